@@ -1,0 +1,169 @@
+-- Arrival windows: which waves they cover, and those of inputs, constants and gates.
+use Rattle.std.specs.Prelude.{◌≡◌, ◌≢◌, ℕ, ◌+◌, ◌-◌, ◌<◌, ◌≤◌, min, max, nat_lt, Bool, false, ◌&&◌, ◌||◌, List, [], ◌∷◌, map, Option, Some, None, is_none, if◌then◌else◌}
+use Rattle.std.specs.List.{list_any}
+use Rattle.td_gates.specs.declared.primitives.Level.{Level}
+use Rattle.td_gates.specs.declared.primitives.Level.TheVariants.{Zero as Low, One as High, X}
+use Rattle.td_gates.specs.declared.primitives.Kind.{Kind}
+use Rattle.td_gates.specs.declared.primitives.Kind.TheVariants.{And, Nand, Or, Nor, Xor, Xnor, Buf, Not}
+use Rattle.td_gates.specs.declared.timing.Delay.{Delay}
+use Rattle.td_gates.specs.Table.{level_from, level_eq, table, inverse_of, delay_to}
+use Rattle.td_gates.specs.Wave.{Wave, at}
+use Rattle.td_domain.specs.declared.cubes.Trit.{Trit}
+use Rattle.td_domain.specs.declared.cubes.Trit.TheVariants.{Zero, One, Free}
+use Rattle.td_domain.specs.Waves.{IsQuietAfter}
+use Rattle.td_arrival.specs.declared.signals.Span.{Span}
+use Rattle.td_arrival.specs.declared.signals.Signal.{Signal}
+
+-- a level is as known; x knows nothing
+abbrev pub Agrees : Level → Level → Type 0
+Agrees known level = known ≢ X → level ≡ known
+
+-- from some moment on the wave's level is as known
+abbrev pub Finishes : Level → Wave → Type 0
+Finishes known wave = known ≢ X → (from : ℕ) × ((t : ℕ) → from ≤ t → at wave t ≡ known)
+
+-- the wave changes only within the span, never where there is none
+abbrev pub ChangesWithin : Option Span → Wave → Type 0
+ChangesWithin None wave = (t : ℕ) → at wave t ≡ wave.start
+ChangesWithin (Some span) wave = ((t : ℕ) → t < span.earliest → at wave t ≡ wave.start) × IsQuietAfter span.latest wave
+
+-- the signal covers the wave
+pub record Covers (signal : Signal) (wave : Wave) : Type 0 where
+  pub start : Agrees signal.start wave.start
+  pub finish : Finishes signal.finish wave
+  pub changes : ChangesWithin signal.changes wave
+
+-- the level of a trit, x where it is free
+abbrev pub known_of : Trit → Level
+known_of Zero = Low
+known_of One = High
+known_of Free = X
+
+abbrev pub input_changes : Trit → Trit → Option Span
+input_changes Zero Zero = None
+input_changes One One = None
+input_changes Zero One = Some (record { earliest = 0; latest = 0 })
+input_changes One Zero = Some (record { earliest = 0; latest = 0 })
+input_changes Zero Free = Some (record { earliest = 0; latest = 0 })
+input_changes One Free = Some (record { earliest = 0; latest = 0 })
+input_changes Free second = Some (record { earliest = 0; latest = 0 })
+
+-- an input changes at moment 0 or never, and surely never where both its bits are known and equal
+abbrev pub input_signal : Trit → Trit → Signal
+input_signal first second = record { start = known_of first; finish = known_of second; changes = input_changes first second }
+
+abbrev pub constant_signal : Bool → Signal
+constant_signal one = record { start = level_from one; finish = level_from one; changes = None }
+
+-- the latest change
+abbrev pub last_change : Option Span → ℕ
+last_change None = 0
+last_change (Some span) = span.latest
+
+-- the last moment of a signal
+abbrev pub last_of : Signal → Option ℕ
+last_of signal = Some (last_change signal.changes)
+
+-- the greatest moment of a span
+abbrev pub span_reach : Option Span → ℕ
+span_reach None = 0
+span_reach (Some span) = max span.earliest span.latest
+
+-- the least span around both
+abbrev pub around : Option Span → Option Span → Option Span
+around None others = others
+around (Some span) None = Some span
+around (Some span) (Some others) =
+    Some (record { earliest = min span.earliest others.earliest; latest = max span.latest others.latest })
+
+-- from the least earliest change to the greatest latest one, of the signals that may change
+abbrev pub hull : List Signal → Option Span
+hull [] = None
+hull (signal ∷ signals) = around signal.changes (hull signals)
+
+-- the level of an input that settles the output by itself
+abbrev pub controlling : Kind → Option Level
+controlling And = Some Low
+controlling Nand = Some Low
+controlling Or = Some High
+controlling Nor = Some High
+controlling Xor = None
+controlling Xnor = None
+controlling Buf = None
+controlling Not = None
+
+-- whether this is the controlling level
+abbrev pub controls : Option Level → Level → Bool
+controls None level = false
+controls (Some control) level = level_eq control level
+
+-- whether an input keeps the controlling level for ever
+abbrev pub is_held : Option Level → List Signal → Bool
+is_held control signals = list_any (λ signal. controls control signal.finish && is_none signal.changes) signals
+
+-- the earliest change of a signal, 0 where there is none
+abbrev pub earliest_change : Option Span → ℕ
+earliest_change None = 0
+earliest_change (Some span) = span.earliest
+
+-- the latest change of a signal, this moment where there is none
+abbrev pub latest_change : ℕ → Option Span → ℕ
+latest_change moment None = moment
+latest_change moment (Some span) = span.latest
+
+-- An input that surely starts at the controlling level keeps the output until its earliest change.
+abbrev pub opens_at : Option Level → ℕ → List Signal → ℕ
+opens_at control earliest [] = earliest
+opens_at control earliest (signal ∷ signals) =
+    max (if controls control signal.start then earliest_change signal.changes else 0) (opens_at control earliest signals)
+
+-- An input that surely finishes at the controlling level keeps the output from its latest change on.
+abbrev pub closes_at : Option Level → ℕ → List Signal → ℕ
+closes_at control latest [] = latest
+closes_at control latest (signal ∷ signals) =
+    min (if controls control signal.finish then latest_change latest signal.changes else latest) (closes_at control latest signals)
+
+-- whether a departure from the start that lasts at most so long comes back too soon to be seen
+abbrev pub is_lost : Delay → Level → Level → ℕ → Bool
+is_lost delay Low Low width = nat_lt width delay.rise
+is_lost delay High High width = nat_lt width delay.fall
+is_lost delay Low High width = false
+is_lost delay Low X width = false
+is_lost delay High Low width = false
+is_lost delay High X width = false
+is_lost delay X finish width = false
+
+-- the delay of the last change, to a level that may be unknown
+abbrev pub last_delay : Delay → Level → ℕ
+last_delay delay Low = delay.fall
+last_delay delay High = delay.rise
+last_delay delay X = max delay.rise delay.fall
+
+-- the changes of an output whose target changes from one moment to another
+abbrev pub delayed_span : Delay → Level → Level → ℕ → ℕ → Option Span
+delayed_span delay start finish earliest latest =
+    if nat_lt latest earliest || is_lost delay start finish (latest - earliest)
+    then None
+    else Some (record { earliest = earliest + delay_to delay (inverse_of start); latest = latest + last_delay delay finish })
+
+-- the changes of an output whose inputs change within the span
+abbrev pub gate_changes : Option Level → Delay → Level → Level → List Signal → Option Span → Option Span
+gate_changes control delay start finish signals None = None
+gate_changes control delay start finish signals (Some span) =
+    if is_held control signals
+    then None
+    else delayed_span delay start finish (opens_at control span.earliest signals) (closes_at control span.latest signals)
+
+abbrev pub gate_start : Kind → List Signal → Level
+gate_start kind signals = table kind (map (λ signal. signal.start) signals)
+
+abbrev pub gate_finish : Kind → List Signal → Level
+gate_finish kind signals = table kind (map (λ signal. signal.finish) signals)
+
+-- the signal of a gate's output
+abbrev pub gate_signal : Kind → Delay → List Signal → Signal
+gate_signal kind delay signals = record {
+  start = gate_start kind signals;
+  finish = gate_finish kind signals;
+  changes = gate_changes (controlling kind) delay (gate_start kind signals) (gate_finish kind signals) signals (hull signals);
+}

@@ -1,0 +1,203 @@
+//! The signal of a gate's output.
+
+ghost use Rattle.std.specs.Prelude.{◌≡◌, Some, ◌≤◌, ◌<◌, ◌+◌, ◌^◌, max, IfOk, length, filter_map, slice_get};
+ghost use Rattle.std.specs.List.{All};
+ghost use Rattle.td_gates.specs.Table.{TakesInputs};
+ghost use Rattle.td_arrival.specs.Arrivals.{gate_signal, span_reach, hull, around, controls, is_held, opens_at, closes_at, gate_changes, delayed_span, last_delay, is_lost, gate_start, gate_finish, controlling};
+
+use crate::signals::{Signal, Span};
+use std::alloc::{AllocError, Global};
+use td_gates::{Counts, Delay, Kind, Level, eval_counts};
+
+/// The signals at these places.
+pub fn picked(alloc: Global, all: &[Signal], places: &[u32]) -> Result<Vec<Signal>, AllocError>
+    requires { All (λ place. place < length all.now) places.now }
+    ensures { IfOk result (λ signals. signals.items ≡ filter_map (slice_get all.now) places.now) }
+{
+    let mut signals = Vec::new(alloc);
+    for place in places {
+        signals.push(all[*place as usize])?;
+    }
+    Ok(signals)
+}
+
+/// The signal of the output of a gate whose inputs have these signals.
+pub fn output(kind: Kind, delay: Delay, signals: &[Signal]) -> Signal
+    requires takes { TakesInputs kind (length signals.now) }
+    requires few { length signals.now ≤ 1024 }
+    requires within { All (λ signal. span_reach signal.changes + max delay.rise delay.fall < 10 ^ 15) signals.now }
+    ensures { result ≡ gate_signal kind delay signals.now }
+{
+    let start = start_of(kind, signals);
+    let finish = finish_of(kind, signals);
+    let changes = match hull_of(signals) {
+        None => None,
+        Some(span) => changes_within(kind, delay, start, finish, signals, span),
+    };
+    Signal {
+        start,
+        finish,
+        changes,
+    }
+}
+
+/// The output's level at the start, x where it isn't known.
+fn start_of(kind: Kind, signals: &[Signal]) -> Level
+    requires takes { TakesInputs kind (length signals.now) }
+    requires few { length signals.now ≤ 1024 }
+    ensures { result ≡ gate_start kind signals.now }
+{
+    let mut counts = Counts::NONE;
+    for signal in signals {
+        counts.add(signal.start);
+    }
+    eval_counts(kind, counts)
+}
+
+/// The output's level at the finish, x where it isn't known.
+fn finish_of(kind: Kind, signals: &[Signal]) -> Level
+    requires takes { TakesInputs kind (length signals.now) }
+    requires few { length signals.now ≤ 1024 }
+    ensures { result ≡ gate_finish kind signals.now }
+{
+    let mut counts = Counts::NONE;
+    for signal in signals {
+        counts.add(signal.finish);
+    }
+    eval_counts(kind, counts)
+}
+
+/// The changes of the output of a gate whose inputs change within the span.
+fn changes_within(
+    kind: Kind,
+    delay: Delay,
+    start: Level,
+    finish: Level,
+    signals: &[Signal],
+    span: Span,
+) -> Option<Span>
+    requires within { max span.earliest span.latest + max delay.rise delay.fall < 10 ^ 15 }
+    requires each { All (λ signal. span_reach signal.changes + max delay.rise delay.fall < 10 ^ 15) signals.now }
+    ensures { result ≡ gate_changes (controlling kind) delay start finish signals.now (Some span) }
+{
+    let control = controlling_level(kind);
+    if any_held(control, signals) {
+        return None;
+    }
+    let earliest = opening(control, span.earliest, signals);
+    let latest = closing(control, span.latest, signals);
+    if latest < earliest || lost(delay, start, finish, latest - earliest) {
+        return None;
+    }
+    Some(Span {
+        earliest: earliest + delay.to(start.inverse()),
+        latest: latest + slowest_to(delay, finish),
+    })
+}
+
+/// The level of an input that settles the output by itself.
+fn controlling_level(kind: Kind) -> Option<Level>
+    ensures { result ≡ controlling kind }
+{
+    match kind {
+        Kind::And | Kind::Nand => Some(Level::Zero),
+        Kind::Or | Kind::Nor => Some(Level::One),
+        Kind::Xor | Kind::Xnor | Kind::Buf | Kind::Not => None,
+    }
+}
+
+/// Whether this is the controlling level.
+fn is_control(control: Option<Level>, level: Level) -> bool
+    ensures { result ≡ controls control level }
+{
+    match control {
+        None => false,
+        Some(control) => control == level,
+    }
+}
+
+/// Whether an input keeps the controlling level for ever.
+fn any_held(control: Option<Level>, signals: &[Signal]) -> bool
+    ensures { result ≡ is_held control signals.now }
+{
+    signals.iter().any(|signal| is_control(control, signal.finish) && signal.changes.is_none())
+}
+
+/// Until when the inputs that surely start at the controlling level keep the output.
+fn opening(control: Option<Level>, earliest: u64, signals: &[Signal]) -> u64
+    ensures { result ≡ opens_at control earliest signals.now }
+{
+    let mut opens = 0;
+    for signal in signals {
+        if is_control(control, signal.start)
+            && let Some(span) = signal.changes
+        {
+            opens = span.earliest.max(opens);
+        }
+    }
+    opens.max(earliest)
+}
+
+/// From when on the inputs that surely finish at the controlling level keep the output.
+fn closing(control: Option<Level>, latest: u64, signals: &[Signal]) -> u64
+    ensures { result ≡ closes_at control latest signals.now }
+{
+    let mut closes = latest;
+    for signal in signals {
+        if is_control(control, signal.finish)
+            && let Some(span) = signal.changes
+        {
+            closes = span.latest.min(closes);
+        }
+    }
+    closes
+}
+
+/// Whether a departure from the start comes back too soon to be seen.
+fn lost(delay: Delay, start: Level, finish: Level, width: u64) -> bool
+    ensures { result ≡ is_lost delay start finish width }
+{
+    match (start, finish) {
+        (Level::Zero, Level::Zero) => width < u64::from(delay.rise),
+        (Level::One, Level::One) => width < u64::from(delay.fall),
+        (_, _) => false,
+    }
+}
+
+/// The steps of the last change, to a level that may be unknown.
+fn slowest_to(delay: Delay, finish: Level) -> u64
+    ensures slowest { result ≡ last_delay delay finish }
+    ensures few { result ≤ max delay.rise delay.fall }
+{
+    let steps = match finish {
+        Level::Zero => delay.fall,
+        Level::One => delay.rise,
+        Level::X => delay.rise.max(delay.fall),
+    };
+    u64::from(steps)
+}
+
+/// The least span around the changes of the signals, if any may change.
+fn hull_of(signals: &[Signal]) -> Option<Span>
+    ensures { result ≡ hull signals.now }
+{
+    let mut span = None;
+    for signal in signals {
+        span = around_both(span, signal.changes);
+    }
+    span
+}
+
+/// The least span around both.
+fn around_both(changes: Option<Span>, others: Option<Span>) -> Option<Span>
+    ensures { result ≡ around changes others }
+{
+    match (changes, others) {
+        (None, others) => others,
+        (Some(span), None) => Some(span),
+        (Some(span), Some(other)) => Some(Span {
+            earliest: span.earliest.min(other.earliest),
+            latest: span.latest.max(other.latest),
+        }),
+    }
+}

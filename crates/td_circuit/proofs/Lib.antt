@@ -1,0 +1,10 @@
+pub mod Searching
+pub mod Naming
+pub mod Resolving
+pub mod Ordered
+pub mod Planning
+pub mod Looping
+pub mod Nets
+pub mod Values
+pub mod Sorting
+pub mod Existence

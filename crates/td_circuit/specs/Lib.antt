@@ -1,0 +1,11 @@
+pub mod Order
+pub mod Search
+pub mod Names
+pub mod Loops
+pub mod Numbering
+pub mod Run
+pub mod Drivers
+pub mod Views
+pub mod Plan
+pub mod Built
+pub mod Laws

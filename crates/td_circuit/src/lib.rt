@@ -1,0 +1,13 @@
+//! Circuits: a netlist whose nets are numbered in topological order.
+#![tactic(auto)]
+
+mod building;
+mod circuit;
+pub mod laws;
+mod names;
+mod order;
+mod plan;
+mod resolve;
+
+pub use building::{BuildFault, build};
+pub use circuit::{Circuit, Gate};

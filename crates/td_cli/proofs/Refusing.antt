@@ -1,0 +1,28 @@
+-- Why a text has no circuit.
+use Rattle.std.proofs.Common.{◌≡◌, ℕ, List, sym, subst, inl, inr, Result, Err}
+use Rattle.td_gates.specs.declared.timing.Delay.{Delay}
+use Rattle.td_netlist.specs.declared.fault.Fault.{Fault}
+use Rattle.td_netlist.specs.declared.fault.FaultKind.TheVariants as kind
+use Rattle.td_netlist.specs.Netlist.{Netlist}
+use Rattle.td_netlist.specs.Means.{Means}
+use Rattle.td_circuit.specs.declared.building.BuildFault.{BuildFault}
+use Rattle.td_circuit.specs.declared.building.BuildFault.TheVariants as build
+use Rattle.td_circuit.specs.Built.{FitsBuildFault}
+use Rattle.td_cli.specs.declared.refusal.Refusal.{Refusal}
+use Rattle.td_cli.specs.Outcomes.{IsOfFault, IsOfLoop, HasNoCircuit}
+
+pub refused-fits : (text : List ℕ) (default : Delay) (fault : Fault) (refused : Refusal) → IsOfFault fault refused
+    → ((netlist : Netlist) → Means text default netlist → fault.kind ≡ kind.OutOfMemory) → HasNoCircuit text default refused
+refused-fits text default fault refused is only =
+    let P : Refusal → Type 0 = λ r. HasNoCircuit text default r in
+    elim is [
+      | inl memory ↦ subst P (sym memory) tt
+      | inr other ↦ subst P (sym other.1) (λ netlist means. other.0 (only netlist means))
+    ]
+
+pub looped-fits : (text : List ℕ) (default : Delay) (netlist : Netlist) → Means text default netlist → (fault : BuildFault) (refused : Refusal)
+    → IsOfLoop fault refused → FitsBuildFault netlist fault → HasNoCircuit text default refused
+looped-fits text default netlist means build.OutOfMemory refused is fits =
+    let P : Refusal → Type 0 = λ r. HasNoCircuit text default r in subst P (sym is) tt
+looped-fits text default netlist means (build.Loop name) refused is fits =
+    let P : Refusal → Type 0 = λ r. HasNoCircuit text default r in subst P (sym is) (netlist, means, fits)

@@ -1,0 +1,91 @@
+-- What `sim` prints.
+use Rattle.std.specs.Prelude.{◌≡◌, ℕ, List, [], ◌∷◌, ◌++◌, length, map, codes, decimal, Option, Some, None}
+use Rattle.std.specs.List.{flat_map}
+use Rattle.td_gates.specs.declared.primitives.Level.{Level}
+use Rattle.td_gates.specs.declared.primitives.Level.TheVariants.{Zero, One, X}
+use Rattle.td_gates.specs.declared.timing.Delay.{Delay}
+use Rattle.td_gates.specs.Wave.{Wave, last}
+use Rattle.td_netlist.specs.declared.netlist.Unit.{Unit as Step}
+use Rattle.td_netlist.specs.declared.netlist.Scale.{Scale}
+use Rattle.td_netlist.specs.declared.netlist.Scale.TheVariants as scale
+use Rattle.td_netlist.specs.Netlist.{Name, Net, Named, Netlist}
+use Rattle.td_netlist.specs.Printed.{printed}
+use Rattle.td_netlist.specs.Means.{Means}
+use Rattle.td_circuit.specs.Loops.{Loop}
+use Rattle.td_circuit.specs.Run.{Runs, latest_change}
+
+abbrev pub newline : List ℕ
+newline = 10 ∷ []
+
+abbrev pub scale_text : Scale → List ℕ
+scale_text scale.Seconds = codes "s"
+scale_text scale.Milliseconds = codes "ms"
+scale_text scale.Microseconds = codes "us"
+scale_text scale.Nanoseconds = codes "ns"
+scale_text scale.Picoseconds = codes "ps"
+scale_text scale.Femtoseconds = codes "fs"
+
+-- the unit of a step: its magnitude and its scale
+abbrev pub unit_line : Step → List ℕ
+unit_line unit = codes "unit " ++ decimal unit.magnitude ++ codes " " ++ scale_text unit.scale ++ newline
+
+-- the number of gates that the default delay serves
+abbrev pub defaulted_line : ℕ → List ℕ
+defaulted_line count = codes "defaulted " ++ decimal count ++ newline
+
+abbrev pub head_lines : Netlist → List ℕ
+head_lines netlist = unit_line netlist.unit ++ defaulted_line netlist.defaulted
+
+-- when an output changes last
+abbrev pub moment_text : Option ℕ → List ℕ
+moment_text None = codes "never"
+moment_text (Some moment) = decimal moment
+
+abbrev pub last_line : Name → Option ℕ → List ℕ
+last_line name moment = codes "last " ++ printed name ++ codes " " ++ moment_text moment ++ newline
+
+abbrev pub time_line : ℕ → List ℕ
+time_line time = codes "time " ++ decimal time ++ newline
+
+-- a line for each output in order
+abbrev pub output_lines : Netlist → (Net → Wave) → List ℕ
+output_lines netlist waves = flat_map (λ name. last_line name (last (waves (Named name)))) netlist.outputs
+
+-- the head, a line for each output, and the latest change of any
+abbrev pub sim_text : Netlist → (Net → Wave) → List ℕ
+sim_text netlist waves =
+    head_lines netlist
+    ++ output_lines netlist waves
+    ++ time_line (latest_change (map (λ name. waves (Named name)) netlist.outputs))
+
+-- ---- vectors
+
+abbrev pub level_char : Level → ℕ
+level_char Zero = 48
+level_char One = 49
+level_char X = 120
+
+-- one character for each level, the word `none` where there are none
+abbrev pub vector_text : List Level → List ℕ
+vector_text [] = codes "none"
+vector_text (level ∷ levels) = map level_char (level ∷ levels)
+
+-- the word spells a vector of so many levels
+pub record SpellsVector (count : ℕ) (word : List ℕ) (levels : List Level) : Type 0 where
+  pub fits : length levels ≡ count
+  pub spells : word ≡ vector_text levels
+
+-- ---- the whole
+
+-- The text means a netlist without a loop, the two words are vectors of its inputs, and the report is that of their run.
+pub record IsSimReport (text : List ℕ) (default : Delay) (from to report : List ℕ) : Type 0 where
+  pub netlist : Netlist
+  pub means : Means text default netlist
+  pub acyclic : ¬ Loop netlist
+  pub first : List Level
+  pub second : List Level
+  pub from_is : SpellsVector (length netlist.inputs) from first
+  pub to_is : SpellsVector (length netlist.inputs) to second
+  pub waves : Net → Wave
+  pub runs : Runs netlist first second waves
+  pub is : report ≡ sim_text netlist waves

@@ -1,0 +1,26 @@
+//! The program `tdelay` as a function of its words, files and writers.
+#![tactic(auto)]
+
+mod command;
+mod files;
+mod memory_files;
+mod program;
+mod refusal;
+mod report;
+mod simulate;
+mod status;
+mod text;
+mod vector;
+mod writer;
+
+pub use files::{Files, ReadFault, RealFiles};
+pub use memory_files::MemoryFiles;
+pub use program::{carry_out_sim, run, run_plain};
+pub use refusal::Refusal;
+pub use simulate::sim;
+pub use status::Status;
+pub use text::Text;
+pub use writer::WriterSink;
+
+#[cfg(test)]
+mod tests;

@@ -1,0 +1,71 @@
+//! The lines of the reports.
+
+ghost use Rattle.std.specs.Prelude.{◌≡◌, ◌++◌, OnOk};
+ghost use Rattle.td_netlist.specs.Views.{name_of};
+ghost use Rattle.td_cli.specs.Reports.{scale_text, unit_line, defaulted_line, moment_text, last_line, time_line};
+
+use crate::text::Text;
+use std::alloc::AllocError;
+use td_netlist::{Name, Scale, Unit};
+
+fn scale(text: &mut Text, scale: Scale) -> Result<(), AllocError>
+    ensures { OnOk result (text.new ≡ text.old ++ scale_text scale) }
+{
+    match scale {
+        Scale::Seconds => text.push(b"s"),
+        Scale::Milliseconds => text.push(b"ms"),
+        Scale::Microseconds => text.push(b"us"),
+        Scale::Nanoseconds => text.push(b"ns"),
+        Scale::Picoseconds => text.push(b"ps"),
+        Scale::Femtoseconds => text.push(b"fs"),
+    }
+}
+
+/// The line that tells how long a step takes.
+pub fn unit(text: &mut Text, unit: Unit) -> Result<(), AllocError>
+    ensures { OnOk result (text.new ≡ text.old ++ unit_line unit) }
+{
+    text.push(b"unit ")?;
+    text.number(u64::from(unit.magnitude))?;
+    text.push(b" ")?;
+    scale(text, unit.scale)?;
+    text.push(b"\n")
+}
+
+/// The line that tells how many gates the default delay serves.
+pub fn defaulted(text: &mut Text, count: usize) -> Result<(), AllocError>
+    ensures { OnOk result (text.new ≡ text.old ++ defaulted_line count) }
+{
+    text.push(b"defaulted ")?;
+    text.number(count as u64)?;
+    text.push(b"\n")
+}
+
+fn moment(text: &mut Text, moment: Option<u64>) -> Result<(), AllocError>
+    ensures { OnOk result (text.new ≡ text.old ++ moment_text moment) }
+{
+    match moment {
+        Some(moment) => text.number(moment),
+        None => text.push(b"never"),
+    }
+}
+
+/// The line that tells when an output changes last.
+pub fn last(text: &mut Text, name: &Name, last: Option<u64>) -> Result<(), AllocError>
+    ensures { OnOk result (text.new ≡ text.old ++ last_line (name_of name.now) last) }
+{
+    text.push(b"last ")?;
+    text.name(name)?;
+    text.push(b" ")?;
+    moment(text, last)?;
+    text.push(b"\n")
+}
+
+/// The line that tells the latest change of any output.
+pub fn time(text: &mut Text, time: u64) -> Result<(), AllocError>
+    ensures { OnOk result (text.new ≡ text.old ++ time_line time) }
+{
+    text.push(b"time ")?;
+    text.number(time)?;
+    text.push(b"\n")
+}

@@ -1,0 +1,110 @@
+//! The command `sim`: the run of one pair of vectors.
+
+ghost use Rattle.std.specs.Prelude.{◌≡◌, ◌++◌, length, map, IfOk, IfErr, OnOk};
+ghost use Rattle.td_circuit.specs.Numbering.{nets};
+ghost use Rattle.td_circuit.specs.Run.{wave_of, latest_change};
+ghost use Rattle.td_run.specs.Runs.{output_waves};
+ghost use Rattle.td_netlist.specs.Netlist.{Named};
+ghost use Rattle.td_cli.specs.Reports.{output_lines, sim_text, IsSimReport};
+ghost use Rattle.td_cli.specs.Outcomes.{IsOfLoop, IsOfFault, IsCircuitOf, HasNoCircuit, HasNoReport};
+
+use crate::refusal::{Refusal, VectorWord};
+use crate::report;
+use crate::text::Text;
+use crate::vector::vector;
+use std::alloc::{AllocError, Global};
+use td_circuit::{BuildFault, Circuit, build};
+use td_gates::Delay;
+use td_netlist::{Fault, FaultKind, read};
+use td_run::{Run, waves};
+
+/// The report of the run of a pair of vectors: when each output changes last.
+pub fn sim<'a>(
+    alloc: Global,
+    text: &'a [u8],
+    default: Delay,
+    from: &str,
+    to: &str,
+) -> Result<Text, Refusal<'a>>
+    // The report is that of the run of what the text means.
+    ensures report { IfOk result (λ report.
+        IsSimReport text.now default from.now to.now report) }
+    ensures refusal { IfErr result (λ refusal.
+        HasNoReport text.now default from.now to.now refusal) }
+{
+    let circuit = circuit(alloc, text, default)?;
+    let Some(first) = vector(alloc, from, circuit.inputs())? else {
+        return Err(Refusal::BadVector(VectorWord::From));
+    };
+    let Some(second) = vector(alloc, to, circuit.inputs())? else {
+        return Err(Refusal::BadVector(VectorWord::To));
+    };
+    let run = waves(alloc, &circuit, &first, &second)?;
+    let report = report_of(alloc, &circuit, &run)?;
+    Ok(report)
+}
+
+/// The circuit of a netlist's text.
+pub fn circuit<'a>(alloc: Global, text: &'a [u8], default: Delay) -> Result<Circuit, Refusal<'a>>
+    ensures circuit { IfOk result (λ circuit. IsCircuitOf text.now default circuit) }
+    ensures refusal { IfErr result (λ refusal. HasNoCircuit text.now default refusal) }
+{
+    let netlist = match read(alloc, text, default) {
+        Ok(netlist) => netlist,
+        Err(fault) => return Err(refused(fault)),
+    };
+    match build(alloc, netlist) {
+        Ok(circuit) => Ok(circuit),
+        Err((_netlist, fault)) => Err(looped(fault)),
+    }
+}
+
+/// The refusal of a netlist with a loop, or want of memory.
+fn looped<'a>(fault: BuildFault) -> Refusal<'a>
+    ensures { IsOfLoop fault result }
+{
+    match fault {
+        BuildFault::OutOfMemory => Refusal::OutOfMemory,
+        BuildFault::Loop(name) => Refusal::Loop(name),
+    }
+}
+
+/// The refusal of a netlist's text, or want of memory.
+fn refused<'a>(fault: Fault<'a>) -> Refusal<'a>
+    ensures { IsOfFault fault.entry result }
+{
+    match fault.kind {
+        FaultKind::OutOfMemory => Refusal::OutOfMemory,
+        _ => Refusal::Netlist(fault),
+    }
+}
+
+/// Appends a line for each output.
+fn outputs(text: &mut Text, circuit: &Circuit, run: &Run) -> Result<(), AllocError>
+    requires { length run.now.waves ≡ length (nets circuit.now) }
+    ensures { OnOk result (text.new ≡ text.old ++ output_lines circuit.now.netlist (wave_of (nets circuit.now) run.now.waves)) }
+{
+    let _gates = circuit.gates();
+    for output in circuit.outputs() {
+        let name = circuit.name(*output as usize);
+        let wave = run.wave(*output);
+        let moment = wave.last();
+        report::last(text, name, moment)?;
+    }
+    Ok(())
+}
+
+/// The report of a run.
+fn report_of(alloc: Global, circuit: &Circuit, run: &Run) -> Result<Text, AllocError>
+    requires waves { length run.now.waves ≡ length (nets circuit.now) }
+    requires time { latest_change (output_waves run.now)
+        ≡ latest_change (map (λ name. wave_of (nets circuit.now) run.now.waves (Named name)) circuit.now.netlist.outputs) }
+    ensures { IfOk result (λ text. text ≡ sim_text circuit.now.netlist (wave_of (nets circuit.now) run.now.waves)) }
+{
+    let mut text = Text::new(alloc);
+    report::unit(&mut text, circuit.unit())?;
+    report::defaulted(&mut text, circuit.defaulted())?;
+    outputs(&mut text, circuit, run)?;
+    report::time(&mut text, run.last_of_outputs())?;
+    Ok(text)
+}

@@ -1,0 +1,31 @@
+//! How a run of the program ends.
+
+ghost use Rattle.std.specs.Prelude.{◌≡◌};
+ghost use Rattle.td_cli.specs.Statuses.{code_of};
+
+/// How a run of the program ends.
+#[derive(Clone, Copy, Debug, PartialEq, Eq, Drop)]
+pub enum Status {
+    /// The command was carried out, or help was asked for.
+    Done,
+    /// A netlist, a circuit or a certificate text was refused.
+    Refused,
+    /// The command line or a vector was wrong.
+    BadCommand,
+    /// A device failed, or memory ran out.
+    Device,
+}
+
+impl Status {
+    /// The exit status of the program.
+    pub fn code(self) -> u8
+        ensures { result ≡ code_of self }
+    {
+        match self {
+            Status::Done => 0,
+            Status::Refused => 1,
+            Status::BadCommand => 2,
+            Status::Device => 5,
+        }
+    }
+}

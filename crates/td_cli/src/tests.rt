@@ -1,0 +1,285 @@
+use super::*;
+use std::test::*;
+use td_gates::MemorySink;
+
+/// What a command wrote and how it ended.
+#[derive(Drop)]
+struct Ended {
+    status: u8,
+    out: MemorySink,
+    err: MemorySink,
+}
+
+const ROOM: usize = 1 << 20;
+
+/// Carries out a command over files in memory. Standard output takes so many bytes, some at a time.
+fn carried_out(
+    rt: &HostRuntime,
+    words: &[&str],
+    files: MemoryFiles<'_>,
+    room: usize,
+) -> Result<Ended, Fail> {
+    let alloc = rt.alloc();
+    let mut files = files;
+    let mut out = MemorySink::new(alloc, room, 7)?;
+    let mut err = MemorySink::new(alloc, ROOM, 7)?;
+    let status = run(alloc, words, &mut files, &mut out, &mut err);
+    Ok(Ended {
+        status: status.code(),
+        out,
+        err,
+    })
+}
+
+const INVERTER: &[u8] = b"module t(a, y);\ninput a;\noutput y;\nnot #(2,3) g(y,a);\nendmodule\n";
+
+const NOR: &[u8] = b"module t(a, y);\ninput a;\noutput y;\nnor (y,a,a);\nendmodule\n";
+
+const PARTED: &[u8] =
+    b"module t(a, y);\ninput a;\noutput y;\nnot #1 g(b,a); and #1 h(y,a,b);\nendmodule\n";
+
+const TWO_DRIVERS: &[u8] =
+    b"module t(a, y);\ninput a;\noutput y;\nnot #1 g(y,a); buf #1 h(y,a);\nendmodule\n";
+
+const LOOPED: &[u8] = b"module t(a, q);\ninput a;\noutput q;\nnand #1 g(q,a,q);\nendmodule\n";
+
+const BOTH: &[u8] = b"module t(a, y, z);\ninput a;\noutput y, z;\nbuf #1 g(y,z,a);\nendmodule\n";
+
+const NO_INPUT: &[u8] = b"module t;\nendmodule\n";
+
+const ATTRIBUTED: &[u8] = b"module t(a);\n(* x *) input a;\nendmodule\n";
+
+const FILES: [(&str, &[u8]); 8] = [
+    ("inverter.v", INVERTER),
+    ("nor.v", NOR),
+    ("parted.v", PARTED),
+    ("two.v", TWO_DRIVERS),
+    ("looped.v", LOOPED),
+    ("both.v", BOTH),
+    ("none.v", NO_INPUT),
+    ("attribute.v", ATTRIBUTED),
+];
+
+/// Each command line, what it writes to standard output, and to standard error, and its exit status.
+#[test]
+fn printed_runs(rt: HostRuntime) -> Result<(), Fail> {
+    let cases: [([&str; 5], &[u8], &[u8], u8); 17] = [
+        (
+            ["tdelay", "sim", "inverter.v", "0", "1"],
+            b"unit 1 ns\ndefaulted 0\nlast y 3\ntime 3\n",
+            b"",
+            0,
+        ),
+        (
+            ["tdelay", "sim", "inverter.v", "1", "0"],
+            b"unit 1 ns\ndefaulted 0\nlast y 2\ntime 2\n",
+            b"",
+            0,
+        ),
+        (
+            ["tdelay", "sim", "inverter.v", "0", "x"],
+            b"unit 1 ns\ndefaulted 0\nlast y 2\ntime 2\n",
+            b"",
+            0,
+        ),
+        (
+            ["tdelay", "sim", "inverter.v", "0", "0"],
+            b"unit 1 ns\ndefaulted 0\nlast y never\ntime 0\n",
+            b"",
+            0,
+        ),
+        (
+            ["tdelay", "sim", "nor.v", "0", "1"],
+            b"unit 1 ns\ndefaulted 1\nlast y 1\ntime 1\n",
+            b"",
+            0,
+        ),
+        // a pulse: up at 1 and down at 2
+        (
+            ["tdelay", "sim", "parted.v", "0", "1"],
+            b"unit 1 ns\ndefaulted 0\nlast y 2\ntime 2\n",
+            b"",
+            0,
+        ),
+        (
+            ["tdelay", "sim", "both.v", "0", "1"],
+            b"unit 1 ns\ndefaulted 0\nlast y 1\nlast z 1\ntime 1\n",
+            b"",
+            0,
+        ),
+        (
+            ["tdelay", "sim", "none.v", "none", "none"],
+            b"unit 1 ns\ndefaulted 0\ntime 0\n",
+            b"",
+            0,
+        ),
+        (
+            ["tdelay", "sim", "both.v", "00", "11"],
+            b"",
+            b"tdelay: bad vector FROM\n",
+            2,
+        ),
+        (
+            ["tdelay", "sim", "both.v", "0", "2"],
+            b"",
+            b"tdelay: bad vector TO\n",
+            2,
+        ),
+        (
+            ["tdelay", "sim", "none.v", "none", "0"],
+            b"",
+            b"tdelay: bad vector TO\n",
+            2,
+        ),
+        (
+            ["tdelay", "sim", "two.v", "0", "1"],
+            b"",
+            b"tdelay: netlist fault 11 TwoDrivers at line 4\n",
+            1,
+        ),
+        // the netlist is judged before the vectors
+        (
+            ["tdelay", "sim", "two.v", "00", "11"],
+            b"",
+            b"tdelay: netlist fault 11 TwoDrivers at line 4\n",
+            1,
+        ),
+        (
+            ["tdelay", "sim", "looped.v", "0", "1"],
+            b"",
+            b"tdelay: circuit fault 1 Loop on q\n",
+            1,
+        ),
+        (
+            ["tdelay", "sim", "attribute.v", "0", "1"],
+            b"",
+            b"tdelay: netlist fault 4 OutOfSubset at line 2 ((*)\n",
+            1,
+        ),
+        (
+            ["tdelay", "sim", "absent.v", "0", "1"],
+            b"",
+            b"tdelay: cannot read absent.v\n",
+            5,
+        ),
+        // a file that can't be read is told before anything is judged
+        (
+            ["tdelay", "sim", "absent.v", "", "2"],
+            b"",
+            b"tdelay: cannot read absent.v\n",
+            5,
+        ),
+    ];
+    for (words, out, err, status) in &cases {
+        let ended = carried_out(&rt, words, MemoryFiles::new(&FILES), ROOM)?;
+        assert_eq!(rt; ended.out.bytes(), *out);
+        assert_eq!(rt; ended.err.bytes(), *err);
+        assert_eq!(rt; ended.status, *status);
+    }
+    Ok(())
+}
+
+/// The default delay serves the gate without one, on each edge.
+#[test]
+fn default_delays(rt: HostRuntime) -> Result<(), Fail> {
+    let words = [
+        "tdelay",
+        "sim",
+        "--default-rise",
+        "20",
+        "--default-fall",
+        "1000000000",
+        "nor.v",
+        "1",
+        "0",
+    ];
+    let rise = carried_out(&rt, &words, MemoryFiles::new(&FILES), ROOM)?;
+    assert_eq!(rt;
+        rise.out.bytes(),
+        b"unit 1 ns\ndefaulted 1\nlast y 20\ntime 20\n".as_slice()
+    );
+    let words = [
+        "tdelay",
+        "sim",
+        "--default-fall=1000000000",
+        "nor.v",
+        "0",
+        "1",
+    ];
+    let fall = carried_out(&rt, &words, MemoryFiles::new(&FILES), ROOM)?;
+    assert_eq!(rt;
+        fall.out.bytes(),
+        b"unit 1 ns\ndefaulted 1\nlast y 1000000000\ntime 1000000000\n".as_slice()
+    );
+    Ok(())
+}
+
+/// Command lines that are refused: nothing goes to standard output, and the status is 2.
+#[test]
+fn bad_command_lines(rt: HostRuntime) -> Result<(), Fail> {
+    let cases: [[&str; 5]; 4] = [
+        ["tdelay", "simulate", "nor.v", "0", "1"],
+        ["tdelay", "sim", "nor.v", "0", "--default-rise=0"],
+        ["tdelay", "sim", "nor.v", "0", "--default-fall=1000000001"],
+        ["tdelay", "sim", "nor.v", "0", "--default-rise=x"],
+    ];
+    for words in &cases {
+        let ended = carried_out(&rt, words, MemoryFiles::new(&FILES), ROOM)?;
+        assert_eq!(rt; ended.out.bytes(), b"".as_slice());
+        assert!(rt; !ended.err.bytes().is_empty());
+        assert_eq!(rt; ended.status, 2);
+    }
+    Ok(())
+}
+
+/// Help goes to standard output, with status 0.
+#[test]
+fn help(rt: HostRuntime) -> Result<(), Fail> {
+    let ended = carried_out(
+        &rt,
+        &["tdelay", "sim", "--help"],
+        MemoryFiles::new(&FILES),
+        ROOM,
+    )?;
+    assert!(rt;
+        ended
+            .out
+            .bytes()
+            .starts_with(b"Simulates one pair of vectors")
+    );
+    assert_eq!(rt; ended.err.bytes(), b"".as_slice());
+    assert_eq!(rt; ended.status, 0);
+    Ok(())
+}
+
+/// Standard output that fails after each number of bytes: they are the report's first, and the failure is told.
+#[test]
+fn failing_output(rt: HostRuntime) -> Result<(), Fail> {
+    let report = b"unit 1 ns\ndefaulted 0\nlast y 3\ntime 3\n";
+    let words = ["tdelay", "sim", "inverter.v", "0", "1"];
+    for room in 0..report.len() {
+        let ended = carried_out(&rt, &words, MemoryFiles::new(&FILES), room)?;
+        assert_eq!(rt; ended.out.bytes(), &report[..room]);
+        assert_eq!(rt;
+            ended.err.bytes(),
+            b"tdelay: cannot write stdout\n".as_slice()
+        );
+        assert_eq!(rt; ended.status, 5);
+    }
+    Ok(())
+}
+
+/// A file whose reader fails on the way.
+#[test]
+fn failing_reader(rt: HostRuntime) -> Result<(), Fail> {
+    let words = ["tdelay", "sim", "inverter.v", "0", "1"];
+    let files = MemoryFiles::new(&FILES).reading(INVERTER.len() - 1);
+    let ended = carried_out(&rt, &words, files, ROOM)?;
+    assert_eq!(rt; ended.out.bytes(), b"".as_slice());
+    assert_eq!(rt;
+        ended.err.bytes(),
+        b"tdelay: cannot read inverter.v\n".as_slice()
+    );
+    assert_eq!(rt; ended.status, 5);
+    Ok(())
+}

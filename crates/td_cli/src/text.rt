@@ -1,0 +1,68 @@
+//! Texts that are built piece by piece.
+
+use std::alloc::{AllocError, Global};
+use std::marker::Model;
+use td_netlist::Name;
+
+/// The bytes of a text to be written.
+#[derive(Drop)]
+pub struct Text {
+    bytes: Vec<u8>,
+    alloc: Global,
+}
+
+impl Model for Text {
+    ghost use Rattle.std.specs.Prelude.{List, ℕ};
+
+    ghost Value = { List ℕ };
+
+    ghost view = { λ text. text.bytes.items };
+}
+
+impl Text {
+    ghost use Rattle.std.specs.Prelude.{◌≡◌, ◌++◌, [], OnOk, decimal};
+    ghost use Rattle.td_netlist.specs.Views.{name_of};
+    ghost use Rattle.td_netlist.specs.Printed.{printed};
+
+    /// An empty text.
+    pub fn new(alloc: Global) -> Text
+        ensures { result ≡ [] }
+    {
+        Text {
+            bytes: Vec::new(alloc),
+            alloc,
+        }
+    }
+
+    /// The bytes so far.
+    pub fn bytes(&self) -> &[u8]
+        ensures { result.now ≡ self.now }
+    {
+        &self.bytes
+    }
+
+    /// Appends bytes.
+    pub fn push(&mut self, bytes: &[u8]) -> Result<(), AllocError>
+        ensures { OnOk result (self.new ≡ self.old ++ bytes.now) }
+    {
+        self.bytes.extend_from_slice(bytes)?;
+        Ok(())
+    }
+
+    /// Appends a number in decimal digits.
+    pub fn number(&mut self, number: u64) -> Result<(), AllocError>
+        ensures { OnOk result (self.new ≡ self.old ++ decimal number) }
+    {
+        let digits = format!(in self.alloc; "{number}")?;
+        self.bytes.extend_from_slice(digits.as_bytes())?;
+        Ok(())
+    }
+
+    /// Appends the printed form of a name.
+    pub fn name(&mut self, name: &Name) -> Result<(), AllocError>
+        ensures { OnOk result (self.new ≡ self.old ++ printed (name_of name.now)) }
+    {
+        name.print(&mut self.bytes)?;
+        Ok(())
+    }
+}

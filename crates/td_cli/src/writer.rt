@@ -1,0 +1,36 @@
+//! Writers of the system as sinks.
+
+use std::io::Write;
+use td_gates::{DeviceFault, Sink};
+
+/// A sink over a writer of which nothing is known but how many bytes it took.
+#[derive(Drop)]
+pub struct WriterSink<W> {
+    writer: W,
+    failures: u64,
+}
+
+impl<W: Write> WriterSink<W> {
+    pub fn new(writer: W) -> Self {
+        WriterSink {
+            writer,
+            failures: 0,
+        }
+    }
+}
+
+impl<W: Write> Sink for WriterSink<W> {
+    ghost use Rattle.std.specs.Prelude.{None};
+
+    ghost output = { λ sink. record { sent = None; failures = sink.failures } };
+
+    fn write(&mut self, bytes: &[u8]) -> Result<usize, DeviceFault> {
+        match self.writer.write(bytes) {
+            Ok(taken) if taken > 0 || bytes.is_empty() => Ok(taken),
+            _ => {
+                self.failures = self.failures.wrapping_add(1);
+                Err(DeviceFault)
+            }
+        }
+    }
+}

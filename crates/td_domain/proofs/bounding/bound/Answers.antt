@@ -1,0 +1,52 @@
+use Rattle.std.proofs.Common.{◌≡◌, ◌<◌, ◌≤◌, ◌+◌, ◌*◌, ◌^◌, ℕ, List, length, map, Option, Some, arith, sym, ◌∙◌}
+use Rattle.std.specs.Prelude.{slice_get, filter_map}
+use Rattle.std.proofs.lemmas.Option.{slice_get_within}
+use Rattle.td_circuit.specs.Numbering.{Numbered, IsNumbering, nets}
+use Rattle.td_circuit.proofs.Nets.{numbers-below, length-nets, few_gates}
+use Rattle.td_domain.specs.Bounds.{greatest}
+use Rattle.td_domain.proofs.GreatestLemmas.{greatest_at-within}
+use Rattle.td_domain.proofs.Soundness.{no_later, front-bound, one_bound}
+use Rattle.td_domain.proofs.bounding.bound.Goals as goal
+
+-- no bound passes 10 ^ 15
+small : {S : Type 0} (last_of : S → Option ℕ) (reach : S → ℕ)
+    → ((signal : S) (moment : ℕ) → last_of signal ≡ Some moment → moment ≤ reach signal)
+    → (circuit : Numbered) (numbering : IsNumbering circuit) (signals : List S) → length signals ≡ length (nets circuit)
+    → ((net : ℕ) (signal : S) → slice_get signals net ≡ Some signal → reach signal ≤ (net + 1) * 10 ^ 9)
+    → (outputs : List ℕ) (moment : ℕ) → greatest (map last_of (filter_map (slice_get signals) outputs)) ≡ Some moment → moment < 10 ^ 15
+small last_of reach law circuit numbering signals count reaches outputs moment is =
+    let most : ℕ = length signals * 10 ^ 9 in
+    let within = greatest_at-within last_of reach law signals most
+    (λ net signal at. let low = reaches net signal at in let there = slice_get_within signals net signal at in omega arith) outputs moment is in
+    omega (arith, count, length-nets circuit numbering, few_gates circuit numbering, numbering.well_formed.few_inputs, within)
+
+pub greatest_last-requires : goal.greatest_last-requires
+greatest_last-requires g c =
+    rw (c.outputs.ensures, c.deref.ensures.value, c.in_ok-signals.ensures.all)
+    (numbers-below (nets c.args.circuit.now) c.args.circuit.now.outputs _ c.in_ok-signals.ensures.numbering.outputs)
+
+pub returns-clause-bound : goal.returns-clause-bound
+returns-clause-bound g c =
+    front-bound g.D.Domain.input_of g.D.Domain.constant_of g.D.Domain.gate_of g.D.Domain.reach c.args.circuit.now c.in_ok-signals.ensures.numbering c.args.cube.now
+    c.in_ok-signals.signals.items c.in_ok-signals.ensures.all c.in_ok-signals.ensures.front g.D.Domain.last_of _
+    (rw (c.deref.ensures.value, c.outputs.ensures) at c.greatest_last.ensures)
+
+pub returns-clause-sound : goal.returns-clause-sound
+returns-clause-sound g c = λ moment is pair delay is_in is_delay.
+    let bound = returns-clause-bound g c in
+    let latest = no_later g.D.Domain.covers g.D.Domain.input_of g.D.Domain.constant_of g.D.Domain.gate_of
+    g.met.D.Domain.covers_input g.met.D.Domain.covers_constant g.met.D.Domain.covers_gate
+    c.args.circuit.now c.in_ok-signals.ensures.numbering c.args.cube.now c.requires bound.signals bound.are_signals pair is_in is_delay.waves is_delay.runs
+    g.D.Domain.last_of g.met.D.Domain.quiet_after_last moment (sym bound.is_greatest ∙ is) in
+    rw is_delay.is_latest latest
+
+pub returns-clause-only : goal.returns-clause-only
+returns-clause-only g c = λ other is.
+    one_bound g.D.Domain.input_of g.D.Domain.constant_of g.D.Domain.gate_of g.D.Domain.last_of c.args.circuit.now c.in_ok-signals.ensures.numbering c.args.cube.now c.requires
+    other _ is (returns-clause-bound g c)
+
+pub returns-clause-small : goal.returns-clause-small
+returns-clause-small g c = λ moment is.
+    small g.D.Domain.last_of g.D.Domain.reach g.met.D.Domain.reach_last c.args.circuit.now c.in_ok-signals.ensures.numbering c.in_ok-signals.signals.items
+    c.in_ok-signals.ensures.all c.in_ok-signals.ensures.front.reaches c.args.circuit.now.outputs moment
+    (sym (rw (c.deref.ensures.value, c.outputs.ensures) at c.greatest_last.ensures) ∙ is)

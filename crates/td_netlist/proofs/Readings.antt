@@ -1,0 +1,122 @@
+-- From the checks of a module to what its text means.
+use Rattle.std.proofs.Common.{◌≡◌, ℕ, List, map, Option, None, Some, Result, Ok, Err, refl, sym, ap, subst, ◌∙◌}
+use Rattle.std.specs.Prelude.{MatchOption, sum_by, IfOk, IfErr}
+use Rattle.td_gates.specs.declared.timing.Delay.{Delay}
+use Rattle.td_syntax.specs.declared.fault.FaultKind as syntax_kind
+use Rattle.td_syntax.specs.declared.fault.FaultKind.TheVariants as syntax
+use Rattle.td_syntax.specs.declared.fault.Fault as syntax_fault
+use Rattle.td_syntax.specs.Grammar as grammar
+use Rattle.td_syntax.specs.Faults as syntax_faults
+use Rattle.td_syntax.specs.Text.{Parses}
+use Rattle.td_syntax.proofs.Whole.{is_again}
+use Rattle.td_netlist.specs.declared.fault.FaultKind.{FaultKind}
+use Rattle.td_netlist.specs.declared.fault.FaultKind.TheVariants as kind
+use Rattle.td_netlist.specs.declared.fault.Fault.{Fault}
+use Rattle.td_netlist.specs.declared.name.Name as code_name
+use Rattle.td_netlist.specs.declared.netlist.Gate as code_gate
+use Rattle.td_netlist.specs.Netlist.{Name, Gate, Netlist}
+use Rattle.td_netlist.specs.Views.{name_of, gate_of, netlist_from}
+use Rattle.td_netlist.specs.FirstPass.{kind_from}
+use Rattle.td_netlist.specs.Faults.{Fails, told, UnlessMemory, IsUnlessMemory}
+use Rattle.td_netlist.specs.Module.{names_of, is_input, is_output, ports_as, gates_of, primitives, defaulted_of, nanosecond, netlist_in}
+use Rattle.td_netlist.specs.Means.{Means, IsConsistent, Breaks, OfNames, BreaksIn}
+use Rattle.td_netlist.specs.Checks.{Sides, checked_at}
+use Rattle.td_netlist.proofs.Consistent.{inconsistent, memory_alone, AreSides}
+
+abbrev parsed_as : {Y : Type 0} → Y → Result Y syntax_faults.Fault
+parsed_as y = Ok y
+
+-- a text has one syntax tree
+pub one_tree : (text : List ℕ) (m n : grammar.Module) → Parses text m → Parses text n → m ≡ n
+one_tree text m n p q = let same : parsed_as m ≡ parsed_as n = sym (is_again text m p) ∙ is_again text n q in cc
+
+pub one_netlist : (text : List ℕ) (default : Delay) (n k : Netlist) → Means text default n → Means text default k → n ≡ k
+one_netlist text default n k p q = p.lists ∙ ap (λ (m : grammar.Module). netlist_in default m) (one_tree text p.tree q.tree p.parses q.parses) ∙ sym q.lists
+
+-- ---- what a fault of the checks says
+
+breaks_by : (m : grammar.Module) (k : FaultKind) (line : ℕ) → MatchOption (told k) (Unit {0}) (λ j. Breaks j line m) → UnlessMemory k (Breaks k line m)
+breaks_by m kind.OutOfMemory line at = tt
+breaks_by m k line at = at
+
+refused_by : (m : grammar.Module) (o : Option FaultKind) (line : ℕ) → MatchOption o (Unit {0}) (λ k. checked_at m ≡ Err (record { kind = k; line = line })) → MatchOption o (Unit {0}) (λ k. Breaks k line m)
+refused_by m None line e = tt
+refused_by m (Some k) line e = inconsistent m (record { kind = k; line = line }) e
+
+pub fault_breaks : (m : grammar.Module) (f : Fault) → Fails f (checked_at m) → UnlessMemory f.kind (Breaks f.kind f.line m)
+fault_breaks m f e = breaks_by m f.kind f.line (refused_by m (told f.kind) f.line e)
+
+-- ---- what the text means
+
+of_names_by : (text : List ℕ) (m : grammar.Module) (k : FaultKind) (line : ℕ) → Parses text m → UnlessMemory k (Breaks k line m) → OfNames k (BreaksIn text k line)
+of_names_by text m kind.Redeclared line p at = record { tree = m; parses = p; breaks = at }
+of_names_by text m kind.PortUndeclared line p at = record { tree = m; parses = p; breaks = at }
+of_names_by text m kind.DrivenInput line p at = record { tree = m; parses = p; breaks = at }
+of_names_by text m kind.TwoDrivers line p at = record { tree = m; parses = p; breaks = at }
+of_names_by text m kind.Undriven line p at = record { tree = m; parses = p; breaks = at }
+of_names_by text m kind.UnknownBit line p at = record { tree = m; parses = p; breaks = at }
+of_names_by text m kind.WidthNotOne line p at = record { tree = m; parses = p; breaks = at }
+of_names_by text m k line p at = tt
+
+-- a fault of tokens and grammar is none of names
+pub not_of_names : (text : List ℕ) (k : syntax_kind.FaultKind) (line : ℕ) → OfNames (kind_from k) (BreaksIn text (kind_from k) line)
+not_of_names text syntax.OutOfMemory line = tt
+not_of_names text syntax.BadByte line = tt
+not_of_names text syntax.UnexpectedEnd line = tt
+not_of_names text syntax.Syntax line = tt
+not_of_names text (syntax.OutOfSubset w) line = tt
+not_of_names text syntax.ZeroDelay line = tt
+not_of_names text syntax.DelayTooFine line = tt
+not_of_names text syntax.DelayTooLarge line = tt
+not_of_names text syntax.TooMany line = tt
+
+module _ (text : List ℕ) (m : grammar.Module) (default : Delay) (p : Parses text m) where
+  pub found_by : (netlist : Netlist) → IsConsistent m → netlist ≡ netlist_in default m → Means text default netlist
+  found_by netlist keeps is = record { tree = m; parses = p; consistent = keeps; lists = is }
+
+  pub only_by : (netlist n : Netlist) → IsConsistent m → netlist ≡ netlist_in default m → Means text default n → netlist ≡ n
+  only_by netlist n keeps is means = one_netlist text default netlist n (found_by netlist keeps is) means
+
+  pub only_memory : (k : FaultKind) (line : ℕ) (n : Netlist) → UnlessMemory k (Breaks k line m) → Means text default n → k ≡ kind.OutOfMemory
+  only_memory k line n at means = memory_alone m line (subst IsConsistent (one_tree text means.tree m means.parses p) means.consistent) k at
+
+  pub only_as : (r : Result Netlist Fault) → IfOk r (λ netlist. IsConsistent m) → IfOk r (λ netlist. netlist ≡ netlist_in default m) → IfErr r (λ e. UnlessMemory e.kind (Breaks e.kind e.line m))
+      → (n : Netlist) → Means text default n → IsUnlessMemory r n
+  only_as (Ok netlist) keeps is breaks n means = only_by netlist n keeps is means
+  only_as (Err e) keeps is breaks n means = only_memory e.kind e.line n breaks means
+
+  pub names_broken : (k : FaultKind) (line : ℕ) → UnlessMemory k (Breaks k line m) → OfNames k (BreaksIn text k line)
+  names_broken k line at = of_names_by text m k line p at
+
+untold_by : {Y : Type 0} (k : syntax_kind.FaultKind) (line : ℕ) (y : Y) → MatchOption (syntax_faults.told k) (Unit {0}) (λ j. parsed_as y ≡ Err (syntax_faults.fault j line)) → kind_from k ≡ kind.OutOfMemory
+untold_by syntax.OutOfMemory line y e = refl
+untold_by syntax.BadByte line y e = absurd cc
+untold_by syntax.UnexpectedEnd line y e = absurd cc
+untold_by syntax.Syntax line y e = absurd cc
+untold_by (syntax.OutOfSubset w) line y e = absurd cc
+untold_by syntax.ZeroDelay line y e = absurd cc
+untold_by syntax.DelayTooFine line y e = absurd cc
+untold_by syntax.DelayTooLarge line y e = absurd cc
+untold_by syntax.TooMany line y e = absurd cc
+
+-- where the text has a syntax tree, reading it fails for want of memory alone
+pub parse_memory : (e : syntax_fault.Fault) (m : grammar.Module) → syntax_faults.Fails e (Ok m) → kind_from e.kind ≡ kind.OutOfMemory
+parse_memory e m fails = untold_by e.kind e.line m fails
+
+-- ---- the parts of a netlist
+
+made_of : List ℕ → List Name → List Name → List Gate → ℕ → Netlist
+made_of name inputs outputs gates defaulted = record { name = name; inputs = inputs; outputs = outputs; gates = gates; unit = nanosecond; defaulted = defaulted }
+
+module _ (m : grammar.Module) (default : Delay) (s : Sides) (sides : AreSides m s)
+    (name : List ℕ) (inputs outputs : List code_name.Name) (gates : List code_gate.Gate) (defaulted : ℕ) where
+  pub parts_are : name ≡ m.name.name → map name_of inputs ≡ s.inputs → map name_of outputs ≡ names_of s.outputs
+      → map gate_of gates ≡ gates_of default m → defaulted ≡ sum_by defaulted_of (primitives m)
+      → netlist_from name inputs outputs gates nanosecond defaulted ≡ netlist_in default m
+  unfolding made_of
+  parts_are named are_inputs are_outputs are_gates counted =
+      ap (λ (x : List ℕ). made_of x (map name_of inputs) (map name_of outputs) (map gate_of gates) defaulted) named
+      ∙ ap (λ (x : List Name). made_of m.name.name x (map name_of outputs) (map gate_of gates) defaulted) (are_inputs ∙ sides.inputs)
+      ∙ ap (λ (x : List Name). made_of m.name.name (ports_as is_input m) x (map gate_of gates) defaulted) (are_outputs ∙ sides.outputs)
+      ∙ ap (λ (x : List Gate). made_of m.name.name (ports_as is_input m) (ports_as is_output m) x defaulted) are_gates
+      ∙ ap (λ (x : ℕ). made_of m.name.name (ports_as is_input m) (ports_as is_output m) (gates_of default m) x) counted

@@ -1,0 +1,9 @@
+use Rattle.std.proofs.Common.{◌≡◌, drop, map}
+use Rattle.td_netlist.specs.Checks as checks
+use Rattle.td_netlist.specs.Checks.{each, sideless}
+use Rattle.td_netlist.specs.NameViews.{name_ref_of}
+use Rattle.td_netlist.specs.CheckViews.{drivers_of, primitive_of}
+use Rattle.td_netlist.proofs.drivers.Drivers.drive_each.Given as goal
+
+abbrev pub invariant-loop-primitive : goal.invariant-loop-primitive
+invariant-loop-primitive l = each (checks.drive_all (map name_ref_of l.inputs)) (drivers_of l.self) (map primitive_of (drop l.primitive-index l.primitives)) ≡ each (checks.drive_all (map name_ref_of l.inputs)) (drivers_of l.fn.self) (map primitive_of l.primitives)

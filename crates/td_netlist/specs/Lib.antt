@@ -1,0 +1,13 @@
+pub mod Netlist
+pub mod Names
+pub mod WellFormed
+pub mod Views
+pub mod Printed
+pub mod Kinds
+pub mod Faults
+pub mod FirstPass
+pub mod Module
+pub mod Means
+pub mod Checks
+pub mod NameViews
+pub mod CheckViews

@@ -1,0 +1,127 @@
+-- When a text means a netlist, and what a fault of a name says.
+use Rattle.std.specs.Prelude.{◌≡◌, ℕ, ◌<◌, ◌≤◌, ◌⊎◌, List, ◌∷◌, ◌++◌, length}
+use Rattle.std.specs.List.{Contains}
+use Rattle.td_gates.specs.declared.timing.Delay.{Delay}
+use Rattle.td_syntax.specs.Grammar as grammar
+use Rattle.td_syntax.specs.Text.{Parses}
+use Rattle.td_netlist.specs.declared.fault.FaultKind.{FaultKind}
+use Rattle.td_netlist.specs.declared.fault.FaultKind.TheVariants as kind
+use Rattle.td_netlist.specs.Netlist.{Name, Netlist}
+use Rattle.td_netlist.specs.WellFormed.{IsDistinct}
+use Rattle.td_netlist.specs.Module.{scalar, names_of, declared, is_direction, is_input, is_output, is_wire, ports, ports_as, outputs_in, inputs_in, nets_in, driven_in, netlist_in}
+
+-- Each port is listed once and has one direction, no other name has one, and no name is a wire twice.
+pub record AreDeclared (m : grammar.Module) : Type 0 where
+  pub listed_once : IsDistinct (names_of (ports m))
+  pub directed_once : IsDistinct (names_of (declared is_direction m))
+  pub wired_once : IsDistinct (names_of (declared is_wire m))
+  pub are_ports : (name : Name) → Contains (names_of (declared is_direction m)) name → Contains (names_of (ports m)) name
+  pub are_directed : (name : Name) → Contains (names_of (ports m)) name → Contains (names_of (declared is_direction m)) name
+
+-- No net has two drivers, no gate drives an input, and what is read or is an output is driven.
+pub record AreDriven (m : grammar.Module) : Type 0 where
+  pub driven_once : IsDistinct (names_of (outputs_in m))
+  pub inputs_free : (name : Name) → Contains (names_of (outputs_in m)) name → ¬ Contains (ports_as is_input m) name
+  pub reads_driven : (name : Name) → Contains (names_of (inputs_in m)) name → Contains (driven_in m) name
+  pub outputs_driven : (name : Name) → Contains (names_of (declared is_output m)) name → Contains (driven_in m) name
+
+-- the limits on inputs and nets; those on gates and their terminals are kept by the syntax tree
+pub record IsWithin (m : grammar.Module) : Type 0 where
+  pub few_inputs : length (declared is_input m) ≤ 4096
+  pub few_nets : length (nets_in m) ≤ 1000000
+
+-- the conditions on the names of a module
+pub record IsConsistent (m : grammar.Module) : Type 0 where
+  pub declared : AreDeclared m
+  pub driven : AreDriven m
+  pub within : IsWithin m
+
+-- The text, with this delay for gates that state none, means the netlist: a syntax tree spells the text's tokens, its
+-- names keep the conditions, and the netlist lists what it names.
+pub record Means (text : List ℕ) (default : Delay) (netlist : Netlist) : Type 0 where
+  pub tree : grammar.Module
+  pub parses : Parses text tree
+  pub consistent : IsConsistent tree
+  pub lists : netlist ≡ netlist_in default tree
+
+-- ---- a name or terminal on that line breaks the condition
+
+-- a name on this line stands before it in the list too
+pub record RepeatedOn (line : ℕ) (ns : List grammar.Name) : Type 0 where
+  pub before : List grammar.Name
+  pub name : grammar.Name
+  pub after : List grammar.Name
+  pub splits : ns ≡ before ++ name ∷ after
+  pub there : name.line ≡ line
+  pub repeats : Contains (names_of before) (scalar name)
+
+-- a name of this list on this line isn't among those
+pub record MissingOn (line : ℕ) (ns : List grammar.Name) (names : List Name) : Type 0 where
+  pub name : grammar.Name
+  pub stands : Contains ns name
+  pub there : name.line ≡ line
+  pub missing : ¬ Contains names (scalar name)
+
+-- a name of this list on this line is among those
+pub record TakenOn (line : ℕ) (ns : List grammar.Name) (names : List Name) : Type 0 where
+  pub name : grammar.Name
+  pub stands : Contains ns name
+  pub there : name.line ≡ line
+  pub taken : Contains names (scalar name)
+
+-- Redeclared: a name is declared again, or a port is listed twice.
+abbrev pub IsRedeclaredOn : ℕ → grammar.Module → Type 0
+IsRedeclaredOn line m = RepeatedOn line (ports m) ⊎ (RepeatedOn line (declared is_direction m) ⊎ RepeatedOn line (declared is_wire m))
+
+-- PortUndeclared: a direction for a name that is no port, or a port without direction.
+abbrev pub IsUndeclaredOn : ℕ → grammar.Module → Type 0
+IsUndeclaredOn line m = MissingOn line (declared is_direction m) (names_of (ports m)) ⊎ MissingOn line (ports m) (names_of (declared is_direction m))
+
+-- Undriven: a net that is read or is an output, and has no driver.
+abbrev pub IsUndrivenOn : ℕ → grammar.Module → Type 0
+IsUndrivenOn line m = MissingOn line (inputs_in m ++ declared is_output m) (driven_in m)
+
+-- TooMany: a limit is passed.
+abbrev pub IsTooLarge : grammar.Module → Type 0
+IsTooLarge m = (4096 < length (declared is_input m)) ⊎ (1000000 < length (nets_in m))
+
+-- What a fault says of the names of a module. The other kinds say nothing of names.
+abbrev pub Breaks : FaultKind → ℕ → grammar.Module → Type 0
+Breaks kind.Redeclared line m = IsRedeclaredOn line m
+Breaks kind.PortUndeclared line m = IsUndeclaredOn line m
+Breaks kind.DrivenInput line m = TakenOn line (outputs_in m) (ports_as is_input m)
+Breaks kind.TwoDrivers line m = RepeatedOn line (outputs_in m)
+Breaks kind.Undriven line m = IsUndrivenOn line m
+Breaks kind.TooMany line m = IsTooLarge m
+-- a plain name as terminal is no bit and no vector
+Breaks kind.UnknownBit line m = ⊥
+Breaks kind.WidthNotOne line m = ⊥
+Breaks kind.OutOfMemory line m = ⊥
+Breaks kind.BadByte line m = ⊥
+Breaks kind.UnexpectedEnd line m = ⊥
+Breaks kind.Syntax line m = ⊥
+Breaks (kind.OutOfSubset w) line m = ⊥
+Breaks kind.ZeroDelay line m = ⊥
+Breaks kind.DelayTooFine line m = ⊥
+Breaks kind.DelayTooLarge line m = ⊥
+
+-- the kinds of faults that are answered for names alone
+abbrev pub OfNames : FaultKind → Type 0 → Type 0
+OfNames kind.Redeclared P = P
+OfNames kind.PortUndeclared P = P
+OfNames kind.DrivenInput P = P
+OfNames kind.TwoDrivers P = P
+OfNames kind.Undriven P = P
+OfNames kind.UnknownBit P = P
+OfNames kind.WidthNotOne P = P
+OfNames k P = Unit {0}
+
+-- the grammar derives the text, and a name or terminal on that line breaks the condition
+pub record BreaksIn (text : List ℕ) (k : FaultKind) (line : ℕ) : Type 0 where
+  pub tree : grammar.Module
+  pub parses : Parses text tree
+  pub breaks : Breaks k line tree
+
+-- a text means at most one netlist
+abbrev pub MeansOne : Type 0
+MeansOne = (text : List ℕ) (default : Delay) (one other : Netlist) → Means text default one → Means text default other → one ≡ other

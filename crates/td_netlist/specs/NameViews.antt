@@ -1,0 +1,18 @@
+-- Borrowed names and directions, without where they lie in memory.
+use Rattle.std.specs.Prelude.{ℕ, List, Option, None, Some}
+use Rattle.std.specs.Borrow.{Bor}
+use Rattle.td_netlist.specs.declared.name_ref.NameRef as code_name_ref
+use Rattle.td_netlist.specs.declared.name_ref.Direction as code_direction
+use Rattle.td_netlist.specs.Netlist.{Name}
+use Rattle.td_netlist.specs.Module.{Declared}
+
+abbrev pub name_ref_of : code_name_ref.NameRef → Name
+name_ref_of name = record { text = name.text.now; bit = name.bit }
+
+abbrev pub declared_of : Bor (List ℕ) × code_direction.Direction → Declared
+declared_of e = record { role = e.1.role; name = record { name = e.0.now; line = e.1.line } }
+
+-- a direction that was found for this name
+abbrev pub found_of : List ℕ → Option code_direction.Direction → Option Declared
+found_of name None = None
+found_of name (Some d) = Some (record { role = d.role; name = record { name = name; line = d.line } })

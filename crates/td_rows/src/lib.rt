@@ -1,0 +1,150 @@
+//! Circuits made by hand, for tests.
+#![tactic(auto)]
+
+ghost use Rattle.std.specs.Prelude.{◌≡◌, ◌≤◌, ◌<◌, ◌+◌, true, length, map, IfOk};
+ghost use Rattle.td_gates.specs.Table.{TakesInputs};
+ghost use Rattle.td_netlist.specs.Views.{name_of, net_of, gate_of};
+ghost use Rattle.td_rows.specs.Cells.{w, AreLower, IsCell, AreCells, AreInputs};
+
+pub mod slow;
+
+use std::alloc::{AllocError, AllocFailed, Global};
+use td_circuit::{BuildFault, Circuit, build};
+use td_gates::{Delay, Kind};
+use td_netlist::{Gate, Name, Net, Netlist, Scale, Unit};
+
+/// A gate that reads nets by number: first come the inputs, and then the gates in order.
+#[derive(Clone, Copy)]
+pub struct Cell<'a> {
+    pub kind: Kind,
+    pub delay: Delay,
+    pub reads: &'a [u32],
+}
+
+/// Why there is no circuit.
+#[derive(Debug, Drop)]
+pub enum Refused {
+    OutOfMemory,
+    Malformed,
+}
+
+impl From<AllocError> for Refused {
+    fn from(_error: AllocError) -> Self {
+        Refused::OutOfMemory
+    }
+}
+
+impl<T: Drop> From<AllocFailed<T>> for Refused {
+    fn from(_error: AllocFailed<T>) -> Self {
+        Refused::OutOfMemory
+    }
+}
+
+fn name_at(alloc: Global, place: u32) -> Name
+    ensures { name_of result ≡ w place }
+{
+    Name {
+        text: Vec::new(alloc),
+        bit: Some(place),
+    }
+}
+
+fn takes(kind: Kind, count: usize) -> bool
+    ensures { result ≡ true → TakesInputs kind count }
+{
+    match kind {
+        Kind::And => count >= 1,
+        Kind::Nand => count >= 1,
+        Kind::Or => count >= 1,
+        Kind::Nor => count >= 1,
+        Kind::Xor => count >= 1,
+        Kind::Xnor => count >= 1,
+        Kind::Buf => count == 1,
+        Kind::Not => count == 1,
+    }
+}
+
+fn lower_nets(alloc: Global, reads: &[u32], end: u32) -> Result<Vec<Net>, Refused>
+    ensures lower { IfOk result (λ nets. AreLower end (map net_of nets.items)) }
+    ensures count { IfOk result (λ nets. length nets.items ≡ length reads.now) }
+{
+    let mut nets = Vec::new(alloc);
+    for read in reads {
+        if *read >= end {
+            return Err(Refused::Malformed);
+        }
+        nets.push(Net::Named(name_at(alloc, *read)))?;
+    }
+    Ok(nets)
+}
+
+fn cell_gate(alloc: Global, cell: &Cell<'_>, place: u32) -> Result<Gate, Refused>
+    ensures { IfOk result (λ gate. IsCell place (gate_of gate)) }
+{
+    if cell.reads.len() > 1023 || !takes(cell.kind, cell.reads.len()) {
+        return Err(Refused::Malformed);
+    }
+    let inputs = lower_nets(alloc, cell.reads, place)?;
+    let delay = cell.delay;
+    let _rise = delay.rise;
+    Ok(Gate {
+        kind: cell.kind,
+        delay,
+        output: name_at(alloc, place),
+        inputs,
+    })
+}
+
+fn input_names(alloc: Global, count: u32) -> Result<Vec<Name>, AllocError>
+    ensures { IfOk result (λ names. AreInputs count (map name_of names.items)) }
+{
+    let mut names = Vec::new(alloc);
+    for place in 0..count {
+        names.push(name_at(alloc, place))?;
+    }
+    Ok(names)
+}
+
+fn cell_gates(alloc: Global, inputs: u32, cells: &[Cell<'_>]) -> Result<Vec<Gate>, Refused>
+    requires few_inputs { inputs ≤ 4096 }
+    requires few_cells { length cells.now ≤ 200000 }
+    ensures cells { IfOk result (λ gates. AreCells inputs (map gate_of gates.items)) }
+    ensures count { IfOk result (λ gates. length gates.items ≡ length cells.now) }
+{
+    let mut gates = Vec::new(alloc);
+    for (i, cell) in cells.iter().enumerate() {
+        gates.push(cell_gate(alloc, cell, inputs + i as u32)?)?;
+    }
+    Ok(gates)
+}
+
+/// The netlist of these gates, whose output is the last one's.
+pub fn netlist_of(alloc: Global, inputs: u32, cells: &[Cell<'_>]) -> Result<Netlist, Refused> {
+    let count = cells.len();
+    if inputs > 4096 || count == 0 || count > 200_000 {
+        return Err(Refused::Malformed);
+    }
+    let names = input_names(alloc, inputs)?;
+    let gates = cell_gates(alloc, inputs, cells)?;
+    let mut outputs = Vec::new(alloc);
+    outputs.push(name_at(alloc, inputs + (count - 1) as u32))?;
+    let unit = Unit {
+        magnitude: 1,
+        scale: Scale::Nanoseconds,
+    };
+    Ok(Netlist::new(Vec::new(alloc), names, outputs, gates, unit, 0))
+}
+
+/// The circuit of these gates, whose output is the last one's.
+pub fn circuit_of(alloc: Global, inputs: u32, cells: &[Cell<'_>]) -> Result<Circuit, Refused> {
+    match build(alloc, netlist_of(alloc, inputs, cells)?) {
+        Ok(circuit) => Ok(circuit),
+        Err((_, BuildFault::OutOfMemory)) => Err(Refused::OutOfMemory),
+        Err((_, BuildFault::Loop(_))) => Err(Refused::Malformed),
+    }
+}
+
+#[cfg(test)]
+mod agreement;
+#[cfg(test)]
+mod tests;

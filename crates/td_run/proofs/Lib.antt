@@ -1,0 +1,9 @@
+pub mod Delayed
+pub mod Reading
+pub mod Sampling
+pub mod Turning
+pub mod Numbered
+pub mod Named
+pub mod Gates
+pub mod Settled
+pub mod Existence

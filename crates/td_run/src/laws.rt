@@ -1,0 +1,18 @@
+//! Laws of the definitions. These functions run nothing.
+
+ghost use Rattle.td_run.specs.Laws.{OneSettling, OneRun, OneDelay};
+
+/// A netlist without a loop has exactly one map of settled levels for each vector.
+pub fn one_settling()
+    ensures { OneSettling }
+{}
+
+/// A netlist without a loop has exactly one run for each pair of vectors.
+pub fn one_run()
+    ensures { OneRun }
+{}
+
+/// Each pair of vectors of a netlist without a loop has exactly one delay.
+pub fn one_delay()
+    ensures { OneDelay }
+{}

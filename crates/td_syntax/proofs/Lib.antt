@@ -1,0 +1,10 @@
+pub mod Pieces
+pub mod Searches
+pub mod Lexing
+pub mod Values
+pub mod Lists
+pub mod Takes
+pub mod Sound
+pub mod Again
+pub mod Whole
+pub mod Candidates

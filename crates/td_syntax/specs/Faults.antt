@@ -1,0 +1,68 @@
+-- Why a text is refused, and where.
+use Rattle.std.specs.Prelude.{◌≡◌, ℕ, List, Option, None, Some, Result, Ok, Err, MatchOption}
+use Rattle.td_syntax.specs.declared.fault.FaultKind as code_kind
+use Rattle.td_syntax.specs.declared.fault.FaultKind.TheVariants as code
+use Rattle.td_syntax.specs.declared.fault.Fault as code_fault
+use Rattle.td_syntax.specs.declared.token.Stop.TheVariants as stop
+use Rattle.td_syntax.specs.declared.token.Stop.{Stop}
+use Rattle.td_syntax.specs.Lexical.{Token, Name, Reserved, Number, Mark, Outside}
+use Rattle.td_syntax.specs.Tokens.{Placed}
+
+pub data FaultKind : Type 0 where
+  BadByte : FaultKind
+  UnexpectedEnd : FaultKind
+  Syntax : FaultKind
+  OutOfSubset : List ℕ → FaultKind
+  ZeroDelay : FaultKind
+  DelayTooFine : FaultKind
+  DelayTooLarge : FaultKind
+  TooMany : FaultKind
+
+pub record Fault : Type 0 where
+  pub kind : FaultKind
+  pub line : ℕ
+
+abbrev pub fault : FaultKind → ℕ → Fault
+fault kind line = record { kind = kind; line = line }
+
+-- what a token is told as where the grammar doesn't allow it
+abbrev pub refusal : Token → FaultKind
+refusal (Name w) = Syntax
+refusal (Reserved k) = Syntax
+refusal (Number w) = Syntax
+refusal (Mark m) = Syntax
+refusal (Outside w) = OutOfSubset w
+
+abbrev pub refused : Placed → Fault
+refused p = fault (refusal p.token) p.line
+
+-- what stands behind the last token, where another is due
+abbrev pub stopped : Stop → ℕ → Fault
+stopped stop.Cut line = fault UnexpectedEnd line
+stopped stop.Bad line = fault BadByte line
+stopped stop.End line = fault UnexpectedEnd line
+
+-- want of memory isn't a fault of the text
+abbrev pub told : code_kind.FaultKind → Option FaultKind
+told code.OutOfMemory = None
+told code.BadByte = Some BadByte
+told code.UnexpectedEnd = Some UnexpectedEnd
+told code.Syntax = Some Syntax
+told (code.OutOfSubset w) = Some (OutOfSubset w.now)
+told code.ZeroDelay = Some ZeroDelay
+told code.DelayTooFine = Some DelayTooFine
+told code.DelayTooLarge = Some DelayTooLarge
+told code.TooMany = Some TooMany
+
+abbrev pub Fails : {Y : Type 0} → code_fault.Fault → Result Y Fault → Type 0
+Fails e read = MatchOption (told e.kind) (Unit {0}) (λ kind. read ≡ Err (fault kind e.line))
+
+-- What a function returned, seen by view, is what reading gives, unless memory ran out.
+abbrev pub Gives : {X Y : Type 0} → (X → Y) → Result X code_fault.Fault → Result Y Fault → Type 0
+Gives view (Ok x) read = read ≡ Ok (view x)
+Gives view (Err e) read = Fails e read
+
+infixl 10 ◌>>=◌
+abbrev pub ◌>>=◌ : {A B : Type 0} → Result A Fault → (A → Result B Fault) → Result B Fault
+(Ok x) >>= f = f x
+(Err e) >>= f = Err e

@@ -1,0 +1,9 @@
+pub mod Faults
+pub mod Grammar
+pub mod Identifiers
+pub mod Lexical
+pub mod Parsing
+pub mod Text
+pub mod Tokens
+pub mod Views
+pub mod Words

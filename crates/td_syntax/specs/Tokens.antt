@@ -1,0 +1,73 @@
+-- The tokens of a text, with their lines.
+use Rattle.std.specs.Prelude.{◌≡◌, ℕ, zero, suc, ◌+◌, List, [], ◌∷◌, length, take, drop}
+use Rattle.std.specs.List.{count_by}
+use Rattle.td_syntax.specs.declared.token.Stop.{Stop}
+use Rattle.td_syntax.specs.declared.token.Stop.TheVariants.{Cut, Bad, End}
+use Rattle.td_syntax.specs.Lexical.{Token, Space, Found, Last, is_newline, piece_at}
+
+-- a token, and the line of its first byte
+pub record Placed : Type 0 where
+  pub token : Token
+  pub line : ℕ
+
+abbrev pub at : ℕ → Token → Placed
+at line token = record { token = token; line = line }
+
+abbrev pub newlines : List ℕ → ℕ
+newlines bytes = count_by is_newline bytes
+
+-- The tokens of a text, and what stands behind them, on which line.
+pub record Stream : Type 0 where
+  pub tokens : List Placed
+  pub stop : Stop
+  pub line : ℕ
+
+abbrev pub ends : ℕ → Stop → Stream
+ends line stop = record { tokens = []; stop = stop; line = line }
+
+abbrev pub before : Placed → Stream → Stream
+before t s = record { tokens = t ∷ s.tokens; stop = s.stop; line = s.line }
+
+-- A comment that is cut short is told at the line of the end, another stop where it stands.
+abbrev pub stop_line : ℕ → List ℕ → Stop → ℕ
+stop_line line bytes Cut = line + newlines bytes
+stop_line line bytes Bad = line
+stop_line line bytes End = line
+
+-- The bytes, which begin on this line, have these tokens: white space and comments stand between them.
+pub data Lexes : ℕ → List ℕ → Stream → Type 0 where
+  last : {line : ℕ} {bytes : List ℕ} {stop : Stop} → piece_at bytes ≡ Last stop → Lexes line bytes (ends (stop_line line bytes stop) stop)
+  space : {line : ℕ} {bytes : List ℕ} {n : ℕ} {s : Stream} → piece_at bytes ≡ Space n → Lexes (line + newlines (take n bytes)) (drop n bytes) s → Lexes line bytes s
+  found : {line : ℕ} {bytes : List ℕ} {t : Token} {n : ℕ} {s : Stream} → piece_at bytes ≡ Found t n → Lexes (line + newlines (take n bytes)) (drop n bytes) s → Lexes line bytes (before (at line t) s)
+
+-- The same as a function, which looks at no more than that many pieces.
+unfoldable pub tokens_within : ℕ → ℕ → List ℕ → Stream
+tokens_within zero line bytes = ends line End
+tokens_within (suc pieces) line bytes =
+    elim (piece_at bytes) [
+      | Space n ↦ tokens_within pieces (line + newlines (take n bytes)) (drop n bytes)
+      | Found t n ↦ before (at line t) (tokens_within pieces (line + newlines (take n bytes)) (drop n bytes))
+      | Last stop ↦ ends (stop_line line bytes stop) stop
+    ]
+
+unfoldable pub tokens_of : ℕ → List ℕ → Stream
+tokens_of line bytes = tokens_within (suc (length bytes)) line bytes
+
+-- what stands in front: the first token, or what stands behind the last, with its line
+pub data Front : Type 0 where
+  Next : Placed → Front
+  Behind : Stop → ℕ → Front
+
+abbrev pub front_in : List Placed → Stop → ℕ → Front
+front_in [] stop line = Behind stop line
+front_in (t ∷ ts) stop line = Next t
+
+abbrev pub rest_in : List Placed → List Placed
+rest_in [] = []
+rest_in (t ∷ ts) = ts
+
+unfoldable pub front_of : Stream → Front
+front_of s = front_in s.tokens s.stop s.line
+
+unfoldable pub rest_of : Stream → Stream
+rest_of s = record { tokens = rest_in s.tokens; stop = s.stop; line = s.line }

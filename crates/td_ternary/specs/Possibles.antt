@@ -1,0 +1,119 @@
+-- Possible levels: a signal is a wave whose level x stands for both Boolean levels. Which waves it covers, and the signals
+-- of inputs, constants and gates.
+use Rattle.std.specs.Prelude.{◌≡◌, ℕ, zero, suc, ◌+◌, ◌-◌, max, nat_le, Bool, true, false, not, ◌&&◌, ◌||◌, List, [], ◌∷◌, ◌++◌, length, take, drop, Option, Some, None, if◌then◌else◌}
+use Rattle.td_gates.specs.declared.primitives.Level.{Level}
+use Rattle.td_gates.specs.declared.primitives.Level.TheVariants.{Zero as Low, One as High, X}
+use Rattle.td_gates.specs.declared.primitives.Kind.{Kind}
+use Rattle.td_gates.specs.declared.timing.Delay.{Delay}
+use Rattle.td_gates.specs.declared.timing.Change.{Change}
+use Rattle.td_gates.specs.Table.{level_from, level_eq}
+use Rattle.td_gates.specs.Wave.{Wave, before}
+use Rattle.td_gates.specs.Schedule.{target_before}
+use Rattle.td_domain.specs.declared.cubes.Trit.{Trit}
+use Rattle.td_domain.specs.declared.cubes.Trit.TheVariants.{Zero, One, Free}
+
+-- the level is among those that the signal's level stands for
+abbrev pub has : Level → Level → Bool
+has Low Low = true
+has Low High = false
+has Low X = false
+has High Low = false
+has High High = true
+has High X = false
+has X Low = true
+has X High = true
+has X X = false
+
+-- the level that stands for those that may be, one of which may
+abbrev pub set_of : Bool → Bool → Level
+set_of true true = X
+set_of true false = Low
+set_of false one = High
+
+-- before each moment the wave's level is among those that the signal's stands for
+abbrev pub Covers : Wave → Wave → Type 0
+Covers signal wave = (n : ℕ) → has (before signal n) (before wave n) ≡ true
+
+-- the level that stands for those that a trit allows
+abbrev pub known_of : Trit → Level
+known_of Zero = Low
+known_of One = High
+known_of Free = X
+
+-- a change, where the level is another
+abbrev pub change_at : ℕ → Level → Level → List Change
+change_at moment old new = if level_eq old new then [] else (record { moment = moment; level = new } ∷ [])
+
+-- an input: the first trit, from moment 0 on the second
+abbrev pub input_signal : Trit → Trit → Wave
+input_signal first second = record {
+  start = known_of first;
+  changes = change_at 0 (known_of first) (known_of second);
+}
+
+abbrev pub constant_signal : Bool → Wave
+constant_signal one = record { start = level_from one; changes = [] }
+
+-- the test passes at each of the d places up to t (below place 0 it is place 0)
+abbrev pub held : (ℕ → Bool) → ℕ → ℕ → Bool
+held test zero t = true
+held test (suc d) t = test (t - d) && held test d t
+
+-- Whether a level is possible, place by place, where `may` says whether the target may be that level. It comes where the
+-- target may have been that level all the while that it takes to come, and stays unless the target surely was the other
+-- level all the while that it takes to go.
+abbrev pub is_possible : (ℕ → Bool) → ℕ → ℕ → ℕ → Bool
+is_possible may coming going zero = may 0
+is_possible may coming going (suc t) =
+    held may coming t || (is_possible may coming going t && not (held (λ n. not (may n)) going t))
+
+-- the possible levels of an output just before a moment, where the target's are these
+abbrev pub possible_after : Delay → (ℕ → Level) → ℕ → Level
+possible_after delay target n = set_of
+    (is_possible (λ m. has (target m) Low) delay.fall delay.rise n)
+    (is_possible (λ m. has (target m) High) delay.rise delay.fall n)
+
+-- the possible levels of a gate's output just before a moment
+abbrev pub possible : Kind → Delay → List Wave → ℕ → Level
+possible kind delay signals n = possible_after delay (target_before kind signals) n
+
+-- the changes of levels given place by place, at the moments below this one
+abbrev pub changes_below : (ℕ → Level) → ℕ → List Change
+changes_below levels zero = []
+changes_below levels (suc t) = changes_below levels t ++ change_at t (levels t) (levels (suc t))
+
+-- the greatest moment of a change, 0 where there is none
+abbrev pub last_change : List Change → ℕ
+last_change [] = 0
+last_change (change ∷ later) = max change.moment (last_change later)
+
+abbrev pub last_input : List Wave → ℕ
+last_input [] = 0
+last_input (signal ∷ signals) = max (last_change signal.changes) (last_input signals)
+
+-- the level after all changes
+abbrev pub last_level : Level → List Change → Level
+last_level levels [] = levels
+last_level levels (change ∷ later) = last_level change.level later
+
+-- the first changes, and both levels from the moment of the next one on
+abbrev pub widened : Level → List Change → List Change → List Change
+widened start first [] = first
+widened start first (change ∷ later) = first ++ change_at change.moment (last_level start first) X
+
+-- at most 512 changes: of more the first 511 stay, and from the moment of the 512th on both levels are possible
+abbrev pub capped : Level → List Change → List Change
+capped start changes =
+    if nat_le (length changes) 512 then changes else widened start (take 511 changes) (drop 511 changes)
+
+-- the signal of a gate's output
+abbrev pub gate_signal : Kind → Delay → List Wave → Wave
+gate_signal kind delay signals = record {
+  start = possible kind delay signals 0;
+  changes = capped (possible kind delay signals 0)
+      (changes_below (possible kind delay signals) (last_input signals + max delay.rise delay.fall + 1));
+}
+
+-- none where the last level stands for both, else the moment of the last change, 0 where there is none
+abbrev pub last_of : Wave → Option ℕ
+last_of signal = if level_eq (last_level signal.start signal.changes) X then None else Some (last_change signal.changes)

@@ -1,0 +1,106 @@
+//! The domain.
+
+ghost use Rattle.std.specs.Prelude.{◌≡◌, None, Some, if◌then◌else◌};
+ghost use Rattle.td_gates.specs.declared.primitives.Level.TheVariants.{X};
+ghost use Rattle.td_gates.specs.Table.{level_eq};
+ghost use Rattle.td_ternary.specs.Possibles.{Covers, known_of, input_signal, constant_signal, gate_signal, last_of, last_change};
+ghost use Rattle.td_ternary.specs.PossibleLaws.{covers_input, covers_constant, covers_gate, quiet_after_last, reach_input, reach_constant, reach_gate, reach_last};
+
+use crate::gates;
+use std::alloc::{AllocError, Global};
+use td_domain::{Domain, Trit};
+use td_gates::{Change, Delay, Kind, Level};
+use td_run::Wave;
+
+/// The domain of possible levels.
+pub struct Possible;
+
+impl Domain for Possible {
+    type Sig = Wave;
+
+    ghost covers = { Covers };
+
+    ghost input_of = { input_signal };
+
+    ghost constant_of = { constant_signal };
+
+    ghost gate_of = { gate_signal };
+
+    ghost last_of = { last_of };
+
+    ghost reach = { λ signal. last_change signal.changes };
+
+    fn input(alloc: Global, first: Trit, second: Trit) -> Result<Wave, AllocError> {
+        let start = level_of_trit(first);
+        let level = level_of_trit(second);
+        let mut changes = Vec::new(alloc);
+        if start != level {
+            changes.push(Change { moment: 0, level })?;
+        }
+        Ok(Wave::from_changes(start, changes))
+    }
+
+    fn constant(alloc: Global, one: bool) -> Result<Wave, AllocError> {
+        let start = if one { Level::One } else { Level::Zero };
+        Ok(Wave::from_changes(start, Vec::new(alloc)))
+    }
+
+    fn gate(
+        alloc: Global,
+        kind: Kind,
+        delay: Delay,
+        all: &[Wave],
+        ins: &[u32],
+    ) -> Result<Wave, AllocError> {
+        gates::output(alloc, kind, delay, all, ins)
+    }
+
+    fn copy(alloc: Global, signal: &Wave) -> Result<Wave, AllocError> {
+        Ok(Wave::from_changes(signal.start(), Vec::from_slice(alloc, signal.changes())?))
+    }
+
+    fn last(signal: &Wave) -> Option<u64> {
+        match signal.changes().last() {
+            None => moment_of(signal.start(), 0),
+            Some(change) => moment_of(change.level, change.moment),
+        }
+    }
+
+    ghost covers_input = { covers_input };
+
+    ghost covers_constant = { covers_constant };
+
+    ghost covers_gate = { covers_gate };
+
+    ghost quiet_after_last = { quiet_after_last };
+
+    ghost reach_input = { reach_input };
+
+    ghost reach_constant = { reach_constant };
+
+    ghost reach_gate = { reach_gate };
+
+    ghost reach_last = { reach_last };
+}
+
+/// The level that stands for those that a trit allows.
+fn level_of_trit(trit: Trit) -> Level
+    ensures { result ≡ known_of trit }
+{
+    match trit {
+        Trit::Zero => Level::Zero,
+        Trit::One => Level::One,
+        Trit::Free => Level::X,
+    }
+}
+
+/// The moment, where the last level there isn't that of both.
+fn moment_of(level: Level, moment: u64) -> Option<u64>
+    ensures { result ≡ (if level_eq level X then None else Some moment) }
+{
+    if level == Level::X {
+        None
+    } else {
+        Some(moment)
+    }
+}
