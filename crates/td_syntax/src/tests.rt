@@ -190,7 +190,7 @@ fn faults(rt: HostRuntime) -> Result<(), Fail> {
             b"module t; not (y, 1'b0); endmodule",
             "out of subset",
             1,
-            b"1",
+            b"1'b0",
         ),
         (
             b"module t (input a); endmodule",
@@ -204,8 +204,8 @@ fn faults(rt: HostRuntime) -> Result<(), Fail> {
             1,
             b"(*",
         ),
-        (b"module t; `x endmodule", "out of subset", 1, b"`"),
-        (b"module \\t ; endmodule", "out of subset", 1, b"\\"),
+        (b"module t; `x endmodule", "out of subset", 1, b"`x"),
+        (b"module \\t ; endmodule", "out of subset", 1, b"\\t"),
         (
             b"module t ( ) ; // none\n/* a\nb */ endmodule\n// end",
             "ok",
@@ -221,9 +221,10 @@ fn faults(rt: HostRuntime) -> Result<(), Fail> {
     ];
     for (text, kind, line, told) in cases {
         let found = fault_of(&rt, text);
-        assert_eq!(rt; found.0, kind);
-        assert_eq!(rt; found.1, line);
-        assert!(rt; found.2 == told);
+        let text = std::str::from_utf8(text).unwrap_or("");
+        assert_eq!(rt; found.0, kind, "{text}");
+        assert_eq!(rt; found.1, line, "{text}");
+        assert!(rt; found.2 == told, "{text}");
     }
     Ok(())
 }
