@@ -49,7 +49,20 @@ const NO_INPUT: &[u8] = b"module t;\nendmodule\n";
 
 const ATTRIBUTED: &[u8] = b"module t(a);\n(* x *) input a;\nendmodule\n";
 
-const FILES: [(&str, &[u8]); 8] = [
+/// A pulse of one moment, through an `and` of delay 2 and of delay 1, and a late falling edge.
+const LOST: &[u8] =
+    b"module t(a, y);\ninput a;\noutput y;\nnot #1 n(b,a); and #2 g(y,a,b);\nendmodule\n";
+
+const LATE: &[u8] =
+    b"module t(a, y);\ninput a;\noutput y;\nnot #1 n(b,a); and #(1,3) g(y,a,b);\nendmodule\n";
+
+const RECONVERGENT: &[u8] =
+    b"module t(a, b, y);\ninput a, b;\noutput y;\nbuf #1 p1(p,b); buf #1 p2(q,b); xor #3 g(y,a,p,q);\nendmodule\n";
+
+const SLOW_ARM: &[u8] =
+    b"module t(a, b, y);\ninput a, b;\noutput y;\nbuf #4 s(t,a); or #1 g(y,b,t);\nendmodule\n";
+
+const FILES: [(&str, &[u8]); 12] = [
     ("inverter.v", INVERTER),
     ("nor.v", NOR),
     ("parted.v", PARTED),
@@ -58,6 +71,10 @@ const FILES: [(&str, &[u8]); 8] = [
     ("both.v", BOTH),
     ("none.v", NO_INPUT),
     ("attribute.v", ATTRIBUTED),
+    ("lost.v", LOST),
+    ("late.v", LATE),
+    ("reconvergent.v", RECONVERGENT),
+    ("slow.v", SLOW_ARM),
 ];
 
 /// Each command line, what it writes to standard output, and to standard error, and its exit status.
@@ -281,5 +298,119 @@ fn failing_reader(rt: HostRuntime) -> Result<(), Fail> {
         b"tdelay: cannot read inverter.v\n".as_slice()
     );
     assert_eq!(rt; ended.status, 5);
+    Ok(())
+}
+
+/// A command that bounds a cube, and what it writes to standard output and to standard error, and its exit status.
+fn bounded(
+    rt: &HostRuntime,
+    words: &[&str],
+    out: &[u8],
+    err: &[u8],
+    status: u8,
+) -> Result<(), Fail> {
+    let ended = carried_out(rt, words, MemoryFiles::new(&FILES), ROOM)?;
+    assert_eq!(rt; ended.out.bytes(), out);
+    assert_eq!(rt; ended.err.bytes(), err);
+    assert_eq!(rt; ended.status, status);
+    Ok(())
+}
+
+/// All pairs, and cubes by two options.
+#[test]
+fn bounds_of_cubes(rt: HostRuntime) -> Result<(), Fail> {
+    let free: [(&str, &[u8]); 4] = [
+        ("inverter.v", b"unit 1 ns\ndefaulted 0\na 3\nt none\nm 3\n"),
+        ("nor.v", b"unit 1 ns\ndefaulted 1\na 1\nt none\nm 1\n"),
+        (
+            "reconvergent.v",
+            b"unit 1 ns\ndefaulted 0\na 4\nt none\nm 4\n",
+        ),
+        ("none.v", b"unit 1 ns\ndefaulted 0\na 0\nt 0\nm 0\n"),
+    ];
+    for (file, out) in &free {
+        bounded(&rt, &["tdelay", "bound", *file], *out, b"", 0)?;
+    }
+    let cubes: [(&str, &str, &str, &[u8]); 5] = [
+        (
+            "lost.v",
+            "0",
+            "1",
+            b"unit 1 ns\ndefaulted 0\na 0\nt 0\nm 0\n",
+        ),
+        (
+            "late.v",
+            "0",
+            "1",
+            b"unit 1 ns\ndefaulted 0\na 4\nt 4\nm 4\n",
+        ),
+        (
+            "reconvergent.v",
+            "00",
+            "11",
+            b"unit 1 ns\ndefaulted 0\na 4\nt 3\nm 3\n",
+        ),
+        (
+            "slow.v",
+            ".1",
+            ".1",
+            b"unit 1 ns\ndefaulted 0\na 0\nt 0\nm 0\n",
+        ),
+        (
+            "none.v",
+            "none",
+            "none",
+            b"unit 1 ns\ndefaulted 0\na 0\nt 0\nm 0\n",
+        ),
+    ];
+    for (file, first, second, out) in &cubes {
+        bounded(
+            &rt,
+            &[
+                "tdelay", "bound", *file, "--first", *first, "--second", *second,
+            ],
+            *out,
+            b"",
+            0,
+        )?;
+    }
+    // one option alone
+    let words = ["tdelay", "bound", "slow.v", "--second", ".1"];
+    bounded(
+        &rt,
+        &words,
+        b"unit 1 ns\ndefaulted 0\na 5\nt 5\nm 5\n",
+        b"",
+        0,
+    )
+}
+
+/// The netlist is judged first, then the first option, then the second.
+#[test]
+fn bad_cubes(rt: HostRuntime) -> Result<(), Fail> {
+    let cases: [(&str, &str, &str, &[u8], u8); 5] = [
+        ("inverter.v", "00", "00", b"tdelay: bad vector first\n", 2),
+        ("inverter.v", ".", "x", b"tdelay: bad vector second\n", 2),
+        ("none.v", "", "none", b"tdelay: bad vector first\n", 2),
+        (
+            "looped.v",
+            "00",
+            "00",
+            b"tdelay: circuit fault 1 Loop on q\n",
+            1,
+        ),
+        ("absent.v", ".", ".", b"tdelay: cannot read absent.v\n", 5),
+    ];
+    for (file, first, second, err, status) in &cases {
+        bounded(
+            &rt,
+            &[
+                "tdelay", "bound", *file, "--first", *first, "--second", *second,
+            ],
+            b"",
+            *err,
+            *status,
+        )?;
+    }
     Ok(())
 }
