@@ -1,29 +1,33 @@
 use super::*;
 use itoa::Buffer;
+use std::alloc::Global;
 use std::test::*;
 use td_gates::Delay;
 use td_netlist::read;
 
 const UNIT: Delay = Delay { rise: 1, fall: 1 };
 
-/// The circuit of a text, or the name of a net on a loop, printed; nothing where the text is refused.
-fn loop_of(rt: &HostRuntime, text: &[u8]) -> Result<Option<Vec<u8>>, Fail> {
-    let alloc = rt.alloc();
+/// How building the circuit of a text went.
+#[derive(Drop)]
+enum Built {
+    Done(Circuit),
+    /// The printed name of a net on a loop.
+    Looped(Vec<u8>),
+    Refused,
+}
+
+fn built(alloc: Global, text: &[u8]) -> Result<Built, Fail> {
     let Ok(netlist) = read(alloc, text, UNIT) else {
-        assert!(rt; false, "refused");
-        return Ok(None);
+        return Ok(Built::Refused);
     };
     match build(alloc, netlist) {
+        Ok(circuit) => Ok(Built::Done(circuit)),
         Err((_, BuildFault::Loop(name))) => {
             let mut printed = Vec::new(alloc);
             name.print(&mut printed)?;
-            Ok(Some(printed))
+            Ok(Built::Looped(printed))
         }
-        Err((_, BuildFault::OutOfMemory)) => {
-            assert!(rt; false, "out of memory");
-            Ok(None)
-        }
-        Ok(_) => Ok(None),
+        Err((_, BuildFault::OutOfMemory)) => Ok(Built::Refused),
     }
 }
 
@@ -31,38 +35,42 @@ fn loop_of(rt: &HostRuntime, text: &[u8]) -> Result<Option<Vec<u8>>, Fail> {
 #[test]
 fn loops(rt: HostRuntime) -> Result<(), Fail> {
     let own = b"module t(a, q);\ninput a;\noutput q;\nnand #1 g(q,a,q);\nendmodule\n";
-    let Some(name) = loop_of(&rt, own)? else {
+    let Built::Looped(name) = built(rt.alloc(), own)? else {
         assert!(rt; false);
         return Ok(());
     };
     assert_eq!(rt; name.as_slice(), b"q".as_slice());
-    let crossed = b"module t(s, r, q, p);\ninput s, r;\noutput q, p;\nnand #1 g(q,s,p), h(p,r,q);\nendmodule\n";
-    let Some(name) = loop_of(&rt, crossed)? else {
+    let crossed =
+        b"module t(s, r, q, p);\ninput s, r;\noutput q, p;\nnand #1 g(q,s,p), h(p,r,q);\nendmodule\n";
+    let Built::Looped(name) = built(rt.alloc(), crossed)? else {
         assert!(rt; false);
         return Ok(());
     };
     assert!(rt; name.as_slice() == b"q".as_slice() || name.as_slice() == b"p".as_slice());
     // a net off the loop, which leads to it, and one that it leads to
-    let between = b"module t(a, y);\ninput a;\noutput y;\nbuf (y,c), (b,a); and (c,d,b); not (d,c);\nendmodule\n";
-    let Some(name) = loop_of(&rt, between)? else {
+    let between =
+        b"module t(a, y);\ninput a;\noutput y;\nbuf (y,c), (b,a); and (c,d,b); not (d,c);\nendmodule\n";
+    let Built::Looped(name) = built(rt.alloc(), between)? else {
         assert!(rt; false);
         return Ok(());
     };
     assert!(rt; name.as_slice() == b"c".as_slice() || name.as_slice() == b"d".as_slice());
-    let parted = b"module t(a, y);\ninput a;\noutput y;\nand (y,c,b); not (b,a), (c,b);\nendmodule\n";
-    assert!(rt; loop_of(&rt, parted)?.is_none());
+    let parted =
+        b"module t(a, y);\ninput a;\noutput y;\nand (y,c,b); not (b,a), (c,b);\nendmodule\n";
+    let Built::Done(circuit) = built(rt.alloc(), parted)? else {
+        assert!(rt; false);
+        return Ok(());
+    };
+    assert_eq!(rt; circuit.gates().len(), 3);
     Ok(())
 }
 
 /// Inputs come in order, gates so that each reads lower nets, and outputs in order.
 #[test]
 fn numbers(rt: HostRuntime) -> Result<(), Fail> {
-    let text = b"module t(b, y, a, z);\ninput a, b;\noutput z, y;\nand (y,z,b); not #(2,3) (z,a);\nendmodule\n";
-    let Ok(netlist) = read(rt.alloc(), text, UNIT) else {
-        assert!(rt; false);
-        return Ok(());
-    };
-    let Ok(circuit) = build(rt.alloc(), netlist) else {
+    let text =
+        b"module t(b, y, a, z);\ninput a, b;\noutput z, y;\nand (y,z,b); not #(2,3) (z,a);\nendmodule\n";
+    let Built::Done(circuit) = built(rt.alloc(), text)? else {
         assert!(rt; false);
         return Ok(());
     };
@@ -101,11 +109,7 @@ fn a_long_chain_back_to_front(rt: HostRuntime) -> Result<(), Fail> {
         append_buffer(&mut text, 100_000 - i, 99_999 - i)?;
     }
     text.extend_from_slice(b"endmodule\n")?;
-    let Ok(netlist) = read(rt.alloc(), &text, UNIT) else {
-        assert!(rt; false);
-        return Ok(());
-    };
-    let Ok(circuit) = build(rt.alloc(), netlist) else {
+    let Built::Done(circuit) = built(rt.alloc(), &text)? else {
         assert!(rt; false);
         return Ok(());
     };

@@ -62,7 +62,20 @@ const RECONVERGENT: &[u8] =
 const SLOW_ARM: &[u8] =
     b"module t(a, b, y);\ninput a, b;\noutput y;\nbuf #4 s(t,a); or #1 g(y,b,t);\nendmodule\n";
 
-const FILES: [(&str, &[u8]); 12] = [
+const C17: &[u8] = b"module c17 (N1,N2,N3,N6,N7,N22,N23);
+input N1,N2,N3,N6,N7;
+output N22,N23;
+wire N10,N11,N16,N19;
+nand NAND2_1 (N10, N1, N3);
+nand NAND2_2 (N11, N3, N6);
+nand NAND2_3 (N16, N2, N11);
+nand NAND2_4 (N19, N11, N7);
+nand NAND2_5 (N22, N10, N16);
+nand NAND2_6 (N23, N16, N19);
+endmodule
+";
+
+const FILES: [(&str, &[u8]); 13] = [
     ("inverter.v", INVERTER),
     ("nor.v", NOR),
     ("parted.v", PARTED),
@@ -75,12 +88,19 @@ const FILES: [(&str, &[u8]); 12] = [
     ("late.v", LATE),
     ("reconvergent.v", RECONVERGENT),
     ("slow.v", SLOW_ARM),
+    ("c17.v", C17),
 ];
 
 /// Each command line, what it writes to standard output, and to standard error, and its exit status.
 #[test]
 fn printed_runs(rt: HostRuntime) -> Result<(), Fail> {
-    let cases: [([&str; 5], &[u8], &[u8], u8); 17] = [
+    let cases: [([&str; 5], &[u8], &[u8], u8); 18] = [
+        (
+            ["tdelay", "sim", "c17.v", "01010", "01110"],
+            b"unit 1 ns\ndefaulted 6\nlast N22 3\nlast N23 3\ntime 3\n",
+            b"",
+            0,
+        ),
         (
             ["tdelay", "sim", "inverter.v", "0", "1"],
             b"unit 1 ns\ndefaulted 0\nlast y 3\ntime 3\n",
@@ -301,21 +321,6 @@ fn failing_reader(rt: HostRuntime) -> Result<(), Fail> {
     Ok(())
 }
 
-/// A command that bounds a cube, and what it writes to standard output and to standard error, and its exit status.
-fn bounded(
-    rt: &HostRuntime,
-    words: &[&str],
-    out: &[u8],
-    err: &[u8],
-    status: u8,
-) -> Result<(), Fail> {
-    let ended = carried_out(rt, words, MemoryFiles::new(&FILES), ROOM)?;
-    assert_eq!(rt; ended.out.bytes(), out);
-    assert_eq!(rt; ended.err.bytes(), err);
-    assert_eq!(rt; ended.status, status);
-    Ok(())
-}
-
 /// All pairs, and cubes by two options.
 #[test]
 fn bounds_of_cubes(rt: HostRuntime) -> Result<(), Fail> {
@@ -329,7 +334,11 @@ fn bounds_of_cubes(rt: HostRuntime) -> Result<(), Fail> {
         ("none.v", b"unit 1 ns\ndefaulted 0\na 0\nt 0\nm 0\n"),
     ];
     for (file, out) in &free {
-        bounded(&rt, &["tdelay", "bound", *file], *out, b"", 0)?;
+        let words = ["tdelay", "bound", *file];
+        let ended = carried_out(&rt, &words, MemoryFiles::new(&FILES), ROOM)?;
+        assert_eq!(rt; ended.out.bytes(), *out);
+        assert_eq!(rt; ended.err.bytes(), b"".as_slice());
+        assert_eq!(rt; ended.status, 0);
     }
     let cubes: [(&str, &str, &str, &[u8]); 5] = [
         (
@@ -364,25 +373,22 @@ fn bounds_of_cubes(rt: HostRuntime) -> Result<(), Fail> {
         ),
     ];
     for (file, first, second, out) in &cubes {
-        bounded(
-            &rt,
-            &[
-                "tdelay", "bound", *file, "--first", *first, "--second", *second,
-            ],
-            *out,
-            b"",
-            0,
-        )?;
+        let words = [
+            "tdelay", "bound", *file, "--first", *first, "--second", *second,
+        ];
+        let ended = carried_out(&rt, &words, MemoryFiles::new(&FILES), ROOM)?;
+        assert_eq!(rt; ended.out.bytes(), *out);
+        assert_eq!(rt; ended.err.bytes(), b"".as_slice());
+        assert_eq!(rt; ended.status, 0);
     }
     // one option alone
     let words = ["tdelay", "bound", "slow.v", "--second", ".1"];
-    bounded(
-        &rt,
-        &words,
-        b"unit 1 ns\ndefaulted 0\na 5\nt 5\nm 5\n",
-        b"",
-        0,
-    )
+    let ended = carried_out(&rt, &words, MemoryFiles::new(&FILES), ROOM)?;
+    assert_eq!(rt;
+        ended.out.bytes(),
+        b"unit 1 ns\ndefaulted 0\na 1\nt 1\nm 1\n".as_slice()
+    );
+    Ok(())
 }
 
 /// The netlist is judged first, then the first option, then the second.
@@ -402,15 +408,13 @@ fn bad_cubes(rt: HostRuntime) -> Result<(), Fail> {
         ("absent.v", ".", ".", b"tdelay: cannot read absent.v\n", 5),
     ];
     for (file, first, second, err, status) in &cases {
-        bounded(
-            &rt,
-            &[
-                "tdelay", "bound", *file, "--first", *first, "--second", *second,
-            ],
-            b"",
-            *err,
-            *status,
-        )?;
+        let words = [
+            "tdelay", "bound", *file, "--first", *first, "--second", *second,
+        ];
+        let ended = carried_out(&rt, &words, MemoryFiles::new(&FILES), ROOM)?;
+        assert_eq!(rt; ended.out.bytes(), b"".as_slice());
+        assert_eq!(rt; ended.err.bytes(), *err);
+        assert_eq!(rt; ended.status, *status);
     }
     Ok(())
 }
