@@ -9,25 +9,27 @@ const UNIT: Delay = Delay { rise: 1, fall: 1 };
 
 /// How building the circuit of a text went.
 #[derive(Drop)]
-enum Built {
+enum Outcome {
     Done(Circuit),
     /// The printed name of a net on a loop.
     Looped(Vec<u8>),
     Refused,
 }
 
-fn built(alloc: Global, text: &[u8]) -> Result<Built, Fail> {
+fn built(alloc: Global, text: &[u8]) -> Result<Outcome, Fail> {
     let Ok(netlist) = read(alloc, text, UNIT) else {
-        return Ok(Built::Refused);
+        return Ok(Outcome::Refused);
     };
     match build(alloc, netlist) {
-        Ok(circuit) => Ok(Built::Done(circuit)),
-        Err((_, BuildFault::Loop(name))) => {
-            let mut printed = Vec::new(alloc);
-            name.print(&mut printed)?;
-            Ok(Built::Looped(printed))
-        }
-        Err((_, BuildFault::OutOfMemory)) => Ok(Built::Refused),
+        Ok(circuit) => Ok(Outcome::Done(circuit)),
+        Err((_netlist, fault)) => match fault {
+            BuildFault::OutOfMemory => Ok(Outcome::Refused),
+            BuildFault::Loop(name) => {
+                let mut printed = Vec::new(alloc);
+                name.print(&mut printed)?;
+                Ok(Outcome::Looped(printed))
+            }
+        },
     }
 }
 
@@ -35,14 +37,14 @@ fn built(alloc: Global, text: &[u8]) -> Result<Built, Fail> {
 #[test]
 fn loops(rt: HostRuntime) -> Result<(), Fail> {
     let own = b"module t(a, q);\ninput a;\noutput q;\nnand #1 g(q,a,q);\nendmodule\n";
-    let Built::Looped(name) = built(rt.alloc(), own)? else {
+    let Outcome::Looped(name) = built(rt.alloc(), own)? else {
         assert!(rt; false);
         return Ok(());
     };
     assert_eq!(rt; name.as_slice(), b"q".as_slice());
     let crossed =
         b"module t(s, r, q, p);\ninput s, r;\noutput q, p;\nnand #1 g(q,s,p), h(p,r,q);\nendmodule\n";
-    let Built::Looped(name) = built(rt.alloc(), crossed)? else {
+    let Outcome::Looped(name) = built(rt.alloc(), crossed)? else {
         assert!(rt; false);
         return Ok(());
     };
@@ -50,14 +52,14 @@ fn loops(rt: HostRuntime) -> Result<(), Fail> {
     // a net off the loop, which leads to it, and one that it leads to
     let between =
         b"module t(a, y);\ninput a;\noutput y;\nbuf (y,c), (b,a); and (c,d,b); not (d,c);\nendmodule\n";
-    let Built::Looped(name) = built(rt.alloc(), between)? else {
+    let Outcome::Looped(name) = built(rt.alloc(), between)? else {
         assert!(rt; false);
         return Ok(());
     };
     assert!(rt; name.as_slice() == b"c".as_slice() || name.as_slice() == b"d".as_slice());
     let parted =
         b"module t(a, y);\ninput a;\noutput y;\nand (y,c,b); not (b,a), (c,b);\nendmodule\n";
-    let Built::Done(circuit) = built(rt.alloc(), parted)? else {
+    let Outcome::Done(circuit) = built(rt.alloc(), parted)? else {
         assert!(rt; false);
         return Ok(());
     };
@@ -70,7 +72,7 @@ fn loops(rt: HostRuntime) -> Result<(), Fail> {
 fn numbers(rt: HostRuntime) -> Result<(), Fail> {
     let text =
         b"module t(b, y, a, z);\ninput a, b;\noutput z, y;\nand (y,z,b); not #(2,3) (z,a);\nendmodule\n";
-    let Built::Done(circuit) = built(rt.alloc(), text)? else {
+    let Outcome::Done(circuit) = built(rt.alloc(), text)? else {
         assert!(rt; false);
         return Ok(());
     };
@@ -80,9 +82,12 @@ fn numbers(rt: HostRuntime) -> Result<(), Fail> {
     assert_eq!(rt; circuit.defaulted(), 1);
     // b is 2, a is 3, z is 4, y is 5
     assert_eq!(rt; circuit.gates().len(), 2);
-    assert_eq!(rt; circuit.gates()[0].inputs.as_slice(), [3].as_slice());
-    assert_eq!(rt; circuit.gates()[0].delay.fall, 3);
-    assert_eq!(rt; circuit.gates()[1].inputs.as_slice(), [4, 2].as_slice());
+    let inverter = &circuit.gates()[0];
+    assert_eq!(rt; inverter.inputs.as_slice(), [3].as_slice());
+    assert_eq!(rt; inverter.delay.rise, 2);
+    assert_eq!(rt; inverter.delay.fall, 3);
+    let conjunction = &circuit.gates()[1];
+    assert_eq!(rt; conjunction.inputs.as_slice(), [4, 2].as_slice());
     assert_eq!(rt; circuit.outputs(), [5, 4].as_slice());
     assert_eq!(rt; circuit.gate_outputs(), [5, 4].as_slice());
     Ok(())
@@ -109,7 +114,7 @@ fn a_long_chain_back_to_front(rt: HostRuntime) -> Result<(), Fail> {
         append_buffer(&mut text, 100_000 - i, 99_999 - i)?;
     }
     text.extend_from_slice(b"endmodule\n")?;
-    let Built::Done(circuit) = built(rt.alloc(), &text)? else {
+    let Outcome::Done(circuit) = built(rt.alloc(), &text)? else {
         assert!(rt; false);
         return Ok(());
     };
