@@ -219,7 +219,7 @@ open_at (c ∷ bs) = if c == 42 then attribute_of (attribute_end place.Plain bs)
 unfoldable pub piece_at : List ℕ → Piece
 piece_at [] = Last stop.End
 piece_at (b ∷ bs) =
-    if is_blank b then Space 1
+    if is_blank b then Space (prefix_len is_blank (b ∷ bs))
     else (if is_letter b then (let n = prefix_len is_name_byte (b ∷ bs) in Found (word_of (take n (b ∷ bs))) n)
     else (if is_ascii_digit b then number_at (b ∷ bs)
     else (if b == 47 then slash_at bs

@@ -10,8 +10,8 @@ ghost use Rattle.td_syntax.specs.Views.{view, piece_view, option_numeral_view};
 
 use crate::attribute::attribute_len;
 use crate::bytes::{is_blank, is_letter, is_name_byte, is_number_byte, is_printable, is_run_byte};
-use crate::reserved::is_reserved;
-use crate::timescale::timescale;
+use crate::reserved::{is_candidate, is_reserved};
+use crate::timescale::{blank_len, timescale};
 use crate::token::{Directive, Keyword, Number, Stop, Symbol, Token};
 use memchr::{memchr, memmem};
 use td_gates::Kind;
@@ -65,6 +65,9 @@ pub fn keyword_of(word: &[u8]) -> Option<Keyword>
 fn word_of(word: &[u8]) -> Token<'_>
     ensures { view result ≡ word_of word.now }
 {
+    if !is_candidate(word) {
+        return Token::Name(word);
+    }
     match keyword_of(word) {
         Some(keyword) => Token::Reserved(keyword),
         None => {
@@ -385,7 +388,7 @@ fn front_piece(text: &[u8]) -> Piece<'_>
     };
     let first = *first;
     if is_blank(first) {
-        Piece::Space(1)
+        Piece::Space(blank_len(text))
     } else if is_letter(first) {
         let len = name_len(text);
         let (word, _) = text.split_at(len);

@@ -9,7 +9,7 @@ ghost use Rattle.td_syntax.specs.TimescaleViews.{part_view, rest_view, directive
 use crate::bytes::is_blank;
 use crate::token::{Directive, Timescale, Unread};
 
-fn blank_len(text: &[u8]) -> usize
+pub fn blank_len(text: &[u8]) -> usize
     ensures run { result ≡ prefix_len is_blank text.now }
     ensures within { result ≤ length text.now }
 {
