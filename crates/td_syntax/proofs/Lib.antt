@@ -1,10 +1,12 @@
 pub mod Pieces
+pub mod Attributes
+pub mod Parts
 pub mod Searches
 pub mod Lexing
 pub mod Values
 pub mod Lists
 pub mod Takes
-pub mod Sound
-pub mod Again
-pub mod Whole
+pub mod SoundHeads
+pub mod SoundDelays
+pub mod SoundGates
 pub mod Candidates

@@ -1,5 +1,5 @@
 -- The syntax tree of a text, and the tokens that spell it.
-use Rattle.std.specs.Prelude.{◌≡◌, ℕ, ◌+◌, ◌*◌, ◌-◌, ◌≤◌, ◌==◌, not, if◌then◌else◌, List, [], ◌∷◌, ◌++◌, length, map, take, drop, filter, replicate, Option, None, Some, Bool, true, false, Result, Ok}
+use Rattle.std.specs.Prelude.{◌≡◌, ℕ, zero, suc, ◌+◌, ◌*◌, ◌-◌, ◌≤◌, ◌==◌, not, if◌then◌else◌, List, [], ◌∷◌, ◌++◌, length, map, take, drop, filter, replicate, Option, None, Some, Bool, true, false, Result, Ok}
 use Rattle.std.specs.List.{flat_map, fold, sum_by, list_all, AllByRecursion}
 use Rattle.td_gates.specs.declared.primitives.Kind.{Kind}
 use Rattle.td_gates.specs.declared.primitives.Kind.TheVariants as kinds
@@ -224,7 +224,9 @@ fraction_digits (Some digits) = filter is_digit digits
 
 -- the number with so many of the digits behind it, and zeros where there are less
 abbrev pub steps_behind : ℕ → ℕ → List ℕ → ℕ
-steps_behind whole tens digits = fold with_digit whole (take tens (digits ++ replicate tens 48))
+steps_behind n zero digits = n
+steps_behind n (suc tens) [] = steps_behind (10 * n) tens []
+steps_behind n (suc tens) (d ∷ ds) = steps_behind (with_digit n d) tens ds
 
 -- A number of units, where a unit has 10 to the power of tens steps: its point moves so many places to the right.
 abbrev pub steps_of : ℕ → Numeral → ℕ

@@ -62,6 +62,7 @@ impl<'a> Lexer<'a> {
     pub fn is_within(&self)
         ensures { length self.now.tokens ≤ 67108865 }
     {
+        let _rest = &self.rest;
     }
 
     /// What stands in front, which stays.

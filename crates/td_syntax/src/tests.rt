@@ -426,16 +426,31 @@ fn fault_of_repeated(
 }
 
 #[test]
-fn limits(rt: HostRuntime) -> Result<(), Fail> {
-    let terminals = |count| fault_of_repeated(&rt, b"module t; and (y", b",\na", count, b"); endmodule");
-    assert!(rt; terminals(1_023)? == ("ok", 0));
-    assert!(rt; terminals(1_024)? == ("too many", 1_025));
-    let gates = |count| fault_of_repeated(&rt, b"module t; and ", b"(y,a),\n", count, b"(y\n,a); endmodule");
-    assert!(rt; gates(199_999)? == ("ok", 0));
-    assert!(rt; gates(200_000)? == ("too many", 200_001));
-    let outputs = |count| fault_of_repeated(&rt, b"module t; buf ", b"(y,z,a),\n", count, b"(y\n,a); endmodule");
-    assert!(rt; outputs(99_999)? == ("ok", 0));
-    assert!(rt; outputs(100_000)? == ("too many", 100_001));
+fn terminal_limit(rt: HostRuntime) -> Result<(), Fail> {
+    let fault = |count| fault_of_repeated(&rt, b"module t; and (y", b",\na", count, b"); endmodule");
+    assert!(rt; fault(1_023)? == ("ok", 0));
+    assert!(rt; fault(1_024)? == ("too many", 1_025));
+    Ok(())
+}
+
+#[test]
+fn gate_limit(rt: HostRuntime) -> Result<(), Fail> {
+    let fault = |count| fault_of_repeated(&rt, b"module t; and ", b"(y,a),\n", count, b"(y\n,a); endmodule");
+    assert!(rt; fault(199_999)? == ("ok", 0));
+    assert!(rt; fault(200_000)? == ("too many", 200_001));
+    Ok(())
+}
+
+#[test]
+fn output_limit(rt: HostRuntime) -> Result<(), Fail> {
+    let fault = |count| fault_of_repeated(&rt, b"module t; buf ", b"(y,z,a),\n", count, b"(y\n,a); endmodule");
+    assert!(rt; fault(99_999)? == ("ok", 0));
+    assert!(rt; fault(100_000)? == ("too many", 100_001));
+    Ok(())
+}
+
+#[test]
+fn text_limit(rt: HostRuntime) -> Result<(), Fail> {
     let text = vec![in rt.alloc(); b'a'; 67_108_865]?;
     assert!(rt; fault_of(&rt, &text[..67_108_864]).0 == "syntax");
     assert!(rt; fault_of(&rt, &text).0 == "too many");

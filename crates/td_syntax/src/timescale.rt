@@ -111,11 +111,9 @@ fn slash(text: &[u8]) -> Result<&[u8], Unread>
     }
 }
 
-/// The parts behind the word of the directive, and the text behind them.
 #[tactic(auto, unfolding(crate::specs::Timescales::timescale_at))]
-pub fn timescale(text: &[u8]) -> Result<(Directive, &[u8]), Unread>
-    ensures parts { directive_view result ≡ timescale_at text.now }
-    ensures within { IfOk result (λ x. length x.1.now ≤ length text.now) }
+fn parts(text: &[u8]) -> Result<(Directive, &[u8]), Unread>
+    ensures { directive_view result ≡ timescale_at text.now }
 {
     let (unit, behind) = span(text)?;
     let (step, rest) = span(slash(unblanked(behind))?)?;
@@ -124,4 +122,12 @@ pub fn timescale(text: &[u8]) -> Result<(Directive, &[u8]), Unread>
     } else {
         Err(Unread::Wrong)
     }
+}
+
+/// The parts behind the word of the directive, and the text behind them.
+pub fn timescale(text: &[u8]) -> Result<(Directive, &[u8]), Unread>
+    ensures parts { directive_view result ≡ timescale_at text.now }
+    ensures within { IfOk result (λ x. length x.1.now ≤ length text.now) }
+{
+    parts(text)
 }
