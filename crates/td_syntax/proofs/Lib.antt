@@ -10,3 +10,4 @@ pub mod SoundHeads
 pub mod SoundDelays
 pub mod SoundGates
 pub mod Candidates
+pub mod Counting

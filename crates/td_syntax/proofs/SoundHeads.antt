@@ -38,7 +38,7 @@ zero_gates a = 0
 
 pub no_sum : {A : Type 0} (xs : List A) → sum_by zero_gates xs ≡ 0
 no_sum [] = refl
-no_sum (x ∷ xs) = sum_by-cons zero_gates x xs ∙ no_sum xs
+no_sum (x ∷ xs) = omega (arith, sum_by-cons zero_gates x xs, no_sum xs)
 
 -- ---- attributes
 
@@ -181,8 +181,11 @@ FrontStep s x = elim x.0 [
   | Done ↦ Takes s (grammar.word keyword.Module) 0 x.1
 ]
 
+abbrev module_read : Placed → State → Option (Unit {0}) → Result (Step Fronted × State) Fault
+module_read p rest o = elim o [ None ↦ Err (refused p) | Some u ↦ Ok (Done, rest) ]
+
 front_module : (s rest : State) (p : Placed) (o : Option (Unit {0})) (x : Step Fronted × State) → as_module p ≡ o → Takes s (plain p ∷ []) 0 rest
-    → elim o [ None ↦ Err (refused p) | Some u ↦ done (Done, rest) ] ≡ Ok x → FrontStep s x
+    → module_read p rest o ≡ Ok x → FrontStep s x
 front_module s rest p None x is t e = absurd (err_is_no_ok _ x (sym e))
 front_module s rest p (Some u) x is t e =
     let end : Step Fronted = Done in

@@ -31,13 +31,13 @@ impl<'a> Parser<'a> {
     pub fn attributes(&mut self) -> Result<usize, Fault<'a>>
         ensures { Gives (λ n. (n, self.new)) result (attributes_at self.old) }
     {
+        self.is_within();
         let mut count = 0;
         'attributes: loop {
-            if self.maybe_attribute()?.is_none() {
-                return Ok(count);
+            match self.maybe_attribute()? {
+                Some(()) => count += 1,
+                None => return Ok(count),
             }
-            self.is_within();
-            count += 1;
         }
     }
 
