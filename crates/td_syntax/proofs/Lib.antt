@@ -11,3 +11,9 @@ pub mod SoundDelays
 pub mod SoundGates
 pub mod Candidates
 pub mod Counting
+pub mod SoundDeclarations
+pub mod SoundItems
+pub mod AgainTokens
+pub mod AgainHeads
+pub mod AgainDelays
+pub mod AgainGates

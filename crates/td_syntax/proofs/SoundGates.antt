@@ -127,11 +127,11 @@ bit_takes s x e =
     (takes_then s (grammar.whole a.0.0) 0 a.0.1 (grammar.mark symbol.RightBracket) 0 b.0 (whole_takes s a.0 a.1) (mark_takes symbol.RightBracket a.0.1 b.0 b.1))
 
 -- what stands behind the name or constant of a terminal
-record Selected (base : grammar.Terminal) (s : State) (x : grammar.Terminal × State) : Type 0 where
-  behind : List Placed
-  text : grammar.terminal base ++ behind ≡ grammar.terminal x.0
-  takes : Takes s behind 0 x.1
-  net : IsNet base → IsNet x.0
+pub record Selected (base : grammar.Terminal) (s : State) (x : grammar.Terminal × State) : Type 0 where
+  pub behind : List Placed
+  pub text : grammar.terminal base ++ behind ≡ grammar.terminal x.0
+  pub takes : Takes s behind 0 x.1
+  pub net : IsNet base → IsNet x.0
 
 not_selected : (base : grammar.Terminal) (s : State) (x : grammar.Terminal × State) → done (base, s) ≡ Ok x → Selected base s x
 not_selected base s x e =
@@ -146,7 +146,7 @@ selected_by_takes n s true u x t e =
 selected_by_takes n s false u x t e =
     subst (Selected (grammar.Whole n) s) (ok_is (grammar.Whole n, u) x e) (record { behind = []; text = refl; takes = t; net = λ h. tt })
 
-selected_takes : (base : grammar.Terminal) (s : State) (x : grammar.Terminal × State) → selected_at base s ≡ Ok x → Selected base s x
+pub selected_takes : (base : grammar.Terminal) (s : State) (x : grammar.Terminal × State) → selected_at base s ≡ Ok x → Selected base s x
 unfolding selected_at
 selected_takes (grammar.Whole n) s x e =
     let b = bind_ok (maybe_mark_at symbol.LeftBracket s) (selected_by n) x e in
@@ -289,7 +289,7 @@ terminals_take kind s y e =
 
 -- ---- instances
 
-opening_takes : (named : Bool) (s rest : State) → opening_at named s ≡ Ok rest → Takes s (grammar.mark symbol.Open) 0 rest
+pub opening_takes : (named : Bool) (s rest : State) → opening_at named s ≡ Ok rest → Takes s (grammar.mark symbol.Open) 0 rest
 unfolding opening_at
 opening_takes named s rest e =
     let b = bind_ok (next_at s) (λ p. cond (is_mark symbol.Open p.0.token) (Ok p.1) (Err (opening_refusal named p.0))) rest e in
