@@ -26,7 +26,7 @@ use Rattle.td_syntax.specs.Tokens.{Placed, Stream, Front, Next, Behind, at, fron
 use Rattle.td_syntax.specs.Grammar as grammar
 use Rattle.td_syntax.specs.Grammar.{plain}
 use Rattle.td_syntax.specs.Faults.{Fault, fault, refused, ◌>>=◌}
-use Rattle.td_syntax.specs.Parsing.{State, behind_front, Step, More, Final, Done, as_attribute, as_directive, as_module, attribute_member, attribute_step, attributes_at, directive_at, front_directive, front_by, front_step, behind_by, behind_in, behind_step, next_at, maybe_at, many, many_from}
+use Rattle.td_syntax.specs.Parsing.{State, behind_front, Step, More, Final, Done, as_attribute, as_directive, as_module, attribute_member, attribute_step, attributes_at, directive_at, front_directive, front_by, front_step, is_behind, behind_by, behind_step, next_at, maybe_at, many, many_from}
 use Rattle.td_syntax.proofs.Lists.{unrolled}
 use Rattle.td_syntax.proofs.Takes.{Classifies}
 use Rattle.td_syntax.proofs.SoundHeads.{attributes_classified, attributes_shorten, modules_classified, fronts_shorten, behind_shortens}
@@ -112,7 +112,7 @@ abbrev Behinds : List Placed → Stop → ℕ → ℕ → State
 Behinds ts stop line gates = record { stream = record { tokens = ts; stop = stop; line = line }; gates = gates }
 
 behind_one : (k : ℕ) (ts : List Placed) (stop : Stop) (line gates : ℕ) (d : Directive) (tail : List Placed) → map plain ts ≡ grammar.directed d ++ tail → Reads (behind_step k (Behinds ts stop line gates)) (More d) tail
-unfolding behind_step front_of rest_of directive_at
+unfolding behind_step next_at front_of rest_of directive_at
 behind_one k [] stop line gates d tail e = absurd cc
 behind_one k (t ∷ ts) stop line gates d tail e =
     let same : plain t ≡ at 0 (Directs (Ok d) []) = cc in

@@ -17,3 +17,6 @@ pub mod AgainTokens
 pub mod AgainHeads
 pub mod AgainDelays
 pub mod AgainGates
+pub mod AgainDeclarations
+pub mod AgainItems
+pub mod Whole

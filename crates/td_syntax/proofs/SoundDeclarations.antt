@@ -284,12 +284,12 @@ port_member = record {
       let m = bind_ok (port_at k s) (λ p. behind symbol.Close p.0 p.1) (More a, rest) e in
       let p = port_takes k s m.0 m.1 in
       let b = behind_more grammar.port symbol.Close s m.0.0 0 m.0.1 a rest p.0 m.2 in
-      (b.1, subst (PortAt k) b.0 p.1);
+      (b.1, subst (PortAt k) b.0 (p.1, p.2));
   final = λ k s a rest e.
       let m = bind_ok (port_at k s) (λ p. behind symbol.Close p.0 p.1) (Final a, rest) e in
       let p = port_takes k s m.0 m.1 in
       let b = behind_final grammar.port symbol.Close s m.0.0 0 m.0.1 a rest p.0 m.2 in
-      (b.1, subst (PortAt k) b.0 p.1);
+      (b.1, subst (PortAt k) b.0 (p.1, p.2));
   never = λ k s rest e.
       let m = bind_ok (port_at k s) (λ p. behind symbol.Close p.0 p.1) (Done, rest) e in
       behind_never symbol.Close m.0.0 m.0.1 rest m.2;

@@ -26,7 +26,7 @@ use Rattle.td_syntax.specs.Tokens.{Placed, Stream, Front, Next, Behind, at, fron
 use Rattle.td_syntax.specs.Grammar as grammar
 use Rattle.td_syntax.specs.Grammar.{plain}
 use Rattle.td_syntax.specs.Faults.{Fault, Syntax, fault, refused, ◌>>=◌}
-use Rattle.td_syntax.specs.Parsing.{State, behind_front, Step, More, Final, Done, is_mark, as_name, as_number, number_by, as_whole, whole_in, whole_at, as_keyword, as_attribute, as_directive, directive_by, as_module, module_by, attribute_member, attribute_step, attributes_at, directive_at, front_directive, front_by, front_step, behind_by, behind_in, behind_step, next_at, next_by, name_at, maybe_at, mark_at, maybe_mark_at, behind, many, many_from}
+use Rattle.td_syntax.specs.Parsing.{State, behind_front, Step, More, Final, Done, is_mark, as_name, as_number, number_by, as_whole, whole_in, whole_at, as_keyword, as_attribute, as_directive, directive_by, as_module, module_by, attribute_member, attribute_step, attributes_at, directive_at, front_directive, front_by, front_step, is_behind, behind_by, behind_step, next_at, next_by, name_at, maybe_at, mark_at, maybe_mark_at, behind, many, many_from}
 use Rattle.td_syntax.proofs.Lists.{Shortens}
 use Rattle.td_syntax.proofs.Takes.{Takes, takes_nothing, takes_then, regrouped, then_two, bind_ok, chosen, done, ok_is, err_is_no_ok, taken, next_takes, Classifies, read_as_is, take_takes, maybe_takes, names_classified, name_takes, mark_taken, mark_takes, if_mark, maybe_mark_takes, MemberTakes, behind_never, behind_more, behind_final, AllFrom, gates_from, TakesList, list_takes, list_shortens, SequenceTakes, TakesAll, all_takes, all_shortens}
 
@@ -239,22 +239,21 @@ BehindStep s x = elim x.0 [
 nothing_behind : (s : State) (x : Step Directive × State) → done (Done, s) ≡ Ok x → BehindStep s x
 nothing_behind s x e = let end : Step Directive = Done in subst (BehindStep s) (ok_is (end, s) x e) (takes_nothing s)
 
-behind_directed : (s : State) (p : Placed) (o : Option (Result Directive Unread)) (x : Step Directive × State) → as_directive p ≡ o → Takes s (plain p ∷ []) 0 (behind_front s) → behind_by p.line s o ≡ Ok x → BehindStep s x
-behind_directed s p None x is t e = nothing_behind s x e
-behind_directed s p (Some r) x is t e =
-    let d = bind_ok (directive_at p.line r (behind_front s)) (λ y. Ok (More y.0, y.1)) x e in
-    subst (BehindStep s) (ok_is (More d.0.0, d.0.1) x d.2) (directive_taken s (behind_front s) p r d.0 is t d.1)
+behind_directed : (s rest : State) (p : Placed) (o : Option (Result Directive Unread)) (x : Step Directive × State) → as_directive p ≡ o → Takes s (plain p ∷ []) 0 rest → behind_by p.line s rest o ≡ Ok x → BehindStep s x
+behind_directed s rest p None x is t e = nothing_behind s x e
+behind_directed s rest p (Some r) x is t e =
+    let d = bind_ok (directive_at p.line r rest) (λ y. Ok (More y.0, y.1)) x e in
+    subst (BehindStep s) (ok_is (More d.0.0, d.0.1) x d.2) (directive_taken s rest p r d.0 is t d.1)
 
-behind_front_is : (s : State) (f : Front) (x : Step Directive × State) → front_of s.stream ≡ f → behind_in s f ≡ Ok x → BehindStep s x
-unfolding next_at
-behind_front_is s (Behind stop line) x is e = nothing_behind s x e
-behind_front_is s (Next p) x is e =
-    let read : next_at s ≡ Ok (p, behind_front s) = ap (next_by s) is in
-    behind_directed s p (as_directive p) x refl (next_takes s (p, behind_front s) read) e
+behind_in : (s : State) (b : Bool) (x : Step Directive × State) → cond b (Ok (Done, s)) (next_at s >>= λ p. behind_by p.0.line s p.1 (as_directive p.0)) ≡ done x → BehindStep s x
+behind_in s true x e = nothing_behind s x e
+behind_in s false x e =
+    let b = bind_ok (next_at s) (λ p. behind_by p.0.line s p.1 (as_directive p.0)) x e in
+    behind_directed s b.0.1 b.0.0 (as_directive b.0.0) x refl (next_takes s b.0 b.1) b.2
 
 behind_is : (k : ℕ) (s : State) (x : Step Directive × State) → behind_step k s ≡ Ok x → BehindStep s x
 unfolding behind_step
-behind_is k s x e = behind_front_is s (front_of s.stream) x refl e
+behind_is k s x e = behind_in s (is_behind (front_of s.stream)) x e
 
 pub behind_sequence : SequenceTakes behind_step grammar.directed Always zero_gates []
 behind_sequence = record {

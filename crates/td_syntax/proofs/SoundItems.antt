@@ -44,7 +44,7 @@ ItemStep tens s x = elim x.0 [
   | Done ↦ Takes s (grammar.word keyword.EndModule) 0 x.1
 ]
 
-declared_text : (d : grammar.Declaration) → grammar.attributes d.attributes ++ grammar.role_word d.role ++ declaration_rest d ≡ grammar.declaration d
+pub declared_text : (d : grammar.Declaration) → grammar.attributes d.attributes ++ grammar.role_word d.role ++ declaration_rest d ≡ grammar.declaration d
 declared_text d =
     let range = grammar.optional grammar.range d.range in
     let names = grammar.separated grammar.name d.names in
@@ -53,7 +53,7 @@ declared_text d =
     regroup : (a b c d e : List Placed) → a ++ (b ++ c ++ d ++ e) ≡ a ++ b ++ c ++ d ++ e
     regroup a b c d e = simp append_assoc
 
-gates_text : (g : grammar.Statement) → grammar.attributes g.attributes ++ grammar.word (keyword.Gate g.kind) ++ statement_rest g ≡ grammar.statement g
+pub gates_text : (g : grammar.Statement) → grammar.attributes g.attributes ++ grammar.word (keyword.Gate g.kind) ++ statement_rest g ≡ grammar.statement g
 gates_text g =
     regroup (grammar.attributes g.attributes ++ grammar.word (keyword.Gate g.kind)) (grammar.delay g.delay) (grammar.separated grammar.instance g.instances) (grammar.mark symbol.Semicolon)
   where

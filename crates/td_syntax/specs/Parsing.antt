@@ -280,17 +280,18 @@ front_by p s None = front_directive p s (as_directive p)
 unfoldable pub front_step : ℕ → State → Result (Step Fronted × State) Fault
 front_step k s = next_at s >>= λ p. front_by p.0 p.1 (as_attribute p.0)
 
-abbrev pub behind_by : ℕ → State → Option (Result Directive Unread) → Result (Step Directive × State) Fault
-behind_by line s None = Ok (Done, s)
-behind_by line s (Some d) = directive_at line d (behind_front s) >>= λ x. Ok (More x.0, x.1)
+-- whether no token stands in front
+abbrev pub is_behind : Front → Bool
+is_behind (Behind stop line) = true
+is_behind (Next p) = false
 
-abbrev pub behind_in : State → Front → Result (Step Directive × State) Fault
-behind_in s (Behind stop line) = Ok (Done, s)
-behind_in s (Next p) = behind_by p.line s (as_directive p)
+abbrev pub behind_by : ℕ → State → State → Option (Result Directive Unread) → Result (Step Directive × State) Fault
+behind_by line s rest None = Ok (Done, s)
+behind_by line s rest (Some d) = directive_at line d rest >>= λ x. Ok (More x.0, x.1)
 
 -- a directive behind the module, if one is in front
 unfoldable pub behind_step : ℕ → State → Result (Step Directive × State) Fault
-behind_step k s = behind_in s (front_of s.stream)
+behind_step k s = if is_behind (front_of s.stream) then Ok (Done, s) else (next_at s >>= λ p. behind_by p.0.line s p.1 (as_directive p.0))
 
 -- ---- delays
 

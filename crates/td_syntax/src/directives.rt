@@ -95,6 +95,24 @@ impl<'a> Parser<'a> {
         }
     }
 
+    /// Behind the module: a directive, if one is in front.
+    #[tactic(auto, unfolding(crate::specs::Parsing::behind_step))]
+    fn behind_step(&mut self, place: usize) -> Result<Step<Directive>, Fault<'a>>
+        ensures { Gives (λ x. (step_view (λ d. d) x, self.new)) result (behind_step place self.old) }
+    {
+        if self.is_behind() {
+            return Ok(Step::Done);
+        }
+        let placed = self.peek()?;
+        match placed.token {
+            Token::Directive(read, _) => {
+                self.next()?;
+                Ok(Step::More(self.directive(read, placed.line)?))
+            }
+            _ => Ok(Step::Done),
+        }
+    }
+
     /// The directives behind the module.
     pub fn directives(&mut self, alloc: Global) -> Result<Vec<Directive>, Fault<'a>>
         ensures { Gives (λ x. (x.items, self.new)) result (many behind_step self.old) }

@@ -1,17 +1,17 @@
 //! Reads a module from its tokens: single tokens, and lists with commas.
 
 ghost use Rattle.std.specs.Prelude.{◌≡◌, ◌≤◌, ℕ, List, map, drop, length, Option, Some, None};
-ghost use Rattle.td_syntax.specs.Tokens.{tokens_of};
+ghost use Rattle.td_syntax.specs.Tokens.{tokens_of, front_of};
 ghost use Rattle.td_syntax.specs.Faults.{Gives, Fails, Fault, refused, stopped, told};
 ghost use Rattle.td_syntax.specs.Views.{view, placed_view, name_view, names_view, option_name_view, option_bytes, option_number_view, step_view, option_terminal_view};
 ghost use Rattle.td_syntax.specs.Parsing as parsing;
-ghost use Rattle.td_syntax.specs.Parsing.{behind_front, is_mark, as_name, as_number, as_whole, as_wire, as_attribute, as_module, as_direction, as_base, as_keyword, refused_name, second_refusal, next_at, name_at, whole_at, maybe_at, mark_at, maybe_mark_at, separator_at, name_step, names_at, many, count_at, behind_step, end_at};
+ghost use Rattle.td_syntax.specs.Parsing.{behind_front, is_mark, as_name, as_number, as_whole, as_wire, as_attribute, as_module, as_direction, as_base, as_keyword, refused_name, second_refusal, next_at, name_at, whole_at, maybe_at, mark_at, maybe_mark_at, separator_at, name_step, names_at, many, count_at, is_behind, end_at};
 
 use crate::fault::{Fault, FaultKind};
 use crate::lexer::Lexer;
 use crate::step::Step;
 use crate::syntax::{Name, Role, Terminal};
-use crate::token::{Directive, Front, Keyword, Number, Placed, Stop, Symbol, Token, Unread};
+use crate::token::{Front, Keyword, Number, Placed, Stop, Symbol, Token};
 use std::alloc::Global;
 use std::marker::Model;
 
@@ -393,19 +393,11 @@ impl<'a> Parser<'a> {
         }
     }
 
-    /// Behind the module: a directive, if one is in front.
-    #[tactic(auto, unfolding(crate::specs::Parsing::behind_step))]
-    pub fn behind_step(&mut self, place: usize) -> Result<Step<Directive>, Fault<'a>>
-        ensures { Gives (λ x. (step_view (λ d. d) x, self.new)) result (behind_step place self.old) }
+    /// Whether no token stands in front.
+    pub fn is_behind(&self) -> bool
+        ensures { result ≡ is_behind (front_of self.now.stream) }
     {
-        let Front::Next(placed) = self.lexer.front() else {
-            return Ok(Step::Done);
-        };
-        let Token::Directive(read, _) = placed.token else {
-            return Ok(Step::Done);
-        };
-        self.next()?;
-        Ok(Step::More(self.directive(read, placed.line)?))
+        matches!(self.lexer.front(), Front::Behind(_, _))
     }
 
     /// Nothing stands behind the module.
