@@ -32,7 +32,7 @@ use Rattle.td_syntax.proofs.Takes.{Takes, next_takes, names_classified, name_tak
 use Rattle.td_syntax.proofs.SoundHeads.{attributes_classified, attributes_take}
 use Rattle.td_syntax.proofs.SoundDelays.{Any, no_gates, any_gates, wholes_classified}
 use Rattle.td_syntax.proofs.SoundDeclarations.{wires_classified, wire_takes, range_takes, bounds_text, declaration_rest, IsHeaded, HeadedIf, PortAt, port_member, ports_shorten}
-use Rattle.td_syntax.proofs.AgainTokens.{Reads, Passes, Begins, Fronts, fronts, take_again, maybe_again, maybe_not, name_again, whole_again, mark_plain, same_code, mark_again, maybe_mark_again, maybe_mark_not, comma_again, end_again, MemberAgain, group3, group4, group5, list_again, names_again, any_all}
+use Rattle.td_syntax.proofs.AgainTokens.{Reads, Passes, Begins, Fronts, in_front, take_again, maybe_again, maybe_not, name_again, whole_again, mark_plain, same_code, mark_again, maybe_mark_again, maybe_mark_not, comma_again, end_again, MemberAgain, group3, group4, group5, list_again, names_again, any_all}
 use Rattle.td_syntax.proofs.AgainHeads.{attributes_again}
 
 -- ---- ranges
@@ -41,7 +41,7 @@ limited_again : (s : State) (digits : List ℕ) (more : List Placed) → value_o
 unfolding limited_at
 limited_again s digits more le e =
     let t = at 0 (Number (grammar.whole_number digits)) in
-    let f = fronts s t more e in
+    let f = in_front s t more e in
     let found : as_whole f.placed ≡ Some digits = wholes_classified.stable f.placed ∙ ap as_whole f.same in
     record { rest = behind_front s; gives = rw (f.gives, found, le-ltb 1000000000 (value_of digits) le) refl; tokens = f.tokens }
 
@@ -85,7 +85,7 @@ range_first (Some r) n more = record { first = at 0 (Mark symbol.LeftBracket); m
 behind_wire_again : (s : State) (text : List Placed) → NoStrength text → Begins s text → behind_wire s ≡ Ok s
 unfolding behind_wire
 behind_wire_again s text h e =
-    let f = fronts s h.first h.more (e ∙ h.splits) in
+    let f = in_front s h.first h.more (e ∙ h.splits) in
     rw (f.gives, mark_plain symbol.Open f.placed _ f.same, h.open_, mark_plain symbol.Hash f.placed _ f.same, h.hash) refl
 
 wired_again : (s : State) (w : Bool) (text : List Placed) → NoStrength text → Begins s (grammar.wire_word w ++ text) → Reads (maybe_at as_wire s >>= wired) w text
@@ -167,7 +167,7 @@ role_other role.Wire = refl
 direction_again : (s : State) (r : Role) (more : List Placed) → ¬ (r ≡ role.Wire) → Begins s (role_token r ∷ more) → Reads (direction_at s) r more
 unfolding direction_at take_at
 direction_again s r more no_wire e =
-    let f = fronts s (role_token r) more e in
+    let f = in_front s (role_token r) more e in
     let found : as_direction f.placed ≡ Some r = stable_direction f.placed.line f.placed.token ∙ ap as_direction f.same ∙ role_found r no_wire in
     record { rest = behind_front s; gives = rw (f.gives, found) refl; tokens = f.tokens }
 
@@ -302,7 +302,7 @@ unfolding listed_at
 declared_again h ps s tail le all e =
     let xs = grammar.Headed h ∷ ps in
     let g = separated_front h ps (Closing tail) all.0 in
-    let f = fronts s g.first g.more (e ∙ g.splits) in
+    let f = in_front s g.first g.more (e ∙ g.splits) in
     let heading : is_heading f.placed ≡ true = stable_heading f.placed.line f.placed.token ∙ ap is_heading f.same ∙ g.heading in
     let l = list_again port_step ports_shorten grammar.port PortAt PortAt no_gates no_gates (grammar.mark symbol.Close) port_member port_again_member 0 xs s (grammar.mark symbol.Semicolon ++ tail) (ports_all h ps all) (omega (arith, le, any_gates 0 xs)) e in
     record { rest = l.rest; gives = rw (f.gives, heading, l.gives) refl; tokens = l.tokens }
@@ -312,7 +312,7 @@ unfolding listed_at
 named_again n ns s tail le e =
     let front = names_front (n ∷ ns) (Closing tail) (omega arith) in
     let t = at front.0.line (Name front.0.name) in
-    let f = fronts s t front.1 (e ∙ front.2) in
+    let f = in_front s t front.1 (e ∙ front.2) in
     let heading : is_heading f.placed ≡ false = stable_heading f.placed.line f.placed.token ∙ ap is_heading f.same in
     let l = names_again symbol.Close refl (n ∷ ns) s (grammar.mark symbol.Semicolon ++ tail) le (omega arith) e in
     record { rest = l.rest; gives = rw (f.gives, heading, l.gives) refl; tokens = l.tokens }

@@ -28,7 +28,7 @@ use Rattle.td_syntax.specs.Grammar.{plain}
 use Rattle.td_syntax.specs.Grammar.{IsSteps, IsDelay, is_whole, steps_of}
 use Rattle.td_syntax.specs.Faults.{Fault, fault, refused, ◌>>=◌}
 use Rattle.td_syntax.specs.Parsing.{State, behind_front, is_mark, as_number, number_by, next_at, steps_from, steps_at, close_at, second_at, pair_at, bracketed_at, value_at, delay_by, delay_at}
-use Rattle.td_syntax.proofs.AgainTokens.{Reads, Passes, Begins, Fronts, fronts, take_again, maybe_again, maybe_not, name_again, whole_again, mark_plain, same_code, mark_again, maybe_mark_again, maybe_mark_not, comma_again, end_again, MemberAgain, group3, group4, group5, list_again, names_again, any_all}
+use Rattle.td_syntax.proofs.AgainTokens.{Reads, Passes, Begins, Fronts, in_front, take_again, maybe_again, maybe_not, name_again, whole_again, mark_plain, same_code, mark_again, maybe_mark_again, maybe_mark_not, comma_again, end_again, MemberAgain, group3, group4, group5, list_again, names_again, any_all}
 
 number_plain : (l : ℕ) (t : Token) → number_by t ≡ number_by (plain (at l t)).token
 number_plain l (Name w) = refl
@@ -48,26 +48,26 @@ not_zero (suc n) le = eqb-suc-zero n
 steps_again : (tens : ℕ) (s : State) (n : Numeral) (more : List Placed) → IsSteps tens n → Begins s (grammar.number n ++ more) → Reads (steps_at tens s) n more
 unfolding steps_at
 steps_again tens s n more h e =
-    let f = fronts s (at 0 (Number n)) more e in
+    let f = in_front s (at 0 (Number n)) more e in
     let found : as_number f.placed ≡ Some n = number_plain f.placed.line f.placed.token ∙ ap (λ (q : Placed). number_by q.token) f.same in
     record { rest = behind_front s; gives = rw (f.gives, found, h.whole, not_zero (steps_of tens n) h.within.0, le-ltb 1000000000 (steps_of tens n) h.within.1) refl; tokens = f.tokens }
 
 close_again : (s : State) (tail : List Placed) → Begins s (grammar.mark symbol.Close ++ tail) → Passes (close_at s) tail
 unfolding close_at
 close_again s tail e =
-    let f = fronts s (at 0 (Mark symbol.Close)) tail e in
+    let f = in_front s (at 0 (Mark symbol.Close)) tail e in
     record { rest = behind_front s; gives = rw (f.gives, mark_plain symbol.Close f.placed _ f.same) refl; tokens = f.tokens }
 
 second_again : (s : State) (tail : List Placed) → Begins s (grammar.mark symbol.Comma ++ tail) → Reads (second_at s) true tail
 unfolding second_at
 second_again s tail e =
-    let f = fronts s (at 0 (Mark symbol.Comma)) tail e in
+    let f = in_front s (at 0 (Mark symbol.Comma)) tail e in
     record { rest = behind_front s; gives = rw (f.gives, mark_plain symbol.Comma f.placed _ f.same) refl; tokens = f.tokens }
 
 second_not : (s : State) (tail : List Placed) → Begins s (grammar.mark symbol.Close ++ tail) → Reads (second_at s) false tail
 unfolding second_at
 second_not s tail e =
-    let f = fronts s (at 0 (Mark symbol.Close)) tail e in
+    let f = in_front s (at 0 (Mark symbol.Close)) tail e in
     record { rest = behind_front s; gives = rw (f.gives, mark_plain symbol.Comma f.placed _ f.same, mark_plain symbol.Close f.placed _ f.same) refl; tokens = f.tokens }
 
 single_again : (tens : ℕ) (n : Numeral) (s : State) (tail : List Placed) → IsSteps tens n → Begins s (grammar.number n ++ (grammar.mark symbol.Close ++ tail)) → Reads (bracketed_at tens s) (grammar.Single n) tail

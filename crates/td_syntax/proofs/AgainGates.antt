@@ -31,7 +31,7 @@ use Rattle.td_syntax.specs.Parsing.{State, behind_front, Step, More, Final, Done
 use Rattle.td_syntax.proofs.Takes.{Takes, next_takes, names_classified, maybe_takes, mark_takes, AllFrom, gates_from}
 use Rattle.td_syntax.proofs.SoundDelays.{delay_takes}
 use Rattle.td_syntax.proofs.SoundGates.{first_gates, later_gates, OutputIf, Selected, selected_takes, opening_takes, MoreTerminal, LastTerminal, more_gates, last_gates, terminal_member, terminals_shorten, terminal_count, AnInstance, its_gates, instance_member, instances_shorten, statement_rest}
-use Rattle.td_syntax.proofs.AgainTokens.{Reads, Passes, Begins, Fronts, fronts, take_again, maybe_again, maybe_not, name_again, whole_again, mark_plain, same_code, mark_again, maybe_mark_again, maybe_mark_not, comma_again, end_again, MemberAgain, group3, group4, group5, list_again, names_again, any_all}
+use Rattle.td_syntax.proofs.AgainTokens.{Reads, Passes, Begins, Fronts, in_front, take_again, maybe_again, maybe_not, name_again, whole_again, mark_plain, same_code, mark_again, maybe_mark_again, maybe_mark_not, comma_again, end_again, MemberAgain, group3, group4, group5, list_again, names_again, any_all}
 use Rattle.td_syntax.proofs.AgainDelays.{delay_again}
 
 -- ---- terminals
@@ -149,7 +149,7 @@ reached : (kind : Kind) (k : ℕ) (s : State) (t : grammar.Terminal) (u : Placed
     → Begins s (grammar.terminal t ++ (u ∷ more)) → Reached kind k s t (u ∷ more)
 unfolding terminal_step
 reached kind k s t u more lt h le other e =
-    let f = fronts s (base_token t) (behind_base t ++ (u ∷ more)) (e ∙ base_text t (u ∷ more)) in
+    let f = in_front s (base_token t) (behind_base t ++ (u ∷ more)) (e ∙ base_text t (u ∷ more)) in
     let found : as_base f.placed ≡ Some (base_of t) = base_plain f.placed.line f.placed.token ∙ ap as_base f.same ∙ base_found t in
     let nt = next_takes s (f.placed, behind_front s) f.gives in
     let b = begin_again k f.placed.line (base_of t) (behind_front s) lt (base_output (k == 0) t h) (omega (arith, le, nt.counted)) in
@@ -169,12 +169,12 @@ unfolding terminal_end
 terminal_again_member kind = record {
   more = λ k s a tail p le e.
       let r = reached kind k s a (at 0 (Mark symbol.Comma)) tail p.0 p.1 (omega (arith, le)) refl e in
-      let f = fronts r.rest (at 0 (Mark symbol.Comma)) tail r.tokens in
+      let f = in_front r.rest (at 0 (Mark symbol.Comma)) tail r.tokens in
       let c = later_again kind k r.line a (behind_front r.rest) p.2 (omega (arith, le, r.gates)) in
       record { rest = c.rest; gives = rw (r.gives, f.gives, mark_plain symbol.Comma f.placed _ f.same, c.gives) refl; tokens = ap (λ (t : Stream). map plain t.tokens) c.stream ∙ f.tokens };
   final = λ k s a tail p le e.
       let r = reached kind k s a (at 0 (Mark symbol.Close)) tail p.0 (late_output k a p.1) (omega (arith, le)) refl e in
-      let f = fronts r.rest (at 0 (Mark symbol.Close)) tail r.tokens in
+      let f = in_front r.rest (at 0 (Mark symbol.Close)) tail r.tokens in
       record { rest = behind_front r.rest; gives = rw (r.gives, f.gives, mark_plain symbol.Comma f.placed _ f.same, mark_plain symbol.Close f.placed _ f.same, ends_again k f.placed.line (behind_front r.rest) p.1) refl; tokens = f.tokens };
 }
   where
@@ -226,7 +226,7 @@ terminals_again kind xs s tail within nets le e =
 opening_again : (named : Bool) (s : State) (more : List Placed) → Begins s (grammar.mark symbol.Open ++ more) → Passes (opening_at named s) more
 unfolding opening_at
 opening_again named s more e =
-    let f = fronts s (at 0 (Mark symbol.Open)) more e in
+    let f = in_front s (at 0 (Mark symbol.Open)) more e in
     record { rest = behind_front s; gives = rw (f.gives, mark_plain symbol.Open f.placed (at 0 (Mark symbol.Open)) f.same) refl; tokens = f.tokens }
 
 optional_again : (s : State) (o : Option grammar.Name) (more : List Placed) → Begins s (grammar.optional grammar.name o ++ (grammar.mark symbol.Open ++ more)) → Reads (maybe_at as_name s) o (grammar.mark symbol.Open ++ more)

@@ -29,8 +29,8 @@ use Rattle.td_syntax.specs.Faults.{Fault, fault, refused, ◌>>=◌}
 use Rattle.td_syntax.specs.Parsing.{State, behind_front, Step, More, Final, Done, as_attribute, as_directive, as_module, attribute_member, attribute_step, attributes_at, directive_at, front_directive, front_by, front_step, is_behind, behind_by, behind_step, next_at, maybe_at, many, many_from}
 use Rattle.td_syntax.proofs.Lists.{unrolled}
 use Rattle.td_syntax.proofs.Takes.{Classifies}
-use Rattle.td_syntax.proofs.SoundHeads.{attributes_classified, attributes_shorten, modules_classified, fronts_shorten, behind_shortens}
-use Rattle.td_syntax.proofs.AgainTokens.{Reads, Passes, Begins, Fronts, fronts, take_again, maybe_again, maybe_not, name_again, whole_again, mark_plain, same_code, mark_again, maybe_mark_again, maybe_mark_not, comma_again, end_again, MemberAgain, group3, group4, group5, list_again, names_again, any_all}
+use Rattle.td_syntax.proofs.SoundHeads.{module_read, attributes_classified, attributes_shorten, modules_classified, fronts_shorten, behind_shortens}
+use Rattle.td_syntax.proofs.AgainTokens.{Reads, Passes, Begins, Fronts, in_front, take_again, maybe_again, maybe_not, name_again, whole_again, mark_plain, same_code, mark_again, maybe_mark_again, maybe_mark_not, comma_again, end_again, MemberAgain, group3, group4, group5, list_again, names_again, any_all}
 
 abbrev ones : ℕ → List (Unit {0})
 ones n = replicate n tt
@@ -80,19 +80,23 @@ told_module p t e = modules_classified.stable p ∙ ap as_module e
 front_again : (k : ℕ) (s : State) (f : Fronted) (tail : List Placed) → Begins s (grammar.front f ++ tail) → Reads (front_step k s) (More f) tail
 unfolding front_step directive_at
 front_again k s fronts.Attributed tail e =
-    let f = fronts s (at 0 Attribute) tail e in
+    let f = in_front s (at 0 Attribute) tail e in
     record { rest = behind_front s; gives = rw (f.gives, told_attribute f.placed (at 0 Attribute) f.same) refl; tokens = f.tokens }
 front_again k s (fronts.Directed d) tail e =
     let t = at 0 (Directs (Ok d) []) in
-    let f = fronts s t tail e in
+    let f = in_front s t tail e in
     record { rest = behind_front s; gives = rw (f.gives, told_attribute f.placed t f.same, told_directive f.placed t f.same) refl; tokens = f.tokens }
 
 front_ends : (k : ℕ) (s : State) (tail : List Placed) → Begins s (grammar.word keyword.Module ++ tail) → Reads (front_step k s) Done tail
 unfolding front_step
 front_ends k s tail e =
     let t = at 0 (Reserved keyword.Module) in
-    let f = fronts s t tail e in
-    record { rest = behind_front s; gives = rw (f.gives, told_attribute f.placed t f.same, told_directive f.placed t f.same, told_module f.placed t f.same) refl; tokens = f.tokens }
+    let f = in_front s t tail e in
+    let attribute : as_attribute f.placed ≡ None = told_attribute f.placed t f.same in
+    let directive : as_directive f.placed ≡ None = told_directive f.placed t f.same in
+    let word : as_module f.placed ≡ Some tt = told_module f.placed t f.same in
+    let last : front_directive f.placed (behind_front s) None ≡ Ok (Done, behind_front s) = ap (module_read f.placed (behind_front s)) word in
+    record { rest = behind_front s; gives = rw (f.gives, attribute, directive) last; tokens = f.tokens }
 
 pub fronts_again : (k : ℕ) (fs : List Fronted) (s : State) (tail : List Placed) → Begins s (flat_map grammar.front fs ++ (grammar.word keyword.Module ++ tail)) → Reads (many_from front_step k s) fs tail
 fronts_again k [] s tail e =

@@ -34,7 +34,7 @@ use Rattle.td_syntax.proofs.SoundHeads.{attributes_take, fronts_take, behind_tak
 use Rattle.td_syntax.proofs.SoundDeclarations.{declaration_rest, ports_take}
 use Rattle.td_syntax.proofs.SoundGates.{statement_rest}
 use Rattle.td_syntax.proofs.SoundItems.{declared_text, gates_text, items_sequence, items_shorten, items_take}
-use Rattle.td_syntax.proofs.AgainTokens.{Reads, Passes, Begins, Fronts, fronts, take_again, maybe_again, maybe_not, name_again, whole_again, mark_plain, same_code, mark_again, maybe_mark_again, maybe_mark_not, comma_again, end_again, MemberAgain, group3, group4, group5, list_again, names_again, any_all}
+use Rattle.td_syntax.proofs.AgainTokens.{Reads, Passes, Begins, Fronts, in_front, take_again, maybe_again, maybe_not, name_again, whole_again, mark_plain, same_code, mark_again, maybe_mark_again, maybe_mark_not, comma_again, end_again, MemberAgain, group3, group4, group5, list_again, names_again, any_all}
 use Rattle.td_syntax.proofs.AgainHeads.{attributes_again, fronts_again, behind_again}
 use Rattle.td_syntax.proofs.AgainDeclarations.{declaration_again, ports_again}
 use Rattle.td_syntax.proofs.AgainGates.{statement_again}
@@ -65,7 +65,7 @@ unfolding item_step
 word_step tens k attributes s w more e =
     let a = attributes_again attributes s (at 0 (Reserved w)) more refl e in
     let at_ = attributes_take s (attributes, a.rest) a.gives in
-    let f = fronts a.rest (at 0 (Reserved w)) more a.tokens in
+    let f = in_front a.rest (at 0 (Reserved w)) more a.tokens in
     let ft = next_takes a.rest (f.placed, behind_front a.rest) f.gives in
     record {
       placed = f.placed;
@@ -138,8 +138,14 @@ module_text : (fronts_ name_ ports_ semicolon_ items_ end_ behind_ : List Placed
     ≡ fronts_ ++ (grammar.word keyword.Module ++ (name_ ++ (ports_ ++ (semicolon_ ++ (items_ ++ (end_ ++ behind_))))))
 module_text fronts_ name_ ports_ semicolon_ items_ end_ behind_ = simp append_assoc
 
-pub module_again : (s : State) (m : grammar.Module) → s.gates ≡ 0 → ArePorts m.ports → AllByRecursion (IsItem (tens_of m.fronts)) m.items → sum_by item_gates m.items ≤ 200000 → map plain s.stream.tokens ≡ grammar.module_tokens m → s.stream.stop ≡ stop.End → Reads (module_at s) m []
+-- the readers of a module one after another
+module_steps : (s : State) (first : List Fronted × State) (name : grammar.Name × State) (ports : Option grammar.Ports × State) (semicolon : State) (items : List grammar.Item × State) (behind : List Directive × State) (rest : State)
+    → many front_step s ≡ Ok first → name_at first.1 ≡ Ok name → ports_at name.1 ≡ Ok ports → mark_at symbol.Semicolon ports.1 ≡ Ok semicolon → many (item_step (tens_of first.0)) semicolon ≡ Ok items → many behind_step items.1 ≡ Ok behind → end_at behind.1 ≡ Ok rest
+    → module_at s ≡ Ok (record { fronts = first.0; name = name.0; ports = ports.0; items = items.0; behind = behind.0 }, rest)
 unfolding module_at
+module_steps s first name ports semicolon items behind rest a b c d e f g = rw (a, b, c, d, e, f, g) refl
+
+pub module_again : (s : State) (m : grammar.Module) → s.gates ≡ 0 → ArePorts m.ports → AllByRecursion (IsItem (tens_of m.fronts)) m.items → sum_by item_gates m.items ≤ 200000 → map plain s.stream.tokens ≡ grammar.module_tokens m → s.stream.stop ≡ stop.End → Reads (module_at s) m []
 module_again s m none ports keeps room e is =
     let tens = tens_of m.fronts in
     let behind = flat_map grammar.directed m.behind in
@@ -162,6 +168,6 @@ module_again s m none ports keeps room e is =
     let stays : b.rest.stream.stop ≡ stop.End = bt.stop ∙ it.stop ∙ kt.stop ∙ pt.stop ∙ nt.stop ∙ ft.stop ∙ is in
     record {
       rest = b.rest;
-      gives = rw (f.gives, n.gives, p.gives, k.gives, i.gives, b.gives, ended b.rest b.tokens stays) refl;
+      gives = module_steps s (m.fronts, f.rest) (m.name, n.rest) (m.ports, p.rest) k.rest (m.items, i.rest) (m.behind, b.rest) b.rest f.gives n.gives p.gives k.gives i.gives b.gives (ended b.rest b.tokens stays);
       tokens = b.tokens;
     }

@@ -61,14 +61,14 @@ unfolding next_at front_of rest_of
 fronts_in [] stop line gates t more e = absurd cc
 fronts_in (u ∷ us) stop line gates t more e = record { placed = u; gives = refl; same = cc; tokens = cc }
 
-pub fronts : (s : State) (t : Placed) (more : List Placed) → Begins s (t ∷ more) → Fronts s t more
-fronts s t more e = fronts_in s.stream.tokens s.stream.stop s.stream.line s.gates t more e
+pub in_front : (s : State) (t : Placed) (more : List Placed) → Begins s (t ∷ more) → Fronts s t more
+in_front s t more e = fronts_in s.stream.tokens s.stream.stop s.stream.line s.gates t more e
 
 pub take_again : {A : Type 0} (find : Placed → Option A) (spell : A → List Placed) (refuse : Placed → Fault) → Classifies find spell
     → (s : State) (t : Placed) (a : A) (more : List Placed) → find t ≡ Some a → Begins s (t ∷ more) → Reads (take_at find refuse s) a more
 unfolding take_at
 take_again find spell refuse c s t a more is e =
-    let f = fronts s t more e in
+    let f = in_front s t more e in
     let found : find f.placed ≡ Some a = c.stable f.placed ∙ ap find f.same ∙ is in
     record { rest = behind_front s; gives = rw (f.gives, found) refl; tokens = f.tokens }
 
@@ -76,7 +76,7 @@ pub maybe_again : {A : Type 0} (find : Placed → Option A) (spell : A → List 
     → (s : State) (t : Placed) (a : A) (more : List Placed) → find t ≡ Some a → Begins s (t ∷ more) → Reads (maybe_at find s) (Some a) more
 unfolding maybe_at
 maybe_again find spell c s t a more is e =
-    let f = fronts s t more e in
+    let f = in_front s t more e in
     let found : find f.placed ≡ Some a = c.stable f.placed ∙ ap find f.same ∙ is in
     record { rest = behind_front s; gives = rw (f.gives, found) refl; tokens = f.tokens }
 
@@ -84,7 +84,7 @@ pub maybe_not : {A : Type 0} (find : Placed → Option A) (spell : A → List Pl
     → (s : State) (t : Placed) (more : List Placed) → find t ≡ None → Begins s (t ∷ more) → Reads (maybe_at find s) None (t ∷ more)
 unfolding maybe_at
 maybe_not find spell c s t more is e =
-    let f = fronts s t more e in
+    let f = in_front s t more e in
     let found : find f.placed ≡ None = c.stable f.placed ∙ ap find f.same ∙ is in
     record { rest = s; gives = rw (f.gives, found) refl; tokens = e }
 
@@ -123,19 +123,19 @@ same_code symbol.Colon = refl
 pub mark_again : (m : Symbol) (s : State) (more : List Placed) → Begins s (grammar.mark m ++ more) → Passes (mark_at m s) more
 unfolding mark_at
 mark_again m s more e =
-    let f = fronts s (at 0 (Mark m)) more e in
+    let f = in_front s (at 0 (Mark m)) more e in
     record { rest = behind_front s; gives = rw (f.gives, mark_plain m f.placed (at 0 (Mark m)) f.same, same_code m) refl; tokens = f.tokens }
 
 pub maybe_mark_again : (m : Symbol) (s : State) (more : List Placed) → Begins s (grammar.mark m ++ more) → Reads (maybe_mark_at m s) true more
 unfolding maybe_mark_at
 maybe_mark_again m s more e =
-    let f = fronts s (at 0 (Mark m)) more e in
+    let f = in_front s (at 0 (Mark m)) more e in
     record { rest = behind_front s; gives = rw (f.gives, mark_plain m f.placed (at 0 (Mark m)) f.same, same_code m) refl; tokens = f.tokens }
 
 pub maybe_mark_not : (m : Symbol) (s : State) (t : Placed) (more : List Placed) → is_mark m t.token ≡ false → Begins s (t ∷ more) → Reads (maybe_mark_at m s) false (t ∷ more)
 unfolding maybe_mark_at
 maybe_mark_not m s t more other e =
-    let f = fronts s t more e in
+    let f = in_front s t more e in
     record { rest = s; gives = rw (f.gives, mark_plain m f.placed t f.same, other) refl; tokens = e }
 
 -- ---- lists
@@ -143,13 +143,13 @@ maybe_mark_not m s t more other e =
 pub comma_again : {A : Type 0} (end : Symbol) (a : A) (s : State) (more : List Placed) → Begins s (grammar.mark symbol.Comma ++ more) → Reads (behind end a s) (More a) more
 unfolding separator_at
 comma_again end a s more e =
-    let f = fronts s (at 0 (Mark symbol.Comma)) more e in
+    let f = in_front s (at 0 (Mark symbol.Comma)) more e in
     record { rest = behind_front s; gives = rw (f.gives, mark_plain symbol.Comma f.placed _ f.same) refl; tokens = f.tokens }
 
 pub end_again : {A : Type 0} (end : Symbol) (a : A) (s : State) (more : List Placed) → is_mark symbol.Comma (Mark end) ≡ false → Begins s (grammar.mark end ++ more) → Reads (behind end a s) (Final a) more
 unfolding separator_at
 end_again end a s more other e =
-    let f = fronts s (at 0 (Mark end)) more e in
+    let f = in_front s (at 0 (Mark end)) more e in
     record { rest = behind_front s; gives = rw (f.gives, mark_plain symbol.Comma f.placed _ f.same, other, mark_plain end f.placed _ f.same, same_code end) refl; tokens = f.tokens }
 
 -- a step that reads what a member is spelled by

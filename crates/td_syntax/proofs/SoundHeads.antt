@@ -181,7 +181,7 @@ FrontStep s x = elim x.0 [
   | Done ↦ Takes s (grammar.word keyword.Module) 0 x.1
 ]
 
-abbrev module_read : Placed → State → Option (Unit {0}) → Result (Step Fronted × State) Fault
+abbrev pub module_read : Placed → State → Option (Unit {0}) → Result (Step Fronted × State) Fault
 module_read p rest o = elim o [ None ↦ Err (refused p) | Some u ↦ Ok (Done, rest) ]
 
 front_module : (s rest : State) (p : Placed) (o : Option (Unit {0})) (x : Step Fronted × State) → as_module p ≡ o → Takes s (plain p ∷ []) 0 rest
