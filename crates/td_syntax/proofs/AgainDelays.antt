@@ -109,4 +109,3 @@ delay_again tens s (Some (grammar.Pair n m)) t more h other e =
     let b = maybe_mark_again symbol.Open a.rest inner a.tokens in
     let c = pair_again tens n m b.rest (t ∷ more) h.0 h.1 b.tokens in
     record { rest = c.rest; gives = rw (a.gives, b.gives, c.gives) refl; tokens = c.tokens }
-

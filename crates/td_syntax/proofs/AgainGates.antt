@@ -303,4 +303,3 @@ statement_again tens g s tail keeps le e =
     let dt = (delay_takes tens s (g.delay, d.rest) d.gives).0 in
     let l = instances_again g.kind g.instances d.rest tail keeps.instances keeps.each (omega (arith, le, dt.counted)) (d.tokens ∙ sym f.2) in
     record { rest = l.rest; gives = rw (d.gives, l.gives) refl; tokens = l.tokens }
-

@@ -203,4 +203,3 @@ pub names_again : (end : Symbol) → is_mark symbol.Comma (Mark end) ≡ false �
 unfolding names_at
 names_again end other ns s tail le some e =
     list_again (name_step end) (names_shorten end) grammar.name Any Any no_gates no_gates (grammar.mark end) (name_member end) (name_again_member end other) 0 ns s tail (any_all 0 ns some) (omega (arith, le, any_gates 0 ns)) e
-

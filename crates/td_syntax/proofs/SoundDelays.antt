@@ -256,4 +256,3 @@ unfolding delay_at
 delay_takes tens s x e =
     let b = bind_ok (maybe_mark_at symbol.Hash s) (delay_by tens) x e in
     delay_by_takes tens s b.0.0 b.0.1 x (maybe_mark_takes symbol.Hash s b.0 b.1) b.2
-

@@ -260,7 +260,6 @@ terminals_within kind k (a ∷ c ∷ cs) h =
     let rest = terminals_within kind (k + 1) (c ∷ cs) h.1 in
     (omega (arith, rest.0), omega (arith, rest.1))
 
-
 output_here : (kind : Kind) (k : ℕ) (t : grammar.Terminal) → has_many_outputs kind ≡ true → MoreTerminal kind k t → IsNet t
 output_here kind zero t is h = h.1
 output_here kind (suc k) t is h = let both : (has_many_outputs kind && nat_lt 0 (suc k)) ≡ true = rw (is, lt-ltb 0 (suc k) (omega arith)) refl in subst (λ (b : Bool). OutputIf b t) both h.2

@@ -68,9 +68,10 @@ impl<'a> Parser<'a> {
         let placed = self.next()?;
         match placed.token {
             Token::Attribute => Ok(Step::More(Front::Attributed)),
-            Token::Directive(read, _) => Ok(Step::More(Front::Directed(
-                self.directive(read, placed.line)?,
-            ))),
+            Token::Directive(read, _) => Ok(Step::More(Front::Directed(self.directive(
+                read,
+                placed.line,
+            )?))),
             _ => match is_module(placed) {
                 Some(()) => Ok(Step::Done),
                 None => Err(refused(placed)),

@@ -26,18 +26,24 @@ impl<'a> Parser<'a> {
         ensures { Gives (λ x. (step_view item_view x, self.new)) result (item_word tens attributes (placed_view placed.entry) self.old keyword) }
     {
         match keyword {
-            Keyword::Input => Ok(Step::More(Item::Declares(
-                self.declaration(alloc, attributes, Role::Input)?,
-            ))),
-            Keyword::Output => Ok(Step::More(Item::Declares(
-                self.declaration(alloc, attributes, Role::Output)?,
-            ))),
-            Keyword::Wire => Ok(Step::More(Item::Declares(
-                self.declaration(alloc, attributes, Role::Wire)?,
-            ))),
-            Keyword::Gate(kind) => Ok(Step::More(Item::Gates(
-                self.statement(alloc, tens, attributes, kind)?,
-            ))),
+            Keyword::Input => Ok(Step::More(Item::Declares(self.declaration(
+                alloc,
+                attributes,
+                Role::Input,
+            )?))),
+            Keyword::Output => Ok(Step::More(Item::Declares(self.declaration(
+                alloc,
+                attributes,
+                Role::Output,
+            )?))),
+            Keyword::Wire => Ok(Step::More(Item::Declares(self.declaration(
+                alloc,
+                attributes,
+                Role::Wire,
+            )?))),
+            Keyword::Gate(kind) => Ok(Step::More(Item::Gates(self.statement(
+                alloc, tens, attributes, kind,
+            )?))),
             Keyword::EndModule => {
                 if attributes == 0 {
                     Ok(Step::Done)

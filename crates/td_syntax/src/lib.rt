@@ -26,7 +26,8 @@ pub use fault::{Fault, FaultKind};
 pub use identifier::is_simple_identifier;
 pub use read::parse;
 pub use syntax::{
-    Declaration, Delay, Front, Header, Instance, Item, Module, Name, Port, Ports, Range, Role, Statement, Terminal,
+    Declaration, Delay, Front, Header, Instance, Item, Module, Name, Port, Ports, Range, Role,
+    Statement, Terminal,
 };
 pub use token::{Directive, Number, Timescale};
 
