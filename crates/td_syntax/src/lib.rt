@@ -32,4 +32,8 @@ pub use syntax::{
 pub use token::{Directive, Number, Timescale};
 
 #[cfg(test)]
+mod grammar_tests;
+#[cfg(test)]
 mod tests;
+#[cfg(test)]
+mod token_tests;
