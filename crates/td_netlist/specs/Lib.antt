@@ -6,6 +6,7 @@ pub mod Printed
 pub mod Kinds
 pub mod Faults
 pub mod FirstPass
+pub mod Ranges
 pub mod Module
 pub mod Means
 pub mod Checks

@@ -155,89 +155,124 @@ fn text_limit(rt: HostRuntime) -> Result<(), Fail> {
     Ok(())
 }
 
-#[test]
-fn trees(rt: HostRuntime) -> Result<(), Fail> {
-    let text =
-        b"`timescale 10ns/1ps (* a *) module \\t+ (input [3:0] \\a , b, output y);\n(**) (**) wire [1:1_0] w;\nnot #(1.5, 2) (w[1], a[2]), g (y, 1'b1); endmodule `celldefine";
-    let module = match parse(rt.alloc(), text) {
-        Ok(module) => module,
-        Err(fault) => {
-            let kind = told(fault.kind).0;
-            assert_eq!(rt; kind, "ok", "line {}", fault.line);
-            return Ok(());
+const WHOLE: &[u8] =
+    b"`timescale 10ns/1ps (* a *) module \\t+ (input [3:0] \\a , b, output y);\n(**) (**) wire [1:1_0] w;\nnot #(1.5, 2) (w[1], a[2]), g (y, 1'b1); endmodule `celldefine";
+
+fn is(text: &[u8], other: &[u8]) -> bool {
+    text == other
+}
+
+fn has_range(range: Option<Range<'_>>, left: &[u8], right: &[u8]) -> bool {
+    match range {
+        Some(range) => is(range.left, left) && is(range.right, right),
+        None => false,
+    }
+}
+
+fn has_fronts(fronts: &[Front]) -> bool {
+    match fronts {
+        [
+            Front::Directed(Directive::Timescale(timescale)),
+            Front::Attributed,
+        ] => { timescale.unit == 7 && timescale.step == 3 }
+        _ => false,
+    }
+}
+
+fn has_input(header: Header<'_>) -> bool {
+    is(header.name.name, b"a")
+        && header.role == Role::Input
+        && !header.wire
+        && header.attributes == 0
+        && has_range(header.range, b"3", b"0")
+}
+
+fn has_ports(ports: &[Port<'_>]) -> bool {
+    match ports {
+        [Port::Headed(a), Port::Bare(b), Port::Headed(y)] => {
+            has_input(*a) && is(b.name, b"b") && b.line == 1 && is(y.name.name, b"y")
         }
+        _ => false,
+    }
+}
+
+fn has_wire(declaration: &Declaration<'_>) -> bool {
+    declaration.attributes == 2
+        && declaration.role == Role::Wire
+        && declaration.names.len() == 1
+        && has_range(declaration.range, b"1", b"1_0")
+}
+
+fn has_bits(terminals: &[Terminal<'_>]) -> bool {
+    match terminals {
+        [
+            Terminal::Select(output, first),
+            Terminal::Select(input, second),
+        ] => {
+            is(output.name, b"w")
+                && output.line == 3
+                && is(first, b"1")
+                && is(input.name, b"a")
+                && is(second, b"2")
+        }
+        _ => false,
+    }
+}
+
+fn has_constant(terminals: &[Terminal<'_>]) -> bool {
+    match terminals {
+        [Terminal::Whole(output), Terminal::Level(true)] => is(output.name, b"y"),
+        _ => false,
+    }
+}
+
+fn has_delay(delay: Option<Delay<'_>>) -> bool {
+    match delay {
+        Some(Delay::Pair(rise, fall)) => {
+            steps_of(4, rise) == Some(15_000)
+                && steps_of(4, fall) == Some(20_000)
+                && steps_of(0, rise) == None
+        }
+        _ => false,
+    }
+}
+
+fn has_gates(statement: &Statement<'_>) -> bool {
+    match statement.instances.as_slice() {
+        [first, second] => {
+            first.name.is_none()
+                && has_bits(&first.terminals)
+                && second.name.is_some()
+                && has_constant(&second.terminals)
+        }
+        _ => false,
+    }
+}
+
+fn has_items(items: &[Item<'_>]) -> bool {
+    match items {
+        [Item::Declares(wire), Item::Gates(not)] => {
+            has_wire(wire) && has_delay(not.delay) && has_gates(not)
+        }
+        _ => false,
+    }
+}
+
+#[test]
+fn tree(rt: HostRuntime) -> Result<(), Fail> {
+    let Ok(module) = parse(rt.alloc(), WHOLE) else {
+        assert!(rt; false, "a fault");
+        return Ok(());
     };
-    let timescale = Timescale { unit: 7, step: 3 };
-    let fronts = [
-        Front::Directed(Directive::Timescale(timescale)),
-        Front::Attributed,
-    ];
-    assert!(rt; module.fronts.as_slice() == fronts.as_slice());
+    assert!(rt; has_fronts(&module.fronts));
     assert_eq!(rt; tens_of(&module.fronts), 4);
-    assert!(rt; module.name.name == b"t+".as_slice());
-    assert!(rt; module.behind.as_slice() == [Directive::Cells].as_slice());
+    assert!(rt; is(module.name.name, b"t+"));
     let Some(Ports::Declared(ports)) = &module.ports else {
-        assert!(rt; false, "ports");
+        assert!(rt; false, "no ports");
         return Ok(());
     };
-    let [Port::Headed(a), Port::Bare(b), Port::Headed(y)] = ports.as_slice() else {
-        assert!(rt; false, "ports");
-        return Ok(());
-    };
-    assert!(rt;
-        a.name.name == b"a".as_slice() && a.role == Role::Input && !a.wire && a.attributes == 0
-    );
-    assert!(rt;
-        matches!(
-            a.range,
-            Some(Range {
-                left: b"3",
-                right: b"0"
-            })
-        )
-    );
-    assert!(rt; b.name == b"b".as_slice() && b.line == 1);
-    assert!(rt; y.name.name == b"y".as_slice() && y.role == Role::Output && y.range.is_none());
-    let [Item::Declares(w), Item::Gates(not)] = module.items.as_slice() else {
-        assert!(rt; false, "items");
-        return Ok(());
-    };
-    assert!(rt; w.attributes == 2 && w.role == Role::Wire && w.names.len() == 1);
-    assert!(rt;
-        matches!(
-            w.range,
-            Some(Range {
-                left: b"1",
-                right: b"1_0"
-            })
-        )
-    );
-    let Some(Delay::Pair(rise, fall)) = not.delay else {
-        assert!(rt; false, "delay");
-        return Ok(());
-    };
-    assert_eq!(rt; steps_of(4, rise), Some(15_000));
-    assert_eq!(rt; steps_of(4, fall), Some(20_000));
-    assert_eq!(rt; steps_of(0, rise), None);
-    let [first, second] = not.instances.as_slice() else {
-        assert!(rt; false, "instances");
-        return Ok(());
-    };
-    assert!(rt; first.name.is_none() && second.name.is_some());
-    let [
-        Terminal::Select(output, b"1"),
-        Terminal::Select(input, b"2"),
-    ] = first.terminals.as_slice()
-    else {
-        assert!(rt; false, "terminals");
-        return Ok(());
-    };
-    assert!(rt;
-        output.name == b"w".as_slice() && output.line == 3 && input.name == b"a".as_slice()
-    );
-    let [Terminal::Whole(_), Terminal::Level(true)] = second.terminals.as_slice() else {
-        assert!(rt; false, "terminals");
-        return Ok(());
-    };
+    assert!(rt; has_ports(ports));
+    assert!(rt; has_items(&module.items));
+    assert!(rt; matches!(module.behind.as_slice(), [Directive::Cells]));
     Ok(())
 }
