@@ -187,11 +187,30 @@ fn has_input(header: Header<'_>) -> bool {
         && has_range(header.range, b"3", b"0")
 }
 
+fn is_input(port: Port<'_>) -> bool {
+    match port {
+        Port::Headed(header) => has_input(header),
+        Port::Bare(_) => false,
+    }
+}
+
+fn is_bare(port: Port<'_>, name: &[u8]) -> bool {
+    match port {
+        Port::Headed(_) => false,
+        Port::Bare(bare) => is(bare.name, name) && bare.line == 1,
+    }
+}
+
+fn is_output(port: Port<'_>, name: &[u8]) -> bool {
+    match port {
+        Port::Headed(header) => is(header.name.name, name) && header.role == Role::Output,
+        Port::Bare(_) => false,
+    }
+}
+
 fn has_ports(ports: &[Port<'_>]) -> bool {
     match ports {
-        [Port::Headed(a), Port::Bare(b), Port::Headed(y)] => {
-            has_input(*a) && is(b.name, b"b") && b.line == 1 && is(y.name.name, b"y")
-        }
+        [a, b, y] => is_input(*a) && is_bare(*b, b"b") && is_output(*y, b"y"),
         _ => false,
     }
 }
@@ -203,25 +222,39 @@ fn has_wire(declaration: &Declaration<'_>) -> bool {
         && has_range(declaration.range, b"1", b"1_0")
 }
 
+fn is_bit(terminal: Terminal<'_>, name: &[u8], digits: &[u8]) -> bool {
+    match terminal {
+        Terminal::Select(vector, bit) => {
+            is(vector.name, name) && vector.line == 3 && is(bit, digits)
+        }
+        _ => false,
+    }
+}
+
+fn is_whole(terminal: Terminal<'_>, name: &[u8]) -> bool {
+    match terminal {
+        Terminal::Whole(net) => is(net.name, name),
+        _ => false,
+    }
+}
+
+fn is_high(terminal: Terminal<'_>) -> bool {
+    match terminal {
+        Terminal::Level(level) => level,
+        _ => false,
+    }
+}
+
 fn has_bits(terminals: &[Terminal<'_>]) -> bool {
     match terminals {
-        [
-            Terminal::Select(output, first),
-            Terminal::Select(input, second),
-        ] => {
-            is(output.name, b"w")
-                && output.line == 3
-                && is(first, b"1")
-                && is(input.name, b"a")
-                && is(second, b"2")
-        }
+        [output, input] => is_bit(*output, b"w", b"1") && is_bit(*input, b"a", b"2"),
         _ => false,
     }
 }
 
 fn has_constant(terminals: &[Terminal<'_>]) -> bool {
     match terminals {
-        [Terminal::Whole(output), Terminal::Level(true)] => is(output.name, b"y"),
+        [output, input] => is_whole(*output, b"y") && is_high(*input),
         _ => false,
     }
 }
@@ -249,11 +282,23 @@ fn has_gates(statement: &Statement<'_>) -> bool {
     }
 }
 
+fn is_wire(item: &Item<'_>) -> bool {
+    match item {
+        Item::Declares(declaration) => has_wire(declaration),
+        Item::Gates(_) => false,
+    }
+}
+
+fn is_not(item: &Item<'_>) -> bool {
+    match item {
+        Item::Declares(_) => false,
+        Item::Gates(statement) => has_delay(statement.delay) && has_gates(statement),
+    }
+}
+
 fn has_items(items: &[Item<'_>]) -> bool {
     match items {
-        [Item::Declares(wire), Item::Gates(not)] => {
-            has_wire(wire) && has_delay(not.delay) && has_gates(not)
-        }
+        [wire, not] => is_wire(wire) && is_not(not),
         _ => false,
     }
 }
