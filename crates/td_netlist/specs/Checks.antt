@@ -10,9 +10,10 @@ use Rattle.td_netlist.specs.declared.fault.FaultKind.{FaultKind}
 use Rattle.td_netlist.specs.declared.fault.FaultKind.TheVariants.{Redeclared, PortUndeclared, UnknownBit, WidthNotOne, DrivenInput, TwoDrivers, Undriven, TooMany}
 use Rattle.td_netlist.specs.declared.fault.Fault.{Fault}
 use Rattle.td_netlist.specs.Faults.{fault, unless, ◌>>=◌}
+use Rattle.td_netlist.specs.declared.ranges.Range.{Range}
 use Rattle.td_netlist.specs.Netlist.{Name, Net, Low, High, Named}
 use Rattle.td_netlist.specs.Names.{is_in}
-use Rattle.td_netlist.specs.Ranges.{Range, range_of, width_of, nets_of}
+use Rattle.td_netlist.specs.Ranges.{range_of, width_of, nets_of}
 use Rattle.td_netlist.specs.Module.{scalar, is_input, is_wire, different, whole_source, bit_source, Source, Joins, NoBit, NotOne, Placed, nets_at, outputs_of, inputs_of, Declared, Primitive, primitives}
 
 -- the members one after another, up to the first fault

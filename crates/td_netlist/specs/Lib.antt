@@ -10,5 +10,6 @@ pub mod Ranges
 pub mod Module
 pub mod Means
 pub mod Checks
+pub mod KnownViews
 pub mod NameViews
 pub mod CheckViews

@@ -2,12 +2,8 @@
 use Rattle.std.specs.Prelude.{ℕ, zero, suc, ◌+◌, ◌-◌, List, [], ◌∷◌, map, Option, None, Some, Bool, ◌&&◌, ◌||◌, nat_le, if◌then◌else◌}
 use Rattle.td_syntax.specs.Grammar as grammar
 use Rattle.td_syntax.specs.Grammar.{value_of}
+use Rattle.td_netlist.specs.declared.ranges.Range.{Range}
 use Rattle.td_netlist.specs.Netlist.{Name}
-
--- the numbers of a range, as written
-pub record Range : Type 0 where
-  pub left : ℕ
-  pub right : ℕ
 
 -- the range of a vector, and none for a scalar
 abbrev pub range_of : Option grammar.Range → Option Range
