@@ -261,10 +261,7 @@ impl<'a> Ported<'a> {
 
 /// What the port list declares.
 #[tactic(auto, unfolding(crate::specs::Checks::declare_ports))]
-fn declared_ports<'a>(
-    alloc: Global,
-    ports: &Option<Ports<'a>>,
-) -> Result<Lists<'a>, Fault<'a>>
+fn declared_ports<'a>(alloc: Global, ports: &Option<Ports<'a>>) -> Result<Lists<'a>, Fault<'a>>
     ensures { Gives lists_of result (declare_ports (ports_view ports.now)) }
 {
     match ports {
