@@ -127,12 +127,10 @@ impl<'a> Lists<'a> {
     fn declare_wire(&mut self, range: Option<Range>, name: Placed<'a>) -> Result<(), Fault<'a>>
         ensures { Gives (λ _. lists_of self.new) result (declare_wire range (lists_of self.old) (name_view name.entry)) }
     {
-        if self.wires.has(scalar(name)) || is_other(&self.names, name, range) {
+        if !self.wires.add(scalar(name))? || is_other(&self.names, name, range) {
             return Err(refused(FaultKind::Redeclared, name));
         }
-        self.names.know(name, range)?;
-        self.wires.add(scalar(name))?;
-        Ok(())
+        self.names.know(name, range)
     }
 
     #[tactic(auto, unfolding(crate::specs::Checks::declare_direction))]
