@@ -38,7 +38,7 @@ item_declared (grammar.Declares d) = map (λ n. record { role = d.role; range = 
 item_declared (grammar.Gates g) = []
 
 -- a bare name has direction and range of the port before it
-pub ports_from : Role → Option Range → List grammar.Port → List Declared
+unfoldable pub ports_from : Role → Option Range → List grammar.Port → List Declared
 ports_from r range [] = []
 ports_from r range (grammar.Bare n ∷ ps) = record { role = r; range = range; name = n } ∷ ports_from r range ps
 ports_from r range (grammar.Headed h ∷ ps) = record { role = h.role; range = range_of h.range; name = h.name } ∷ ports_from h.role (range_of h.range) ps
