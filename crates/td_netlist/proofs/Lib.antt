@@ -17,3 +17,4 @@ pub mod Consistent
 pub mod Formed
 pub mod Readings
 pub mod Bits
+pub mod KnownNames
