@@ -1,0 +1,6 @@
+pub mod Trees
+pub mod Text
+pub mod Spelling
+pub mod Kinds
+pub mod Faults
+pub mod Reading
