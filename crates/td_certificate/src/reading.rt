@@ -14,7 +14,13 @@ use std::alloc::Global;
 use td_domain::Pair;
 
 /// The greatest number of bytes of a certificate's text.
-pub const MAX_TEXT: usize = 268_435_456;
+const MAX_TEXT: usize = 268_435_456;
+
+/// The greatest number of inputs.
+const MAX_INPUTS: u64 = 4_096;
+
+/// The greatest number of gates.
+const MAX_GATES: u64 = 200_000;
 
 /// The digits before the first other byte.
 fn leading_digits(text: &[u8]) -> &[u8] {
@@ -87,8 +93,8 @@ fn certificate(alloc: Global, text: &[u8]) -> Result<(Certificate, &[u8]), Stop<
     ensures { Gives (λ x. (x.0, x.1.now)) result (certificate_at text.now) }
 {
     let rest = version(text)?;
-    let (inputs, rest) = number_behind(b"circuit ", 4096, b' ', rest)?;
-    let (gates, rest) = number(200_000, b'\n', rest)?;
+    let (inputs, rest) = number_behind(b"circuit ", MAX_INPUTS, b' ', rest)?;
+    let (gates, rest) = number(MAX_GATES, b'\n', rest)?;
     let (time, rest) = number_behind(b"time ", GREATEST, b'\n', rest)?;
     let (first, rest) = vector_behind(alloc, b"from ", inputs as u32, rest)?;
     let (second, rest) = vector_behind(alloc, b"to ", inputs as u32, rest)?;
