@@ -132,7 +132,7 @@ from_gates i =
           );
     })
 
-abbrev text_from_inputs : Certificate → List ℕ
+abbrev pub text_from_inputs : Certificate → List ℕ
 text_from_inputs c = (codes "circuit " ++ number_text 32 c.inputs) ++ text_from_gates c
 
 inputs_limit : IsLimit 4096 32
@@ -171,7 +171,7 @@ head_text c =
     five (codes "tdelay-cert 1") (codes "circuit " ++ decimal c.inputs ++ codes " " ++ decimal c.gates) (codes "time " ++ decimal c.time) (codes "from " ++ bits c.pair.first) (codes "to " ++ bits c.pair.second) (nodes_text c.tree)
     ∙ regroup (codes "tdelay-cert 1") (codes "circuit ") (decimal c.inputs) (codes " ") (decimal c.gates) (codes "time ") (decimal c.time) (codes "from ") (bits c.pair.first) (codes "to ") (bits c.pair.second) (10 ∷ []) (nodes_text c.tree)
 
-spelling_is : (c : Certificate) → spelling c ≡ codes "tdelay-cert 1\n" ++ text_from_inputs c
+pub spelling_is : (c : Certificate) → spelling c ≡ codes "tdelay-cert 1\n" ++ text_from_inputs c
 unfolding spelling
 spelling_is c = flat_map-append ended (head_lines c) (map node_line c.tree) ∙ head_text c
 

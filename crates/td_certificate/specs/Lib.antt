@@ -4,3 +4,5 @@ pub mod Spelling
 pub mod Kinds
 pub mod Faults
 pub mod Reading
+pub mod Accepts
+pub mod Lengths
