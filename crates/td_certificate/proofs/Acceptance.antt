@@ -1,13 +1,11 @@
 -- The time of a certificate that is accepted is the worst delay.
-use Rattle.std.proofs.Common.{◌≡◌, ◌≢◌, ◌≤◌, ◌*◌, ℕ, zero, suc, Bool, true, false, List, [], ◌∷◌, ◌++◌, length, map, set, Option, Some, None, refl, sym, ap, subst, ◌∙◌, arith}
+use Rattle.std.proofs.Common.{◌≡◌, ◌≢◌, ◌≤◌, ◌*◌, ℕ, zero, suc, Bool, true, false, List, [], ◌∷◌, ◌++◌, length, map, set, Some, None, refl, sym, ap, subst, ◌∙◌, arith}
 use Rattle.std.specs.Prelude.{slice_get, replicate}
 use Rattle.std.specs.List.{AllByRecursion}
 use Rattle.std.proofs.lemmas.List.{length-map, length-set, length-replicate}
 use Rattle.std.proofs.lemmas.List.Elements.{recursion_from_All}
 use Rattle.td_gates.specs.Table.{level_from}
 use Rattle.td_netlist.specs.Netlist.{Netlist}
-use Rattle.td_netlist.specs.WellFormed.{IsWellFormed}
-use Rattle.td_circuit.specs.Loops.{Loop}
 use Rattle.td_circuit.specs.Numbering.{Numbered, IsNumbering}
 use Rattle.td_circuit.specs.Run.{IsDelayOfBits, IsVector, IsWorst}
 use Rattle.td_circuit.proofs.Existence.{numbering_exists}
@@ -28,7 +26,7 @@ use Rattle.td_certificate.specs.declared.tree.BoundedBy.{BoundedBy}
 use Rattle.td_certificate.specs.declared.tree.BoundedBy.TheVariants as by
 use Rattle.td_certificate.specs.declared.certificate.Certificate.{Certificate}
 use Rattle.td_certificate.specs.Trees.{Tree, Split, Bound, Point}
-use Rattle.td_certificate.specs.Accepts.{IsBoundBy, Line, lines_of, IsGood, HasDelay, Accepts, AcceptedIsWorst}
+use Rattle.td_certificate.specs.Accepts.{IsBoundBy, lines_of, IsGood, HasDelay, Accepts, AcceptedIsWorst}
 
 -- ---- cubes
 

@@ -4,13 +4,12 @@ use Rattle.std.specs.Prelude.{codes, decimal, map}
 use Rattle.std.specs.List.{AllByRecursion}
 use Rattle.std.proofs.lemmas.List.{length-map}
 use Rattle.std.proofs.lemmas.Fmt.{length-decimal-le}
-use Rattle.td_certificate.specs.declared.tree.BoundedBy.{BoundedBy}
 use Rattle.td_certificate.specs.declared.tree.BoundedBy.TheVariants.{Arrival, Possible, Both}
 use Rattle.td_certificate.specs.declared.tree.Node.{Node}
 use Rattle.td_certificate.specs.declared.tree.Node.TheVariants as node
 use Rattle.td_certificate.specs.declared.certificate.Certificate.{Certificate}
-use Rattle.td_certificate.specs.Text.{bit, bits, letter, node_line}
-use Rattle.td_certificate.specs.Spelling.{HasSpelling, spelling}
+use Rattle.td_certificate.specs.Text.{bit}
+use Rattle.td_certificate.specs.Spelling.{HasSpelling}
 use Rattle.td_certificate.specs.Lengths.{IsShort, SearchedTextsFit}
 use Rattle.td_certificate.proofs.FieldCodes.{number_text}
 use Rattle.td_certificate.proofs.NodeCodes.{node_text, vector_text}
