@@ -55,7 +55,9 @@ fn make_room<W: Sink>(out: &mut W, batch: &mut String) -> Result<(), DeviceFault
     Ok(())
 }
 
-/// Writes the certificate's text.
+/// Appends the certificate's text to what went out.
+///
+/// The error is want of memory for the bytes that are gathered before a write, or a failure of the writer.
 pub fn write<W: Sink>(
     alloc: Global,
     out: &mut W,
