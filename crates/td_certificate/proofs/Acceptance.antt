@@ -72,7 +72,7 @@ one_bit One true true known h k = refl
 one_bit Free a b known h k = absurd (known refl)
 
 -- a point has one pair
-one_pair : (cube : List Trit) (before after others laters : List Bool) → AllByRecursion (λ trit. trit ≢ Free) cube
+pub one_pair : (cube : List Trit) (before after others laters : List Bool) → AllByRecursion (λ trit. trit ≢ Free) cube
     → AllowsBits cube before after → AllowsBits cube others laters → (before ≡ others) × (after ≡ laters)
 one_pair [] before after others laters known h k =
     let p = no_bits before after h in
@@ -90,14 +90,14 @@ one_pair (p ∷ q ∷ cube) before after others laters known h k =
     )
 
 -- the sides of a split share out its pairs
-data Side (cube : List Trit) (position : ℕ) (before after : List Bool) : Type 0 where
+pub data Side (cube : List Trit) (position : ℕ) (before after : List Bool) : Type 0 where
   low : AllowsBits (set cube position Zero) before after → Side cube position before after
   high : AllowsBits (set cube position One) before after → Side cube position before after
 
 none-some : {X : Type 0} (t : Trit) → None ≡ Some t → X
 none-some t e = absurd cc
 
-side : (cube : List Trit) (position : ℕ) (before after : List Bool) → slice_get cube position ≡ Some Free
+pub side : (cube : List Trit) (position : ℕ) (before after : List Bool) → slice_get cube position ≡ Some Free
     → AllowsBits cube before after → Side cube position before after
 side [] position before after is h = none-some Free is
 side (p ∷ []) position before after is h = absurd h
@@ -114,7 +114,7 @@ side (p ∷ q ∷ cube) (suc (suc position)) (a ∷ before) (b ∷ after) is h =
     ]
 
 -- each pair lies in the cube in which everything is free
-all_free : (inputs : ℕ) (before after : List Bool) → length before ≡ inputs → length after ≡ inputs
+pub all_free : (inputs : ℕ) (before after : List Bool) → length before ≡ inputs → length after ≡ inputs
     → AllowsBits (replicate (2 * inputs) Free) before after
 all_free zero [] [] e f = tt
 all_free zero [] (b ∷ after) e f = absurd (omega (arith, f))
@@ -135,14 +135,14 @@ both_lists P (x ∷ xs) ys h = let rest = both_lists P xs ys h.1 in ((h.0, rest.
 same_count : {A B C : Type 0} (f : A → C) (g : B → C) (xs : List A) (ys : List B) → map f xs ≡ map g ys → length ys ≡ length xs
 same_count f g xs ys e = omega (arith, ap length e, length-map xs f, length-map ys g)
 
-vector_fits : (netlist : Netlist) (first second : List Bool) (delay : ℕ) → IsDelayOfBits netlist first second delay
+pub vector_fits : (netlist : Netlist) (first second : List Bool) (delay : ℕ) → IsDelayOfBits netlist first second delay
     → IsVector netlist first × IsVector netlist second
 vector_fits netlist first second delay is = (
   same_count _ level_from netlist.inputs first is.runs.settled.inputs,
   same_count _ level_from netlist.inputs second (is.runs.inputs 0),
 )
 
-same_delay : (netlist : Netlist) → IsAcyclic netlist → (first second others laters : List Bool) (this that : ℕ)
+pub same_delay : (netlist : Netlist) → IsAcyclic netlist → (first second others laters : List Bool) (this that : ℕ)
     → first ≡ others → second ≡ laters → IsDelayOfBits netlist first second this → IsDelayOfBits netlist others laters that → this ≡ that
 same_delay netlist acyclic first second others laters this that e f is also =
     let fits = vector_fits netlist others laters that also in

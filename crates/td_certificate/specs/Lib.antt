@@ -6,3 +6,4 @@ pub mod Faults
 pub mod Reading
 pub mod Accepts
 pub mod Lengths
+pub mod Walks
