@@ -2,8 +2,12 @@
 //! say, and that there is at most one.
 #![tactic(auto)]
 
+mod checking;
+mod delays;
+mod judging;
 pub mod laws;
 mod verdict;
+mod walking;
 
 pub use verdict::{CheckFault, Verdict};
 

@@ -1,0 +1,54 @@
+//! Delays of pairs of vectors.
+
+ghost use Rattle.std.specs.Prelude.{◌≡◌, ℕ, ◌*◌, length, map, IfOk};
+ghost use Rattle.td_gates.specs.Table.{level_from};
+ghost use Rattle.td_circuit.specs.Run.{IsVector, IsDelayOfBits};
+ghost use Rattle.td_domain.specs.Cubes.{IsIn, IsPoint};
+
+use std::alloc::{AllocError, Global};
+use td_circuit::Circuit;
+use td_domain::{Cube, Pair, Trit};
+use td_gates::Level;
+use td_run::waves;
+
+/// The levels of these bits.
+fn levels(alloc: Global, bits: &[bool]) -> Result<Vec<Level>, AllocError>
+    ensures { IfOk result (λ levels. levels.items ≡ map level_from bits.now) }
+{
+    let mut levels = Vec::new(alloc);
+    for bit in bits {
+        levels.push(Level::from(*bit))?;
+    }
+    Ok(levels)
+}
+
+/// The delay of a pair, in steps.
+pub fn delay_of(alloc: Global, circuit: &Circuit, pair: &Pair) -> Result<u64, AllocError>
+    requires first { IsVector circuit.now.netlist pair.now.first }
+    requires second { IsVector circuit.now.netlist pair.now.second }
+    ensures delay { IfOk result (λ delay. IsDelayOfBits circuit.now.netlist pair.now.first pair.now.second delay) }
+    ensures only { IfOk result (λ delay. (other : ℕ)
+        → IsDelayOfBits circuit.now.netlist pair.now.first pair.now.second other → other ≡ delay) }
+{
+    let first = levels(alloc, pair.first())?;
+    let second = levels(alloc, pair.second())?;
+    let run = waves(alloc, circuit, &first, &second)?;
+    Ok(run.last_of_outputs())
+}
+
+/// The one pair of a cube in which nothing is free.
+pub fn pair_of(alloc: Global, cube: &Cube, inputs: usize) -> Result<Pair, AllocError>
+    requires point { IsPoint cube.now }
+    requires length { length cube.now ≡ 2 * inputs }
+    ensures pair { IfOk result (λ pair. IsIn pair cube.now) }
+    ensures first { IfOk result (λ pair. length pair.first ≡ inputs) }
+    ensures second { IfOk result (λ pair. length pair.second ≡ inputs) }
+{
+    let mut first = Vec::new(alloc);
+    let mut second = Vec::new(alloc);
+    for input in 0..inputs {
+        first.push(cube.trit(2 * input) == Trit::One)?;
+        second.push(cube.trit(2 * input + 1) == Trit::One)?;
+    }
+    Ok(Pair::new(first, second))
+}
