@@ -41,17 +41,17 @@ flawless netlist most line NotOnePair good h = absurd (h.1 good.one_pair)
 flawless netlist most line WrongNumber good h = absurd (h.2 good.of_cube)
 flawless netlist most line AboveTime good h = absurd (h.3 good.within)
 
-abbrev some_of : {A : Type 0} → A → Option A
+abbrev pub some_of : {A : Type 0} → A → Option A
 some_of x = Some x
 
-some_is : {A : Type 0} (x y : A) → some_of x ≡ some_of y → x ≡ y
+pub some_is : {A : Type 0} (x y : A) → some_of x ≡ some_of y → x ≡ y
 some_is x y e = cc
 
-none_not : {A X : Type 0} (x : A) → None ≡ some_of x → X
+pub none_not : {A X : Type 0} (x : A) → None ≡ some_of x → X
 none_not x e = absurd cc
 
 -- what holds of each of the lines before a place holds of each of them
-at_place : {A : Type 0} (P : A → Type 0) (xs : List A) (i : ℕ) (x : A) → AllByRecursion P xs → slice_get xs i ≡ Some x → P x
+pub at_place : {A : Type 0} (P : A → Type 0) (xs : List A) (i : ℕ) (x : A) → AllByRecursion P xs → slice_get xs i ≡ Some x → P x
 at_place P [] i x all is = none_not x is
 at_place P (y ∷ xs) zero x all is = subst P (some_is y x is) all.0
 at_place P (y ∷ xs) (suc i) x all is = at_place P xs i x all.1 is

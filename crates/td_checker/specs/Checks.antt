@@ -6,6 +6,7 @@ use Rattle.td_netlist.specs.Netlist.{Netlist}
 use Rattle.td_netlist.specs.Means.{Means}
 use Rattle.td_netlist.specs.Views.{name_of}
 use Rattle.td_circuit.specs.Loops.{Loop, LiesOnLoop}
+use Rattle.td_circuit.specs.Run.{IsWorst}
 use Rattle.td_certificate.specs.declared.certificate.Certificate.{Certificate}
 use Rattle.td_certificate.specs.declared.fault.CertFaultKind.TheVariants as certificate_kind
 use Rattle.td_certificate.specs.Spelling.{Spells}
@@ -50,3 +51,15 @@ IsToldAs verdict (Err told) = told ≡ fault.OutOfMemory
 abbrev pub TextsHaveOneVerdict : Type 0
 TextsHaveOneVerdict = (netlist_text : List ℕ) (default : Delay) (text : List ℕ) (this that : Verdict)
     → HaveVerdict netlist_text default text this → HaveVerdict netlist_text default text that → this ≡ that
+
+-- the time of the certificate that the text spells is the worst delay of the netlist that the netlist's text means
+abbrev pub TellsWorst : List ℕ → Delay → List ℕ → Type 0
+TellsWorst netlist_text default text = (netlist : Netlist) (certificate : Certificate) → Means netlist_text default netlist
+    → Spells certificate text → IsWorst netlist certificate.time
+
+-- what a fault says of the certificate's text alone
+abbrev pub IsCertificateFault : List ℕ → CheckFault → Type 0
+IsCertificateFault text fault.OutOfMemory = Unit {0}
+IsCertificateFault text (fault.Netlist told) = ⊥
+IsCertificateFault text (fault.Loop name) = ⊥
+IsCertificateFault text (fault.Certificate told) = (told.kind ≢ certificate_kind.OutOfMemory) × IsFault told.kind told.line text

@@ -1,9 +1,8 @@
 -- What is said of the lines of a tree.
-use Rattle.std.specs.Prelude.{◌≡◌, ℕ, ◌*◌, Bool, true, false, List, [], ◌∷◌, take, length, slice_get, Option, Some, None}
+use Rattle.std.specs.Prelude.{◌≡◌, ℕ, ◌+◌, List, [], ◌∷◌, take, slice_get, Option, Some, None}
 use Rattle.std.specs.List.{AllByRecursion}
 use Rattle.td_netlist.specs.Netlist.{Netlist}
 use Rattle.td_domain.specs.declared.cubes.Trit.{Trit}
-use Rattle.td_domain.specs.declared.cubes.Trit.TheVariants.{Zero, One, Free}
 use Rattle.td_certificate.specs.declared.tree.Node.{Node}
 use Rattle.td_certificate.specs.declared.certificate.Certificate.{Certificate}
 use Rattle.td_certificate.specs.Accepts.{Line, root_cube, IsGood}
@@ -11,6 +10,8 @@ use Rattle.td_certificate.specs.Walks.{lines_from}
 use Rattle.td_checker.specs.declared.judging.Flaw as code_flaw
 use Rattle.td_checker.specs.declared.judging.Flaw.TheVariants as code
 use Rattle.td_checker.specs.declared.checking.BadLine.{BadLine}
+use Rattle.td_checker.specs.declared.verdict.Verdict.{Verdict}
+use Rattle.td_checker.specs.declared.verdict.Verdict.TheVariants as verdict
 use Rattle.td_checker.specs.Verdicts.{Flaw, Misplaced, NotOnePair, WrongNumber, AboveTime, HasFlaw}
 
 abbrev pub flaw_of : code_flaw.Flaw → Flaw
@@ -42,3 +43,10 @@ AreJudged netlist most lines (Some told) = IsBadAt netlist most lines (flaw_of t
 -- the lines of the certificate's tree
 abbrev pub lines_in : Certificate → List Line
 lines_in c = lines_from (root_cube c ∷ []) c.tree
+
+-- the verdict that tells this flaw of the line at this place of a tree
+abbrev pub told_as : code_flaw.Flaw → ℕ → Verdict
+told_as code.Misplaced place = verdict.BadPosition (6 + place)
+told_as code.NotOnePair place = verdict.NotAPoint (6 + place)
+told_as code.WrongNumber place = verdict.LeafBound (6 + place)
+told_as code.AboveTime place = verdict.LeafAboveTime (6 + place)

@@ -1,9 +1,10 @@
 //! Delays of pairs of vectors.
 
-ghost use Rattle.std.specs.Prelude.{◌≡◌, ℕ, ◌*◌, length, map, IfOk};
+ghost use Rattle.std.specs.Prelude.{◌≡◌, ◌≢◌, ℕ, ◌*◌, length, map, IfOk};
 ghost use Rattle.td_gates.specs.Table.{level_from};
 ghost use Rattle.td_circuit.specs.Run.{IsVector, IsDelayOfBits};
-ghost use Rattle.td_domain.specs.Cubes.{IsIn, IsPoint};
+ghost use Rattle.td_domain.specs.declared.cubes.Trit.{Trit as TritModel};
+ghost use Rattle.td_domain.specs.Cubes.{Allows, IsIn, IsPoint};
 
 use std::alloc::{AllocError, Global};
 use td_circuit::Circuit;
@@ -36,19 +37,30 @@ pub fn delay_of(alloc: Global, circuit: &Circuit, pair: &Pair) -> Result<u64, Al
     Ok(run.last_of_outputs())
 }
 
-/// The one pair of a cube in which nothing is free.
-pub fn pair_of(alloc: Global, cube: &Cube, inputs: usize) -> Result<Pair, AllocError>
-    requires point { IsPoint cube.now }
-    requires length { length cube.now ≡ 2 * inputs }
-    ensures pair { IfOk result (λ pair. IsIn pair cube.now) }
-    ensures first { IfOk result (λ pair. length pair.first ≡ inputs) }
-    ensures second { IfOk result (λ pair. length pair.second ≡ inputs) }
+/// The bit that a known trit allows.
+fn bit_of(trit: Trit) -> bool
+    ensures { trit ≢ TritModel.Free → Allows trit result }
 {
+    match trit {
+        Trit::One => true,
+        Trit::Zero | Trit::Free => false,
+    }
+}
+
+/// The one pair of a cube in which nothing is free.
+pub fn pair_of(alloc: Global, circuit: &Circuit, cube: &Cube) -> Result<Pair, AllocError>
+    requires point { IsPoint cube.now }
+    requires length { length cube.now ≡ 2 * length circuit.now.netlist.inputs }
+    ensures pair { IfOk result (λ pair. IsIn pair cube.now) }
+    ensures first { IfOk result (λ pair. IsVector circuit.now.netlist pair.first) }
+    ensures second { IfOk result (λ pair. IsVector circuit.now.netlist pair.second) }
+{
+    let inputs = cube.len() / 2;
     let mut first = Vec::new(alloc);
     let mut second = Vec::new(alloc);
     for input in 0..inputs {
-        first.push(cube.trit(2 * input) == Trit::One)?;
-        second.push(cube.trit(2 * input + 1) == Trit::One)?;
+        first.push(bit_of(cube.trit(2 * input)))?;
+        second.push(bit_of(cube.trit(2 * input + 1)))?;
     }
     Ok(Pair::new(first, second))
 }

@@ -139,6 +139,7 @@ fn is_bounded(
 }
 
 /// Whether the one pair of a cube has this delay.
+#[tactic(auto, using(crate::proofs::Points::has_delay))]
 fn has_delay(
     alloc: Global,
     circuit: &Circuit,
@@ -149,6 +150,6 @@ fn has_delay(
     requires point { IsPoint cube.now }
     ensures { IfOk result (λ has. IsTrue has ↔ HasDelay circuit.now.netlist cube.now delay) }
 {
-    let pair = pair_of(alloc, cube, circuit.inputs())?;
+    let pair = pair_of(alloc, circuit, cube)?;
     Ok(delay_of(alloc, circuit, &pair)? == delay)
 }

@@ -1,5 +1,4 @@
-//! The checker of certificates: it trusts nobody, and stands on nothing of the search. So far its verdicts alone: what they
-//! say, and that there is at most one.
+//! The checker of certificates: it trusts nobody, and stands on nothing of the search.
 #![tactic(auto)]
 
 mod checking;
@@ -9,6 +8,7 @@ pub mod laws;
 mod verdict;
 mod walking;
 
+pub use checking::check;
 pub use verdict::{CheckFault, Verdict};
 
 #[cfg(test)]

@@ -1,8 +1,10 @@
 //! What the checker answers.
 
 ghost use Rattle.std.specs.Prelude.{◌≡◌};
+ghost use Rattle.td_checker.specs.declared.verdict.CheckFault.TheVariants as fault;
 ghost use Rattle.td_checker.specs.Verdicts.{verdict_number, verdict_name, verdict_line};
 
+use std::alloc::AllocError;
 use td_certificate::CertFault;
 use td_netlist::{Fault, Name};
 use thiserror::Error;
@@ -89,4 +91,12 @@ pub enum CheckFault<'a> {
     /// The certificate's text is refused.
     #[error("the certificate: {0}")]
     Certificate(CertFault),
+}
+
+impl<'a> From<AllocError> for CheckFault<'a> {
+    ghost from_gives = { λ _ e. e ≡ fault.OutOfMemory };
+
+    fn from(_e: AllocError) -> CheckFault<'a> {
+        CheckFault::OutOfMemory
+    }
 }

@@ -52,8 +52,12 @@ impl Walk {
     fn split(&mut self, position: usize) -> Result<(), AllocError>
         requires free { slice_get self.old.cube position ≡ Some TritModel.Free }
         requires inside { AreInside (length self.old.cube) (reverse self.old.path.items) }
-        ensures cube { OnOk result (self.new.cube ≡ set self.old.cube position TritModel.Zero) }
-        ensures path { OnOk result (reverse self.new.path.items ≡ position ∷ reverse self.old.path.items) }
+        ensures next { OnOk result (StandsAt
+            (set self.old.cube position TritModel.Zero ∷ set self.old.cube position TritModel.One
+                ∷ cubes_after self.old.cube (reverse self.old.path.items))
+            self.new.cube (reverse self.new.path.items)) }
+        ensures inside { OnOk result (AreInside (length self.new.cube) (reverse self.new.path.items)) }
+        ensures length { OnOk result (length self.new.cube ≡ length self.old.cube) }
     {
         self.path.push(position)?;
         self.cube.set(position, Trit::Zero);
@@ -67,13 +71,13 @@ impl Walk {
         ensures inside { AreInside (length self.new.cube) (reverse self.new.path.items) }
         ensures length { length self.new.cube ≡ length self.old.cube }
     {
-        while let Some(position) = self.path.last().copied() {
+        while let Some(position) = self.path.pop() {
             if self.cube.trit(position) == Trit::Zero {
                 self.cube.set(position, Trit::One);
+                self.path.push_reserved(position);
                 return;
             }
             self.cube.set(position, Trit::Free);
-            self.path.pop();
         }
     }
 }
