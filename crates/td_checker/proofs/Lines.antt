@@ -1,8 +1,9 @@
 -- A walk over the nodes of a certificate goes over the lines of its tree.
-use Rattle.std.proofs.Common.{◌≡◌, ◌+◌, ◌*◌, ◌<◌, ◌≤◌, ℕ, zero, suc, List, [], ◌∷◌, length, take, drop, Option, Some, None, refl, sym, ap, subst, ◌∙◌, arith}
+use Rattle.std.proofs.Common.{◌≡◌, ◌+◌, ◌*◌, ◌<◌, ◌≤◌, ℕ, zero, suc, List, [], ◌∷◌, length, take, drop, get_or, Option, Some, None, refl, sym, ap, subst, ◌∙◌, arith}
 use Rattle.std.specs.Prelude.{slice_get, replicate}
 use Rattle.std.specs.List.{AllByRecursion}
 use Rattle.std.proofs.lemmas.List.{length-replicate, drop_all}
+use Rattle.std.proofs.lemmas.Option.{slice_get-get_or}
 use Rattle.td_netlist.specs.Netlist.{Netlist}
 use Rattle.td_domain.specs.declared.cubes.Trit.{Trit}
 use Rattle.td_domain.specs.declared.cubes.Trit.TheVariants.{Free}
@@ -73,9 +74,6 @@ started c cube path tree is none = record {
   inside = rw none tt;
   count = ap length is ∙ length-replicate (2 * c.inputs) Free;
 }
-
-too_many : {X : Type 0} → None ≡ Some 0 → X
-too_many e = absurd (none_not 0 e)
 
 -- the first of the lines
 first_line : (cubes : List (List Trit)) (n : Node) (rest : List Node) (cube : List Trit) (path : List ℕ)
@@ -166,3 +164,7 @@ all_good netlist c place cube path walk over all =
     let none : drop place c.tree ≡ [] = drop_all place c.tree over in
     let end : drop place (lines_in c) ≡ [] = sym walk.walked ∙ ap (lines_from walk.cubes) none ∙ no_lines walk.cubes in
     subst (AllByRecursion (IsGood netlist c.time)) (take_whole (lines_in c) place end) all
+
+pub node_at : (nodes tree : List Node) (place : ℕ) (d : Node) → nodes ≡ tree → place < length nodes → slice_get tree place ≡ Some (get_or nodes place d)
+node_at nodes tree place d same below =
+    ap (λ (ns : List Node). slice_get ns place) (sym same) ∙ slice_get-get_or nodes place d below

@@ -1,6 +1,6 @@
 -- The one pair of a cube in which nothing is free, and its delay.
-use Rattle.std.proofs.Common.{◌≡◌, ◌≢◌, ◌+◌, ◌*◌, ◌<◌, ℕ, zero, suc, Bool, true, false, List, [], ◌∷◌, ◌++◌, length, take, Some, None, refl, sym, ap, subst, ◌∙◌, arith}
-use Rattle.std.specs.Prelude.{slice_get, ◌↔◌, IsTrue, ◌==◌}
+use Rattle.std.proofs.Common.{◌≡◌, ◌≢◌, ◌+◌, ◌*◌, ◌<◌, ◌≤◌, ℕ, zero, suc, Bool, true, false, List, [], ◌∷◌, ◌++◌, length, take, take_all, Some, None, refl, sym, ap, subst, ◌∙◌, arith}
+use Rattle.std.specs.Prelude.{slice_get, ◌↔◌}
 use Rattle.std.proofs.lemmas.List.Elements.{recursion_from_All}
 use Rattle.td_netlist.specs.Netlist.{Netlist}
 use Rattle.td_circuit.specs.Run.{IsDelayOfBits}
@@ -69,6 +69,9 @@ more_bits n cube before after befores afters p q a b point first second allows a
     grown_length : (bits : List Bool) (bit : Bool) (n : ℕ) → length bits ≡ n → length (bits ++ bit ∷ []) ≡ n + 1
     grown_length [] bit n e = omega (arith, e)
     grown_length (x ∷ bits) bit n e = omega (arith, e, grown_length bits bit (length bits) refl)
+
+pub whole : (cube : List Trit) (n : ℕ) (before after : List Bool) → length cube ≤ 2 * n → AreBits cube n before after → AllowsBits cube before after
+whole cube n before after few bits = subst (λ trits. AllowsBits trits before after) (take_all (2 * n) cube few) bits.allowed
 
 -- the only delay of a point's pairs
 has : (netlist : Netlist) (cube : List Trit) (pair : Pair) (delay asked : ℕ) → IsPoint cube → IsIn pair cube

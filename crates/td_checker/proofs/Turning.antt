@@ -1,5 +1,5 @@
 -- Steps of a walk: to the zero side of a split, and from a leaf to the next one side.
-use Rattle.std.proofs.Common.{◌≡◌, ◌<◌, ℕ, zero, suc, Bool, true, false, List, [], ◌∷◌, ◌++◌, length, set, Option, Some, None, reverse, refl, sym, ap, subst, ◌∙◌, arith}
+use Rattle.std.proofs.Common.{◌≡◌, ◌≢◌, ◌<◌, ℕ, zero, suc, List, [], ◌∷◌, ◌++◌, length, set, Option, Some, None, reverse, refl, sym, ap, subst, ◌∙◌, arith}
 use Rattle.std.specs.Prelude.{slice_get}
 use Rattle.std.proofs.lemmas.List.{length-set, set-set, reverse-append}
 use Rattle.std.proofs.lemmas.Option.{slice_get_within}
@@ -41,10 +41,13 @@ inside_below cube next position path ahead free is goes inside =
     let same : length next ≡ length cube = ap length is ∙ length-set cube position Zero in
     rw (goes, same) (slice_get_within cube position Free free, inside)
 
--- to the one side
-pub turned : (cube next : List Trit) (position : ℕ) (path : List ℕ) → slice_get cube position ≡ Some Zero
+pub reversed : (path rest : List ℕ) (position : ℕ) → path ≡ rest ++ position ∷ [] → reverse path ≡ position ∷ reverse rest
+reversed path rest position is = ap reverse is ∙ reverse-append rest (position ∷ [])
+
+-- to the one side, where the walk stands before it on the zero side
+turned_at : (cube next : List Trit) (position : ℕ) (path : List ℕ) → slice_get cube position ≡ Some Zero
     → next ≡ set cube position One → StandsAt (cubes_after cube (position ∷ path)) next (position ∷ path)
-turned cube next position path zero_side is =
+turned_at cube next position path zero_side is =
     let high : List Trit = set cube position One in
     let was : cubes_after cube (position ∷ path) ≡ high ∷ cubes_after (set cube position Free) path = after cube position path Zero zero_side in
     let there : cubes_after high (position ∷ path) ≡ cubes_after (set high position Free) path =
@@ -52,21 +55,57 @@ turned cube next position path zero_side is =
     subst (λ cubes. StandsAt cubes next (position ∷ path)) (sym was)
     (rw is (refl, there ∙ ap (λ c. cubes_after c path) (set-set cube position One Free)))
 
+pub turned : (cube next : List Trit) (position : ℕ) (before rest ahead : List ℕ) (cubes : List (List Trit))
+    → cubes_after cube (reverse before) ≡ cubes → before ≡ rest ++ position ∷ [] → slice_get cube position ≡ Some Zero
+    → next ≡ set cube position One → ahead ≡ rest ++ position ∷ [] → StandsAt cubes next (reverse ahead)
+turned cube next position before rest ahead cubes are goes zero_side is then =
+    let path : cubes_after cube (position ∷ reverse rest) ≡ cubes =
+    ap (cubes_after cube) (sym (reversed before rest position goes)) ∙ are in
+    let there : StandsAt cubes next (position ∷ reverse rest) =
+    subst (λ cs. StandsAt cs next (position ∷ reverse rest)) path (turned_at cube next position (reverse rest) zero_side is) in
+    subst (λ p. StandsAt cubes next p) (sym (reversed ahead rest position then)) there
+
 -- back over a split whose one side is done
-pub freed : (same : Trit → Bool) (cube next : List Trit) (position : ℕ) (path : List ℕ) (t : Trit) → same Zero ≡ true
-    → slice_get cube position ≡ Some t → same t ≡ false → next ≡ set cube position Free
-    → cubes_after next path ≡ cubes_after cube (position ∷ path)
-freed same cube next position path Zero yes_zero stands differs is = absurd (let both : true ≡ false = sym yes_zero ∙ differs in cc)
-freed same cube next position path One yes_zero stands differs is =
-    ap (λ c. cubes_after c path) is ∙ sym (after cube position path One stands)
-freed same cube next position path Free yes_zero stands differs is =
-    ap (λ c. cubes_after c path) is ∙ sym (after cube position path Free stands)
+freed_at : (cube next : List Trit) (position : ℕ) (path : List ℕ) (t : Trit) → slice_get cube position ≡ Some t → t ≢ Zero
+    → next ≡ set cube position Free → cubes_after next path ≡ cubes_after cube (position ∷ path)
+freed_at cube next position path Zero stands other is = absurd (other refl)
+freed_at cube next position path One stands other is = ap (λ c. cubes_after c path) is ∙ sym (after cube position path One stands)
+freed_at cube next position path Free stands other is = ap (λ c. cubes_after c path) is ∙ sym (after cube position path Free stands)
 
--- the trit is the one that the test finds
-pub is_zero : (same : Trit → Bool) (t : Trit) → same One ≡ false → same Free ≡ false → same t ≡ true → t ≡ Zero
-is_zero same Zero a b is = refl
-is_zero same One a b is = absurd (let both : false ≡ true = sym a ∙ is in cc)
-is_zero same Free a b is = absurd (let both : false ≡ true = sym b ∙ is in cc)
+pub freed : (cube next : List Trit) (position : ℕ) (before rest : List ℕ) (t : Trit) (cubes : List (List Trit))
+    → cubes_after cube (reverse before) ≡ cubes → before ≡ rest ++ position ∷ [] → slice_get cube position ≡ Some t → t ≢ Zero
+    → next ≡ set cube position Free → cubes_after next (reverse rest) ≡ cubes
+freed cube next position before rest t cubes are goes stands other is =
+    freed_at cube next position (reverse rest) t stands other is
+    ∙ ap (cubes_after cube) (sym (reversed before rest position goes)) ∙ are
 
-pub reversed : (path rest : List ℕ) (position : ℕ) → path ≡ rest ++ position ∷ [] → reverse path ≡ position ∷ reverse rest
-reversed path rest position is = ap reverse is ∙ reverse-append rest (position ∷ [])
+-- at the end of the path nothing is to come
+pub emptied : (cube next : List Trit) (before ahead : List ℕ) (cubes : List (List Trit)) → cubes_after cube (reverse before) ≡ cubes
+    → length before ≡ 0 → StandsAt cubes next ahead
+emptied cube next [] ahead cubes are none = subst (λ cs. StandsAt cs next ahead) are tt
+emptied cube next (position ∷ before) ahead cubes are none = absurd (omega (arith, none))
+
+-- positions stay inside
+inside_at : (count : ℕ) (before rest : List ℕ) (position : ℕ) → AreInside count (reverse before) → before ≡ rest ++ position ∷ []
+    → (position < count) × AreInside count (reverse rest)
+inside_at count before rest position inside goes =
+    let both : AreInside count (position ∷ reverse rest) = subst (AreInside count) (reversed before rest position goes) inside in
+    (both.0, both.1)
+
+pub below : (count : ℕ) (before rest : List ℕ) (position : ℕ) → AreInside count (reverse before) → before ≡ rest ++ position ∷ [] → position < count
+below count before rest position inside goes = (inside_at count before rest position inside goes).0
+
+pub inside_turned : (cube next : List Trit) (position : ℕ) (t : Trit) (before rest ahead : List ℕ) → AreInside (length cube) (reverse before)
+    → before ≡ rest ++ position ∷ [] → next ≡ set cube position t → ahead ≡ rest ++ position ∷ [] → AreInside (length next) (reverse ahead)
+inside_turned cube next position t before rest ahead inside goes is then =
+    let same : length cube ≡ length next = sym (length-set cube position t) ∙ ap length (sym is) in
+    subst (λ n. AreInside n (reverse ahead)) same (subst (λ p. AreInside (length cube) (reverse p)) (goes ∙ sym then) inside)
+
+pub inside_freed : (cube next : List Trit) (position : ℕ) (t : Trit) (before rest : List ℕ) → AreInside (length cube) (reverse before)
+    → before ≡ rest ++ position ∷ [] → next ≡ set cube position t → AreInside (length next) (reverse rest)
+inside_freed cube next position t before rest inside goes is =
+    let same : length cube ≡ length next = sym (length-set cube position t) ∙ ap length (sym is) in
+    subst (λ n. AreInside n (reverse rest)) same (inside_at (length cube) before rest position inside goes).1
+
+pub same_length : (cube next : List Trit) (position : ℕ) (t : Trit) → next ≡ set cube position t → length next ≡ length cube
+same_length cube next position t is = ap length is ∙ length-set cube position t

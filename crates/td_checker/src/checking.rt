@@ -33,6 +33,7 @@ pub struct BadLine {
 }
 
 /// The first bad line of the certificate's tree, if one is bad.
+#[tactic(auto, using(crate::proofs::Lines::started, crate::proofs::Lines::passed, crate::proofs::Lines::good_more, crate::proofs::Lines::found_bad, crate::proofs::Lines::all_good, crate::proofs::Lines::node_at))]
 fn first_bad(
     alloc: Global,
     circuit: &Circuit,
@@ -88,6 +89,7 @@ fn is_reached(
 }
 
 /// The verdict on a certificate that has a text within the limit.
+#[tactic(auto, using(crate::proofs::Told::bad_told, crate::proofs::Told::accepted_told))]
 fn verdict_on(
     alloc: Global,
     circuit: &Circuit,
@@ -169,6 +171,7 @@ fn certificate_of<'a>(alloc: Global, text: &[u8]) -> Result<Certificate, CheckFa
 ///
 /// The first that is there of a fault of the netlist's text, a loop of the netlist and a fault of the certificate's text.
 /// `OutOfMemory` where a growth was refused.
+#[tactic(auto, using(crate::proofs::Texts::few_nodes, crate::proofs::Texts::told_only, crate::proofs::Texts::certificate_fault, crate::proofs::Texts::have_verdict, crate::proofs::Texts::tells_worst))]
 pub fn check<'a>(
     alloc: Global,
     netlist: &'a [u8],

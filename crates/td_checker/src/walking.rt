@@ -49,6 +49,7 @@ impl Walk {
     }
 
     /// Goes to the zero side of a split at a free position.
+    #[tactic(auto, using(crate::proofs::Turning::descended, crate::proofs::Turning::inside_below, crate::proofs::Turning::reversed))]
     fn split(&mut self, position: usize) -> Result<(), AllocError>
         requires free { slice_get self.old.cube position ≡ Some TritModel.Free }
         requires inside { AreInside (length self.old.cube) (reverse self.old.path.items) }
@@ -65,6 +66,7 @@ impl Walk {
     }
 
     /// Goes from a leaf to the one side of the lowest split at whose zero side it stands, if there is one.
+    #[tactic(auto, using(crate::proofs::Turning::turned, crate::proofs::Turning::freed, crate::proofs::Turning::emptied, crate::proofs::Turning::inside_turned, crate::proofs::Turning::inside_freed, crate::proofs::Turning::below))]
     fn leave(&mut self)
         requires inside { AreInside (length self.old.cube) (reverse self.old.path.items) }
         ensures next { StandsAt (cubes_after self.old.cube (reverse self.old.path.items)) self.new.cube (reverse self.new.path.items) }
@@ -72,12 +74,14 @@ impl Walk {
         ensures length { length self.new.cube ≡ length self.old.cube }
     {
         while let Some(position) = self.path.pop() {
-            if self.cube.trit(position) == Trit::Zero {
-                self.cube.set(position, Trit::One);
-                self.path.push_reserved(position);
-                return;
+            match self.cube.trit(position) {
+                Trit::Zero => {
+                    self.cube.set(position, Trit::One);
+                    self.path.push_reserved(position);
+                    return;
+                }
+                _ => self.cube.set(position, Trit::Free),
             }
-            self.cube.set(position, Trit::Free);
         }
     }
 }
