@@ -1,6 +1,6 @@
 -- From what is said of two texts to what the checker answers.
-use Rattle.std.proofs.Common.{◌≡◌, ◌≢◌, ◌+◌, ◌≤◌, ◌<◌, ℕ, List, [], ◌∷◌, ◌++◌, length, map, length-append, refl, sym, ap, subst, ◌∙◌, arith, inl, inr}
-use Rattle.std.specs.Prelude.{Result, Ok, Err}
+use Rattle.std.proofs.Common.{◌≡◌, ◌≢◌, ◌+◌, ◌≤◌, ◌<◌, ℕ, List, [], ◌∷◌, ◌++◌, length, map, length-append, refl, sym, ap, subst, ◌∙◌, arith}
+use Rattle.std.specs.Prelude.{Result, Ok, Err, IfOk, IfErr}
 use Rattle.std.specs.List.{flat_map}
 use Rattle.std.proofs.lemmas.List.{length-map, append-nil}
 use Rattle.std.proofs.lemmas.List.Concat.{flat_map-cons}
@@ -67,14 +67,11 @@ fault_is_memory netlist_text default text (fault.Loop name) v is have =
 fault_is_memory netlist_text default text (fault.Certificate told) v is have =
     spelled_fault told.kind told.line text have.certificate have.spells have.within is.2 is.3
 
-pub told_only : (netlist_text : List ℕ) (default : Delay) (text : List ℕ) (result : Result Verdict CheckFault) (v : Verdict)
-    → ((told : Verdict) → result ≡ Ok told → HaveVerdict netlist_text default text told)
-    → ((told : CheckFault) → result ≡ Err told → IsCheckFault netlist_text default text told)
-    → HaveVerdict netlist_text default text v → IsToldAs v result
-told_only netlist_text default text (Ok told) v found fails have =
-    texts_have_one_verdict netlist_text default text told v (found told refl) have
-told_only netlist_text default text (Err told) v found fails have =
-    fault_is_memory netlist_text default text told v (fails told refl) have
+pub told_only : (netlist_text : List ℕ) (default : Delay) (text : List ℕ) (result : Result Verdict CheckFault)
+    → IfOk result (λ told. HaveVerdict netlist_text default text told) → IfErr result (λ told. IsCheckFault netlist_text default text told)
+    → (v : Verdict) → HaveVerdict netlist_text default text v → IsToldAs v result
+told_only netlist_text default text (Ok told) found fails v have = texts_have_one_verdict netlist_text default text told v found have
+told_only netlist_text default text (Err told) found fails v have = fault_is_memory netlist_text default text told v fails have
 
 pub certificate_fault : (netlist_text : List ℕ) (default : Delay) (text : List ℕ) (netlist : Netlist) (told : CheckFault)
     → HasCircuit netlist_text default netlist → IsCertificateFault text told → IsCheckFault netlist_text default text told

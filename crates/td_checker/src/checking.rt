@@ -165,13 +165,29 @@ fn certificate_of<'a>(alloc: Global, text: &[u8]) -> Result<Certificate, CheckFa
     }
 }
 
+/// The verdict on the certificate that a text spells, for the netlist that another text means.
+#[tactic(auto, using(crate::proofs::Texts::few_nodes, crate::proofs::Texts::certificate_fault, crate::proofs::Texts::have_verdict, crate::proofs::Texts::tells_worst))]
+fn verdict_of_texts<'a>(
+    alloc: Global,
+    netlist: &'a [u8],
+    default: Delay,
+    certificate: &[u8],
+) -> Result<Verdict, CheckFault<'a>>
+    ensures told { IfOk result (λ verdict. HaveVerdict netlist.now default certificate.now verdict) }
+    ensures fault { IfErr result (λ fault. IsCheckFault netlist.now default certificate.now fault) }
+    ensures worst { IfOk result (λ verdict. verdict ≡ Verdict.Accepted → TellsWorst netlist.now default certificate.now) }
+{
+    let circuit = circuit_of(alloc, netlist, default)?;
+    let spelled = certificate_of(alloc, certificate)?;
+    Ok(verdict_on(alloc, &circuit, &spelled)?)
+}
+
 /// The verdict on a certificate's text, for a netlist's text in which gates that state no delay have the default one.
 ///
 /// # Errors
 ///
 /// The first that is there of a fault of the netlist's text, a loop of the netlist and a fault of the certificate's text.
 /// `OutOfMemory` where a growth was refused.
-#[tactic(auto, using(crate::proofs::Texts::few_nodes, crate::proofs::Texts::told_only, crate::proofs::Texts::certificate_fault, crate::proofs::Texts::have_verdict, crate::proofs::Texts::tells_worst))]
 pub fn check<'a>(
     alloc: Global,
     netlist: &'a [u8],
@@ -188,8 +204,5 @@ pub fn check<'a>(
     // An accepted time is the worst delay.
     ensures worst { IfOk result (λ verdict. verdict ≡ Verdict.Accepted → TellsWorst netlist.now default certificate.now) }
 {
-    let circuit = circuit_of(alloc, netlist, default)?;
-    let spelled = certificate_of(alloc, certificate)?;
-    let verdict = verdict_on(alloc, &circuit, &spelled)?;
-    Ok(verdict)
+    verdict_of_texts(alloc, netlist, default, certificate)
 }
