@@ -53,17 +53,17 @@ pub more_bits : (n : ℕ) (cube : List Trit) (before after befores afters : List
     → slice_get cube (2 * n) ≡ Some p → slice_get cube (2 * n + 1) ≡ Some q
     → (p ≢ Free → Allows p a) → (q ≢ Free → Allows q b) → befores ≡ before ++ a ∷ [] → afters ≡ after ++ b ∷ []
     → AreBits cube n before after → AreBits cube (n + 1) befores afters
-more_bits n cube before after befores afters p q a b point first second allows also is and bits =
+more_bits n cube before after befores afters p q a b point first second allows also firsts seconds bits =
     let here : 2 * n ≡ twice n = sym (twice_is n) in
     let next : 2 * n + 1 ≡ suc (twice n) = omega (arith, twice_is n) in
-    let then : suc (suc (twice n)) ≡ 2 * (n + 1) = omega (arith, twice_is n) in
+    let end : suc (suc (twice n)) ≡ 2 * (n + 1) = omega (arith, twice_is n) in
     let grown = more n cube before after p q a b (ap (slice_get cube) (sym here) ∙ first) (ap (slice_get cube) (sym next) ∙ second)
     (allows (known cube (2 * n) p point first)) (also (known cube (2 * n + 1) q point second)) bits.first bits.second
     (subst (λ i. AllowsBits (take i cube) before after) here bits.allowed) in
     record {
-      first = ap length is ∙ grown_length before a n bits.first;
-      second = ap length and ∙ grown_length after b n bits.second;
-      allowed = rw (is, and) (subst (λ i. AllowsBits (take i cube) (before ++ a ∷ []) (after ++ b ∷ [])) then grown);
+      first = ap length firsts ∙ grown_length before a n bits.first;
+      second = ap length seconds ∙ grown_length after b n bits.second;
+      allowed = rw (firsts, seconds) (subst (λ i. AllowsBits (take i cube) (before ++ a ∷ []) (after ++ b ∷ [])) end grown);
     }
   where
     grown_length : (bits : List Bool) (bit : Bool) (n : ℕ) → length bits ≡ n → length (bits ++ bit ∷ []) ≡ n + 1

@@ -6,6 +6,9 @@ use Rattle.std.proofs.lemmas.List.{length-map, append-nil}
 use Rattle.std.proofs.lemmas.List.Concat.{flat_map-cons}
 use Rattle.td_gates.specs.declared.timing.Delay.{Delay}
 use Rattle.td_netlist.specs.Netlist.{Netlist}
+use Rattle.td_netlist.specs.declared.fault.Fault.{Fault}
+use Rattle.td_netlist.specs.declared.fault.FaultKind.TheVariants as netlist_kind
+use Rattle.td_netlist.specs.Faults.{IsUnlessMemory}
 use Rattle.td_netlist.specs.Means.{Means}
 use Rattle.td_netlist.specs.WellFormed.{IsWellFormed}
 use Rattle.td_netlist.specs.Views.{name_of}
@@ -54,6 +57,12 @@ spelled_fault kind.Trailing line text c spells within other is = spells-more tex
 spelled_fault kind.Syntax line text c spells within other is = spells-stops text c line spells is.1
 spelled_fault kind.NumberTooLarge line text c spells within other is = spells-stops text c line spells is.1
 spelled_fault kind.Version line text c spells within other is = spells-stops text c line spells is.1
+
+pub refused : (text : List ℕ) (default : Delay) (result : Result Netlist Fault) (told : Fault) → result ≡ Err told
+    → ((netlist : Netlist) → Means text default netlist → IsUnlessMemory result netlist) → told.kind ≢ netlist_kind.OutOfMemory
+    → (certificate : List ℕ) → IsCheckFault text default certificate (fault.Netlist told)
+refused text default result told is only other certificate =
+    (other, λ netlist means. other (subst (λ (r : Result Netlist Fault). IsUnlessMemory r netlist) is (only netlist means)))
 
 -- texts that have a verdict have no fault
 fault_is_memory : (netlist_text : List ℕ) (default : Delay) (text : List ℕ) (told : CheckFault) (v : Verdict)

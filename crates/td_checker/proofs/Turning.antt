@@ -58,12 +58,12 @@ turned_at cube next position path zero_side is =
 pub turned : (cube next : List Trit) (position : ℕ) (before rest ahead : List ℕ) (cubes : List (List Trit))
     → cubes_after cube (reverse before) ≡ cubes → before ≡ rest ++ position ∷ [] → slice_get cube position ≡ Some Zero
     → next ≡ set cube position One → ahead ≡ rest ++ position ∷ [] → StandsAt cubes next (reverse ahead)
-turned cube next position before rest ahead cubes are goes zero_side is then =
+turned cube next position before rest ahead cubes are goes zero_side is ends =
     let path : cubes_after cube (position ∷ reverse rest) ≡ cubes =
     ap (cubes_after cube) (sym (reversed before rest position goes)) ∙ are in
     let there : StandsAt cubes next (position ∷ reverse rest) =
     subst (λ cs. StandsAt cs next (position ∷ reverse rest)) path (turned_at cube next position (reverse rest) zero_side is) in
-    subst (λ p. StandsAt cubes next p) (sym (reversed ahead rest position then)) there
+    subst (λ p. StandsAt cubes next p) (sym (reversed ahead rest position ends)) there
 
 -- back over a split whose one side is done
 freed_at : (cube next : List Trit) (position : ℕ) (path : List ℕ) (t : Trit) → slice_get cube position ≡ Some t → t ≢ Zero
@@ -97,9 +97,9 @@ below count before rest position inside goes = (inside_at count before rest posi
 
 pub inside_turned : (cube next : List Trit) (position : ℕ) (t : Trit) (before rest ahead : List ℕ) → AreInside (length cube) (reverse before)
     → before ≡ rest ++ position ∷ [] → next ≡ set cube position t → ahead ≡ rest ++ position ∷ [] → AreInside (length next) (reverse ahead)
-inside_turned cube next position t before rest ahead inside goes is then =
+inside_turned cube next position t before rest ahead inside goes is ends =
     let same : length cube ≡ length next = sym (length-set cube position t) ∙ ap length (sym is) in
-    subst (λ n. AreInside n (reverse ahead)) same (subst (λ p. AreInside (length cube) (reverse p)) (goes ∙ sym then) inside)
+    subst (λ n. AreInside n (reverse ahead)) same (subst (λ p. AreInside (length cube) (reverse p)) (goes ∙ sym ends) inside)
 
 pub inside_freed : (cube next : List Trit) (position : ℕ) (t : Trit) (before rest : List ℕ) → AreInside (length cube) (reverse before)
     → before ≡ rest ++ position ∷ [] → next ≡ set cube position t → AreInside (length next) (reverse rest)

@@ -112,6 +112,7 @@ fn verdict_on(
 }
 
 /// The netlist that a text means.
+#[tactic(auto, using(crate::proofs::Texts::refused))]
 fn netlist_of<'a>(
     alloc: Global,
     text: &'a [u8],
