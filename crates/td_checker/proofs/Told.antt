@@ -5,7 +5,8 @@ use Rattle.std.specs.List.{AllByRecursion}
 use Rattle.td_netlist.specs.Netlist.{Netlist}
 use Rattle.td_certificate.specs.declared.certificate.Certificate.{Certificate}
 use Rattle.td_certificate.specs.Trees.{IsTree}
-use Rattle.td_certificate.specs.Spelling.{head_lines}
+use Rattle.td_circuit.specs.Run.{IsVector}
+use Rattle.td_certificate.specs.Spelling.{head_lines, HasSpelling}
 use Rattle.td_certificate.specs.Accepts.{Line, lines_of, root_cube, IsGood, IsOfSize, IsReached, Accepts}
 use Rattle.td_certificate.specs.Walks.{lines_from}
 use Rattle.td_certificate.proofs.TreeLaws.{trees_are_counted}
@@ -54,3 +55,16 @@ accepted_told netlist c size reached is_tree good =
       nodes = t.1;
       good = subst (AllByRecursion (IsGood netlist c.time)) lines good;
     }
+
+-- the vectors of a certificate of this circuit are the circuit's
+pub first_fits : (netlist : Netlist) (c : Certificate) → IsOfSize netlist c → HasSpelling c → IsVector netlist c.pair.first
+first_fits netlist c size has = has.first ∙ sym size.inputs
+
+pub second_fits : (netlist : Netlist) (c : Certificate) → IsOfSize netlist c → HasSpelling c → IsVector netlist c.pair.second
+second_fits netlist c size has = has.second ∙ sym size.inputs
+
+pub inputs_fit : (netlist : Netlist) (c : Certificate) → IsOfSize netlist c → length netlist.inputs ≡ c.inputs
+inputs_fit netlist c size = size.inputs
+
+pub is_tree : (c : Certificate) → HasSpelling c → IsTree c.tree
+is_tree c has = has.tree

@@ -89,7 +89,7 @@ fn is_reached(
 }
 
 /// The verdict on a certificate that has a text within the limit.
-#[tactic(auto, using(crate::proofs::Told::bad_told, crate::proofs::Told::accepted_told))]
+#[tactic(auto, using(crate::proofs::Told::bad_told, crate::proofs::Told::accepted_told, crate::proofs::Told::first_fits, crate::proofs::Told::second_fits, crate::proofs::Told::inputs_fit, crate::proofs::Told::is_tree))]
 fn verdict_on(
     alloc: Global,
     circuit: &Circuit,
