@@ -1,0 +1,15 @@
+//! A tree of cubes whose leaves are open, held by a worker, or closed with a bound and a cut. Workers take its leaves one
+//! after another, split or close them, and what they did can be replayed.
+#![tactic(auto)]
+
+mod book;
+mod chain;
+pub mod laws;
+mod lease;
+mod node;
+mod partial;
+
+pub use book::Book;
+pub use lease::{Claim, Lease, SplitFault, Stranger};
+pub use node::{BoundedBy, Mark, Node, State};
+pub use partial::Partial;
