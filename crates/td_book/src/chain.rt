@@ -7,8 +7,7 @@ ghost use Rattle.td_book.specs.declared.node.Node.{Node};
 ghost use Rattle.td_book.specs.declared.node.State.{State};
 ghost use Rattle.td_book.specs.Board.{node, root, is_handled, is_open, cubes_after};
 ghost use Rattle.td_book.specs.Cubes.{free_cube, is_free};
-ghost use Rattle.td_book.specs.Kept.{has_number};
-ghost use Rattle.td_book.specs.Chained.{IsFirstOpen};
+ghost use Rattle.td_book.specs.Chained.{has_number, IsFirstOpen};
 
 use crate::node::{Node, State};
 use std::alloc::{AllocError, Global};
@@ -44,13 +43,13 @@ pub struct Chain {
 
 impl Model for Chain {
     ghost use Rattle.std.specs.Prelude.{length};
-    ghost use Rattle.td_book.specs.Chained.{Tree, IsKept, chain};
+    ghost use Rattle.td_book.specs.Chained.{Tree, HoldsTree, chain};
 
     ghost Value = { Tree };
 
     ghost view = { λ c. record { positions = c.positions; nodes = chain c.slots.items (length c.slots.items) 0 } };
 
-    ghost invariant = { λ c. IsKept c.positions c.slots.items c.origins.items (chain c.slots.items (length c.slots.items) 0) };
+    ghost invariant = { λ c. HoldsTree c.positions c.slots.items c.origins.items (chain c.slots.items (length c.slots.items) 0) };
 }
 
 fn is_free(trit: Trit) -> bool
@@ -121,6 +120,7 @@ impl Chain {
     pub fn state(&self, number: u32) -> Option<State>
         ensures some { IfSome result (λ s. (before : List Node) × (after : List Node) × (self.now.nodes ≡ before ++ node number s ∷ after)) }
         ensures is { (before after : List Node) (s : State) → self.now.nodes ≡ before ++ node number s ∷ after → result ≡ Some s }
+        ensures once { (before after : List Node) (s : State) → self.now.nodes ≡ before ++ node number s ∷ after → has_number number before ≡ false }
     {
         let number = number as usize;
         if number < self.slots.len() {
