@@ -88,6 +88,7 @@ fn cube_of(
 fn shows(chain: &Chain, cube: &mut [Trit], lease: &Lease) -> bool
     requires { length cube.old ≡ chain.now.positions }
     ensures shown { IsTrue result ↔ Shows (board_with chain.now) lease.now }
+    ensures wide { IsTrue result → length lease.now.cube ≡ chain.now.positions }
     ensures once { (before after : List Node) (s : State) → chain.now.nodes ≡ before ++ node lease.now.number s ∷ after → has_number lease.now.number before ≡ false }
     ensures len { length cube.new ≡ chain.now.positions }
 {
@@ -191,9 +192,9 @@ impl Book {
             return Err(SplitFault::Stranger(lease));
         }
         let first = self.chain.len();
-        if self.chain.split(lease.number, position).is_err() {
+        let Ok(()) = self.chain.split(lease.number, position) else {
             return Err(SplitFault::OutOfMemory(lease));
-        }
+        };
         self.order.push_reserved(Node {
             number: lease.number,
             state: State::Split(position),
