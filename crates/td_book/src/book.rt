@@ -8,13 +8,14 @@ ghost use Rattle.td_book.specs.declared.node.State.{State};
 ghost use Rattle.td_book.specs.Board.{node, cubes_after, opening, handled};
 ghost use Rattle.td_book.specs.Cubes.{free_cube};
 ghost use Rattle.td_book.specs.Chained.{has_number, board_with};
-ghost use Rattle.td_book.specs.Kept.{IsKept};
+ghost use Rattle.td_book.specs.Kept.{as_open, IsKept};
 ghost use Rattle.td_book.specs.Claimed.{Claimed, IsSplitFault};
 ghost use Rattle.td_book.specs.Steps.{Shows, Splits, Closes, Releases, IsStranger};
 
-use crate::chain::Chain;
+use crate::chain::{Chain, free_all};
 use crate::lease::{Claim, Lease, SplitFault, Stranger};
 use crate::node::{Mark, Node, State};
+use crate::partial::Partial;
 use std::alloc::{AllocError, Global};
 use std::marker::Model;
 use td_domain::{Cube, Trit};
@@ -233,5 +234,17 @@ impl Book {
         self.chain.set(lease.number, State::Open);
         self.allowed -= u64::from(lease.allowance);
         Ok(())
+    }
+
+    /// The root's cube and the tree, with held leaves as open. Takes no memory.
+    pub fn into_tree(self) -> Partial
+        ensures cube { result.cube ≡ free_cube self.positions }
+        ensures nodes { result.nodes ≡ as_open self.nodes }
+    {
+        let Book {
+            chain, mut cube, ..
+        } = self;
+        free_all(&mut cube);
+        Partial::new(Cube::new(cube), chain)
     }
 }

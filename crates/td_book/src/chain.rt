@@ -8,6 +8,7 @@ ghost use Rattle.td_book.specs.declared.node.State.{State};
 ghost use Rattle.td_book.specs.Board.{node, root, is_handled, is_open, cubes_after};
 ghost use Rattle.td_book.specs.Cubes.{free_cube, is_free};
 ghost use Rattle.td_book.specs.Chained.{has_number, IsFirstOpen};
+ghost use Rattle.td_book.specs.Kept.{unheld, as_open};
 
 use crate::node::{Node, State};
 use std::alloc::{AllocError, Global};
@@ -70,7 +71,17 @@ pub fn is_settled(state: State) -> bool
     matches!(state, State::Split(_) | State::Closed(..))
 }
 
-fn free_all(cube: &mut [Trit])
+fn unheld(state: State) -> State
+    ensures { result ≡ unheld state }
+{
+    match state {
+        State::Held(..) => State::Open,
+        State::Split(_) | State::Open | State::Closed(..) => state,
+    }
+}
+
+/// Frees all positions.
+pub fn free_all(cube: &mut [Trit])
     ensures { cube.new ≡ replicate (length cube.old) Free }
 {
     for trit in cube.iter_mut() {
@@ -198,6 +209,23 @@ impl Chain {
             }
             at = origin.parent as usize;
         }
+    }
+
+    /// The nodes in order, with held leaves as open.
+    pub fn nodes_as_open(&self, alloc: Global) -> Result<Vec<Node>, AllocError>
+        ensures { IfOk result (λ nodes. nodes.items ≡ as_open self.now.nodes) }
+    {
+        let mut nodes = Vec::with_capacity(alloc, self.slots.len())?;
+        let mut at = 0;
+        for _passed in 0..self.slots.len() {
+            let slot = self.slots[at as usize];
+            nodes.push_reserved(Node {
+                number: at,
+                state: unheld(slot.state),
+            });
+            at = slot.next;
+        }
+        Ok(nodes)
     }
 
     /// The first open leaf. What is settled is passed once.

@@ -7,7 +7,9 @@ mod chain;
 pub mod laws;
 mod lease;
 mod node;
+mod partial;
 
 pub use book::Book;
 pub use lease::{Claim, Lease, SplitFault, Stranger};
 pub use node::{BoundedBy, Mark, Node, State};
+pub use partial::Partial;
