@@ -1,6 +1,6 @@
 //! The book of a search: which cubes are still to be handled, who handles which, and what was done.
 
-ghost use Rattle.std.specs.Prelude.{◌≡◌, ℕ, ◌+◌, ◌<◌, ◌≤◌, ◌↔◌, true, false, List, [], ◌∷◌, ◌++◌, length, slice_get, Some, IsTrue, IfOk, OnErr, IfErr, MatchResult};
+ghost use Rattle.std.specs.Prelude.{◌≡◌, ℕ, ◌+◌, ◌<◌, ◌≤◌, ◌^◌, ◌↔◌, true, false, List, [], ◌∷◌, ◌++◌, length, slice_get, Some, IsTrue, IfOk, OnErr, IfErr, MatchResult};
 ghost use Rattle.td_domain.specs.declared.cubes.Trit.{Trit};
 ghost use Rattle.td_domain.specs.declared.cubes.Trit.TheVariants.{Free};
 ghost use Rattle.td_book.specs.declared.node.Node.{Node};
@@ -90,6 +90,7 @@ fn shows(chain: &Chain, cube: &mut [Trit], lease: &Lease) -> bool
     requires { length cube.old ≡ chain.now.positions }
     ensures shown { IsTrue result ↔ Shows (board_with chain.now) lease.now }
     ensures wide { IsTrue result → length lease.now.cube ≡ chain.now.positions }
+    ensures small { IsTrue result → chain.now.positions < 2 ^ 32 }
     ensures once { (before after : List Node) (s : State) → chain.now.nodes ≡ before ++ node lease.now.number s ∷ after → has_number lease.now.number before ≡ false }
     ensures len { length cube.new ≡ chain.now.positions }
 {
@@ -184,7 +185,7 @@ impl Book {
 
     /// Makes two open leaves of a held one, at a position that is free in its cube. Answers their numbers, that of the zero
     /// side first. After a fault the book is as before, and the lease comes back.
-    pub fn split(&mut self, lease: Lease, position: u32) -> Result<(u32, u32), SplitFault>
+    pub fn split(&mut self, lease: Lease, position: usize) -> Result<(u32, u32), SplitFault>
         requires { slice_get lease.cube position ≡ Some Free }
         ensures ok { IfOk result (λ sides. Splits self.old lease position self.new × (sides.0 ≡ length self.old.nodes) × (sides.1 ≡ length self.old.nodes + 1)) }
         ensures err { IfErr result (λ fault. IsSplitFault self.old lease fault self.new) }
@@ -192,6 +193,7 @@ impl Book {
         if !shows(&self.chain, &mut self.cube, &lease) {
             return Err(SplitFault::Stranger(lease));
         }
+        let position = position as u32;
         let first = self.chain.len();
         let Ok(()) = self.chain.split(lease.number, position) else {
             return Err(SplitFault::OutOfMemory(lease));

@@ -198,7 +198,9 @@ impl Chain {
         requires len { length cube.old ≡ self.now.positions }
         ensures cube { (before after : List Node) (s : State) → self.now.nodes ≡ before ++ node number s ∷ after → (rest : List (List Trit)) × (cubes_after (free_cube self.now.positions ∷ []) before ≡ cube.new ∷ rest) }
         ensures len { length cube.new ≡ self.now.positions }
+        ensures small { self.now.positions < 2 ^ 32 }
     {
+        let _positions = self.positions;
         free_all(cube);
         let mut at = number as usize;
         while at > 0 {

@@ -13,3 +13,6 @@ pub use book::Book;
 pub use lease::{Claim, Lease, SplitFault, Stranger};
 pub use node::{BoundedBy, Mark, Node, State};
 pub use partial::Partial;
+
+#[cfg(test)]
+mod tests;
