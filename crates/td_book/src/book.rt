@@ -70,12 +70,7 @@ fn is_held(state: Option<State>, worker: u32, allowance: u32) -> bool
 }
 
 // The cube of a node, by way of `cube`.
-fn cube_of(
-    alloc: Global,
-    chain: &Chain,
-    number: u32,
-    cube: &mut [Trit],
-) -> Result<Cube, AllocError>
+fn cube_of(alloc: Global, chain: &Chain, number: u32, cube: &mut [Trit]) -> Result<Cube, AllocError>
     requires number { has_number number chain.now.nodes ≡ true }
     requires len { length cube.old ≡ chain.now.positions }
     ensures cube { IfOk result (λ c. (before after : List Node) (s : State) → chain.now.nodes ≡ before ++ node number s ∷ after → (rest : List (List Trit)) × (cubes_after (free_cube chain.now.positions ∷ []) before ≡ c ∷ rest)) }
@@ -105,12 +100,7 @@ fn shows(chain: &Chain, cube: &mut [Trit], lease: &Lease) -> bool
 impl Book {
     /// One open root, and nothing handled. The root's cube has so many positions, all free. The budget is how many nodes may
     /// be handled, at most 10,000,000. The error is want of memory.
-    pub fn new(
-        alloc: Global,
-        positions: u32,
-        workers: u32,
-        budget: u64,
-    ) -> Result<Book, AllocError>
+    pub fn new(alloc: Global, positions: u32, workers: u32, budget: u64) -> Result<Book, AllocError>
         requires { budget ≤ 10000000 }
         ensures { IfOk result (λ b. b ≡ opening positions workers budget) }
     {
@@ -244,7 +234,9 @@ impl Book {
         ensures nodes { result.nodes ≡ as_open self.nodes }
     {
         let Book {
-            chain, mut cube, ..
+            chain,
+            mut cube,
+            ..
         } = self;
         free_all(&mut cube);
         Partial::new(Cube::new(cube), chain)

@@ -39,11 +39,10 @@ invariant_of-self-2 c =
     let counted : length c.self.inside.order.items ≡ handled old = book.kept.counted in
     let len : c.len-handled.result ≡ length c.self.inside.order.items = search rules in
     let below = c.if-handled-self-2.false in
-    let room : length c.self.inside.order.items + (c.self.inside.allowed + 1) ≤ vec_capacity c.reserve.new.self = search rules in
-    (
+    let room : length c.self.inside.order.items + (c.self.inside.allowed + 1) ≤ vec_capacity c.reserve.new.self = search rules in (
       moved _ _ _ _ _ _ _ _ positions
-      (book_after _ _ _ _ _ _ _ f.before f.after c.in-Some.number Open f.is book refl (Held c.args.worker 1) c.set.new.self.nodes c.reserve.new.self.items (c.self.inside.allowed + 1) (vec_capacity c.reserve.new.self)
-      is (c.reserve.ensures.items ∙ sym (append_nothing c.self.inside.order.items)) refl refl (λ h. absurd (let q : false ≡ true = h in cc)) (omega arith) (omega arith) (omega arith)),
+          (book_after _ _ _ _ _ _ _ f.before f.after c.in-Some.number Open f.is book refl (Held c.args.worker 1) c.set.new.self.nodes c.reserve.new.self.items (c.self.inside.allowed + 1) (vec_capacity c.reserve.new.self)
+          is (c.reserve.ensures.items ∙ sym (append_nothing c.self.inside.order.items)) refl refl (λ h. absurd (let q : false ≡ true = h in cc)) (omega arith) (omega arith) (omega arith)),
       vec_rewritten c.self.inside.cube c.cube_of.new.cube ∙ (c.self.invariant.1 ∙ sym positions),
     )
 
@@ -62,7 +61,7 @@ returns-clause-ok c =
     let fits : handled old + allowed old + 1 ≤ old.budget = omega arith in
     let read = c.in_ok-cube.ensures.cube f.before f.after Open there in
     let turns : Turns old c.in-Some.number c.in_ok-cube.cube Open (node c.in-Some.number (Held c.args.worker 1) ∷ []) old.order
-        (board_of c.self.inside.chain.positions c.self.inside.workers c.self.inside.budget c.set.new.self.nodes c.reserve.new.self.items) =
+    (board_of c.self.inside.chain.positions c.self.inside.workers c.self.inside.budget c.set.new.self.nodes c.reserve.new.self.items) =
     record {
       place = record {
         before = f.before;
