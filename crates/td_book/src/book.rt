@@ -26,9 +26,12 @@ pub struct Book {
     alloc: Global,
     workers: u32,
     budget: u64,
+    // The allowances that are out.
     allowed: u64,
     chain: Chain,
+    // The nodes that were split or closed, in that order, with room for one of each leaf that is held.
     order: Vec<Node>,
+    // A place to read a node's cube into.
     cube: Vec<Trit>,
 }
 

@@ -192,6 +192,7 @@ fn next(seed: u64) -> u64 {
 
 fn random(seed: u64, below: usize) -> usize
     requires { 0 < below }
+    ensures { result < below }
 {
     (seed >> 33) as usize % below
 }

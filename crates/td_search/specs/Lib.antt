@@ -1,0 +1,2 @@
+pub mod CutShort
+pub mod Representatives
