@@ -1,7 +1,5 @@
-use Rattle.std.proofs.Common.{ℕ, ◌≡◌, ◌+◌, ◌-◌, ◌*◌, ◌<◌, ◌≤◌, List, [], ◌∷◌, ◌++◌, length, arith, refl, sym, ap, subst, ◌∙◌, rules, true, false}
+use Rattle.std.proofs.Common.{ℕ, ◌≡◌, ◌+◌, ◌≤◌, [], ◌∷◌, ◌++◌, length, arith, refl, sym, ap, subst, ◌∙◌, rules, true, false}
 use Rattle.std.specs.Prelude.{vec_capacity}
-use Rattle.td_domain.specs.declared.cubes.Trit.{Trit}
-use Rattle.td_book.specs.declared.node.Node.{Node}
 use Rattle.td_book.specs.declared.node.State.TheVariants.{Open, Held}
 use Rattle.td_book.specs.declared.lease.Claim.{Claim}
 use Rattle.td_book.specs.declared.lease.Claim.TheVariants.{Lease}

@@ -1,11 +1,11 @@
-use Rattle.std.proofs.Common.{ℕ, ◌≡◌, ◌<◌, ◌+◌, List, length, sym, ap, subst, ◌∙◌, arith, rules, refl, ◌++◌, ◌∷◌, [], length-append}
-use Rattle.std.specs.Prelude.{Some, slice_get, vec_capacity}
+use Rattle.std.proofs.Common.{ℕ, ◌≡◌, ◌+◌, List, length, sym, ap, subst, ◌∙◌, arith, ◌++◌, ◌∷◌, [], length-append}
+use Rattle.std.specs.Prelude.{Some, slice_get}
 use Rattle.std.proofs.lemmas.Option.{slice_get-get_or}
 use Rattle.td_book.specs.declared.node.Node.{Node}
 use Rattle.td_book.specs.declared.chain.Slot.{Slot}
 use Rattle.td_book.specs.declared.node.State.{State}
 use Rattle.td_book.specs.Board.{node}
-use Rattle.td_book.specs.Kept.{as_open, unheld}
+use Rattle.td_book.specs.Kept.{unheld}
 use Rattle.td_book.specs.Chained.{Tree, chain}
 use Rattle.td_book.proofs.Reading.{IsReading, reading_starts, reading_low, reading_goes_on, reading_ends}
 use Rattle.td_book.proofs.chain.Chain.nodes_as_open.Goals as goal

@@ -1,4 +1,4 @@
-use Rattle.std.proofs.Common.{◌≡◌, ◌+◌, ◌≤◌, ℕ, length}
+use Rattle.std.proofs.Common.{◌≡◌, length}
 use Rattle.std.specs.Prelude.{vec_capacity}
 use Rattle.td_book.proofs.Reading.{IsReading}
 use Rattle.td_book.proofs.chain.Chain.nodes_as_open.Given as goal
