@@ -10,6 +10,7 @@ use Rattle.td_book.specs.declared.node.State.{State}
 use Rattle.td_book.specs.declared.node.State.TheVariants.{Split, Open, Held, Closed}
 use Rattle.td_book.specs.Cubes.{free_cube, zero_side, one_side}
 use Rattle.td_book.specs.Board.{handled}
+use Rattle.td_book.specs.Coverage.{told_by}
 use Rattle.td_book.specs.Steps.{World, Event, Reply, Splitting, Did, HonestRun, starting}
 use Rattle.td_search.specs.Representatives.{representative}
 
@@ -74,3 +75,8 @@ module _ (IsDelay : Pair → ℕ → Type 0) (IsBoundOf : List Trit → ℕ → 
     pub bounds : List ℕ
     pub near : AllZip IsBoundNear (left_over end) bounds
     pub greatest : high ≡ greatest_of low bounds
+
+-- where nothing was handled, a search is cut short with the delay of a pair and the greater of it and the root's bound
+abbrev pub CutShortAtOnce : Type 0
+CutShortAtOnce = (delay : Pair → ℕ) (bound : List Trit → ℕ) (positions : ℕ) (pair : Pair) → IsIn pair (free_cube positions)
+    → IsCutShort (told_by delay) (λ cube it. bound cube ≡ it) positions pair (delay pair) (max (bound (free_cube positions)) (delay pair)) 0

@@ -1,6 +1,7 @@
 //! The search for the worst delay of a circuit.
 #![tactic(auto)]
 
+pub mod laws;
 mod representatives;
 
 pub use representatives::representative;
