@@ -80,3 +80,10 @@ module _ (IsDelay : Pair → ℕ → Type 0) (IsBoundOf : List Trit → ℕ → 
 abbrev pub CutShortAtOnce : Type 0
 CutShortAtOnce = (delay : Pair → ℕ) (bound : List Trit → ℕ) (positions : ℕ) (pair : Pair) → IsIn pair (free_cube positions)
     → IsCutShort (told_by delay) (λ cube it. bound cube ≡ it) positions pair (delay pair) (max (bound (free_cube positions)) (delay pair)) 0
+
+-- Where no pair of a cube is above the cube's bound, the worst delay lies between the two figures of a search that was cut
+-- short.
+abbrev pub CutShortIsBetween : Type 0
+CutShortIsBetween = (delay : Pair → ℕ) (bound : List Trit → ℕ) → ((cube : List Trit) (pair : Pair) → IsIn pair cube → delay pair ≤ bound cube)
+    → (positions : ℕ) (pair : Pair) (low high count : ℕ) → IsCutShort (told_by delay) (λ cube it. bound cube ≡ it) positions pair low high count
+    → (delay pair ≡ low) × (low ≤ high) × ((other : Pair) → IsIn other (free_cube positions) → delay other ≤ high)
