@@ -209,7 +209,7 @@ module _ (IsDelay : Pair → ℕ → Type 0) (IsBoundOf : List Trit → ℕ → 
             let above = covered.above other delay (subst (λ (n : ℕ). IsIn other (free_cube n)) (sym kept.same) inside) has (omega arith) in
             let root : List Trit = free_cube short.end.board.positions in
             let left = is_left ((root ∷ []) ∷ []) (root ∷ []) short.end.board.nodes above.0
-                ([], refl, (λ p h cube at. one_root root p h cube at), tt) kept.free above.3 above.1 in
+            ([], refl, (λ p h cube at. one_root root p h cube at), tt) kept.free above.3 above.1 in
             let b = bounded low (left_over short.end) short.bounds short.near left.0 left.1 in
             let d = sound b.1.0 b.0 other delay b.1.2 (left.2 other above.2 b.1.0 b.1.1) has in
             let most = b.2 in omega arith),

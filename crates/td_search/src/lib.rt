@@ -5,3 +5,6 @@ pub mod laws;
 mod representatives;
 
 pub use representatives::representative;
+
+#[cfg(test)]
+mod tests;

@@ -1,6 +1,6 @@
 //! The pair that stands for a cube.
 
-ghost use Rattle.std.specs.Prelude.{◌≡◌, ◌*◌, ℕ, length, IfOk};
+ghost use Rattle.std.specs.Prelude.{◌≡◌, ◌%◌, length, IfOk};
 ghost use Rattle.td_domain.specs.Cubes.{IsIn};
 ghost use Rattle.td_search.specs.Representatives.{first_bit, second_bit, representative};
 
@@ -25,7 +25,7 @@ fn bits(first: Trit, second: Trit) -> (bool, bool)
 /// A pair of the cube, which has two positions for each input: known bits stay, a free bit beside a known one is its
 /// complement, and an input with two free bits goes from 0 to 1. The error is want of memory.
 pub fn representative(alloc: Global, cube: &Cube) -> Result<Pair, AllocError>
-    requires { (inputs : ℕ) × (length cube.now ≡ 2 * inputs) }
+    requires { length cube.now % 2 ≡ 0 }
     ensures pair { IfOk result (λ pair. pair ≡ representative cube.now) }
     ensures inside { IfOk result (λ pair. IsIn pair cube.now) }
 {

@@ -1,4 +1,4 @@
-use Rattle.std.proofs.Common.{◌≡◌, ℕ, ◌*◌, ◌+◌, Bool, List, [], ◌∷◌, ◌++◌, drop, length, ◌≤◌, ◌/◌, sym, ap, subst, ◌∙◌, arith}
+use Rattle.std.proofs.Common.{◌≡◌, ℕ, ◌*◌, ◌+◌, Bool, List, [], ◌∷◌, ◌++◌, drop, length, ◌≤◌, ◌/◌, ◌%◌, sym, ap, subst, ◌∙◌, arith}
 use Rattle.td_domain.specs.declared.cubes.Trit.{Trit}
 use Rattle.td_domain.specs.Pairs.{Pair}
 use Rattle.td_domain.specs.Cubes.{IsIn}
@@ -26,11 +26,13 @@ loop-i-preserved c =
 pub returns-clause-inside : goal.returns-clause-inside
 returns-clause-inside c =
     let cube : List Trit = c.args.cube.now in
-    let even = c.requires.1 in
+    let even : length cube % 2 ≡ 0 = c.requires in
+    let inputs : ℕ = length cube / 2 in
+    let whole : length cube ≡ 2 * inputs = omega arith in
     let len = c.len-inputs.ensures in
     let past = c.loop-i-test.false in
     let over : length cube ≤ 2 * c.loop-i.i = omega arith in
     let first = all_done first_bit cube c.loop-i.first.items c.loop-i.i over c.loop-i.invariant.first in
     let second = all_done second_bit cube c.loop-i.second.items c.loop-i.i over c.loop-i.invariant.second in
     let pair : c.new.result ≡ representative cube = c.new.ensures ∙ (λ z. record { first = first z; second = second z }) in
-    subst (λ (p : Pair). IsIn p cube) (sym pair) (is_inside c.requires.0 cube c.requires.1)
+    subst (λ (p : Pair). IsIn p cube) (sym pair) (is_inside inputs cube whole)
