@@ -11,3 +11,6 @@ mod resolve;
 
 pub use building::{BuildFault, build};
 pub use circuit::{Circuit, Gate};
+
+#[cfg(test)]
+mod tests;

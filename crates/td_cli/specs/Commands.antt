@@ -1,5 +1,5 @@
 -- What a command writes, and how it ends.
-use Rattle.std.specs.Prelude.{◌≡◌, ℕ, List, ◌⊎◌}
+use Rattle.std.specs.Prelude.{◌≡◌, ℕ, List, ◌⊎◌, Option}
 use Rattle.td_gates.specs.declared.timing.Delay.{Delay}
 use Rattle.td_gates.specs.Output.{Output, Sent, Failed}
 use Rattle.td_cli.specs.declared.status.Status.{Status}
@@ -8,7 +8,8 @@ use Rattle.td_cli.specs.declared.refusal.Refusal.{Refusal}
 use Rattle.td_cli.specs.declared.refusal.Refusal.TheVariants as refusal
 use Rattle.td_cli.specs.Reports.{IsSimReport}
 use Rattle.td_cli.specs.Refusals.{refusal_text}
-use Rattle.td_cli.specs.Outcomes.{HasNoReport}
+use Rattle.td_cli.specs.BoundReports.{IsBoundReport}
+use Rattle.td_cli.specs.Outcomes.{HasNoReport, HasNoBounds}
 
 -- how the program ends after a refusal
 abbrev pub status_of : Refusal → Status
@@ -27,29 +28,37 @@ IsTold reason status old new =
     (Tells old new (refusal_text reason) × (status ≡ status_of reason))
     ⊎ (Tells old new (refusal_text refusal.OutOfMemory) × (status ≡ Device))
 
--- the report of the run went out, and nothing was told
-pub record Reports (text : List ℕ) (default : Delay) (from to : List ℕ) (out_old out_new err_old err_new : Output) : Type 0 where
+-- a report that is one went out, and nothing was told
+pub record Reports (IsReport : List ℕ → Type 0) (out_old out_new err_old err_new : Output) : Type 0 where
   pub report : List ℕ
-  pub is : IsSimReport text default from to report
+  pub is : IsReport report
   pub sent : Sent out_old out_new report
   pub silent : err_new ≡ err_old
 
--- nothing went out, and it was told why, for a reason that ends the program so
-pub record Refuses (status : Status) (text : List ℕ) (default : Delay) (from to : List ℕ) (out_old out_new err_old err_new : Output) : Type 0 where
+-- nothing went out, and it was told why, for a reason that holds and ends the program so
+pub record Refuses (Holds : Refusal → Type 0) (status : Status) (out_old out_new err_old err_new : Output) : Type 0 where
   pub reason : Refusal
-  pub why : HasNoReport text default from to reason
+  pub why : Holds reason
   pub ends : status_of reason ≡ status
   pub told : Tells err_old err_new (refusal_text reason)
   pub nothing : out_new ≡ out_old
 
--- a device failed or memory ran out: no more than a beginning of the report went out
-abbrev pub Breaks : List ℕ → Delay → List ℕ → List ℕ → Output → Output → Type 0
-Breaks text default from to out_old out_new =
-    (out_new ≡ out_old) ⊎ ((report : List ℕ) × IsSimReport text default from to report × Failed out_old out_new report)
+-- a device failed or memory ran out: no more than a beginning of a report went out
+abbrev pub Breaks : (List ℕ → Type 0) → Output → Output → Type 0
+Breaks IsReport out_old out_new =
+    (out_new ≡ out_old) ⊎ ((report : List ℕ) × IsReport report × Failed out_old out_new report)
 
--- what `sim` wrote, by how it ended
+-- what a command wrote, by how it ended: what is a report of it, and which reasons hold for not having one
+abbrev pub Ends : (List ℕ → Type 0) → (Refusal → Type 0) → Status → Output → Output → Output → Output → Type 0
+Ends IsReport Holds Done out_old out_new err_old err_new = Reports IsReport out_old out_new err_old err_new
+Ends IsReport Holds Refused out_old out_new err_old err_new = Refuses Holds Refused out_old out_new err_old err_new
+Ends IsReport Holds BadCommand out_old out_new err_old err_new = Refuses Holds BadCommand out_old out_new err_old err_new
+Ends IsReport Holds Device out_old out_new err_old err_new = Breaks IsReport out_old out_new
+
+-- what `sim` wrote
 abbrev pub SimEnds : Status → List ℕ → Delay → List ℕ → List ℕ → Output → Output → Output → Output → Type 0
-SimEnds Done text default from to out_old out_new err_old err_new = Reports text default from to out_old out_new err_old err_new
-SimEnds Refused text default from to out_old out_new err_old err_new = Refuses Refused text default from to out_old out_new err_old err_new
-SimEnds BadCommand text default from to out_old out_new err_old err_new = Refuses BadCommand text default from to out_old out_new err_old err_new
-SimEnds Device text default from to out_old out_new err_old err_new = Breaks text default from to out_old out_new
+SimEnds status text default from to = Ends (IsSimReport text default from to) (HasNoReport text default from to) status
+
+-- what `bound` wrote
+abbrev pub BoundEnds : Status → List ℕ → Delay → Option (List ℕ) → Option (List ℕ) → Output → Output → Output → Output → Type 0
+BoundEnds status text default first second = Ends (IsBoundReport text default first second) (HasNoBounds text default first second) status

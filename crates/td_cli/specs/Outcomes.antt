@@ -1,5 +1,5 @@
 -- When a command is refused, and why.
-use Rattle.std.specs.Prelude.{◌≡◌, ◌≢◌, ℕ, List, length, ◌⊎◌}
+use Rattle.std.specs.Prelude.{◌≡◌, ◌≢◌, ℕ, List, length, ◌⊎◌, Option}
 use Rattle.td_gates.specs.declared.primitives.Level.{Level}
 use Rattle.td_gates.specs.declared.timing.Delay.{Delay}
 use Rattle.td_netlist.specs.declared.fault.Fault.{Fault}
@@ -14,7 +14,8 @@ use Rattle.td_circuit.specs.Numbering.{Numbered}
 use Rattle.td_cli.specs.declared.refusal.VectorWord.TheVariants as vector
 use Rattle.td_cli.specs.declared.refusal.Refusal.{Refusal}
 use Rattle.td_cli.specs.declared.refusal.Refusal.TheVariants as refusal
-use Rattle.td_cli.specs.Reports.{SpellsVector}
+use Rattle.td_domain.specs.declared.cubes.Trit.{Trit}
+use Rattle.td_cli.specs.Vectors.{level_character, SpellsVector, AreTrits}
 
 -- the refusal tells this fault of a circuit
 abbrev pub IsOfLoop : BuildFault → Refusal → Type 0
@@ -33,7 +34,7 @@ pub record IsCircuitOf (text : List ℕ) (default : Delay) (circuit : Numbered) 
 -- the word is a vector of so many inputs
 pub record IsVector (count : ℕ) (word : List ℕ) : Type 0 where
   pub levels : List Level
-  pub spells : SpellsVector count word levels
+  pub spells : SpellsVector level_character count word levels
 
 -- the text means a netlist without a loop, for whose inputs the first word is no vector
 pub record HasBadFrom (text : List ℕ) (default : Delay) (from : List ℕ) : Type 0 where
@@ -64,3 +65,35 @@ HasNoReport text default from to (refusal.Netlist fault) = (netlist : Netlist) �
 HasNoReport text default from to (refusal.Loop name) = (netlist : Netlist) × Means text default netlist × LiesOnLoop netlist (name_of name)
 HasNoReport text default from to (refusal.BadVector vector.From) = HasBadFrom text default from
 HasNoReport text default from to (refusal.BadVector vector.To) = HasBadTo text default from to
+HasNoReport text default from to (refusal.BadVector vector.First) = ⊥
+HasNoReport text default from to (refusal.BadVector vector.Second) = ⊥
+
+-- the option gives trits for so many inputs
+pub record GivesTrits (count : ℕ) (word : Option (List ℕ)) : Type 0 where
+  pub trits : List Trit
+  pub are : AreTrits count word trits
+
+-- the text means a netlist without a loop, for whose inputs the first option gives no trits
+pub record HasBadFirst (text : List ℕ) (default : Delay) (first : Option (List ℕ)) : Type 0 where
+  pub netlist : Netlist
+  pub means : Means text default netlist
+  pub acyclic : ¬ Loop netlist
+  pub no_trits : ¬ GivesTrits (length netlist.inputs) first
+
+-- the same of the second option, where the first gives trits
+pub record HasBadSecond (text : List ℕ) (default : Delay) (first second : Option (List ℕ)) : Type 0 where
+  pub netlist : Netlist
+  pub means : Means text default netlist
+  pub acyclic : ¬ Loop netlist
+  pub first_gives : GivesTrits (length netlist.inputs) first
+  pub no_trits : ¬ GivesTrits (length netlist.inputs) second
+
+-- what holds where this is why `bound` has no report, judged in the same order
+abbrev pub HasNoBounds : List ℕ → Delay → Option (List ℕ) → Option (List ℕ) → Refusal → Type 0
+HasNoBounds text default first second refusal.OutOfMemory = Unit {0}
+HasNoBounds text default first second (refusal.Netlist fault) = (netlist : Netlist) → ¬ Means text default netlist
+HasNoBounds text default first second (refusal.Loop name) = (netlist : Netlist) × Means text default netlist × LiesOnLoop netlist (name_of name)
+HasNoBounds text default first second (refusal.BadVector vector.First) = HasBadFirst text default first
+HasNoBounds text default first second (refusal.BadVector vector.Second) = HasBadSecond text default first second
+HasNoBounds text default first second (refusal.BadVector vector.From) = ⊥
+HasNoBounds text default first second (refusal.BadVector vector.To) = ⊥

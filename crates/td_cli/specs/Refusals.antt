@@ -14,6 +14,8 @@ use Rattle.td_cli.specs.Reports.{newline}
 abbrev pub vector_word : VectorWord → List ℕ
 vector_word vector.From = codes "FROM"
 vector_word vector.To = codes "TO"
+vector_word vector.First = codes "first"
+vector_word vector.Second = codes "second"
 
 -- the number and the name of a fault of a netlist's text
 abbrev pub number_and_name : FaultKind → List ℕ

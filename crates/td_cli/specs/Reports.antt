@@ -2,7 +2,6 @@
 use Rattle.std.specs.Prelude.{◌≡◌, ℕ, List, [], ◌∷◌, ◌++◌, length, map, codes, decimal, Option, Some, None}
 use Rattle.std.specs.List.{flat_map}
 use Rattle.td_gates.specs.declared.primitives.Level.{Level}
-use Rattle.td_gates.specs.declared.primitives.Level.TheVariants.{Zero, One, X}
 use Rattle.td_gates.specs.declared.timing.Delay.{Delay}
 use Rattle.td_gates.specs.Wave.{Wave, last}
 use Rattle.td_netlist.specs.declared.netlist.Unit.{Unit as Step}
@@ -13,6 +12,7 @@ use Rattle.td_netlist.specs.Printed.{printed}
 use Rattle.td_netlist.specs.Means.{Means}
 use Rattle.td_circuit.specs.Loops.{Loop}
 use Rattle.td_circuit.specs.Run.{Runs, latest_change}
+use Rattle.td_cli.specs.Vectors.{level_character, SpellsVector}
 
 abbrev pub newline : List ℕ
 newline = 10 ∷ []
@@ -58,25 +58,6 @@ sim_text netlist waves =
     ++ output_lines netlist waves
     ++ time_line (latest_change (map (λ name. waves (Named name)) netlist.outputs))
 
--- ---- vectors
-
-abbrev pub level_char : Level → ℕ
-level_char Zero = 48
-level_char One = 49
-level_char X = 120
-
--- one character for each level, the word `none` where there are none
-abbrev pub vector_text : List Level → List ℕ
-vector_text [] = codes "none"
-vector_text (level ∷ levels) = map level_char (level ∷ levels)
-
--- the word spells a vector of so many levels
-pub record SpellsVector (count : ℕ) (word : List ℕ) (levels : List Level) : Type 0 where
-  pub fits : length levels ≡ count
-  pub spells : word ≡ vector_text levels
-
--- ---- the whole
-
 -- The text means a netlist without a loop, the two words are vectors of its inputs, and the report is that of their run.
 pub record IsSimReport (text : List ℕ) (default : Delay) (from to report : List ℕ) : Type 0 where
   pub netlist : Netlist
@@ -84,8 +65,8 @@ pub record IsSimReport (text : List ℕ) (default : Delay) (from to report : Lis
   pub acyclic : ¬ Loop netlist
   pub first : List Level
   pub second : List Level
-  pub from_is : SpellsVector (length netlist.inputs) from first
-  pub to_is : SpellsVector (length netlist.inputs) to second
+  pub from_is : SpellsVector level_character (length netlist.inputs) from first
+  pub to_is : SpellsVector level_character (length netlist.inputs) to second
   pub waves : Net → Wave
   pub runs : Runs netlist first second waves
   pub is : report ≡ sim_text netlist waves

@@ -14,10 +14,21 @@ pub struct SimRequest<'a> {
     pub fall: u32,
 }
 
+/// The bounds of a cube of pairs.
+#[derive(Clone, Copy, Debug)]
+pub struct BoundRequest<'a> {
+    pub file: &'a str,
+    pub first: Option<&'a str>,
+    pub second: Option<&'a str>,
+    pub rise: u32,
+    pub fall: u32,
+}
+
 /// What the words of a command line ask for.
 #[derive(Clone, Copy, Debug)]
 pub enum Request<'a> {
     Sim(SimRequest<'a>),
+    Bound(BoundRequest<'a>),
 }
 
 fn file<'a>(alloc: Global) -> Arg<'a> {
@@ -58,11 +69,31 @@ fn sim_command<'a>(alloc: Global) -> Result<Command<'a>, Error> {
     with_default(alloc, command)
 }
 
+fn bound_command<'a>(alloc: Global) -> Result<Command<'a>, Error> {
+    let first = Arg::new(alloc, "first")
+        .long("first")
+        .value_name("TRITS")
+        .help(
+            "The first vector: 0, 1 or . (free) for each input in order; all free where left out",
+        );
+    let second = Arg::new(alloc, "second")
+        .long("second")
+        .value_name("TRITS")
+        .help("The second vector, applied at moment 0");
+    let command = Command::new(alloc, "bound")
+        .about("Bounds the delay of all pairs of vectors that two patterns allow")
+        .arg(file(alloc))?
+        .arg(first)?
+        .arg(second)?;
+    with_default(alloc, command)
+}
+
 fn command<'a>(alloc: Global) -> Result<Command<'a>, Error> {
     let command = Command::new(alloc, "tdelay")
         .about("Worst transition delay of a netlist of Verilog gate primitives")
         .subcommand_required(true)
-        .subcommand(sim_command(alloc)?)?;
+        .subcommand(sim_command(alloc)?)?
+        .subcommand(bound_command(alloc)?)?;
     Ok(command)
 }
 
@@ -76,6 +107,13 @@ fn request_of<'a>(matches: &ArgMatches<'a>) -> Option<Request<'a>> {
             file,
             from: matches.get_str("FROM")?,
             to: matches.get_str("TO")?,
+            rise,
+            fall,
+        })),
+        "bound" => Some(Request::Bound(BoundRequest {
+            file,
+            first: matches.get_str("first"),
+            second: matches.get_str("second"),
             rise,
             fall,
         })),

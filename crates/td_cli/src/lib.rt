@@ -1,6 +1,7 @@
 //! The program `tdelay` as a function of its words, files and writers.
 #![tactic(auto)]
 
+mod bounding;
 mod command;
 mod files;
 mod memory_files;
@@ -13,13 +14,15 @@ mod text;
 mod vector;
 mod writer;
 
+pub use bounding::bounds;
 pub use files::{Files, ReadFault, RealFiles};
 pub use memory_files::MemoryFiles;
-pub use program::{carry_out_sim, run, run_plain};
+pub use program::{carry_out_bound, carry_out_sim, run, run_plain};
 pub use refusal::Refusal;
 pub use simulate::sim;
 pub use status::Status;
 pub use text::Text;
+pub use vector::Symbol;
 pub use writer::WriterSink;
 
 #[cfg(test)]

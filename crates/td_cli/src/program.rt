@@ -1,9 +1,11 @@
 //! The program.
 
 ghost use Rattle.std.specs.Prelude.{◌≡◌};
-ghost use Rattle.td_cli.specs.Commands.{Tells, IsTold, SimEnds};
+ghost use Rattle.std.specs.Option.{option_map};
+ghost use Rattle.td_cli.specs.Commands.{Tells, IsTold, SimEnds, BoundEnds};
 
-use crate::command::{Request, SimRequest, parse};
+use crate::bounding::bounds;
+use crate::command::{BoundRequest, Request, SimRequest, parse};
 use crate::files::{Files, ReadFault};
 use crate::refusal::Refusal;
 use crate::simulate::sim;
@@ -39,6 +41,7 @@ pub fn run_plain<S: AsStr, F: Files, O: Sink, E: Sink>(
 ) -> Option<Status> {
     match parse(alloc, words) {
         Ok(Some(Request::Sim(request))) => Some(run_sim(alloc, files, request, out, err)),
+        Ok(Some(Request::Bound(request))) => Some(run_bound(alloc, files, request, out, err)),
         Ok(None) => None,
         Err(error) => Some(tell_error(alloc, error, out, err)),
     }
@@ -52,21 +55,58 @@ fn run_sim<F: Files, O: Sink, E: Sink>(
     out: &mut O,
     err: &mut E,
 ) -> Status {
-    let text = match files.read(alloc, request.file) {
+    let text = match read(alloc, files, request.file, err) {
         Ok(text) => text,
-        Err(ReadFault::OutOfMemory) => return tell(err, b"tdelay: out of memory\n", Status::Device),
-        Err(ReadFault::Device) => return tell_name(
-            alloc,
-            err,
-            b"tdelay: cannot read ",
-            request.file,
-        ),
+        Err(status) => return status,
     };
     // The command line lets no other delays through.
     let Some(default) = Delay::new(request.rise, request.fall) else {
         return Status::BadCommand;
     };
     carry_out_sim(alloc, &text, default, request.from, request.to, out, err)
+}
+
+/// The command `bound`.
+fn run_bound<F: Files, O: Sink, E: Sink>(
+    alloc: Global,
+    files: &mut F,
+    request: BoundRequest<'_>,
+    out: &mut O,
+    err: &mut E,
+) -> Status {
+    let text = match read(alloc, files, request.file, err) {
+        Ok(text) => text,
+        Err(status) => return status,
+    };
+    // The command line lets no other delays through.
+    let Some(default) = Delay::new(request.rise, request.fall) else {
+        return Status::BadCommand;
+    };
+    carry_out_bound(
+        alloc,
+        &text,
+        default,
+        request.first,
+        request.second,
+        out,
+        err,
+    )
+}
+
+/// The bytes of a file, or how the program ends where it can't be read, which is told.
+fn read<F: Files, E: Sink>(
+    alloc: Global,
+    files: &mut F,
+    file: &str,
+    err: &mut E,
+) -> Result<Vec<u8>, Status> {
+    match files.read(alloc, file) {
+        Ok(text) => Ok(text),
+        Err(ReadFault::OutOfMemory) => {
+            Err(tell(err, b"tdelay: out of memory\n", Status::Device))
+        }
+        Err(ReadFault::Device) => Err(tell_name(alloc, err, b"tdelay: cannot read ", file)),
+    }
 }
 
 /// Carries out `sim` on bytes that were read: the report goes to `out`, why there is none to `err`.
@@ -83,6 +123,28 @@ pub fn carry_out_sim<O: Sink, E: Sink>(
         (O.output out.old) (O.output out.new) (E.output err.old) (E.output err.new) }
 {
     match sim(alloc, text, default, from, to) {
+        Ok(report) => match out.write_all(report.bytes()) {
+            Ok(()) => Status::Done,
+            Err(_) => tell(err, b"tdelay: cannot write stdout\n", Status::Device),
+        },
+        Err(refusal) => tell_refusal(alloc, err, &refusal),
+    }
+}
+
+/// Carries out `bound` on bytes that were read: the report goes to `out`, why there is none to `err`.
+pub fn carry_out_bound<O: Sink, E: Sink>(
+    alloc: Global,
+    text: &[u8],
+    default: Delay,
+    first: Option<&str>,
+    second: Option<&str>,
+    out: &mut O,
+    err: &mut E,
+) -> Status
+    ensures { BoundEnds result text.now default (option_map (λ word. word.now) first.entry) (option_map (λ word. word.now) second.entry)
+        (O.output out.old) (O.output out.new) (E.output err.old) (E.output err.new) }
+{
+    match bounds(alloc, text, default, first, second) {
         Ok(report) => match out.write_all(report.bytes()) {
             Ok(()) => Status::Done,
             Err(_) => tell(err, b"tdelay: cannot write stdout\n", Status::Device),

@@ -16,6 +16,8 @@ use td_netlist::{Fault, FaultKind};
 pub enum VectorWord {
     From,
     To,
+    First,
+    Second,
 }
 
 /// Why a command was not carried out.
@@ -85,6 +87,8 @@ impl VectorWord {
         match self {
             VectorWord::From => b"FROM",
             VectorWord::To => b"TO",
+            VectorWord::First => b"first",
+            VectorWord::Second => b"second",
         }
     }
 }

@@ -3,6 +3,7 @@
 ghost use Rattle.std.specs.Prelude.{◌≡◌, ◌++◌, OnOk};
 ghost use Rattle.td_netlist.specs.Views.{name_of};
 ghost use Rattle.td_cli.specs.Reports.{scale_text, unit_line, defaulted_line, moment_text, last_line, time_line};
+ghost use Rattle.td_cli.specs.BoundReports.{bound_text, bound_line};
 
 use crate::text::Text;
 use std::alloc::AllocError;
@@ -67,5 +68,24 @@ pub fn time(text: &mut Text, time: u64) -> Result<(), AllocError>
 {
     text.push(b"time ")?;
     text.number(time)?;
+    text.push(b"\n")
+}
+
+fn bound_moment(text: &mut Text, bound: Option<u64>) -> Result<(), AllocError>
+    ensures { OnOk result (text.new ≡ text.old ++ bound_text bound) }
+{
+    match bound {
+        Some(moment) => text.number(moment),
+        None => text.push(b"none"),
+    }
+}
+
+/// The line that tells a domain's bound. The letter is the domain's.
+pub fn bound(text: &mut Text, letter: &[u8], bound: Option<u64>) -> Result<(), AllocError>
+    ensures { OnOk result (text.new ≡ text.old ++ bound_line letter.now bound) }
+{
+    text.push(letter)?;
+    text.push(b" ")?;
+    bound_moment(text, bound)?;
     text.push(b"\n")
 }

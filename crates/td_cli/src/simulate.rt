@@ -14,7 +14,7 @@ use crate::text::Text;
 use crate::vector::vector;
 use std::alloc::{AllocError, Global};
 use td_circuit::{BuildFault, Circuit, build};
-use td_gates::Delay;
+use td_gates::{Delay, Level};
 use td_netlist::{Fault, FaultKind, read};
 use td_run::{Run, waves};
 
@@ -33,10 +33,10 @@ pub fn sim<'a>(
         HasNoReport text.now default from.now to.now refusal) }
 {
     let circuit = circuit(alloc, text, default)?;
-    let Some(first) = vector(alloc, from, circuit.inputs())? else {
+    let Some(first) = vector::<Level>(alloc, from, circuit.inputs())? else {
         return Err(Refusal::BadVector(VectorWord::From));
     };
-    let Some(second) = vector(alloc, to, circuit.inputs())? else {
+    let Some(second) = vector::<Level>(alloc, to, circuit.inputs())? else {
         return Err(Refusal::BadVector(VectorWord::To));
     };
     let run = waves(alloc, &circuit, &first, &second)?;

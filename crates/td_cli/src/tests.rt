@@ -49,7 +49,36 @@ const NO_INPUT: &[u8] = b"module t;\nendmodule\n";
 
 const ATTRIBUTED: &[u8] = b"module t(a);\n(* x *) input a;\nendmodule\n";
 
-const FILES: [(&str, &[u8]); 8] = [
+/// A pulse of one moment, through an `and` of delay 2 and of delay 1, and a late falling edge.
+const LOST: &[u8] =
+    b"module t(a, y);\ninput a;\noutput y;\nnot #1 n(b,a); and #2 g(y,a,b);\nendmodule\n";
+
+const LATE: &[u8] =
+    b"module t(a, y);\ninput a;\noutput y;\nnot #1 n(b,a); and #(1,3) g(y,a,b);\nendmodule\n";
+
+const RECONVERGENT: &[u8] =
+    b"module t(a, b, y);\ninput a, b;\noutput y;\nbuf #1 p1(p,b); buf #1 p2(q,b); xor #3 g(y,a,p,q);\nendmodule\n";
+
+const HIDDEN: &[u8] =
+    b"module t(a, c, y);\ninput a, c;\noutput y;\nbuf #1 g1(d,a); or #1 g2(m,c,d); not #3 g3(k,a); and #2 g4(y,m,k);\nendmodule\n";
+
+const SLOW_ARM: &[u8] =
+    b"module t(a, b, y);\ninput a, b;\noutput y;\nbuf #4 s(t,a); or #1 g(y,b,t);\nendmodule\n";
+
+const C17: &[u8] = b"module c17 (N1,N2,N3,N6,N7,N22,N23);
+input N1,N2,N3,N6,N7;
+output N22,N23;
+wire N10,N11,N16,N19;
+nand NAND2_1 (N10, N1, N3);
+nand NAND2_2 (N11, N3, N6);
+nand NAND2_3 (N16, N2, N11);
+nand NAND2_4 (N19, N11, N7);
+nand NAND2_5 (N22, N10, N16);
+nand NAND2_6 (N23, N16, N19);
+endmodule
+";
+
+const FILES: [(&str, &[u8]); 14] = [
     ("inverter.v", INVERTER),
     ("nor.v", NOR),
     ("parted.v", PARTED),
@@ -58,12 +87,24 @@ const FILES: [(&str, &[u8]); 8] = [
     ("both.v", BOTH),
     ("none.v", NO_INPUT),
     ("attribute.v", ATTRIBUTED),
+    ("lost.v", LOST),
+    ("late.v", LATE),
+    ("reconvergent.v", RECONVERGENT),
+    ("hidden.v", HIDDEN),
+    ("slow.v", SLOW_ARM),
+    ("c17.v", C17),
 ];
 
 /// Each command line, what it writes to standard output, and to standard error, and its exit status.
 #[test]
 fn printed_runs(rt: HostRuntime) -> Result<(), Fail> {
-    let cases: [([&str; 5], &[u8], &[u8], u8); 17] = [
+    let cases: [([&str; 5], &[u8], &[u8], u8); 24] = [
+        (
+            ["tdelay", "sim", "c17.v", "01010", "01110"],
+            b"unit 1 ns\ndefaulted 6\nlast N22 3\nlast N23 3\ntime 3\n",
+            b"",
+            0,
+        ),
         (
             ["tdelay", "sim", "inverter.v", "0", "1"],
             b"unit 1 ns\ndefaulted 0\nlast y 3\ntime 3\n",
@@ -98,6 +139,46 @@ fn printed_runs(rt: HostRuntime) -> Result<(), Fail> {
         (
             ["tdelay", "sim", "parted.v", "0", "1"],
             b"unit 1 ns\ndefaulted 0\nlast y 2\ntime 2\n",
+            b"",
+            0,
+        ),
+        // a pulse shorter than the delay is lost
+        (
+            ["tdelay", "sim", "lost.v", "0", "1"],
+            b"unit 1 ns\ndefaulted 0\nlast y never\ntime 0\n",
+            b"",
+            0,
+        ),
+        // up at 1 and down at 4
+        (
+            ["tdelay", "sim", "late.v", "0", "1"],
+            b"unit 1 ns\ndefaulted 0\nlast y 4\ntime 4\n",
+            b"",
+            0,
+        ),
+        // two inputs of a gate change together
+        (
+            ["tdelay", "sim", "reconvergent.v", "00", "11"],
+            b"unit 1 ns\ndefaulted 0\nlast y 3\ntime 3\n",
+            b"",
+            0,
+        ),
+        // a pulse that an unknown input hides
+        (
+            ["tdelay", "sim", "hidden.v", "00", "1x"],
+            b"unit 1 ns\ndefaulted 0\nlast y never\ntime 0\n",
+            b"",
+            0,
+        ),
+        (
+            ["tdelay", "sim", "hidden.v", "00", "11"],
+            b"unit 1 ns\ndefaulted 0\nlast y 5\ntime 5\n",
+            b"",
+            0,
+        ),
+        (
+            ["tdelay", "sim", "hidden.v", "00", "10"],
+            b"unit 1 ns\ndefaulted 0\nlast y never\ntime 0\n",
             b"",
             0,
         ),
@@ -214,41 +295,105 @@ fn default_delays(rt: HostRuntime) -> Result<(), Fail> {
     Ok(())
 }
 
-/// Command lines that are refused: nothing goes to standard output, and the status is 2.
+/// Command lines that are refused: it is told why, nothing goes to standard output, and the status is 2.
 #[test]
 fn bad_command_lines(rt: HostRuntime) -> Result<(), Fail> {
-    let cases: [[&str; 5]; 4] = [
-        ["tdelay", "simulate", "nor.v", "0", "1"],
-        ["tdelay", "sim", "nor.v", "0", "--default-rise=0"],
-        ["tdelay", "sim", "nor.v", "0", "--default-fall=1000000001"],
-        ["tdelay", "sim", "nor.v", "0", "--default-rise=x"],
+    let cases: [([&str; 5], &[u8]); 5] = [
+        (
+            ["tdelay", "simulate", "nor.v", "0", "1"],
+            b"error: unrecognized subcommand 'simulate'
+
+  tip: a similar subcommand exists: 'sim'
+
+Usage: tdelay <COMMAND>
+
+For more information, try '--help'.
+",
+        ),
+        (
+            ["tdelay", "sim", "nor.v", "0", "--default-rise=0"],
+            b"error: invalid value '0' for '--default-rise <N>': 0 is not in 1..=1000000000
+
+For more information, try '--help'.
+",
+        ),
+        (
+            ["tdelay", "sim", "nor.v", "0", "--default-fall=1000000001"],
+            b"error: invalid value '1000000001' for '--default-fall <N>': 1000000001 is not in 1..=1000000000
+
+For more information, try '--help'.
+",
+        ),
+        (
+            ["tdelay", "sim", "nor.v", "0", "--default-rise=x"],
+            b"error: invalid value 'x' for '--default-rise <N>': invalid digit found in string
+
+For more information, try '--help'.
+",
+        ),
+        (
+            ["tdelay", "sim", "nor.v", "0", "--default-rise=1"],
+            b"error: the following required arguments were not provided:
+  <TO>
+
+Usage: tdelay sim --default-rise <N> <FILE> <FROM> <TO>
+
+For more information, try '--help'.
+",
+        ),
     ];
-    for words in &cases {
+    for (words, err) in &cases {
         let ended = carried_out(&rt, words, MemoryFiles::new(&FILES), ROOM)?;
         assert_eq!(rt; ended.out.bytes(), b"".as_slice());
-        assert!(rt; !ended.err.bytes().is_empty());
+        assert_eq!(rt; ended.err.bytes(), *err);
         assert_eq!(rt; ended.status, 2);
     }
     Ok(())
 }
 
+const HELP: &[u8] = b"Worst transition delay of a netlist of Verilog gate primitives
+
+Usage: tdelay <COMMAND>
+
+Commands:
+  sim    Simulates one pair of vectors: when each output changes last
+  bound  Bounds the delay of all pairs of vectors that two patterns allow
+  help   Print this message or the help of the given subcommand(s)
+
+Options:
+  -h, --help  Print help
+";
+
+const SIM_HELP: &[u8] = b"Simulates one pair of vectors: when each output changes last
+
+Usage: tdelay sim [OPTIONS] <FILE> <FROM> <TO>
+
+Arguments:
+  <FILE>  The netlist, a path, or `stdin` for standard input
+  <FROM>  The first vector: 0, 1 or x for each input in order, or `none`
+  <TO>    The second vector, applied at moment 0
+
+Options:
+      --default-rise <N>  Rise delay in steps of gates without a delay [default: 1]
+      --default-fall <N>  Fall delay in steps of gates without a delay [default: 1]
+  -h, --help              Print help
+";
+
 /// Help goes to standard output, with status 0.
 #[test]
 fn help(rt: HostRuntime) -> Result<(), Fail> {
-    let ended = carried_out(
+    let whole = carried_out(&rt, &["tdelay", "--help"], MemoryFiles::new(&FILES), ROOM)?;
+    assert_eq!(rt; whole.out.bytes(), HELP);
+    assert_eq!(rt; whole.err.bytes(), b"".as_slice());
+    assert_eq!(rt; whole.status, 0);
+    let sim = carried_out(
         &rt,
         &["tdelay", "sim", "--help"],
         MemoryFiles::new(&FILES),
         ROOM,
     )?;
-    assert!(rt;
-        ended
-            .out
-            .bytes()
-            .starts_with(b"Simulates one pair of vectors")
-    );
-    assert_eq!(rt; ended.err.bytes(), b"".as_slice());
-    assert_eq!(rt; ended.status, 0);
+    assert_eq!(rt; sim.out.bytes(), SIM_HELP);
+    assert_eq!(rt; sim.status, 0);
     Ok(())
 }
 
@@ -281,5 +426,109 @@ fn failing_reader(rt: HostRuntime) -> Result<(), Fail> {
         b"tdelay: cannot read inverter.v\n".as_slice()
     );
     assert_eq!(rt; ended.status, 5);
+    Ok(())
+}
+
+/// All pairs, and cubes by two options.
+#[test]
+fn bounds_of_cubes(rt: HostRuntime) -> Result<(), Fail> {
+    let free: [(&str, &[u8]); 4] = [
+        ("inverter.v", b"unit 1 ns\ndefaulted 0\na 3\nt none\nm 3\n"),
+        ("nor.v", b"unit 1 ns\ndefaulted 1\na 1\nt none\nm 1\n"),
+        (
+            "reconvergent.v",
+            b"unit 1 ns\ndefaulted 0\na 4\nt none\nm 4\n",
+        ),
+        ("none.v", b"unit 1 ns\ndefaulted 0\na 0\nt 0\nm 0\n"),
+    ];
+    for (file, out) in &free {
+        let words = ["tdelay", "bound", *file];
+        let ended = carried_out(&rt, &words, MemoryFiles::new(&FILES), ROOM)?;
+        assert_eq!(rt; ended.out.bytes(), *out);
+        assert_eq!(rt; ended.err.bytes(), b"".as_slice());
+        assert_eq!(rt; ended.status, 0);
+    }
+    let cubes: [(&str, &str, &str, &[u8]); 6] = [
+        (
+            "hidden.v",
+            "00",
+            "1.",
+            b"unit 1 ns\ndefaulted 0\na 5\nt 5\nm 5\n",
+        ),
+        (
+            "lost.v",
+            "0",
+            "1",
+            b"unit 1 ns\ndefaulted 0\na 0\nt 0\nm 0\n",
+        ),
+        (
+            "late.v",
+            "0",
+            "1",
+            b"unit 1 ns\ndefaulted 0\na 4\nt 4\nm 4\n",
+        ),
+        (
+            "reconvergent.v",
+            "00",
+            "11",
+            b"unit 1 ns\ndefaulted 0\na 4\nt 3\nm 3\n",
+        ),
+        (
+            "slow.v",
+            ".1",
+            ".1",
+            b"unit 1 ns\ndefaulted 0\na 0\nt 0\nm 0\n",
+        ),
+        (
+            "none.v",
+            "none",
+            "none",
+            b"unit 1 ns\ndefaulted 0\na 0\nt 0\nm 0\n",
+        ),
+    ];
+    for (file, first, second, out) in &cubes {
+        let words = [
+            "tdelay", "bound", *file, "--first", *first, "--second", *second,
+        ];
+        let ended = carried_out(&rt, &words, MemoryFiles::new(&FILES), ROOM)?;
+        assert_eq!(rt; ended.out.bytes(), *out);
+        assert_eq!(rt; ended.err.bytes(), b"".as_slice());
+        assert_eq!(rt; ended.status, 0);
+    }
+    // one option alone
+    let words = ["tdelay", "bound", "slow.v", "--second", ".1"];
+    let ended = carried_out(&rt, &words, MemoryFiles::new(&FILES), ROOM)?;
+    assert_eq!(rt;
+        ended.out.bytes(),
+        b"unit 1 ns\ndefaulted 0\na 1\nt 1\nm 1\n".as_slice()
+    );
+    Ok(())
+}
+
+/// The netlist is judged first, then the first option, then the second.
+#[test]
+fn bad_cubes(rt: HostRuntime) -> Result<(), Fail> {
+    let cases: [(&str, &str, &str, &[u8], u8); 5] = [
+        ("inverter.v", "00", "00", b"tdelay: bad vector first\n", 2),
+        ("inverter.v", ".", "x", b"tdelay: bad vector second\n", 2),
+        ("none.v", "", "none", b"tdelay: bad vector first\n", 2),
+        (
+            "looped.v",
+            "00",
+            "00",
+            b"tdelay: circuit fault 1 Loop on q\n",
+            1,
+        ),
+        ("absent.v", ".", ".", b"tdelay: cannot read absent.v\n", 5),
+    ];
+    for (file, first, second, err, status) in &cases {
+        let words = [
+            "tdelay", "bound", *file, "--first", *first, "--second", *second,
+        ];
+        let ended = carried_out(&rt, &words, MemoryFiles::new(&FILES), ROOM)?;
+        assert_eq!(rt; ended.out.bytes(), b"".as_slice());
+        assert_eq!(rt; ended.err.bytes(), *err);
+        assert_eq!(rt; ended.status, *status);
+    }
     Ok(())
 }

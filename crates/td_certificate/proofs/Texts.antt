@@ -1,0 +1,86 @@
+-- What reading says of a text.
+use Rattle.std.proofs.Common.{◌≡◌, ◌≢◌, ℕ, ◌-◌, ◌≤◌, List, [], ◌∷◌, ◌++◌, length, take, Ok, Err, refl, sym, ap, ◌∙◌, arith}
+use Rattle.std.proofs.lemmas.List.{append-nil, nil_from_length, take_at, length-append}
+use Rattle.td_certificate.specs.declared.fault.CertFaultKind.{CertFaultKind}
+use Rattle.td_certificate.specs.declared.fault.CertFaultKind.TheVariants as kind
+use Rattle.td_certificate.specs.declared.certificate.Certificate.{Certificate}
+use Rattle.td_certificate.specs.Spelling.{Spells, spelling}
+use Rattle.td_certificate.specs.Reading.{Ends, Wrong, certificate_at}
+use Rattle.td_certificate.specs.Faults.{line_behind, IsWithinLimit, IsFront, HasMore, StopsAt, IsUnreadable, IsFault}
+use Rattle.td_certificate.proofs.Codes.{IsStopped-none, IsCode-one}
+use Rattle.td_certificate.proofs.CertificateCode.{certificate_code}
+
+-- the front of a text, by the length of its rest
+front_is : (text front rest : List ℕ) → text ≡ front ++ rest → take (length text - length rest) text ≡ front
+front_is text front rest e =
+    let n : length front ≡ length text - length rest = omega (arith, ap length e, length-append front rest) in
+    ap (λ (t : List ℕ). take (length text - length rest) t) e ∙ take_at front rest (length text - length rest) n
+
+line_is : (text front rest : List ℕ) (line : ℕ) → text ≡ front ++ rest → line ≡ line_behind (take (length text - length rest) text) → line ≡ line_behind front
+line_is text front rest line e l = l ∙ ap line_behind (front_is text front rest e)
+
+some_bytes : (rest : List ℕ) → length rest ≢ 0 → (next : ℕ) × (later : List ℕ) × (rest ≡ next ∷ later)
+some_bytes [] ne = absurd (ne refl)
+some_bytes (b ∷ bytes) ne = (b, bytes, refl)
+
+pub read_spelled : (text rest : List ℕ) (c : Certificate) → certificate_at text ≡ Ok (c, rest) → length rest ≡ 0 → Spells c text
+read_spelled text rest c e none =
+    let p = certificate_code.takes text c rest e in
+    record { has = p.0; parts = p.1 ∙ ap (λ (t : List ℕ). spelling c ++ t) (nil_from_length rest none) ∙ append-nil (spelling c) }
+
+pub read_within : (text rest : List ℕ) (c : Certificate) → certificate_at text ≡ Ok (c, rest) → length rest ≤ length text
+read_within text rest c e =
+    let p = certificate_code.takes text c rest e in
+    omega (arith, ap length p.1, length-append (spelling c) rest)
+
+pub stop_within : (text rest : List ℕ) → certificate_at text ≡ Err (Wrong rest) → length rest ≤ length text
+stop_within text rest e =
+    let s = certificate_code.stops text rest e in
+    omega (arith, ap length s.parts, ap length s.rest_is, length-append s.front (s.next ∷ s.later))
+
+pub read_more : (text rest : List ℕ) (c : Certificate) (line : ℕ) → certificate_at text ≡ Ok (c, rest) → length rest ≢ 0 → line ≡ line_behind (take (length text - length rest) text) → HasMore text line
+read_more text rest c line e ne l =
+    let p = certificate_code.takes text c rest e in
+    let b = some_bytes rest ne in
+    record {
+      certificate = c;
+      has = p.0;
+      next = b.0;
+      later = b.1;
+      parts = p.1 ∙ ap (λ (t : List ℕ). spelling c ++ t) b.2;
+      line = line_is text (spelling c) rest line p.1 l;
+    }
+
+pub read_front : (text : List ℕ) → certificate_at text ≡ Err Ends → IsFront text
+read_front text e =
+    let f = certificate_code.ends text e in
+    record { certificate = f.value; has = f.has; next = f.next; later = f.later; parts = f.parts }
+
+pub whole_line : (text : List ℕ) (line : ℕ) → line ≡ line_behind (take (length text - 0) text) → line ≡ line_behind text
+whole_line text line l = line_is text text [] line (sym (append-nil text)) l
+
+pub read_stop : (text rest : List ℕ) (line : ℕ) → certificate_at text ≡ Err (Wrong rest) → line ≡ line_behind (take (length text - length rest) text) → StopsAt text line
+read_stop text rest line e l =
+    let s = certificate_code.stops text rest e in
+    record {
+      front = s.front;
+      next = s.next;
+      later = s.later;
+      parts = s.parts;
+      readable = read_front s.front s.goes;
+      unreadable = λ c more v. IsStopped-none certificate_code text rest s c more v;
+      line = line_is text s.front rest line (s.parts ∙ ap (λ (t : List ℕ). s.front ++ t) (sym s.rest_is)) l;
+    }
+
+pub unreadable_fault : (k : CertFaultKind) (line : ℕ) (text : List ℕ) → IsUnreadable k → IsWithinLimit text → StopsAt text line → IsFault k line text
+unreadable_fault kind.OutOfMemory line text u within s = absurd u
+unreadable_fault kind.TooLong line text u within s = absurd u
+unreadable_fault kind.UnexpectedEnd line text u within s = absurd u
+unreadable_fault kind.Trailing line text u within s = absurd u
+unreadable_fault kind.Syntax line text u within s = (within, s)
+unreadable_fault kind.NumberTooLarge line text u within s = (within, s)
+unreadable_fault kind.Version line text u within s = (within, s)
+
+pub spells_once : (this that : Certificate) (text other more : List ℕ) → Spells this text → Spells that other → text ≡ other ++ more → (this ≡ that) × (more ≡ [])
+spells_once this that text other more p q e =
+    IsCode-one certificate_code this that more p.has q.has (sym p.parts ∙ e ∙ ap (λ (t : List ℕ). t ++ more) q.parts)

@@ -1,0 +1,7 @@
+use Rattle.td_certificate.proofs.Batches.{head_made}
+use Rattle.td_certificate.proofs.writing.head.Goals as goal
+
+pub returns : goal.returns
+returns c =
+    head_made c.args.certificate.now _ _ _ _ _ c.in_ok-text.ensures.ok (rw c.first.ensures at c.in_ok-push_bits.ensures) c.in_ok-push_str.ensures.bytes
+    (rw c.second.ensures at c.in_ok-push_bits-2.ensures) c.in_ok-push_str-2.ensures.bytes

@@ -1,0 +1,117 @@
+-- When a certificate is accepted of a netlist.
+use Rattle.std.specs.Prelude.{◌≡◌, ℕ, ◌*◌, ◌≤◌, List, [], ◌∷◌, ◌++◌, length, replicate, set, slice_get, Option, Some}
+use Rattle.std.specs.List.{AllByRecursion}
+use Rattle.td_netlist.specs.Netlist.{Netlist}
+use Rattle.td_netlist.specs.WellFormed.{IsWellFormed}
+use Rattle.td_circuit.specs.Loops.{Loop}
+use Rattle.td_circuit.specs.Run.{IsDelayOfBits, IsWorst}
+use Rattle.td_domain.specs.declared.cubes.Trit.{Trit}
+use Rattle.td_domain.specs.declared.cubes.Trit.TheVariants.{Zero, One, Free}
+use Rattle.td_domain.specs.Pairs.{Pair}
+use Rattle.td_domain.specs.Cubes.{IsIn, IsPoint}
+use Rattle.td_domain.specs.Bounds.{IsBound}
+use Rattle.td_domain.specs.Together.{both_input, both_constant, both_gate, both_last}
+use Rattle.td_arrival.specs.Arrivals as arrival
+use Rattle.td_ternary.specs.Possibles as possible
+use Rattle.td_certificate.specs.declared.tree.BoundedBy.{BoundedBy}
+use Rattle.td_certificate.specs.declared.tree.BoundedBy.TheVariants as by
+use Rattle.td_certificate.specs.declared.tree.Node.{Node}
+use Rattle.td_certificate.specs.declared.tree.Node.TheVariants as node
+use Rattle.td_certificate.specs.declared.certificate.Certificate.{Certificate}
+use Rattle.td_certificate.specs.Trees.{Tree, Split, Bound, Point, nodes_of}
+
+-- what the domain of a leaf gives of a cube: its bound, or none
+abbrev pub IsBoundBy : BoundedBy → Netlist → List Trit → Option ℕ → Type 0
+IsBoundBy by.Arrival netlist cube answer =
+    IsBound arrival.input_signal arrival.constant_signal arrival.gate_signal arrival.last_of netlist cube answer
+IsBoundBy by.Possible netlist cube answer =
+    IsBound possible.input_signal possible.constant_signal possible.gate_signal possible.last_of netlist cube answer
+IsBoundBy by.Both netlist cube answer =
+    IsBound (both_input arrival.input_signal possible.input_signal) (both_constant arrival.constant_signal possible.constant_signal)
+    (both_gate arrival.gate_signal possible.gate_signal) (both_last arrival.last_of possible.last_of) netlist cube answer
+
+-- ---- the lines of a tree and their cubes
+
+pub record Line : Type 0 where
+  pub cube : List Trit
+  pub node : Node
+
+-- The lines of a tree whose root has this cube, in their order. On the zero side of a split its position is 0, on the one
+-- side 1.
+unfoldable pub lines_of : List Trit → Tree → List Line
+lines_of cube (Split position zero_side one_side) =
+    record { cube = cube; node = node.Split position }
+    ∷ (lines_of (set cube position Zero) zero_side ++ lines_of (set cube position One) one_side)
+lines_of cube (Bound domain bound) = record { cube = cube; node = node.Bound domain bound } ∷ []
+lines_of cube (Point time) = record { cube = cube; node = node.Point time } ∷ []
+
+-- ---- what holds of a line
+
+-- a split is at a position that exists and is free
+abbrev pub SplitsFree : List Trit → Node → Type 0
+SplitsFree cube (node.Split position) = slice_get cube position ≡ Some Free
+SplitsFree cube (node.Bound domain bound) = Unit {0}
+SplitsFree cube (node.Point time) = Unit {0}
+
+-- where a leaf is of one pair, nothing is free
+abbrev pub IsOfOnePair : List Trit → Node → Type 0
+IsOfOnePair cube (node.Split position) = Unit {0}
+IsOfOnePair cube (node.Bound domain bound) = Unit {0}
+IsOfOnePair cube (node.Point time) = IsPoint cube
+
+-- the domain gives a bound of the cube, and it is at most this
+pub record IsBounded (domain : BoundedBy) (netlist : Netlist) (cube : List Trit) (most : ℕ) : Type 0 where
+  pub bound : ℕ
+  pub is : IsBoundBy domain netlist cube (Some bound)
+  pub within : bound ≤ most
+
+-- some pair of the cube has this delay
+pub record HasDelay (netlist : Netlist) (cube : List Trit) (delay : ℕ) : Type 0 where
+  pub pair : Pair
+  pub is_in : IsIn pair cube
+  pub is : IsDelayOfBits netlist pair.first pair.second delay
+
+-- the number of a leaf is one of the cube: at least its domain's bound, or the delay of its pair
+abbrev pub IsOfCube : Netlist → List Trit → Node → Type 0
+IsOfCube netlist cube (node.Split position) = Unit {0}
+IsOfCube netlist cube (node.Bound domain bound) = IsBounded domain netlist cube bound
+IsOfCube netlist cube (node.Point time) = HasDelay netlist cube time
+
+-- the number of a leaf is at most the time
+abbrev pub IsWithin : ℕ → Node → Type 0
+IsWithin most (node.Split position) = Unit {0}
+IsWithin most (node.Bound domain bound) = bound ≤ most
+IsWithin most (node.Point time) = time ≤ most
+
+pub record IsGood (netlist : Netlist) (most : ℕ) (line : Line) : Type 0 where
+  pub splits : SplitsFree line.cube line.node
+  pub one_pair : IsOfOnePair line.cube line.node
+  pub of_cube : IsOfCube netlist line.cube line.node
+  pub within : IsWithin most line.node
+
+-- ---- the certificate
+
+-- it is of a circuit with so many inputs and gates
+pub record IsOfSize (netlist : Netlist) (c : Certificate) : Type 0 where
+  pub inputs : length netlist.inputs ≡ c.inputs
+  pub gates : length netlist.gates ≡ c.gates
+
+-- the certificate's pair has its time
+abbrev pub IsReached : Netlist → Certificate → Type 0
+IsReached netlist c = IsDelayOfBits netlist c.pair.first c.pair.second c.time
+
+-- the cube of the root: everything is free
+abbrev pub root_cube : Certificate → List Trit
+root_cube c = replicate (2 * c.inputs) Free
+
+-- The certificate is accepted: it is of this circuit, its pair has its time, and its lines are good.
+pub record Accepts (netlist : Netlist) (c : Certificate) : Type 0 where
+  pub size : IsOfSize netlist c
+  pub reached : IsReached netlist c
+  pub tree : Tree
+  pub nodes : nodes_of tree ≡ c.tree
+  pub good : AllByRecursion (IsGood netlist c.time) (lines_of (root_cube c) tree)
+
+-- the time of a certificate that is accepted of a netlist without a loop is its worst delay
+abbrev pub AcceptedIsWorst : Type 0
+AcceptedIsWorst = (netlist : Netlist) (c : Certificate) → IsWellFormed netlist → (¬ Loop netlist) → Accepts netlist c → IsWorst netlist c.time

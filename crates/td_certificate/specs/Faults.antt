@@ -1,0 +1,72 @@
+-- Why a text isn't a certificate's spelling, and the line of the fault.
+use Rattle.std.specs.Prelude.{◌≡◌, ℕ, ◌+◌, ◌<◌, ◌≤◌, ◌==◌, ◌⊎◌, List, ◌∷◌, ◌++◌, length, Result, Ok, Err}
+use Rattle.std.specs.List.{count_by}
+use Rattle.td_certificate.specs.declared.fault.CertFaultKind.{CertFaultKind}
+use Rattle.td_certificate.specs.declared.fault.CertFaultKind.TheVariants as kind
+use Rattle.td_certificate.specs.declared.fault.CertFault.{CertFault}
+use Rattle.td_certificate.specs.declared.certificate.Certificate.{Certificate}
+use Rattle.td_certificate.specs.Spelling.{HasSpelling, spelling}
+
+-- the line of a place is one more than the number of newlines before it
+abbrev pub line_behind : List ℕ → ℕ
+line_behind front = 1 + count_by (λ b. b == 10) front
+
+abbrev pub IsWithinLimit : List ℕ → Type 0
+IsWithinLimit text = length text ≤ 268435456
+
+-- a proper front of a spelling
+pub record IsFront (text : List ℕ) : Type 0 where
+  pub certificate : Certificate
+  pub has : HasSpelling certificate
+  pub next : ℕ
+  pub later : List ℕ
+  pub parts : spelling certificate ≡ text ++ next ∷ later
+
+-- a spelling with more after it, which begins on this line
+pub record HasMore (text : List ℕ) (place : ℕ) : Type 0 where
+  pub certificate : Certificate
+  pub has : HasSpelling certificate
+  pub next : ℕ
+  pub later : List ℕ
+  pub parts : text ≡ spelling certificate ++ next ∷ later
+  pub line : place ≡ line_behind (spelling certificate)
+
+-- a text that can be read up to a byte of this line, and no further
+pub record StopsAt (text : List ℕ) (place : ℕ) : Type 0 where
+  pub front : List ℕ
+  pub next : ℕ
+  pub later : List ℕ
+  pub parts : text ≡ front ++ next ∷ later
+  pub readable : IsFront front
+  pub unreadable : (c : Certificate) (more : List ℕ) → HasSpelling c → ¬ (spelling c ≡ front ++ next ∷ more)
+  pub line : place ≡ line_behind front
+
+-- the kinds of a byte that can't be read
+abbrev pub IsUnreadable : CertFaultKind → Type 0
+IsUnreadable kind.OutOfMemory = ⊥
+IsUnreadable kind.TooLong = ⊥
+IsUnreadable kind.UnexpectedEnd = ⊥
+IsUnreadable kind.Trailing = ⊥
+IsUnreadable kind.Syntax = Unit {0}
+IsUnreadable kind.NumberTooLarge = Unit {0}
+IsUnreadable kind.Version = Unit {0}
+
+-- what a fault says of the text
+abbrev pub IsFault : CertFaultKind → ℕ → List ℕ → Type 0
+IsFault kind.OutOfMemory line text = line ≡ 0
+IsFault kind.TooLong line text = (268435456 < length text) × (line ≡ 1)
+IsFault kind.UnexpectedEnd line text = IsWithinLimit text × IsFront text × (line ≡ line_behind text)
+IsFault kind.Trailing line text = IsWithinLimit text × HasMore text line
+IsFault kind.Syntax line text = IsWithinLimit text × StopsAt text line
+IsFault kind.NumberTooLarge line text = IsWithinLimit text × StopsAt text line
+IsFault kind.Version line text = IsWithinLimit text × StopsAt text line
+
+-- memory aside, the certificate was read
+abbrev pub IsReadAs : Certificate → Result Certificate CertFault → Type 0
+IsReadAs c (Ok read) = read ≡ c
+IsReadAs c (Err fault) = fault.kind ≡ kind.OutOfMemory
+
+-- memory aside, this kind of fault was told
+abbrev pub IsTold : CertFaultKind → Result Certificate CertFault → Type 0
+IsTold k (Ok read) = ⊥
+IsTold k (Err fault) = (fault.kind ≡ k) ⊎ (fault.kind ≡ kind.OutOfMemory)

@@ -1,0 +1,19 @@
+-- Certificates whose texts are within the limit.
+use Rattle.std.specs.Prelude.{◌<◌, ◌≤◌, ◌^◌, length}
+use Rattle.std.specs.List.{AllByRecursion}
+use Rattle.td_certificate.specs.declared.tree.Node.{Node}
+use Rattle.td_certificate.specs.declared.tree.Node.TheVariants as node
+use Rattle.td_certificate.specs.declared.certificate.Certificate.{Certificate}
+use Rattle.td_certificate.specs.Spelling.{HasSpelling, spelling}
+use Rattle.td_certificate.specs.Faults.{IsWithinLimit}
+
+-- the node's number is below 10 ^ 15
+abbrev pub IsShort : Node → Type 0
+IsShort (node.Split position) = position < 10 ^ 15
+IsShort (node.Bound domain bound) = bound < 10 ^ 15
+IsShort (node.Point time) = time < 10 ^ 15
+
+-- A tree of at most 10,000,000 lines with numbers below 10 ^ 15, as a search gives, has a text within the limit.
+abbrev pub SearchedTextsFit : Type 0
+SearchedTextsFit = (c : Certificate) → HasSpelling c → c.time < 10 ^ 15 → AllByRecursion IsShort c.tree → length c.tree ≤ 10000000
+    → IsWithinLimit (spelling c)

@@ -1,0 +1,185 @@
+//! Reading a certificate's text.
+
+ghost use Rattle.std.specs.Prelude.{◌≡◌, ◌≤◌, ◌<◌, ◌+◌, ◌-◌, ◌∷◌, ℕ, take, length, codes, IfOk, IfErr};
+ghost use Rattle.td_certificate.specs.Reading.{Gives, literal, nodes_at, certificate_at};
+ghost use Rattle.td_certificate.specs.Spelling.{Spells};
+ghost use Rattle.td_certificate.specs.declared.certificate.Certificate.{Certificate as Contents};
+ghost use Rattle.td_certificate.specs.Faults.{IsFault, IsUnreadable, IsWithinLimit, IsFront, HasMore, IsReadAs, IsTold, line_behind};
+
+use crate::certificate::Certificate;
+use crate::fault::{CertFault, CertFaultKind};
+use crate::fields::{GREATEST, Reason, Stop, literal, node, number, number_behind, vector_behind};
+use crate::tree::Tree;
+use std::alloc::Global;
+use td_domain::Pair;
+
+/// The greatest number of bytes of a certificate's text.
+const MAX_TEXT: usize = 268_435_456;
+
+/// The greatest number of inputs.
+const MAX_INPUTS: u64 = 4_096;
+
+/// The greatest number of gates.
+const MAX_GATES: u64 = 200_000;
+
+/// The digits before the first other byte.
+fn leading_digits(text: &[u8]) -> &[u8] {
+    match text.iter().position(|byte| !byte.is_ascii_digit()) {
+        None => text,
+        Some(end) => &text[..end],
+    }
+}
+
+/// Whether the number of these digits passes the greatest of a certificate.
+fn passes_limit(digits: &[u8]) -> bool {
+    let mut number = 0u64;
+    for digit in digits {
+        number = 10 * number + u64::from(digit.wrapping_sub(b'0'));
+        if number > GREATEST {
+            return true;
+        }
+    }
+    false
+}
+
+/// What is wrong with a first line that isn't that of version 1, from the byte behind its word and space on.
+fn version_reason(behind: &[u8]) -> Reason {
+    match leading_digits(behind) {
+        [] => Reason::Syntax,
+        [b'0', _, ..] => Reason::Syntax,
+        [b'1'] => Reason::Syntax,
+        digits => {
+            if passes_limit(digits) {
+                Reason::NumberTooLarge
+            } else {
+                Reason::Version
+            }
+        }
+    }
+}
+
+/// Takes the first line.
+fn version(text: &[u8]) -> Result<&[u8], Stop<'_>>
+    ensures { Gives (λ rest. (tt, rest.now)) result (literal (codes "tdelay-cert 1\n") text.now) }
+{
+    match literal(b"tdelay-cert 1\n", text) {
+        Err(Stop::Wrong(_, rest)) => match literal(b"tdelay-cert ", text) {
+            Ok(behind) => Err(Stop::Wrong(version_reason(behind), rest)),
+            Err(_) => Err(Stop::Wrong(Reason::Syntax, rest)),
+        },
+        other => other,
+    }
+}
+
+/// Takes a tree.
+fn tree(alloc: Global, text: &[u8]) -> Result<(Tree, &[u8]), Stop<'_>>
+    ensures { Gives (λ x. (x.0, x.1.now)) result (nodes_at 1 text.now) }
+{
+    let mut nodes = Vec::new(alloc);
+    let mut pending = 1u64;
+    let mut rest = text;
+    while pending > 0 {
+        let (first, after) = node(rest)?;
+        pending = pending - 1 + first.sides();
+        nodes.push(first)?;
+        rest = after;
+    }
+    Ok((Tree::from_nodes(nodes), rest))
+}
+
+/// Takes a certificate.
+#[tactic(auto, unfolding(crate::specs::Reading::certificate_at))]
+fn certificate(alloc: Global, text: &[u8]) -> Result<(Certificate, &[u8]), Stop<'_>>
+    ensures { Gives (λ x. (x.0, x.1.now)) result (certificate_at text.now) }
+{
+    let rest = version(text)?;
+    let (inputs, rest) = number_behind(b"circuit ", MAX_INPUTS, b' ', rest)?;
+    let (gates, rest) = number(MAX_GATES, b'\n', rest)?;
+    let (time, rest) = number_behind(b"time ", GREATEST, b'\n', rest)?;
+    let (first, rest) = vector_behind(alloc, b"from ", inputs as u32, rest)?;
+    let (second, rest) = vector_behind(alloc, b"to ", inputs as u32, rest)?;
+    let (tree, rest) = tree(alloc, rest)?;
+    let pair = Pair::new(first, second);
+    let certificate = Certificate {
+        inputs: inputs as u32,
+        gates: gates as u32,
+        time,
+        pair,
+        tree,
+    };
+    Ok((certificate, rest))
+}
+
+/// The line of the place where this rest of the text begins.
+fn line_of(text: &[u8], rest: &[u8]) -> u32
+    requires rest { length rest.now ≤ length text.now }
+    requires limit { length text.now ≤ 268435456 }
+    ensures { result ≡ line_behind (take (length text.now - length rest.now) text.now) }
+{
+    let front = &text[..text.len() - rest.len()];
+    1 + front.iter().filter(|byte| **byte == b'\n').count() as u32
+}
+
+fn kind_of(reason: Reason) -> CertFaultKind
+    ensures { IsUnreadable result }
+{
+    match reason {
+        Reason::Syntax => CertFaultKind::Syntax,
+        Reason::NumberTooLarge => CertFaultKind::NumberTooLarge,
+        Reason::Version => CertFaultKind::Version,
+    }
+}
+
+/// The certificate that a text spells, or what is wrong with it.
+fn read_whole(alloc: Global, text: &[u8]) -> Result<Certificate, CertFault>
+    // What is read is spelled so.
+    ensures found { IfOk result (λ c. Spells c text.now × IsWithinLimit text.now) }
+    // A fault is one of the text.
+    ensures fault { IfErr result (λ fault. IsFault fault.kind fault.line text.now) }
+{
+    if text.len() > MAX_TEXT {
+        return Err(CertFault {
+            kind: CertFaultKind::TooLong,
+            line: 1,
+        });
+    }
+    match certificate(alloc, text) {
+        Ok((certificate, rest)) => {
+            if rest.is_empty() {
+                return Ok(certificate);
+            }
+            Err(CertFault {
+                kind: CertFaultKind::Trailing,
+                line: line_of(text, rest),
+            })
+        }
+        Err(Stop::OutOfMemory) => Err(CertFault {
+            kind: CertFaultKind::OutOfMemory,
+            line: 0,
+        }),
+        Err(Stop::Ends) => Err(CertFault {
+            kind: CertFaultKind::UnexpectedEnd,
+            line: line_of(text, &[]),
+        }),
+        Err(Stop::Wrong(reason, rest)) => Err(CertFault {
+            kind: kind_of(reason),
+            line: line_of(text, rest),
+        }),
+    }
+}
+
+/// The certificate that a text spells, all of the text.
+///
+/// A fault is on the first line that can't be read on, or where more text follows a certificate.
+pub fn read(alloc: Global, text: &[u8]) -> Result<Certificate, CertFault>
+    // What is read is spelled so, and a fault is one of the text.
+    ensures found { IfOk result (λ c. Spells c text.now × IsWithinLimit text.now) }
+    ensures fault { IfErr result (λ fault. IsFault fault.kind fault.line text.now) }
+
+    // Unless memory runs out, what is spelled so is read, and each other text is told.
+    ensures only { (c : Contents) → Spells c text.now → IsWithinLimit text.now → IsReadAs c result }
+    ensures ends { IsFront text.now → IsWithinLimit text.now → IsTold CertFaultKind.UnexpectedEnd result }
+    ensures trailing { (line : ℕ) → HasMore text.now line → IsWithinLimit text.now → IsTold CertFaultKind.Trailing result }
+{
+    read_whole(alloc, text)
+}

@@ -1,0 +1,106 @@
+//! Trees of splits and leaves, kept as their nodes in pre-order.
+
+ghost use Rattle.std.specs.Prelude.{◌≡◌, Some};
+ghost use Rattle.td_certificate.specs.Trees.{IsTree, sides};
+ghost use Rattle.td_certificate.specs.Text.{letter, node_line};
+
+use std::fmt;
+use std::marker::Model;
+
+/// The domain that bounds a leaf: arrival windows, possible levels, or both at once.
+#[derive(Clone, Copy, Debug, PartialEq, Eq, Drop)]
+pub enum BoundedBy {
+    Arrival,
+    Possible,
+    Both,
+}
+
+/// A node of a tree: a split at a position of its cube, a leaf with a domain's bound of its cube, or a leaf of one pair with
+/// that pair's delay. Bounds and delays are in steps.
+#[derive(Clone, Copy, Debug, PartialEq, Eq, Drop)]
+pub enum Node {
+    Split(u64),
+    Bound(BoundedBy, u64),
+    Point(u64),
+}
+
+impl Node {
+    /// How many subtrees come below the node.
+    pub fn sides(self) -> u64
+        ensures { result ≡ sides self }
+    {
+        match self {
+            Node::Split(_) => 2,
+            Node::Bound(_, _) | Node::Point(_) => 0,
+        }
+    }
+}
+
+impl fmt::Display for BoundedBy {
+    ghost output = { λ domain. Some (letter domain) };
+
+    fn fmt<W: fmt::Write>(&self, f: &mut fmt::Formatter<W>) -> fmt::Result {
+        match self {
+            BoundedBy::Arrival => write!(f, "a"),
+            BoundedBy::Possible => write!(f, "t"),
+            BoundedBy::Both => write!(f, "m"),
+        }
+    }
+}
+
+/// The node's line in a certificate.
+impl fmt::Display for Node {
+    ghost output = { λ node. Some (node_line node) };
+
+    fn fmt<W: fmt::Write>(&self, f: &mut fmt::Formatter<W>) -> fmt::Result {
+        match self {
+            Node::Split(position) => write!(f, "s {position}"),
+            Node::Bound(domain, bound) => write!(f, "b {domain} {bound}"),
+            Node::Point(time) => write!(f, "p {time}"),
+        }
+    }
+}
+
+/// A tree, kept as its nodes in the order of their lines: the node of a split, then its zero side, then its one side.
+#[derive(Debug, Drop)]
+pub struct Tree {
+    nodes: Vec<Node>,
+}
+
+impl Model for Tree {
+    ghost use Rattle.std.specs.Prelude.{List};
+    ghost use Rattle.td_certificate.specs.declared.tree.Node.{Node};
+    ghost use Rattle.td_certificate.specs.Trees.{IsTree};
+
+    ghost Value = { List Node };
+
+    ghost view = { λ inside. inside.nodes.items };
+
+    ghost invariant = { λ inside. IsTree inside.nodes.items };
+}
+
+impl Tree {
+    /// The tree of these nodes, which are one tree's in their order.
+    pub fn from_nodes(nodes: Vec<Node>) -> Tree
+        requires { IsTree nodes.items }
+        ensures { result ≡ nodes.items }
+    {
+        Tree { nodes }
+    }
+
+    /// The nodes, each split before its zero side and that before its one side.
+    pub fn nodes(&self) -> &[Node]
+        ensures nodes { result.now ≡ self.now }
+        ensures tree { IsTree self.now }
+    {
+        &self.nodes
+    }
+
+    /// The nodes, without a copy.
+    pub fn into_nodes(self) -> Vec<Node>
+        ensures nodes { result.items ≡ self }
+        ensures tree { IsTree self }
+    {
+        self.nodes
+    }
+}

@@ -1,0 +1,84 @@
+//! The command `bound`: the bounds of a cube of pairs.
+
+ghost use Rattle.std.specs.Prelude.{◌≡◌, ℕ, ◌*◌, length, Option, Some, IfOk, IfErr};
+ghost use Rattle.std.specs.Option.{option_map};
+ghost use Rattle.td_domain.specs.Bounds.{IsAboveEach};
+ghost use Rattle.td_cli.specs.BoundReports.{bounds_text, IsArrivalBound, IsPossibleBound, IsJointBound, IsBoundReport};
+ghost use Rattle.td_cli.specs.Outcomes.{HasNoBounds};
+
+use crate::refusal::{Refusal, VectorWord};
+use crate::report;
+use crate::simulate::circuit;
+use crate::text::Text;
+use crate::vector::{cube, trits};
+use std::alloc::{AllocError, Global};
+use td_arrival::Arrival;
+use td_circuit::Circuit;
+use td_domain::{Both, Cube, bound};
+use td_gates::Delay;
+use td_ternary::Possible;
+
+/// The report of the bounds of a cube, which is given by trits for the first vector and for the second, all free where
+/// left out: by arrival windows, by possible levels, and by both at once.
+pub fn bounds<'a>(
+    alloc: Global,
+    text: &'a [u8],
+    default: Delay,
+    first: Option<&str>,
+    second: Option<&str>,
+) -> Result<Text, Refusal<'a>>
+    // The report is that of the cube's bounds in what the text means.
+    ensures report { IfOk result (λ report.
+        IsBoundReport text.now default (option_map (λ word. word.now) first.entry) (option_map (λ word. word.now) second.entry) report) }
+    ensures refusal { IfErr result (λ refusal.
+        HasNoBounds text.now default (option_map (λ word. word.now) first.entry) (option_map (λ word. word.now) second.entry) refusal) }
+{
+    let circuit = circuit(alloc, text, default)?;
+    let Some(firsts) = trits(alloc, first, circuit.inputs())? else {
+        return Err(Refusal::BadVector(VectorWord::First));
+    };
+    let Some(seconds) = trits(alloc, second, circuit.inputs())? else {
+        return Err(Refusal::BadVector(VectorWord::Second));
+    };
+    let cube = cube(alloc, &firsts, &seconds)?;
+    let bounds = bounds_of(alloc, &circuit, &cube)?;
+    let report = report_of(alloc, &circuit, bounds)?;
+    Ok(report)
+}
+
+/// The bounds of a cube by each of the domains.
+#[derive(Clone, Copy, Debug, Drop)]
+struct CubeBounds {
+    arrivals: Option<u64>,
+    possibles: Option<u64>,
+    together: Option<u64>,
+}
+
+fn bounds_of(alloc: Global, circuit: &Circuit, cube: &Cube) -> Result<CubeBounds, AllocError>
+    requires { length cube.now ≡ 2 * length circuit.now.netlist.inputs }
+    ensures arrivals { IfOk result (λ bounds. IsArrivalBound circuit.now.netlist cube.now bounds.arrivals) }
+    ensures possibles { IfOk result (λ bounds. IsPossibleBound circuit.now.netlist cube.now bounds.possibles) }
+    ensures together { IfOk result (λ bounds. IsJointBound circuit.now.netlist cube.now bounds.together) }
+{
+    let arrivals = bound::<Arrival>(alloc, circuit, cube)?;
+    let possibles = bound::<Possible>(alloc, circuit, cube)?;
+    let together = bound::<Both<Arrival, Possible>>(alloc, circuit, cube)?;
+    Ok(CubeBounds {
+        arrivals,
+        possibles,
+        together,
+    })
+}
+
+/// The report of the bounds.
+fn report_of(alloc: Global, circuit: &Circuit, bounds: CubeBounds) -> Result<Text, AllocError>
+    ensures { IfOk result (λ text. text ≡ bounds_text circuit.now.netlist bounds.arrivals bounds.possibles bounds.together) }
+{
+    let mut text = Text::new(alloc);
+    report::unit(&mut text, circuit.unit())?;
+    report::defaulted(&mut text, circuit.defaulted())?;
+    report::bound(&mut text, b"a", bounds.arrivals)?;
+    report::bound(&mut text, b"t", bounds.possibles)?;
+    report::bound(&mut text, b"m", bounds.together)?;
+    Ok(text)
+}
