@@ -4,7 +4,7 @@ use Rattle.td_netlist.specs.Netlist.{Netlist}
 use Rattle.td_domain.specs.declared.cubes.Trit.{Trit}
 use Rattle.td_domain.specs.declared.cubes.Trit.TheVariants.{Free}
 use Rattle.td_domain.specs.Pairs.{Pair}
-use Rattle.td_domain.specs.Cubes.{IsPoint}
+use Rattle.td_domain.specs.Cubes.{IsIn, IsPoint}
 use Rattle.td_domain.specs.Bounds.{IsAboveEach}
 use Rattle.td_book.specs.declared.node.Mark.{Mark}
 use Rattle.td_book.specs.declared.node.Mark.TheVariants as mark
@@ -22,7 +22,7 @@ pub record IsMeasured (netlist : Netlist) (pair : Pair) (time : ℕ) : Type 0 wh
 -- the bound is that of the mark's domain, or the delay of the one pair of the cube
 abbrev pub IsMarked : Netlist → List Trit → Mark → ℕ → Type 0
 IsMarked netlist cube (mark.Bound domain) bound = IsBoundBy domain netlist cube (Some bound)
-IsMarked netlist cube mark.Point bound = IsPoint cube × has_delay netlist (representative cube) bound
+IsMarked netlist cube mark.Point bound = IsPoint cube × IsIn (representative cube) cube × has_delay netlist (representative cube) bound
 
 -- A cube is closed with a bound that is its mark's, at least each delay of its pairs and at most the cut. It is split at a
 -- free position where the strongest domain's bound is above the cut.

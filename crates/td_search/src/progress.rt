@@ -9,7 +9,7 @@ ghost use Rattle.td_search.specs.Answers.{has_bound};
 ghost use Rattle.td_search.specs.CutShort.{IsWide};
 ghost use Rattle.td_search.specs.Answers.{has_delay};
 ghost use Rattle.td_search.specs.Judging.{IsMeasured, IsMarked};
-ghost use Rattle.td_search.specs.Progress.{IsSearch};
+ghost use Rattle.td_search.specs.Progress.{IsUnderWay};
 
 use crate::judging::{Verdict, delay_of, judge, strongest_bound};
 use crate::representatives::representative;
@@ -47,7 +47,7 @@ impl From<SplitFault> for Stop {
 /// A search that has measured the root's representative and bounded the root's cube. The error is want of memory.
 pub fn begin(alloc: Global, circuit: &Circuit, budget: u64) -> Result<Search, AllocError>
     requires { budget ≤ 10000000 }
-    ensures { IfOk result (IsSearch circuit.now.netlist budget) }
+    ensures { IfOk result (IsUnderWay circuit.now.netlist budget) }
 {
     let _numbering = circuit.gates();
     let root = Cube::free(alloc, circuit.inputs())?;
@@ -67,8 +67,8 @@ pub fn begin(alloc: Global, circuit: &Circuit, budget: u64) -> Result<Search, Al
 impl Search {
     /// Handles nodes until none is left, the budget is used up, or memory runs out.
     pub fn run(&mut self, alloc: Global, circuit: &Circuit, budget: u64)
-        requires { IsSearch circuit.now.netlist budget self.old }
-        ensures { IsSearch circuit.now.netlist budget self.new }
+        requires { IsUnderWay circuit.now.netlist budget self.old }
+        ensures { IsUnderWay circuit.now.netlist budget self.new }
     {
         for _ in 0..budget {
             let Ok(true) = self.handle_next(alloc, circuit) else {
@@ -79,8 +79,8 @@ impl Search {
 
     // Handles the first node that is open, if the book gives one.
     fn handle_next(&mut self, alloc: Global, circuit: &Circuit) -> Result<bool, Stop>
-        requires { IsSearch circuit.now.netlist self.old.book.budget self.old }
-        ensures { IsSearch circuit.now.netlist self.old.book.budget self.new }
+        requires { IsUnderWay circuit.now.netlist self.old.book.budget self.old }
+        ensures { IsUnderWay circuit.now.netlist self.old.book.budget self.new }
     {
         let Claim::Lease(lease) = self.book.claim(0)? else {
             return Ok(false);
@@ -91,25 +91,32 @@ impl Search {
 
     // Handles a node: measures its representative, and then closes or splits it.
     fn handle(&mut self, alloc: Global, circuit: &Circuit, lease: Lease) -> Result<(), Stop>
-        requires search { IsSearch circuit.now.netlist self.old.book.budget self.old }
+        requires search { IsUnderWay circuit.now.netlist self.old.book.budget self.old }
         requires worker { lease.worker ≡ 0 }
         requires positions { length lease.cube ≡ 2 * length circuit.now.netlist.inputs }
-        ensures { IsSearch circuit.now.netlist self.old.book.budget self.new }
+        ensures { IsUnderWay circuit.now.netlist self.old.book.budget self.new }
     {
         let pair = representative(alloc, &lease.cube)?;
         let time = delay_of(alloc, circuit, &pair)?;
-        self.offer(pair, time);
+        self.offer(circuit, pair, time);
         match judge(alloc, circuit, &lease.cube, time, self.best)? {
             Verdict::Close(mark, bound) => {
-                self.close(lease, mark, bound);
+                self.close(circuit, lease, mark, bound);
                 Ok(())
             }
-            Verdict::Split(position, bound) => self.split(lease, position, bound),
+            Verdict::Split(position, bound) => self.split(circuit, lease, position, bound),
         }
     }
 
     // Keeps the pair where it has a greater delay than the best.
-    fn offer(&mut self, pair: Pair, time: u64) {
+    fn offer(&mut self, circuit: &Circuit, pair: Pair, time: u64)
+        requires search { IsUnderWay circuit.now.netlist self.old.book.budget self.old }
+        requires inside { IsIn pair (free_cube (2 * length circuit.now.netlist.inputs)) }
+        requires delay { has_delay circuit.now.netlist pair time }
+        ensures search { IsUnderWay circuit.now.netlist self.old.book.budget self.new }
+        ensures best { time ≤ self.new.best }
+        ensures book { self.new.book ≡ self.old.book }
+    {
         if time > self.best {
             self.best = time;
             self.pair = pair;
@@ -117,12 +124,31 @@ impl Search {
     }
 
     // Closes a held leaf with a bound that is at most the best.
-    fn close(&mut self, lease: Lease, mark: Mark, bound: u64) {
+    fn close(&mut self, circuit: &Circuit, lease: Lease, mark: Mark, bound: u64)
+        requires search { IsUnderWay circuit.now.netlist self.old.book.budget self.old }
+        requires worker { lease.worker ≡ 0 }
+        requires marked { IsMarked circuit.now.netlist lease.cube mark bound }
+        requires above { IsAboveEach circuit.now.netlist lease.cube bound }
+        requires within { bound ≤ self.old.best }
+        ensures { IsUnderWay circuit.now.netlist self.old.book.budget self.new }
+    {
         let _closed = self.book.close(lease, mark, bound, self.best);
     }
 
     // Splits a held leaf, whose cube has this bound.
-    fn split(&mut self, lease: Lease, position: usize, bound: u64) -> Result<(), Stop> {
+    fn split(
+        &mut self,
+        circuit: &Circuit,
+        lease: Lease,
+        position: usize,
+        bound: u64,
+    ) -> Result<(), Stop>
+        requires search { IsUnderWay circuit.now.netlist self.old.book.budget self.old }
+        requires free { slice_get lease.cube position ≡ Some Free }
+        requires wide { IsWide (has_delay circuit.now.netlist) (has_bound circuit.now.netlist) self.old.best lease.cube }
+        requires bound { has_bound circuit.now.netlist lease.cube bound }
+        ensures { IsUnderWay circuit.now.netlist self.old.book.budget self.new }
+    {
         self.bounds.reserve(2)?;
         self.book.split(lease, position)?;
         self.bounds.push_reserved(bound);
