@@ -1,3 +1,7 @@
 pub mod AtOnce
 pub mod Between
 pub mod Bits
+pub mod Bounded
+pub mod Ending
+pub mod Going
+pub mod Wells
