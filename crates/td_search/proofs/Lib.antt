@@ -4,4 +4,5 @@ pub mod Bits
 pub mod Bounded
 pub mod Ending
 pub mod Going
+pub mod Listing
 pub mod Wells
