@@ -1,10 +1,12 @@
 //! Searches of worked circuits, line by line.
 
+use crate::judging::delay_of;
 use crate::{Answer, Cause, alone};
 use std::alloc::Global;
 use std::process::Abort;
 use std::test::*;
 use td_circuit::{Circuit, build};
+use td_domain::Pair;
 use td_gates::Delay;
 use td_netlist::read;
 
@@ -181,4 +183,83 @@ fn both_domains_together(rt: HostRuntime) -> Result<(), Fail> {
     let gates = "buf #3 (w0,a); xor #(1,4) (w1,w0,a); or #1 (w2,w1,b); or #1 (w3,b,w1); and #2 (z,b,a); nor #(4,2) (y,w1,w0);";
     let circuit = module(alloc, "a, b", "y, z", gates)?;
     check_size(&rt, alloc, &circuit, 5, "exact 11 10 to 00, s 0, s 1, b a 0, b m 3, b a 11")
+}
+
+/// So many bits of a number, the least first.
+fn bits_of(alloc: Global, number: usize, count: usize) -> Result<Vec<bool>, Fail> {
+    let mut bits = Vec::new(alloc);
+    let mut rest = number;
+    for _ in 0..count {
+        bits.push(rest % 2 == 1)?;
+        rest /= 2;
+    }
+    Ok(bits)
+}
+
+/// The greatest delay over all pairs of a circuit with at most three inputs, one after another.
+fn worst_of(rt: &impl Abort, alloc: Global, circuit: &Circuit) -> Result<u64, Fail> {
+    let inputs = circuit.inputs();
+    assert!(rt; inputs <= 3);
+    let vectors = [1, 2, 4, 8][inputs];
+    let mut worst = 0;
+    for before in 0..vectors {
+        for after in 0..vectors {
+            let first = bits_of(alloc, before, inputs)?;
+            let second = bits_of(alloc, after, inputs)?;
+            assert!(rt; first.len() == inputs);
+            assert!(rt; second.len() == inputs);
+            let pair = Pair::new(first, second);
+            worst = delay_of(alloc, circuit, &pair)?.max(worst);
+        }
+    }
+    Ok(worst)
+}
+
+/// Compares searches of each budget up to 40 with the greatest delay over all pairs.
+fn compare(rt: &impl Abort, alloc: Global, text: &str) -> Result<(), Fail> {
+    let circuit = circuit_of(rt, alloc, text)?;
+    let worst = worst_of(rt, alloc, &circuit)?;
+    for budget in 0..41 {
+        match alone(alloc, &circuit, budget)? {
+            Answer::Exact { time, tree, .. } => {
+                assert_eq!(rt; time, worst);
+                assert!(rt; tree.nodes().len() as u64 <= budget);
+            }
+            Answer::Between {
+                low, high, nodes, ..
+            } => {
+                assert!(rt; low <= worst && worst <= high);
+                assert_eq!(rt; nodes, budget);
+            }
+        }
+    }
+    Ok(())
+}
+
+#[test]
+fn every_pair(rt: HostRuntime) -> Result<(), Fail> {
+    let alloc = rt.alloc();
+    let one = [
+        "not #(2,3) g(y,a);",
+        LOST,
+        "not #1 n(b,a); and #(1,3) g(y,a,b);",
+    ];
+    for gates in one {
+        compare(&rt, alloc, &module(alloc, "a", "y", gates)?)?;
+    }
+    let two = [
+        "buf #1 p1(p,b); buf #1 p2(q,b); xor #3 g(y,a,p,q);",
+        "buf #4 s(t,a); or #1 g(y,b,t);",
+    ];
+    for gates in two {
+        compare(&rt, alloc, &module(alloc, "a, b", "y", gates)?)?;
+    }
+    let three = [
+        "or #(3,2) (w0,a,c); nand #1 (w1,b,w0); nor #3 (y,w1,b);",
+        "xor #(1,4) (w0,a,b); nand #2 (w1,w0,c); xnor #1 (y,w1,a);",
+    ];
+    for gates in three {
+        compare(&rt, alloc, &module(alloc, "a, b, c", "y", gates)?)?;
+    }
+    Ok(())
 }
