@@ -6,13 +6,16 @@ use Rattle.td_circuit.specs.Run.{IsDelayOfBits}
 use Rattle.td_domain.specs.declared.cubes.Trit.{Trit}
 use Rattle.td_domain.specs.Pairs.{Pair}
 use Rattle.td_domain.specs.Cubes.{AllowsBits, IsIn}
-use Rattle.td_domain.specs.Together.{both_input, both_constant, both_gate, both_last}
+use Rattle.td_domain.specs.Together.{both_input, both_constant, both_gate, both_last, lesser}
+use Rattle.td_domain.specs.Bounds.{greater, greatest}
 use Rattle.td_domain.specs.BothLaws.{both_covers_gate, both_quiet}
 use Rattle.td_domain.proofs.Soundness.{no_later}
 use Rattle.td_arrival.specs.Arrivals as arrival
 use Rattle.td_arrival.specs.ArrivalLaws as arrival_laws
 use Rattle.td_ternary.specs.Possibles as possible
 use Rattle.td_ternary.specs.PossibleLaws as possible_laws
+use Rattle.td_certificate.specs.declared.tree.BoundedBy.TheVariants.{Both}
+use Rattle.td_certificate.specs.Accepts.{IsBoundBy}
 use Rattle.td_certificate.proofs.Acceptance.{vector_fits}
 use Rattle.td_search.specs.Answers.{has_delay, has_bound}
 
@@ -42,3 +45,20 @@ above_bound circuit numbering cube bound pair delay of_cube is_in is =
     (both_last arrival.last_of possible.last_of)
     (both_quiet arrival.Covers possible.Covers arrival.last_of possible.last_of arrival_laws.quiet_after_last possible_laws.quiet_after_last)
     bound (sym of_cube.is_greatest))
+
+lesser_some : (a : ℕ) (o : Option ℕ) → (m : ℕ) × (lesser (Some a) o ≡ Some m)
+lesser_some a None = (a, refl)
+lesser_some a (Some b) = (min a b, refl)
+
+greatest_some : {A : Type 0} (f : A → Option ℕ) (xs : List A) → ((x : A) → (m : ℕ) × (f x ≡ Some m)) → (m : ℕ) × (greatest (map f xs) ≡ Some m)
+greatest_some f [] all = (0, refl)
+greatest_some f (x ∷ xs) all =
+    let h = all x in
+    let r = greatest_some f xs all in
+    (max h.0 r.0, ap (λ (o : Option ℕ). greater o (greatest (map f xs))) h.1 ∙ ap (λ (o : Option ℕ). greater (Some h.0) o) r.1)
+
+-- the strongest domain has a bound of each cube
+pub strongest_some : (netlist : Netlist) (cube : List Trit) (answer : Option ℕ) → IsBoundBy Both netlist cube answer → (m : ℕ) × (answer ≡ Some m)
+strongest_some netlist cube answer is =
+    let r = greatest_some (λ name. both_last arrival.last_of possible.last_of (is.signals (Named name))) netlist.outputs (λ name. lesser_some _ _) in
+    (r.0, is.is_greatest ∙ r.1)
