@@ -1,6 +1,6 @@
 -- The steps of a search keep what it keeps.
 use Rattle.std.proofs.Common.{◌≡◌, ℕ, zero, suc, ◌+◌, ◌*◌, ◌<◌, ◌≤◌, max, List, [], ◌∷◌, ◌++◌, length, refl, sym, ap, subst, ◌∙◌, ⊎_elim, le_refl, length-append, arith}
-use Rattle.std.specs.Prelude.{Contains, slice_get, Some}
+use Rattle.std.specs.Prelude.{Contains, slice_get, Some, Result, Ok, Err, MatchResult}
 use Rattle.std.proofs.lemmas.List.{append-nil}
 use Rattle.std.proofs.lemmas.List.Elements.{Contains-append_cases}
 use Rattle.td_netlist.specs.Netlist.{Netlist}
@@ -16,6 +16,9 @@ use Rattle.td_book.specs.declared.node.State.TheVariants.{Split, Open, Held, Clo
 use Rattle.td_book.specs.Cubes.{free_cube, zero_side, one_side}
 use Rattle.td_book.specs.Board.{Board, node, opening}
 use Rattle.td_book.specs.Steps.{World, Event, Reply, Claiming, Splitting, Closing, Raising, Leased, Did, Saw, sees, held, Turns, Leases, Splits, Closes, starting, HonestRun}
+use Rattle.td_book.specs.declared.lease.SplitFault.{SplitFault}
+use Rattle.td_book.specs.declared.lease.SplitFault.TheVariants.{OutOfMemory, Stranger}
+use Rattle.td_book.specs.Claimed.{IsSplitFault}
 use Rattle.td_book.proofs.Runs.{run_then}
 use Rattle.td_book.proofs.Changes.{longer}
 use Rattle.td_search.specs.CutShort.{Near, IsWide, IsBoundNear}
@@ -249,3 +252,18 @@ module _ (netlist : Netlist) (budget : ℕ) where
             let g : lease ≡ l = cc in
             subst (λ (k : Lease). IsWide Delays Bounds best k.cube) g narrow
         here l p (suc k, lt, e) = absurd (omega arith)
+
+  -- a close, and where the book doesn't show the lease nothing changes
+  pub closed_or : (book c : Board) (best : ℕ) (pair : Pair) (bounds : List ℕ) → IsSearch netlist budget book best pair bounds
+      → (lease : Lease) (mark : Mark) (bound : ℕ) → lease.worker ≡ 0 → IsMarked netlist lease.cube mark bound → IsAboveEach netlist lease.cube bound
+      → bound ≤ best → {X Y : Type 0} (r : Result X Y) (Q : Y → Type 0) → ((y : Y) → Q y → c ≡ book)
+      → MatchResult r (λ x. Closes book lease mark bound best c) Q → IsSearch netlist budget c best pair bounds
+  closed_or book c best pair bounds s lease mark bound worker marked above low (Ok x) Q same h =
+      closes book best pair bounds s lease mark bound c worker marked above low h
+  closed_or book c best pair bounds s lease mark bound worker marked above low (Err y) Q same h =
+      subst (λ (b : Board). IsSearch netlist budget b best pair bounds) (sym (same y h)) s
+
+-- after a fault of a split the board is as before
+pub split_fault : (b c : Board) (lease : Lease) (fault : SplitFault) → IsSplitFault b lease fault c → c ≡ b
+split_fault b c lease (OutOfMemory back) h = h.1
+split_fault b c lease (Stranger back) h = h.1.0
