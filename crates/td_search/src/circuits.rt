@@ -182,7 +182,7 @@ fn both_domains_together(rt: HostRuntime) -> Result<(), Fail> {
     let alloc = rt.alloc();
     let gates = "buf #3 (w0,a); xor #(1,4) (w1,w0,a); or #1 (w2,w1,b); or #1 (w3,b,w1); and #2 (z,b,a); nor #(4,2) (y,w1,w0);";
     let circuit = module(alloc, "a, b", "y, z", gates)?;
-    check_size(&rt, alloc, &circuit, 5, "exact 11 10 to 00, s 0, s 1, b a 0, b m 3, b a 11")
+    check_size(&rt, alloc, &circuit, 5, "exact 11 10 to 01, s 0, s 1, b a 0, b m 3, b a 11")
 }
 
 /// So many bits of a number, the least first.
