@@ -134,12 +134,6 @@ fn more_inputs(rt: HostRuntime) -> Result<(), Fail> {
 }
 
 #[test]
-fn no_inputs(rt: HostRuntime) -> Result<(), Fail> {
-    let text = "module t (y); output y; and #1 g(y,1'b1,1'b1); endmodule";
-    check(&rt, rt.alloc(), text, 1_000_000, "exact 0  to , b a 0")
-}
-
-#[test]
 fn six_nand_gates(rt: HostRuntime) -> Result<(), Fail> {
     let text = "module c17 (N1,N2,N3,N6,N7,N22,N23);
 input N1,N2,N3,N6,N7;
