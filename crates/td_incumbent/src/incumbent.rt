@@ -79,10 +79,18 @@ impl Incumbent {
         ensures offer { offer ≤ result }
         ensures seat { seat.new ≡ record seat.old { seen = result; offer = max seat.old.offer offer } }
     {
+        self.raise_from(seat, offer).max(offer)
+    }
+
+    /// Raises the word to the offer, where that is greater; the answer is the word before.
+    fn raise_from(&self, seat: &mut Seat, offer: u64) -> u64
+        requires { seat.old.table ≡ self.now.table }
+        ensures seen { seat.old.seen ≤ result }
+        ensures seat { seat.new ≡ record seat.old { seen = max result offer; offer = max seat.old.offer offer } }
+    {
         self.table
             .shared
             .fetch_max::<Raise>(&mut seat.seat, 0, offer)
-            .max(offer)
     }
 
     /// The first seat, which from now on stands for the second too, with the greater of their offers. Both are of this incumbent.

@@ -162,3 +162,16 @@ fn of_three_inputs(rt: HostRuntime) -> Result<(), Fail> {
     ];
     compare_all(&rt, rt.alloc(), 3, &cells)
 }
+
+#[test]
+fn of_c17(rt: HostRuntime) -> Result<(), Fail> {
+    let cells = [
+        cell(Kind::Nand, 1, 1, &[0, 2]),
+        cell(Kind::Nand, 1, 1, &[2, 3]),
+        cell(Kind::Nand, 1, 1, &[1, 6]),
+        cell(Kind::Nand, 1, 1, &[6, 4]),
+        cell(Kind::Nand, 1, 1, &[5, 7]),
+        cell(Kind::Nand, 1, 1, &[7, 8]),
+    ];
+    compare_all(&rt, rt.alloc(), 5, &cells)
+}
