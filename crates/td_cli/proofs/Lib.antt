@@ -1,3 +1,5 @@
 pub mod Vectors
+pub mod CommandLines
 pub mod Refusing
 pub mod Outputs
+pub mod Programs

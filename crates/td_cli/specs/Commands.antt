@@ -1,15 +1,19 @@
 -- What a command writes, and how it ends.
-use Rattle.std.specs.Prelude.{◌≡◌, ℕ, List, ◌⊎◌, Option}
+use Rattle.std.specs.Prelude.{◌≡◌, ℕ, List, ◌++◌, ◌⊎◌, Option, option_map, codes, false}
+use Rattle.clap.specs.Words.{takes}
 use Rattle.td_gates.specs.declared.timing.Delay.{Delay}
 use Rattle.td_gates.specs.Output.{Output, Sent, Failed}
 use Rattle.td_cli.specs.declared.status.Status.{Status}
 use Rattle.td_cli.specs.declared.status.Status.TheVariants.{Done, Refused, BadCommand, Device}
 use Rattle.td_cli.specs.declared.refusal.Refusal.{Refusal}
 use Rattle.td_cli.specs.declared.refusal.Refusal.TheVariants as refusal
-use Rattle.td_cli.specs.Reports.{IsSimReport}
+use Rattle.td_cli.specs.Reports.{newline, IsSimReport}
 use Rattle.td_cli.specs.Refusals.{refusal_text}
 use Rattle.td_cli.specs.BoundReports.{IsBoundReport}
 use Rattle.td_cli.specs.Outcomes.{HasNoReport, HasNoBounds}
+use Rattle.td_cli.specs.CommandLine.{program, delays, Asks}
+use Rattle.td_cli.specs.declared.command.Request.{Request}
+use Rattle.td_cli.specs.declared.command.Request.TheVariants as request
 
 -- how the program ends after a refusal
 abbrev pub status_of : Refusal → Status
@@ -62,3 +66,88 @@ SimEnds status text default from to = Ends (IsSimReport text default from to) (H
 -- what `bound` wrote
 abbrev pub BoundEnds : Status → List ℕ → Delay → Option (List ℕ) → Option (List ℕ) → Output → Output → Output → Output → Type 0
 BoundEnds status text default first second = Ends (IsBoundReport text default first second) (HasNoBounds text default first second) status
+
+-- ---- files
+
+-- the line that tells a file that can't be read
+abbrev pub unread_text : List ℕ → List ℕ
+unread_text name = codes "tdelay: cannot read " ++ name ++ newline
+
+-- nothing went out, and want of memory was told
+pub record IsOutOfMemory (status : Status) (out_old out_new err_old err_new : Output) : Type 0 where
+  pub ends : status ≡ Device
+  pub nothing : out_new ≡ out_old
+  pub told : Tells err_old err_new (refusal_text refusal.OutOfMemory)
+
+-- nothing went out, and it was told that this file can't be read
+pub record IsUnread (name : List ℕ) (status : Status) (out_old out_new err_old err_new : Output) : Type 0 where
+  pub ends : status ≡ Device
+  pub nothing : out_new ≡ out_old
+  pub told : Tells err_old err_new (unread_text name)
+
+-- a file was not read
+abbrev pub IsNotRead : List ℕ → Status → Output → Output → Output → Output → Type 0
+IsNotRead name status out_old out_new err_old err_new =
+    IsUnread name status out_old out_new err_old err_new ⊎ IsOutOfMemory status out_old out_new err_old err_new
+
+-- a file of this name was read, and the command ended as it does on its bytes; or it was not read
+abbrev pub EndsOnFile : (List ℕ → List ℕ → Type 0) → List ℕ → (List ℕ → Type 0) → Status → Output → Output → Output → Output → Type 0
+EndsOnFile Holds name EndsOn status out_old out_new err_old err_new =
+    ((text : List ℕ) × Holds name text × EndsOn text) ⊎ IsNotRead name status out_old out_new err_old err_new
+
+-- what was written for a request, where these are the bytes that a read of a name may give
+abbrev pub RequestEnds : (List ℕ → List ℕ → Type 0) → Request → Status → Output → Output → Output → Output → Type 0
+RequestEnds Holds (request.Sim asked) status out_old out_new err_old err_new =
+    EndsOnFile Holds asked.file.now
+    (λ text. SimEnds status text (delays asked.rise asked.fall) asked.from.now asked.to.now out_old out_new err_old err_new)
+    status out_old out_new err_old err_new
+RequestEnds Holds (request.Bound asked) status out_old out_new err_old err_new =
+    EndsOnFile Holds asked.file.now
+    (λ text. BoundEnds status text (delays asked.rise asked.fall) (option_map (λ word. word.now) asked.first)
+    (option_map (λ word. word.now) asked.second) out_old out_new err_old err_new)
+    status out_old out_new err_old err_new
+
+-- ---- the program
+
+-- standard output failed behind a beginning of a text, which was told
+pub record IsUnwritten (text : List ℕ) (status : Status) (out_old out_new err_old err_new : Output) : Type 0 where
+  pub ends : status ≡ Device
+  pub broke : Failed out_old out_new text
+  pub told : Tells err_old err_new (codes "tdelay: cannot write stdout" ++ newline)
+
+-- help went out
+pub record IsHelp (text : List ℕ) (status : Status) (out_old out_new err_old err_new : Output) : Type 0 where
+  pub ends : status ≡ Done
+  pub sent : Sent out_old out_new text
+  pub silent : err_new ≡ err_old
+
+-- a fault of the command line was told
+pub record IsMistake (text : List ℕ) (status : Status) (out_old out_new err_old err_new : Output) : Type 0 where
+  pub ends : status ≡ BadCommand
+  pub nothing : out_new ≡ out_old
+  pub told : Tells err_old err_new text
+
+-- the parser's text was told: help, or a fault of the command line
+abbrev pub TellsText : Status → Output → Output → Output → Output → Type 0
+TellsText status out_old out_new err_old err_new = (text : List ℕ)
+    × (IsHelp text status out_old out_new err_old err_new
+    ⊎ (IsMistake text status out_old out_new err_old err_new ⊎ IsUnwritten text status out_old out_new err_old err_new))
+
+-- these words ask for nothing
+abbrev pub AskNothing : List (List ℕ) → Type 0
+AskNothing words = (asked : Request) → ¬ Asks words asked
+
+-- nothing was written
+pub record IsSilent (words : List (List ℕ)) (out_old out_new err_old err_new : Output) : Type 0 where
+  pub none : AskNothing words
+  pub nothing : out_new ≡ out_old
+  pub silent : err_new ≡ err_old
+
+-- What the program wrote, by what the words ask for: where they are no command line that it takes, help or their fault was
+-- told. Want of memory may be told in place of any.
+abbrev pub ProgramEnds : (List ℕ → List ℕ → Type 0) → List (List ℕ) → Status → Output → Output → Output → Output → Type 0
+ProgramEnds Holds words status out_old out_new err_old err_new =
+    ((asked : Request) × Asks words asked × RequestEnds Holds asked status out_old out_new err_old err_new)
+    ⊎ (((takes program words ≡ false) × TellsText status out_old out_new err_old err_new)
+    ⊎ (IsOutOfMemory status out_old out_new err_old err_new
+    ⊎ ((status ≡ BadCommand) × IsSilent words out_old out_new err_old err_new)))

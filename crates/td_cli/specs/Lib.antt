@@ -1,7 +1,9 @@
 pub mod Statuses
+pub mod CommandLine
 pub mod Vectors
 pub mod Reports
 pub mod BoundReports
 pub mod Refusals
 pub mod Outcomes
 pub mod Commands
+pub mod MemoryFiles

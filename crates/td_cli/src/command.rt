@@ -1,8 +1,16 @@
 //! The command line.
 
-use clap::{Arg, ArgMatches, Command, Error, value_parser};
-use std::alloc::Global;
+ghost use Rattle.std.specs.Prelude.{◌≡◌, ◌<◌, ℕ, codes, map, false, true, IfOk, IfErr, IfSome, IfNone};
+ghost use Rattle.clap.specs.Words.{app_of, rule_of, found_of, kind_of, rows_of, subcommand_rows_of, takes};
+ghost use Rattle.clap.specs.declared.error.kind.ErrorKind.TheVariants as ErrorKind;
+ghost use Rattle.td_cli.specs.CommandLine.{needed, option, number_option, sim_command, bound_command, program, with_default};
+ghost use Rattle.td_cli.specs.CommandLine.{HasNumber, HasDefault, AsksSim, AsksBound, EnteredAsks, Asks, IsAnswered};
+
+use clap::builder::ValueParser;
+use clap::{Arg, ArgMatches, Command, Error};
+use std::alloc::{AllocError, Global};
 use std::convert::AsStr;
+use td_gates::Delay;
 
 /// The run of a pair of vectors.
 #[derive(Clone, Copy, Debug)]
@@ -10,6 +18,7 @@ pub struct SimRequest<'a> {
     pub file: &'a str,
     pub from: &'a str,
     pub to: &'a str,
+    /// The delays of gates that state none.
     pub rise: u32,
     pub fall: u32,
 }
@@ -20,6 +29,7 @@ pub struct BoundRequest<'a> {
     pub file: &'a str,
     pub first: Option<&'a str>,
     pub second: Option<&'a str>,
+    /// The delays of gates that state none.
     pub rise: u32,
     pub fall: u32,
 }
@@ -31,36 +41,82 @@ pub enum Request<'a> {
     Bound(BoundRequest<'a>),
 }
 
-fn file<'a>(alloc: Global) -> Arg<'a> {
-    Arg::new(alloc, "FILE")
-        .required(true)
-        .help("The netlist, a path, or `stdin` for standard input")
+/// A word that has to be given.
+fn needed<'a>(alloc: Global, id: &'a str, help: &'a str) -> Arg<'a>
+    ensures rule { rule_of result ≡ needed id.entry.now }
+    ensures local { result.global ≡ false }
+{
+    Arg::new(alloc, id).required(true).help(help)
+}
+
+/// An option with a text, of the name by which it is asked for.
+fn option<'a>(alloc: Global, id: &'a str, value: &'a str, help: &'a str) -> Arg<'a>
+    ensures rule { rule_of result ≡ option id.entry.now }
+    ensures local { result.global ≡ false }
+{
+    Arg::new(alloc, id).long(id).value_name(value).help(help)
+}
+
+/// An option with a number in a range, and the number where it is left out.
+fn number_option<'a>(
+    alloc: Global,
+    id: &'a str,
+    least: u32,
+    most: u32,
+    left_out: &'a str,
+    help: &'a str,
+) -> Arg<'a>
+    ensures rule { rule_of result ≡ number_option id.entry.now least most left_out.entry.now }
+    ensures local { result.global ≡ false }
+{
+    option(alloc, id, "N", help)
+        .value_parser(ValueParser::signed(i64::from(least), i64::from(most)))
+        .default_value(left_out)
+}
+
+fn file<'a>(alloc: Global) -> Arg<'a>
+    ensures rule { rule_of result ≡ needed (codes "FILE") }
+    ensures local { result.global ≡ false }
+{
+    needed(
+        alloc,
+        "FILE",
+        "The netlist, a path, or `stdin` for standard input",
+    )
 }
 
 /// The delay of gates that state none, as two options.
-fn with_default<'a>(alloc: Global, command: Command<'a>) -> Result<Command<'a>, Error> {
-    let rise = Arg::new(alloc, "default-rise")
-        .long("default-rise")
-        .value_name("N")
-        .value_parser(value_parser!(u32).range(1..=1_000_000_000))
-        .default_value("1")
-        .help("Rise delay in steps of gates without a delay");
-    let fall = Arg::new(alloc, "default-fall")
-        .long("default-fall")
-        .value_name("N")
-        .value_parser(value_parser!(u32).range(1..=1_000_000_000))
-        .default_value("1")
-        .help("Fall delay in steps of gates without a delay");
-    Ok(command.arg(rise)?.arg(fall)?)
+fn with_default<'a>(alloc: Global, command: Command<'a>) -> Result<Command<'a>, AllocError>
+    ensures { IfOk result (λ new. app_of new ≡ with_default (app_of command.entry)) }
+{
+    let rise = number_option(
+        alloc,
+        "default-rise",
+        1,
+        Delay::MAX,
+        "1",
+        "Rise delay in steps of gates without a delay",
+    );
+    let fall = number_option(
+        alloc,
+        "default-fall",
+        1,
+        Delay::MAX,
+        "1",
+        "Fall delay in steps of gates without a delay",
+    );
+    command.arg(rise)?.arg(fall)
 }
 
-fn sim_command<'a>(alloc: Global) -> Result<Command<'a>, Error> {
-    let from = Arg::new(alloc, "FROM").required(true).help(
+fn sim_command<'a>(alloc: Global) -> Result<Command<'a>, AllocError>
+    ensures { IfOk result (λ new. app_of new ≡ sim_command) }
+{
+    let from = needed(
+        alloc,
+        "FROM",
         "The first vector: 0, 1 or x for each input in order, or `none`",
     );
-    let to = Arg::new(alloc, "TO")
-        .required(true)
-        .help("The second vector, applied at moment 0");
+    let to = needed(alloc, "TO", "The second vector, applied at moment 0");
     let command = Command::new(alloc, "sim")
         .about("Simulates one pair of vectors: when each output changes last")
         .arg(file(alloc))?
@@ -69,17 +125,21 @@ fn sim_command<'a>(alloc: Global) -> Result<Command<'a>, Error> {
     with_default(alloc, command)
 }
 
-fn bound_command<'a>(alloc: Global) -> Result<Command<'a>, Error> {
-    let first = Arg::new(alloc, "first")
-        .long("first")
-        .value_name("TRITS")
-        .help(
-            "The first vector: 0, 1 or . (free) for each input in order; all free where left out",
-        );
-    let second = Arg::new(alloc, "second")
-        .long("second")
-        .value_name("TRITS")
-        .help("The second vector, applied at moment 0");
+fn bound_command<'a>(alloc: Global) -> Result<Command<'a>, AllocError>
+    ensures { IfOk result (λ new. app_of new ≡ bound_command) }
+{
+    let first = option(
+        alloc,
+        "first",
+        "TRITS",
+        "The first vector: 0, 1 or . (free) for each input in order; all free where left out",
+    );
+    let second = option(
+        alloc,
+        "second",
+        "TRITS",
+        "The second vector, applied at moment 0",
+    );
     let command = Command::new(alloc, "bound")
         .about("Bounds the delay of all pairs of vectors that two patterns allow")
         .arg(file(alloc))?
@@ -88,41 +148,82 @@ fn bound_command<'a>(alloc: Global) -> Result<Command<'a>, Error> {
     with_default(alloc, command)
 }
 
-fn command<'a>(alloc: Global) -> Result<Command<'a>, Error> {
-    let command = Command::new(alloc, "tdelay")
+fn command<'a>(alloc: Global) -> Result<Command<'a>, AllocError>
+    ensures { IfOk result (λ new. app_of new ≡ program) }
+{
+    Command::new(alloc, "tdelay")
         .about("Worst transition delay of a netlist of Verilog gate primitives")
         .subcommand_required(true)
         .subcommand(sim_command(alloc)?)?
-        .subcommand(bound_command(alloc)?)?;
-    Ok(command)
+        .subcommand(bound_command(alloc)?)
 }
 
-fn request_of<'a>(matches: &ArgMatches<'a>) -> Option<Request<'a>> {
-    let (name, matches) = matches.subcommand()?;
-    let rise = matches.get_one::<u32>("default-rise")?;
-    let fall = matches.get_one::<u32>("default-fall")?;
+/// The number of an option.
+fn number(matches: &ArgMatches<'_>, id: &str) -> Option<u32>
+    ensures some { IfSome result (λ number. HasNumber id.now (rows_of (found_of matches.now)) number) }
+    ensures none { IfNone result ((number : ℕ) → number < 4294967296 → ¬ HasNumber id.now (rows_of (found_of matches.now)) number) }
+{
+    matches.get_one::<u32>(id)
+}
+
+/// The delay of gates that state none.
+fn default(matches: &ArgMatches<'_>) -> Option<Delay>
+    ensures { IsAnswered (HasDefault (rows_of (found_of matches.now))) result }
+{
+    let rise = number(matches, "default-rise")?;
+    let fall = number(matches, "default-fall")?;
+    Delay::new(rise, fall)
+}
+
+fn sim_of<'a>(matches: &ArgMatches<'a>) -> Option<SimRequest<'a>>
+    ensures { IsAnswered (AsksSim (rows_of (found_of matches.now))) result }
+{
     let file = matches.get_str("FILE")?;
+    let from = matches.get_str("FROM")?;
+    let to = matches.get_str("TO")?;
+    let default = default(matches)?;
+    Some(SimRequest {
+        file,
+        from,
+        to,
+        rise: default.rise,
+        fall: default.fall,
+    })
+}
+
+fn bound_of<'a>(matches: &ArgMatches<'a>) -> Option<BoundRequest<'a>>
+    ensures { IsAnswered (AsksBound (rows_of (found_of matches.now))) result }
+{
+    let file = matches.get_str("FILE")?;
+    let default = default(matches)?;
+    Some(BoundRequest {
+        file,
+        first: matches.get_str("first"),
+        second: matches.get_str("second"),
+        rise: default.rise,
+        fall: default.fall,
+    })
+}
+
+fn request_of<'a>(matches: &ArgMatches<'a>) -> Option<Request<'a>>
+    ensures { IsAnswered (EnteredAsks (subcommand_rows_of matches.now)) result }
+{
+    let (name, matches) = matches.subcommand()?;
     match name {
-        "sim" => Some(Request::Sim(SimRequest {
-            file,
-            from: matches.get_str("FROM")?,
-            to: matches.get_str("TO")?,
-            rise,
-            fall,
-        })),
-        "bound" => Some(Request::Bound(BoundRequest {
-            file,
-            first: matches.get_str("first"),
-            second: matches.get_str("second"),
-            rise,
-            fall,
-        })),
+        "sim" => Some(Request::Sim(sim_of(matches)?)),
+        "bound" => Some(Request::Bound(bound_of(matches)?)),
         _ => None,
     }
 }
 
 /// What the words of a command line ask for. The first is the program's name.
-pub fn parse<'a, S: AsStr>(alloc: Global, words: &'a [S]) -> Result<Option<Request<'a>>, Error> {
-    let matches = command(alloc)?.try_get_matches_from(words)?;
-    Ok(request_of(&matches))
+pub fn parse<'a, S: AsStr>(alloc: Global, words: &'a [S]) -> Result<Option<Request<'a>>, Error>
+    ensures asked { IfOk result (IsAnswered (Asks (map S.text words.entry.now))) }
+    // Words that the program takes are refused for want of memory alone.
+    ensures fault { IfErr result (λ error. takes program (map S.text words.entry.now) ≡ true → kind_of error ≡ ErrorKind.OutOfMemory) }
+{
+    match command(alloc)?.try_get_matches_from(words) {
+        Ok(matches) => Ok(request_of(&matches)),
+        Err(error) => Err(error),
+    }
 }

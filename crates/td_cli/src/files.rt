@@ -15,11 +15,17 @@ pub enum ReadFault {
 
 /// Files by name.
 pub trait Files {
+    ghost use Rattle.std.specs.Prelude.{◌≡◌, ℕ, List, IfOk};
+
     /// A writer of one file.
     type Writer: Sink + Drop;
 
+    /// The bytes that a read of a name may give.
+    ghost holds: { Self → List ℕ → List ℕ → Type 0 };
+
     /// All bytes of a file. The name `stdin` is standard input.
-    fn read(&mut self, alloc: Global, name: &str) -> Result<Vec<u8>, ReadFault>;
+    fn read(&mut self, alloc: Global, name: &str) -> Result<Vec<u8>, ReadFault>
+        ensures { IfOk result (λ bytes. holds self.old name.now bytes.items) };
 
     /// A writer of a new file of this name.
     fn create(&mut self, alloc: Global, name: &str) -> Result<Self::Writer, DeviceFault>;
@@ -45,6 +51,11 @@ fn fault_of(error: io::Error) -> ReadFault {
 }
 
 impl<'r, R: rt::Files + Input + AllocGlobal> Files for RealFiles<'r, R> {
+    ghost use Rattle.std.specs.Prelude.{⊤};
+
+    /// Of the system's files nothing is known.
+    ghost holds = { λ _ _ _. ⊤ };
+
     type Writer = WriterSink<R::File>;
 
     fn read(&mut self, alloc: Global, name: &str) -> Result<Vec<u8>, ReadFault> {

@@ -15,9 +15,10 @@ mod vector;
 mod writer;
 
 pub use bounding::bounds;
+pub use command::{BoundRequest, Request, SimRequest, parse};
 pub use files::{Files, ReadFault, RealFiles};
 pub use memory_files::MemoryFiles;
-pub use program::{carry_out_bound, carry_out_sim, run, run_plain};
+pub use program::{carry_out, carry_out_bound, carry_out_sim, run, run_plain};
 pub use refusal::Refusal;
 pub use simulate::sim;
 pub use status::Status;

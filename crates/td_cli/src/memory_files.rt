@@ -1,5 +1,8 @@
 //! Files in memory, for tests.
 
+ghost use Rattle.std.specs.Prelude.{◌≡◌, IfOk, IfSome};
+ghost use Rattle.td_cli.specs.MemoryFiles.{HasFile};
+
 use crate::files::{Files, ReadFault};
 use std::alloc::{AllocError, Global};
 use td_gates::{DeviceFault, MemorySink};
@@ -34,26 +37,41 @@ impl<'a> MemoryFiles<'a> {
     }
 }
 
-fn copied(alloc: Global, bytes: &[u8]) -> Result<Vec<u8>, AllocError> {
+fn copied(alloc: Global, bytes: &[u8]) -> Result<Vec<u8>, AllocError>
+    ensures { IfOk result (λ copy. copy.items ≡ bytes.now) }
+{
     let mut copy = Vec::new(alloc);
     copy.extend_from_slice(bytes)?;
     Ok(copy)
 }
 
+/// The bytes of the first file of this name.
+fn found<'a>(files: &[(&'a str, &'a [u8])], name: &str) -> Option<&'a [u8]>
+    ensures { IfSome result (λ bytes. HasFile files.now name.now bytes.now) }
+{
+    for (file, bytes) in files {
+        if *file == name {
+            return Some(*bytes);
+        }
+    }
+    None
+}
+
 impl<'a> Files for MemoryFiles<'a> {
+    ghost use Rattle.td_cli.specs.MemoryFiles.{HasFile};
+
+    /// A file of this name has these bytes.
+    ghost holds = { λ files name bytes. HasFile files.files.now name bytes };
+
     type Writer = MemorySink;
 
     fn read(&mut self, alloc: Global, name: &str) -> Result<Vec<u8>, ReadFault> {
-        for (file, bytes) in self.files {
-            if *file == name {
-                return if bytes.len() > self.readable {
-                    Err(ReadFault::Device)
-                } else {
-                    copied(alloc, bytes).map_err(|_| ReadFault::OutOfMemory)
-                };
+        match found(self.files, name) {
+            Some(bytes) if bytes.len() <= self.readable => {
+                copied(alloc, bytes).map_err(|_| ReadFault::OutOfMemory)
             }
+            _ => Err(ReadFault::Device),
         }
-        Err(ReadFault::Device)
     }
 
     fn create(&mut self, alloc: Global, _name: &str) -> Result<MemorySink, DeviceFault> {

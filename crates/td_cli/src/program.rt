@@ -1,8 +1,14 @@
 //! The program.
 
-ghost use Rattle.std.specs.Prelude.{◌≡◌};
-ghost use Rattle.std.specs.Option.{option_map};
-ghost use Rattle.td_cli.specs.Commands.{Tells, IsTold, SimEnds, BoundEnds};
+ghost use Rattle.std.specs.Prelude.{◌≡◌, ◌⊎◌, ◌++◌, map, option_map, OnOk, IfSome, IfNone};
+ghost use Rattle.clap.specs.Words.{kind_of};
+ghost use Rattle.clap.specs.declared.error.kind.ErrorKind.TheVariants as Kind;
+ghost use Rattle.td_gates.specs.Output.{Output};
+ghost use Rattle.td_cli.specs.Commands.{Tells, IsTold, SimEnds, BoundEnds, unread_text, IsNotRead, IsOutOfMemory};
+ghost use Rattle.td_gates.specs.Delays.{IsInRange};
+ghost use Rattle.td_cli.specs.CommandLine.{delays, IsCarriedOut};
+ghost use Rattle.td_cli.specs.Commands.{RequestEnds, TellsText, IsSilent, ProgramEnds};
+ghost use Rattle.td_cli.specs.declared.command.Request.TheVariants as Asked;
 
 use crate::bounding::bounds;
 use crate::command::{BoundRequest, Request, SimRequest, parse};
@@ -17,14 +23,18 @@ use std::alloc::{AllocError, Global};
 use std::convert::AsStr;
 use td_gates::{Delay, Sink};
 
-/// Carries out the command that the words ask for: what it answers goes to `out`, why it was refused to `err`.
+/// Carries out the command that the words ask for: what it answers goes to `out`, why it was refused to `err`. The first
+/// word is the program's name.
 pub fn run<S: AsStr, F: Files, O: Sink, E: Sink>(
     alloc: Global,
     words: &[S],
     files: &mut F,
     out: &mut O,
     err: &mut E,
-) -> Status {
+) -> Status
+    ensures { ProgramEnds (F.holds files.old) (map S.text words.now) result
+        (O.output out.old) (O.output out.new) (E.output err.old) (E.output err.new) }
+{
     match run_plain(alloc, words, files, out, err) {
         Some(status) => status,
         None => Status::BadCommand,
@@ -38,12 +48,34 @@ pub fn run_plain<S: AsStr, F: Files, O: Sink, E: Sink>(
     files: &mut F,
     out: &mut O,
     err: &mut E,
-) -> Option<Status> {
+) -> Option<Status>
+    ensures some { IfSome result (λ status. ProgramEnds (F.holds files.old) (map S.text words.now) status
+        (O.output out.old) (O.output out.new) (E.output err.old) (E.output err.new)) }
+    ensures none { IfNone result (IsSilent (map S.text words.now)
+        (O.output out.old) (O.output out.new) (E.output err.old) (E.output err.new)) }
+{
     match parse(alloc, words) {
-        Ok(Some(Request::Sim(request))) => Some(run_sim(alloc, files, request, out, err)),
-        Ok(Some(Request::Bound(request))) => Some(run_bound(alloc, files, request, out, err)),
+        Ok(Some(request)) => Some(carry_out(alloc, files, &request, out, err)),
         Ok(None) => None,
         Err(error) => Some(tell_error(alloc, error, out, err)),
+    }
+}
+
+/// Carries out what is asked.
+pub fn carry_out<F: Files, O: Sink, E: Sink>(
+    alloc: Global,
+    files: &mut F,
+    request: &Request<'_>,
+    out: &mut O,
+    err: &mut E,
+) -> Status
+    requires { IsCarriedOut request.now }
+    ensures { RequestEnds (F.holds files.old) request.now result
+        (O.output out.old) (O.output out.new) (E.output err.old) (E.output err.new) }
+{
+    match request {
+        Request::Sim(request) => run_sim(alloc, files, *request, out, err),
+        Request::Bound(request) => run_bound(alloc, files, *request, out, err),
     }
 }
 
@@ -54,16 +86,18 @@ fn run_sim<F: Files, O: Sink, E: Sink>(
     request: SimRequest<'_>,
     out: &mut O,
     err: &mut E,
-) -> Status {
-    let text = match read(alloc, files, request.file, err) {
-        Ok(text) => text,
-        Err(status) => return status,
-    };
-    // The command line lets no other delays through.
+) -> Status
+    requires { IsInRange (delays request.rise request.fall) }
+    ensures { RequestEnds (F.holds files.old) (Asked.Sim request.entry) result
+        (O.output out.old) (O.output out.new) (E.output err.old) (E.output err.new) }
+{
     let Some(default) = Delay::new(request.rise, request.fall) else {
         return Status::BadCommand;
     };
-    carry_out_sim(alloc, &text, default, request.from, request.to, out, err)
+    match files.read(alloc, request.file) {
+        Ok(text) => carry_out_sim(alloc, &text, default, request.from, request.to, out, err),
+        Err(fault) => tell_unread(alloc, err, request.file, fault),
+    }
 }
 
 /// The command `bound`.
@@ -73,40 +107,50 @@ fn run_bound<F: Files, O: Sink, E: Sink>(
     request: BoundRequest<'_>,
     out: &mut O,
     err: &mut E,
-) -> Status {
-    let text = match read(alloc, files, request.file, err) {
-        Ok(text) => text,
-        Err(status) => return status,
-    };
-    // The command line lets no other delays through.
+) -> Status
+    requires { IsInRange (delays request.rise request.fall) }
+    ensures { RequestEnds (F.holds files.old) (Asked.Bound request.entry) result
+        (O.output out.old) (O.output out.new) (E.output err.old) (E.output err.new) }
+{
     let Some(default) = Delay::new(request.rise, request.fall) else {
         return Status::BadCommand;
     };
-    carry_out_bound(
-        alloc,
-        &text,
-        default,
-        request.first,
-        request.second,
-        out,
-        err,
-    )
+    match files.read(alloc, request.file) {
+        Ok(text) => carry_out_bound(
+            alloc,
+            &text,
+            default,
+            request.first,
+            request.second,
+            out,
+            err,
+        ),
+        Err(fault) => tell_unread(alloc, err, request.file, fault),
+    }
 }
 
-/// The bytes of a file, or how the program ends where it can't be read, which is told.
-fn read<F: Files, E: Sink>(
-    alloc: Global,
-    files: &mut F,
-    file: &str,
-    err: &mut E,
-) -> Result<Vec<u8>, Status> {
-    match files.read(alloc, file) {
-        Ok(text) => Ok(text),
-        Err(ReadFault::OutOfMemory) => {
-            Err(tell(err, b"tdelay: out of memory\n", Status::Device))
-        }
-        Err(ReadFault::Device) => Err(tell_name(alloc, err, b"tdelay: cannot read ", file)),
+/// Tells that a file can't be read, or want of memory.
+fn tell_unread<E: Sink>(alloc: Global, err: &mut E, file: &str, fault: ReadFault) -> Status
+    ensures { (output : Output) → IsNotRead file.now result output output (E.output err.old) (E.output err.new) }
+{
+    let mut text = Text::new(alloc);
+    let told = match fault {
+        ReadFault::OutOfMemory => Err(AllocError),
+        ReadFault::Device => unread_line(&mut text, file),
+    };
+    match told {
+        Ok(()) => tell(err, text.bytes(), Status::Device),
+        Err(_) => tell(err, b"tdelay: out of memory\n", Status::Device),
     }
+}
+
+/// Appends the line that tells a file that can't be read.
+fn unread_line(text: &mut Text, file: &str) -> Result<(), AllocError>
+    ensures { OnOk result (text.new ≡ text.old ++ unread_text file.now) }
+{
+    text.push(b"tdelay: cannot read ")?;
+    text.push(file.as_bytes())?;
+    text.push(b"\n")
 }
 
 /// Carries out `sim` on bytes that were read: the report goes to `out`, why there is none to `err`.
@@ -153,15 +197,6 @@ pub fn carry_out_bound<O: Sink, E: Sink>(
     }
 }
 
-/// Done, where standard output took all.
-fn written<E: Sink>(err: &mut E, took_all: bool) -> Status {
-    if took_all {
-        Status::Done
-    } else {
-        tell(err, b"tdelay: cannot write stdout\n", Status::Device)
-    }
-}
-
 /// Tells a line on standard error, where a failure is ignored.
 fn tell<E: Sink>(err: &mut E, line: &[u8], status: Status) -> Status
     ensures status { result ≡ status }
@@ -171,21 +206,6 @@ fn tell<E: Sink>(err: &mut E, line: &[u8], status: Status) -> Status
         Ok(()) => status,
         Err(_) => status,
     }
-}
-
-fn tell_name<E: Sink>(alloc: Global, err: &mut E, begin: &[u8], name: &str) -> Status {
-    let mut text = Text::new(alloc);
-    let made = name_line(&mut text, begin, name);
-    match made {
-        Ok(()) => tell(err, text.bytes(), Status::Device),
-        Err(_) => tell(err, b"tdelay: out of memory\n", Status::Device),
-    }
-}
-
-fn name_line(text: &mut Text, begin: &[u8], name: &str) -> Result<(), AllocError> {
-    text.push(begin)?;
-    text.push(name.as_bytes())?;
-    text.push(b"\n")
 }
 
 /// Tells why a command was not carried out. Want of memory may be told in place of any reason.
@@ -200,7 +220,12 @@ fn tell_refusal<E: Sink>(alloc: Global, err: &mut E, refusal: &Refusal<'_>) -> S
 }
 
 /// Tells a fault of the command line on standard error, help on standard output.
-fn tell_error<O: Sink, E: Sink>(alloc: Global, error: Error, out: &mut O, err: &mut E) -> Status {
+fn tell_error<O: Sink, E: Sink>(alloc: Global, error: Error, out: &mut O, err: &mut E) -> Status
+    ensures memory { kind_of error ≡ Kind.OutOfMemory → IsOutOfMemory result
+        (O.output out.old) (O.output out.new) (E.output err.old) (E.output err.new) }
+    ensures told { IsOutOfMemory result (O.output out.old) (O.output out.new) (E.output err.old) (E.output err.new)
+        ⊎ TellsText result (O.output out.old) (O.output out.new) (E.output err.old) (E.output err.new) }
+{
     if error.kind() == ErrorKind::OutOfMemory {
         return tell(err, b"tdelay: out of memory\n", Status::Device);
     }
@@ -211,6 +236,16 @@ fn tell_error<O: Sink, E: Sink>(alloc: Global, error: Error, out: &mut O, err: &
     if error.use_stderr() {
         tell(err, text.as_bytes(), Status::BadCommand)
     } else {
-        written(err, out.write_all(text.as_bytes()).is_ok())
+        tell_help(out, err, text.as_bytes())
+    }
+}
+
+/// Help on standard output.
+fn tell_help<O: Sink, E: Sink>(out: &mut O, err: &mut E, text: &[u8]) -> Status
+    ensures { TellsText result (O.output out.old) (O.output out.new) (E.output err.old) (E.output err.new) }
+{
+    match out.write_all(text) {
+        Ok(()) => Status::Done,
+        Err(_) => tell(err, b"tdelay: cannot write stdout\n", Status::Device),
     }
 }

@@ -1,0 +1,5 @@
+use Rattle.std.proofs.Common.{rules, inr}
+use Rattle.td_cli.proofs.program.run_sim.Goals as goal
+
+pub returns-in-Err : goal.returns-in-Err
+returns-in-Err g c = inr (c.tell_unread.ensures _)

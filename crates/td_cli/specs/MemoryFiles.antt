@@ -1,0 +1,11 @@
+-- Files in memory.
+use Rattle.std.specs.Prelude.{◌≡◌, ℕ, List, slice_get, Some}
+use Rattle.std.specs.Borrow.{Bor}
+
+-- the file at this place has this name and these bytes
+abbrev pub IsFileAt : List (Bor (List ℕ) × Bor (List ℕ)) → ℕ → Bor (List ℕ) × Bor (List ℕ) → List ℕ → List ℕ → Type 0
+IsFileAt files place file name bytes = (slice_get files place ≡ Some file) × (file.0.now ≡ name) × (file.1.now ≡ bytes)
+
+-- one of the files has this name and these bytes
+abbrev pub HasFile : List (Bor (List ℕ) × Bor (List ℕ)) → List ℕ → List ℕ → Type 0
+HasFile files name bytes = (place : ℕ) × (file : Bor (List ℕ) × Bor (List ℕ)) × IsFileAt files place file name bytes
