@@ -1,0 +1,6 @@
+pub mod OneVerdict
+pub mod Points
+pub mod Turning
+pub mod Lines
+pub mod Told
+pub mod Texts
