@@ -1,4 +1,4 @@
-use Rattle.std.proofs.Common.{◌≡◌, length, reverse}
+use Rattle.std.proofs.Common.{◌≡◌, length, reverse, vec_len}
 use Rattle.td_checker.specs.Paths.{cubes_after, AreInside}
 use Rattle.td_checker.proofs.walking.Walk.leave.Given as goal
 
@@ -10,4 +10,4 @@ invariant-loop-position l = record {
 }
 
 abbrev pub decreases-loop-position : goal.decreases-loop-position
-decreases-loop-position l = goal.left-loop-position l
+decreases-loop-position l = vec_len l.self.path
