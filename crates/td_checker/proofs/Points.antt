@@ -1,9 +1,12 @@
 -- The one pair of a cube in which nothing is free, and its delay.
-use Rattle.std.proofs.Common.{◌≡◌, ◌≢◌, ◌+◌, ◌*◌, ◌<◌, ◌≤◌, ℕ, zero, suc, Bool, true, false, List, [], ◌∷◌, ◌++◌, length, take, take_all, Some, None, refl, sym, ap, subst, ◌∙◌, arith}
-use Rattle.std.specs.Prelude.{slice_get, ◌↔◌}
+use Rattle.std.proofs.Common.{◌≡◌, ◌≢◌, ◌+◌, ◌*◌, ◌<◌, ◌≤◌, ℕ, zero, suc, Bool, true, false, List, [], ◌∷◌, ◌++◌, length, take, take_all, Some, None, map, nat_eq, refl, sym, ap, subst, ◌∙◌, arith, eq-eqb}
+use Rattle.std.specs.Prelude.{slice_get, ◌↔◌, IsTrue}
+use Rattle.std.proofs.lemmas.Bool.{eqb-true}
 use Rattle.std.proofs.lemmas.List.Elements.{recursion_from_All}
+use Rattle.td_gates.specs.declared.primitives.Level.{Level}
+use Rattle.td_gates.specs.Table.{level_from}
 use Rattle.td_netlist.specs.Netlist.{Netlist}
-use Rattle.td_circuit.specs.Run.{IsDelayOfBits}
+use Rattle.td_circuit.specs.Run.{IsDelay, IsDelayOfBits}
 use Rattle.td_domain.specs.declared.cubes.Trit.{Trit}
 use Rattle.td_domain.specs.declared.cubes.Trit.TheVariants.{Free}
 use Rattle.td_domain.specs.Pairs.{Pair}
@@ -85,3 +88,23 @@ pub has_delay : (netlist : Netlist) (cube : List Trit) (pair : Pair) (delay aske
     → ((other : ℕ) → IsDelayOfBits netlist pair.first pair.second other → other ≡ delay) → (delay ≡ asked) ↔ HasDelay netlist cube asked
 has_delay netlist cube pair delay asked point is_in is only =
     (λ e. record { pair = pair; is_in = is_in; is = rw e at is }, λ h. has netlist cube pair delay asked point is_in only h)
+
+-- ---- what the code's tests say
+
+-- the one number of which something holds was compared with another
+pub is_asked : (P : ℕ → Type 0) (found asked : ℕ) → P found → ((other : ℕ) → P other → other ≡ found) → IsTrue (nat_eq found asked) ↔ P asked
+is_asked P found asked is only = (λ same. subst P (eqb-true found asked same) is, λ holds. eq-eqb found asked (sym (only asked holds)))
+
+pub told_delay : (netlist : Netlist) (cube : List Trit) (pair : Pair) (delay asked : ℕ) → IsPoint cube → IsIn pair cube
+    → IsDelayOfBits netlist pair.first pair.second delay
+    → ((other : ℕ) → IsDelayOfBits netlist pair.first pair.second other → other ≡ delay)
+    → IsTrue (nat_eq delay asked) ↔ HasDelay netlist cube asked
+told_delay netlist cube pair delay asked point is_in is only =
+    let one = has_delay netlist cube pair delay asked point is_in is only in
+    (λ same. one.0 (eqb-true delay asked same), λ has. eq-eqb delay asked (one.1 has))
+
+-- a delay of the levels of these bits
+pub only_of_bits : (netlist : Netlist) (first second : List Bool) (firsts seconds : List Level) (delay told other : ℕ)
+    → firsts ≡ map level_from first → seconds ≡ map level_from second → told ≡ delay
+    → ((d : ℕ) → IsDelay netlist firsts seconds d → d ≡ delay) → IsDelayOfBits netlist first second other → other ≡ told
+only_of_bits netlist first second firsts seconds delay told other f s same only is = only other (rw (f, s) is) ∙ sym same

@@ -52,7 +52,7 @@ spelled_fault : {X : Type 0} (k : CertFaultKind) (line : ℕ) (text : List ℕ) 
     → k ≢ kind.OutOfMemory → IsFault k line text → X
 spelled_fault kind.OutOfMemory line text c spells within other is = absurd (other refl)
 spelled_fault kind.TooLong line text c spells within other is = absurd (omega (arith, within, is.0))
-spelled_fault kind.UnexpectedEnd line text c spells within other is = spells-front text c spells is.1.0
+spelled_fault kind.UnexpectedEnd line text c spells within other is = spells-front text c spells is.1
 spelled_fault kind.Trailing line text c spells within other is = spells-more text c line spells is.1
 spelled_fault kind.Syntax line text c spells within other is = spells-stops text c line spells is.1
 spelled_fault kind.NumberTooLarge line text c spells within other is = spells-stops text c line spells is.1
@@ -107,4 +107,4 @@ pub tells_worst : (netlist_text : List ℕ) (default : Delay) (text : List ℕ) 
 tells_worst netlist_text default text netlist c v circuit formed spells is accepted other d means spelled =
     let same : netlist ≡ other = one_netlist netlist_text default netlist other circuit.means means in
     let one : c ≡ d = (spells_once c d text text [] spells.0 spelled (sym (append-nil text))).0 in
-    rw (same, one) at accepted_is_worst netlist c formed circuit.acyclic (rw accepted at is)
+    rw (same, one) at (accepted_is_worst netlist c formed circuit.acyclic (rw accepted at is))

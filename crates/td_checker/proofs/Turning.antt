@@ -39,7 +39,7 @@ pub inside_below : (cube next : List Trit) (position : ℕ) (path ahead : List �
     → next ≡ set cube position Zero → ahead ≡ position ∷ path → AreInside (length cube) path → AreInside (length next) ahead
 inside_below cube next position path ahead free is goes inside =
     let same : length next ≡ length cube = ap length is ∙ length-set cube position Zero in
-    rw (goes, same) (slice_get_within cube position Free free, inside)
+    subst (λ (count : ℕ). AreInside count ahead) (sym same) (rw goes (slice_get_within cube position Free free, inside))
 
 pub reversed : (path rest : List ℕ) (position : ℕ) → path ≡ rest ++ position ∷ [] → reverse path ≡ position ∷ reverse rest
 reversed path rest position is = ap reverse is ∙ reverse-append rest (position ∷ [])

@@ -147,8 +147,10 @@ fn circuit_of<'a>(
     let netlist = netlist_of(alloc, text, default)?;
     match build(alloc, netlist) {
         Ok(circuit) => Ok(circuit),
-        Err((_, BuildFault::OutOfMemory)) => Err(CheckFault::OutOfMemory),
-        Err((_, BuildFault::Loop(name))) => Err(CheckFault::Loop(name)),
+        Err((_netlist, fault)) => match fault {
+            BuildFault::OutOfMemory => Err(CheckFault::OutOfMemory),
+            BuildFault::Loop(name) => Err(CheckFault::Loop(name)),
+        },
     }
 }
 
