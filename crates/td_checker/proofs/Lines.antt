@@ -14,8 +14,9 @@ use Rattle.td_certificate.specs.Trees.{IsTree, sides, pending_after}
 use Rattle.td_certificate.specs.Accepts.{Line, root_cube, IsGood}
 use Rattle.td_certificate.specs.Walks.{lines_from}
 use Rattle.td_checker.specs.Paths.{cubes_after, cubes_behind, StandsAt, AreInside}
+use Rattle.td_checker.specs.declared.judging.Flaw as code_flaw
 use Rattle.td_checker.specs.Verdicts.{Flaw, HasFlaw}
-use Rattle.td_checker.specs.Judging.{line_of, lines_in, IsBadAt}
+use Rattle.td_checker.specs.Judging.{flaw_of, line_of, lines_in, IsJudged, IsBadAt}
 use Rattle.td_checker.proofs.OneVerdict.{some_is, none_not}
 
 -- ---- lists
@@ -168,3 +169,12 @@ all_good netlist c place cube path walk over all =
 pub node_at : (nodes tree : List Node) (place : ℕ) (d : Node) → nodes ≡ tree → place < length nodes → slice_get tree place ≡ Some (get_or nodes place d)
 node_at nodes tree place d same below =
     ap (λ (ns : List Node). slice_get ns place) (sym same) ∙ slice_get-get_or nodes place d below
+
+-- what was found of a line
+pub has_flaw : (netlist : Netlist) (most : ℕ) (line : Line) (found : Option code_flaw.Flaw) (flaw : code_flaw.Flaw)
+    → IsJudged netlist most line found → found ≡ Some flaw → HasFlaw netlist most (flaw_of flaw) line
+has_flaw netlist most line found flaw judged is = subst (IsJudged netlist most line) is judged
+
+pub is_good : (netlist : Netlist) (most : ℕ) (line : Line) (found : Option code_flaw.Flaw)
+    → IsJudged netlist most line found → found ≡ None → IsGood netlist most line
+is_good netlist most line found judged is = subst (IsJudged netlist most line) is judged
