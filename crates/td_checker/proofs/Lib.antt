@@ -4,3 +4,4 @@ pub mod Turning
 pub mod Lines
 pub mod Told
 pub mod Texts
+pub mod Written

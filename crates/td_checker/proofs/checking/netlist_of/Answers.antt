@@ -5,5 +5,6 @@ pub returns-in_default : goal.returns-in_default
 returns-in_default c = record {
   found = tt;
   formed = tt;
-  fault = refused c.args.text.now c.args.default c.read.result c.in-Err.fault c.in-Err.is c.read.ensures.only c.in_default.not-OutOfMemory;
+  fault = refused c.args.text.now c.args.default c.read.result c.in-Err.fault c.in-Err.is c.read.ensures.only
+      c.in-Err.ensures.breaks c.in_default.not-OutOfMemory;
 }
