@@ -43,8 +43,14 @@ pub few_nodes : (c : Certificate) (text : List ℕ) → Spells c text → IsWith
 unfolding spelling
 few_nodes c text spells within =
     let parts : length text ≡ length (flat_map ended (head_lines c ++ map node_line c.tree)) = ap length spells.parts in
-    omega (arith, parts, lines_long (head_lines c ++ map node_line c.tree), length-append (head_lines c) (map node_line c.tree),
-        length-map c.tree node_line, within)
+    omega (
+      arith,
+      parts,
+      lines_long (head_lines c ++ map node_line c.tree),
+      length-append (head_lines c) (map node_line c.tree),
+      length-map c.tree node_line,
+      within,
+    )
 
 -- ---- faults
 

@@ -32,8 +32,11 @@ descended cube next position path ahead free is goes =
     let other : set low position One ≡ set cube position One = set-set cube position Zero One in
     let there : cubes_after low (position ∷ path) ≡ set low position One ∷ cubes_after (set low position Free) path =
     after low position path Zero (got cube position Free Zero free) in
-    rw (is, goes) (refl, there ∙ ap (λ c. c ∷ cubes_after (set low position Free) path) other
-    ∙ ap (λ c. set cube position One ∷ cubes_after c path) back)
+    rw (is, goes) (
+      refl,
+      there ∙ ap (λ c. c ∷ cubes_after (set low position Free) path) other
+          ∙ ap (λ c. set cube position One ∷ cubes_after c path) back,
+    )
 
 pub inside_below : (cube next : List Trit) (position : ℕ) (path ahead : List ℕ) → slice_get cube position ≡ Some Free
     → next ≡ set cube position Zero → ahead ≡ position ∷ path → AreInside (length cube) path → AreInside (length next) ahead
@@ -106,6 +109,3 @@ pub inside_freed : (cube next : List Trit) (position : ℕ) (t : Trit) (before r
 inside_freed cube next position t before rest inside goes is =
     let same : length cube ≡ length next = sym (length-set cube position t) ∙ ap length (sym is) in
     subst (λ n. AreInside n (reverse rest)) same (inside_at (length cube) before rest position inside goes).1
-
-pub same_length : (cube next : List Trit) (position : ℕ) (t : Trit) → next ≡ set cube position t → length next ≡ length cube
-same_length cube next position t is = ap length is ∙ length-set cube position t

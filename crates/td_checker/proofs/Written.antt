@@ -87,12 +87,11 @@ short_nodes : (netlist : Netlist) (most : ℕ) (tree : Tree) (cube : List Trit) 
 unfolding lines_of nodes_of
 short_nodes netlist most (Split position zero_side one_side) cube small few good =
     let sides = one_list (IsGood netlist most) (lines_of (set cube position Zero) zero_side) (lines_of (set cube position One) one_side) good.1 in
-    let inside = slice_get_within cube position Free good.0.splits in
-    (
+    let inside = slice_get_within cube position Free good.0.splits in (
       omega (arith, inside),
       both_lists IsShort (nodes_of zero_side) (nodes_of one_side)
-      (short_nodes netlist most zero_side (set cube position Zero) small (omega (arith, length-set cube position Zero)) sides.0)
-      (short_nodes netlist most one_side (set cube position One) small (omega (arith, length-set cube position One)) sides.1),
+          (short_nodes netlist most zero_side (set cube position Zero) small (omega (arith, length-set cube position Zero)) sides.0)
+          (short_nodes netlist most one_side (set cube position One) small (omega (arith, length-set cube position One)) sides.1),
     )
 short_nodes netlist most (Bound domain bound) cube small few good = let within = good.0.within in (omega (arith, within), tt)
 short_nodes netlist most (Point time) cube small few good = let within = good.0.within in (omega (arith, within), tt)

@@ -33,7 +33,7 @@ pub struct BadLine {
 }
 
 /// The first bad line of the certificate's tree, if one is bad.
-#[tactic(auto, using(crate::proofs::Lines::started, crate::proofs::Lines::passed, crate::proofs::Lines::good_more, crate::proofs::Lines::found_bad, crate::proofs::Lines::all_good, crate::proofs::Lines::node_at))]
+#[tactic(auto, using(crate::proofs::Lines::started))]
 fn first_bad(
     alloc: Global,
     circuit: &Circuit,
@@ -112,12 +112,7 @@ fn verdict_on(
 }
 
 /// The netlist that a text means.
-#[tactic(auto, using(crate::proofs::Texts::refused))]
-fn netlist_of<'a>(
-    alloc: Global,
-    text: &'a [u8],
-    default: Delay,
-) -> Result<Netlist, CheckFault<'a>>
+fn netlist_of<'a>(alloc: Global, text: &'a [u8], default: Delay) -> Result<Netlist, CheckFault<'a>>
     ensures found { IfOk result (λ netlist. Means text.now default netlist) }
     ensures formed { IfOk result (λ netlist. IsWellFormed netlist) }
     ensures fault { IfErr result (λ fault. (certificate : List ℕ) → IsCheckFault text.now default certificate fault) }
@@ -135,11 +130,7 @@ fn netlist_of<'a>(
 }
 
 /// The circuit of a netlist, which this text means.
-fn circuit_of<'a>(
-    alloc: Global,
-    text: &'a [u8],
-    default: Delay,
-) -> Result<Circuit, CheckFault<'a>>
+fn circuit_of<'a>(alloc: Global, text: &'a [u8], default: Delay) -> Result<Circuit, CheckFault<'a>>
     ensures found { IfOk result (λ circuit. HasCircuit text.now default circuit.netlist) }
     ensures formed { IfOk result (λ circuit. IsWellFormed circuit.netlist) }
     ensures fault { IfErr result (λ fault. (certificate : List ℕ) → IsCheckFault text.now default certificate fault) }
@@ -169,7 +160,7 @@ fn certificate_of<'a>(alloc: Global, text: &[u8]) -> Result<Certificate, CheckFa
 }
 
 /// The verdict on the certificate that a text spells, for the netlist that another text means.
-#[tactic(auto, using(crate::proofs::Texts::few_nodes, crate::proofs::Texts::certificate_fault, crate::proofs::Texts::have_verdict, crate::proofs::Texts::tells_worst))]
+#[tactic(auto, using(crate::proofs::Texts::few_nodes, crate::proofs::Texts::have_verdict))]
 fn verdict_of_texts<'a>(
     alloc: Global,
     netlist: &'a [u8],

@@ -48,7 +48,7 @@ fn bit_of(trit: Trit) -> bool
 }
 
 /// The one pair of a cube in which nothing is free.
-#[tactic(auto, using(crate::proofs::Points::no_bits, crate::proofs::Points::more_bits, crate::proofs::Points::whole))]
+#[tactic(auto, using(crate::proofs::Points::no_bits, crate::proofs::Points::whole))]
 pub fn pair_of(alloc: Global, circuit: &Circuit, cube: &Cube) -> Result<Pair, AllocError>
     requires point { IsPoint cube.now }
     requires length { length cube.now ≡ 2 * length circuit.now.netlist.inputs }

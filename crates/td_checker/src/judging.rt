@@ -75,12 +75,7 @@ fn is_of_one_pair(cube: &Cube, node: Node) -> bool
 }
 
 /// Whether the number of a leaf is one of its cube.
-fn is_of_cube(
-    alloc: Global,
-    circuit: &Circuit,
-    cube: &Cube,
-    node: Node,
-) -> Result<bool, AllocError>
+fn is_of_cube(alloc: Global, circuit: &Circuit, cube: &Cube, node: Node) -> Result<bool, AllocError>
     requires length { length cube.now ≡ 2 * length circuit.now.netlist.inputs }
     requires pair { IsOfOnePair cube.now node }
     ensures { IfOk result (λ is. IsTrue is ↔ IsOfCube circuit.now.netlist cube.now node) }
@@ -139,13 +134,7 @@ fn is_bounded(
 }
 
 /// Whether the one pair of a cube has this delay.
-#[tactic(auto, using(crate::proofs::Points::has_delay))]
-fn has_delay(
-    alloc: Global,
-    circuit: &Circuit,
-    cube: &Cube,
-    delay: u64,
-) -> Result<bool, AllocError>
+fn has_delay(alloc: Global, circuit: &Circuit, cube: &Cube, delay: u64) -> Result<bool, AllocError>
     requires length { length cube.now ≡ 2 * length circuit.now.netlist.inputs }
     requires point { IsPoint cube.now }
     ensures { IfOk result (λ has. IsTrue has ↔ HasDelay circuit.now.netlist cube.now delay) }

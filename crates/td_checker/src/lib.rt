@@ -12,4 +12,6 @@ pub use checking::check;
 pub use verdict::{CheckFault, Verdict};
 
 #[cfg(test)]
+mod searched;
+#[cfg(test)]
 mod tests;

@@ -1,6 +1,6 @@
 use super::*;
-use std::test::*;
 use std::alloc::Global;
+use std::test::*;
 use td_certificate::{CertFault, CertFaultKind};
 use td_gates::Delay;
 
@@ -8,7 +8,8 @@ use td_gates::Delay;
 const INVERTER: &[u8] = b"module t(y, a); output y; input a; not #(2,3) g(y,a); endmodule";
 
 /// A pulse of 1 at a gate with delay 2.
-const LOST_PULSE: &[u8] = b"module t(y, a); output y; input a; not #1 n(b,a); and #2 g(y,a,b); endmodule";
+const LOST_PULSE: &[u8] =
+    b"module t(y, a); output y; input a; not #1 n(b,a); and #2 g(y,a,b); endmodule";
 
 /// A gate that reads its own output.
 const LOOP: &[u8] = b"module t(y, a); output y; input a; nand #1 g(y,a,y); endmodule";
@@ -20,7 +21,7 @@ const INVERTER_HEAD: &[u8] = b"tdelay-cert 1\ncircuit 1 1\ntime 3\nfrom 0\nto 1\
 const LOST_PULSE_HEAD: &[u8] = b"tdelay-cert 1\ncircuit 1 2\ntime 0\nfrom 0\nto 1\n";
 
 /// What the checker says of two texts.
-fn told(alloc: Global, netlist: &[u8], certificate: &[u8]) -> Result<String, Fail> {
+pub fn told(alloc: Global, netlist: &[u8], certificate: &[u8]) -> Result<String, Fail> {
     let default = Delay { rise: 1, fall: 1 };
     match check(alloc, netlist, default, certificate) {
         Ok(verdict) => {
@@ -64,11 +65,23 @@ fn trees_of_an_inverter(rt: HostRuntime) -> Result<(), Fail> {
 fn trees_of_a_lost_pulse(rt: HostRuntime) -> Result<(), Fail> {
     let rows: [(&[u8], &str); 7] = [
         (b"s 0\ns 1\nb a 0\nb a 0\ns 1\nb a 0\nb a 0\n", "Accepted 0"),
-        (b"s 0\ns 0\nb a 0\nb a 0\ns 1\nb a 0\nb a 0\n", "BadPosition 7"),
-        (b"s 0\ns 1\nb a 0\nb a 0\ns 0\nb a 0\nb a 0\n", "BadPosition 10"),
-        (b"s 0\ns 1\nb a 0\nb a 1\ns 1\nb a 0\nb a 0\n", "LeafAboveTime 9"),
+        (
+            b"s 0\ns 0\nb a 0\nb a 0\ns 1\nb a 0\nb a 0\n",
+            "BadPosition 7",
+        ),
+        (
+            b"s 0\ns 1\nb a 0\nb a 0\ns 0\nb a 0\nb a 0\n",
+            "BadPosition 10",
+        ),
+        (
+            b"s 0\ns 1\nb a 0\nb a 1\ns 1\nb a 0\nb a 0\n",
+            "LeafAboveTime 9",
+        ),
         (b"s 0\ns 1\nb a 0\nb a 0\ns 1\np 1\nb a 0\n", "LeafBound 11"),
-        (b"s 0\ns 1\nb a 0\nb a 0\ns 1\nb a 0\nb m 1\n", "LeafAboveTime 12"),
+        (
+            b"s 0\ns 1\nb a 0\nb a 0\ns 1\nb a 0\nb m 1\n",
+            "LeafAboveTime 12",
+        ),
         (b"s 0\nb a 0\nb a 0\n", "LeafBound 7"),
     ];
     for (tree, expected) in rows {
@@ -98,11 +111,17 @@ fn heads_of_certificates(rt: HostRuntime) -> Result<(), Fail> {
 fn faults_come_in_order(rt: HostRuntime) -> Result<(), Fail> {
     let alloc = rt.alloc();
     let cut = told(alloc, INVERTER, INVERTER_HEAD)?;
-    assert_eq!(rt; cut.as_str(), "the certificate: the text ends too early at line 6");
+    assert_eq!(rt;
+        cut.as_str(),
+        "the certificate: the text ends too early at line 6"
+    );
     let looped = told(alloc, LOOP, INVERTER_HEAD)?;
     assert_eq!(rt; looped.as_str(), "a loop");
     let empty = told(alloc, b"", INVERTER_HEAD)?;
-    assert_eq!(rt; empty.as_str(), "the netlist: the text ends too early at line 1");
+    assert_eq!(rt;
+        empty.as_str(),
+        "the netlist: the text ends too early at line 1"
+    );
     Ok(())
 }
 

@@ -55,7 +55,7 @@ impl Walk {
         requires inside { AreInside (length self.old.cube) (reverse self.old.path.items) }
         ensures next { OnOk result (StandsAt
             (set self.old.cube position TritModel.Zero ∷ set self.old.cube position TritModel.One
-                ∷ cubes_after self.old.cube (reverse self.old.path.items))
+            ∷ cubes_after self.old.cube (reverse self.old.path.items))
             self.new.cube (reverse self.new.path.items)) }
         ensures inside { OnOk result (AreInside (length self.new.cube) (reverse self.new.path.items)) }
         ensures length { OnOk result (length self.new.cube ≡ length self.old.cube) }
