@@ -160,6 +160,11 @@ fn certificates_of_searches_are_accepted(rt: HostRuntime) -> Result<(), Fail> {
     Ok(())
 }
 
+/// The line of the text with this place of the tree.
+fn line_of(place: usize) -> usize {
+    place.saturating_add(6)
+}
+
 /// What the checker says of the certificate with this leaf at a place of the tree.
 fn told_of_leaf(
     alloc: Global,
@@ -176,9 +181,9 @@ fn told_of_leaf(
 /// The verdict on a leaf whose number is greater than it need be, and its line.
 fn told_above(searched: Searched, place: usize, kind: &str, number: u64) -> (&'static str, usize) {
     if kind == "p" {
-        ("LeafBound", 6 + place)
+        ("LeafBound", line_of(place))
     } else if number > searched.time {
-        ("LeafAboveTime", 6 + place)
+        ("LeafAboveTime", line_of(place))
     } else {
         ("Accepted", 0)
     }
@@ -199,12 +204,13 @@ fn a_leaf_has_another_number(rt: HostRuntime) -> Result<(), Fail> {
             let number = number.parse::<u64>().unwrap_or(0);
             if number > 0 {
                 let below = told_of_leaf(alloc, searched, place, kind, number - 1)?;
-                let at = 6 + place;
+                let at = line_of(place);
                 let wanted = format!(in alloc; "LeafBound {at}")?;
                 assert_eq!(rt; below.as_str(), wanted.as_str());
             }
-            let above = told_of_leaf(alloc, searched, place, kind, number + 1)?;
-            let (name, at) = told_above(searched, place, kind, number + 1);
+            let more = number.saturating_add(1);
+            let above = told_of_leaf(alloc, searched, place, kind, more)?;
+            let (name, at) = told_above(searched, place, kind, more);
             let wanted = format!(in alloc; "{name} {at}")?;
             assert_eq!(rt; above.as_str(), wanted.as_str());
         }
