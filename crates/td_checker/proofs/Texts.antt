@@ -1,5 +1,5 @@
 -- From what is said of two texts to what the checker answers.
-use Rattle.std.proofs.Common.{◌≡◌, ◌≢◌, ◌+◌, ◌≤◌, ◌<◌, ℕ, List, [], ◌∷◌, ◌++◌, length, map, length-append, refl, sym, ap, subst, ◌∙◌, arith}
+use Rattle.std.proofs.Common.{◌≡◌, ◌≢◌, ◌≤◌, ℕ, List, [], ◌∷◌, ◌++◌, length, map, length-append, refl, sym, ap, subst, arith}
 use Rattle.std.specs.Prelude.{Result, Ok, Err, IfOk, IfErr}
 use Rattle.std.specs.List.{flat_map}
 use Rattle.std.proofs.lemmas.List.{length-map, append-nil}
@@ -20,7 +20,6 @@ use Rattle.td_certificate.specs.declared.fault.CertFaultKind.TheVariants as kind
 use Rattle.td_certificate.specs.Text.{node_line}
 use Rattle.td_certificate.specs.Spelling.{head_lines, ended, spelling, Spells}
 use Rattle.td_certificate.specs.Faults.{IsWithinLimit, IsFault}
-use Rattle.td_certificate.specs.Accepts.{Accepts}
 use Rattle.td_certificate.proofs.Acceptance.{accepted_is_worst}
 use Rattle.td_certificate.proofs.Exclusion.{spells-front, spells-more, spells-stops}
 use Rattle.td_certificate.proofs.Texts.{spells_once}

@@ -1,12 +1,12 @@
 -- From what is said of a tree's lines to the verdict.
-use Rattle.std.proofs.Common.{◌≡◌, ◌+◌, ℕ, List, [], ◌∷◌, length, take, Some, refl, sym, ap, subst, ◌∙◌, arith}
+use Rattle.std.proofs.Common.{◌≡◌, ◌+◌, ℕ, List, [], ◌∷◌, length, take, refl, sym, ap, subst, ◌∙◌}
 use Rattle.std.specs.Prelude.{slice_get}
 use Rattle.std.specs.List.{AllByRecursion}
 use Rattle.td_netlist.specs.Netlist.{Netlist}
 use Rattle.td_certificate.specs.declared.certificate.Certificate.{Certificate}
 use Rattle.td_certificate.specs.Trees.{IsTree}
 use Rattle.td_circuit.specs.Run.{IsVector}
-use Rattle.td_certificate.specs.Spelling.{head_lines, HasSpelling}
+use Rattle.td_certificate.specs.Spelling.{HasSpelling}
 use Rattle.td_certificate.specs.Accepts.{Line, lines_of, root_cube, IsGood, IsOfSize, IsReached, Accepts}
 use Rattle.td_certificate.specs.Walks.{lines_from}
 use Rattle.td_certificate.proofs.TreeLaws.{trees_are_counted}

@@ -1,6 +1,6 @@
 -- A certificate that is accepted has a text within the limit.
-use Rattle.std.proofs.Common.{◌≡◌, ◌+◌, ◌*◌, ◌<◌, ◌≤◌, ◌^◌, ℕ, zero, suc, Bool, List, [], ◌∷◌, ◌++◌, length, map, max, set, Some, refl, sym, ap, subst, ◌∙◌, arith}
-use Rattle.std.specs.Prelude.{unwrap_or, replicate}
+use Rattle.std.proofs.Common.{◌≡◌, ◌*◌, ◌<◌, ◌≤◌, ◌^◌, ℕ, Bool, List, [], ◌∷◌, ◌++◌, length, map, set, refl, ap, subst, ◌∙◌, arith}
+use Rattle.std.specs.Prelude.{unwrap_or}
 use Rattle.std.specs.List.{All, AllByRecursion}
 use Rattle.std.proofs.lemmas.List.{length-map, length-set, length-replicate}
 use Rattle.std.proofs.lemmas.List.Elements.{recursion_from_All}
@@ -21,17 +21,16 @@ use Rattle.td_run.proofs.Named.{only_outputs, same_length}
 use Rattle.td_domain.specs.declared.cubes.Trit.{Trit}
 use Rattle.td_domain.specs.declared.cubes.Trit.TheVariants.{Zero, One, Free}
 use Rattle.td_certificate.specs.declared.tree.Node.{Node}
-use Rattle.td_certificate.specs.declared.certificate.Certificate.{Certificate}
 use Rattle.td_certificate.specs.Trees.{Tree, Split, Bound, Point, nodes_of, IsTree}
 use Rattle.td_certificate.specs.Spelling.{IsNode, HasSpelling, spelling}
 use Rattle.td_certificate.specs.Lengths.{IsShort}
 use Rattle.td_certificate.specs.Faults.{IsWithinLimit}
 use Rattle.td_certificate.specs.declared.tree.Node.TheVariants as node
-use Rattle.td_certificate.specs.Accepts.{lines_of, root_cube, IsGood, Accepts}
+use Rattle.td_certificate.specs.Accepts.{lines_of, root_cube, IsGood}
 use Rattle.td_certificate.proofs.TreeLaws.{trees_are_counted}
 use Rattle.td_certificate.proofs.Lengths.{searched_texts_fit}
 use Rattle.td_certificate.proofs.Acceptance.{vector_fits}
-use Rattle.td_checker.specs.Written.{IsAcceptedAsWritten, AcceptedIsWritten}
+use Rattle.td_checker.specs.Written.{AcceptedIsWritten}
 
 -- ---- no delay passes the limits of a circuit
 
