@@ -1,0 +1,180 @@
+-- A walk over the nodes of a certificate goes over the lines of its tree.
+use Rattle.std.proofs.Common.{◌≡◌, ◌+◌, ◌*◌, ◌<◌, ◌≤◌, ℕ, zero, suc, List, [], ◌∷◌, length, take, drop, get_or, Option, Some, None, refl, sym, ap, subst, ◌∙◌, arith}
+use Rattle.std.specs.Prelude.{slice_get, replicate}
+use Rattle.std.specs.List.{AllByRecursion}
+use Rattle.std.proofs.lemmas.List.{length-replicate, drop_all}
+use Rattle.std.proofs.lemmas.Option.{slice_get-get_or}
+use Rattle.td_netlist.specs.Netlist.{Netlist}
+use Rattle.td_domain.specs.declared.cubes.Trit.{Trit}
+use Rattle.td_domain.specs.declared.cubes.Trit.TheVariants.{Free}
+use Rattle.td_certificate.specs.declared.tree.Node.{Node}
+use Rattle.td_certificate.specs.declared.tree.Node.TheVariants as node
+use Rattle.td_certificate.specs.declared.certificate.Certificate.{Certificate}
+use Rattle.td_certificate.specs.Trees.{IsTree, sides, pending_after}
+use Rattle.td_certificate.specs.Accepts.{Line, root_cube, IsGood}
+use Rattle.td_certificate.specs.Walks.{lines_from}
+use Rattle.td_checker.specs.Paths.{cubes_after, cubes_behind, StandsAt, AreInside}
+use Rattle.td_checker.specs.declared.judging.Flaw as code_flaw
+use Rattle.td_checker.specs.Verdicts.{Flaw, HasFlaw}
+use Rattle.td_checker.specs.Judging.{flaw_of, line_of, lines_in, IsJudged, IsBadAt}
+use Rattle.td_checker.proofs.OneVerdict.{some_is, none_not}
+
+-- ---- lists
+
+abbrev cons : {A : Type 0} → A → List A → List A
+cons x xs = x ∷ xs
+
+heads : {A : Type 0} (x y : A) (xs ys : List A) → cons x xs ≡ cons y ys → (x ≡ y) × (xs ≡ ys)
+heads x y xs ys e = (cc, cc)
+
+none_cons : {A X : Type 0} (x : A) (xs : List A) → cons x xs ≡ [] → X
+none_cons x xs e = absurd cc
+
+-- the rest of a list from a place on
+rest_at : {A : Type 0} (xs : List A) (i : ℕ) (x : A) → slice_get xs i ≡ Some x → drop i xs ≡ x ∷ drop (suc i) xs
+rest_at [] i x is = none_not x is
+rest_at (y ∷ xs) zero x is = ap (λ z. z ∷ xs) (some_is y x is)
+rest_at (y ∷ xs) (suc i) x is = rest_at xs i x is
+
+at_rest : {A : Type 0} (xs : List A) (i : ℕ) (x : A) (ys : List A) → cons x ys ≡ drop i xs → (slice_get xs i ≡ Some x) × (ys ≡ drop (suc i) xs)
+at_rest [] zero x ys e = none_cons x ys e
+at_rest [] (suc i) x ys e = none_cons x ys e
+at_rest (y ∷ xs) zero x ys e = let h = heads x y ys xs e in (ap (λ z. Some z) (sym h.0), h.1)
+at_rest (y ∷ xs) (suc i) x ys e = at_rest xs i x ys e
+
+take_whole : {A : Type 0} (xs : List A) (i : ℕ) → drop i xs ≡ [] → take i xs ≡ xs
+take_whole [] zero e = refl
+take_whole [] (suc i) e = refl
+take_whole (y ∷ xs) zero e = none_cons y xs e
+take_whole (y ∷ xs) (suc i) e = ap (λ zs. y ∷ zs) (take_whole xs i e)
+
+all_more : {A : Type 0} (P : A → Type 0) (xs : List A) (i : ℕ) (x : A) → AllByRecursion P (take i xs) → slice_get xs i ≡ Some x → P x
+    → AllByRecursion P (take (suc i) xs)
+all_more P [] i x all is p = none_not x is
+all_more P (y ∷ xs) zero x all is p = (subst P (sym (some_is y x is)) p, tt)
+all_more P (y ∷ xs) (suc i) x all is p = (all.0, all_more P xs i x all.1 is p)
+
+-- ---- a walk
+
+-- the walk stands at this place of the tree's lines, with this cube and path
+pub record IsWalked (c : Certificate) (place : ℕ) (cube : List Trit) (path : List ℕ) : Type 0 where
+  pub cubes : List (List Trit)
+  pub walked : lines_from cubes (drop place c.tree) ≡ drop place (lines_in c)
+  pub pending : pending_after (length cubes) (drop place c.tree) ≡ Some 0
+  pub stands : StandsAt cubes cube path
+  pub inside : AreInside (length cube) path
+  pub count : length cube ≡ 2 * c.inputs
+
+pub started : (c : Certificate) (cube : List Trit) (path : List ℕ) → IsTree c.tree → cube ≡ replicate (2 * c.inputs) Free → path ≡ []
+    → IsWalked c 0 cube path
+started c cube path tree is none = record {
+  cubes = root_cube c ∷ [];
+  walked = refl;
+  pending = tree;
+  stands = rw none (is, refl);
+  inside = rw none tt;
+  count = ap length is ∙ length-replicate (2 * c.inputs) Free;
+}
+
+-- the first of the lines
+first_line : (cubes : List (List Trit)) (n : Node) (rest : List Node) (cube : List Trit) (path : List ℕ)
+    → pending_after (length cubes) (n ∷ rest) ≡ Some 0 → StandsAt cubes cube path
+    → lines_from cubes (n ∷ rest) ≡ line_of cube n ∷ lines_from (cubes_behind cube n (cubes_after cube path)) rest
+first_line [] n rest cube path pending stands = none_not 0 pending
+first_line (next ∷ others) (node.Split position) rest cube path pending stands = rw (stands.1, stands.0) refl
+first_line (next ∷ others) (node.Bound domain bound) rest cube path pending stands = rw (stands.1, stands.0) refl
+first_line (next ∷ others) (node.Point time) rest cube path pending stands = rw (stands.1, stands.0) refl
+
+count_behind : (cube : List Trit) (n : Node) (cubes : List (List Trit)) → length (cubes_behind cube n cubes) ≡ sides n + length cubes
+count_behind cube (node.Split position) cubes = omega arith
+count_behind cube (node.Bound domain bound) cubes = omega arith
+count_behind cube (node.Point time) cubes = omega arith
+
+next_pending : (cubes : List (List Trit)) (n : Node) (rest : List Node) (cube : List Trit) (path : List ℕ)
+    → pending_after (length cubes) (n ∷ rest) ≡ Some 0 → StandsAt cubes cube path
+    → pending_after (length (cubes_behind cube n (cubes_after cube path))) rest ≡ Some 0
+next_pending [] n rest cube path pending stands = none_not 0 pending
+next_pending (next ∷ others) n rest cube path pending stands =
+    ap (λ (k : ℕ). pending_after k rest)
+    (count_behind cube n (cubes_after cube path) ∙ ap (λ (cs : List (List Trit)). sides n + length cs) stands.1) ∙ pending
+
+-- the line of a node
+record HasLine (c : Certificate) (place : ℕ) (cube : List Trit) (path : List ℕ) (n : Node) : Type 0 where
+  stands : slice_get (lines_in c) place ≡ Some (line_of cube n)
+  walked : lines_from (cubes_behind cube n (cubes_after cube path)) (drop (suc place) c.tree) ≡ drop (suc place) (lines_in c)
+  pending : pending_after (length (cubes_behind cube n (cubes_after cube path))) (drop (suc place) c.tree) ≡ Some 0
+
+has_line : (c : Certificate) (place : ℕ) (cube : List Trit) (path : List ℕ) (n : Node) → IsWalked c place cube path
+    → slice_get c.tree place ≡ Some n → HasLine c place cube path n
+has_line c place cube path n walk at =
+    let rest : drop place c.tree ≡ n ∷ drop (suc place) c.tree = rest_at c.tree place n at in
+    let pending : pending_after (length walk.cubes) (n ∷ drop (suc place) c.tree) ≡ Some 0 =
+    ap (pending_after (length walk.cubes)) (sym rest) ∙ walk.pending in
+    let lines : cons (line_of cube n) (lines_from (cubes_behind cube n (cubes_after cube path)) (drop (suc place) c.tree)) ≡ drop place (lines_in c) =
+    sym (first_line walk.cubes n (drop (suc place) c.tree) cube path pending walk.stands)
+    ∙ ap (lines_from walk.cubes) (sym rest) ∙ walk.walked in
+    let found = at_rest (lines_in c) place (line_of cube n) _ lines in
+    record {
+      stands = found.0;
+      walked = found.1;
+      pending = next_pending walk.cubes n (drop (suc place) c.tree) cube path pending walk.stands;
+    }
+
+pub passed : (c : Certificate) (place : ℕ) (cube next : List Trit) (path ahead : List ℕ) (n : Node) → IsWalked c place cube path
+    → slice_get c.tree place ≡ Some n → StandsAt (cubes_behind cube n (cubes_after cube path)) next ahead
+    → AreInside (length next) ahead → length next ≡ length cube → IsWalked c (place + 1) next ahead
+passed c place cube next path ahead n walk at stands inside same =
+    let line = has_line c place cube path n walk at in
+    let one : suc place ≡ place + 1 = omega arith in
+    let there : IsWalked c (suc place) next ahead = record {
+      cubes = cubes_behind cube n (cubes_after cube path);
+      walked = line.walked;
+      pending = line.pending;
+      stands = stands;
+      inside = inside;
+      count = same ∙ walk.count;
+    } in
+    subst (λ (k : ℕ). IsWalked c k next ahead) one there
+
+pub good_more : (netlist : Netlist) (c : Certificate) (place : ℕ) (cube : List Trit) (path : List ℕ) (n : Node) → IsWalked c place cube path
+    → slice_get c.tree place ≡ Some n → IsGood netlist c.time (line_of cube n)
+    → AllByRecursion (IsGood netlist c.time) (take place (lines_in c)) → AllByRecursion (IsGood netlist c.time) (take (place + 1) (lines_in c))
+good_more netlist c place cube path n walk at good all =
+    let line = has_line c place cube path n walk at in
+    let one : suc place ≡ place + 1 = omega arith in
+    subst (λ (k : ℕ). AllByRecursion (IsGood netlist c.time) (take k (lines_in c))) one
+    (all_more (IsGood netlist c.time) (lines_in c) place (line_of cube n) all line.stands good)
+
+pub found_bad : (netlist : Netlist) (c : Certificate) (place : ℕ) (cube : List Trit) (path : List ℕ) (n : Node) (flaw : Flaw)
+    → IsWalked c place cube path → slice_get c.tree place ≡ Some n → HasFlaw netlist c.time flaw (line_of cube n)
+    → AllByRecursion (IsGood netlist c.time) (take place (lines_in c)) → IsBadAt netlist c.time (lines_in c) flaw place
+found_bad netlist c place cube path n flaw walk at has all = record {
+  bad = line_of cube n;
+  stands = (has_line c place cube path n walk at).stands;
+  good_before = all;
+  has = has;
+}
+
+no_lines : (cubes : List (List Trit)) → lines_from cubes [] ≡ []
+no_lines [] = refl
+no_lines (cube ∷ cubes) = refl
+
+pub all_good : (netlist : Netlist) (c : Certificate) (place : ℕ) (cube : List Trit) (path : List ℕ) → IsWalked c place cube path
+    → length c.tree ≤ place → AllByRecursion (IsGood netlist c.time) (take place (lines_in c)) → AllByRecursion (IsGood netlist c.time) (lines_in c)
+all_good netlist c place cube path walk over all =
+    let none : drop place c.tree ≡ [] = drop_all place c.tree over in
+    let end : drop place (lines_in c) ≡ [] = sym walk.walked ∙ ap (lines_from walk.cubes) none ∙ no_lines walk.cubes in
+    subst (AllByRecursion (IsGood netlist c.time)) (take_whole (lines_in c) place end) all
+
+pub node_at : (nodes tree : List Node) (place : ℕ) (d : Node) → nodes ≡ tree → place < length nodes → slice_get tree place ≡ Some (get_or nodes place d)
+node_at nodes tree place d same below =
+    ap (λ (ns : List Node). slice_get ns place) (sym same) ∙ slice_get-get_or nodes place d below
+
+-- what was found of a line
+pub has_flaw : (netlist : Netlist) (most : ℕ) (line : Line) (found : Option code_flaw.Flaw) (flaw : code_flaw.Flaw)
+    → IsJudged netlist most line found → found ≡ Some flaw → HasFlaw netlist most (flaw_of flaw) line
+has_flaw netlist most line found flaw judged is = subst (IsJudged netlist most line) is judged
+
+pub is_good : (netlist : Netlist) (most : ℕ) (line : Line) (found : Option code_flaw.Flaw)
+    → IsJudged netlist most line found → found ≡ None → IsGood netlist most line
+is_good netlist most line found judged is = subst (IsJudged netlist most line) is judged

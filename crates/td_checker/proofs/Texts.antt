@@ -1,0 +1,119 @@
+-- From what is said of two texts to what the checker answers.
+use Rattle.std.proofs.Common.{◌≡◌, ◌≢◌, ◌≤◌, ℕ, List, [], ◌∷◌, ◌++◌, length, map, length-append, refl, sym, ap, subst, arith}
+use Rattle.std.specs.Prelude.{Result, Ok, Err, IfOk, IfErr}
+use Rattle.std.specs.List.{flat_map}
+use Rattle.std.proofs.lemmas.List.{length-map, append-nil}
+use Rattle.std.proofs.lemmas.List.Concat.{flat_map-cons}
+use Rattle.td_gates.specs.declared.timing.Delay.{Delay}
+use Rattle.td_netlist.specs.Netlist.{Netlist}
+use Rattle.td_netlist.specs.declared.fault.Fault.{Fault}
+use Rattle.td_netlist.specs.declared.fault.FaultKind.TheVariants as netlist_kind
+use Rattle.td_netlist.specs.Faults.{IsUnlessMemory}
+use Rattle.td_netlist.specs.Means.{Means, OfNames, BreaksIn}
+use Rattle.td_netlist.specs.WellFormed.{IsWellFormed}
+use Rattle.td_netlist.specs.Views.{name_of}
+use Rattle.td_netlist.proofs.Readings.{one_netlist}
+use Rattle.td_circuit.specs.Loops.{LiesOnLoop}
+use Rattle.td_certificate.specs.declared.certificate.Certificate.{Certificate}
+use Rattle.td_certificate.specs.declared.fault.CertFaultKind.{CertFaultKind}
+use Rattle.td_certificate.specs.declared.fault.CertFaultKind.TheVariants as kind
+use Rattle.td_certificate.specs.Text.{node_line}
+use Rattle.td_certificate.specs.Spelling.{head_lines, ended, spelling, Spells}
+use Rattle.td_certificate.specs.Faults.{IsWithinLimit, IsFault}
+use Rattle.td_certificate.proofs.Acceptance.{accepted_is_worst}
+use Rattle.td_certificate.proofs.Exclusion.{spells-front, spells-more, spells-stops}
+use Rattle.td_certificate.proofs.Texts.{spells_once}
+use Rattle.td_checker.specs.declared.verdict.Verdict.{Verdict}
+use Rattle.td_checker.specs.declared.verdict.Verdict.TheVariants as verdict
+use Rattle.td_checker.specs.declared.verdict.CheckFault.{CheckFault}
+use Rattle.td_checker.specs.declared.verdict.CheckFault.TheVariants as fault
+use Rattle.td_checker.specs.Verdicts.{IsVerdict}
+use Rattle.td_checker.specs.Checks.{HasCircuit, HaveVerdict, IsCheckFault, IsCertificateFault, IsToldAs, TellsWorst}
+use Rattle.td_checker.proofs.OneVerdict.{texts_have_one_verdict}
+
+-- ---- a text is at least as long as its lines are many
+
+lines_long : (lines : List (List ℕ)) → length lines ≤ length (flat_map ended lines)
+lines_long [] = omega arith
+lines_long (line ∷ lines) =
+    omega (arith, lines_long lines, ap length (flat_map-cons ended line lines), length-append (ended line) (flat_map ended lines), length-append line (10 ∷ []))
+
+pub few_nodes : (c : Certificate) (text : List ℕ) → Spells c text → IsWithinLimit text → length c.tree ≤ 268435456
+unfolding spelling
+few_nodes c text spells within =
+    let parts : length text ≡ length (flat_map ended (head_lines c ++ map node_line c.tree)) = ap length spells.parts in
+    omega (
+      arith,
+      parts,
+      lines_long (head_lines c ++ map node_line c.tree),
+      length-append (head_lines c) (map node_line c.tree),
+      length-map c.tree node_line,
+      within,
+    )
+
+-- ---- faults
+
+spelled_fault : {X : Type 0} (k : CertFaultKind) (line : ℕ) (text : List ℕ) (c : Certificate) → Spells c text → IsWithinLimit text
+    → k ≢ kind.OutOfMemory → IsFault k line text → X
+spelled_fault kind.OutOfMemory line text c spells within other is = absurd (other refl)
+spelled_fault kind.TooLong line text c spells within other is = absurd (omega (arith, within, is.0))
+spelled_fault kind.UnexpectedEnd line text c spells within other is = spells-front text c spells is.1
+spelled_fault kind.Trailing line text c spells within other is = spells-more text c line spells is.1
+spelled_fault kind.Syntax line text c spells within other is = spells-stops text c line spells is.1
+spelled_fault kind.NumberTooLarge line text c spells within other is = spells-stops text c line spells is.1
+spelled_fault kind.Version line text c spells within other is = spells-stops text c line spells is.1
+
+pub refused : (text : List ℕ) (default : Delay) (result : Result Netlist Fault) (told : Fault) → result ≡ Err told
+    → ((netlist : Netlist) → Means text default netlist → IsUnlessMemory result netlist)
+    → OfNames told.kind (BreaksIn text told.kind told.line) → told.kind ≢ netlist_kind.OutOfMemory
+    → (certificate : List ℕ) → IsCheckFault text default certificate (fault.Netlist told)
+refused text default result told is only breaks other certificate = (
+  other,
+  λ netlist means. other (subst (λ (r : Result Netlist Fault). IsUnlessMemory r netlist) is (only netlist means)),
+  breaks,
+)
+
+-- texts that have a verdict have no fault
+fault_is_memory : (netlist_text : List ℕ) (default : Delay) (text : List ℕ) (told : CheckFault) (v : Verdict)
+    → IsCheckFault netlist_text default text told → HaveVerdict netlist_text default text v → told ≡ fault.OutOfMemory
+fault_is_memory netlist_text default text fault.OutOfMemory v is have = refl
+fault_is_memory netlist_text default text (fault.Netlist told) v is have = absurd (is.1 have.netlist have.circuit.means)
+fault_is_memory netlist_text default text (fault.Loop name) v is have =
+    let same : is.0 ≡ have.netlist = one_netlist netlist_text default is.0 have.netlist is.1 have.circuit.means in
+    let loop : LiesOnLoop have.netlist (name_of name) = subst (λ (n : Netlist). LiesOnLoop n (name_of name)) same is.2 in
+    absurd (have.circuit.acyclic loop.0)
+fault_is_memory netlist_text default text (fault.Certificate told) v is have =
+    spelled_fault told.kind told.line text have.certificate have.spells have.within is.2 is.3
+
+pub told_only : (netlist_text : List ℕ) (default : Delay) (text : List ℕ) (result : Result Verdict CheckFault)
+    → IfOk result (λ told. HaveVerdict netlist_text default text told) → IfErr result (λ told. IsCheckFault netlist_text default text told)
+    → (v : Verdict) → HaveVerdict netlist_text default text v → IsToldAs v result
+told_only netlist_text default text (Ok told) found fails v have = texts_have_one_verdict netlist_text default text told v found have
+told_only netlist_text default text (Err told) found fails v have = fault_is_memory netlist_text default text told v fails have
+
+pub certificate_fault : (netlist_text : List ℕ) (default : Delay) (text : List ℕ) (netlist : Netlist) (told : CheckFault)
+    → HasCircuit netlist_text default netlist → IsCertificateFault text told → IsCheckFault netlist_text default text told
+certificate_fault netlist_text default text netlist fault.OutOfMemory circuit is = tt
+certificate_fault netlist_text default text netlist (fault.Netlist told) circuit is = absurd is
+certificate_fault netlist_text default text netlist (fault.Loop name) circuit is = absurd is
+certificate_fault netlist_text default text netlist (fault.Certificate told) circuit is = (netlist, circuit, is.0, is.1)
+
+pub have_verdict : (netlist_text : List ℕ) (default : Delay) (text : List ℕ) (netlist : Netlist) (c : Certificate) (v : Verdict)
+    → HasCircuit netlist_text default netlist → Spells c text × IsWithinLimit text → IsVerdict netlist c v
+    → HaveVerdict netlist_text default text v
+have_verdict netlist_text default text netlist c v circuit spells is = record {
+  netlist = netlist;
+  circuit = circuit;
+  certificate = c;
+  spells = spells.0;
+  within = spells.1;
+  is = is;
+}
+
+pub tells_worst : (netlist_text : List ℕ) (default : Delay) (text : List ℕ) (netlist : Netlist) (c : Certificate) (v : Verdict)
+    → HasCircuit netlist_text default netlist → IsWellFormed netlist → Spells c text × IsWithinLimit text → IsVerdict netlist c v
+    → v ≡ verdict.Accepted → TellsWorst netlist_text default text
+tells_worst netlist_text default text netlist c v circuit formed spells is accepted other d means spelled =
+    let same : netlist ≡ other = one_netlist netlist_text default netlist other circuit.means means in
+    let one : c ≡ d = (spells_once c d text text [] spells.0 spelled (sym (append-nil text))).0 in
+    rw (same, one) at (accepted_is_worst netlist c formed circuit.acyclic (rw accepted at is))

@@ -1,0 +1,12 @@
+use Rattle.std.proofs.Common.{reverse, take}
+use Rattle.std.specs.List.{AllByRecursion}
+use Rattle.td_certificate.specs.Accepts.{IsGood}
+use Rattle.td_checker.specs.Judging.{lines_in}
+use Rattle.td_checker.proofs.Lines.{IsWalked}
+use Rattle.td_checker.proofs.checking.first_bad.Given as goal
+
+abbrev pub invariant-loop-place : goal.invariant-loop-place
+invariant-loop-place l = record {
+  walk : IsWalked l.certificate l.place l.walk.cube (reverse l.walk.path.items);
+  good : AllByRecursion (IsGood l.circuit.netlist l.certificate.time) (take l.place (lines_in l.certificate));
+}

@@ -1,0 +1,84 @@
+-- Verdicts on certificates.
+use Rattle.std.specs.Prelude.{◌≡◌, ℕ, ◌+◌, List, codes, length, slice_get, take, Option, Some, None}
+use Rattle.std.specs.List.{AllByRecursion}
+use Rattle.td_netlist.specs.Netlist.{Netlist}
+use Rattle.td_certificate.specs.declared.certificate.Certificate.{Certificate}
+use Rattle.td_certificate.specs.Trees.{Tree, nodes_of}
+use Rattle.td_certificate.specs.Spelling.{head_lines}
+use Rattle.td_certificate.specs.Accepts.{Line, lines_of, root_cube, SplitsFree, IsOfOnePair, IsOfCube, IsWithin, IsGood, IsOfSize, IsReached, Accepts}
+use Rattle.td_checker.specs.declared.verdict.Verdict.{Verdict}
+use Rattle.td_checker.specs.declared.verdict.Verdict.TheVariants as verdict
+
+abbrev pub verdict_number : Verdict → ℕ
+verdict_number verdict.Accepted = 1
+verdict_number verdict.PairTime = 2
+verdict_number (verdict.LeafBound line) = 3
+verdict_number (verdict.LeafAboveTime line) = 4
+verdict_number (verdict.BadPosition line) = 5
+verdict_number (verdict.NotAPoint line) = 6
+verdict_number verdict.OtherCircuit = 7
+
+abbrev pub verdict_name : Verdict → List ℕ
+verdict_name verdict.Accepted = codes "Accepted"
+verdict_name verdict.PairTime = codes "PairTime"
+verdict_name (verdict.LeafBound line) = codes "LeafBound"
+verdict_name (verdict.LeafAboveTime line) = codes "LeafAboveTime"
+verdict_name (verdict.BadPosition line) = codes "BadPosition"
+verdict_name (verdict.NotAPoint line) = codes "NotAPoint"
+verdict_name verdict.OtherCircuit = codes "OtherCircuit"
+
+abbrev pub verdict_line : Verdict → Option ℕ
+verdict_line verdict.Accepted = None
+verdict_line verdict.PairTime = None
+verdict_line (verdict.LeafBound line) = Some line
+verdict_line (verdict.LeafAboveTime line) = Some line
+verdict_line (verdict.BadPosition line) = Some line
+verdict_line (verdict.NotAPoint line) = Some line
+verdict_line verdict.OtherCircuit = None
+
+-- ---- the first bad line
+
+-- what is wrong with a line, in the order in which it is looked for
+pub data Flaw : Type 0 where
+  Misplaced : Flaw
+  NotOnePair : Flaw
+  WrongNumber : Flaw
+  AboveTime : Flaw
+
+-- the line has this flaw, and none that is looked for before it
+abbrev pub HasFlaw : Netlist → ℕ → Flaw → Line → Type 0
+HasFlaw netlist most Misplaced line = ¬ SplitsFree line.cube line.node
+HasFlaw netlist most NotOnePair line = SplitsFree line.cube line.node × (¬ IsOfOnePair line.cube line.node)
+HasFlaw netlist most WrongNumber line =
+    SplitsFree line.cube line.node × IsOfOnePair line.cube line.node × (¬ IsOfCube netlist line.cube line.node)
+HasFlaw netlist most AboveTime line =
+    SplitsFree line.cube line.node × IsOfOnePair line.cube line.node × IsOfCube netlist line.cube line.node × (¬ IsWithin most line.node)
+
+-- The certificate is of this circuit and its pair has its time, and this line of the text is the first bad one: it has this
+-- flaw, and those before it in the tree are good.
+pub record IsFirstBad (netlist : Netlist) (c : Certificate) (flaw : Flaw) (line : ℕ) : Type 0 where
+  pub size : IsOfSize netlist c
+  pub reached : IsReached netlist c
+  pub tree : Tree
+  pub nodes : nodes_of tree ≡ c.tree
+  pub place : ℕ
+  pub bad : Line
+  pub stands : slice_get (lines_of (root_cube c) tree) place ≡ Some bad
+  pub good_before : AllByRecursion (IsGood netlist c.time) (take place (lines_of (root_cube c) tree))
+  pub has : HasFlaw netlist c.time flaw bad
+  pub line_is : line ≡ 1 + length (head_lines c) + place
+
+-- ---- the verdict
+
+abbrev pub IsVerdict : Netlist → Certificate → Verdict → Type 0
+IsVerdict netlist c verdict.Accepted = Accepts netlist c
+IsVerdict netlist c verdict.OtherCircuit = ¬ IsOfSize netlist c
+IsVerdict netlist c verdict.PairTime = IsOfSize netlist c × (¬ IsReached netlist c)
+IsVerdict netlist c (verdict.BadPosition line) = IsFirstBad netlist c Misplaced line
+IsVerdict netlist c (verdict.NotAPoint line) = IsFirstBad netlist c NotOnePair line
+IsVerdict netlist c (verdict.LeafBound line) = IsFirstBad netlist c WrongNumber line
+IsVerdict netlist c (verdict.LeafAboveTime line) = IsFirstBad netlist c AboveTime line
+
+-- a certificate has at most one verdict
+abbrev pub OneVerdict : Type 0
+OneVerdict = (netlist : Netlist) (c : Certificate) (this that : Verdict) → IsVerdict netlist c this → IsVerdict netlist c that → this ≡ that

@@ -1,0 +1,24 @@
+-- Certificates that are accepted, and their texts.
+use Rattle.std.specs.Prelude.{ℕ, ◌≤◌, List, length}
+use Rattle.td_gates.specs.declared.timing.Delay.{Delay}
+use Rattle.td_netlist.specs.Netlist.{Netlist}
+use Rattle.td_netlist.specs.Means.{Means}
+use Rattle.td_run.specs.Laws.{IsAcyclic}
+use Rattle.td_certificate.specs.declared.certificate.Certificate.{Certificate}
+use Rattle.td_certificate.specs.Spelling.{HasSpelling, spelling}
+use Rattle.td_certificate.specs.Faults.{IsWithinLimit}
+use Rattle.td_certificate.specs.Accepts.{Accepts}
+use Rattle.td_checker.specs.declared.verdict.Verdict.TheVariants as verdict
+use Rattle.td_checker.specs.Checks.{HaveVerdict}
+
+-- the certificate can be written, what is written is within the limit, and the verdict on it is Accepted
+pub record IsAcceptedAsWritten (netlist_text : List ℕ) (default : Delay) (c : Certificate) : Type 0 where
+  pub has : HasSpelling c
+  pub within : IsWithinLimit (spelling c)
+  pub verdict : HaveVerdict netlist_text default (spelling c) verdict.Accepted
+
+-- A certificate that is accepted of the netlist that a text means, with a tree of at most 10,000,000 lines, as an exact
+-- answer of a search gives it, is accepted as it is written.
+abbrev pub AcceptedIsWritten : Type 0
+AcceptedIsWritten = (netlist_text : List ℕ) (default : Delay) (netlist : Netlist) (c : Certificate) → Means netlist_text default netlist
+    → IsAcyclic netlist → Accepts netlist c → length c.tree ≤ 10000000 → IsAcceptedAsWritten netlist_text default c

@@ -1,0 +1,202 @@
+//! The verdict on a certificate.
+
+ghost use Rattle.std.specs.Prelude.{◌≡◌, ◌≤◌, ◌<◌, ◌↔◌, ℕ, List, length, IfOk, IfErr, IfSome, IsTrue};
+ghost use Rattle.td_netlist.specs.Means.{Means};
+ghost use Rattle.td_netlist.specs.WellFormed.{IsWellFormed};
+ghost use Rattle.td_circuit.specs.Run.{IsVector};
+ghost use Rattle.td_certificate.specs.Accepts.{IsOfSize, IsReached};
+ghost use Rattle.td_certificate.specs.Faults.{IsWithinLimit};
+ghost use Rattle.td_certificate.specs.Spelling.{HasSpelling, Spells};
+ghost use Rattle.td_checker.specs.Judging.{AreJudged, lines_in, told_as};
+ghost use Rattle.td_checker.specs.Verdicts.{IsVerdict};
+ghost use Rattle.td_checker.specs.declared.verdict.Verdict.{Verdict as Told};
+ghost use Rattle.td_checker.specs.Checks.{HaveVerdict, HasCircuit, IsCheckFault, IsCertificateFault, IsToldAs, TellsWorst};
+
+use crate::delays::delay_of;
+use crate::judging::{Flaw, judge};
+use crate::verdict::{CheckFault, Verdict};
+use crate::walking::Walk;
+use std::alloc::{AllocError, Global};
+use td_certificate::{CertFaultKind, Certificate};
+use td_circuit::{BuildFault, Circuit, build};
+use td_gates::Delay;
+use td_netlist::{FaultKind, Netlist};
+
+/// The line of a text on which its tree begins.
+const FIRST_LINE: u32 = 6;
+
+/// The first bad line of a tree: its place among the tree's lines, from 0, and what is wrong with it.
+#[derive(Clone, Copy, Debug, PartialEq, Eq, Drop)]
+pub struct BadLine {
+    pub place: usize,
+    pub flaw: Flaw,
+}
+
+/// The first bad line of the certificate's tree, if one is bad.
+#[tactic(auto, using(crate::proofs::Lines::started))]
+fn first_bad(
+    alloc: Global,
+    circuit: &Circuit,
+    certificate: &Certificate,
+) -> Result<Option<BadLine>, AllocError>
+    requires { length circuit.now.netlist.inputs ≡ certificate.now.inputs }
+    ensures judged { IfOk result (λ found. AreJudged circuit.now.netlist certificate.now.time (lines_in certificate.now) found) }
+    ensures place { IfOk result (λ found. IfSome found (λ bad. bad.place < length certificate.now.tree)) }
+{
+    let mut walk = Walk::new(alloc, certificate.inputs as usize)?;
+    for (place, node) in certificate.tree.nodes().iter().enumerate() {
+        if let Some(flaw) = judge(alloc, circuit, certificate.time, &walk.cube, *node)? {
+            return Ok(Some(BadLine { place, flaw }));
+        }
+        walk.pass(*node)?;
+    }
+    Ok(None)
+}
+
+/// The verdict that tells this line.
+fn told_of(bad: BadLine) -> Verdict
+    requires { bad.place < 268435456 }
+    ensures { result ≡ told_as bad.flaw bad.place }
+{
+    let line = FIRST_LINE + bad.place as u32;
+    match bad.flaw {
+        Flaw::Misplaced => Verdict::BadPosition(line),
+        Flaw::NotOnePair => Verdict::NotAPoint(line),
+        Flaw::WrongNumber => Verdict::LeafBound(line),
+        Flaw::AboveTime => Verdict::LeafAboveTime(line),
+    }
+}
+
+/// Whether the certificate is of a circuit with so many inputs and gates.
+fn is_of_size(circuit: &Circuit, certificate: &Certificate) -> bool
+    ensures { IsTrue result ↔ IsOfSize circuit.now.netlist certificate.now }
+{
+    circuit.inputs() == certificate.inputs as usize
+        && circuit.gates().len() == certificate.gates as usize
+}
+
+/// Whether the certificate's pair has its time.
+fn is_reached(
+    alloc: Global,
+    circuit: &Circuit,
+    certificate: &Certificate,
+) -> Result<bool, AllocError>
+    requires first { IsVector circuit.now.netlist certificate.now.pair.first }
+    requires second { IsVector circuit.now.netlist certificate.now.pair.second }
+    ensures { IfOk result (λ is. IsTrue is ↔ IsReached circuit.now.netlist certificate.now) }
+{
+    Ok(delay_of(alloc, circuit, &certificate.pair)? == certificate.time)
+}
+
+/// The verdict on a certificate that has a text within the limit.
+#[tactic(auto, using(crate::proofs::Told::bad_told, crate::proofs::Told::accepted_told, crate::proofs::Told::first_fits, crate::proofs::Told::second_fits, crate::proofs::Told::inputs_fit, crate::proofs::Told::is_tree))]
+fn verdict_on(
+    alloc: Global,
+    circuit: &Circuit,
+    certificate: &Certificate,
+) -> Result<Verdict, AllocError>
+    requires spelled { HasSpelling certificate.now }
+    requires few { length certificate.now.tree ≤ 268435456 }
+    ensures { IfOk result (λ verdict. IsVerdict circuit.now.netlist certificate.now verdict) }
+{
+    if !is_of_size(circuit, certificate) {
+        return Ok(Verdict::OtherCircuit);
+    }
+    if !is_reached(alloc, circuit, certificate)? {
+        return Ok(Verdict::PairTime);
+    }
+    match first_bad(alloc, circuit, certificate)? {
+        Some(bad) => Ok(told_of(bad)),
+        None => Ok(Verdict::Accepted),
+    }
+}
+
+/// The netlist that a text means.
+fn netlist_of<'a>(alloc: Global, text: &'a [u8], default: Delay) -> Result<Netlist, CheckFault<'a>>
+    ensures found { IfOk result (λ netlist. Means text.now default netlist) }
+    ensures formed { IfOk result (λ netlist. IsWellFormed netlist) }
+    ensures fault { IfErr result (λ fault. (certificate : List ℕ) → IsCheckFault text.now default certificate fault) }
+{
+    match td_netlist::read(alloc, text, default) {
+        Ok(netlist) => {
+            let _gates = netlist.gates();
+            Ok(netlist)
+        }
+        Err(fault) => match fault.kind {
+            FaultKind::OutOfMemory => Err(CheckFault::OutOfMemory),
+            _ => Err(CheckFault::Netlist(fault)),
+        },
+    }
+}
+
+/// The circuit of a netlist, which this text means.
+fn circuit_of<'a>(alloc: Global, text: &'a [u8], default: Delay) -> Result<Circuit, CheckFault<'a>>
+    ensures found { IfOk result (λ circuit. HasCircuit text.now default circuit.netlist) }
+    ensures formed { IfOk result (λ circuit. IsWellFormed circuit.netlist) }
+    ensures fault { IfErr result (λ fault. (certificate : List ℕ) → IsCheckFault text.now default certificate fault) }
+{
+    let netlist = netlist_of(alloc, text, default)?;
+    match build(alloc, netlist) {
+        Ok(circuit) => Ok(circuit),
+        Err((_netlist, fault)) => match fault {
+            BuildFault::OutOfMemory => Err(CheckFault::OutOfMemory),
+            BuildFault::Loop(name) => Err(CheckFault::Loop(name)),
+        },
+    }
+}
+
+/// The certificate that a text spells.
+fn certificate_of<'a>(alloc: Global, text: &[u8]) -> Result<Certificate, CheckFault<'a>>
+    ensures found { IfOk result (λ certificate. Spells certificate text.now × IsWithinLimit text.now) }
+    ensures fault { IfErr result (λ fault. IsCertificateFault text.now fault) }
+{
+    match td_certificate::read(alloc, text) {
+        Ok(certificate) => Ok(certificate),
+        Err(fault) => match fault.kind {
+            CertFaultKind::OutOfMemory => Err(CheckFault::OutOfMemory),
+            _ => Err(CheckFault::Certificate(fault)),
+        },
+    }
+}
+
+/// The verdict on the certificate that a text spells, for the netlist that another text means.
+#[tactic(auto, using(crate::proofs::Texts::few_nodes, crate::proofs::Texts::have_verdict))]
+fn verdict_of_texts<'a>(
+    alloc: Global,
+    netlist: &'a [u8],
+    default: Delay,
+    certificate: &[u8],
+) -> Result<Verdict, CheckFault<'a>>
+    ensures told { IfOk result (λ verdict. HaveVerdict netlist.now default certificate.now verdict) }
+    ensures fault { IfErr result (λ fault. IsCheckFault netlist.now default certificate.now fault) }
+    ensures worst { IfOk result (λ verdict. verdict ≡ Verdict.Accepted → TellsWorst netlist.now default certificate.now) }
+{
+    let circuit = circuit_of(alloc, netlist, default)?;
+    let spelled = certificate_of(alloc, certificate)?;
+    Ok(verdict_on(alloc, &circuit, &spelled)?)
+}
+
+/// The verdict on a certificate's text, for a netlist's text in which gates that state no delay have the default one.
+///
+/// # Errors
+///
+/// The first that is there of a fault of the netlist's text, a loop of the netlist and a fault of the certificate's text.
+/// `OutOfMemory` where a growth was refused.
+pub fn check<'a>(
+    alloc: Global,
+    netlist: &'a [u8],
+    default: Delay,
+    certificate: &[u8],
+) -> Result<Verdict, CheckFault<'a>>
+    // What is told is the verdict on the two texts, and a fault is one of theirs.
+    ensures told { IfOk result (λ verdict. HaveVerdict netlist.now default certificate.now verdict) }
+    ensures fault { IfErr result (λ fault. IsCheckFault netlist.now default certificate.now fault) }
+
+    // Unless memory runs out, texts that have a verdict are told it.
+    ensures only { (verdict : Told) → HaveVerdict netlist.now default certificate.now verdict → IsToldAs verdict result }
+
+    // An accepted time is the worst delay.
+    ensures worst { IfOk result (λ verdict. verdict ≡ Verdict.Accepted → TellsWorst netlist.now default certificate.now) }
+{
+    verdict_of_texts(alloc, netlist, default, certificate)
+}

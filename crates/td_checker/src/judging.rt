@@ -1,0 +1,144 @@
+//! What is wrong with a line of a tree.
+
+ghost use Rattle.std.specs.Prelude.{◌≡◌, ◌*◌, ◌↔◌, Option, ℕ, length, slice_get, Some, IfOk, IsTrue};
+ghost use Rattle.td_domain.specs.Cubes.{IsPoint};
+ghost use Rattle.td_certificate.specs.Accepts.{IsBoundBy, SplitsFree, IsOfOnePair, IsBounded, HasDelay, IsOfCube, IsWithin};
+ghost use Rattle.td_checker.specs.Judging.{line_of, IsJudged};
+
+use crate::delays::{delay_of, pair_of};
+use std::alloc::{AllocError, Global};
+use td_arrival::Arrival;
+use td_certificate::{BoundedBy, Node};
+use td_circuit::Circuit;
+use td_domain::{Both, Cube, Trit, bound};
+use td_ternary::Possible;
+
+/// What is wrong with a line.
+#[derive(Clone, Copy, Debug, PartialEq, Eq, Drop)]
+pub enum Flaw {
+    /// A split at a position that doesn't exist or isn't free.
+    Misplaced,
+    /// A leaf of one pair where something is free.
+    NotOnePair,
+    /// A bound less than the domain's or of a domain that gives none, or a time that isn't the pair's delay.
+    WrongNumber,
+    /// The number of a leaf is above the time.
+    AboveTime,
+}
+
+/// What is wrong with the node of this cube, if something is, where the certificate's time is this.
+pub fn judge(
+    alloc: Global,
+    circuit: &Circuit,
+    time: u64,
+    cube: &Cube,
+    node: Node,
+) -> Result<Option<Flaw>, AllocError>
+    requires { length cube.now ≡ 2 * length circuit.now.netlist.inputs }
+    ensures { IfOk result (λ found. IsJudged circuit.now.netlist time (line_of cube.now node) found) }
+{
+    if !splits_free(cube, node) {
+        return Ok(Some(Flaw::Misplaced));
+    }
+    if !is_of_one_pair(cube, node) {
+        return Ok(Some(Flaw::NotOnePair));
+    }
+    if !is_of_cube(alloc, circuit, cube, node)? {
+        return Ok(Some(Flaw::WrongNumber));
+    }
+    if !is_within(time, node) {
+        return Ok(Some(Flaw::AboveTime));
+    }
+    Ok(None)
+}
+
+/// Whether the node, where it is a split, is at a free position.
+fn splits_free(cube: &Cube, node: Node) -> bool
+    ensures { IsTrue result ↔ SplitsFree cube.now node }
+{
+    match node {
+        Node::Split(position) => {
+            (position as usize) < cube.len() && cube.trit(position as usize) == Trit::Free
+        }
+        Node::Bound(_, _) | Node::Point(_) => true,
+    }
+}
+
+/// Whether nothing is free where the node is a leaf of one pair.
+fn is_of_one_pair(cube: &Cube, node: Node) -> bool
+    ensures { IsTrue result ↔ IsOfOnePair cube.now node }
+{
+    match node {
+        Node::Split(_) | Node::Bound(_, _) => true,
+        Node::Point(_) => cube.is_point(),
+    }
+}
+
+/// Whether the number of a leaf is one of its cube.
+fn is_of_cube(alloc: Global, circuit: &Circuit, cube: &Cube, node: Node) -> Result<bool, AllocError>
+    requires length { length cube.now ≡ 2 * length circuit.now.netlist.inputs }
+    requires pair { IsOfOnePair cube.now node }
+    ensures { IfOk result (λ is. IsTrue is ↔ IsOfCube circuit.now.netlist cube.now node) }
+{
+    match node {
+        Node::Split(_) => Ok(true),
+        Node::Bound(domain, most) => is_bounded(alloc, circuit, cube, domain, most),
+        Node::Point(delay) => has_delay(alloc, circuit, cube, delay),
+    }
+}
+
+/// Whether the number of a leaf is at most the time.
+fn is_within(time: u64, node: Node) -> bool
+    ensures { IsTrue result ↔ IsWithin time node }
+{
+    match node {
+        Node::Split(_) => true,
+        Node::Bound(_, number) | Node::Point(number) => number <= time,
+    }
+}
+
+/// The bound that a domain gives of a cube, if it gives one.
+fn bound_by(
+    alloc: Global,
+    circuit: &Circuit,
+    cube: &Cube,
+    domain: BoundedBy,
+) -> Result<Option<u64>, AllocError>
+    requires { length cube.now ≡ 2 * length circuit.now.netlist.inputs }
+    ensures bound { IfOk result (IsBoundBy domain circuit.now.netlist cube.now) }
+    ensures only { IfOk result (λ answer. (other : Option ℕ)
+        → IsBoundBy domain circuit.now.netlist cube.now other → other ≡ answer) }
+{
+    match domain {
+        BoundedBy::Arrival => bound::<Arrival>(alloc, circuit, cube),
+        BoundedBy::Possible => bound::<Possible>(alloc, circuit, cube),
+        BoundedBy::Both => bound::<Both<Arrival, Possible>>(alloc, circuit, cube),
+    }
+}
+
+/// Whether a domain gives a bound of a cube that is at most this.
+fn is_bounded(
+    alloc: Global,
+    circuit: &Circuit,
+    cube: &Cube,
+    domain: BoundedBy,
+    most: u64,
+) -> Result<bool, AllocError>
+    requires { length cube.now ≡ 2 * length circuit.now.netlist.inputs }
+    ensures { IfOk result (λ is. IsTrue is ↔ IsBounded domain circuit.now.netlist cube.now most) }
+{
+    match bound_by(alloc, circuit, cube, domain)? {
+        Some(bound) => Ok(bound <= most),
+        None => Ok(false),
+    }
+}
+
+/// Whether the one pair of a cube has this delay.
+fn has_delay(alloc: Global, circuit: &Circuit, cube: &Cube, delay: u64) -> Result<bool, AllocError>
+    requires length { length cube.now ≡ 2 * length circuit.now.netlist.inputs }
+    requires point { IsPoint cube.now }
+    ensures { IfOk result (λ has. IsTrue has ↔ HasDelay circuit.now.netlist cube.now delay) }
+{
+    let pair = pair_of(alloc, circuit, cube)?;
+    Ok(delay_of(alloc, circuit, &pair)? == delay)
+}

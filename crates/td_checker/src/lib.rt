@@ -1,0 +1,17 @@
+//! The checker of certificates: it trusts nobody, and stands on nothing of the search.
+#![tactic(auto)]
+
+mod checking;
+mod delays;
+mod judging;
+pub mod laws;
+mod verdict;
+mod walking;
+
+pub use checking::check;
+pub use verdict::{CheckFault, Verdict};
+
+#[cfg(test)]
+mod searched;
+#[cfg(test)]
+mod tests;

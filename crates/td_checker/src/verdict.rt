@@ -1,0 +1,102 @@
+//! What the checker answers.
+
+ghost use Rattle.std.specs.Prelude.{◌≡◌};
+ghost use Rattle.td_checker.specs.declared.verdict.CheckFault.TheVariants as fault;
+ghost use Rattle.td_checker.specs.Verdicts.{verdict_number, verdict_name, verdict_line};
+
+use std::alloc::AllocError;
+use td_certificate::CertFault;
+use td_netlist::{Fault, Name};
+use thiserror::Error;
+
+/// The verdict on a certificate: the first that applies of another circuit, a pair without the time, and, line by line in
+/// the tree, a bad position, a leaf of one pair with something free, a wrong number, and a number above the time.
+/// Lines are those of the text, from 1.
+#[derive(Clone, Copy, Debug, PartialEq, Eq, Drop)]
+pub enum Verdict {
+    /// The certificate's time is the circuit's worst delay.
+    Accepted,
+    /// The pair's delay isn't the time.
+    PairTime,
+    /// A bound less than the domain's or of a domain that gives none, or a time that isn't the pair's delay.
+    LeafBound(u32),
+    /// The number of a leaf is above the time.
+    LeafAboveTime(u32),
+    /// A split at a position that doesn't exist or isn't free.
+    BadPosition(u32),
+    /// A leaf of one pair where something is free.
+    NotAPoint(u32),
+    /// The circuit has another number of inputs or gates.
+    OtherCircuit,
+}
+
+impl Verdict {
+    /// The number by which programs tell this verdict, from 1 for `Accepted` to 7.
+    pub fn number(self) -> u8
+        ensures { result ≡ verdict_number self }
+    {
+        match self {
+            Verdict::Accepted => 1,
+            Verdict::PairTime => 2,
+            Verdict::LeafBound(_) => 3,
+            Verdict::LeafAboveTime(_) => 4,
+            Verdict::BadPosition(_) => 5,
+            Verdict::NotAPoint(_) => 6,
+            Verdict::OtherCircuit => 7,
+        }
+    }
+
+    /// The name of this verdict, as its variant is spelled.
+    pub fn name(self) -> &'static str
+        ensures { result.now ≡ verdict_name self }
+    {
+        match self {
+            Verdict::Accepted => "Accepted",
+            Verdict::PairTime => "PairTime",
+            Verdict::LeafBound(_) => "LeafBound",
+            Verdict::LeafAboveTime(_) => "LeafAboveTime",
+            Verdict::BadPosition(_) => "BadPosition",
+            Verdict::NotAPoint(_) => "NotAPoint",
+            Verdict::OtherCircuit => "OtherCircuit",
+        }
+    }
+
+    /// The line of the certificate's text that the verdict is about, where it is about one.
+    pub fn line(self) -> Option<u32>
+        ensures { result ≡ verdict_line self }
+    {
+        match self {
+            Verdict::LeafBound(line)
+            | Verdict::LeafAboveTime(line)
+            | Verdict::BadPosition(line)
+            | Verdict::NotAPoint(line) => Some(line),
+            Verdict::Accepted | Verdict::PairTime | Verdict::OtherCircuit => None,
+        }
+    }
+}
+
+/// Why two texts have no verdict: the first that is there of a fault of the netlist's text, a loop and a fault of the
+/// certificate's text.
+#[derive(Debug, Drop, Error)]
+pub enum CheckFault<'a> {
+    /// A growth was refused.
+    #[error("out of memory")]
+    OutOfMemory,
+    /// The netlist's text is refused.
+    #[error("the netlist: {0}")]
+    Netlist(Fault<'a>),
+    /// This net lies on a loop.
+    #[error("a loop")]
+    Loop(Name),
+    /// The certificate's text is refused.
+    #[error("the certificate: {0}")]
+    Certificate(CertFault),
+}
+
+impl<'a> From<AllocError> for CheckFault<'a> {
+    ghost from_gives = { λ _ e. e ≡ fault.OutOfMemory };
+
+    fn from(_e: AllocError) -> CheckFault<'a> {
+        CheckFault::OutOfMemory
+    }
+}
