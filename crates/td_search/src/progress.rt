@@ -1,0 +1,158 @@
+//! A search in one thread: the book of its cubes, the best pair so far, and what is known of cubes that are left.
+
+ghost use Rattle.std.specs.Prelude.{◌≡◌, ◌*◌, ◌<◌, ◌≤◌, length, slice_get, Some, IfOk};
+ghost use Rattle.td_domain.specs.declared.cubes.Trit.TheVariants.{Free};
+ghost use Rattle.td_domain.specs.Bounds.{IsAboveEach};
+ghost use Rattle.td_domain.specs.Cubes.{IsIn};
+ghost use Rattle.td_book.specs.Cubes.{free_cube};
+ghost use Rattle.td_search.specs.Answers.{has_bound};
+ghost use Rattle.td_search.specs.CutShort.{IsWide};
+ghost use Rattle.td_search.specs.Answers.{has_delay};
+ghost use Rattle.td_search.specs.Judging.{IsMeasured, IsMarked};
+ghost use Rattle.td_search.specs.Progress.{IsUnderWay};
+
+use crate::judging::{Verdict, delay_of, judge, strongest_bound};
+use crate::representatives::representative;
+use std::alloc::{AllocError, Global};
+use td_book::{Book, Claim, Lease, Mark, SplitFault};
+use td_circuit::Circuit;
+use td_domain::{Cube, Pair};
+
+/// A search under way: its book, the best time and a pair that has it, and by the number of each node a bound of its cube
+/// or of its parent's.
+#[derive(Drop)]
+pub struct Search {
+    pub book: Book,
+    pub best: u64,
+    pub pair: Pair,
+    pub bounds: Vec<u64>,
+}
+
+/// The search can't go on: memory ran out.
+#[derive(Debug, Drop)]
+pub struct Stop;
+
+impl From<AllocError> for Stop {
+    fn from(_error: AllocError) -> Self {
+        Stop
+    }
+}
+
+impl From<SplitFault> for Stop {
+    fn from(_fault: SplitFault) -> Self {
+        Stop
+    }
+}
+
+/// A search that has measured the root's representative and bounded the root's cube. The error is want of memory.
+pub fn begin(alloc: Global, circuit: &Circuit, budget: u64) -> Result<Search, AllocError>
+    requires { budget ≤ 10000000 }
+    ensures { IfOk result (IsUnderWay circuit.now.netlist budget) }
+{
+    let _numbering = circuit.gates();
+    let root = Cube::free(alloc, circuit.inputs())?;
+    let book = Book::new(alloc, root.len() as u32, 1, budget)?;
+    let mut bounds = Vec::with_capacity(alloc, 1)?;
+    let pair = representative(alloc, &root)?;
+    let best = delay_of(alloc, circuit, &pair)?;
+    bounds.push_reserved(strongest_bound(alloc, circuit, &root)?);
+    Ok(Search {
+        book,
+        best,
+        pair,
+        bounds,
+    })
+}
+
+impl Search {
+    /// Handles nodes until none is left, the budget is used up, or memory runs out.
+    pub fn run(&mut self, alloc: Global, circuit: &Circuit, budget: u64)
+        requires { IsUnderWay circuit.now.netlist budget self.old }
+        ensures { IsUnderWay circuit.now.netlist budget self.new }
+    {
+        for _ in 0..budget {
+            let Ok(true) = self.handle_next(alloc, circuit) else {
+                break;
+            };
+        }
+    }
+
+    // Handles the first node that is open, if the book gives one.
+    fn handle_next(&mut self, alloc: Global, circuit: &Circuit) -> Result<bool, Stop>
+        requires { IsUnderWay circuit.now.netlist self.old.book.budget self.old }
+        ensures { IsUnderWay circuit.now.netlist self.old.book.budget self.new }
+    {
+        let Claim::Lease(lease) = self.book.claim(0)? else {
+            return Ok(false);
+        };
+        self.handle(alloc, circuit, lease)?;
+        Ok(true)
+    }
+
+    // Handles a node: measures its representative, and then closes or splits it.
+    fn handle(&mut self, alloc: Global, circuit: &Circuit, lease: Lease) -> Result<(), Stop>
+        requires search { IsUnderWay circuit.now.netlist self.old.book.budget self.old }
+        requires worker { lease.worker ≡ 0 }
+        requires positions { length lease.cube ≡ 2 * length circuit.now.netlist.inputs }
+        ensures { IsUnderWay circuit.now.netlist self.old.book.budget self.new }
+    {
+        let pair = representative(alloc, &lease.cube)?;
+        let time = delay_of(alloc, circuit, &pair)?;
+        self.offer(circuit, pair, time);
+        match judge(alloc, circuit, &lease.cube, time, self.best)? {
+            Verdict::Close(mark, bound) => {
+                self.close(circuit, lease, mark, bound);
+                Ok(())
+            }
+            Verdict::Split(position, bound) => self.split(circuit, lease, position, bound),
+        }
+    }
+
+    // Keeps the pair where it has a greater delay than the best.
+    fn offer(&mut self, circuit: &Circuit, pair: Pair, time: u64)
+        requires search { IsUnderWay circuit.now.netlist self.old.book.budget self.old }
+        requires inside { IsIn pair (free_cube (2 * length circuit.now.netlist.inputs)) }
+        requires delay { has_delay circuit.now.netlist pair time }
+        ensures search { IsUnderWay circuit.now.netlist self.old.book.budget self.new }
+        ensures best { time ≤ self.new.best }
+        ensures book { self.new.book ≡ self.old.book }
+    {
+        if time > self.best {
+            self.best = time;
+            self.pair = pair;
+        }
+    }
+
+    // Closes a held leaf with a bound that is at most the best.
+    fn close(&mut self, circuit: &Circuit, lease: Lease, mark: Mark, bound: u64)
+        requires search { IsUnderWay circuit.now.netlist self.old.book.budget self.old }
+        requires worker { lease.worker ≡ 0 }
+        requires marked { IsMarked circuit.now.netlist lease.cube mark bound }
+        requires above { IsAboveEach circuit.now.netlist lease.cube bound }
+        requires within { bound ≤ self.old.best }
+        ensures { IsUnderWay circuit.now.netlist self.old.book.budget self.new }
+    {
+        let _closed = self.book.close(lease, mark, bound, self.best);
+    }
+
+    // Splits a held leaf, whose cube has this bound.
+    fn split(
+        &mut self,
+        circuit: &Circuit,
+        lease: Lease,
+        position: usize,
+        bound: u64,
+    ) -> Result<(), Stop>
+        requires search { IsUnderWay circuit.now.netlist self.old.book.budget self.old }
+        requires free { slice_get lease.cube position ≡ Some Free }
+        requires wide { IsWide (has_delay circuit.now.netlist) (has_bound circuit.now.netlist) self.old.best lease.cube }
+        requires bound { has_bound circuit.now.netlist lease.cube bound }
+        ensures { IsUnderWay circuit.now.netlist self.old.book.budget self.new }
+    {
+        self.bounds.reserve(2)?;
+        self.book.split(lease, position)?;
+        self.bounds.push_reserved(bound);
+        self.bounds.push_reserved(bound);
+        Ok(())
+    }
+}
