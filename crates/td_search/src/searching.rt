@@ -1,11 +1,11 @@
 //! The search in one thread.
 
-ghost use Rattle.std.specs.Prelude.{◌≡◌, ◌≤◌, ◌<◌, length, max, IfOk};
+ghost use Rattle.std.specs.Prelude.{◌≡◌, ◌≤◌, ◌<◌, ℕ, List, length, max, IfOk};
 ghost use Rattle.std.specs.List.{All, list_any};
 ghost use Rattle.td_book.specs.Board.{is_pending};
 ghost use Rattle.td_search.specs.Answers.{IsAnswer};
 ghost use Rattle.td_search.specs.CutShort.{greatest_of};
-ghost use Rattle.td_search.specs.Listed.{line_of, lines_of, left_bounds};
+ghost use Rattle.td_search.specs.Listed.{line_of, lines_of, left_bound, left_bounds};
 ghost use Rattle.td_search.specs.Progress.{IsUnderWay};
 
 use crate::answers::{Answer, Cause};
@@ -99,6 +99,18 @@ fn some_left(nodes: &[Node]) -> bool
     nodes.iter().any(|node| is_left(node.state))
 }
 
+// The greater of a time and of the bound of a node, if it is a leaf that isn't closed.
+fn greater_left(node: Node, bounds: &[u64], low: u64) -> u64
+    requires { node.number < length bounds.now }
+    ensures { (others : List ℕ) → greatest_of result others ≡ greatest_of low (left_bound bounds.now node.number node.state others) }
+{
+    if is_left(node.state) {
+        low.max(bounds[node.number as usize])
+    } else {
+        low
+    }
+}
+
 // The greatest of a time and of the bounds of the leaves that aren't closed.
 fn greatest_left(nodes: &[Node], bounds: &[u64], low: u64) -> u64
     requires { All (λ x. x.number < length bounds.now) nodes.now }
@@ -106,9 +118,7 @@ fn greatest_left(nodes: &[Node], bounds: &[u64], low: u64) -> u64
 {
     let mut greatest = low;
     for node in nodes {
-        if is_left(node.state) {
-            greatest = greatest.max(bounds[node.number as usize]);
-        }
+        greatest = greater_left(*node, bounds, greatest);
     }
     greatest
 }
