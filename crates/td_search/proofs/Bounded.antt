@@ -2,7 +2,7 @@
 use Rattle.std.proofs.Common.{◌≡◌, ℕ, zero, suc, ◌+◌, ◌*◌, ◌≤◌, max, min, Bool, List, [], ◌∷◌, length, map, Some, None, Option, refl, sym, ap, ◌∙◌, arith}
 use Rattle.td_netlist.specs.Netlist.{Netlist, Named}
 use Rattle.td_circuit.specs.Numbering.{Numbered, IsNumbering}
-use Rattle.td_circuit.specs.Run.{IsDelayOfBits}
+use Rattle.td_circuit.specs.Run.{IsDelayOfBits, IsVector}
 use Rattle.td_domain.specs.declared.cubes.Trit.{Trit}
 use Rattle.td_domain.specs.Pairs.{Pair}
 use Rattle.td_domain.specs.Cubes.{AllowsBits, IsIn}
@@ -28,6 +28,22 @@ in_length (p ∷ []) before after h = absurd h
 in_length (p ∷ q ∷ cube) [] after h = absurd h
 in_length (p ∷ q ∷ cube) (a ∷ before) [] h = absurd h
 in_length (p ∷ q ∷ cube) (a ∷ before) (b ∷ after) h = let rest = in_length cube before after h.2 in omega arith
+
+same_length : (cube : List Trit) (before after : List Bool) → AllowsBits cube before after → length after ≡ length before
+same_length [] [] [] h = refl
+same_length [] [] (b ∷ after) h = absurd h
+same_length [] (a ∷ before) after h = absurd h
+same_length (p ∷ []) before after h = absurd h
+same_length (p ∷ q ∷ cube) [] after h = absurd h
+same_length (p ∷ q ∷ cube) (a ∷ before) [] h = absurd h
+same_length (p ∷ q ∷ cube) (a ∷ before) (b ∷ after) h = ap suc (same_length cube before after h.2)
+
+-- the pairs of a cube with two positions for each input are of the netlist's vectors
+pub vectors_inside : (netlist : Netlist) (cube : List Trit) (pair : Pair) → length cube ≡ 2 * length netlist.inputs → IsIn pair cube
+    → IsVector netlist pair.first × IsVector netlist pair.second
+vectors_inside netlist cube pair count is_in =
+    let first = in_length cube pair.first pair.second is_in in
+    let second = same_length cube pair.first pair.second is_in in (omega arith, omega arith)
 
 pub above_bound : (circuit : Numbered) → IsNumbering circuit → (cube : List Trit) (bound : ℕ) (pair : Pair) (delay : ℕ)
     → has_bound circuit.netlist cube bound → IsIn pair cube → has_delay circuit.netlist pair delay → delay ≤ bound

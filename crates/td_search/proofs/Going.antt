@@ -133,8 +133,8 @@ module _ (netlist : Netlist) (budget : ℕ) where
     long_one (z ∷ before) after x y = ap suc (long_one before after x y)
 
     long_two : (before after : List Node) (x y z w : Node) → length (before ++ y ∷ z ∷ w ∷ after) ≡ 2 + length (before ++ x ∷ after)
-    long_two [] after x y z w = refl
-    long_two (v ∷ before) after x y z w = ap suc (long_two before after x y z w)
+    long_two [] after x y z w = omega arith
+    long_two (v ∷ before) after x y z w = let e = long_two before after x y z w in omega arith
 
     -- a leaf that was open is held
     pub claims : (lease : Lease) (c : Board) → Leases book 0 lease c → IsSearch netlist budget c best pair bounds
@@ -204,7 +204,8 @@ module _ (netlist : Netlist) (budget : ℕ) where
         let honest = subst (λ (b : Board). Splits b lease position c) (sym s.board) step in
         let wide : AreWell netlist best more (root_near netlist ∷ []) book.nodes = well_more netlist best best bounds (bound ∷ bound ∷ []) (le_refl best) (root_near netlist ∷ []) book.nodes s.well in
         let first : slice_get more (length book.nodes) ≡ Some bound = subst (λ (n : ℕ). slice_get more n ≡ Some bound) s.numbers (at_end bounds) in
-        let second : slice_get more (length book.nodes + 1) ≡ Some bound = subst (λ (n : ℕ). slice_get more (n + 1) ≡ Some bound) s.numbers (at_last bounds) in
+        let second : slice_get more (length book.nodes + 1) ≡ Some bound =
+        let next : suc (length bounds) ≡ length book.nodes + 1 = omega arith in subst (λ (n : ℕ). slice_get more n ≡ Some bound) next (at_last bounds) in
         let count = length-append bounds (bound ∷ bound ∷ []) in
         let was = s.numbers in
         let long : length c.nodes ≡ 2 + length book.nodes =
@@ -242,7 +243,7 @@ module _ (netlist : Netlist) (budget : ℕ) where
         at_end [] = refl
         at_end (x ∷ l) = at_end l
 
-        at_last : (l : List ℕ) → slice_get (l ++ bound ∷ bound ∷ []) (length l + 1) ≡ Some bound
+        at_last : (l : List ℕ) → slice_get (l ++ bound ∷ bound ∷ []) (suc (length l)) ≡ Some bound
         at_last [] = refl
         at_last (x ∷ l) = at_last l
 
