@@ -114,9 +114,6 @@ module _ (netlist : Netlist) (budget : ℕ) where
           positions = s.positions;
           workers = s.workers;
           budget_is = s.budget_is;
-          root = s.root;
-          root_there = s.root_there;
-          root_is = s.root_is;
         }
 
     at_root : (b : Board) → b.positions ≡ positions → (more : List ℕ) (xs : List Node)
@@ -158,9 +155,6 @@ module _ (netlist : Netlist) (budget : ℕ) where
           positions = t.positions ∙ s.positions;
           workers = t.workers ∙ s.workers;
           budget_is = t.budget ∙ s.budget_is;
-          root = s.root;
-          root_there = s.root_there;
-          root_is = s.root_is;
         }
 
     -- a leaf that was held is closed
@@ -188,9 +182,6 @@ module _ (netlist : Netlist) (budget : ℕ) where
           positions = t.positions ∙ s.positions;
           workers = t.workers ∙ s.workers;
           budget_is = t.budget ∙ s.budget_is;
-          root = s.root;
-          root_there = s.root_there;
-          root_is = s.root_is;
         }
 
     -- a leaf that was held is split, and the bound of its cube is known of both sides
@@ -234,9 +225,6 @@ module _ (netlist : Netlist) (budget : ℕ) where
           positions = t.positions ∙ s.positions;
           workers = t.workers ∙ s.workers;
           budget_is = t.budget ∙ s.budget_is;
-          root = s.root;
-          root_there = longer bounds (bound ∷ bound ∷ []) 0 s.root s.root_there;
-          root_is = s.root_is;
         }
       where
         at_end : (l : List ℕ) → slice_get (l ++ bound ∷ bound ∷ []) (length l) ≡ Some bound

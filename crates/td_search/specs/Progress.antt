@@ -16,6 +16,7 @@ use Rattle.td_search.specs.declared.progress.Search.{Search}
 use Rattle.td_search.specs.CutShort.{Near, near_past, IsWide, IsBoundNear}
 use Rattle.td_search.specs.Answers.{has_delay, has_bound}
 use Rattle.td_search.specs.Judging.{IsMarked}
+use Rattle.td_search.specs.Rooms.{HasRoom}
 
 -- What holds of a node with this cube: a split is at a free position, a closed leaf's bound is its mark's and at most the
 -- best.
@@ -63,9 +64,7 @@ pub record IsSearch (netlist : Netlist) (budget : ℕ) (book : Board) (best : �
   pub positions : book.positions ≡ 2 * length netlist.inputs
   pub workers : book.workers ≡ 1
   pub budget_is : book.budget ≡ budget
-  pub root : ℕ
-  pub root_there : slice_get bounds 0 ≡ Some root
-  pub root_is : has_bound netlist (free_cube (2 * length netlist.inputs)) root
 
+-- a search as above, with room for the nodes of its tree
 abbrev pub IsUnderWay : Netlist → ℕ → Search → Type 0
-IsUnderWay netlist budget s = IsSearch netlist budget s.book s.best s.pair s.bounds.items
+IsUnderWay netlist budget s = IsSearch netlist budget s.book s.best s.pair s.bounds.items × HasRoom s.room (length s.bounds.items)

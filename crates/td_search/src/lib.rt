@@ -6,6 +6,7 @@ mod judging;
 pub mod laws;
 mod progress;
 mod representatives;
+mod room;
 mod searching;
 
 pub use answers::{Answer, Cause};

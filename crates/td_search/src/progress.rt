@@ -13,19 +13,21 @@ ghost use Rattle.td_search.specs.Progress.{IsUnderWay};
 
 use crate::judging::{Verdict, delay_of, judge, strongest_bound};
 use crate::representatives::representative;
+use crate::room::Room;
 use std::alloc::{AllocError, Global};
 use td_book::{Book, Claim, Lease, Mark, SplitFault};
 use td_circuit::Circuit;
 use td_domain::{Cube, Pair};
 
-/// A search under way: its book, the best time and a pair that has it, and by the number of each node a bound of its cube
-/// or of its parent's.
+/// A search under way: its book, the best time and a pair that has it, by the number of each node a bound of its cube or of
+/// its parent's, and room for the tree of the answer.
 #[derive(Drop)]
 pub struct Search {
     pub book: Book,
     pub best: u64,
     pub pair: Pair,
     pub bounds: Vec<u64>,
+    pub room: Room,
 }
 
 /// The search can't go on: memory ran out.
@@ -52,6 +54,7 @@ pub fn begin(alloc: Global, circuit: &Circuit, budget: u64) -> Result<Search, Al
     let _numbering = circuit.gates();
     let root = Cube::free(alloc, circuit.inputs())?;
     let book = Book::new(alloc, root.len() as u32, 1, budget)?;
+    let room = Room::new(alloc)?;
     let mut bounds = Vec::with_capacity(alloc, 1)?;
     let pair = representative(alloc, &root)?;
     let best = delay_of(alloc, circuit, &pair)?;
@@ -61,6 +64,7 @@ pub fn begin(alloc: Global, circuit: &Circuit, budget: u64) -> Result<Search, Al
         best,
         pair,
         bounds,
+        room,
     })
 }
 
@@ -150,6 +154,7 @@ impl Search {
         ensures { IsUnderWay circuit.now.netlist self.old.book.budget self.new }
     {
         self.bounds.reserve(2)?;
+        self.room.reserve(self.bounds.len() + 2)?;
         self.book.split(lease, position)?;
         self.bounds.push_reserved(bound);
         self.bounds.push_reserved(bound);

@@ -1,6 +1,6 @@
 //! The search in one thread.
 
-ghost use Rattle.std.specs.Prelude.{◌≡◌, ◌≤◌, ◌<◌, ℕ, List, length, max, IfOk};
+ghost use Rattle.std.specs.Prelude.{◌≡◌, ◌≤◌, ◌<◌, ℕ, List, [], length, vec_capacity, IfOk};
 ghost use Rattle.std.specs.List.{All, list_any};
 ghost use Rattle.td_book.specs.Board.{is_pending};
 ghost use Rattle.td_search.specs.Answers.{IsAnswer};
@@ -14,7 +14,6 @@ use std::alloc::{AllocError, Global};
 use td_book::{Mark, Node, State};
 use td_certificate::{Node as Line, Tree};
 use td_circuit::Circuit;
-use td_domain::Pair;
 
 /// Searches for the worst delay of a circuit, and handles at most so many nodes. The budget is at most 10,000,000. The error
 /// is want of memory before the cube of all pairs was measured and bounded.
@@ -24,11 +23,11 @@ pub fn alone(alloc: Global, circuit: &Circuit, budget: u64) -> Result<Answer, Al
 {
     let mut search = begin(alloc, circuit, budget)?;
     search.run(alloc, circuit, budget);
-    Ok(answer(alloc, circuit, search, budget))
+    Ok(answer(circuit, search, budget))
 }
 
-// What a search found that has ended.
-fn answer(alloc: Global, circuit: &Circuit, search: Search, budget: u64) -> Answer
+// What a search found that has ended. Takes no memory.
+fn answer(circuit: &Circuit, search: Search, budget: u64) -> Answer
     requires { IsUnderWay circuit.now.netlist budget search }
     ensures { IsAnswer circuit.now.netlist budget result }
 {
@@ -38,12 +37,10 @@ fn answer(alloc: Global, circuit: &Circuit, search: Search, budget: u64) -> Answ
         best,
         pair,
         bounds,
+        room,
     } = search;
-    let root = bounds[0];
     let nodes = book.handled();
-    let Ok(listed) = book.into_tree().nodes(alloc) else {
-        return unlisted(best, root, pair);
-    };
+    let listed = book.into_tree().nodes_in(room.nodes);
     if some_left(&listed) {
         let high = greatest_left(&listed, &bounds, best);
         let cause = if nodes == budget {
@@ -59,26 +56,10 @@ fn answer(alloc: Global, circuit: &Circuit, search: Search, budget: u64) -> Answ
             cause,
         };
     }
-    match lines(alloc, &listed) {
-        Ok(lines) => Answer::Exact {
-            time: best,
-            pair,
-            tree: Tree::from_nodes(lines),
-        },
-        Err(_) => unlisted(best, root, pair),
-    }
-}
-
-// What is known where memory ran out before the tree was listed: the best, and the root's bound.
-fn unlisted(best: u64, root: u64, pair: Pair) -> Answer
-    ensures { result ≡ Answer.Between best (max root best) pair 0 Cause.Memory }
-{
-    Answer::Between {
-        low: best,
-        high: root.max(best),
+    Answer::Exact {
+        time: best,
         pair,
-        nodes: 0,
-        cause: Cause::Memory,
+        tree: Tree::from_nodes(lines(room.lines, &listed)),
     }
 }
 
@@ -135,13 +116,15 @@ fn line(state: State) -> Line
     }
 }
 
-// The lines of nodes that are all split or closed.
-fn lines(alloc: Global, nodes: &[Node]) -> Result<Vec<Line>, AllocError>
-    ensures { IfOk result (λ lines. lines.items ≡ lines_of nodes.now) }
+// The lines of nodes that are all split or closed, in an empty vector that has room for them.
+fn lines(room: Vec<Line>, nodes: &[Node]) -> Vec<Line>
+    requires empty { room.items ≡ [] }
+    requires roomy { length nodes.now ≤ vec_capacity room }
+    ensures { result.items ≡ lines_of nodes.now }
 {
-    let mut lines = Vec::with_capacity(alloc, nodes.len())?;
+    let mut lines = room;
     for node in nodes {
-        lines.push(line(node.state))?;
+        lines.push_reserved(line(node.state));
     }
-    Ok(lines)
+    lines
 }
