@@ -71,9 +71,6 @@ module _ (netlist : Netlist) (budget : ℕ) where
         positions = refl;
         workers = refl;
         budget_is = refl;
-        root = bound;
-        root_there = refl;
-        root_is = is;
       }
     where
       none : (lease : Lease) (position : ℕ) → Contains {X = Event × Reply} ((Raising 0 best, Saw (max 0 best)) ∷ []) (Splitting lease position, Did) → ⊥

@@ -8,6 +8,7 @@ use Rattle.td_book.specs.Board.{Board, opening}
 use Rattle.td_book.specs.Cubes.{free_cube}
 use Rattle.td_search.specs.Answers.{has_bound}
 use Rattle.td_search.specs.Progress.{IsSearch}
+use Rattle.td_search.specs.Rooms.{HasRoom}
 use Rattle.td_search.proofs.Bounded.{vectors_inside}
 use Rattle.td_search.proofs.Going.{begins}
 use Rattle.td_search.proofs.progress.begin.Goals as goal
@@ -39,6 +40,6 @@ returns c =
     let book : c.in_ok-book.book ≡ opening positions 1 budget = c.in_ok-book.ensures ∙ ap (λ (n : ℕ). opening n 1 budget) long in
     let items : c.push_reserved.new.self.items ≡ c.in_ok-strongest_bound.field-0 ∷ [] =
     c.push_reserved.ensures.items ∙ ap (λ (l : List ℕ). l ++ c.in_ok-strongest_bound.field-0 ∷ []) c.in_ok-bounds.ensures.items in
-    subst (λ (b : Board). IsSearch netlist budget b c.in_ok-best.best c.in_ok-pair.pair c.push_reserved.new.self.items) (sym book)
+    (subst (λ (b : Board). IsSearch netlist budget b c.in_ok-best.best c.in_ok-pair.pair c.push_reserved.new.self.items) (sym book)
     (subst (λ (l : List ℕ). IsSearch netlist budget (opening positions 1 budget) c.in_ok-best.best c.in_ok-pair.pair l) (sym items)
-    (begins netlist budget c.in_ok-pair.pair c.in_ok-best.best c.in_ok-strongest_bound.field-0 inside c.in_ok-best.ensures.is bound))
+    (begins netlist budget c.in_ok-pair.pair c.in_ok-best.best c.in_ok-strongest_bound.field-0 inside c.in_ok-best.ensures.is bound)), subst (λ (l : List ℕ). HasRoom c.in_ok-room.room (length l)) (sym items) c.in_ok-room.ensures)
