@@ -39,7 +39,7 @@ use Rattle.td_search.proofs.Between.{between_run}
 use Rattle.td_search.proofs.Bounded.{above_bound}
 
 either_false : (a b : Bool) → (a || b) ≡ false → (a ≡ false) × (b ≡ false)
-either_false true b e = cc
+either_false true b e = absurd (let q : true ≡ false = e in cc)
 either_false false b e = (refl, e)
 
 abbrev pub some_left : List Node → Bool
@@ -47,10 +47,10 @@ some_left xs = list_any (λ x. is_pending x.state) xs
 
 -- ---- all are settled
 
-settled_one : (s : State) → is_pending s ≡ false → cond (is_handled s) 1 0 ≡ 1
+settled_one : (s : State) → is_pending s ≡ false → ◌≡◌ {A = ℕ} (cond (is_handled s) 1 0) 1
 settled_one (Split p) e = refl
-settled_one Open e = cc
-settled_one (Held w a) e = cc
+settled_one Open e = absurd (let q : true ≡ false = e in cc)
+settled_one (Held w a) e = absurd (let q : true ≡ false = e in cc)
 settled_one (Closed m b c) e = refl
 
 all_handled : (xs : List Node) → some_left xs ≡ false → count_by (λ (x : Node). is_handled x.state) xs ≡ length xs
@@ -65,13 +65,16 @@ all_handled (x ∷ xs) e =
 
 tree_at : (cube : List Trit) (cubes : List (List Trit)) (s : State) (xs : List Node) → is_pending s ≡ false
     → pending_after (length (cubes_past cube s cubes)) (lines_of xs) ≡ Some 0 → pending_after (suc (length cubes)) (line_of s ∷ lines_of xs) ≡ Some 0
-tree_at cube cubes (Split p) xs e h = h
-tree_at cube cubes Open xs e h = cc
-tree_at cube cubes (Held w a) xs e h = cc
-tree_at cube cubes (Closed (mark.Bound d) b c) xs e h = h
-tree_at cube cubes (Closed mark.Point b c) xs e h = h
+tree_at cube cubes (Split p) xs e h =
+    let two : suc (suc (length cubes)) ≡ 2 + length cubes = omega arith in subst (λ (n : ℕ). pending_after n (lines_of xs) ≡ Some 0) two h
+tree_at cube cubes Open xs e h = absurd (let q : true ≡ false = e in cc)
+tree_at cube cubes (Held w a) xs e h = absurd (let q : true ≡ false = e in cc)
+tree_at cube cubes (Closed (mark.Bound d) b c) xs e h =
+    let none : length cubes ≡ 0 + length cubes = omega arith in subst (λ (n : ℕ). pending_after n (lines_of xs) ≡ Some 0) none h
+tree_at cube cubes (Closed mark.Point b c) xs e h =
+    let none : length cubes ≡ 0 + length cubes = omega arith in subst (λ (n : ℕ). pending_after n (lines_of xs) ≡ Some 0) none h
 
-is_tree : (cubes : List (List Trit)) (xs : List Node) → is_forest cubes xs ≡ true → some_left xs ≡ false → pending_after (length cubes) (lines_of xs) ≡ Some 0
+pub is_tree : (cubes : List (List Trit)) (xs : List Node) → is_forest cubes xs ≡ true → some_left xs ≡ false → pending_after (length cubes) (lines_of xs) ≡ Some 0
 is_tree [] [] e none = refl
 is_tree [] (x ∷ xs) e none = cc
 is_tree (cube ∷ cubes) [] e none = cc
