@@ -1,7 +1,7 @@
 -- The bits of a representative.
 use Rattle.std.proofs.Common.{◌≡◌, ℕ, zero, suc, ◌+◌, ◌*◌, ◌≤◌, Bool, List, [], ◌∷◌, ◌++◌, length, drop, refl, sym, ap, ◌∙◌, append_assoc, arith}
 use Rattle.std.specs.Prelude.{slice_get, Some}
-use Rattle.std.proofs.lemmas.List.{drop_all}
+use Rattle.std.proofs.lemmas.List.{append-nil, drop_all}
 use Rattle.td_domain.specs.declared.cubes.Trit.{Trit}
 use Rattle.td_domain.specs.declared.cubes.Trit.TheVariants.{Zero, One, Free}
 use Rattle.td_domain.specs.Cubes.{Allows, AllowsBits}
@@ -12,27 +12,28 @@ drop_get [] n t e = cc
 drop_get (x ∷ xs) zero t e = let first : x ≡ t = cc in λ z. first z ∷ xs
 drop_get (x ∷ xs) (suc n) t e = drop_get xs n t e
 
-glue : (a b : List Bool) (x : Bool) → (a ++ x ∷ []) ++ b ≡ a ++ x ∷ b
-glue a b x = simp append_assoc
+-- what is made of a cube by its inputs, one after another
+module _ {A : Type 0} (made : List Trit → List A) (one : Trit → Trit → A) (begins : (t u : Trit) (rest : List Trit) → made (t ∷ u ∷ rest) ≡ one t u ∷ made rest)
+    (ends : made [] ≡ []) where
+  glue : (a b : List A) (x : A) → (a ++ x ∷ []) ++ b ≡ a ++ x ∷ b
+  glue a b x = simp append_assoc
 
--- one more input
-pub one_more : (bit : Trit → Trit → Bool) (cube : List Trit) (done : List Bool) (i : ℕ) (t u : Trit) → slice_get cube (2 * i) ≡ Some t → slice_get cube (2 * i + 1) ≡ Some u
-    → done ++ bits_by bit (drop (2 * i) cube) ≡ bits_by bit cube → (done ++ bit t u ∷ []) ++ bits_by bit (drop (2 * (i + 1)) cube) ≡ bits_by bit cube
-one_more bit cube done i t u first second was =
-    let next : 2 * i + 1 ≡ suc (2 * i) = omega arith in
-    let last : 2 * (i + 1) ≡ suc (suc (2 * i)) = omega arith in
-    let there : drop (2 * i) cube ≡ t ∷ (u ∷ drop (suc (suc (2 * i))) cube) =
-    drop_get cube (2 * i) t first ∙ ap (λ (l : List Trit). t ∷ l) (drop_get cube (suc (2 * i)) u (ap (slice_get cube) (sym next) ∙ second)) in
-    ap (λ (k : ℕ). (done ++ bit t u ∷ []) ++ bits_by bit (drop k cube)) last
-    ∙ (glue done (bits_by bit (drop (suc (suc (2 * i))) cube)) (bit t u)
-    ∙ (ap (λ (l : List Trit). done ++ bits_by bit l) (sym there) ∙ was))
+  -- one more input
+  pub one_more : (cube : List Trit) (done : List A) (i : ℕ) (t u : Trit) → slice_get cube (2 * i) ≡ Some t → slice_get cube (2 * i + 1) ≡ Some u
+      → done ++ made (drop (2 * i) cube) ≡ made cube → (done ++ one t u ∷ []) ++ made (drop (2 * (i + 1)) cube) ≡ made cube
+  one_more cube done i t u first second was =
+      let next : 2 * i + 1 ≡ suc (2 * i) = omega arith in
+      let last : 2 * (i + 1) ≡ suc (suc (2 * i)) = omega arith in
+      let rest : List Trit = drop (suc (suc (2 * i))) cube in
+      let there : drop (2 * i) cube ≡ t ∷ (u ∷ rest) =
+      drop_get cube (2 * i) t first ∙ ap (λ (l : List Trit). t ∷ l) (drop_get cube (suc (2 * i)) u (ap (slice_get cube) (sym next) ∙ second)) in
+      ap (λ (k : ℕ). (done ++ one t u ∷ []) ++ made (drop k cube)) last
+      ∙ (glue done (made rest) (one t u)
+      ∙ (ap (λ (l : List A). done ++ l) (sym (begins t u rest)) ∙ (ap (λ (l : List Trit). done ++ made l) (sym there) ∙ was)))
 
-append_nothing : (l : List Bool) → l ++ [] ≡ l
-append_nothing [] = refl
-append_nothing (x ∷ xs) = ap (λ (l : List Bool). x ∷ l) (append_nothing xs)
-
-pub all_done : (bit : Trit → Trit → Bool) (cube : List Trit) (done : List Bool) (i : ℕ) → length cube ≤ 2 * i → done ++ bits_by bit (drop (2 * i) cube) ≡ bits_by bit cube → done ≡ bits_by bit cube
-all_done bit cube done i over is = sym (append_nothing done) ∙ (ap (λ (l : List Trit). done ++ bits_by bit l) (sym (drop_all (2 * i) cube over)) ∙ is)
+  pub all_done : (cube : List Trit) (done : List A) (i : ℕ) → length cube ≤ 2 * i → done ++ made (drop (2 * i) cube) ≡ made cube → done ≡ made cube
+  all_done cube done i over is =
+      sym (append-nil done) ∙ (ap (λ (l : List A). done ++ l) (sym ends) ∙ (ap (λ (l : List Trit). done ++ made l) (sym (drop_all (2 * i) cube over)) ∙ is))
 
 allowed_first : (t u : Trit) → Allows t (first_bit t u)
 allowed_first Zero u = tt

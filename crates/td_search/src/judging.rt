@@ -1,8 +1,6 @@
 //! What is done with a node: it is closed or split.
 
-ghost use Rattle.std.specs.Prelude.{◌≡◌, ℕ, ◌*◌, ◌≤◌, length, map, Some, IfOk};
-ghost use Rattle.td_gates.specs.Table.{level_from};
-ghost use Rattle.td_circuit.specs.Run.{IsVector};
+ghost use Rattle.std.specs.Prelude.{◌≡◌, ℕ, ◌*◌, ◌≤◌, length, Some, IfOk};
 ghost use Rattle.td_domain.specs.Bounds.{IsAboveEach, IsBound};
 ghost use Rattle.td_search.specs.Answers.{has_bound};
 ghost use Rattle.td_search.specs.Judging.{IsMeasured, IsJudged};
@@ -12,9 +10,7 @@ use std::alloc::{AllocError, Global};
 use td_arrival::Arrival;
 use td_book::{BoundedBy, Mark};
 use td_circuit::Circuit;
-use td_domain::{Both, Cube, Domain, Pair, bound};
-use td_gates::Level;
-use td_run::waves;
+use td_domain::{Both, Cube, Domain, bound};
 use td_ternary::Possible;
 
 /// The strongest domain.
@@ -27,28 +23,6 @@ pub enum Verdict {
     Close(Mark, u64),
     /// It is split at this position. The bound is the strongest domain's.
     Split(usize, u64),
-}
-
-// The levels of a vector.
-fn levels(alloc: Global, bits: &[bool]) -> Result<Vec<Level>, AllocError>
-    ensures { IfOk result (λ levels. levels.items ≡ map level_from bits.now) }
-{
-    let mut levels = Vec::with_capacity(alloc, bits.len())?;
-    for bit in bits {
-        levels.push(Level::from(*bit))?;
-    }
-    Ok(levels)
-}
-
-/// The delay of a pair of the circuit's vectors, in steps. The error is want of memory.
-pub fn delay_of(alloc: Global, circuit: &Circuit, pair: &Pair) -> Result<u64, AllocError>
-    requires first { IsVector circuit.now.netlist pair.now.first }
-    requires second { IsVector circuit.now.netlist pair.now.second }
-    ensures { IfOk result (IsMeasured circuit.now.netlist pair.now) }
-{
-    let first = levels(alloc, pair.first())?;
-    let second = levels(alloc, pair.second())?;
-    Ok(waves(alloc, circuit, &first, &second)?.last_of_outputs())
 }
 
 /// The strongest domain's bound of a cube. It always has one. The error is want of memory.

@@ -4,6 +4,7 @@
 mod answers;
 mod judging;
 pub mod laws;
+mod measuring;
 mod progress;
 mod representatives;
 mod room;

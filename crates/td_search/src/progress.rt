@@ -1,17 +1,17 @@
 //! A search in one thread: the book of its cubes, the best pair so far, and what is known of cubes that are left.
 
-ghost use Rattle.std.specs.Prelude.{◌≡◌, ◌*◌, ◌<◌, ◌≤◌, length, slice_get, Some, IfOk};
+ghost use Rattle.std.specs.Prelude.{◌≡◌, ◌*◌, ◌<◌, ◌≤◌, length, slice_get, Some, IfOk, OnOk};
 ghost use Rattle.td_domain.specs.declared.cubes.Trit.TheVariants.{Free};
 ghost use Rattle.td_domain.specs.Bounds.{IsAboveEach};
-ghost use Rattle.td_domain.specs.Cubes.{IsIn};
-ghost use Rattle.td_book.specs.Cubes.{free_cube};
 ghost use Rattle.td_search.specs.Answers.{has_bound};
 ghost use Rattle.td_search.specs.CutShort.{IsWide};
 ghost use Rattle.td_search.specs.Answers.{has_delay};
 ghost use Rattle.td_search.specs.Judging.{IsMeasured, IsMarked};
 ghost use Rattle.td_search.specs.Progress.{IsUnderWay};
+ghost use Rattle.td_search.specs.Representatives.{representative};
 
-use crate::judging::{Verdict, delay_of, judge, strongest_bound};
+use crate::judging::{Verdict, judge, strongest_bound};
+use crate::measuring::Scratch;
 use crate::representatives::representative;
 use crate::room::Room;
 use std::alloc::{AllocError, Global};
@@ -20,7 +20,7 @@ use td_circuit::Circuit;
 use td_domain::{Cube, Pair};
 
 /// A search under way: its book, the best time and a pair that has it, by the number of each node a bound of its cube or of
-/// its parent's, and room for the tree of the answer.
+/// its parent's, room for the tree of the answer, and room to measure pairs.
 #[derive(Drop)]
 pub struct Search {
     pub book: Book,
@@ -28,6 +28,7 @@ pub struct Search {
     pub pair: Pair,
     pub bounds: Vec<u64>,
     pub room: Room,
+    pub scratch: Scratch,
 }
 
 /// The search can't go on: memory ran out.
@@ -56,8 +57,9 @@ pub fn begin(alloc: Global, circuit: &Circuit, budget: u64) -> Result<Search, Al
     let book = Book::new(alloc, root.len() as u32, 1, budget)?;
     let room = Room::new(alloc)?;
     let mut bounds = Vec::with_capacity(alloc, 1)?;
+    let mut scratch = Scratch::new(alloc);
     let pair = representative(alloc, &root)?;
-    let best = delay_of(alloc, circuit, &pair)?;
+    let best = scratch.measure(alloc, circuit, &root)?;
     bounds.push_reserved(strongest_bound(alloc, circuit, &root)?);
     Ok(Search {
         book,
@@ -65,6 +67,7 @@ pub fn begin(alloc: Global, circuit: &Circuit, budget: u64) -> Result<Search, Al
         pair,
         bounds,
         room,
+        scratch,
     })
 }
 
@@ -100,9 +103,8 @@ impl Search {
         requires positions { length lease.cube ≡ 2 * length circuit.now.netlist.inputs }
         ensures { IsUnderWay circuit.now.netlist self.old.book.budget self.new }
     {
-        let pair = representative(alloc, &lease.cube)?;
-        let time = delay_of(alloc, circuit, &pair)?;
-        self.offer(circuit, pair, time);
+        let time = self.scratch.measure(alloc, circuit, &lease.cube)?;
+        self.offer(alloc, circuit, &lease.cube, time)?;
         match judge(alloc, circuit, &lease.cube, time, self.best)? {
             Verdict::Close(mark, bound) => {
                 self.close(circuit, lease, mark, bound);
@@ -112,19 +114,26 @@ impl Search {
         }
     }
 
-    // Keeps the pair where it has a greater delay than the best.
-    fn offer(&mut self, circuit: &Circuit, pair: Pair, time: u64)
+    // Keeps the representative of a cube where it has a greater delay than the best.
+    fn offer(
+        &mut self,
+        alloc: Global,
+        circuit: &Circuit,
+        cube: &Cube,
+        time: u64,
+    ) -> Result<(), AllocError>
         requires search { IsUnderWay circuit.now.netlist self.old.book.budget self.old }
-        requires inside { IsIn pair (free_cube (2 * length circuit.now.netlist.inputs)) }
-        requires delay { has_delay circuit.now.netlist pair time }
+        requires positions { length cube.now ≡ 2 * length circuit.now.netlist.inputs }
+        requires measured { IsMeasured circuit.now.netlist (representative cube.now) time }
         ensures search { IsUnderWay circuit.now.netlist self.old.book.budget self.new }
-        ensures best { time ≤ self.new.best }
+        ensures best { OnOk result (time ≤ self.new.best) }
         ensures book { self.new.book ≡ self.old.book }
     {
         if time > self.best {
+            self.pair = representative(alloc, cube)?;
             self.best = time;
-            self.pair = pair;
         }
+        Ok(())
     }
 
     // Closes a held leaf with a bound that is at most the best.
