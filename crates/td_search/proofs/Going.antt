@@ -1,5 +1,5 @@
 -- The steps of a search keep what it keeps.
-use Rattle.std.proofs.Common.{◌≡◌, ℕ, zero, suc, ◌+◌, ◌*◌, ◌<◌, ◌≤◌, max, List, [], ◌∷◌, ◌++◌, length, refl, sym, ap, subst, ◌∙◌, ⊎_elim, le_refl, length-append, arith}
+use Rattle.std.proofs.Common.{◌≡◌, ℕ, zero, suc, ◌+◌, ◌*◌, ◌<◌, ◌≤◌, ◌^◌, max, List, [], ◌∷◌, ◌++◌, length, refl, sym, ap, subst, ◌∙◌, ⊎_elim, le_refl, length-append, arith}
 use Rattle.std.specs.Prelude.{Contains, slice_get, Some, Result, Ok, Err, MatchResult}
 use Rattle.std.proofs.lemmas.List.{append-nil}
 use Rattle.std.proofs.lemmas.List.Elements.{Contains-append_cases}
@@ -51,8 +51,9 @@ module _ (netlist : Netlist) (budget : ℕ) where
 
   -- a search that has measured a pair and bounded the root's cube
   pub begins : (pair : Pair) (best bound : ℕ) → IsIn pair (free_cube positions) → has_delay netlist pair best → has_bound netlist (free_cube positions) bound
+      → IsAboveEach netlist (free_cube positions) bound → bound < 10 ^ 15 → budget ≤ 10000000
       → IsSearch netlist budget (opening positions 1 budget) best pair (bound ∷ [])
-  begins pair best bound inside delay is =
+  begins pair best bound inside delay is above small modest =
       let word : ℕ = max 0 best in
       let same : word ≡ best = omega arith in
       let end : World = record { board = opening positions 1 budget; best = word; seen = sees (λ v. 0) 0 word } in
@@ -66,11 +67,15 @@ module _ (netlist : Netlist) (budget : ℕ) where
         wide = λ lease position has. absurd (none lease position has);
         inside = inside;
         reached = delay;
-        well = ((tt, record { bound = bound; there = refl; is = (free_cube positions, (0, omega arith, refl), is) }), tt);
+        well = ((tt, record { bound = bound; there = refl; is = (free_cube positions, (0, omega arith, refl), is); small = small }), tt);
         numbers = refl;
         positions = refl;
         workers = refl;
         budget_is = refl;
+        modest = modest;
+        top = bound;
+        above = above;
+        small = small;
       }
     where
       none : (lease : Lease) (position : ℕ) → Contains {X = Event × Reply} ((Raising 0 best, Saw (max 0 best)) ∷ []) (Splitting lease position, Did) → ⊥
@@ -111,6 +116,10 @@ module _ (netlist : Netlist) (budget : ℕ) where
           positions = s.positions;
           workers = s.workers;
           budget_is = s.budget_is;
+          modest = s.modest;
+          top = s.top;
+          above = s.above;
+          small = s.small;
         }
 
     at_root : (b : Board) → b.positions ≡ positions → (more : List ℕ) (xs : List Node)
@@ -152,6 +161,10 @@ module _ (netlist : Netlist) (budget : ℕ) where
           positions = t.positions ∙ s.positions;
           workers = t.workers ∙ s.workers;
           budget_is = t.budget ∙ s.budget_is;
+          modest = s.modest;
+          top = s.top;
+          above = s.above;
+          small = s.small;
         }
 
     -- a leaf that was held is closed
@@ -179,12 +192,16 @@ module _ (netlist : Netlist) (budget : ℕ) where
           positions = t.positions ∙ s.positions;
           workers = t.workers ∙ s.workers;
           budget_is = t.budget ∙ s.budget_is;
+          modest = s.modest;
+          top = s.top;
+          above = s.above;
+          small = s.small;
         }
 
     -- a leaf that was held is split, and the bound of its cube is known of both sides
     pub splits : (lease : Lease) (position bound : ℕ) (c : Board) → IsWide Delays Bounds best lease.cube → has_bound netlist lease.cube bound
-        → Splits book lease position c → IsSearch netlist budget c best pair (bounds ++ bound ∷ bound ∷ [])
-    splits lease position bound c narrow is step =
+        → bound < 10 ^ 15 → Splits book lease position c → IsSearch netlist budget c best pair (bounds ++ bound ∷ bound ∷ [])
+    splits lease position bound c narrow is small step =
         let new : List Node = node lease.number (Split position) ∷ node (length book.nodes) Open ∷ node (length book.nodes + 1) Open ∷ [] in
         let t : Turns book lease.number lease.cube (held lease) new (book.order ++ node lease.number (Split position) ∷ []) c = step.1 in
         let more : List ℕ = bounds ++ bound ∷ bound ∷ [] in
@@ -215,13 +232,17 @@ module _ (netlist : Netlist) (budget : ℕ) where
           well = at_root book s.positions more c.nodes
               (well_turned netlist best more t
               (λ above rest h. ((step.0, h.0.1),
-              ((tt, record { bound = bound; there = first; is = (lease.cube, (1, omega arith, refl), is) }),
-              ((tt, record { bound = bound; there = second; is = (lease.cube, (1, omega arith, refl), is) }), h.1))))
+              ((tt, record { bound = bound; there = first; is = (lease.cube, (1, omega arith, refl), is); small = small }),
+              ((tt, record { bound = bound; there = second; is = (lease.cube, (1, omega arith, refl), is); small = small }), h.1))))
               (from_root book s.positions more book.nodes wide));
           numbers = omega arith;
           positions = t.positions ∙ s.positions;
           workers = t.workers ∙ s.workers;
           budget_is = t.budget ∙ s.budget_is;
+          modest = s.modest;
+          top = s.top;
+          above = s.above;
+          small = s.small;
         }
       where
         at_end : (l : List ℕ) → slice_get (l ++ bound ∷ bound ∷ []) (length l) ≡ Some bound

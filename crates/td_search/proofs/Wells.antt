@@ -107,7 +107,7 @@ settled_more netlist best best' cube (Held w a) le h = h
 settled_more netlist best best' cube (Closed m b c) le h = let k = h.1 in (h.0, omega arith)
 
 known_more : (netlist : Netlist) (bounds more : List ℕ) (near : Near) (n : ℕ) → IsKnown netlist bounds near n → IsKnown netlist (bounds ++ more) near n
-known_more netlist bounds more near n h = record { bound = h.bound; there = longer bounds more n h.bound h.there; is = h.is }
+known_more netlist bounds more near n h = record { bound = h.bound; there = longer bounds more n h.bound h.there; is = h.is; small = h.small }
 
 node_more : (netlist : Netlist) (best best' : ℕ) (bounds more : List ℕ) (near : Near) (x : Node) → best ≤ best'
     → IsNodeWell netlist best bounds near x → IsNodeWell netlist best' (bounds ++ more) near x

@@ -1,6 +1,6 @@
 //! A search in one thread: the book of its cubes, the best pair so far, and what is known of cubes that are left.
 
-ghost use Rattle.std.specs.Prelude.{◌≡◌, ◌*◌, ◌<◌, ◌≤◌, length, slice_get, Some, IfOk, OnOk};
+ghost use Rattle.std.specs.Prelude.{◌≡◌, ◌*◌, ◌<◌, ◌≤◌, ◌^◌, length, slice_get, Some, IfOk, OnOk};
 ghost use Rattle.td_domain.specs.declared.cubes.Trit.TheVariants.{Free};
 ghost use Rattle.td_domain.specs.Bounds.{IsAboveEach};
 ghost use Rattle.td_search.specs.Answers.{has_bound};
@@ -160,6 +160,7 @@ impl Search {
         requires free { slice_get lease.cube position ≡ Some Free }
         requires wide { IsWide (has_delay circuit.now.netlist) (has_bound circuit.now.netlist) self.old.best lease.cube }
         requires bound { has_bound circuit.now.netlist lease.cube bound }
+        requires small { bound < 10 ^ 15 }
         ensures { IsUnderWay circuit.now.netlist self.old.book.budget self.new }
     {
         self.bounds.reserve(2)?;

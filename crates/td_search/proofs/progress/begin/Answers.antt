@@ -5,6 +5,7 @@ use Rattle.td_domain.specs.declared.cubes.Trit.{Trit}
 use Rattle.td_domain.specs.declared.cubes.Trit.TheVariants.{Free}
 use Rattle.td_domain.specs.Pairs.{Pair}
 use Rattle.td_domain.specs.Cubes.{IsIn}
+use Rattle.td_domain.specs.Bounds.{IsAboveEach}
 use Rattle.td_book.specs.Board.{Board, opening}
 use Rattle.td_book.specs.Cubes.{free_cube}
 use Rattle.td_search.specs.Answers.{has_delay, has_bound}
@@ -29,9 +30,11 @@ returns c =
     subst (λ (p : Pair). has_delay netlist p c.in_ok-best.best) (sym c.in_ok-pair.ensures.pair) c.in_ok-best.ensures.is in
     let bound : has_bound netlist (free_cube positions) c.in_ok-strongest_bound.field-0 =
     subst (λ (cube : List Trit). has_bound netlist cube c.in_ok-strongest_bound.field-0) root c.in_ok-strongest_bound.ensures.bound in
+    let above : IsAboveEach netlist (free_cube positions) c.in_ok-strongest_bound.field-0 =
+    subst (λ (cube : List Trit). IsAboveEach netlist cube c.in_ok-strongest_bound.field-0) root c.in_ok-strongest_bound.ensures.sound in
     let book : c.in_ok-book.book ≡ opening positions 1 budget = c.in_ok-book.ensures ∙ ap (λ (n : ℕ). opening n 1 budget) long in
     let items : c.push_reserved.new.self.items ≡ c.in_ok-strongest_bound.field-0 ∷ [] =
     c.push_reserved.ensures.items ∙ ap (λ (l : List ℕ). l ++ c.in_ok-strongest_bound.field-0 ∷ []) c.in_ok-bounds.ensures.items in
     (subst (λ (b : Board). IsSearch netlist budget b c.in_ok-best.best c.in_ok-pair.pair c.push_reserved.new.self.items) (sym book)
     (subst (λ (l : List ℕ). IsSearch netlist budget (opening positions 1 budget) c.in_ok-best.best c.in_ok-pair.pair l) (sym items)
-    (begins netlist budget c.in_ok-pair.pair c.in_ok-best.best c.in_ok-strongest_bound.field-0 inside delay bound)), subst (λ (l : List ℕ). HasRoom c.in_ok-room.room (length l)) (sym items) c.in_ok-room.ensures)
+    (begins netlist budget c.in_ok-pair.pair c.in_ok-best.best c.in_ok-strongest_bound.field-0 inside delay bound above c.in_ok-strongest_bound.ensures.small c.requires)), subst (λ (l : List ℕ). HasRoom c.in_ok-room.room (length l)) (sym items) c.in_ok-room.ensures)

@@ -16,4 +16,4 @@ returns c =
     let room : HasRoom c.reserve-2.new.self (length c.push_reserved-2.new.self.items) = subst (HasRoom c.reserve-2.new.self) count (c.in_ok-reserve-2.ensures.ok (length s.bounds.items) c.requires.search.1) in
     (subst (λ (l : List ℕ). IsSearch c.args.circuit.now.netlist s.book.budget c.split.new.self s.best s.pair l) (sym items)
     (splits c.args.circuit.now.netlist s.book.budget s.book s.best s.pair s.bounds.items c.requires.search.0 c.args.lease c.args.position c.args.bound c.split.new.self
-    c.requires.wide c.requires.bound c.in_ok-split.ensures.ok.0), room)
+    c.requires.wide c.requires.bound c.requires.small c.in_ok-split.ensures.ok.0), room)
