@@ -1,14 +1,16 @@
 -- What a search found that has ended.
-use Rattle.std.proofs.Common.{◌≡◌, ◌≢◌, ℕ, zero, suc, ◌+◌, ◌*◌, ◌≤◌, max, Bool, true, false, cond, ◌||◌, List, [], ◌∷◌, ◌++◌, length, map, Some, refl, sym, ap, subst, ◌∙◌, ⊎_elim, le_refl, arith}
+use Rattle.std.proofs.Common.{◌≡◌, ◌≢◌, ℕ, zero, suc, ◌+◌, ◌*◌, ◌<◌, ◌≤◌, ◌^◌, max, Bool, true, false, cond, ◌||◌, List, [], ◌∷◌, ◌++◌, length, map, Some, refl, sym, ap, subst, ◌∙◌, ⊎_elim, le_refl, arith}
 use Rattle.std.specs.Prelude.{Contains, slice_get, unwrap_or, count_by}
 use Rattle.std.specs.List.{AllByRecursion, AllZip, list_any}
-use Rattle.std.proofs.lemmas.List.{length-map}
+use Rattle.std.proofs.lemmas.List.{length-map, length-replicate}
+use Rattle.std.proofs.lemmas.Option.{slice_get_within}
 use Rattle.std.proofs.lemmas.List.Elements.{Contains-append_cases}
 use Rattle.std.proofs.lemmas.List.Sums.{sum_by-cons}
 use Rattle.td_netlist.specs.Netlist.{Netlist}
 use Rattle.td_circuit.specs.Numbering.{Numbered, IsNumbering}
 use Rattle.td_circuit.specs.Run.{IsAboveAll, IsWorst}
 use Rattle.td_domain.specs.declared.cubes.Trit.{Trit}
+use Rattle.td_domain.specs.declared.cubes.Trit.TheVariants.{Free}
 use Rattle.td_domain.specs.Pairs.{Pair}
 use Rattle.td_domain.specs.Cubes.{IsIn}
 use Rattle.td_book.specs.declared.lease.Lease.{Lease}
@@ -22,10 +24,14 @@ use Rattle.td_book.specs.Kept.{IsKept}
 use Rattle.td_book.specs.Steps.{World, Event, Reply, Raising, Splitting, Saw, Did, sees, starting}
 use Rattle.td_book.proofs.Keeps.{settles_run}
 use Rattle.td_certificate.specs.declared.tree.Node as line
+use Rattle.td_certificate.specs.declared.tree.Node.TheVariants as lines
+use Rattle.td_certificate.specs.Lengths.{IsShort}
+use Rattle.td_certificate.specs.Spelling.{HasSpelling, IsNode}
 use Rattle.td_certificate.specs.Trees.{pending_after}
 use Rattle.td_certificate.specs.Accepts.{IsGood, Line}
 use Rattle.td_certificate.specs.Walks.{lines_from}
 use Rattle.td_certificate.proofs.Acceptance.{all_free, vector_fits}
+use Rattle.td_certificate.proofs.Lengths.{searched_texts_fit}
 use Rattle.td_certificate.proofs.TreeLaws.{trees_are_counted}
 use Rattle.td_certificate.proofs.Walking.{lines_are_walked}
 use Rattle.td_search.specs.declared.answers.Cause.{Cause}
@@ -37,6 +43,7 @@ use Rattle.td_search.specs.Progress.{IsSettledWell, IsKnown, IsNodeWell, AreWell
 use Rattle.td_search.specs.Listed.{line_of, lines_of, left_bound, left_bounds}
 use Rattle.td_search.proofs.Between.{between_run}
 use Rattle.td_search.proofs.Bounded.{above_bound}
+use Rattle.td_search.proofs.Wells.{AllLong, long_past}
 
 either_false : (a b : Bool) → (a || b) ≡ false → (a ≡ false) × (b ≡ false)
 either_false true b e = absurd (let q : true ≡ false = e in cc)
@@ -160,6 +167,42 @@ module _ (netlist : Netlist) (best : ℕ) (bounds : List ℕ) where
       zip_at (cube ∷ above) x.number x.state (left_from (near_past (cube ∷ above) x.state nears) xs) (left_bounds bounds xs) h.0.1
       (zip_left (near_past (cube ∷ above) x.state nears) xs h.1)
 
+  -- ---- numbers are small
+
+  small_at : (near : Near) (n : ℕ) (s : State) (others : List ℕ) → IsKnown netlist bounds near n → AllByRecursion (λ (b : ℕ). b < 10 ^ 15) others
+      → AllByRecursion (λ (b : ℕ). b < 10 ^ 15) (left_bound bounds n s others)
+  small_at near n (Split p) others k h = h
+  small_at near n Open others k h = (subst (λ (b : ℕ). b < 10 ^ 15) (sym (ap (λ o. unwrap_or o 0) k.there)) k.small, h)
+  small_at near n (Held w a) others k h = (subst (λ (b : ℕ). b < 10 ^ 15) (sym (ap (λ o. unwrap_or o 0) k.there)) k.small, h)
+  small_at near n (Closed m b c) others k h = h
+
+  small_left : (nears : List Near) (xs : List Node) → AreWell netlist best bounds nears xs → AllByRecursion (λ (b : ℕ). b < 10 ^ 15) (left_bounds bounds xs)
+  small_left nears [] h = tt
+  small_left [] (x ∷ xs) h = absurd h
+  small_left ([] ∷ nears) (x ∷ xs) h = absurd h.0
+  small_left ((cube ∷ above) ∷ nears) (x ∷ xs) h =
+      small_at (cube ∷ above) x.number x.state (left_bounds bounds xs) h.0.1 (small_left (near_past (cube ∷ above) x.state nears) xs h.1)
+
+  short_line : (cube : List Trit) (s : State) → length cube < 10 ^ 15 → best < 10 ^ 15 → IsSettledWell netlist best cube s → is_pending s ≡ false → IsShort (line_of s)
+  short_line cube (Split p) long low w e = let lt = slice_get_within cube p Free w in omega arith
+  short_line cube Open long low w e = absurd (let q : true ≡ false = e in cc)
+  short_line cube (Held k a) long low w e = absurd (let q : true ≡ false = e in cc)
+  short_line cube (Closed (mark.Bound d) b c) long low w e = let le = w.1 in omega arith
+  short_line cube (Closed mark.Point b c) long low w e = let le = w.1 in omega arith
+
+  short_lines : (n : ℕ) (nears : List Near) (xs : List Node) → n < 10 ^ 15 → best < 10 ^ 15 → AllLong n (firsts nears) → AreWell netlist best bounds nears xs
+      → some_left xs ≡ false → AllByRecursion IsShort (lines_of xs)
+  short_lines n nears [] few low long h none = tt
+  short_lines n [] (x ∷ xs) few low long h none = absurd h
+  short_lines n ([] ∷ nears) (x ∷ xs) few low long h none = absurd h.0
+  short_lines n ((cube ∷ above) ∷ nears) (x ∷ xs) few low long h none =
+      let p = either_false (is_pending x.state) (some_left xs) none in
+      let count = long.0 in (
+        short_line cube x.state (omega arith) low h.0.0 p.0,
+        short_lines n (near_past (cube ∷ above) x.state nears) xs few low
+            (subst (AllLong n) (sym (firsts_past cube above nears x.state)) (long_past n cube (firsts nears) x.state long)) h.1 p.1,
+      )
+
   left_some : (nears : List Near) (xs : List Node) → AreWell netlist best bounds nears xs → some_left xs ≡ true → left_from nears xs ≢ []
   left_some nears [] h some = cc
   left_some [] (x ∷ xs) h some = absurd h
@@ -172,6 +215,21 @@ module _ (netlist : Netlist) (best : ℕ) (bounds : List ℕ) where
       of_state (Held w a) e more = λ f. cc
       of_state (Closed m b c) e more = more e
 
+greatest_small : (most low : ℕ) (bounds : List ℕ) → low < most → AllByRecursion (λ (b : ℕ). b < most) bounds → greatest_of low bounds < most
+greatest_small most low [] lt h = lt
+greatest_small most low (b ∷ bounds) lt h =
+    let rest = greatest_small most low bounds lt h.1 in
+    let here = h.0 in omega arith
+
+short_node : (x : line.Node) → IsShort x → IsNode x
+short_node (lines.Split p) h = omega arith
+short_node (lines.Bound d b) h = omega arith
+short_node (lines.Point t) h = omega arith
+
+short_nodes : (xs : List line.Node) → AllByRecursion IsShort xs → AllByRecursion IsNode xs
+short_nodes [] h = tt
+short_nodes (x ∷ xs) h = (short_node x h.0, short_nodes xs h.1)
+
 module _ (circuit : Numbered) (numbering : IsNumbering circuit) (budget : ℕ) (book : Board) (best : ℕ) (pair : Pair) (bounds : List ℕ)
     (s : IsSearch circuit.netlist budget book best pair bounds) where
   abbrev netlist : Netlist
@@ -182,6 +240,10 @@ module _ (circuit : Numbered) (numbering : IsNumbering circuit) (budget : ℕ) (
 
   sound : (cube : List Trit) (bound : ℕ) (other : Pair) (delay : ℕ) → has_bound netlist cube bound → IsIn other cube → has_delay netlist other delay → delay ≤ bound
   sound = above_bound circuit numbering
+
+  -- the best is a delay of a pair, and so below what bounds each of them
+  best_small : best < 10 ^ 15
+  best_small = let low = s.above pair best s.inside s.reached in let top = s.small in omega arith
 
   -- where nothing is left, the answer is exact
   pub ends_exact : IsKept book → some_left book.nodes ≡ false → IsExact netlist budget best pair (lines_of book.nodes)
@@ -196,8 +258,27 @@ module _ (circuit : Numbered) (numbering : IsNumbering circuit) (budget : ℕ) (
       let fits = kept.budget in
       let cap = s.budget_is in
       let long = length-map book.nodes (λ (x : Node). line_of x.state) in
+      let low = best_small in
+      let most = s.modest in
+      let fits_pair = vector_fits netlist pair.first pair.second best s.reached in
+      let few = numbering.well_formed.few_inputs in
+      let short : AllByRecursion IsShort (lines_of book.nodes) =
+      short_lines netlist best bounds (2 * inputs) (root_near netlist ∷ []) book.nodes (omega arith) low (length-replicate (2 * inputs) Free, tt) s.well none in
+      let spelled : HasSpelling (certificate_of netlist best pair (lines_of book.nodes)) =
+      record {
+        inputs = few;
+        gates = numbering.well_formed.few_gates;
+        time = omega arith;
+        first = fits_pair.0;
+        second = fits_pair.1;
+        nodes = short_nodes (lines_of book.nodes) short;
+        tree = is_tree (free_cube (2 * inputs) ∷ []) book.nodes forest none;
+      } in
       record {
         reached = s.reached;
+        small = low;
+        spelled = spelled;
+        readable = searched_texts_fit (certificate_of netlist best pair (lines_of book.nodes)) spelled low short (omega arith);
         greatest = λ first second delay first_fits second_fits is.
             let other : Pair = record { first = first; second = second } in
             let low = settles_run (has_delay netlist) (2 * inputs) 1 budget s.events s.end s.run
@@ -250,7 +331,8 @@ module _ (circuit : Numbered) (numbering : IsNumbering circuit) (budget : ℕ) (
             (zip_left netlist best bounds (root_near netlist ∷ []) book.nodes s.well);
         greatest = refl;
       } in
-      record { short = short; reached = s.reached; worst = lies_between _ _ short; within = omega arith; budget_used = used }
+      record { short = short; reached = s.reached; worst = lies_between _ _ short; within = omega arith; budget_used = used;
+        small = greatest_small (10 ^ 15) best (left_bounds bounds book.nodes) best_small (small_left netlist best bounds (root_near netlist ∷ []) book.nodes s.well) }
     where
       over : left_over s.end ≡ left_from (root_near netlist ∷ []) book.nodes
       over = ap (λ (b : Board). left_from ((free_cube b.positions ∷ []) ∷ []) b.nodes) s.board

@@ -60,11 +60,11 @@ top_of (near ∷ nears) cube cubes m = record { above = m.0; rest = nears; is = 
 
 -- ---- the length of a node's cube
 
-abbrev AllLong : ℕ → List (List Trit) → Type 0
+abbrev pub AllLong : ℕ → List (List Trit) → Type 0
 AllLong n [] = Unit {0}
 AllLong n (cube ∷ cubes) = (length cube ≡ n) × AllLong n cubes
 
-long_past : (n : ℕ) (cube : List Trit) (cubes : List (List Trit)) (s : State) → AllLong n (cube ∷ cubes) → AllLong n (cubes_past cube s cubes)
+pub long_past : (n : ℕ) (cube : List Trit) (cubes : List (List Trit)) (s : State) → AllLong n (cube ∷ cubes) → AllLong n (cubes_past cube s cubes)
 long_past n cube cubes (Split p) m = (length-set cube p Zero ∙ m.0, (length-set cube p One ∙ m.0, m.1))
 long_past n cube cubes Open m = m.1
 long_past n cube cubes (Held w a) m = m.1
