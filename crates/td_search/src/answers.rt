@@ -1,6 +1,10 @@
 //! What a search answers.
 
-use td_certificate::Tree;
+ghost use Rattle.std.specs.Prelude.{◌≡◌};
+ghost use Rattle.td_search.specs.Answers.{certificate_of};
+
+use td_certificate::{Certificate, Tree};
+use td_circuit::Circuit;
 use td_domain::Pair;
 
 /// Why a search ends without an exact answer: its budget was used up, or memory ran out.
@@ -23,4 +27,18 @@ pub enum Answer {
         nodes: u64,
         cause: Cause,
     },
+}
+
+/// The certificate of an exact answer for this circuit. The time is in steps.
+pub fn certificate_of(circuit: &Circuit, time: u64, pair: Pair, tree: Tree) -> Certificate
+    ensures { result ≡ certificate_of circuit.now.netlist time pair tree }
+{
+    let gates = circuit.gates();
+    Certificate {
+        inputs: circuit.inputs() as u32,
+        gates: gates.len() as u32,
+        time,
+        pair,
+        tree,
+    }
 }

@@ -1,14 +1,14 @@
 //! Searches of worked circuits, line by line.
 
-use crate::judging::delay_of;
-use crate::{Answer, Cause, alone};
+use crate::{Answer, Cause, alone, certificate_of};
 use std::alloc::Global;
 use std::process::Abort;
 use std::test::*;
+use td_certificate::write;
 use td_circuit::{Circuit, build};
-use td_domain::Pair;
-use td_gates::Delay;
+use td_gates::{Delay, Level, MemorySink};
 use td_netlist::read;
+use td_run::waves;
 
 /// The circuit of a text whose gates have delay 1 unless it says otherwise.
 fn circuit_of(rt: &impl Abort, alloc: Global, text: &str) -> Result<Circuit, Fail> {
@@ -131,6 +131,23 @@ fn one_input(rt: HostRuntime) -> Result<(), Fail> {
 }
 
 #[test]
+fn text_of_a_certificate(rt: HostRuntime) -> Result<(), Fail> {
+    let alloc = rt.alloc();
+    let inverter = module(alloc, "a", "y", "not #(2,3) g(y,a);")?;
+    let circuit = circuit_of(&rt, alloc, &inverter)?;
+    let Answer::Exact { time, pair, tree } = alone(alloc, &circuit, 1)? else {
+        panic!(rt; "not exact")
+    };
+    let certificate = certificate_of(&circuit, time, pair, tree);
+    let mut sink = MemorySink::new(alloc, 1000, 1000)?;
+    assert!(rt; write(alloc, &mut sink, &certificate).is_ok());
+    let text = "tdelay-cert 1\ncircuit 1 1\ntime 3\nfrom 0\nto 1\nb a 3\n";
+    assert_eq!(rt; sink.bytes(), text.as_bytes());
+    assert_eq!(rt; text.len(), 51);
+    Ok(())
+}
+
+#[test]
 fn more_inputs(rt: HostRuntime) -> Result<(), Fail> {
     let alloc = rt.alloc();
     let gates = "buf #1 p1(p,b); buf #1 p2(q,b); xor #3 g(y,a,p,q);";
@@ -191,15 +208,15 @@ fn both_domains_together(rt: HostRuntime) -> Result<(), Fail> {
     check(&rt, alloc, &circuit, 1_000_000, tree)
 }
 
-/// So many bits of a number, the least first.
-fn bits_of(alloc: Global, number: usize, count: usize) -> Result<Vec<bool>, Fail> {
-    let mut bits = Vec::new(alloc);
+/// So many bits of a number as levels, the least first.
+fn levels_of(alloc: Global, number: usize, count: usize) -> Result<Vec<Level>, Fail> {
+    let mut levels = Vec::new(alloc);
     let mut rest = number;
     for _ in 0..count {
-        bits.push(rest % 2 == 1)?;
+        levels.push(Level::from(rest % 2 == 1))?;
         rest /= 2;
     }
-    Ok(bits)
+    Ok(levels)
 }
 
 /// The greatest delay over all pairs of a circuit with at most three inputs, one after another.
@@ -210,12 +227,12 @@ fn worst_of(rt: &impl Abort, alloc: Global, circuit: &Circuit) -> Result<u64, Fa
     let mut worst = 0;
     for before in 0..vectors {
         for after in 0..vectors {
-            let first = bits_of(alloc, before, inputs)?;
-            let second = bits_of(alloc, after, inputs)?;
+            let first = levels_of(alloc, before, inputs)?;
+            let second = levels_of(alloc, after, inputs)?;
             assert!(rt; first.len() == inputs);
             assert!(rt; second.len() == inputs);
-            let pair = Pair::new(first, second);
-            worst = delay_of(alloc, circuit, &pair)?.max(worst);
+            let run = waves(alloc, circuit, &first, &second)?;
+            worst = run.last_of_outputs().max(worst);
         }
     }
     Ok(worst)
