@@ -331,8 +331,14 @@ module _ (circuit : Numbered) (numbering : IsNumbering circuit) (budget : ℕ) (
             (zip_left netlist best bounds (root_near netlist ∷ []) book.nodes s.well);
         greatest = refl;
       } in
-      record { short = short; reached = s.reached; worst = lies_between _ _ short; within = omega arith; budget_used = used;
-        small = greatest_small (10 ^ 15) best (left_bounds bounds book.nodes) best_small (small_left netlist best bounds (root_near netlist ∷ []) book.nodes s.well) }
+      record {
+        short = short;
+        reached = s.reached;
+        worst = lies_between _ _ short;
+        within = omega arith;
+        budget_used = used;
+        small = greatest_small (10 ^ 15) best (left_bounds bounds book.nodes) best_small (small_left netlist best bounds (root_near netlist ∷ []) book.nodes s.well);
+      }
     where
       over : left_over s.end ≡ left_from (root_near netlist ∷ []) book.nodes
       over = ap (λ (b : Board). left_from ((free_cube b.positions ∷ []) ∷ []) b.nodes) s.board

@@ -231,9 +231,13 @@ module _ (netlist : Netlist) (budget : ℕ) where
           reached = s.reached;
           well = at_root book s.positions more c.nodes
               (well_turned netlist best more t
-              (λ above rest h. ((step.0, h.0.1),
-              ((tt, record { bound = bound; there = first; is = (lease.cube, (1, omega arith, refl), is); small = small }),
-              ((tt, record { bound = bound; there = second; is = (lease.cube, (1, omega arith, refl), is); small = small }), h.1))))
+              (λ above rest h. (
+                (step.0, h.0.1),
+                (
+                  (tt, record { bound = bound; there = first; is = (lease.cube, (1, omega arith, refl), is); small = small }),
+                  ((tt, record { bound = bound; there = second; is = (lease.cube, (1, omega arith, refl), is); small = small }), h.1),
+                ),
+              ))
               (from_root book s.positions more book.nodes wide));
           numbers = omega arith;
           positions = t.positions ∙ s.positions;

@@ -24,7 +24,9 @@ fn circuit_of(rt: &impl Abort, alloc: Global, text: &str) -> Result<Circuit, Fai
 
 /// The text of a module with these inputs, outputs and gates.
 fn module(alloc: Global, inputs: &str, outputs: &str, gates: &str) -> Result<String, Fail> {
-    Ok(format!(in alloc; "module t ({inputs}, {outputs});\ninput {inputs};\noutput {outputs};\n{gates}\nendmodule\n")?)
+    Ok(format!(in alloc;
+        "module t ({inputs}, {outputs});\ninput {inputs};\noutput {outputs};\n{gates}\nendmodule\n"
+    )?)
 }
 
 fn push_bits(text: &mut String, bits: &[bool]) -> Result<(), Fail> {
@@ -175,7 +177,13 @@ nand NAND2_5 (N22, N10, N16);
 nand NAND2_6 (N23, N16, N19);
 endmodule
 ";
-    check(&rt, rt.alloc(), text, 1_000_000, "exact 3 00000 to 11111, b a 3")
+    check(
+        &rt,
+        rt.alloc(),
+        text,
+        1_000_000,
+        "exact 3 00000 to 11111, b a 3",
+    )
 }
 
 #[test]
@@ -202,7 +210,8 @@ fn below_the_bound_of_the_root(rt: HostRuntime) -> Result<(), Fail> {
 #[test]
 fn both_domains_together(rt: HostRuntime) -> Result<(), Fail> {
     let alloc = rt.alloc();
-    let gates = "buf #3 (w0,a); xor #(1,4) (w1,w0,a); or #1 (w2,w1,b); or #1 (w3,b,w1); and #2 (z,b,a); nor #(4,2) (y,w1,w0);";
+    let gates =
+        "buf #3 (w0,a); xor #(1,4) (w1,w0,a); or #1 (w2,w1,b); or #1 (w3,b,w1); and #2 (z,b,a); nor #(4,2) (y,w1,w0);";
     let circuit = module(alloc, "a, b", "y, z", gates)?;
     let tree = "exact 11 10 to 01, s 0, s 1, b a 0, b m 3, b a 11";
     check(&rt, alloc, &circuit, 1_000_000, tree)
@@ -249,7 +258,10 @@ fn compare(rt: &impl Abort, alloc: Global, text: &str) -> Result<(), Fail> {
                 assert!(rt; tree.nodes().len() as u64 <= budget);
             }
             Answer::Between {
-                low, high, nodes, ..
+                low,
+                high,
+                nodes,
+                ..
             } => {
                 assert!(rt; low <= worst && worst <= high);
                 assert_eq!(rt; nodes, budget);
