@@ -164,6 +164,13 @@ fn more_inputs(rt: HostRuntime) -> Result<(), Fail> {
 }
 
 #[test]
+fn no_inputs(rt: HostRuntime) -> Result<(), Fail> {
+    let empty = "module t;\nendmodule\n";
+    check(&rt, rt.alloc(), empty, 1_000_000, "exact 0  to , b a 0")?;
+    check(&rt, rt.alloc(), empty, 0, "between 0 0 budget 0  to ")
+}
+
+#[test]
 fn six_nand_gates(rt: HostRuntime) -> Result<(), Fail> {
     let text = "module c17 (N1,N2,N3,N6,N7,N22,N23);
 input N1,N2,N3,N6,N7;
