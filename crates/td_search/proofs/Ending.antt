@@ -1,6 +1,6 @@
 -- What a search found that has ended.
-use Rattle.std.proofs.Common.{◌≡◌, ◌≢◌, ℕ, zero, suc, ◌+◌, ◌*◌, ◌<◌, ◌≤◌, ◌^◌, max, Bool, true, false, cond, ◌||◌, List, [], ◌∷◌, ◌++◌, length, map, Some, refl, sym, ap, subst, ◌∙◌, ⊎_elim, le_refl, arith}
-use Rattle.std.specs.Prelude.{Contains, slice_get, unwrap_or, count_by}
+use Rattle.std.proofs.Common.{◌≡◌, ◌≢◌, ℕ, zero, suc, ◌+◌, ◌*◌, ◌<◌, ◌≤◌, ◌^◌, Bool, true, false, cond, ◌||◌, List, [], ◌∷◌, length, map, Some, refl, sym, ap, subst, ◌∙◌, ⊎_elim, le_refl, arith}
+use Rattle.std.specs.Prelude.{Contains, unwrap_or, count_by}
 use Rattle.std.specs.List.{AllByRecursion, AllZip, list_any}
 use Rattle.std.proofs.lemmas.List.{length-map, length-replicate}
 use Rattle.std.proofs.lemmas.Option.{slice_get_within}
@@ -8,27 +8,25 @@ use Rattle.std.proofs.lemmas.List.Elements.{Contains-append_cases}
 use Rattle.std.proofs.lemmas.List.Sums.{sum_by-cons}
 use Rattle.td_netlist.specs.Netlist.{Netlist}
 use Rattle.td_circuit.specs.Numbering.{Numbered, IsNumbering}
-use Rattle.td_circuit.specs.Run.{IsAboveAll, IsWorst}
+use Rattle.td_circuit.specs.Run.{IsWorst}
 use Rattle.td_domain.specs.declared.cubes.Trit.{Trit}
 use Rattle.td_domain.specs.declared.cubes.Trit.TheVariants.{Free}
 use Rattle.td_domain.specs.Pairs.{Pair}
 use Rattle.td_domain.specs.Cubes.{IsIn}
-use Rattle.td_book.specs.declared.lease.Lease.{Lease}
 use Rattle.td_book.specs.declared.node.Mark.TheVariants as mark
 use Rattle.td_book.specs.declared.node.Node.{Node}
 use Rattle.td_book.specs.declared.node.State.{State}
 use Rattle.td_book.specs.declared.node.State.TheVariants.{Split, Open, Held, Closed}
 use Rattle.td_book.specs.Cubes.{free_cube}
-use Rattle.td_book.specs.Board.{Board, Leaf, roots, leaves, leaves_from, leaf_at, cubes_past, is_forest, is_pending, is_handled, handled, allowed, opening}
+use Rattle.td_book.specs.Board.{Board, Leaf, roots, leaves, leaves_from, leaf_at, cubes_past, is_forest, is_pending, is_handled, handled}
 use Rattle.td_book.specs.Kept.{IsKept}
-use Rattle.td_book.specs.Steps.{World, Event, Reply, Raising, Splitting, Saw, Did, sees, starting}
 use Rattle.td_book.proofs.Keeps.{settles_run}
 use Rattle.td_certificate.specs.declared.tree.Node as line
 use Rattle.td_certificate.specs.declared.tree.Node.TheVariants as lines
 use Rattle.td_certificate.specs.Lengths.{IsShort}
 use Rattle.td_certificate.specs.Spelling.{HasSpelling, IsNode}
 use Rattle.td_certificate.specs.Trees.{pending_after}
-use Rattle.td_certificate.specs.Accepts.{IsGood, Line}
+use Rattle.td_certificate.specs.Accepts.{IsGood}
 use Rattle.td_certificate.specs.Walks.{lines_from}
 use Rattle.td_certificate.proofs.Acceptance.{all_free, vector_fits}
 use Rattle.td_certificate.proofs.Lengths.{searched_texts_fit}
@@ -39,7 +37,7 @@ use Rattle.td_search.specs.declared.answers.Cause.TheVariants as cause
 use Rattle.td_search.specs.CutShort.{Near, near_past, left_at, left_from, left_over, greatest_of, IsBoundNear, IsCutShort}
 use Rattle.td_search.specs.Representatives.{representative}
 use Rattle.td_search.specs.Answers.{has_delay, has_bound, certificate_of, IsExact, IsBetween}
-use Rattle.td_search.specs.Progress.{IsSettledWell, IsKnown, IsNodeWell, AreWell, IsSearch, root_near}
+use Rattle.td_search.specs.Progress.{IsSettledWell, IsKnown, AreWell, IsSearch, root_near}
 use Rattle.td_search.specs.Listed.{line_of, lines_of, left_bound, left_bounds}
 use Rattle.td_search.proofs.Between.{between_run}
 use Rattle.td_search.proofs.Bounded.{above_bound}

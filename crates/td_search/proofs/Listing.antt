@@ -1,6 +1,6 @@
 -- The nodes of a tree as a book lists them.
-use Rattle.std.proofs.Common.{◌≡◌, ℕ, zero, suc, ◌+◌, ◌<◌, ◌≤◌, max, Bool, true, false, ◌||◌, List, [], ◌∷◌, ◌++◌, length, map, get_or, refl, sym, ap, subst, ◌∙◌, arith}
-use Rattle.std.specs.Prelude.{slice_get, Some, unwrap_or}
+use Rattle.std.proofs.Common.{◌≡◌, ℕ, ◌<◌, max, true, false, ◌||◌, List, [], ◌∷◌, length, get_or, refl, sym, ap, subst, ◌∙◌, arith}
+use Rattle.std.specs.Prelude.{slice_get, unwrap_or}
 use Rattle.std.specs.List.{All, AllByRecursion}
 use Rattle.std.proofs.lemmas.List.Elements.{All-from_recursion}
 use Rattle.std.proofs.lemmas.Option.{slice_get-get_or, slice_get_within}
@@ -20,7 +20,7 @@ use Rattle.td_search.specs.declared.answers.Cause.TheVariants as cause
 use Rattle.td_search.specs.Answers.{IsExact, IsBetween}
 use Rattle.td_search.specs.CutShort.{Near, near_past, greatest_of}
 use Rattle.td_search.specs.Listed.{line_of, lines_of, left_bound, left_bounds}
-use Rattle.td_search.specs.Progress.{IsKnown, AreWell, IsSearch}
+use Rattle.td_search.specs.Progress.{AreWell, IsSearch}
 use Rattle.td_search.proofs.Ending.{some_left, is_tree, ends_exact, ends_between}
 
 pub some_listed : (xs : List Node) → some_left (as_open xs) ≡ some_left xs

@@ -1,8 +1,5 @@
-use Rattle.std.proofs.Common.{◌≡◌, ℕ, ◌<◌, List, length, sym, ap, subst, ◌∙◌}
-use Rattle.std.specs.List.{All}
-use Rattle.td_book.specs.declared.node.Node.{Node}
+use Rattle.std.proofs.Common.{◌≡◌, sym, ap, ◌∙◌}
 use Rattle.td_book.specs.Kept.{as_open}
-use Rattle.td_certificate.specs.Trees.{IsTree}
 use Rattle.td_search.specs.declared.answers.Cause.TheVariants as cause
 use Rattle.td_search.proofs.Ending.{some_left}
 use Rattle.td_search.proofs.Listing.{numbers_listed, tree_listed, answers_between, answers_exact}
