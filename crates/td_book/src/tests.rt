@@ -50,6 +50,8 @@ fn a_split_and_two_closes(rt: HostRuntime) -> Result<(), Fail> {
     assert!(rt; nodes[0].number == 0 && nodes[0].state == State::Split(0));
     assert!(rt; nodes[1].number == 1 && nodes[1].state == State::Closed(mark, 3, 4));
     assert!(rt; nodes[2].number == 2 && nodes[2].state == State::Closed(Mark::Point, 4, 4));
+    let again = tree.nodes_in(Vec::with_capacity(alloc, tree.len() as usize)?);
+    assert!(rt; again == nodes);
     Ok(())
 }
 
