@@ -268,10 +268,12 @@ fn compare(rt: &impl Abort, alloc: Global, text: &str) -> Result<(), Fail> {
                 low,
                 high,
                 nodes,
+                cause,
                 ..
             } => {
                 assert!(rt; low <= worst && worst <= high);
                 assert_eq!(rt; nodes, budget);
+                assert_eq!(rt; cause, Cause::Budget);
             }
         }
     }
