@@ -6,6 +6,8 @@ use Rattle.clap.specs.declared.builder.value_parser.ValueParser.TheVariants.{Sig
 use Rattle.td_gates.specs.Delays.{Delays, IsInRange}
 use Rattle.td_cli.specs.declared.command.SimRequest.{SimRequest}
 use Rattle.td_cli.specs.declared.command.BoundRequest.{BoundRequest}
+use Rattle.td_cli.specs.declared.command.WorstRequest.{WorstRequest}
+use Rattle.td_cli.specs.declared.command.CheckRequest.{CheckRequest}
 use Rattle.td_cli.specs.declared.command.Request.{Request}
 use Rattle.td_cli.specs.declared.command.Request.TheVariants as request
 
@@ -38,8 +40,19 @@ abbrev pub bound_command : App
 bound_command = with_default (with_rule (with_rule (with_rule (new_app (codes "bound"))
     (needed (codes "FILE"))) (option (codes "first"))) (option (codes "second")))
 
+abbrev pub worst_command : App
+worst_command = with_default (with_rule (with_rule (with_rule (with_rule (new_app (codes "worst"))
+    (needed (codes "FILE"))) (number_option (codes "workers") 1 1 (codes "1")))
+    (number_option (codes "budget") 0 10000000 (codes "1000000"))) (option (codes "cert")))
+
+abbrev pub check_command : App
+check_command = with_default (with_rule (with_rule (new_app (codes "check"))
+    (needed (codes "FILE"))) (needed (codes "CERT")))
+
 abbrev pub with_commands : App → App
-with_commands app = with_subcommand (with_subcommand app sim_command.top) bound_command.top
+with_commands app =
+    with_subcommand (with_subcommand (with_subcommand (with_subcommand app sim_command.top) bound_command.top) worst_command.top)
+    check_command.top
 
 abbrev pub named : App
 named = new_app (codes "tdelay")
@@ -70,6 +83,10 @@ pub record HasDefault (rows : List Row) (default : Delays) : Type 0 where
   pub fall : HasNumber (codes "default-fall") rows default.fall
   pub in_range : IsInRange default
 
+-- the most nodes of a search
+abbrev pub HasBudget : List Row → ℕ → Type 0
+HasBudget rows budget = HasNumber (codes "budget") rows budget × (budget ≤ 10000000)
+
 -- the words of `sim` ask for this
 pub record AsksSim (rows : List Row) (asked : SimRequest) : Type 0 where
   pub file : first_of (codes "FILE") rows ≡ Some asked.file.now
@@ -84,10 +101,25 @@ pub record AsksBound (rows : List Row) (asked : BoundRequest) : Type 0 where
   pub second : first_of (codes "second") rows ≡ option_map (λ word. word.now) asked.second
   pub default : HasDefault rows (delays asked.rise asked.fall)
 
+-- the words of `worst` ask for this
+pub record AsksWorst (rows : List Row) (asked : WorstRequest) : Type 0 where
+  pub file : first_of (codes "FILE") rows ≡ Some asked.file.now
+  pub budget : HasBudget rows asked.budget
+  pub certificate : first_of (codes "cert") rows ≡ option_map (λ word. word.now) asked.certificate
+  pub default : HasDefault rows (delays asked.rise asked.fall)
+
+-- the words of `check` ask for this
+pub record AsksCheck (rows : List Row) (asked : CheckRequest) : Type 0 where
+  pub file : first_of (codes "FILE") rows ≡ Some asked.file.now
+  pub certificate : first_of (codes "CERT") rows ≡ Some asked.certificate.now
+  pub default : HasDefault rows (delays asked.rise asked.fall)
+
 -- the command of this name, with these words, asks for this
 abbrev pub CommandAsks : Text → List Row → Request → Type 0
 CommandAsks name rows (request.Sim asked) = (name ≡ codes "sim") × AsksSim rows asked
 CommandAsks name rows (request.Bound asked) = (name ≡ codes "bound") × AsksBound rows asked
+CommandAsks name rows (request.Worst asked) = (name ≡ codes "worst") × AsksWorst rows asked
+CommandAsks name rows (request.Check asked) = (name ≡ codes "check") × AsksCheck rows asked
 
 -- a command was given, and asks for this
 abbrev pub EnteredAsks : Option (Text × List Row) → Request → Type 0
@@ -97,10 +129,12 @@ EnteredAsks entered asked = (name : Text) × (rows : List Row) × (entered ≡ S
 abbrev pub Asks : List Text → Request → Type 0
 Asks words asked = EnteredAsks (subcommand_of program words) asked
 
--- the delays that were asked for are in range
+-- the numbers that were asked for are in range
 abbrev pub IsCarriedOut : Request → Type 0
 IsCarriedOut (request.Sim asked) = IsInRange (delays asked.rise asked.fall)
 IsCarriedOut (request.Bound asked) = IsInRange (delays asked.rise asked.fall)
+IsCarriedOut (request.Worst asked) = IsInRange (delays asked.rise asked.fall) × (asked.budget ≤ 10000000)
+IsCarriedOut (request.Check asked) = IsInRange (delays asked.rise asked.fall)
 
 -- the answer is what is asked, none where nothing is
 abbrev pub IsAnswered : {X : Type 0} → (X → Type 0) → Option X → Type 0

@@ -1,16 +1,20 @@
 -- What a command writes, and how it ends.
-use Rattle.std.specs.Prelude.{◌≡◌, ℕ, List, ◌++◌, ◌⊎◌, Option, option_map, codes, false}
+use Rattle.std.specs.Prelude.{◌≡◌, ℕ, List, ◌++◌, ◌⊎◌, Option, Some, None, IfSome, option_map, codes, false}
 use Rattle.clap.specs.Words.{takes}
 use Rattle.td_gates.specs.declared.timing.Delay.{Delay}
 use Rattle.td_gates.specs.Output.{Output, Sent, Failed}
 use Rattle.td_cli.specs.declared.status.Status.{Status}
-use Rattle.td_cli.specs.declared.status.Status.TheVariants.{Done, Refused, BadCommand, Device}
+use Rattle.td_cli.specs.declared.status.Status.TheVariants.{Done, Refused, BadCommand, Between, Rejected, Device}
 use Rattle.td_cli.specs.declared.refusal.Refusal.{Refusal}
 use Rattle.td_cli.specs.declared.refusal.Refusal.TheVariants as refusal
 use Rattle.td_cli.specs.Reports.{newline, IsSimReport}
 use Rattle.td_cli.specs.Refusals.{refusal_text}
 use Rattle.td_cli.specs.BoundReports.{IsBoundReport}
-use Rattle.td_cli.specs.Outcomes.{HasNoReport, HasNoBounds}
+use Rattle.td_cli.specs.CheckReports.{IsCheckReport}
+use Rattle.td_cli.specs.WorstReports.{IsWorstReport}
+use Rattle.td_cli.specs.Written.{WrittenFile, IsKept}
+use Rattle.td_certificate.specs.declared.certificate.Certificate.{Certificate}
+use Rattle.td_cli.specs.Outcomes.{HasNoReport, HasNoBounds, HasNoCircuit, HasNoVerdict}
 use Rattle.td_cli.specs.CommandLine.{program, delays, Asks}
 use Rattle.td_cli.specs.declared.command.Request.{Request}
 use Rattle.td_cli.specs.declared.command.Request.TheVariants as request
@@ -20,6 +24,7 @@ abbrev pub status_of : Refusal → Status
 status_of refusal.OutOfMemory = Device
 status_of (refusal.Netlist fault) = Refused
 status_of (refusal.Loop name) = Refused
+status_of (refusal.Certificate fault) = Refused
 status_of (refusal.BadVector word) = BadCommand
 
 -- a line was told: all of it went out, or the writer failed behind a beginning of it
@@ -57,6 +62,8 @@ abbrev pub Ends : (List ℕ → Type 0) → (Refusal → Type 0) → Status → 
 Ends IsReport Holds Done out_old out_new err_old err_new = Reports IsReport out_old out_new err_old err_new
 Ends IsReport Holds Refused out_old out_new err_old err_new = Refuses Holds Refused out_old out_new err_old err_new
 Ends IsReport Holds BadCommand out_old out_new err_old err_new = Refuses Holds BadCommand out_old out_new err_old err_new
+Ends IsReport Holds Between out_old out_new err_old err_new = ⊥
+Ends IsReport Holds Rejected out_old out_new err_old err_new = ⊥
 Ends IsReport Holds Device out_old out_new err_old err_new = Breaks IsReport out_old out_new
 
 -- what `sim` wrote
@@ -67,7 +74,57 @@ SimEnds status text default from to = Ends (IsSimReport text default from to) (H
 abbrev pub BoundEnds : Status → List ℕ → Delay → Option (List ℕ) → Option (List ℕ) → Output → Output → Output → Output → Type 0
 BoundEnds status text default first second = Ends (IsBoundReport text default first second) (HasNoBounds text default first second) status
 
+-- what `check` wrote
+abbrev pub CheckEnds : Status → List ℕ → Delay → List ℕ → Output → Output → Output → Output → Type 0
+CheckEnds Done text default certificate_text out_old out_new err_old err_new =
+    Reports (IsCheckReport text default certificate_text Done) out_old out_new err_old err_new
+CheckEnds Rejected text default certificate_text out_old out_new err_old err_new =
+    Reports (IsCheckReport text default certificate_text Rejected) out_old out_new err_old err_new
+CheckEnds Refused text default certificate_text out_old out_new err_old err_new =
+    Refuses (HasNoVerdict text default certificate_text) Refused out_old out_new err_old err_new
+CheckEnds BadCommand text default certificate_text out_old out_new err_old err_new = ⊥
+CheckEnds Between text default certificate_text out_old out_new err_old err_new = ⊥
+CheckEnds Device text default certificate_text out_old out_new err_old err_new =
+    Breaks (λ report. (ending : Status) × IsCheckReport text default certificate_text ending report) out_old out_new
+
+-- what `worst` wrote to standard output and standard error, where it has this certificate to write
+abbrev pub WorstEnds : Status → List ℕ → Delay → ℕ → Option Certificate → Output → Output → Output → Output → Type 0
+WorstEnds Done text default budget certificate out_old out_new err_old err_new =
+    Reports (λ report. IsWorstReport text default budget report certificate) out_old out_new err_old err_new
+WorstEnds Between text default budget certificate out_old out_new err_old err_new =
+    Reports (λ report. IsWorstReport text default budget report None × (certificate ≡ None)) out_old out_new err_old err_new
+WorstEnds Refused text default budget certificate out_old out_new err_old err_new =
+    Refuses (HasNoCircuit text default) Refused out_old out_new err_old err_new × (certificate ≡ None)
+WorstEnds BadCommand text default budget certificate out_old out_new err_old err_new = ⊥
+WorstEnds Rejected text default budget certificate out_old out_new err_old err_new = ⊥
+WorstEnds Device text default budget certificate out_old out_new err_old err_new =
+    Breaks (λ report. (found : Option Certificate) × IsWorstReport text default budget report found) out_old out_new × (certificate ≡ None)
+
 -- ---- files
+
+-- the line that tells a file that can't be written
+abbrev pub unwritten_text : List ℕ → List ℕ
+unwritten_text name = codes "tdelay: cannot write " ++ name ++ newline
+
+-- a file was not written, which was told, or want of memory in its place
+abbrev pub IsNotWritten : List ℕ → Output → Output → Type 0
+IsNotWritten name err_old err_new = Tells err_old err_new (unwritten_text name) ⊎ Tells err_old err_new (refusal_text refusal.OutOfMemory)
+
+-- The report went out, and then the certificate was not written.
+pub record Lacks (text : List ℕ) (default : Delay) (budget : ℕ) (name : List ℕ) (status : Status) (out_old out_new err_old err_new : Output) : Type 0 where
+  pub certificate : Certificate
+  pub report : List ℕ
+  pub is : IsWorstReport text default budget report (Some certificate)
+  pub sent : Sent out_old out_new report
+  pub ends : status ≡ Device
+  pub told : IsNotWritten name err_old err_new
+
+-- The search ended so, and the certificate of an exact answer was kept where a name is given.
+pub record Keeps (text : List ℕ) (default : Delay) (budget : ℕ) (name : Option (List ℕ)) (status : Status)
+    (kept_old kept_new : Option (List WrittenFile)) (out_old out_new err_old err_new : Output) : Type 0 where
+  pub certificate : Option Certificate
+  pub ends : WorstEnds status text default budget certificate out_old out_new err_old err_new
+  pub kept : IfSome certificate (λ some. IsKept kept_old kept_new name some)
 
 -- the line that tells a file that can't be read
 abbrev pub unread_text : List ℕ → List ℕ
@@ -95,16 +152,42 @@ abbrev pub EndsOnFile : (List ℕ → List ℕ → Type 0) → List ℕ → (Lis
 EndsOnFile Holds name EndsOn status out_old out_new err_old err_new =
     ((text : List ℕ) × Holds name text × EndsOn text) ⊎ IsNotRead name status out_old out_new err_old err_new
 
--- what was written for a request, where these are the bytes that a read of a name may give
-abbrev pub RequestEnds : (List ℕ → List ℕ → Type 0) → Request → Status → Output → Output → Output → Output → Type 0
-RequestEnds Holds (request.Sim asked) status out_old out_new err_old err_new =
-    EndsOnFile Holds asked.file.now
+-- what is known of files: the bytes that a read of a name may give, and those that were written, before and after
+pub record Disk : Type 1 where
+  pub holds : List ℕ → List ℕ → Type 0
+  pub kept_old : Option (List WrittenFile)
+  pub kept_new : Option (List WrittenFile)
+
+abbrev pub disk_of : (List ℕ → List ℕ → Type 0) → Option (List WrittenFile) → Option (List WrittenFile) → Disk
+disk_of holds kept_old kept_new = record { holds = holds; kept_old = kept_old; kept_new = kept_new }
+
+-- what `worst` wrote: the report, and where a name is given and the answer is exact, the certificate
+abbrev pub WorstOf : Disk → List ℕ → Delay → ℕ → Option (List ℕ) → Status → Output → Output → Output → Output → Type 0
+WorstOf disk text default budget name status out_old out_new err_old err_new =
+    Keeps text default budget name status disk.kept_old disk.kept_new out_old out_new err_old err_new
+    ⊎ ((file : List ℕ) × (name ≡ Some file) × Lacks text default budget file status out_old out_new err_old err_new)
+
+-- what was written for a request
+abbrev pub RequestEnds : Disk → Request → Status → Output → Output → Output → Output → Type 0
+RequestEnds disk (request.Sim asked) status out_old out_new err_old err_new =
+    EndsOnFile disk.holds asked.file.now
     (λ text. SimEnds status text (delays asked.rise asked.fall) asked.from.now asked.to.now out_old out_new err_old err_new)
     status out_old out_new err_old err_new
-RequestEnds Holds (request.Bound asked) status out_old out_new err_old err_new =
-    EndsOnFile Holds asked.file.now
+RequestEnds disk (request.Bound asked) status out_old out_new err_old err_new =
+    EndsOnFile disk.holds asked.file.now
     (λ text. BoundEnds status text (delays asked.rise asked.fall) (option_map (λ word. word.now) asked.first)
     (option_map (λ word. word.now) asked.second) out_old out_new err_old err_new)
+    status out_old out_new err_old err_new
+RequestEnds disk (request.Worst asked) status out_old out_new err_old err_new =
+    EndsOnFile disk.holds asked.file.now
+    (λ text. WorstOf disk text (delays asked.rise asked.fall) asked.budget (option_map (λ word. word.now) asked.certificate)
+    status out_old out_new err_old err_new)
+    status out_old out_new err_old err_new
+RequestEnds disk (request.Check asked) status out_old out_new err_old err_new =
+    EndsOnFile disk.holds asked.file.now
+    (λ text. EndsOnFile disk.holds asked.certificate.now
+    (λ certificate_text. CheckEnds status text (delays asked.rise asked.fall) certificate_text out_old out_new err_old err_new)
+    status out_old out_new err_old err_new)
     status out_old out_new err_old err_new
 
 -- ---- the program
@@ -145,9 +228,9 @@ pub record IsSilent (words : List (List ℕ)) (out_old out_new err_old err_new :
 
 -- What the program wrote, by what the words ask for: where they are no command line that it takes, help or their fault was
 -- told. Want of memory may be told in place of any.
-abbrev pub ProgramEnds : (List ℕ → List ℕ → Type 0) → List (List ℕ) → Status → Output → Output → Output → Output → Type 0
-ProgramEnds Holds words status out_old out_new err_old err_new =
-    ((asked : Request) × Asks words asked × RequestEnds Holds asked status out_old out_new err_old err_new)
+abbrev pub ProgramEnds : Disk → List (List ℕ) → Status → Output → Output → Output → Output → Type 0
+ProgramEnds disk words status out_old out_new err_old err_new =
+    ((asked : Request) × Asks words asked × RequestEnds disk asked status out_old out_new err_old err_new)
     ⊎ (((takes program words ≡ false) × TellsText status out_old out_new err_old err_new)
     ⊎ (IsOutOfMemory status out_old out_new err_old err_new
     ⊎ ((status ≡ BadCommand) × IsSilent words out_old out_new err_old err_new)))

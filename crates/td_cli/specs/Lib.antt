@@ -3,6 +3,9 @@ pub mod CommandLine
 pub mod Vectors
 pub mod Reports
 pub mod BoundReports
+pub mod CheckReports
+pub mod WorstReports
+pub mod Written
 pub mod Refusals
 pub mod Outcomes
 pub mod Commands

@@ -1,6 +1,9 @@
 -- Files in memory.
 use Rattle.std.specs.Prelude.{◌≡◌, ℕ, List, slice_get, Some}
 use Rattle.std.specs.Borrow.{Bor}
+use Rattle.td_gates.specs.MemorySinks.{output_of}
+use Rattle.td_cli.specs.declared.memory_files.MemoryFile.{MemoryFile}
+use Rattle.td_cli.specs.Written.{WrittenFile}
 
 -- the file at this place has this name and these bytes
 abbrev pub IsFileAt : List (Bor (List ℕ) × Bor (List ℕ)) → ℕ → Bor (List ℕ) × Bor (List ℕ) → List ℕ → List ℕ → Type 0
@@ -9,3 +12,7 @@ IsFileAt files place file name bytes = (slice_get files place ≡ Some file) × 
 -- one of the files has this name and these bytes
 abbrev pub HasFile : List (Bor (List ℕ) × Bor (List ℕ)) → List ℕ → List ℕ → Type 0
 HasFile files name bytes = (place : ℕ) × (file : Bor (List ℕ) × Bor (List ℕ)) × IsFileAt files place file name bytes
+
+-- what is known of a file that was written
+abbrev pub written_file : MemoryFile → WrittenFile
+written_file file = record { name = file.name.items; output = output_of file.sink }

@@ -15,6 +15,9 @@ use Rattle.td_cli.specs.declared.refusal.VectorWord.TheVariants as vector
 use Rattle.td_cli.specs.declared.refusal.Refusal.{Refusal}
 use Rattle.td_cli.specs.declared.refusal.Refusal.TheVariants as refusal
 use Rattle.td_domain.specs.declared.cubes.Trit.{Trit}
+use Rattle.td_checker.specs.declared.verdict.CheckFault.{CheckFault}
+use Rattle.td_checker.specs.declared.verdict.CheckFault.TheVariants as check
+use Rattle.td_checker.specs.Checks.{IsCheckFault}
 use Rattle.td_cli.specs.Vectors.{level_character, SpellsVector, AreTrits}
 
 -- the refusal tells this fault of a circuit
@@ -56,6 +59,7 @@ abbrev pub HasNoCircuit : List ℕ → Delay → Refusal → Type 0
 HasNoCircuit text default refusal.OutOfMemory = Unit {0}
 HasNoCircuit text default (refusal.Netlist fault) = (netlist : Netlist) → ¬ Means text default netlist
 HasNoCircuit text default (refusal.Loop name) = (netlist : Netlist) × Means text default netlist × LiesOnLoop netlist (name_of name)
+HasNoCircuit text default (refusal.Certificate fault) = ⊥
 HasNoCircuit text default (refusal.BadVector word) = ⊥
 
 -- what holds where this is why `sim` has no report: the text is judged first, then the first vector, then the second
@@ -63,6 +67,7 @@ abbrev pub HasNoReport : List ℕ → Delay → List ℕ → List ℕ → Refusa
 HasNoReport text default from to refusal.OutOfMemory = Unit {0}
 HasNoReport text default from to (refusal.Netlist fault) = (netlist : Netlist) → ¬ Means text default netlist
 HasNoReport text default from to (refusal.Loop name) = (netlist : Netlist) × Means text default netlist × LiesOnLoop netlist (name_of name)
+HasNoReport text default from to (refusal.Certificate fault) = ⊥
 HasNoReport text default from to (refusal.BadVector vector.From) = HasBadFrom text default from
 HasNoReport text default from to (refusal.BadVector vector.To) = HasBadTo text default from to
 HasNoReport text default from to (refusal.BadVector vector.First) = ⊥
@@ -93,7 +98,20 @@ abbrev pub HasNoBounds : List ℕ → Delay → Option (List ℕ) → Option (Li
 HasNoBounds text default first second refusal.OutOfMemory = Unit {0}
 HasNoBounds text default first second (refusal.Netlist fault) = (netlist : Netlist) → ¬ Means text default netlist
 HasNoBounds text default first second (refusal.Loop name) = (netlist : Netlist) × Means text default netlist × LiesOnLoop netlist (name_of name)
+HasNoBounds text default first second (refusal.Certificate fault) = ⊥
 HasNoBounds text default first second (refusal.BadVector vector.First) = HasBadFirst text default first
 HasNoBounds text default first second (refusal.BadVector vector.Second) = HasBadSecond text default first second
 HasNoBounds text default first second (refusal.BadVector vector.From) = ⊥
 HasNoBounds text default first second (refusal.BadVector vector.To) = ⊥
+
+-- the reason that tells a fault of the checker
+abbrev pub refusal_of : CheckFault → Refusal
+refusal_of check.OutOfMemory = refusal.OutOfMemory
+refusal_of (check.Netlist fault) = refusal.Netlist fault
+refusal_of (check.Loop name) = refusal.Loop name
+refusal_of (check.Certificate fault) = refusal.Certificate fault
+
+-- what holds where this is why two texts have no verdict: the netlist's is judged first, then the certificate's
+abbrev pub HasNoVerdict : List ℕ → Delay → List ℕ → Refusal → Type 0
+HasNoVerdict text default certificate_text reason =
+    (fault : CheckFault) × IsCheckFault text default certificate_text fault × (reason ≡ refusal_of fault)

@@ -5,10 +5,12 @@ use Rattle.td_netlist.specs.declared.fault.FaultKind.TheVariants as kind
 use Rattle.td_netlist.specs.declared.fault.Fault.{Fault}
 use Rattle.td_netlist.specs.Views.{name_of}
 use Rattle.td_netlist.specs.Printed.{printed}
+use Rattle.td_certificate.specs.declared.fault.CertFault.{CertFault}
+use Rattle.td_certificate.specs.Kinds.{kind_number, kind_name}
 use Rattle.td_cli.specs.declared.refusal.VectorWord.{VectorWord}
 use Rattle.td_cli.specs.declared.refusal.VectorWord.TheVariants as vector
 use Rattle.td_cli.specs.declared.refusal.Refusal.{Refusal}
-use Rattle.td_cli.specs.declared.refusal.Refusal.TheVariants.{OutOfMemory, Netlist, Loop, BadVector}
+use Rattle.td_cli.specs.declared.refusal.Refusal.TheVariants.{OutOfMemory, Netlist, Loop, Certificate, BadVector}
 use Rattle.td_cli.specs.Reports.{newline}
 
 abbrev pub vector_word : VectorWord → List ℕ
@@ -44,9 +46,15 @@ token_text other = []
 abbrev pub fault_text : Fault → List ℕ
 fault_text fault = number_and_name fault.kind ++ codes " at line " ++ decimal fault.line ++ token_text fault.kind
 
+-- the number, the name and the line of a fault of a certificate's text
+abbrev pub certificate_fault_text : CertFault → List ℕ
+certificate_fault_text fault =
+    decimal (kind_number fault.kind) ++ codes " " ++ kind_name fault.kind ++ codes " at line " ++ decimal fault.line
+
 -- the line that tells why a command wasn't carried out
 abbrev pub refusal_text : Refusal → List ℕ
 refusal_text OutOfMemory = codes "tdelay: out of memory" ++ newline
 refusal_text (Netlist fault) = codes "tdelay: netlist fault " ++ fault_text fault ++ newline
 refusal_text (Loop name) = codes "tdelay: circuit fault 1 Loop on " ++ printed (name_of name) ++ newline
+refusal_text (Certificate fault) = codes "tdelay: certificate fault " ++ certificate_fault_text fault ++ newline
 refusal_text (BadVector word) = codes "tdelay: bad vector " ++ vector_word word ++ newline

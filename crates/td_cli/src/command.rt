@@ -3,8 +3,8 @@
 ghost use Rattle.std.specs.Prelude.{◌≡◌, ◌<◌, ℕ, codes, map, false, true, IfOk, IfErr, IfSome, IfNone};
 ghost use Rattle.clap.specs.Words.{app_of, rule_of, found_of, kind_of, rows_of, subcommand_rows_of, takes};
 ghost use Rattle.clap.specs.declared.error.kind.ErrorKind.TheVariants as ErrorKind;
-ghost use Rattle.td_cli.specs.CommandLine.{needed, option, number_option, sim_command, bound_command, program, with_default};
-ghost use Rattle.td_cli.specs.CommandLine.{HasNumber, HasDefault, AsksSim, AsksBound, EnteredAsks, Asks, IsAnswered};
+ghost use Rattle.td_cli.specs.CommandLine.{needed, option, number_option, sim_command, bound_command, worst_command, check_command, program, with_default};
+ghost use Rattle.td_cli.specs.CommandLine.{HasNumber, HasDefault, HasBudget, AsksSim, AsksBound, AsksWorst, AsksCheck, EnteredAsks, Asks, IsAnswered};
 
 use clap::builder::ValueParser;
 use clap::{Arg, ArgMatches, Command, Error};
@@ -34,12 +34,40 @@ pub struct BoundRequest<'a> {
     pub fall: u32,
 }
 
+/// The search for the worst delay.
+#[derive(Clone, Copy, Debug)]
+pub struct WorstRequest<'a> {
+    pub file: &'a str,
+    /// The most nodes that the search handles, at most 10,000,000.
+    pub budget: u32,
+    /// Where the certificate of an exact answer goes.
+    pub certificate: Option<&'a str>,
+    /// The delays of gates that state none.
+    pub rise: u32,
+    pub fall: u32,
+}
+
+/// The verdict on a certificate.
+#[derive(Clone, Copy, Debug)]
+pub struct CheckRequest<'a> {
+    pub file: &'a str,
+    pub certificate: &'a str,
+    /// The delays of gates that state none.
+    pub rise: u32,
+    pub fall: u32,
+}
+
 /// What the words of a command line ask for.
 #[derive(Clone, Copy, Debug)]
 pub enum Request<'a> {
     Sim(SimRequest<'a>),
     Bound(BoundRequest<'a>),
+    Worst(WorstRequest<'a>),
+    Check(CheckRequest<'a>),
 }
+
+/// The most nodes that a search may handle.
+const MOST_NODES: u32 = 10_000_000;
 
 /// A word that has to be given.
 fn needed<'a>(alloc: Global, id: &'a str, help: &'a str) -> Arg<'a>
@@ -148,6 +176,55 @@ fn bound_command<'a>(alloc: Global) -> Result<Command<'a>, AllocError>
     with_default(alloc, command)
 }
 
+fn worst_command<'a>(alloc: Global) -> Result<Command<'a>, AllocError>
+    ensures { IfOk result (λ new. app_of new ≡ worst_command) }
+{
+    let workers = number_option(
+        alloc,
+        "workers",
+        1,
+        1,
+        "1",
+        "How many threads search; one for now",
+    );
+    let budget = number_option(
+        alloc,
+        "budget",
+        0,
+        MOST_NODES,
+        "1000000",
+        "The most nodes of the tree of cubes that are handled",
+    );
+    let certificate = option(
+        alloc,
+        "cert",
+        "OUT",
+        "Writes the certificate of an exact answer to this file",
+    );
+    let command = Command::new(alloc, "worst")
+        .about("Searches for the worst delay of all pairs of vectors, and a pair that has it")
+        .arg(file(alloc))?
+        .arg(workers)?
+        .arg(budget)?
+        .arg(certificate)?;
+    with_default(alloc, command)
+}
+
+fn check_command<'a>(alloc: Global) -> Result<Command<'a>, AllocError>
+    ensures { IfOk result (λ new. app_of new ≡ check_command) }
+{
+    let certificate = needed(
+        alloc,
+        "CERT",
+        "The certificate, a path, or `stdin` for standard input",
+    );
+    let command = Command::new(alloc, "check")
+        .about("Checks the certificate of a worst delay, and trusts nothing else")
+        .arg(file(alloc))?
+        .arg(certificate)?;
+    with_default(alloc, command)
+}
+
 fn command<'a>(alloc: Global) -> Result<Command<'a>, AllocError>
     ensures { IfOk result (λ new. app_of new ≡ program) }
 {
@@ -155,7 +232,9 @@ fn command<'a>(alloc: Global) -> Result<Command<'a>, AllocError>
         .about("Worst transition delay of a netlist of Verilog gate primitives")
         .subcommand_required(true)
         .subcommand(sim_command(alloc)?)?
-        .subcommand(bound_command(alloc)?)
+        .subcommand(bound_command(alloc)?)?
+        .subcommand(worst_command(alloc)?)?
+        .subcommand(check_command(alloc)?)
 }
 
 /// The number of an option.
@@ -205,6 +284,47 @@ fn bound_of<'a>(matches: &ArgMatches<'a>) -> Option<BoundRequest<'a>>
     })
 }
 
+/// The most nodes that a search may handle.
+fn budget(matches: &ArgMatches<'_>) -> Option<u32>
+    ensures { IsAnswered (HasBudget (rows_of (found_of matches.now))) result }
+{
+    let budget = number(matches, "budget")?;
+    if budget <= MOST_NODES {
+        Some(budget)
+    } else {
+        None
+    }
+}
+
+fn worst_of<'a>(matches: &ArgMatches<'a>) -> Option<WorstRequest<'a>>
+    ensures { IsAnswered (AsksWorst (rows_of (found_of matches.now))) result }
+{
+    let file = matches.get_str("FILE")?;
+    let budget = budget(matches)?;
+    let default = default(matches)?;
+    Some(WorstRequest {
+        file,
+        budget,
+        certificate: matches.get_str("cert"),
+        rise: default.rise,
+        fall: default.fall,
+    })
+}
+
+fn check_of<'a>(matches: &ArgMatches<'a>) -> Option<CheckRequest<'a>>
+    ensures { IsAnswered (AsksCheck (rows_of (found_of matches.now))) result }
+{
+    let file = matches.get_str("FILE")?;
+    let certificate = matches.get_str("CERT")?;
+    let default = default(matches)?;
+    Some(CheckRequest {
+        file,
+        certificate,
+        rise: default.rise,
+        fall: default.fall,
+    })
+}
+
 fn request_of<'a>(matches: &ArgMatches<'a>) -> Option<Request<'a>>
     ensures { IsAnswered (EnteredAsks (subcommand_rows_of matches.now)) result }
 {
@@ -212,6 +332,8 @@ fn request_of<'a>(matches: &ArgMatches<'a>) -> Option<Request<'a>>
     match name {
         "sim" => Some(Request::Sim(sim_of(matches)?)),
         "bound" => Some(Request::Bound(bound_of(matches)?)),
+        "worst" => Some(Request::Worst(worst_of(matches)?)),
+        "check" => Some(Request::Check(check_of(matches)?)),
         _ => None,
     }
 }

@@ -15,7 +15,8 @@ pub enum ReadFault {
 
 /// Files by name.
 pub trait Files {
-    ghost use Rattle.std.specs.Prelude.{◌≡◌, ℕ, List, IfOk};
+    ghost use Rattle.std.specs.Prelude.{◌≡◌, ℕ, List, Option, IfOk, OnOk};
+    ghost use Rattle.td_cli.specs.Written.{WrittenFile, KeepsFile, AreNone};
 
     /// A writer of one file.
     type Writer: Sink + Drop;
@@ -23,12 +24,22 @@ pub trait Files {
     /// The bytes that a read of a name may give.
     ghost holds: { Self → List ℕ → List ℕ → Type 0 };
 
+    /// The files that were written so far, in order, where that is known.
+    ghost kept: { Self → Option (List WrittenFile) };
+
     /// All bytes of a file. The name `stdin` is standard input.
     fn read(&mut self, alloc: Global, name: &str) -> Result<Vec<u8>, ReadFault>
-        ensures { IfOk result (λ bytes. holds self.old name.now bytes.items) };
+        ensures bytes { IfOk result (λ bytes. holds self.old name.now bytes.items) }
+        ensures stays { self.new ≡ self.old };
 
     /// A writer of a new file of this name.
-    fn create(&mut self, alloc: Global, name: &str) -> Result<Self::Writer, DeviceFault>;
+    fn create(&mut self, alloc: Global, name: &str) -> Result<Self::Writer, DeviceFault>
+        ensures empty { IfOk result (λ writer. AreNone (Self.Writer.output writer).sent) }
+        ensures stays { self.new ≡ self.old };
+
+    /// Ends the writing of a file: what its writer took is the file of this name.
+    fn close(&mut self, alloc: Global, name: &str, writer: Self::Writer) -> Result<(), DeviceFault>
+        ensures { OnOk result (KeepsFile (kept self.old) (kept self.new) name.now (Self.Writer.output writer)) };
 }
 
 /// The files of the system.
@@ -51,10 +62,12 @@ fn fault_of(error: io::Error) -> ReadFault {
 }
 
 impl<'r, R: rt::Files + Input + AllocGlobal> Files for RealFiles<'r, R> {
-    ghost use Rattle.std.specs.Prelude.{⊤};
+    ghost use Rattle.std.specs.Prelude.{⊤, None};
 
     /// Of the system's files nothing is known.
     ghost holds = { λ _ _ _. ⊤ };
+
+    ghost kept = { λ _. None };
 
     type Writer = WriterSink<R::File>;
 
@@ -79,5 +92,14 @@ impl<'r, R: rt::Files + Input + AllocGlobal> Files for RealFiles<'r, R> {
             Ok(file) => Ok(WriterSink::new(file)),
             Err(_) => Err(DeviceFault),
         }
+    }
+
+    fn close(
+        &mut self,
+        _alloc: Global,
+        _name: &str,
+        _writer: Self::Writer,
+    ) -> Result<(), DeviceFault> {
+        Ok(())
     }
 }

@@ -2,12 +2,14 @@
 #![tactic(auto)]
 
 mod bounding;
+mod checking;
 mod command;
 mod files;
 mod memory_files;
 mod program;
 mod refusal;
 mod report;
+mod searching;
 mod simulate;
 mod status;
 mod text;
@@ -15,11 +17,15 @@ mod vector;
 mod writer;
 
 pub use bounding::bounds;
-pub use command::{BoundRequest, Request, SimRequest, parse};
+pub use checking::{Checked, verdict_on};
+pub use command::{BoundRequest, CheckRequest, Request, SimRequest, WorstRequest, parse};
 pub use files::{Files, ReadFault, RealFiles};
-pub use memory_files::MemoryFiles;
-pub use program::{carry_out, carry_out_bound, carry_out_sim, run, run_plain};
+pub use memory_files::{MemoryFile, MemoryFiles};
+pub use program::{
+    carry_out, carry_out_bound, carry_out_check, carry_out_sim, carry_out_worst, run, run_plain,
+};
 pub use refusal::Refusal;
+pub use searching::{Found, worst};
 pub use simulate::sim;
 pub use status::Status;
 pub use text::Text;

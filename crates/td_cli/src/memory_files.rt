@@ -7,6 +7,29 @@ use crate::files::{Files, ReadFault};
 use std::alloc::{AllocError, Global};
 use td_gates::{DeviceFault, MemorySink};
 
+/// A file that was written.
+#[derive(Drop)]
+pub struct MemoryFile {
+    name: Vec<u8>,
+    sink: MemorySink,
+}
+
+impl MemoryFile {
+    /// The file's name.
+    pub fn name(&self) -> &[u8]
+        ensures { result.now ≡ self.now.name.items }
+    {
+        &self.name
+    }
+
+    /// The file's bytes.
+    pub fn bytes(&self) -> &[u8]
+        ensures { result.now ≡ self.now.sink.bytes.items }
+    {
+        self.sink.bytes()
+    }
+}
+
 /// Files in memory. Reading one fails after a stated number of bytes, and so does writing one.
 #[derive(Drop)]
 pub struct MemoryFiles<'a> {
@@ -15,25 +38,37 @@ pub struct MemoryFiles<'a> {
     readable: usize,
     /// How many bytes a writer takes before it fails.
     writable: usize,
+    written: Vec<MemoryFile>,
 }
 
 impl<'a> MemoryFiles<'a> {
     /// These files, whose readers and writers never fail.
-    pub fn new(files: &'a [(&'a str, &'a [u8])]) -> Self {
+    pub fn new(alloc: Global, files: &'a [(&'a str, &'a [u8])]) -> Self {
         MemoryFiles {
             files,
             readable: usize::MAX,
             writable: 1 << 20,
+            written: Vec::new(alloc),
         }
     }
 
     /// The same files, of which a reader fails after so many bytes.
-    pub fn reading(self, readable: usize) -> Self {
-        MemoryFiles {
-            files: self.files,
-            readable,
-            writable: self.writable,
-        }
+    pub fn reading(mut self, readable: usize) -> Self {
+        self.readable = readable;
+        self
+    }
+
+    /// The same files, of which a writer fails after so many bytes.
+    pub fn writing(mut self, writable: usize) -> Self {
+        self.writable = writable;
+        self
+    }
+
+    /// The files that were written, in order.
+    pub fn written(&self) -> &[MemoryFile]
+        ensures { result.now ≡ self.now.written.items }
+    {
+        &self.written
     }
 }
 
@@ -58,10 +93,13 @@ fn found<'a>(files: &[(&'a str, &'a [u8])], name: &str) -> Option<&'a [u8]>
 }
 
 impl<'a> Files for MemoryFiles<'a> {
-    ghost use Rattle.td_cli.specs.MemoryFiles.{HasFile};
+    ghost use Rattle.std.specs.Prelude.{Some, map};
+    ghost use Rattle.td_cli.specs.MemoryFiles.{HasFile, written_file};
 
     /// A file of this name has these bytes.
     ghost holds = { λ files name bytes. HasFile files.files.now name bytes };
+
+    ghost kept = { λ files. Some (map written_file files.written.items) };
 
     type Writer = MemorySink;
 
@@ -76,5 +114,15 @@ impl<'a> Files for MemoryFiles<'a> {
 
     fn create(&mut self, alloc: Global, _name: &str) -> Result<MemorySink, DeviceFault> {
         MemorySink::new(alloc, self.writable, usize::MAX).map_err(|_| DeviceFault)
+    }
+
+    fn close(&mut self, alloc: Global, name: &str, writer: MemorySink) -> Result<(), DeviceFault> {
+        let Ok(name) = copied(alloc, name.as_bytes()) else {
+            return Err(DeviceFault);
+        };
+        match self.written.push(MemoryFile { name, sink: writer }) {
+            Ok(()) => Ok(()),
+            Err(_) => Err(DeviceFault),
+        }
     }
 }

@@ -1,19 +1,24 @@
 //! The program.
 
-ghost use Rattle.std.specs.Prelude.{◌≡◌, ◌⊎◌, ◌++◌, map, option_map, OnOk, IfSome, IfNone};
+ghost use Rattle.std.specs.Prelude.{◌≡◌, ◌≤◌, ◌⊎◌, ◌++◌, map, option_map, OnOk, IfSome, IfNone};
 ghost use Rattle.clap.specs.Words.{kind_of};
 ghost use Rattle.clap.specs.declared.error.kind.ErrorKind.TheVariants as Kind;
 ghost use Rattle.td_gates.specs.Output.{Output};
 ghost use Rattle.td_cli.specs.Commands.{Tells, IsTold, SimEnds, BoundEnds, unread_text, IsNotRead, IsOutOfMemory};
 ghost use Rattle.td_gates.specs.Delays.{IsInRange};
 ghost use Rattle.td_cli.specs.CommandLine.{delays, IsCarriedOut};
-ghost use Rattle.td_cli.specs.Commands.{RequestEnds, TellsText, IsSilent, ProgramEnds};
+ghost use Rattle.td_cli.specs.Commands.{CheckEnds, WorstOf, EndsOnFile, unwritten_text, IsNotWritten, disk_of, RequestEnds, TellsText, IsSilent, ProgramEnds};
+ghost use Rattle.td_cli.specs.Written.{IsWritten};
+ghost use Rattle.td_cli.specs.declared.status.Status.TheVariants as Ended;
+ghost use Rattle.td_certificate.specs.Spelling.{HasSpelling};
 ghost use Rattle.td_cli.specs.declared.command.Request.TheVariants as Asked;
 
 use crate::bounding::bounds;
-use crate::command::{BoundRequest, Request, SimRequest, parse};
+use crate::checking::verdict_on;
+use crate::command::{BoundRequest, CheckRequest, Request, SimRequest, WorstRequest, parse};
 use crate::files::{Files, ReadFault};
 use crate::refusal::Refusal;
+use crate::searching::worst;
 use crate::simulate::sim;
 use crate::status::Status;
 use crate::text::Text;
@@ -21,6 +26,7 @@ use clap::Error;
 use clap::error::ErrorKind;
 use std::alloc::{AllocError, Global};
 use std::convert::AsStr;
+use td_certificate::{Certificate, WriteFault, write};
 use td_gates::{Delay, Sink};
 
 /// Carries out the command that the words ask for: what it answers goes to `out`, why it was refused to `err`. The first
@@ -32,7 +38,7 @@ pub fn run<S: AsStr, F: Files, O: Sink, E: Sink>(
     out: &mut O,
     err: &mut E,
 ) -> Status
-    ensures { ProgramEnds (F.holds files.old) (map S.text words.now) result
+    ensures { ProgramEnds (disk_of (F.holds files.old) (F.kept files.old) (F.kept files.new)) (map S.text words.now) result
         (O.output out.old) (O.output out.new) (E.output err.old) (E.output err.new) }
 {
     match run_plain(alloc, words, files, out, err) {
@@ -49,7 +55,7 @@ pub fn run_plain<S: AsStr, F: Files, O: Sink, E: Sink>(
     out: &mut O,
     err: &mut E,
 ) -> Option<Status>
-    ensures some { IfSome result (λ status. ProgramEnds (F.holds files.old) (map S.text words.now) status
+    ensures some { IfSome result (λ status. ProgramEnds (disk_of (F.holds files.old) (F.kept files.old) (F.kept files.new)) (map S.text words.now) status
         (O.output out.old) (O.output out.new) (E.output err.old) (E.output err.new)) }
     ensures none { IfNone result (IsSilent (map S.text words.now)
         (O.output out.old) (O.output out.new) (E.output err.old) (E.output err.new)) }
@@ -70,12 +76,14 @@ pub fn carry_out<F: Files, O: Sink, E: Sink>(
     err: &mut E,
 ) -> Status
     requires { IsCarriedOut request.now }
-    ensures { RequestEnds (F.holds files.old) request.now result
+    ensures { RequestEnds (disk_of (F.holds files.old) (F.kept files.old) (F.kept files.new)) request.now result
         (O.output out.old) (O.output out.new) (E.output err.old) (E.output err.new) }
 {
     match request {
         Request::Sim(request) => run_sim(alloc, files, *request, out, err),
         Request::Bound(request) => run_bound(alloc, files, *request, out, err),
+        Request::Worst(request) => run_worst(alloc, files, *request, out, err),
+        Request::Check(request) => run_check(alloc, files, *request, out, err),
     }
 }
 
@@ -88,7 +96,7 @@ fn run_sim<F: Files, O: Sink, E: Sink>(
     err: &mut E,
 ) -> Status
     requires { IsInRange (delays request.rise request.fall) }
-    ensures { RequestEnds (F.holds files.old) (Asked.Sim request.entry) result
+    ensures { RequestEnds (disk_of (F.holds files.old) (F.kept files.old) (F.kept files.new)) (Asked.Sim request.entry) result
         (O.output out.old) (O.output out.new) (E.output err.old) (E.output err.new) }
 {
     let Some(default) = Delay::new(request.rise, request.fall) else {
@@ -109,7 +117,7 @@ fn run_bound<F: Files, O: Sink, E: Sink>(
     err: &mut E,
 ) -> Status
     requires { IsInRange (delays request.rise request.fall) }
-    ensures { RequestEnds (F.holds files.old) (Asked.Bound request.entry) result
+    ensures { RequestEnds (disk_of (F.holds files.old) (F.kept files.old) (F.kept files.new)) (Asked.Bound request.entry) result
         (O.output out.old) (O.output out.new) (E.output err.old) (E.output err.new) }
 {
     let Some(default) = Delay::new(request.rise, request.fall) else {
@@ -126,6 +134,82 @@ fn run_bound<F: Files, O: Sink, E: Sink>(
             err,
         ),
         Err(fault) => tell_unread(alloc, err, request.file, fault),
+    }
+}
+
+/// The command `worst`.
+fn run_worst<F: Files, O: Sink, E: Sink>(
+    alloc: Global,
+    files: &mut F,
+    request: WorstRequest<'_>,
+    out: &mut O,
+    err: &mut E,
+) -> Status
+    requires range { IsInRange (delays request.rise request.fall) }
+    requires budget { request.budget ≤ 10000000 }
+    ensures { RequestEnds (disk_of (F.holds files.old) (F.kept files.old) (F.kept files.new)) (Asked.Worst request.entry) result
+        (O.output out.old) (O.output out.new) (E.output err.old) (E.output err.new) }
+{
+    let Some(default) = Delay::new(request.rise, request.fall) else {
+        return Status::BadCommand;
+    };
+    match files.read(alloc, request.file) {
+        Ok(text) => {
+            let budget = u64::from(request.budget);
+            carry_out_worst(
+                alloc,
+                files,
+                &text,
+                default,
+                budget,
+                request.certificate,
+                out,
+                err,
+            )
+        }
+        Err(fault) => tell_unread(alloc, err, request.file, fault),
+    }
+}
+
+/// The command `check`.
+fn run_check<F: Files, O: Sink, E: Sink>(
+    alloc: Global,
+    files: &mut F,
+    request: CheckRequest<'_>,
+    out: &mut O,
+    err: &mut E,
+) -> Status
+    requires { IsInRange (delays request.rise request.fall) }
+    ensures { RequestEnds (disk_of (F.holds files.old) (F.kept files.old) (F.kept files.new)) (Asked.Check request.entry) result
+        (O.output out.old) (O.output out.new) (E.output err.old) (E.output err.new) }
+{
+    let Some(default) = Delay::new(request.rise, request.fall) else {
+        return Status::BadCommand;
+    };
+    match files.read(alloc, request.file) {
+        Ok(text) => check_file(alloc, files, &text, default, request.certificate, out, err),
+        Err(fault) => tell_unread(alloc, err, request.file, fault),
+    }
+}
+
+/// The command `check`, once the netlist's bytes were read.
+fn check_file<F: Files, O: Sink, E: Sink>(
+    alloc: Global,
+    files: &mut F,
+    text: &[u8],
+    default: Delay,
+    name: &str,
+    out: &mut O,
+    err: &mut E,
+) -> Status
+    ensures { EndsOnFile (F.holds files.old) name.now
+        (λ certificate. CheckEnds result text.now default certificate
+            (O.output out.old) (O.output out.new) (E.output err.old) (E.output err.new)) result
+        (O.output out.old) (O.output out.new) (E.output err.old) (E.output err.new) }
+{
+    match files.read(alloc, name) {
+        Ok(certificate) => carry_out_check(alloc, text, default, &certificate, out, err),
+        Err(fault) => tell_unread(alloc, err, name, fault),
     }
 }
 
@@ -149,7 +233,7 @@ fn unread_line(text: &mut Text, file: &str) -> Result<(), AllocError>
     ensures { OnOk result (text.new ≡ text.old ++ unread_text file.now) }
 {
     text.push(b"tdelay: cannot read ")?;
-    text.push(file.as_bytes())?;
+    text.word(file)?;
     text.push(b"\n")
 }
 
@@ -195,6 +279,104 @@ pub fn carry_out_bound<O: Sink, E: Sink>(
         },
         Err(refusal) => tell_refusal(alloc, err, &refusal),
     }
+}
+
+/// Carries out `check` on bytes that were read: the report goes to `out`, why there is none to `err`.
+pub fn carry_out_check<O: Sink, E: Sink>(
+    alloc: Global,
+    text: &[u8],
+    default: Delay,
+    certificate: &[u8],
+    out: &mut O,
+    err: &mut E,
+) -> Status
+    ensures { CheckEnds result text.now default certificate.now
+        (O.output out.old) (O.output out.new) (E.output err.old) (E.output err.new) }
+{
+    match verdict_on(alloc, text, default, certificate) {
+        Ok(checked) => match out.write_all(checked.report.bytes()) {
+            Ok(()) => checked.ending,
+            Err(_) => tell(err, b"tdelay: cannot write stdout\n", Status::Device),
+        },
+        Err(refusal) => tell_refusal(alloc, err, &refusal),
+    }
+}
+
+/// Carries out `worst` on bytes that were read, with a budget of at most 10,000,000 nodes: the report goes to `out`, and
+/// then the certificate of an exact answer to the file of this name; why there is none goes to `err`.
+pub fn carry_out_worst<F: Files, O: Sink, E: Sink>(
+    alloc: Global,
+    files: &mut F,
+    text: &[u8],
+    default: Delay,
+    budget: u64,
+    name: Option<&str>,
+    out: &mut O,
+    err: &mut E,
+) -> Status
+    requires { budget ≤ 10000000 }
+    ensures { WorstOf (disk_of (F.holds files.old) (F.kept files.old) (F.kept files.new)) text.now default budget
+        (option_map (λ word. word.now) name.entry) result
+        (O.output out.old) (O.output out.new) (E.output err.old) (E.output err.new) }
+{
+    let found = match worst(alloc, text, default, budget) {
+        Ok(found) => found,
+        Err(refusal) => return tell_refusal(alloc, err, &refusal),
+    };
+    let Ok(()) = out.write_all(found.report.bytes()) else {
+        return tell(err, b"tdelay: cannot write stdout\n", Status::Device);
+    };
+    let Some(certificate) = &found.certificate else {
+        return Status::Between;
+    };
+    let Some(name) = name else {
+        return Status::Done;
+    };
+    match keep(alloc, files, name, certificate) {
+        Ok(()) => Status::Done,
+        Err(fault) => tell_unwritten(alloc, err, name, fault),
+    }
+}
+
+/// Writes a certificate to a new file.
+fn keep<F: Files>(
+    alloc: Global,
+    files: &mut F,
+    name: &str,
+    certificate: &Certificate,
+) -> Result<(), WriteFault>
+    requires { HasSpelling certificate.now }
+    ensures { OnOk result (IsWritten (F.kept files.old) (F.kept files.new) name.now certificate.now) }
+{
+    let mut writer = files.create(alloc, name)?;
+    write(alloc, &mut writer, certificate)?;
+    files.close(alloc, name, writer)?;
+    Ok(())
+}
+
+/// Tells that a file can't be written, or want of memory.
+fn tell_unwritten<E: Sink>(alloc: Global, err: &mut E, file: &str, fault: WriteFault) -> Status
+    ensures ends { result ≡ Ended.Device }
+    ensures told { IsNotWritten file.now (E.output err.old) (E.output err.new) }
+{
+    let mut text = Text::new(alloc);
+    let told = match fault {
+        WriteFault::OutOfMemory => Err(AllocError),
+        WriteFault::Device => unwritten_line(&mut text, file),
+    };
+    match told {
+        Ok(()) => tell(err, text.bytes(), Status::Device),
+        Err(_) => tell(err, b"tdelay: out of memory\n", Status::Device),
+    }
+}
+
+/// Appends the line that tells a file that can't be written.
+fn unwritten_line(text: &mut Text, file: &str) -> Result<(), AllocError>
+    ensures { OnOk result (text.new ≡ text.old ++ unwritten_text file.now) }
+{
+    text.push(b"tdelay: cannot write ")?;
+    text.word(file)?;
+    text.push(b"\n")
 }
 
 /// Tells a line on standard error, where a failure is ignored.

@@ -1,14 +1,14 @@
 //! Why a command was not carried out, and how that is told.
 
 ghost use Rattle.std.specs.Prelude.{◌≡◌, ◌++◌, OnOk};
-ghost use Rattle.td_cli.specs.Refusals.{vector_word, number_and_name, fault_text, refusal_text};
+ghost use Rattle.td_cli.specs.Refusals.{vector_word, number_and_name, fault_text, certificate_fault_text, refusal_text};
 ghost use Rattle.td_netlist.specs.Views.{name_of};
 ghost use Rattle.td_cli.specs.Commands.{status_of};
 
 use crate::status::Status;
 use crate::text::Text;
 use std::alloc::{AllocError, AllocFailed};
-use td_circuit::BuildFault;
+use td_certificate::CertFault;
 use td_netlist::{Fault, FaultKind};
 
 /// A word of the command line that gives a vector.
@@ -28,6 +28,8 @@ pub enum Refusal<'a> {
     Netlist(Fault<'a>),
     /// The netlist has a loop, on which this net lies.
     Loop(td_netlist::Name),
+    /// The certificate's text was refused.
+    Certificate(CertFault),
     /// This word is no vector of the circuit's inputs.
     BadVector(VectorWord),
 }
@@ -52,6 +54,7 @@ impl<'a> Refusal<'a> {
             Refusal::OutOfMemory => Status::Device,
             Refusal::Netlist(_) => Status::Refused,
             Refusal::Loop(_) => Status::Refused,
+            Refusal::Certificate(_) => Status::Refused,
             Refusal::BadVector(_) => Status::BadCommand,
         }
     }
@@ -69,6 +72,10 @@ impl<'a> Refusal<'a> {
             Refusal::Loop(name) => {
                 text.push(b"tdelay: circuit fault 1 Loop on ")?;
                 text.name(name)?;
+            }
+            Refusal::Certificate(fault) => {
+                text.push(b"tdelay: certificate fault ")?;
+                tell_certificate_fault(text, *fault)?;
             }
             Refusal::BadVector(word) => {
                 text.push(b"tdelay: bad vector ")?;
@@ -131,4 +138,15 @@ fn tell_fault(text: &mut Text, fault: Fault<'_>) -> Result<(), AllocError>
         }
         _ => Ok(()),
     }
+}
+
+/// Appends the number, name and line of a fault of a certificate's text.
+fn tell_certificate_fault(text: &mut Text, fault: CertFault) -> Result<(), AllocError>
+    ensures { OnOk result (text.new ≡ text.old ++ certificate_fault_text fault) }
+{
+    text.number(u64::from(fault.kind.number()))?;
+    text.push(b" ")?;
+    text.word(fault.kind.name())?;
+    text.push(b" at line ")?;
+    text.number(u64::from(fault.line))
 }

@@ -12,6 +12,10 @@ pub enum Status {
     Refused,
     /// The command line or a vector was wrong.
     BadCommand,
+    /// The search for the worst delay was cut short.
+    Between,
+    /// The checker refused a certificate.
+    Rejected,
     /// A device failed, or memory ran out.
     Device,
 }
@@ -25,6 +29,8 @@ impl Status {
             Status::Done => 0,
             Status::Refused => 1,
             Status::BadCommand => 2,
+            Status::Between => 3,
+            Status::Rejected => 4,
             Status::Device => 5,
         }
     }

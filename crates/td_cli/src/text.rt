@@ -49,6 +49,13 @@ impl Text {
         Ok(())
     }
 
+    /// Appends a word.
+    pub fn word(&mut self, word: &str) -> Result<(), AllocError>
+        ensures { OnOk result (self.new ≡ self.old ++ word.now) }
+    {
+        self.push(word.as_bytes())
+    }
+
     /// Appends a number in decimal digits.
     pub fn number(&mut self, number: u64) -> Result<(), AllocError>
         ensures { OnOk result (self.new ≡ self.old ++ decimal number) }

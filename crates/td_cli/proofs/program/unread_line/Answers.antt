@@ -1,11 +1,11 @@
-use Rattle.std.proofs.Common.{rules, ◌≡◌, ◌∙◌, ◌++◌, ap, codes}
+use Rattle.std.proofs.Common.{rules, codes}
 use Rattle.std.proofs.lemmas.Result.{IfOk-weaker}
 use Rattle.td_cli.specs.Reports.{newline}
 use Rattle.td_cli.proofs.Outputs.{three_pushed}
 use Rattle.td_cli.proofs.program.unread_line.Goals as goal
 
 pub returns : goal.returns
-returns c = IfOk-weaker c.push-3.result _ _
+returns c = IfOk-weaker c.push-2.result _ _
     (λ done third. three_pushed c.args.text.now (codes "tdelay: cannot read ") c.args.file.now newline _ _ _
-        c.in_ok-push.ensures (c.in_ok-push-2.ensures ∙ ap (λ name. c.push.new.self ++ name) c.as_bytes.ensures.value) third)
-    c.push-3.ensures
+        c.in_ok-push.ensures c.in_ok-word.ensures third)
+    c.push-2.ensures

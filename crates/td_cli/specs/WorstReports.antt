@@ -1,0 +1,64 @@
+-- What `worst` prints.
+use Rattle.std.specs.Prelude.{◌≡◌, ℕ, List, ◌++◌, codes, decimal, length, Bool, Option, Some, None}
+use Rattle.td_gates.specs.declared.timing.Delay.{Delay}
+use Rattle.td_netlist.specs.Netlist.{Netlist}
+use Rattle.td_netlist.specs.Means.{Means}
+use Rattle.td_circuit.specs.Loops.{Loop}
+use Rattle.td_domain.specs.Pairs.{Pair}
+use Rattle.td_certificate.specs.declared.certificate.Certificate.{Certificate}
+use Rattle.td_certificate.specs.Text.{bits}
+use Rattle.td_search.specs.declared.answers.Cause.{Cause}
+use Rattle.td_search.specs.declared.answers.Cause.TheVariants as cause
+use Rattle.td_search.specs.declared.answers.Answer.{Answer}
+use Rattle.td_search.specs.declared.answers.Answer.TheVariants as answer
+use Rattle.td_search.specs.Answers.{IsAnswer, certificate_of}
+use Rattle.td_cli.specs.Reports.{newline, head_lines}
+
+abbrev pub exact_line : ℕ → List ℕ
+exact_line time = codes "exact " ++ decimal time ++ newline
+
+abbrev pub between_line : ℕ → ℕ → List ℕ
+between_line low high = codes "between " ++ decimal low ++ codes " " ++ decimal high ++ newline
+
+abbrev pub cause_name : Cause → List ℕ
+cause_name cause.Budget = codes "budget"
+cause_name cause.Memory = codes "memory"
+
+abbrev pub cause_line : Cause → List ℕ
+cause_line why = codes "cause " ++ cause_name why ++ newline
+
+-- the two vectors of a pair, a character for each bit or `none`
+abbrev pub from_line : List Bool → List ℕ
+from_line vector = codes "from " ++ bits vector ++ newline
+
+abbrev pub to_line : List Bool → List ℕ
+to_line vector = codes "to " ++ bits vector ++ newline
+
+abbrev pub nodes_line : ℕ → List ℕ
+nodes_line count = codes "nodes " ++ decimal count ++ newline
+
+abbrev pub pair_lines : Pair → ℕ → List ℕ
+pair_lines pair nodes = from_line pair.first ++ to_line pair.second ++ nodes_line nodes
+
+abbrev pub answer_lines : Answer → List ℕ
+answer_lines (answer.Exact time pair tree) = exact_line time ++ pair_lines pair (length tree)
+answer_lines (answer.Between low high pair nodes why) = between_line low high ++ cause_line why ++ pair_lines pair nodes
+
+-- the head, and the answer
+abbrev pub worst_text : Netlist → Answer → List ℕ
+worst_text netlist found = head_lines netlist ++ answer_lines found
+
+-- the certificate of an exact answer
+abbrev pub certificate_in : Netlist → Answer → Option Certificate
+certificate_in netlist (answer.Exact time pair tree) = Some (certificate_of netlist time pair tree)
+certificate_in netlist (answer.Between low high pair nodes why) = None
+
+-- The text means a netlist without a loop, and the report and the certificate are those of an answer of its search.
+pub record IsWorstReport (text : List ℕ) (default : Delay) (budget : ℕ) (report : List ℕ) (certificate : Option Certificate) : Type 0 where
+  pub netlist : Netlist
+  pub means : Means text default netlist
+  pub acyclic : ¬ Loop netlist
+  pub found : Answer
+  pub is_answer : IsAnswer netlist budget found
+  pub is : report ≡ worst_text netlist found
+  pub certified : certificate ≡ certificate_in netlist found

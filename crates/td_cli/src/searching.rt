@@ -1,0 +1,149 @@
+//! The command `worst`: the search for the worst delay.
+
+ghost use Rattle.std.specs.Prelude.{◌≡◌, ◌≤◌, ◌++◌, IfOk, IfErr, IfSome, OnOk};
+ghost use Rattle.td_certificate.specs.Spelling.{HasSpelling};
+ghost use Rattle.td_certificate.specs.Text.{bits};
+ghost use Rattle.td_cli.specs.WorstReports.{exact_line, between_line, cause_name, cause_line, from_line, to_line, nodes_line, pair_lines};
+ghost use Rattle.td_cli.specs.WorstReports.{answer_lines, worst_text, certificate_in, IsWorstReport};
+ghost use Rattle.td_cli.specs.Outcomes.{HasNoCircuit};
+
+use crate::refusal::Refusal;
+use crate::report;
+use crate::simulate::circuit;
+use crate::text::Text;
+use std::alloc::{AllocError, Global};
+use td_certificate::Certificate;
+use td_circuit::Circuit;
+use td_domain::Pair;
+use td_gates::Delay;
+use td_search::{Answer, Cause, alone, certificate_of};
+
+/// The report of a search, and the certificate of an exact answer.
+#[derive(Drop)]
+pub struct Found {
+    pub report: Text,
+    pub certificate: Option<Certificate>,
+}
+
+/// The report of the search for the worst delay, which handles at most so many nodes. The budget is at most 10,000,000.
+pub fn worst<'a>(
+    alloc: Global,
+    text: &'a [u8],
+    default: Delay,
+    budget: u64,
+) -> Result<Found, Refusal<'a>>
+    requires { budget ≤ 10000000 }
+    // The report and the certificate are those of an answer of the search.
+    ensures report { IfOk result (λ found.
+        IsWorstReport text.now default budget found.report found.certificate) }
+    ensures refusal { IfErr result (λ refusal. HasNoCircuit text.now default refusal) }
+    // A certificate has a text.
+    ensures spelled { IfOk result (λ found. IfSome found.certificate HasSpelling) }
+{
+    let circuit = circuit(alloc, text, default)?;
+    let answer = alone(alloc, &circuit, budget)?;
+    let report = report_of(alloc, &circuit, &answer)?;
+    let certificate = certificate(&circuit, answer);
+    Ok(Found {
+        report,
+        certificate,
+    })
+}
+
+/// The certificate of an exact answer.
+fn certificate(circuit: &Circuit, answer: Answer) -> Option<Certificate>
+    ensures { result ≡ certificate_in circuit.now.netlist answer }
+{
+    match answer {
+        Answer::Exact { time, pair, tree } => Some(certificate_of(circuit, time, pair, tree)),
+        Answer::Between { .. } => None,
+    }
+}
+
+/// The report of an answer.
+fn report_of(alloc: Global, circuit: &Circuit, answer: &Answer) -> Result<Text, AllocError>
+    ensures { IfOk result (λ text. text ≡ worst_text circuit.now.netlist answer.now) }
+{
+    let mut text = Text::new(alloc);
+    report::unit(&mut text, circuit.unit())?;
+    report::defaulted(&mut text, circuit.defaulted())?;
+    answer_of(&mut text, answer)?;
+    Ok(text)
+}
+
+fn answer_of(text: &mut Text, answer: &Answer) -> Result<(), AllocError>
+    ensures { OnOk result (text.new ≡ text.old ++ answer_lines answer.now) }
+{
+    match answer {
+        Answer::Exact { time, pair, tree } => {
+            exact(text, *time)?;
+            pair_of(text, pair, tree.nodes().len() as u64)
+        }
+        Answer::Between {
+            low,
+            high,
+            pair,
+            nodes,
+            cause,
+        } => {
+            between(text, *low, *high)?;
+            cause_of(text, *cause)?;
+            pair_of(text, pair, *nodes)
+        }
+    }
+}
+
+fn exact(text: &mut Text, time: u64) -> Result<(), AllocError>
+    ensures { OnOk result (text.new ≡ text.old ++ exact_line time) }
+{
+    text.push(b"exact ")?;
+    text.number(time)?;
+    text.push(b"\n")
+}
+
+fn between(text: &mut Text, low: u64, high: u64) -> Result<(), AllocError>
+    ensures { OnOk result (text.new ≡ text.old ++ between_line low high) }
+{
+    text.push(b"between ")?;
+    text.number(low)?;
+    text.push(b" ")?;
+    text.number(high)?;
+    text.push(b"\n")
+}
+
+fn cause_of(text: &mut Text, cause: Cause) -> Result<(), AllocError>
+    ensures { OnOk result (text.new ≡ text.old ++ cause_line cause) }
+{
+    text.push(b"cause ")?;
+    match cause {
+        Cause::Budget => text.push(b"budget")?,
+        Cause::Memory => text.push(b"memory")?,
+    }
+    text.push(b"\n")
+}
+
+/// The lines of a pair, and of a number of nodes.
+fn pair_of(text: &mut Text, pair: &Pair, nodes: u64) -> Result<(), AllocError>
+    ensures { OnOk result (text.new ≡ text.old ++ pair_lines pair.now nodes) }
+{
+    text.push(b"from ")?;
+    vector(text, pair.first())?;
+    text.push(b"\nto ")?;
+    vector(text, pair.second())?;
+    text.push(b"\nnodes ")?;
+    text.number(nodes)?;
+    text.push(b"\n")
+}
+
+/// A character for each bit of a vector, or `none`.
+fn vector(text: &mut Text, vector: &[bool]) -> Result<(), AllocError>
+    ensures { OnOk result (text.new ≡ text.old ++ bits vector.now) }
+{
+    if vector.is_empty() {
+        return text.push(b"none");
+    }
+    for bit in vector {
+        text.push(if *bit { b"1" } else { b"0" })?;
+    }
+    Ok(())
+}
