@@ -16,3 +16,5 @@ pub mod DrivenNets
 pub mod Consistent
 pub mod Formed
 pub mod Readings
+pub mod Bits
+pub mod KnownNames

@@ -2,23 +2,23 @@
 
 ghost use Rattle.std.specs.Prelude.{◌≡◌, ◌≤◌, ◌++◌, map, IfOk, OnOk};
 ghost use Rattle.std.specs.List.{flat_map, AllByRecursion};
-ghost use Rattle.td_syntax.specs.Grammar as grammar;
-ghost use Rattle.td_syntax.specs.Grammar.{IsSteps, IsDelay};
-ghost use Rattle.td_syntax.specs.Views.{name_view, names_view, option_delay_view};
-ghost use Rattle.td_netlist.specs.Netlist.{Named};
-ghost use Rattle.td_netlist.specs.Module.{scalar, delay_of, gate_by, primitive_gates};
+ghost use Rattle.td_syntax.specs.Grammar.{IsSteps, IsDelay, steps_of};
+ghost use Rattle.td_syntax.specs.Views.{numeral_view, option_delay_view};
+ghost use Rattle.td_netlist.specs.Module.{delay_of};
 ghost use Rattle.td_netlist.specs.Views.{name_of, net_of, gate_of};
-ghost use Rattle.td_netlist.specs.NameViews.{name_ref_of};
+ghost use Rattle.td_netlist.specs.NameViews.{name_ref_of, net_ref_of};
 ghost use Rattle.td_netlist.specs.CheckViews.{primitive_of};
 
-use crate::declarations::scalar;
+use crate::drivers::resolve;
+use crate::fault::Fault;
+use crate::known::Known;
 use crate::name::{Name, Net};
-use crate::name_ref::NameRef;
+use crate::name_ref::{NameRef, NetRef};
 use crate::netlist::Gate;
 use crate::primitive::Primitive;
 use std::alloc::{AllocError, Global};
 use td_gates::Delay;
-use td_syntax::{Delay as Stated, Name as Placed, value_of};
+use td_syntax::{Delay as Stated, Number, Terminal, steps_of};
 
 /// A name of its own, with the bytes of the borrowed one.
 pub fn owned(alloc: Global, name: NameRef<'_>) -> Result<Name, AllocError>
@@ -30,90 +30,104 @@ pub fn owned(alloc: Global, name: NameRef<'_>) -> Result<Name, AllocError>
     })
 }
 
-fn steps(digits: &[u8]) -> u32
-    requires { IsSteps digits.now }
-    ensures value { result ≡ grammar.value_of digits.now }
+/// A number of steps, where a unit has 10 to the power of `tens` steps.
+fn steps(tens: u8, number: Number<'_>) -> u32
+    requires { IsSteps tens (numeral_view number) }
+    ensures value { result ≡ steps_of tens (numeral_view number.entry) }
     ensures least { 1 ≤ result }
     ensures greatest { result ≤ 1000000000 }
 {
-    value_of(digits)
+    steps_of(tens, number).unwrap_or(1)
 }
 
 /// The delay that is stated, or the default.
-fn delay(default: Delay, stated: Option<Stated<'_>>) -> Delay
-    requires { IsDelay (option_delay_view stated) }
-    ensures { result ≡ delay_of default (option_delay_view stated.entry) }
+fn delay(tens: u8, default: Delay, stated: Option<Stated<'_>>) -> Delay
+    requires { IsDelay tens (option_delay_view stated) }
+    ensures { result ≡ delay_of tens default (option_delay_view stated.entry) }
 {
     match stated {
         None => default,
-        Some(Stated::Plain(digits)) | Some(Stated::Single(digits)) => {
-            let steps = steps(digits);
+        Some(Stated::Plain(number)) | Some(Stated::Single(number)) => {
+            let steps = steps(tens, number);
             Delay {
                 rise: steps,
                 fall: steps,
             }
         }
         Some(Stated::Pair(rise, fall)) => Delay {
-            rise: steps(rise),
-            fall: steps(fall),
+            rise: steps(tens, rise),
+            fall: steps(tens, fall),
         },
     }
 }
 
-fn nets(alloc: Global, terminals: &[Placed<'_>]) -> Result<Vec<Net>, AllocError>
-    ensures { IfOk result (λ nets. map net_of nets.items ≡ map (λ n. Named (scalar n)) (names_view terminals.now)) }
+fn owned_net(alloc: Global, net: NetRef<'_>) -> Result<Net, AllocError>
+    ensures { IfOk result (λ owned. net_of owned ≡ net_ref_of net.entry) }
 {
+    match net {
+        NetRef::Low => Ok(Net::Low),
+        NetRef::High => Ok(Net::High),
+        NetRef::Named(name) => Ok(Net::Named(owned(alloc, name)?)),
+    }
+}
+
+/// What the gates of a module have in common: the names, the tens of a step in a unit, the default delay.
+#[derive(Clone, Copy)]
+pub struct Making<'m, 'a> {
+    pub names: &'m Known<'a>,
+    pub tens: u8,
+    pub default: Delay,
+}
+
+fn nets<'a>(
+    alloc: Global,
+    making: Making<'_, 'a>,
+    terminals: &[Terminal<'a>],
+) -> Result<Vec<Net>, Fault<'a>> {
     let mut nets = Vec::new(alloc);
     for terminal in terminals {
-        nets.push(Net::Named(owned(alloc, scalar(*terminal))?))?;
+        nets.push(owned_net(alloc, resolve(making.names, *terminal)?)?)?;
     }
     Ok(nets)
 }
 
-fn gate(
+fn gate<'a>(
     alloc: Global,
-    default: Delay,
-    primitive: Primitive<'_, '_>,
-    output: Placed<'_>,
-) -> Result<Gate, AllocError>
-    requires { IsDelay (option_delay_view primitive.delay) }
-    ensures { IfOk result (λ gate. gate_of gate ≡ gate_by default (primitive_of primitive.entry) (name_view output.entry)) }
-{
+    making: Making<'_, 'a>,
+    primitive: Primitive<'_, 'a>,
+    output: NameRef<'a>,
+) -> Result<Gate, Fault<'a>> {
     Ok(Gate {
         kind: primitive.kind,
-        delay: delay(default, primitive.delay),
-        output: owned(alloc, scalar(output))?,
-        inputs: nets(alloc, primitive.inputs())?,
+        delay: delay(making.tens, making.default, primitive.delay),
+        output: owned(alloc, output)?,
+        inputs: nets(alloc, making, primitive.inputs())?,
     })
 }
 
-fn add_gates(
+fn add_gates<'a>(
     alloc: Global,
-    default: Delay,
-    primitive: Primitive<'_, '_>,
+    making: Making<'_, 'a>,
+    primitive: Primitive<'_, 'a>,
     gates: &mut Vec<Gate>,
-) -> Result<(), AllocError>
-    requires { IsDelay (option_delay_view primitive.delay) }
-    ensures { OnOk result (map gate_of gates.new.items ≡ map gate_of gates.old.items ++ primitive_gates default (primitive_of primitive.entry)) }
-{
-    for output in primitive.outputs() {
-        gates.push(gate(alloc, default, primitive, *output)?)?;
+) -> Result<(), Fault<'a>> {
+    for terminal in primitive.outputs() {
+        if let NetRef::Named(output) = resolve(making.names, *terminal)? {
+            gates.push(gate(alloc, making, primitive, output)?)?;
+        }
     }
     Ok(())
 }
 
 /// The gates of the instances, in their order.
-pub fn gates(
+pub fn gates<'a>(
     alloc: Global,
-    default: Delay,
-    primitives: &[Primitive<'_, '_>],
-) -> Result<Vec<Gate>, AllocError>
-    requires { AllByRecursion (λ p. IsDelay (option_delay_view p.delay)) primitives.now }
-    ensures { IfOk result (λ gates. map gate_of gates.items ≡ flat_map (primitive_gates default) (map primitive_of primitives.now)) }
-{
+    making: Making<'_, 'a>,
+    primitives: &[Primitive<'_, 'a>],
+) -> Result<Vec<Gate>, Fault<'a>> {
     let mut gates = Vec::new(alloc);
     for primitive in primitives {
-        add_gates(alloc, default, *primitive, &mut gates)?;
+        add_gates(alloc, making, *primitive, &mut gates)?;
     }
     Ok(gates)
 }
