@@ -9,6 +9,8 @@ pub mod Terminals
 pub mod Keeps
 pub mod Counts
 pub mod Steps
+pub mod Finding
+pub mod Knowing
 pub mod Declaring
 pub mod DeclaredNames
 pub mod PortSides

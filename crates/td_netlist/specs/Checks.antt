@@ -5,16 +5,17 @@ use Rattle.std.specs.Str.{bytes_eq}
 use Rattle.td_syntax.specs.declared.syntax.Role.{Role}
 use Rattle.td_syntax.specs.declared.syntax.Role.TheVariants as role
 use Rattle.td_syntax.specs.Grammar as grammar
-use Rattle.td_syntax.specs.Grammar.{value_of}
+use Rattle.td_syntax.specs.Grammar.{value_of, IsMaybeRange}
 use Rattle.td_netlist.specs.declared.fault.FaultKind.{FaultKind}
 use Rattle.td_netlist.specs.declared.fault.FaultKind.TheVariants.{Redeclared, PortUndeclared, UnknownBit, WidthNotOne, DrivenInput, TwoDrivers, Undriven, TooMany}
 use Rattle.td_netlist.specs.declared.fault.Fault.{Fault}
 use Rattle.td_netlist.specs.Faults.{fault, unless, ◌>>=◌}
 use Rattle.td_netlist.specs.declared.ranges.Range.{Range}
-use Rattle.td_netlist.specs.Netlist.{Name, Net, Low, High, Named}
+use Rattle.td_gates.specs.declared.timing.Delay.{Delay}
+use Rattle.td_netlist.specs.Netlist.{Name, Net, Low, High, Named, Gate}
 use Rattle.td_netlist.specs.Names.{is_in}
 use Rattle.td_netlist.specs.Ranges.{range_of, width_of, nets_of}
-use Rattle.td_netlist.specs.Module.{scalar, is_input, is_wire, different, whole_source, bit_source, Source, Joins, NoBit, NotOne, Placed, nets_at, outputs_of, inputs_of, Declared, Primitive, primitives}
+use Rattle.td_netlist.specs.Module.{scalar, is_input, is_wire, different, whole_source, bit_source, Source, Joins, NoBit, NotOne, Placed, nets_at, outputs_of, inputs_of, Declared, Primitive, primitives, delay_of}
 
 -- the members one after another, up to the first fault
 unfoldable pub each : {S A : Type 0} → (S → A → Result S Fault) → S → List A → Result S Fault
@@ -119,6 +120,11 @@ unfoldable pub declare_item : Lists → grammar.Item → Result Lists Fault
 declare_item s (grammar.Declares d) = each (declare d.role (range_of d.range)) s d.names
 declare_item s (grammar.Gates g) = Ok s
 
+-- the numbers of its range are within their limit
+abbrev pub IsRanged : grammar.Item → Type 0
+IsRanged (grammar.Declares d) = IsMaybeRange d.range
+IsRanged (grammar.Gates g) = Unit {0}
+
 abbrev pub with_port : Lists → grammar.Name → Result Lists Fault
 with_port s n = list_port s.listed n >>= λ listed. Ok (record { listed = listed; directions = s.directions; inputs = s.inputs; wires = s.wires; names = s.names })
 
@@ -127,6 +133,10 @@ pub record Ported : Type 0 where
   pub role : Role
   pub range : Option Range
   pub lists : Lists
+
+-- A list of declared ports begins with a role, so that this one counts for none.
+abbrev pub portless : Ported
+portless = record { role = role.Input; range = None; lists = nothing }
 
 abbrev pub ported : Role → Option Range → Ported → grammar.Name → Result Ported Fault
 ported r range s n = with_port s.lists n >>= λ lists. declare_direction r range lists n >>= λ all. Ok (record { role = r; range = range; lists = all })
@@ -138,7 +148,7 @@ declare_port s (grammar.Headed h) = ported h.role (range_of h.range) s h.name
 unfoldable pub declare_ports : Option grammar.Ports → Result Lists Fault
 declare_ports None = Ok nothing
 declare_ports (Some (grammar.Names ns)) = each with_port nothing ns
-declare_ports (Some (grammar.Declared ps)) = each declare_port (record { role = role.Input; range = None; lists = nothing }) ps >>= λ s. Ok s.lists
+declare_ports (Some (grammar.Declared ps)) = each declare_port portless ps >>= λ s. Ok s.lists
 
 -- the bits of the ports by direction, those of outputs with the lines of their directions
 pub record Sides : Type 0 where
@@ -204,19 +214,22 @@ line_at (grammar.Whole n) = n.line
 line_at (grammar.Select n digits) = n.line
 line_at (grammar.Level b) = 0
 
--- one driver more
-unfoldable pub drive : List Name → Drivers → grammar.Terminal → Result Drivers Fault
-drive inputs s t = do
+-- the net of a terminal, and its name known from now on
+unfoldable pub seen : Drivers → grammar.Terminal → Result (Net × Drivers) Fault
+seen s t = do
   net ← resolve s.names t
   names ← meet s.names t
-  driven ← drive_net inputs s.driven (line_at t) net
-  Ok (record { driven = driven; names = names })
+  Ok (net, record { driven = s.driven; names = names })
 
 unfoldable pub see : Drivers → grammar.Terminal → Result Drivers Fault
-see s t = do
-  net ← resolve s.names t
-  names ← meet s.names t
-  Ok (record { driven = s.driven; names = names })
+see s t = seen s t >>= λ x. Ok x.1
+
+abbrev pub with_driven : Drivers → List Name → Drivers
+with_driven s driven = record { driven = driven; names = s.names }
+
+-- one driver more
+unfoldable pub drive : List Name → Drivers → grammar.Terminal → Result Drivers Fault
+drive inputs s t = seen s t >>= λ x. drive_net inputs s.driven (line_at t) x.0 >>= λ driven. Ok (with_driven x.1 driven)
 
 unfoldable pub drive_all : List Name → Drivers → Primitive → Result Drivers Fault
 drive_all inputs s p = do
@@ -236,6 +249,34 @@ read_all s u p = each (read_net s) u (inputs_of p)
 
 unfoldable pub read_placed : List Name → Unit {0} → Placed → Result (Unit {0}) Fault
 read_placed driven u p = read_from driven p.line (Named p.net)
+
+-- ---- gates
+
+-- one net more
+unfoldable pub with_net : List Known → List Net → grammar.Terminal → Result (List Net) Fault
+with_net ks nets t = resolve ks t >>= λ net. Ok (nets ++ net ∷ [])
+
+-- the gate of an instance that drives this net
+unfoldable pub gate_at : List Known → ℕ → Delay → Primitive → Name → Result Gate Fault
+gate_at ks tens default p output = each (with_net ks) [] (inputs_of p) >>= λ inputs. Ok (record {
+  kind = p.kind;
+  delay = delay_of tens default p.delay;
+  output = output;
+  inputs = inputs;
+})
+
+abbrev pub gate_driving : List Known → ℕ → Delay → Primitive → List Gate → Net → Result (List Gate) Fault
+gate_driving ks tens default p gates Low = Ok gates
+gate_driving ks tens default p gates High = Ok gates
+gate_driving ks tens default p gates (Named output) = gate_at ks tens default p output >>= λ gate. Ok (gates ++ gate ∷ [])
+
+-- one gate more
+unfoldable pub with_gate : List Known → ℕ → Delay → Primitive → List Gate → grammar.Terminal → Result (List Gate) Fault
+with_gate ks tens default p gates t = resolve ks t >>= gate_driving ks tens default p gates
+
+-- the gates of one instance more
+unfoldable pub with_gates : List Known → ℕ → Delay → List Gate → Primitive → Result (List Gate) Fault
+with_gates ks tens default gates p = each (with_gate ks tens default p) gates (outputs_of p)
 
 -- ---- the whole
 

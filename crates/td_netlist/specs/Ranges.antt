@@ -1,5 +1,5 @@
 -- The bits of a declared name.
-use Rattle.std.specs.Prelude.{ℕ, zero, suc, ◌+◌, ◌-◌, List, [], ◌∷◌, map, Option, None, Some, Bool, ◌&&◌, ◌||◌, nat_le, if◌then◌else◌}
+use Rattle.std.specs.Prelude.{ℕ, zero, suc, ◌+◌, ◌-◌, ◌≤◌, List, [], ◌∷◌, map, Option, None, Some, Bool, ◌&&◌, ◌||◌, nat_le, if◌then◌else◌}
 use Rattle.td_syntax.specs.Grammar as grammar
 use Rattle.td_syntax.specs.Grammar.{value_of}
 use Rattle.td_netlist.specs.declared.ranges.Range.{Range}
@@ -9,6 +9,11 @@ use Rattle.td_netlist.specs.Netlist.{Name}
 abbrev pub range_of : Option grammar.Range → Option Range
 range_of None = None
 range_of (Some r) = Some (record { left = value_of r.left; right = value_of r.right })
+
+-- numbers of at most the greatest that a range may be written with
+abbrev pub IsLimited : Option Range → Type 0
+IsLimited None = Unit {0}
+IsLimited (Some r) = (r.left ≤ 1000000000) × (r.right ≤ 1000000000)
 
 -- how many bits stand between them, one of the two differences being 0
 abbrev pub width_of : Option Range → ℕ

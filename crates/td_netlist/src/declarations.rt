@@ -1,14 +1,14 @@
 //! Checks the declarations of a module.
 
-ghost use Rattle.std.specs.Prelude.{◌≡◌, [], map, Ok, Some};
+ghost use Rattle.std.specs.Prelude.{◌≡◌, ◌++◌, map, OnOk};
 ghost use Rattle.std.specs.List.{AllByRecursion};
-ghost use Rattle.td_syntax.specs.Grammar.{IsMaybeRange, IsItem, IsPort, ArePorts};
+ghost use Rattle.td_syntax.specs.Grammar.{IsItem, IsPort, ArePorts, tens_of};
+ghost use Rattle.td_netlist.specs.Ranges.{IsLimited, nets_of};
 ghost use Rattle.td_syntax.specs.Views.{name_view, names_view, port_view, ports_view, module_view, item_view};
 ghost use Rattle.td_netlist.specs.Faults.{Gives};
 ghost use Rattle.td_netlist.specs.Module.{scalar, ports, port_name, is_input, is_wire};
-ghost use Rattle.td_netlist.specs.Checks as checks;
-ghost use Rattle.td_netlist.specs.Checks.{each, list_port, with_port, declare, declare_wire, declare_direction, declare_item, declare_port, declare_ports, nothing, sideless, take_side, declared_at, known, is_other, input_bits};
-ghost use Rattle.td_netlist.specs.NameViews.{name_ref_of};
+ghost use Rattle.td_netlist.specs.Checks.{each, list_port, with_port, declare, declare_wire, declare_direction, declare_item, declare_port, declare_ports, IsRanged, nothing, portless, sideless, placed_at, take_side, declared_at, known, is_other, input_bits};
+ghost use Rattle.td_netlist.specs.NameViews.{name_ref_of, placed_ref_of};
 ghost use Rattle.td_netlist.specs.CheckViews.{lists_of, ported_of, sides_of};
 
 use crate::directions::Directions;
@@ -125,6 +125,7 @@ impl<'a> Lists<'a> {
 
     #[tactic(auto, unfolding(crate::specs::Checks::declare_wire))]
     fn declare_wire(&mut self, range: Option<Range>, name: Placed<'a>) -> Result<(), Fault<'a>>
+        requires { IsLimited range }
         ensures { Gives (λ _. lists_of self.new) result (declare_wire range (lists_of self.old) (name_view name.entry)) }
     {
         if !self.wires.add(scalar(name))? || is_other(&self.names, name, range) {
@@ -140,6 +141,7 @@ impl<'a> Lists<'a> {
         range: Option<Range>,
         name: Placed<'a>,
     ) -> Result<(), Fault<'a>>
+        requires { IsLimited range }
         ensures { Gives (λ _. lists_of self.new) result (declare_direction role range (lists_of self.old) (name_view name.entry)) }
     {
         if self.directions.get(name).is_some() || is_other(&self.names, name, range) {
@@ -165,6 +167,7 @@ impl<'a> Lists<'a> {
         range: Option<Range>,
         name: Placed<'a>,
     ) -> Result<(), Fault<'a>>
+        requires { IsLimited range }
         ensures { Gives (λ _. lists_of self.new) result (declare role range (lists_of self.old) (name_view name.entry)) }
     {
         if is_wire(role) {
@@ -180,6 +183,7 @@ impl<'a> Lists<'a> {
         range: Option<Range>,
         names: &[Placed<'a>],
     ) -> Result<(), Fault<'a>>
+        requires { IsLimited range }
         ensures { Gives (λ _. lists_of self.new) result (each (declare role range) (lists_of self.old) (names_view names.now)) }
     {
         for name in names {
@@ -190,6 +194,7 @@ impl<'a> Lists<'a> {
 
     #[tactic(auto, unfolding(crate::specs::Checks::declare_item))]
     fn declare_item(&mut self, item: &Item<'a>) -> Result<(), Fault<'a>>
+        requires { IsRanged (item_view item.now) }
         ensures { Gives (λ _. lists_of self.new) result (declare_item (lists_of self.old) (item_view item.now)) }
     {
         match item {
@@ -203,6 +208,7 @@ impl<'a> Lists<'a> {
     }
 
     fn declare_items(&mut self, items: &[Item<'a>]) -> Result<(), Fault<'a>>
+        requires { AllByRecursion IsRanged (map item_view items.now) }
         ensures { Gives (λ _. lists_of self.new) result (each declare_item (lists_of self.old) (map item_view items.now)) }
     {
         for item in items {
@@ -222,7 +228,9 @@ impl<'a> Lists<'a> {
 }
 
 impl<'a> Ported<'a> {
-    fn new(alloc: Global) -> Ported<'a> {
+    fn new(alloc: Global) -> Ported<'a>
+        ensures { ported_of result ≡ portless }
+    {
         Ported {
             role: Role::Input,
             range: None,
@@ -233,7 +241,10 @@ impl<'a> Ported<'a> {
     /// Lists a declared port and declares it.
     #[tactic(auto, unfolding(crate::specs::Checks::declare_port))]
     fn declare(&mut self, port: Port<'a>) -> Result<(), Fault<'a>>
-        ensures { Gives (λ _. ported_of self.new) result (declare_port (ported_of self.old) (port_view port.entry)) }
+        requires ranged { IsPort (port_view port) }
+        requires so_far { IsLimited self.range }
+        ensures ranged { IsLimited self.new.range }
+        ensures declared { Gives (λ _. ported_of self.new) result (declare_port (ported_of self.old) (port_view port.entry)) }
     {
         let name = match port {
             Port::Bare(name) => name,
@@ -248,6 +259,8 @@ impl<'a> Ported<'a> {
     }
 
     fn declare_each(&mut self, ports: &[Port<'a>]) -> Result<(), Fault<'a>>
+        requires ranged { AllByRecursion IsPort (map port_view ports.now) }
+        requires so_far { IsLimited self.range }
         ensures { Gives (λ _. ported_of self.new) result (each declare_port (ported_of self.old) (map port_view ports.now)) }
     {
         for port in ports {
@@ -260,6 +273,7 @@ impl<'a> Ported<'a> {
 /// What the port list declares.
 #[tactic(auto, unfolding(crate::specs::Checks::declare_ports))]
 fn declared_ports<'a>(alloc: Global, ports: &Option<Ports<'a>>) -> Result<Lists<'a>, Fault<'a>>
+    requires { ArePorts (ports_view ports.now) }
     ensures { Gives lists_of result (declare_ports (ports_view ports.now)) }
 {
     match ports {
@@ -283,7 +297,9 @@ fn push_outputs<'a>(
     name: Placed<'a>,
     direction: Direction,
     outputs: &mut Vec<PlacedRef<'a>>,
-) -> Result<(), AllocError> {
+) -> Result<(), AllocError>
+    ensures { OnOk result (map placed_ref_of outputs.new.items ≡ map placed_ref_of outputs.old.items ++ placed_at direction.entry.line (nets_of name.entry.name.now direction.entry.range)) }
+{
     let mut nets = Vec::new(alloc);
     push_nets(name.name, direction.range, &mut nets)?;
     for net in &nets {
@@ -366,6 +382,8 @@ fn port_name<'a>(port: Port<'a>) -> Placed<'a>
 /// The nets of the ports of a module by direction, and the names of its declarations.
 #[tactic(auto, unfolding(crate::specs::Checks::declared_at))]
 pub fn declared<'a>(alloc: Global, source: &Module<'a>) -> Result<(Sides<'a>, Known<'a>), Fault<'a>>
+    requires ports { ArePorts (module_view source.now).ports }
+    requires items { AllByRecursion (IsItem (tens_of (module_view source.now).fronts)) (module_view source.now).items }
     ensures { Gives (λ x. (sides_of x.0, x.1)) result (declared_at (module_view source.now) (ports (module_view source.now))) }
 {
     let mut lists = declared_ports(alloc, &source.ports)?;

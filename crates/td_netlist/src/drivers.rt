@@ -4,8 +4,11 @@ ghost use Rattle.std.specs.Prelude.{◌≡◌, [], map, Ok, IfOk};
 ghost use Rattle.td_syntax.specs.Views.{terminal_view};
 ghost use Rattle.td_netlist.specs.Faults.{Gives};
 ghost use Rattle.td_netlist.specs.Module.{different, whole_source, bit_source};
+ghost use Rattle.td_netlist.specs.Netlist.{Named};
+ghost use Rattle.td_netlist.specs.Ranges.{bit_name, IsLimited};
+ghost use Rattle.td_syntax.specs.Grammar.{value_of};
 ghost use Rattle.td_netlist.specs.Names.{is_in};
-ghost use Rattle.td_netlist.specs.Checks.{each, resolve, meet, drive, see, drive_all, read_net, read_all, read_placed, driven_at, second_driver, line_at};
+ghost use Rattle.td_netlist.specs.Checks.{each, known, range_known, joined, resolve, meet, drive, see, seen, read_from, drive_all, read_net, read_all, read_placed, driven_at, second_driver, line_at};
 ghost use Rattle.td_netlist.specs.NameViews.{name_ref_of, net_ref_of, placed_ref_of};
 ghost use Rattle.td_netlist.specs.CheckViews.{primitive_of, sides_of, drivers_of};
 
@@ -64,7 +67,9 @@ fn line_of(terminal: Terminal<'_>) -> u32
     }
 }
 
-fn bit_of<'a>(name: Placed<'a>, bit: u32) -> NetRef<'a> {
+fn bit_of<'a>(name: Placed<'a>, bit: u32) -> NetRef<'a>
+    ensures { net_ref_of result ≡ Named (bit_name name.entry.name.now bit) }
+{
     NetRef::Named(NameRef {
         text: name.name,
         bit: Some(bit),
@@ -72,7 +77,9 @@ fn bit_of<'a>(name: Placed<'a>, bit: u32) -> NetRef<'a> {
 }
 
 /// The net of a plain name with this range.
-fn whole<'a>(name: Placed<'a>, range: Option<Range>) -> Result<NetRef<'a>, Fault<'a>> {
+fn whole<'a>(name: Placed<'a>, range: Option<Range>) -> Result<NetRef<'a>, Fault<'a>>
+    ensures { Gives net_ref_of result (joined name.entry.line (whole_source name.entry.name.now range)) }
+{
     match range {
         None => Ok(NetRef::Named(NameRef {
             text: name.name,
@@ -89,7 +96,15 @@ fn whole<'a>(name: Placed<'a>, range: Option<Range>) -> Result<NetRef<'a>, Fault
 }
 
 /// The net of a bit of a name with this range. A bit above the greatest number of a range is in none.
-fn select<'a>(name: Placed<'a>, bit: u32, range: Option<Range>) -> Result<NetRef<'a>, Fault<'a>> {
+fn select<'a>(
+    name: Placed<'a>,
+    digits: &[u8],
+    range: Option<Range>,
+) -> Result<NetRef<'a>, Fault<'a>>
+    requires { IsLimited range }
+    ensures { Gives net_ref_of result (joined name.entry.line (bit_source name.entry.name.now (value_of digits.now) range)) }
+{
+    let bit = value_of(digits);
     match range {
         Some(range) => {
             if holds(range, bit) {
@@ -102,7 +117,10 @@ fn select<'a>(name: Placed<'a>, bit: u32, range: Option<Range>) -> Result<NetRef
     }
 }
 
-fn range_known<'a>(names: &Known<'a>, name: Placed<'a>) -> Option<Range> {
+fn range_known<'a>(names: &Known<'a>, name: Placed<'a>) -> Option<Range>
+    ensures value { result ≡ range_known (known names.now name.entry.name.now) }
+    ensures limited { IsLimited result }
+{
     match names.get(name) {
         Some(range) => range,
         None => None,
@@ -116,7 +134,7 @@ pub fn resolve<'a>(names: &Known<'a>, terminal: Terminal<'a>) -> Result<NetRef<'
 {
     match terminal {
         Terminal::Whole(name) => whole(name, range_known(names, name)),
-        Terminal::Select(name, digits) => select(name, value_of(digits), range_known(names, name)),
+        Terminal::Select(name, digits) => select(name, digits, range_known(names, name)),
         Terminal::Level(false) => Ok(NetRef::Low),
         Terminal::Level(true) => Ok(NetRef::High),
     }
@@ -134,8 +152,10 @@ fn meet<'a>(names: &mut Known<'a>, terminal: Terminal<'a>) -> Result<(), Fault<'
 
 impl<'a> Drivers<'a> {
     /// The net of a terminal, whose name is known from now on.
-    #[tactic(auto, unfolding(crate::specs::Checks::see))]
-    fn see(&mut self, terminal: Terminal<'a>) -> Result<NetRef<'a>, Fault<'a>> {
+    #[tactic(auto, unfolding(crate::specs::Checks::seen))]
+    fn see(&mut self, terminal: Terminal<'a>) -> Result<NetRef<'a>, Fault<'a>>
+        ensures { Gives (λ net. (net_ref_of net, drivers_of self.new)) result (seen (drivers_of self.old) (terminal_view terminal.entry)) }
+    {
         let net = resolve(&self.names, terminal)?;
         meet(&mut self.names, terminal)?;
         Ok(net)
@@ -206,7 +226,9 @@ impl<'a> Drivers<'a> {
     }
 
     /// A net that is read on this line is driven.
-    fn read_from(&self, net: NetRef<'a>, line: u32) -> Result<(), Fault<'a>> {
+    fn read_from(&self, net: NetRef<'a>, line: u32) -> Result<(), Fault<'a>>
+        ensures { Gives (λ _. tt) result (read_from (drivers_of self.now).driven line (net_ref_of net.entry)) }
+    {
         match net {
             NetRef::Low | NetRef::High => Ok(()),
             NetRef::Named(name) => {

@@ -1,9 +1,11 @@
 //! From the instances of a module to the gates of its netlist.
 
-ghost use Rattle.std.specs.Prelude.{◌≡◌, ◌≤◌, ◌++◌, map, IfOk, OnOk};
-ghost use Rattle.std.specs.List.{flat_map, AllByRecursion};
+ghost use Rattle.std.specs.Prelude.{◌≡◌, ◌≤◌, [], map, IfOk};
+ghost use Rattle.std.specs.List.{AllByRecursion};
 ghost use Rattle.td_syntax.specs.Grammar.{IsSteps, IsDelay, steps_of};
-ghost use Rattle.td_syntax.specs.Views.{numeral_view, option_delay_view};
+ghost use Rattle.td_syntax.specs.Views.{numeral_view, option_delay_view, terminal_view};
+ghost use Rattle.td_netlist.specs.Faults.{Gives};
+ghost use Rattle.td_netlist.specs.Checks.{each, with_net, gate_at, with_gate, with_gates};
 ghost use Rattle.td_netlist.specs.Module.{delay_of};
 ghost use Rattle.td_netlist.specs.Views.{name_of, net_of, gate_of};
 ghost use Rattle.td_netlist.specs.NameViews.{name_ref_of, net_ref_of};
@@ -83,7 +85,9 @@ fn nets<'a>(
     alloc: Global,
     making: Making<'_, 'a>,
     terminals: &[Terminal<'a>],
-) -> Result<Vec<Net>, Fault<'a>> {
+) -> Result<Vec<Net>, Fault<'a>>
+    ensures { Gives (λ nets. map net_of nets.items) result (each (with_net making.entry.names.now) [] (map terminal_view terminals.now)) }
+{
     let mut nets = Vec::new(alloc);
     for terminal in terminals {
         nets.push(owned_net(alloc, resolve(making.names, *terminal)?)?)?;
@@ -96,7 +100,10 @@ fn gate<'a>(
     making: Making<'_, 'a>,
     primitive: Primitive<'_, 'a>,
     output: NameRef<'a>,
-) -> Result<Gate, Fault<'a>> {
+) -> Result<Gate, Fault<'a>>
+    requires { IsDelay making.tens (option_delay_view primitive.delay) }
+    ensures { Gives gate_of result (gate_at making.entry.names.now making.entry.tens making.entry.default (primitive_of primitive.entry) (name_ref_of output.entry)) }
+{
     Ok(Gate {
         kind: primitive.kind,
         delay: delay(making.tens, making.default, primitive.delay),
@@ -110,13 +117,33 @@ fn add_gates<'a>(
     making: Making<'_, 'a>,
     primitive: Primitive<'_, 'a>,
     gates: &mut Vec<Gate>,
-) -> Result<(), Fault<'a>> {
+) -> Result<(), Fault<'a>>
+    requires { IsDelay making.tens (option_delay_view primitive.delay) }
+    ensures { Gives (λ _. map gate_of gates.new.items) result (with_gates making.entry.names.now making.entry.tens making.entry.default (map gate_of gates.old.items) (primitive_of primitive.entry)) }
+{
     for terminal in primitive.outputs() {
-        if let NetRef::Named(output) = resolve(making.names, *terminal)? {
-            gates.push(gate(alloc, making, primitive, output)?)?;
-        }
+        add_gate(alloc, making, primitive, *terminal, gates)?;
     }
     Ok(())
+}
+
+fn add_gate<'a>(
+    alloc: Global,
+    making: Making<'_, 'a>,
+    primitive: Primitive<'_, 'a>,
+    terminal: Terminal<'a>,
+    gates: &mut Vec<Gate>,
+) -> Result<(), Fault<'a>>
+    requires { IsDelay making.tens (option_delay_view primitive.delay) }
+    ensures { Gives (λ _. map gate_of gates.new.items) result (with_gate making.entry.names.now making.entry.tens making.entry.default (primitive_of primitive.entry) (map gate_of gates.old.items) (terminal_view terminal.entry)) }
+{
+    match resolve(making.names, terminal)? {
+        NetRef::Low | NetRef::High => Ok(()),
+        NetRef::Named(output) => {
+            gates.push(gate(alloc, making, primitive, output)?)?;
+            Ok(())
+        }
+    }
 }
 
 /// The gates of the instances, in their order.
@@ -124,7 +151,10 @@ pub fn gates<'a>(
     alloc: Global,
     making: Making<'_, 'a>,
     primitives: &[Primitive<'_, 'a>],
-) -> Result<Vec<Gate>, Fault<'a>> {
+) -> Result<Vec<Gate>, Fault<'a>>
+    requires { AllByRecursion (λ p. IsDelay making.tens (option_delay_view p.delay)) primitives.now }
+    ensures { Gives (λ gates. map gate_of gates.items) result (each (with_gates making.entry.names.now making.entry.tens making.entry.default) [] (map primitive_of primitives.now)) }
+{
     let mut gates = Vec::new(alloc);
     for primitive in primitives {
         add_gates(alloc, making, *primitive, &mut gates)?;

@@ -3,7 +3,7 @@
 ghost use Rattle.std.specs.Prelude.{◌≡◌, ◌<◌, ◌≤◌, ◌++◌, List, map, OnOk};
 ghost use Rattle.td_syntax.specs.Grammar.{IsMaybeRange};
 ghost use Rattle.td_syntax.specs.Views.{option_range_view};
-ghost use Rattle.td_netlist.specs.Ranges.{range_of, width_of, bit_at, holds, nets_of};
+ghost use Rattle.td_netlist.specs.Ranges.{range_of, IsLimited, width_of, bit_at, holds, nets_of};
 ghost use Rattle.td_netlist.specs.NameViews.{name_ref_of};
 
 use crate::name_ref::NameRef;
@@ -20,7 +20,8 @@ pub struct Range {
 /// The range of a vector, and none for a scalar.
 pub fn range_of(written: Option<Written<'_>>) -> Option<Range>
     requires { IsMaybeRange (option_range_view written) }
-    ensures { result ≡ range_of (option_range_view written.entry) }
+    ensures value { result ≡ range_of (option_range_view written.entry) }
+    ensures limited { IsLimited result }
 {
     match written {
         None => None,

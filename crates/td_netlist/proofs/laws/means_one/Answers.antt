@@ -1,5 +1,5 @@
-use Rattle.td_netlist.proofs.Readings.{one_netlist}
+use Rattle.td_netlist.proofs.DeclaredNames.{declared_breaks}
 use Rattle.td_netlist.proofs.laws.means_one.Goals as goal
 
 pub returns : goal.returns
-returns c = one_netlist
+returns c = let x = declared_breaks in ?
