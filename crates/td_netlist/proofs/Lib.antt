@@ -13,6 +13,7 @@ pub mod Finding
 pub mod Knowing
 pub mod Declaring
 pub mod DeclaredNames
+pub mod PortLists
 pub mod PortSides
 pub mod DrivenNets
 pub mod Consistent
