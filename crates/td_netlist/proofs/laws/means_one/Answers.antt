@@ -1,5 +1,5 @@
-use Rattle.td_netlist.proofs.PortLists.{port_breaks}
+use Rattle.td_netlist.proofs.PortSides.{side_breaks}
 use Rattle.td_netlist.proofs.laws.means_one.Goals as goal
 
 pub returns : goal.returns
-returns c = let x = port_breaks in ?
+returns c = let x = side_breaks in ?
