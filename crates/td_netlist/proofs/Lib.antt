@@ -15,6 +15,7 @@ pub mod Declaring
 pub mod DeclaredNames
 pub mod PortLists
 pub mod PortSides
+pub mod Joining
 pub mod DrivenNets
 pub mod Consistent
 pub mod Formed
