@@ -17,6 +17,7 @@ pub mod PortLists
 pub mod PortSides
 pub mod Joining
 pub mod DrivenNets
+pub mod Apart
 pub mod Consistent
 pub mod Formed
 pub mod Readings
