@@ -20,6 +20,7 @@ pub mod DrivenNets
 pub mod Apart
 pub mod Consistent
 pub mod Formed
+pub mod Gathering
 pub mod Readings
 pub mod Bits
 pub mod KnownNames
