@@ -150,7 +150,7 @@ impl<'a> Lists<'a> {
         if !self.listed.has(scalar(name)) {
             return Err(refused(FaultKind::PortUndeclared, name));
         }
-        let inputs = self.inputs + input_bits(role, range);
+        let inputs = self.inputs.saturating_add(input_bits(role, range));
         if MAX_INPUTS < inputs {
             return Err(refused(FaultKind::TooMany, name));
         }
@@ -298,7 +298,7 @@ fn push_outputs<'a>(
     direction: Direction,
     outputs: &mut Vec<PlacedRef<'a>>,
 ) -> Result<(), AllocError>
-    ensures { OnOk result (map placed_ref_of outputs.new.items ≡ map placed_ref_of outputs.old.items ++ placed_at direction.entry.line (nets_of name.entry.name.now direction.entry.range)) }
+    ensures { OnOk result (map placed_ref_of outputs.new.items ≡ map placed_ref_of outputs.old.items ++ placed_at direction.line (nets_of name.entry.name.now direction.range)) }
 {
     let mut nets = Vec::new(alloc);
     push_nets(name.name, direction.range, &mut nets)?;
