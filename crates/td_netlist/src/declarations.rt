@@ -242,7 +242,7 @@ impl<'a> Ported<'a> {
     #[tactic(auto, unfolding(crate::specs::Checks::declare_port))]
     fn declare(&mut self, port: Port<'a>) -> Result<(), Fault<'a>>
         requires ranged { IsPort (port_view port) }
-        requires so_far { IsLimited self.range }
+        requires so_far { IsLimited self.old.range }
         ensures ranged { IsLimited self.new.range }
         ensures declared { Gives (λ _. ported_of self.new) result (declare_port (ported_of self.old) (port_view port.entry)) }
     {
@@ -260,7 +260,7 @@ impl<'a> Ported<'a> {
 
     fn declare_each(&mut self, ports: &[Port<'a>]) -> Result<(), Fault<'a>>
         requires ranged { AllByRecursion IsPort (map port_view ports.now) }
-        requires so_far { IsLimited self.range }
+        requires so_far { IsLimited self.old.range }
         ensures { Gives (λ _. ported_of self.new) result (each declare_port (ported_of self.old) (map port_view ports.now)) }
     {
         for port in ports {
