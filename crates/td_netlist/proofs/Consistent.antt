@@ -14,7 +14,7 @@ use Rattle.td_netlist.specs.Faults.{◌>>=◌, UnlessMemory}
 use Rattle.td_netlist.specs.Ranges.{nets_of}
 use Rattle.td_netlist.specs.Module.{scalar, names_of, Declared, is_input, is_output, is_wire, is_direction, different, ports, ports_as, declarations, ports_declared, declared, declared_names, range_in, nets_named, source_of, Placed, placed_in, nets_at, terminals_in, outputs_in, inputs_in, inputs_of, output_bits, driven_in, Primitive, primitives, net_count, names_in, input_count}
 use Rattle.td_netlist.specs.Means.{AreDeclared, IsJoined, IsConsistent, RepeatedOn, MissingOn, AgainOn, LeftOutOn, UnjoinedOn, Breaks}
-use Rattle.td_netlist.specs.Checks.{Known, nets_known, each, Lists, declare_ports, declare_item, Sides, sideless, take_side, Drivers, drive_all, read_all, read_placed, declared_at, driven_at}
+use Rattle.td_netlist.specs.Checks.{Known, nets_known, each, Lists, declare_ports, declare_item, Sides, sideless, take_side, Drivers, drive_all, read_all, read_placed, sides_at, declared_at, driven_at}
 use Rattle.td_netlist.proofs.Members.{in_front, behind, mapped, of_mapped, filtered, of_filtered, gathered, of_gathered, either_side}
 use Rattle.td_netlist.proofs.Distinct.{not_distinct}
 use Rattle.td_netlist.proofs.Sets.{is_contained}
@@ -58,11 +58,11 @@ module _ (m : grammar.Module) (are : ArePorts m.ports) where
   after_ports : Lists → Result (Sides × List Known) Fault
   after_ports ported = each declare_item ported m.items >>= after_items
 
-  at_ports : declared_at m (ports m) ≡ (declare_ports m.ports >>= after_ports)
-  unfolding declared_at after_ports after_items
+  at_ports : declared_at m ≡ (declare_ports m.ports >>= after_ports)
+  unfolding declared_at sides_at after_ports after_items
   at_ports = refl
 
-  declared_well : (s : Sides) (ks : List Known) → declared_at m (ports m) ≡ Ok (s, ks) → DeclaredWell m s ks
+  declared_well : (s : Sides) (ks : List Known) → declared_at m ≡ Ok (s, ks) → DeclaredWell m s ks
   unfolding after_ports after_items
   declared_well s ks e =
       let a = ok_both (declare_ports m.ports) after_ports (s, ks) (sym at_ports ∙ e) in
@@ -89,7 +89,7 @@ module _ (m : grammar.Module) (are : ArePorts m.ports) where
         few_nets = subst (λ (js : List Known). nets_known js ≤ 1000000) same.1 all.few_nets;
       }
 
-  pub declared_breaks : (f : Fault) → declared_at m (ports m) ≡ Err f → Breaks f.kind f.line m
+  pub declared_breaks : (f : Fault) → declared_at m ≡ Err f → Breaks f.kind f.line m
   unfolding after_ports after_items
   declared_breaks f e = elim (err_either (declare_ports m.ports) after_ports f (sym at_ports ∙ e)) [
     | inl here ↦ port_breaks m f are here
@@ -228,7 +228,7 @@ pub record Passes (m : grammar.Module) (s : Sides) (d : Drivers) : Type 0 where
   pub sides : AreSides m s
   pub knows : KnowsModule m d.names (plain_names (terminals_in m))
 
-module _ (m : grammar.Module) (are : ArePorts m.ports) (s : Sides) (ks : List Known) (declared_so : declared_at m (ports m) ≡ Ok (s, ks)) where
+module _ (m : grammar.Module) (are : ArePorts m.ports) (s : Sides) (ks : List Known) (declared_so : declared_at m ≡ Ok (s, ks)) where
   pub passes : (d : Drivers) → driven_at s ks (primitives m) ≡ Ok d → Passes m s d
   passes d e =
       let well = declared_well m are s ks declared_so in

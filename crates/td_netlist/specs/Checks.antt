@@ -15,7 +15,7 @@ use Rattle.td_gates.specs.declared.timing.Delay.{Delay}
 use Rattle.td_netlist.specs.Netlist.{Name, Net, Low, High, Named, Gate}
 use Rattle.td_netlist.specs.Names.{is_in}
 use Rattle.td_netlist.specs.Ranges.{range_of, width_of, nets_of}
-use Rattle.td_netlist.specs.Module.{scalar, is_input, is_wire, different, whole_source, bit_source, Source, Joins, NoBit, NotOne, Placed, nets_at, outputs_of, inputs_of, Declared, Primitive, primitives, delay_of}
+use Rattle.td_netlist.specs.Module.{scalar, is_input, is_wire, different, port_names, whole_source, bit_source, Source, Joins, NoBit, NotOne, Placed, nets_at, outputs_of, inputs_of, Declared, Primitive, primitives, delay_of}
 
 -- the members one after another, up to the first fault
 unfoldable pub each : {S A : Type 0} → (S → A → Result S Fault) → S → List A → Result S Fault
@@ -170,6 +170,10 @@ on_side s n (Some d) =
 unfoldable pub take_side : List Declared → Sides → grammar.Name → Result Sides Fault
 take_side directions s n = on_side s n (direction_of directions n)
 
+-- all ports by direction
+unfoldable pub sides_at : List Declared → Option grammar.Ports → Result Sides Fault
+sides_at directions ports = each (take_side directions) sideless (port_names ports)
+
 -- ---- terminals
 
 abbrev pub joined : ℕ → Source → Result Net Fault
@@ -281,11 +285,11 @@ with_gates ks tens default gates p = each (with_gate ks tens default p) gates (o
 -- ---- the whole
 
 -- the ports by direction and the names of the declarations
-unfoldable pub declared_at : grammar.Module → List grammar.Name → Result (Sides × List Known) Fault
-declared_at m ports = do
+unfoldable pub declared_at : grammar.Module → Result (Sides × List Known) Fault
+declared_at m = do
   ported ← declare_ports m.ports
   lists ← each declare_item ported m.items
-  sides ← each (take_side lists.directions) sideless ports
+  sides ← sides_at lists.directions m.ports
   Ok (sides, lists.names)
 
 unfoldable pub driven_at : Sides → List Known → List Primitive → Result Drivers Fault

@@ -6,8 +6,8 @@ ghost use Rattle.td_syntax.specs.Grammar.{IsItem, IsPort, ArePorts, tens_of};
 ghost use Rattle.td_netlist.specs.Ranges.{IsLimited, nets_of};
 ghost use Rattle.td_syntax.specs.Views.{name_view, names_view, port_view, ports_view, module_view, item_view};
 ghost use Rattle.td_netlist.specs.Faults.{Gives};
-ghost use Rattle.td_netlist.specs.Module.{scalar, ports, port_name, is_input, is_wire};
-ghost use Rattle.td_netlist.specs.Checks.{each, list_port, with_port, declare, declare_wire, declare_direction, declare_item, declare_port, declare_ports, IsRanged, nothing, portless, sideless, placed_at, take_side, declared_at, known, is_other, input_bits};
+ghost use Rattle.td_netlist.specs.Module.{scalar, ports, port_name, port_names, is_input, is_wire};
+ghost use Rattle.td_netlist.specs.Checks.{each, list_port, with_port, declare, declare_wire, declare_direction, declare_item, declare_port, declare_ports, IsRanged, nothing, portless, sideless, placed_at, take_side, sides_at, declared_at, known, is_other, input_bits};
 ghost use Rattle.td_netlist.specs.NameViews.{name_ref_of, placed_ref_of};
 ghost use Rattle.td_netlist.specs.CheckViews.{lists_of, ported_of, sides_of};
 
@@ -379,20 +379,39 @@ fn port_name<'a>(port: Port<'a>) -> Placed<'a>
     }
 }
 
+/// The nets of the ports by direction.
+#[tactic(auto, unfolding(crate::specs::Checks::sides_at, crate::specs::Checks::each))]
+fn by_side<'a>(
+    alloc: Global,
+    directions: &Directions<'a>,
+    ports: &Option<Ports<'a>>,
+) -> Result<Sides<'a>, Fault<'a>>
+    ensures { Gives sides_of result (sides_at directions.now (ports_view ports.now)) }
+{
+    match ports {
+        None => Ok(Sides::new(alloc)),
+        Some(Ports::Names(names)) => {
+            let mut sides = Sides::new(alloc);
+            sides.take_names(alloc, directions, names)?;
+            Ok(sides)
+        }
+        Some(Ports::Declared(ports)) => {
+            let mut sides = Sides::new(alloc);
+            sides.take_ports(alloc, directions, ports)?;
+            Ok(sides)
+        }
+    }
+}
+
 /// The nets of the ports of a module by direction, and the names of its declarations.
 #[tactic(auto, unfolding(crate::specs::Checks::declared_at))]
 pub fn declared<'a>(alloc: Global, source: &Module<'a>) -> Result<(Sides<'a>, Known<'a>), Fault<'a>>
     requires ports { ArePorts (module_view source.now).ports }
     requires items { AllByRecursion (IsItem (tens_of (module_view source.now).fronts)) (module_view source.now).items }
-    ensures { Gives (λ x. (sides_of x.0, x.1)) result (declared_at (module_view source.now) (ports (module_view source.now))) }
+    ensures { Gives (λ x. (sides_of x.0, x.1)) result (declared_at (module_view source.now)) }
 {
     let mut lists = declared_ports(alloc, &source.ports)?;
     lists.declare_items(&source.items)?;
-    let mut sides = Sides::new(alloc);
-    match &source.ports {
-        None => {}
-        Some(Ports::Names(names)) => sides.take_names(alloc, &lists.directions, names)?,
-        Some(Ports::Declared(ports)) => sides.take_ports(alloc, &lists.directions, ports)?,
-    }
+    let sides = by_side(alloc, &lists.directions, &source.ports)?;
     Ok((sides, lists.names))
 }
