@@ -3,6 +3,7 @@ pub mod Driven
 pub mod Members
 pub mod Distinct
 pub mod Walks
+pub mod DeclaredAt
 pub mod Sets
 pub mod Found
 pub mod Terminals
