@@ -18,7 +18,7 @@ use Rattle.td_netlist.specs.Faults.{unless, ◌>>=◌}
 use Rattle.td_netlist.specs.Ranges.{width_of}
 use Rattle.td_netlist.specs.Module.{scalar, names_of, is_input, different, ports_as, declarations, range_in, Source, Joins, NoBit, NotOne, source_of, line_of, net_of, net_from, Placed, placed_net, placed_in, nets_at, terminals_in, outputs_in, outputs_of, inputs_of, inputs_in, plain_name, names_in, net_count, Primitive, primitives}
 use Rattle.td_netlist.specs.Means.{IsJoined, AgainOn, TakenOn, LeftOutOn, UnjoinedOn, Breaks}
-use Rattle.td_netlist.specs.Checks.{each, Known, known, nets_known, know, meet, resolve, line_at, Drivers, second_driver, drive_fault, drive_net, seen, see, drive, drive_all, read_from, read_net, read_all, read_placed}
+use Rattle.td_netlist.specs.Checks.{each, Known, known, nets_known, know, meet, resolve, line_at, Drivers, second_driver, drive_fault, drive_net, seen, see, drives, drive, drive_all, read_from, read_net, read_all, read_placed}
 use Rattle.td_netlist.proofs.Members.{either_side, one_of, nowhere, first, later, in_front, behind, between, mapped, gathered}
 use Rattle.td_netlist.proofs.Distinct.{distinct_nil, distinct_push, distinct_head, distinct_tail}
 use Rattle.td_netlist.proofs.Sets.{contains_is, not_contained, is_absent}
@@ -226,14 +226,14 @@ module _ (m : grammar.Module) where
       ∙ ap (λ (why : Source). nets_at (driven_by ts) ++ bits_at (line_of t.at) (net_from why)) is
 
   drives_one : (s u : Drivers) (ts : List Terminal) (t : Terminal) → t.drives ≡ true → Drives s ts → drive inputs s t.at ≡ Ok u → Drives u (ts ++ t ∷ [])
-  unfolding drive
+  unfolding drive drives
   drives_one s u ts t this keeps e =
       let a = ok_both (seen s t.at) _ u e in
       let sees = seen_ok s t.at a.0 a.1 in
       let net = a.0.0 in
       let is = source_is m s.names (plain_names (all_of ts)) keeps.names t.at net sees.resolves in
-      let b = ok_both (drive_net inputs s.driven (line_at t.at) net) _ u a.2 in
-      let more = drive_net_ok inputs s.driven b.0 (line_of t.at) net (ap (λ (line : ℕ). drive_net inputs s.driven line net) (sym (same_line t.at)) ∙ b.1) in
+      let b = ok_both (drive_net inputs a.0.1.driven (line_at t.at) net) _ u a.2 in
+      let more = drive_net_ok inputs s.driven b.0 (line_of t.at) net (ap (λ (driven : List Name). drive_net inputs driven (line_of t.at) net) (sym sees.same_driven) ∙ ap (λ (line : ℕ). drive_net inputs a.0.1.driven line net) (sym (same_line t.at)) ∙ b.1) in
       let names = bits_more ts t net this is in
       let new : (name : Name) → Contains (bits_at (line_of t.at) net) name → ¬ Contains (inputs ++ nets_at (driven_by ts)) name =
       λ name has. subst (λ (ns : List Name). ¬ Contains ns name) keeps.driven (more.new name has) in
@@ -408,13 +408,13 @@ module _ (m : grammar.Module) where
     })
 
     drive_breaks : (f : Fault) → t.drives ≡ true → drive (ports_as is_input m) s t.at ≡ Err f → Breaks f.kind f.line m
-    unfolding drive
+    unfolding drive drives
     drive_breaks f this e = elim (err_either (seen s t.at) _ f e) [
       | inl here ↦ seen_breaks f here
       | inr past ↦ (let sees = seen_ok s t.at past.0 past.1 in
           let net = source_is m s.names (plain_names (all_of before)) keeps.names t.at past.0.0 sees.resolves in
-          elim (err_either (drive_net (ports_as is_input m) s.driven (line_at t.at) past.0.0) _ f past.2) [
-            | inl here ↦ (let again = drive_net_err (ports_as is_input m) s.driven (line_of t.at) past.0.0 f (ap (λ (line : ℕ). drive_net (ports_as is_input m) s.driven line past.0.0) (sym (same_line t.at)) ∙ here) in
+          elim (err_either (drive_net (ports_as is_input m) past.0.1.driven (line_at t.at) past.0.0) _ f past.2) [
+            | inl here ↦ (let again = drive_net_err (ports_as is_input m) s.driven (line_of t.at) past.0.0 f (ap (λ (driven : List Name). drive_net (ports_as is_input m) driven (line_of t.at) past.0.0) (sym sees.same_driven) ∙ ap (λ (line : ℕ). drive_net (ports_as is_input m) past.0.1.driven line past.0.0) (sym (same_line t.at)) ∙ here) in
                 second_breaks (is_in again.this (ports_as is_input m)) f again.this this (ap net_from net ∙ again.is) refl again.again again.there again.kind_is)
             | inr done ↦ absurd cc
           ])

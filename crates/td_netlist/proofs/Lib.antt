@@ -4,6 +4,7 @@ pub mod Members
 pub mod Distinct
 pub mod Walks
 pub mod DeclaredAt
+pub mod Seeing
 pub mod Sets
 pub mod Found
 pub mod Terminals

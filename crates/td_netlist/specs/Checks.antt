@@ -231,9 +231,13 @@ see s t = seen s t >>= λ x. Ok x.1
 abbrev pub with_driven : Drivers → List Name → Drivers
 with_driven s driven = record { driven = driven; names = s.names }
 
+-- a net driven more
+unfoldable pub drives : List Name → Drivers → ℕ → Net → Result Drivers Fault
+drives inputs s line net = drive_net inputs s.driven line net >>= λ driven. Ok (with_driven s driven)
+
 -- one driver more
 unfoldable pub drive : List Name → Drivers → grammar.Terminal → Result Drivers Fault
-drive inputs s t = seen s t >>= λ x. drive_net inputs s.driven (line_at t) x.0 >>= λ driven. Ok (with_driven x.1 driven)
+drive inputs s t = seen s t >>= λ x. drives inputs x.1 (line_at t) x.0
 
 unfoldable pub drive_all : List Name → Drivers → Primitive → Result Drivers Fault
 drive_all inputs s p = do

@@ -8,7 +8,7 @@ ghost use Rattle.td_netlist.specs.Netlist.{Named};
 ghost use Rattle.td_netlist.specs.Ranges.{bit_name, IsLimited};
 ghost use Rattle.td_syntax.specs.Grammar.{value_of};
 ghost use Rattle.td_netlist.specs.Names.{is_in};
-ghost use Rattle.td_netlist.specs.Checks.{each, known, range_known, joined, resolve, meet, drive, see, seen, read_from, drive_all, read_net, read_all, read_placed, driven_at, second_driver, line_at};
+ghost use Rattle.td_netlist.specs.Checks.{each, known, range_known, joined, resolve, meet, drive, drives, see, seen, read_from, drive_all, read_net, read_all, read_placed, driven_at, second_driver, line_at};
 ghost use Rattle.td_netlist.specs.NameViews.{name_ref_of, net_ref_of, placed_ref_of};
 ghost use Rattle.td_netlist.specs.CheckViews.{primitive_of, sides_of, drivers_of};
 
@@ -165,16 +165,32 @@ impl<'a> Drivers<'a> {
     fn drive(&mut self, inputs: &[NameRef<'a>], terminal: Terminal<'a>) -> Result<(), Fault<'a>>
         ensures { Gives (λ _. drivers_of self.new) result (drive (map name_ref_of inputs.now) (drivers_of self.old) (terminal_view terminal.entry)) }
     {
-        let NetRef::Named(net) = self.see(terminal)? else {
-            return Ok(());
-        };
-        if self.driven.add(net)? {
-            Ok(())
-        } else {
-            Err(Fault {
-                kind: second_driver(inputs, net),
-                line: line_of(terminal),
-            })
+        let net = self.see(terminal)?;
+        self.drive_net(inputs, net, line_of(terminal))
+    }
+
+    /// A net that is driven on this line.
+    #[tactic(auto, unfolding(crate::specs::Checks::drives))]
+    fn drive_net(
+        &mut self,
+        inputs: &[NameRef<'a>],
+        net: NetRef<'a>,
+        line: u32,
+    ) -> Result<(), Fault<'a>>
+        ensures { Gives (λ _. drivers_of self.new) result (drives (map name_ref_of inputs.now) (drivers_of self.old) line (net_ref_of net.entry)) }
+    {
+        match net {
+            NetRef::Low | NetRef::High => Ok(()),
+            NetRef::Named(name) => {
+                if self.driven.add(name)? {
+                    Ok(())
+                } else {
+                    Err(Fault {
+                        kind: second_driver(inputs, name),
+                        line,
+                    })
+                }
+            }
         }
     }
 
