@@ -73,74 +73,94 @@ fn owned_net(alloc: Global, net: NetRef<'_>) -> Result<Net, AllocError>
     }
 }
 
-/// What the gates of a module have in common: the names, the tens of a step in a unit, the default delay.
-#[derive(Clone, Copy)]
-pub struct Making<'m, 'a> {
-    pub names: &'m Known<'a>,
+/// How the delays of a module are taken: a unit has 10 to the power of `tens` steps, and a gate that states no delay has
+/// the default one.
+#[derive(Clone, Copy, Debug)]
+pub struct Timing {
     pub tens: u8,
     pub default: Delay,
 }
 
 fn nets<'a>(
     alloc: Global,
-    making: Making<'_, 'a>,
+    names: &Known<'a>,
     terminals: &[Terminal<'a>],
 ) -> Result<Vec<Net>, Fault<'a>>
-    ensures { Gives (λ nets. map net_of nets.items) result (each (with_net making.entry.names.now) [] (map terminal_view terminals.now)) }
+    ensures { Gives (λ nets. map net_of nets.items) result (each (with_net names.now) [] (map terminal_view terminals.now)) }
 {
     let mut nets = Vec::new(alloc);
     for terminal in terminals {
-        nets.push(owned_net(alloc, resolve(making.names, *terminal)?)?)?;
+        push_net(alloc, names, *terminal, &mut nets)?;
     }
     Ok(nets)
 }
 
+#[tactic(auto, unfolding(crate::specs::Checks::with_net))]
+fn push_net<'a>(
+    alloc: Global,
+    names: &Known<'a>,
+    terminal: Terminal<'a>,
+    nets: &mut Vec<Net>,
+) -> Result<(), Fault<'a>>
+    ensures { Gives (λ _. map net_of nets.new.items) result (with_net names.now (map net_of nets.old.items) (terminal_view terminal.entry)) }
+{
+    nets.push(owned_net(alloc, resolve(names, terminal)?)?)?;
+    Ok(())
+}
+
+#[tactic(auto, unfolding(crate::specs::Checks::gate_at))]
 fn gate<'a>(
     alloc: Global,
-    making: Making<'_, 'a>,
+    names: &Known<'a>,
+    timing: &Timing,
     primitive: Primitive<'_, 'a>,
     output: NameRef<'a>,
 ) -> Result<Gate, Fault<'a>>
-    requires { IsDelay making.tens (option_delay_view primitive.delay) }
-    ensures { Gives gate_of result (gate_at making.entry.names.now making.entry.tens making.entry.default (primitive_of primitive.entry) (name_ref_of output.entry)) }
+    requires { IsDelay timing.now.tens (option_delay_view primitive.delay) }
+    ensures { Gives gate_of result (gate_at names.now timing.now.tens timing.now.default (primitive_of primitive.entry) (name_ref_of output.entry)) }
 {
+    let output = owned(alloc, output)?;
+    let inputs = nets(alloc, names, primitive.inputs())?;
     Ok(Gate {
         kind: primitive.kind,
-        delay: delay(making.tens, making.default, primitive.delay),
-        output: owned(alloc, output)?,
-        inputs: nets(alloc, making, primitive.inputs())?,
+        delay: delay(timing.tens, timing.default, primitive.delay),
+        output,
+        inputs,
     })
 }
 
 fn add_gates<'a>(
     alloc: Global,
-    making: Making<'_, 'a>,
+    names: &Known<'a>,
+    timing: &Timing,
     primitive: Primitive<'_, 'a>,
     gates: &mut Vec<Gate>,
 ) -> Result<(), Fault<'a>>
-    requires { IsDelay making.tens (option_delay_view primitive.delay) }
-    ensures { Gives (λ _. map gate_of gates.new.items) result (with_gates making.entry.names.now making.entry.tens making.entry.default (map gate_of gates.old.items) (primitive_of primitive.entry)) }
+    requires { IsDelay timing.now.tens (option_delay_view primitive.delay) }
+    ensures { Gives (λ _. map gate_of gates.new.items) result (with_gates names.now timing.now.tens timing.now.default (map gate_of gates.old.items) (primitive_of primitive.entry)) }
 {
     for terminal in primitive.outputs() {
-        add_gate(alloc, making, primitive, *terminal, gates)?;
+        add_gate(alloc, names, timing, primitive, *terminal, gates)?;
     }
     Ok(())
 }
 
+#[tactic(auto, unfolding(crate::specs::Checks::with_gate))]
 fn add_gate<'a>(
     alloc: Global,
-    making: Making<'_, 'a>,
+    names: &Known<'a>,
+    timing: &Timing,
     primitive: Primitive<'_, 'a>,
     terminal: Terminal<'a>,
     gates: &mut Vec<Gate>,
 ) -> Result<(), Fault<'a>>
-    requires { IsDelay making.tens (option_delay_view primitive.delay) }
-    ensures { Gives (λ _. map gate_of gates.new.items) result (with_gate making.entry.names.now making.entry.tens making.entry.default (primitive_of primitive.entry) (map gate_of gates.old.items) (terminal_view terminal.entry)) }
+    requires { IsDelay timing.now.tens (option_delay_view primitive.delay) }
+    ensures { Gives (λ _. map gate_of gates.new.items) result (with_gate names.now timing.now.tens timing.now.default (primitive_of primitive.entry) (map gate_of gates.old.items) (terminal_view terminal.entry)) }
 {
-    match resolve(making.names, terminal)? {
+    match resolve(names, terminal)? {
         NetRef::Low | NetRef::High => Ok(()),
         NetRef::Named(output) => {
-            gates.push(gate(alloc, making, primitive, output)?)?;
+            gates.push(gate(alloc, names, timing, primitive, output)?)?;
             Ok(())
         }
     }
@@ -149,15 +169,16 @@ fn add_gate<'a>(
 /// The gates of the instances, in their order.
 pub fn gates<'a>(
     alloc: Global,
-    making: Making<'_, 'a>,
+    names: &Known<'a>,
+    timing: &Timing,
     primitives: &[Primitive<'_, 'a>],
 ) -> Result<Vec<Gate>, Fault<'a>>
-    requires { AllByRecursion (λ p. IsDelay making.tens (option_delay_view p.delay)) primitives.now }
-    ensures { Gives (λ gates. map gate_of gates.items) result (each (with_gates making.entry.names.now making.entry.tens making.entry.default) [] (map primitive_of primitives.now)) }
+    requires { AllByRecursion (λ p. IsDelay timing.now.tens (option_delay_view p.delay)) primitives.now }
+    ensures { Gives (λ gates. map gate_of gates.items) result (each (with_gates names.now timing.now.tens timing.now.default) [] (map primitive_of primitives.now)) }
 {
     let mut gates = Vec::new(alloc);
     for primitive in primitives {
-        add_gates(alloc, making, *primitive, &mut gates)?;
+        add_gates(alloc, names, timing, *primitive, &mut gates)?;
     }
     Ok(gates)
 }

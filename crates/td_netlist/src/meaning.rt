@@ -15,7 +15,7 @@ ghost use Rattle.td_netlist.specs.Views.{name_of};
 use crate::declarations::declared;
 use crate::drivers::all_driven;
 use crate::fault::Fault;
-use crate::gates::{Making, gates, owned};
+use crate::gates::{Timing, gates, owned};
 use crate::name::Name;
 use crate::name_ref::{NameRef, PlacedRef};
 use crate::netlist::{Netlist, Scale, Unit};
@@ -94,12 +94,11 @@ fn netlist<'a>(alloc: Global, source: &Module<'a>, default: Delay) -> Result<Net
     let drivers = all_driven(alloc, &sides, names, &instances)?;
     let inputs = owned_names(alloc, &sides.inputs)?;
     let outputs = owned_outputs(alloc, &sides.outputs)?;
-    let making = Making {
-        names: drivers.names(),
+    let timing = Timing {
         tens: tens_of(&source.fronts),
         default,
     };
-    let gates = gates(alloc, making, &instances)?;
+    let gates = gates(alloc, drivers.names(), &timing, &instances)?;
     let name = Vec::from_slice(alloc, source.name.name)?;
     let unit = unit(&source.fronts);
     let defaulted = defaulted_count(&instances);
