@@ -279,17 +279,20 @@ module _ (m : grammar.Module) (keeps : IsConsistent m) where
         | inr gate ↦ gate
       ]
 
-  module _ (default : Delay) (range : IsInRange default) (items : AllByRecursion (IsItem (tens_of m.fronts)) m.items) (gates : sum_by item_gates m.items ≤ 200000) where
-    pub outputs_named : (p : Primitive) → Contains (primitives m) p → AllByRecursion (IsNamed m) (outputs_of p)
-    outputs_named p has =
-        let kept = in_module (tens_of m.fronts) m p items has in
-        all_named m (outputs_of p) kept.outputs
-        (λ t in_it. keeps.joined.each t
-        (gathered (λ (q : Primitive). q.terminals) p t (primitives m) has
-        (subst (λ (ts : List grammar.Terminal). Contains ts t) (take-append-drop (output_count p.kind (length p.terminals)) p.terminals) (in_front t (outputs_of p) (inputs_of p) in_it))))
+  pub outputs_named : AllByRecursion (IsItem (tens_of m.fronts)) m.items → (p : Primitive) → Contains (primitives m) p → AllByRecursion (IsNamed m) (outputs_of p)
+  outputs_named items p has =
+      let kept = in_module (tens_of m.fronts) m p items has in
+      all_named m (outputs_of p) kept.outputs
+      (λ t in_it. keeps.joined.each t
+      (gathered (λ (q : Primitive). q.terminals) p t (primitives m) has
+      (subst (λ (ts : List grammar.Terminal). Contains ts t) (take-append-drop (output_count p.kind (length p.terminals)) p.terminals) (in_front t (outputs_of p) (inputs_of p) in_it))))
 
+  pub output_named : AllByRecursion (IsItem (tens_of m.fronts)) m.items → (p : Primitive) → Contains (primitives m) p → (t : grammar.Terminal) → Contains (outputs_of p) t → IsNamed m t
+  output_named items p has t in_it = one_item (IsNamed m) t (outputs_of p) (outputs_named items p has) in_it
+
+  module _ (default : Delay) (range : IsInRange default) (items : AllByRecursion (IsItem (tens_of m.fronts)) m.items) (gates : sum_by item_gates m.items ≤ 200000) where
     gate_names : gate_outputs (netlist_in default m) ≡ nets_at (outputs_in m)
-    gate_names = outputs_are m default (primitives m) outputs_named
+    gate_names = outputs_are m default (primitives m) (outputs_named items)
 
     netlist_driven : driven (netlist_in default m) ≡ driven_in m
     netlist_driven = ap (λ (ns : List Name). ports_as is_input m ++ ns) gate_names

@@ -24,5 +24,6 @@ pub mod Consistent
 pub mod Formed
 pub mod Gathering
 pub mod Readings
+pub mod Netlists
 pub mod Bits
 pub mod KnownNames
