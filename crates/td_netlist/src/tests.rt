@@ -304,6 +304,7 @@ fn whole(rt: HostRuntime) -> Result<(), Fail> {
     };
     assert_eq!(rt; netlist.unit(), unit);
     assert_eq!(rt; netlist.defaulted(), 1);
+    assert_eq!(rt; netlist.gates().len(), 2);
     let first = &netlist.gates()[0];
     assert_eq!(rt; first.delay.rise, 150);
     assert_eq!(rt; first.delay.fall, 200);
