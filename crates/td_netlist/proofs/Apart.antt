@@ -48,7 +48,7 @@ bits_apart text r place zero within = distinct_nil
 bits_apart text r place (suc n) within =
     distinct_cons (bit_name text (bit_at r place)) (map (bit_name text) (bits_from r (place + 1) n))
     (λ has. (let at = stands_at text r (place + 1) n (bit_name text (bit_at r place)) has in
-        other_bit r place at.at (omega (arith, at.least)) (omega (arith, at.below, within)) (same_bit text (bit_at r place) (bit_at r at.at) at.is)))
+    other_bit r place at.at (omega (arith, at.least)) (omega (arith, at.below, within)) (same_bit text (bit_at r place) (bit_at r at.at) at.is)))
     (bits_apart text r (place + 1) n (omega (arith, within)))
 
 nets_apart : (text : List ℕ) (range : Option Range) → IsDistinct (nets_of text range)
@@ -73,9 +73,9 @@ named_apart range (n ∷ ns) apart =
     (distinct_append (nets_of n.name (range n.name)) (flat_map (λ (k : grammar.Name). nets_of k.name (range k.name)) ns) (nets_apart n.name (range n.name))
     (named_apart range ns (distinct_tail (scalar n) (names_of ns) apart))
     (λ x has in_it. (let one = of_gathered (λ (k : grammar.Name). nets_of k.name (range k.name)) x ns has in
-        let texts : one.0.name ≡ n.name = sym (net_text one.0.name (range one.0.name) x one.2) ∙ net_text n.name (range n.name) x in_it in
-        distinct_head (scalar n) (names_of ns) apart
-        (subst (λ (t : List ℕ). Contains (names_of ns) (record { text = t; bit = None })) texts (mapped scalar one.0 ns one.1)))))
+    let texts : one.0.name ≡ n.name = sym (net_text one.0.name (range one.0.name) x one.2) ∙ net_text n.name (range n.name) x in_it in
+    distinct_head (scalar n) (names_of ns) apart
+    (subst (λ (t : List ℕ). Contains (names_of ns) (record { text = t; bit = None })) texts (mapped scalar one.0 ns one.1)))))
 
 names_filtered : (p : grammar.Name → Bool) (ns : List grammar.Name) → IsDistinct (names_of ns) → IsDistinct (names_of (filter p ns))
 names_filtered p [] apart = distinct_nil
@@ -85,7 +85,7 @@ names_filtered p (n ∷ ns) apart = by (p n) (names_filtered p ns (distinct_tail
     by true rest =
         distinct_cons (scalar n) (names_of (filter p ns))
         (λ has. (let one = of_mapped scalar (scalar n) (filter p ns) has in
-            distinct_head (scalar n) (names_of ns) apart (subst (λ (x : Name). Contains (names_of ns) x) one.2 (mapped scalar one.0 ns (of_filtered p one.0 ns one.1).0))))
+        distinct_head (scalar n) (names_of ns) apart (subst (λ (x : Name). Contains (names_of ns) x) one.2 (mapped scalar one.0 ns (of_filtered p one.0 ns one.1).0))))
         rest
     by false rest = rest
 

@@ -124,9 +124,9 @@ module _ (m : grammar.Module) where
   all_joined : ((t : grammar.Terminal) → Contains (terminals_in m) t → IsJoined (source_of m t)) → AllByRecursion (λ (t : grammar.Terminal). IsJoined (source_of m t)) (flat_map inputs_of (primitives m))
   all_joined joined = all_by (λ (t : grammar.Terminal). IsJoined (source_of m t)) (flat_map inputs_of (primitives m))
       (λ t has. (let one = of_gathered inputs_of t (primitives m) has in
-          let count = output_count one.0.kind (length one.0.terminals) in
-          joined t (gathered (λ (p : Primitive). p.terminals) one.0 t (primitives m) one.1
-          (subst (λ (ts : List grammar.Terminal). Contains ts t) (take-append-drop count one.0.terminals) (behind t _ (inputs_of one.0) one.2)))))
+      let count = output_count one.0.kind (length one.0.terminals) in
+      joined t (gathered (λ (p : Primitive). p.terminals) one.0 t (primitives m) one.1
+      (subst (λ (ts : List grammar.Terminal). Contains ts t) (take-append-drop count one.0.terminals) (behind t _ (inputs_of one.0) one.2)))))
 
   module _ (s : Sides) (ks : List Known) (well : DeclaredWell m s ks) where
     same_walk : walk_of s.inputs (different s.inputs) ks ≡ walk_of (ports_as is_input m) (ports_as is_input m) ks
@@ -178,8 +178,7 @@ module _ (m : grammar.Module) where
         let reads = all_read m a.0 (plain_names (terminals_in m)) drives.names (primitives m) b.0 (all_joined drives.joined) b.1 in
         let c = ok_both (each (read_placed a.0.driven) tt s.outputs) (λ outputs. Ok a.0) d b.2 in
         let outputs = all_outputs m a.0 (plain_names (terminals_in m)) drives.names s.outputs c.0 c.1 in
-        let same : a.0 ≡ d = cc in
-        (
+        let same : a.0 ≡ d = cc in (
           record {
             declared = well.keeps;
             joined = record { each = drives.joined };

@@ -125,7 +125,7 @@ width_push (x ∷ ds) d = by (is_input x.role) (width_push ds d)
 
     by : (b : Bool) → input_width (ds ++ d ∷ []) ≡ input_width ds + input_bits d.role d.range
         → sum_by (λ (y : Declared). width_of y.range) (cond b (x ∷ filter (λ (y : Declared). is_input y.role) (ds ++ d ∷ [])) (filter (λ (y : Declared). is_input y.role) (ds ++ d ∷ [])))
-            ≡ sum_by (λ (y : Declared). width_of y.range) (cond b (x ∷ filter (λ (y : Declared). is_input y.role) ds) (filter (λ (y : Declared). is_input y.role) ds)) + input_bits d.role d.range
+        ≡ sum_by (λ (y : Declared). width_of y.range) (cond b (x ∷ filter (λ (y : Declared). is_input y.role) ds) (filter (λ (y : Declared). is_input y.role) ds)) + input_bits d.role d.range
     by true rest =
         omega (
           arith,

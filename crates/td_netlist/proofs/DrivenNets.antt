@@ -519,14 +519,16 @@ module _ (m : grammar.Module) where
         let at = stops_fitting (read_net d) ReadsDriven Joined reads_one tt [] (flat_map inputs_of ps) f all (none_read tt) (sym (reads_walk ps) ∙ e) in
         let t = at.member in
         let no = read_from_err (line_of t) (net_of m t) f (sym (read_is at.state t at.fits) ∙ at.refused) in
-        let stands : Contains (flat_map inputs_of ps) t = subst (λ (xs : List grammar.Terminal). Contains xs t) (sym at.splits) (between at.before t at.after) in
-        (no.kind_is, record {
-          placed = record { net = no.this; line = line_of t };
-          stands = gathered (λ (x : grammar.Terminal). placed_net (line_of x) (net_of m x)) t (record { net = no.this; line = line_of t }) (flat_map inputs_of ps) stands
-              (subst (λ (x : Net). Contains (placed_net (line_of t) x) (record { net = no.this; line = line_of t })) (sym no.is) (first (record { net = no.this; line = line_of t }) []));
-          there = no.there;
-          missing = no.missing;
-        })
+        let stands : Contains (flat_map inputs_of ps) t = subst (λ (xs : List grammar.Terminal). Contains xs t) (sym at.splits) (between at.before t at.after) in (
+          no.kind_is,
+          record {
+            placed = record { net = no.this; line = line_of t };
+            stands = gathered (λ (x : grammar.Terminal). placed_net (line_of x) (net_of m x)) t (record { net = no.this; line = line_of t }) (flat_map inputs_of ps) stands
+                (subst (λ (x : Net). Contains (placed_net (line_of t) x) (record { net = no.this; line = line_of t })) (sym no.is) (first (record { net = no.this; line = line_of t }) []));
+            there = no.there;
+            missing = no.missing;
+          },
+        )
 
     -- ---- outputs
 
@@ -553,10 +555,12 @@ module _ (m : grammar.Module) where
     outputs_break ps f e =
         let at = stops (read_placed d.driven) OutputsDriven outputs_one tt [] ps f no_outputs e in
         let no = read_from_err at.member.line (Named at.member.net) f at.refused in
-        let same : at.member.net ≡ no.this = let named : Named at.member.net ≡ Named no.this = no.is in cc in
-        (no.kind_is, record {
-          placed = at.member;
-          stands = subst (λ (xs : List Placed). Contains xs at.member) (sym at.splits) (between at.before at.member at.after);
-          there = no.there;
-          missing = subst (λ (x : Name). ¬ Contains d.driven x) (sym same) no.missing;
-        })
+        let same : at.member.net ≡ no.this = let named : Named at.member.net ≡ Named no.this = no.is in cc in (
+          no.kind_is,
+          record {
+            placed = at.member;
+            stands = subst (λ (xs : List Placed). Contains xs at.member) (sym at.splits) (between at.before at.member at.after);
+            there = no.there;
+            missing = subst (λ (x : Name). ¬ Contains d.driven x) (sym same) no.missing;
+          },
+        )

@@ -326,7 +326,7 @@ module _ (m : grammar.Module) (keeps : IsConsistent m) where
         let fewer : length (ports_as is_input m) ≤ length (declared_nets (declared is_input m)) =
         no_more (ports_as is_input m) (declared_nets (declared is_input m)) inputs_once
         (λ name has. (let side = side_net is_input name has in
-            gathered (λ (x : Declared). nets_of x.name.name x.range) side.declares name (declared is_input m) side.stands side.is_bit)) in
+        gathered (λ (x : Declared). nets_of x.name.name x.range) side.declares name (declared is_input m) side.stands side.is_bit)) in
         let long = declared_long (declared is_input m) in
         record {
           one_driver = subst IsDistinct (sym netlist_driven) (distinct_append (ports_as is_input m) (nets_at (outputs_in m)) inputs_once keeps.driven.driven_once keeps.driven.inputs_free);

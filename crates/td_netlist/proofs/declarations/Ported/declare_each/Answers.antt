@@ -13,9 +13,9 @@ declare-requires-clause-ranged c = at_place IsPort port_view c.args.ports.now c.
 
 pub loop-port-preserved : goal.loop-port-preserved
 loop-port-preserved c = (
-    goes (checks.declare_port) port_view c.args.ports.now c.loop-port.port-index _ (ported_of c.loop-port.self) (each (checks.declare_port) (ported_of c.args.self.now) (map port_view c.args.ports.now)) (ported_of c.declare.new.self) c.loop-port-test.true c.in_ok-declare.ensures.declared c.loop-port.invariant.0,
-    c.declare.ensures.ranged,
-  )
+  goes (checks.declare_port) port_view c.args.ports.now c.loop-port.port-index _ (ported_of c.loop-port.self) (each (checks.declare_port) (ported_of c.args.self.now) (map port_view c.args.ports.now)) (ported_of c.declare.new.self) c.loop-port-test.true c.in_ok-declare.ensures.declared c.loop-port.invariant.0,
+  c.declare.ensures.ranged,
+)
 
 pub returns-in_err-declare : goal.returns-in_err-declare
 returns-in_err-declare c =

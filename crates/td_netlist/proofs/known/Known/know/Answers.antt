@@ -16,8 +16,7 @@ invariant_of-self-2 c =
     let unknown : known c.args.self.now text ≡ None = sym c.get.ensures.value ∙ ap (known_as text) nothing in
     let absent = none_known text _ (known_in text entries ∙ ap (λ (ks : List Known). known ks text) c.self.view_is ∙ unknown) in
     let added = ap (λ (es : List _). map known_of es) (c.in_ok-insert.ensures.entries ∙ insert_entry-new _ c.self.inside.table c.args.name.name _ absent) ∙ map_push known_of entries _ in
-    let more = nets_more (map known_of entries) (record { text = text; range = c.args.range }) in
-    (
+    let more = nets_more (map known_of entries) (record { text = text; range = c.args.range }) in (
       rw added (omega (arith, more, c.self.invariant.0, c.width_of-width.ensures)),
       omega (arith, c.if-self-width-gt-MAX_NETS.false),
       rw added (limited_push (map known_of entries) (record { text = text; range = c.args.range }) c.self.invariant.2 c.requires),
