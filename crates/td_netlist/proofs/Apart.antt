@@ -1,8 +1,8 @@
 -- The nets of ports are distinct.
-use Rattle.std.proofs.Common.{◌≡◌, ℕ, zero, suc, ◌+◌, ◌-◌, ◌<◌, ◌≤◌, Bool, true, false, cond, List, [], ◌∷◌, ◌++◌, map, filter, Option, None, Some, refl, sym, ap, subst, ◌∙◌, arith, inl, inr}
+use Rattle.std.proofs.Common.{◌≡◌, ℕ, zero, suc, ◌+◌, ◌-◌, ◌<◌, ◌≤◌, Bool, true, false, cond, List, [], ◌∷◌, map, filter, Option, None, Some, refl, sym, ap, subst, ◌∙◌, arith, inl, inr}
 use Rattle.std.specs.Prelude.{nat_le}
 use Rattle.std.specs.List.{Contains, flat_map}
-use Rattle.std.proofs.lemmas.Bool.{leb-true, leb-false}
+use Rattle.std.proofs.lemmas.Bool.{leb-false}
 use Rattle.std.proofs.lemmas.List.Concat.{flat_map-cons}
 use Rattle.td_syntax.specs.declared.syntax.Role.{Role}
 use Rattle.td_syntax.specs.Grammar as grammar
@@ -11,8 +11,8 @@ use Rattle.td_netlist.specs.Netlist.{Name}
 use Rattle.td_netlist.specs.WellFormed.{IsDistinct}
 use Rattle.td_netlist.specs.Names.{is_in}
 use Rattle.td_netlist.specs.Ranges.{width_of, bit_at, bits_from, bit_name, nets_of}
-use Rattle.td_netlist.specs.Module.{scalar, names_of, declared_names, range_in, nets_named, ports, ports_as}
-use Rattle.td_netlist.proofs.Members.{first, later, one_of, nowhere, of_mapped, mapped, of_filtered, of_gathered}
+use Rattle.td_netlist.specs.Module.{scalar, names_of, declared_names, range_in, ports, ports_as}
+use Rattle.td_netlist.proofs.Members.{one_of, nowhere, of_mapped, mapped, of_filtered, of_gathered}
 use Rattle.td_netlist.proofs.Distinct.{distinct_nil, distinct_cons, distinct_head, distinct_tail, distinct_append}
 
 -- ---- the bits of a name

@@ -9,11 +9,10 @@ use Rattle.td_netlist.specs.declared.fault.FaultKind.TheVariants as kind
 use Rattle.td_netlist.specs.declared.fault.Fault.{Fault}
 use Rattle.td_netlist.specs.Netlist.{Name}
 use Rattle.td_netlist.specs.WellFormed.{IsDistinct}
-use Rattle.td_netlist.specs.Names.{is_in}
 use Rattle.td_netlist.specs.Faults.{◌>>=◌, UnlessMemory}
 use Rattle.td_netlist.specs.Ranges.{nets_of}
-use Rattle.td_netlist.specs.Module.{scalar, names_of, Declared, is_input, is_output, is_wire, is_direction, different, ports, ports_as, declarations, ports_declared, declared, declared_names, range_in, nets_named, source_of, Placed, placed_in, nets_at, terminals_in, outputs_in, inputs_in, inputs_of, output_bits, driven_in, Primitive, primitives, net_count, names_in, input_count}
-use Rattle.td_netlist.specs.Means.{AreDeclared, IsJoined, IsConsistent, RepeatedOn, MissingOn, AgainOn, LeftOutOn, UnjoinedOn, Breaks}
+use Rattle.td_netlist.specs.Module.{scalar, names_of, Declared, is_input, is_output, is_wire, is_direction, different, ports, ports_as, declarations, declared, declared_names, range_in, nets_named, source_of, Placed, nets_at, terminals_in, outputs_in, inputs_in, inputs_of, output_bits, driven_in, Primitive, primitives, net_count, names_in, input_count}
+use Rattle.td_netlist.specs.Means.{AreDeclared, IsJoined, IsConsistent, RepeatedOn, MissingOn, AgainOn, LeftOutOn, Breaks}
 use Rattle.td_netlist.specs.Checks.{Known, nets_known, each, Lists, declare_ports, declare_item, Sides, sideless, take_side, Drivers, drive_all, read_all, read_placed, sides_at, declared_at, driven_at}
 use Rattle.td_netlist.proofs.Members.{in_front, behind, mapped, of_mapped, filtered, of_filtered, gathered, of_gathered, either_side}
 use Rattle.td_netlist.proofs.Distinct.{not_distinct}
@@ -21,7 +20,7 @@ use Rattle.td_netlist.proofs.Sets.{is_contained}
 use Rattle.td_netlist.proofs.Steps.{ok_both, err_either}
 use Rattle.td_netlist.proofs.Knowing.{AreKnown, width_by, nets_counted}
 use Rattle.td_netlist.proofs.Declaring.{with_direction, all_names}
-use Rattle.td_netlist.proofs.DeclaredNames.{breaks_as, Declares}
+use Rattle.td_netlist.proofs.DeclaredNames.{breaks_as}
 use Rattle.td_netlist.proofs.PortLists.{ports_declare, items_declare, port_breaks, item_breaks}
 use Rattle.td_netlist.proofs.PortSides.{is_port_as, are_sides, side_breaks, output_directs}
 use Rattle.td_netlist.proofs.Joining.{KnowsModule, plain_names}

@@ -1,7 +1,7 @@
 -- What the checks of declarations say of a module.
 use Rattle.std.proofs.Common.{◌≡◌, ℕ, ◌+◌, ◌<◌, ◌≤◌, Bool, true, false, cond, List, [], ◌∷◌, ◌++◌, map, filter, fold, Option, None, Some, Result, Ok, Err, refl, sym, ap, subst, ◌∙◌, append_assoc, arith, ◌⊎◌, inl, inr}
-use Rattle.std.specs.Prelude.{◌&&◌, not, is_some, nat_lt}
-use Rattle.std.specs.List.{Contains, flat_map, sum_by, AllByRecursion}
+use Rattle.std.specs.Prelude.{not, is_some, nat_lt}
+use Rattle.std.specs.List.{Contains, flat_map, sum_by}
 use Rattle.std.proofs.lemmas.Bool.{ltb-true, ltb-false, eqb-true, eq-eqb, and_parts, and_from}
 use Rattle.std.proofs.lemmas.List.{append-nil, map-append}
 use Rattle.std.proofs.lemmas.List.Sums.{fold-append, sum_by-cons}
@@ -17,14 +17,14 @@ use Rattle.td_netlist.specs.WellFormed.{IsDistinct}
 use Rattle.td_netlist.specs.Names.{is_in, with_name}
 use Rattle.td_netlist.specs.Faults.{unless}
 use Rattle.td_netlist.specs.Ranges.{width_of}
-use Rattle.td_netlist.specs.Module.{scalar, names_of, Declared, is_input, is_wire, is_direction, different, ports, declarations, declared, declared_names, range_in, plain_name, terminals_in, names_in, net_count, input_count}
+use Rattle.td_netlist.specs.Module.{scalar, names_of, Declared, is_input, is_wire, is_direction, different, ports, declarations, declared_names, range_in, plain_name, terminals_in, names_in, net_count, input_count}
 use Rattle.td_netlist.specs.Means.{RepeatedOn, RangedOn, Breaks}
 use Rattle.td_netlist.specs.Checks.{Known, known, same_number, is_other, nets_known, know, direction_of, direction_fault, wire_fault, input_bits, Lists, nothing, declare, declare_wire, declare_direction}
-use Rattle.td_netlist.proofs.Members.{either_side, one_of, nowhere, first, between, in_front, behind, mapped}
+use Rattle.td_netlist.proofs.Members.{either_side, one_of, nowhere, between, mapped}
 use Rattle.td_netlist.proofs.Distinct.{distinct_nil, distinct_push}
 use Rattle.td_netlist.proofs.Sets.{contains_is, not_contained}
 use Rattle.td_netlist.proofs.Steps.{ok_both, err_either, unless_ok, unless_err}
-use Rattle.td_netlist.proofs.Knowing.{named, texts, known_some, known_none, known_there, AreKnown, none_are_known, knows_one, few_known, know_err, width_by, still_too_many, of_different, in_different}
+use Rattle.td_netlist.proofs.Knowing.{named, known_some, known_none, AreKnown, none_are_known, knows_one, few_known, know_err, width_by, still_too_many, of_different, in_different}
 use Rattle.td_netlist.proofs.Declaring.{named_push, declared_as, declared_more, declared_same, declared_split, with_direction, directed_more, directed_same, all_names, all_push, all_both, input_width, range_by, range_kept, range_new, undirected, directed_there}
 
 -- ---- what a role is

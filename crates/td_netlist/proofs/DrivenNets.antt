@@ -1,5 +1,5 @@
 -- What the checks of drivers say of a module.
-use Rattle.std.proofs.Common.{◌≡◌, ◌+◌, ◌<◌, ◌≤◌, ℕ, Bool, true, false, cond, List, [], ◌∷◌, ◌++◌, length, map, filter, fold, None, Some, Result, Ok, Err, refl, sym, ap, subst, ◌∙◌, append_assoc, arith, inl, inr}
+use Rattle.std.proofs.Common.{◌≡◌, ◌<◌, ◌≤◌, ℕ, Bool, true, false, cond, List, [], ◌∷◌, ◌++◌, length, map, filter, fold, None, Some, Result, Ok, Err, refl, sym, ap, subst, ◌∙◌, append_assoc, inl, inr}
 use Rattle.std.specs.List.{Contains, flat_map, sum_by, AllByRecursion}
 use Rattle.std.proofs.lemmas.List.{append-nil, map_push, map-append, take-append-drop}
 use Rattle.std.proofs.lemmas.List.Elements.{filter-append}
@@ -14,19 +14,18 @@ use Rattle.td_netlist.specs.declared.fault.Fault.{Fault}
 use Rattle.td_netlist.specs.Netlist.{Name, Net, Low, High, Named}
 use Rattle.td_netlist.specs.WellFormed.{IsDistinct}
 use Rattle.td_netlist.specs.Names.{is_in, with_name}
-use Rattle.td_netlist.specs.Faults.{unless, ◌>>=◌}
-use Rattle.td_netlist.specs.Ranges.{width_of}
-use Rattle.td_netlist.specs.Module.{scalar, names_of, is_input, different, ports_as, declarations, range_in, Source, Joins, NoBit, NotOne, source_of, line_of, net_of, net_from, Placed, placed_net, placed_in, nets_at, terminals_in, outputs_in, outputs_of, inputs_of, inputs_in, plain_name, names_in, net_count, Primitive, primitives}
-use Rattle.td_netlist.specs.Means.{IsJoined, AgainOn, TakenOn, LeftOutOn, UnjoinedOn, Breaks}
-use Rattle.td_netlist.specs.Checks.{each, Known, known, nets_known, know, meet, resolve, line_at, Drivers, second_driver, drive_fault, drive_net, seen, see, drives, drive, drive_all, read_from, read_net, read_all, read_placed}
-use Rattle.td_netlist.proofs.Members.{either_side, one_of, nowhere, first, later, in_front, behind, between, mapped, gathered}
+use Rattle.td_netlist.specs.Faults.{◌>>=◌}
+use Rattle.td_netlist.specs.Module.{scalar, names_of, is_input, different, ports_as, declarations, range_in, Source, Joins, source_of, line_of, net_of, net_from, Placed, placed_net, placed_in, nets_at, terminals_in, outputs_in, outputs_of, inputs_of, plain_name, names_in, net_count, Primitive, primitives}
+use Rattle.td_netlist.specs.Means.{IsJoined, LeftOutOn, Breaks}
+use Rattle.td_netlist.specs.Checks.{each, Known, nets_known, know, meet, resolve, line_at, Drivers, second_driver, drive_fault, drive_net, seen, see, drives, drive, drive_all, read_from, read_net, read_all, read_placed}
+use Rattle.td_netlist.proofs.Members.{either_side, one_of, nowhere, first, later, in_front, behind, between, gathered}
 use Rattle.td_netlist.proofs.Distinct.{distinct_nil, distinct_push, distinct_head, distinct_tail}
 use Rattle.td_netlist.proofs.Sets.{contains_is, not_contained, is_absent}
 use Rattle.td_netlist.proofs.Steps.{ok_both, err_either, unless_ok, unless_err, kept, stops, kept_fitting, stops_fitting, each_append, each_flat, each_map, bind_same}
-use Rattle.td_netlist.proofs.Knowing.{AreKnown, few_known, know_err, known_none, in_different, width_by, still_too_many}
+use Rattle.td_netlist.proofs.Knowing.{few_known, know_err, known_none, in_different, width_by, still_too_many}
 use Rattle.td_netlist.proofs.Declaring.{all_names}
 use Rattle.td_netlist.proofs.DeclaredNames.{breaks_as}
-use Rattle.td_netlist.proofs.Joining.{same_line, KnowsModule, undeclared_scalar, source_is, resolved_ok, is_joined_to, Sees, seen_ok, seen_err, Unjoined, HasNoBit, IsNotOne, unjoined, plain_names, plain_push, met}
+use Rattle.td_netlist.proofs.Joining.{same_line, KnowsModule, undeclared_scalar, source_is, resolved_ok, is_joined_to, seen_ok, seen_err, HasNoBit, IsNotOne, unjoined, plain_names, met}
 
 -- ---- different names are all kept
 

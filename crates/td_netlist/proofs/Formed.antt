@@ -20,7 +20,7 @@ use Rattle.td_netlist.specs.declared.ranges.Range.{Range}
 use Rattle.td_netlist.specs.Netlist.{Name, Net, Named, Gate}
 use Rattle.td_netlist.specs.WellFormed.{IsDistinct, IsWellFormed, IsGate, driven, gate_outputs}
 use Rattle.td_netlist.specs.Ranges.{width_of, holds, bits_from, bit_name, nets_of}
-use Rattle.td_netlist.specs.Module.{scalar, names_of, Declared, is_input, is_output, is_direction, ports, ports_as, declarations, declared, declared_names, range_in, nets_named, whole_source, bit_source, Source, Joins, NotOne, NoBit, source_of, line_of, net_from, net_of, Placed, placed_net, placed_in, nets_at, terminals_in, outputs_in, inputs_in, output_bits, driven_in, outputs_of, inputs_of, Primitive, primitives, item_primitives, as_primitive, delay_of, name_from, gate_by, primitive_gates, gates_of, netlist_in, input_count}
+use Rattle.td_netlist.specs.Module.{scalar, names_of, Declared, is_input, is_output, is_direction, ports, ports_as, declarations, declared, declared_names, range_in, nets_named, whole_source, bit_source, Joins, NotOne, NoBit, source_of, line_of, net_from, net_of, Placed, placed_net, placed_in, nets_at, outputs_in, inputs_in, output_bits, driven_in, outputs_of, inputs_of, Primitive, primitives, item_primitives, as_primitive, delay_of, name_from, gate_by, primitive_gates, gates_of, netlist_in}
 use Rattle.td_netlist.specs.Means.{IsJoined, IsConsistent}
 use Rattle.td_netlist.specs.Checks.{direction_of}
 use Rattle.td_netlist.proofs.Members.{first, later, one_of, nowhere, in_front, mapped, of_mapped, filtered, of_filtered, gathered, of_gathered, either_side}

@@ -1,5 +1,5 @@
 -- The gates that the last walk makes are those of the netlist.
-use Rattle.std.proofs.Common.{◌≡◌, ℕ, List, [], ◌∷◌, ◌++◌, length, map, Result, Ok, Err, refl, sym, ap, subst, ◌∙◌, append_assoc}
+use Rattle.std.proofs.Common.{◌≡◌, List, [], ◌∷◌, ◌++◌, length, map, Result, Ok, sym, ap, subst, ◌∙◌, append_assoc}
 use Rattle.std.specs.List.{Contains, flat_map}
 use Rattle.std.proofs.lemmas.List.{append-nil, take-append-drop}
 use Rattle.std.proofs.lemmas.List.Concat.{flat_map-cons}
@@ -7,11 +7,11 @@ use Rattle.td_gates.specs.declared.timing.Delay.{Delay}
 use Rattle.td_syntax.specs.Grammar as grammar
 use Rattle.td_syntax.specs.Grammar.{tens_of, output_count}
 use Rattle.td_netlist.specs.declared.fault.Fault.{Fault}
-use Rattle.td_netlist.specs.Netlist.{Name, Net, Named, Gate}
+use Rattle.td_netlist.specs.Netlist.{Name, Net, Gate}
 use Rattle.td_netlist.specs.Faults.{◌>>=◌}
 use Rattle.td_netlist.specs.Module.{source_of, net_of, terminals_in, outputs_of, inputs_of, Primitive, primitives, delay_of, name_from, gate_by, primitive_gates, gates_of}
 use Rattle.td_netlist.specs.Means.{IsJoined}
-use Rattle.td_netlist.specs.Checks.{each, Known, resolve, with_net, gate_at, gate_driving, with_gate, with_gates}
+use Rattle.td_netlist.specs.Checks.{each, Known, with_net, gate_at, gate_driving, with_gate, with_gates}
 use Rattle.td_netlist.proofs.Members.{first, later, in_front, behind, gathered}
 use Rattle.td_netlist.proofs.Joining.{KnowsModule, resolved_ok}
 use Rattle.td_netlist.proofs.Formed.{IsNamed}

@@ -1,20 +1,18 @@
 -- What a terminal is joined to, by what is known of its name.
-use Rattle.std.proofs.Common.{◌≡◌, ℕ, Bool, true, false, List, [], ◌∷◌, ◌++◌, map, None, Some, Result, Ok, Err, refl, sym, ap, subst, ◌∙◌, append_assoc, ◌⊎◌, inl, inr}
+use Rattle.std.proofs.Common.{◌≡◌, ℕ, true, false, List, [], ◌∷◌, ◌++◌, None, Ok, Err, refl, sym, ap, subst, ◌∙◌, append_assoc, ◌⊎◌, inl, inr}
 use Rattle.std.specs.List.{Contains, flat_map}
-use Rattle.std.proofs.lemmas.List.{append-nil, map-append, map_push}
+use Rattle.std.proofs.lemmas.List.{append-nil, map-append}
 use Rattle.std.proofs.lemmas.Grind.{flat_map-append}
 use Rattle.std.proofs.lemmas.List.Concat.{flat_map-cons}
 use Rattle.td_syntax.specs.Grammar as grammar
 use Rattle.td_syntax.specs.Grammar.{value_of}
-use Rattle.td_netlist.specs.declared.ranges.Range.{Range}
-use Rattle.td_netlist.specs.declared.fault.FaultKind.{FaultKind}
 use Rattle.td_netlist.specs.declared.fault.FaultKind.TheVariants as kind
 use Rattle.td_netlist.specs.declared.fault.Fault.{Fault}
-use Rattle.td_netlist.specs.Netlist.{Name, Net, Low, High, Named}
+use Rattle.td_netlist.specs.Netlist.{Name, Net}
 use Rattle.td_netlist.specs.Faults.{fault}
-use Rattle.td_netlist.specs.Module.{scalar, names_of, declarations, range_in, whole_source, bit_source, Source, Joins, NoBit, NotOne, source_of, line_of, net_from, net_of, Placed, placed_net, placed_in, nets_at, plain_name}
+use Rattle.td_netlist.specs.Module.{scalar, names_of, declarations, range_in, whole_source, bit_source, Source, Joins, NoBit, NotOne, source_of, line_of, net_from, net_of, plain_name}
 use Rattle.td_netlist.specs.Means.{IsJoined}
-use Rattle.td_netlist.specs.Checks.{Known, known, know, joined, resolve, meet, line_at, Drivers, seen}
+use Rattle.td_netlist.specs.Checks.{Known, joined, resolve, meet, line_at, Drivers, seen}
 use Rattle.td_netlist.proofs.Members.{in_front}
 use Rattle.td_netlist.proofs.Steps.{ok_both, err_either}
 use Rattle.td_netlist.proofs.Knowing.{named, known_none, in_different, AreKnown, range_is_known, knows_one}

@@ -1,6 +1,6 @@
 -- The names that are known, and how many nets they have.
-use Rattle.std.proofs.Common.{◌≡◌, ℕ, ◌+◌, ◌<◌, ◌≤◌, Bool, true, false, cond, List, [], ◌∷◌, ◌++◌, map, fold, Option, None, Some, Result, Ok, Err, refl, sym, ap, subst, ◌∙◌, arith, ◌⊎◌, inl, inr}
-use Rattle.std.specs.Prelude.{find, is_some, nat_lt}
+use Rattle.std.proofs.Common.{◌≡◌, ℕ, ◌+◌, ◌<◌, ◌≤◌, Bool, true, false, cond, List, [], ◌∷◌, ◌++◌, map, fold, Option, None, Some, Ok, Err, refl, sym, ap, subst, ◌∙◌, arith, ◌⊎◌, inl, inr}
+use Rattle.std.specs.Prelude.{is_some, nat_lt}
 use Rattle.std.specs.List.{Contains, sum_by}
 use Rattle.std.specs.Str.{bytes_eq}
 use Rattle.std.specs.Cmp.Lexicographic.{same_text}
@@ -19,7 +19,7 @@ use Rattle.td_netlist.specs.Module.{scalar, different}
 use Rattle.td_netlist.specs.Checks.{Known, known, range_known, nets_known, with_range, know}
 use Rattle.td_netlist.proofs.Members.{first, later, one_of, nowhere, in_front, behind, either_side, mapped, of_mapped}
 use Rattle.td_netlist.proofs.Finding.{found_there, found_none}
-use Rattle.td_netlist.proofs.Sets.{contains_is, is_contained, not_contained, is_absent}
+use Rattle.td_netlist.proofs.Sets.{contains_is, is_contained, is_absent}
 use Rattle.td_netlist.proofs.SameNames.{text_same}
 use Rattle.td_netlist.proofs.Steps.{unless_ok, unless_err}
 use Rattle.td_netlist.proofs.KnownNames.{nets_more}

@@ -1,27 +1,20 @@
 -- What the walks of a module give, and the netlist that is made of it.
-use Rattle.std.proofs.Common.{◌≡◌, ℕ, ◌≤◌, List, [], map, Result, Ok, Err, refl, sym, ap, subst, ◌∙◌}
-use Rattle.std.specs.Prelude.{sum_by}
+use Rattle.std.proofs.Common.{◌≡◌, ℕ, List, [], Result, Ok, refl, sym, ap, subst, ◌∙◌}
 use Rattle.std.specs.List.{AllByRecursion}
 use Rattle.td_gates.specs.declared.timing.Delay.{Delay}
-use Rattle.td_gates.specs.Delays.{IsInRange}
 use Rattle.td_syntax.specs.Grammar as grammar
 use Rattle.td_syntax.specs.Grammar.{ArePorts, IsItem, item_gates, tens_of}
 use Rattle.td_netlist.specs.declared.fault.Fault.{Fault}
-use Rattle.td_netlist.specs.declared.name.Name as code_name
-use Rattle.td_netlist.specs.declared.netlist.Gate as code_gate
-use Rattle.td_netlist.specs.declared.netlist.Unit.{Unit as Step}
-use Rattle.td_netlist.specs.Netlist.{Name, Gate, Netlist}
-use Rattle.td_netlist.specs.WellFormed.{IsWellFormed}
-use Rattle.td_netlist.specs.Views.{name_of, gate_of, netlist_from}
+use Rattle.td_netlist.specs.Netlist.{Gate}
 use Rattle.td_netlist.specs.Faults.{Fails, UnlessMemory}
-use Rattle.td_netlist.specs.Module.{terminals_in, Primitive, primitives, defaulted_of, gates_of, unit_of, netlist_in}
-use Rattle.td_netlist.specs.Means.{IsConsistent, Breaks}
+use Rattle.td_netlist.specs.Module.{terminals_in, Primitive, primitives, gates_of}
+use Rattle.td_netlist.specs.Means.{Breaks}
 use Rattle.td_netlist.specs.Checks.{each, Known, Sides, Drivers, with_gates, declared_at, driven_at}
-use Rattle.td_netlist.proofs.Consistent.{AreSides, Passes, passes, declared_breaks, drivers_refused}
-use Rattle.td_netlist.proofs.Formed.{output_named, well_formed}
+use Rattle.td_netlist.proofs.Consistent.{Passes, passes, declared_breaks, drivers_refused}
+use Rattle.td_netlist.proofs.Formed.{output_named}
 use Rattle.td_netlist.proofs.Gathering.{gates_are}
 use Rattle.td_netlist.proofs.Joining.{plain_names}
-use Rattle.td_netlist.proofs.Readings.{fault_breaks, memory_breaks, parts_are}
+use Rattle.td_netlist.proofs.Readings.{fault_breaks, memory_breaks}
 
 same_ok : {A : Type 0} (r s : Result A Fault) (x y : A) → r ≡ s → r ≡ Ok x → s ≡ Ok y → x ≡ y
 same_ok r s x y same e f = cc

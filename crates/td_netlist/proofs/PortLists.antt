@@ -1,7 +1,7 @@
 -- What the walk through the port list and the items of a module says of it.
-use Rattle.std.proofs.Common.{◌≡◌, ℕ, true, false, List, [], ◌∷◌, ◌++◌, map, Option, None, Some, Result, Ok, Err, refl, sym, ap, subst, ◌∙◌, append_assoc, inl, inr}
+use Rattle.std.proofs.Common.{◌≡◌, true, List, [], ◌∷◌, ◌++◌, map, Option, None, Some, Result, Ok, Err, refl, sym, ap, subst, ◌∙◌, append_assoc, inl, inr}
 use Rattle.std.specs.List.{Contains, flat_map, AllByRecursion}
-use Rattle.std.proofs.lemmas.List.{map_push, append-nil}
+use Rattle.std.proofs.lemmas.List.{map_push}
 use Rattle.td_syntax.specs.declared.syntax.Role.{Role}
 use Rattle.td_syntax.specs.declared.syntax.Role.TheVariants as role
 use Rattle.td_syntax.specs.Grammar as grammar
@@ -15,7 +15,7 @@ use Rattle.td_netlist.specs.Faults.{◌>>=◌}
 use Rattle.td_netlist.specs.Ranges.{range_of}
 use Rattle.td_netlist.specs.Module.{scalar, names_of, Declared, is_direction, item_declared, ports_from, ports_declared, declarations, port_name, port_names, ports}
 use Rattle.td_netlist.specs.Means.{Breaks}
-use Rattle.td_netlist.specs.Checks.{each, list_port, Lists, nothing, with_port, declare_direction, declare_item, Ported, portless, declare_port, declare_ports}
+use Rattle.td_netlist.specs.Checks.{each, list_port, Lists, nothing, with_port, declare_direction, declare_item, declare_port, declare_ports}
 use Rattle.td_netlist.proofs.Members.{in_front, behind, first}
 use Rattle.td_netlist.proofs.Sets.{is_contained}
 use Rattle.td_netlist.proofs.Steps.{ok_both, err_either, kept, stops, kept_fitting, stops_fitting, each_flat, each_map}

@@ -1,5 +1,5 @@
 -- A terminal that is seen, and no more.
-use Rattle.std.proofs.Common.{◌≡◌, Result, Ok, Err, ap}
+use Rattle.std.proofs.Common.{◌≡◌, Result, Ok, ap}
 use Rattle.td_syntax.specs.Grammar as grammar
 use Rattle.td_netlist.specs.declared.fault.Fault.{Fault}
 use Rattle.td_netlist.specs.Netlist.{Net}

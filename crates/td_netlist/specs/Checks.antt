@@ -1,5 +1,5 @@
 -- The checks of a module in the order of its text, with the first fault. Proof devices: what a text means doesn't rest on them.
-use Rattle.std.specs.Prelude.{ℕ, zero, suc, ◌+◌, List, [], ◌∷◌, ◌++◌, length, map, find, Option, None, Some, is_some, Bool, true, false, not, ◌&&◌, ◌==◌, nat_lt, Result, Ok, Err, if◌then◌else◌}
+use Rattle.std.specs.Prelude.{ℕ, ◌+◌, List, [], ◌∷◌, ◌++◌, map, find, Option, None, Some, is_some, Bool, true, false, not, ◌&&◌, ◌==◌, nat_lt, Result, Ok, Err, if◌then◌else◌}
 use Rattle.std.specs.List.{sum_by}
 use Rattle.std.specs.Str.{bytes_eq}
 use Rattle.td_syntax.specs.declared.syntax.Role.{Role}
@@ -15,7 +15,7 @@ use Rattle.td_gates.specs.declared.timing.Delay.{Delay}
 use Rattle.td_netlist.specs.Netlist.{Name, Net, Low, High, Named, Gate}
 use Rattle.td_netlist.specs.Names.{is_in}
 use Rattle.td_netlist.specs.Ranges.{range_of, width_of, nets_of}
-use Rattle.td_netlist.specs.Module.{scalar, is_input, is_wire, different, port_names, whole_source, bit_source, Source, Joins, NoBit, NotOne, Placed, nets_at, outputs_of, inputs_of, Declared, Primitive, primitives, delay_of}
+use Rattle.td_netlist.specs.Module.{scalar, is_input, is_wire, different, port_names, whole_source, bit_source, Source, Joins, NoBit, NotOne, Placed, outputs_of, inputs_of, Declared, Primitive, delay_of}
 
 -- the members one after another, up to the first fault
 unfoldable pub each : {S A : Type 0} → (S → A → Result S Fault) → S → List A → Result S Fault

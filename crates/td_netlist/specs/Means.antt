@@ -8,7 +8,7 @@ use Rattle.td_netlist.specs.declared.fault.FaultKind.{FaultKind}
 use Rattle.td_netlist.specs.declared.fault.FaultKind.TheVariants as kind
 use Rattle.td_netlist.specs.Netlist.{Name, Netlist}
 use Rattle.td_netlist.specs.WellFormed.{IsDistinct}
-use Rattle.td_netlist.specs.Module.{scalar, names_of, Declared, declarations, declared_names, is_direction, is_input, is_output, is_wire, ports, range_in, ports_as, Source, Joins, NoBit, NotOne, source_of, line_of, Placed, nets_at, terminals_in, outputs_in, inputs_in, output_bits, net_count, input_count, driven_in, netlist_in}
+use Rattle.td_netlist.specs.Module.{scalar, names_of, Declared, declarations, declared_names, is_direction, is_input, is_wire, ports, range_in, ports_as, Source, Joins, NoBit, NotOne, source_of, line_of, Placed, nets_at, terminals_in, outputs_in, inputs_in, output_bits, net_count, input_count, driven_in, netlist_in}
 
 -- Each port is listed once and has one direction, no other name has one, no name is a wire twice, and what is declared
 -- twice has one range.

@@ -1,4 +1,4 @@
-use Rattle.std.proofs.Common.{◌≡◌, ◌++◌, ◌∷◌, ◌<◌, ◌≤◌, [], List, Some, ap, map, arith}
+use Rattle.std.proofs.Common.{◌++◌, ◌<◌, ◌≤◌, List, Some, ap, map, arith}
 use Rattle.std.proofs.lemmas.List.{map_push}
 use Rattle.td_netlist.specs.Netlist.{Name}
 use Rattle.td_netlist.specs.Ranges.{width_of, nets_of}

@@ -1,4 +1,4 @@
-use Rattle.std.proofs.Common.{◌≡◌, ◌∙◌, ap, sym, List, Option}
+use Rattle.std.proofs.Common.{◌≡◌, ◌∙◌, ap, List, Option}
 use Rattle.td_netlist.specs.declared.ranges.Range.{Range}
 use Rattle.td_netlist.specs.Checks.{Known, known}
 use Rattle.td_netlist.specs.KnownViews.{known_of, known_as}
