@@ -1,196 +1,240 @@
 -- The checks pass exactly where the names of a module keep the conditions.
-use Rattle.std.proofs.Common.{◌≡◌, ℕ, ◌≤◌, List, [], ◌∷◌, ◌++◌, length, filter, Result, Ok, Err, refl, sym, ap, subst, ◌∙◌, arith, inl, inr}
-use Rattle.std.specs.List.{Contains}
-use Rattle.std.proofs.lemmas.List.{map-append}
-use Rattle.std.proofs.lemmas.List.Sums.{fold-append}
+use Rattle.std.proofs.Common.{◌≡◌, ℕ, ◌≤◌, true, List, [], ◌∷◌, ◌++◌, length, map, filter, Result, Ok, Err, refl, sym, ap, subst, ◌∙◌, arith, inl, inr}
+use Rattle.std.specs.List.{Contains, flat_map, sum_by, AllByRecursion}
+use Rattle.std.proofs.lemmas.List.{append-nil, map-append, take-append-drop}
 use Rattle.td_syntax.specs.Grammar as grammar
+use Rattle.td_syntax.specs.Grammar.{ArePorts, output_count}
 use Rattle.td_netlist.specs.declared.fault.FaultKind.{FaultKind}
 use Rattle.td_netlist.specs.declared.fault.FaultKind.TheVariants as kind
 use Rattle.td_netlist.specs.declared.fault.Fault.{Fault}
 use Rattle.td_netlist.specs.Netlist.{Name}
 use Rattle.td_netlist.specs.WellFormed.{IsDistinct}
-use Rattle.td_netlist.specs.Names.{is_in, with_name}
 use Rattle.td_netlist.specs.Faults.{◌>>=◌, UnlessMemory}
-use Rattle.td_netlist.specs.Module.{scalar, names_of, Declared, is_input, is_output, is_wire, is_direction, different, ports, ports_as, declarations, declared, terminals_in, outputs_in, inputs_in, driven_in, primitives}
-use Rattle.td_netlist.specs.Means.{AreDeclared, IsConsistent, RepeatedOn, MissingOn, Breaks}
-use Rattle.td_netlist.specs.Checks.{each, list_port, nothing, declare_item, Sides, sideless, take_side, Drivers, drive_all, read_all, read_net, declared_at, driven_at, checked_at}
-use Rattle.td_netlist.proofs.Members.{in_front, behind, mapped, of_mapped, filtered, of_filtered, either_side}
-use Rattle.td_netlist.proofs.Distinct.{distinct_filter, not_distinct}
+use Rattle.td_netlist.specs.Ranges.{nets_of}
+use Rattle.td_netlist.specs.Module.{scalar, names_of, Declared, is_input, is_output, is_wire, is_direction, different, ports, ports_as, declarations, declared, declared_names, range_in, nets_named, source_of, Placed, nets_at, terminals_in, outputs_in, inputs_in, inputs_of, output_bits, driven_in, Primitive, primitives, net_count, names_in, input_count}
+use Rattle.td_netlist.specs.Means.{AreDeclared, IsJoined, IsConsistent, RepeatedOn, MissingOn, AgainOn, LeftOutOn, Breaks}
+use Rattle.td_netlist.specs.Checks.{Known, nets_known, each, Lists, declare_ports, declare_item, Sides, sideless, take_side, Drivers, drive_all, read_all, read_placed, sides_at, declared_at, driven_at}
+use Rattle.td_netlist.proofs.Members.{in_front, behind, mapped, of_mapped, filtered, of_filtered, gathered, of_gathered, either_side}
+use Rattle.td_netlist.proofs.Distinct.{not_distinct}
 use Rattle.td_netlist.proofs.Sets.{is_contained}
 use Rattle.td_netlist.proofs.Steps.{ok_both, err_either}
-use Rattle.td_netlist.proofs.Declaring.{ports_listed, port_repeated, with_direction, all_names}
-use Rattle.td_netlist.proofs.DeclaredNames.{breaks_as, are_declared, declaration_breaks}
-use Rattle.td_netlist.proofs.PortSides.{are_sides, side_breaks, output_directs}
-use Rattle.td_netlist.proofs.DrivenNets.{different_is, all_drive, drivers_break, all_driven_names, undriven_name, reads_walk}
+use Rattle.td_netlist.proofs.Knowing.{AreKnown, width_by, nets_counted}
+use Rattle.td_netlist.proofs.Declaring.{with_direction, all_names}
+use Rattle.td_netlist.proofs.DeclaredNames.{breaks_as}
+use Rattle.td_netlist.proofs.PortLists.{ports_declare, items_declare, port_breaks, item_breaks}
+use Rattle.td_netlist.proofs.PortSides.{is_port_as, are_sides, side_breaks, output_directs}
+use Rattle.td_netlist.proofs.Joining.{KnowsModule, plain_names}
+use Rattle.td_netlist.proofs.DrivenNets.{different_is, AllDrive, all_drive, drivers_break, all_read, reads_break, all_outputs, outputs_break}
+use Rattle.td_netlist.proofs.Apart.{sides_apart}
 
 -- ---- the declarations
 
 pub record AreSides (m : grammar.Module) (s : Sides) : Type 0 where
   pub inputs : s.inputs ≡ ports_as is_input m
-  pub outputs : names_of s.outputs ≡ ports_as is_output m
-  pub stand : (n : grammar.Name) → Contains s.outputs n → Contains (declared is_output m) n
+  pub outputs : nets_at s.outputs ≡ ports_as is_output m
+  pub stand : (p : Placed) → Contains s.outputs p → Contains (output_bits m) p
 
-record DeclaredWell (m : grammar.Module) (s : Sides) (nets : List Name) : Type 0 where
+record DeclaredWell (m : grammar.Module) (s : Sides) (ks : List Known) : Type 0 where
   keeps : AreDeclared m
-  few_inputs : length (declared is_input m) ≤ 4096
+  few_inputs : input_count m ≤ 4096
   sides : AreSides m s
-  are_nets : nets ≡ different (all_names (declarations m))
-  few_nets : length (different (all_names (declarations m))) ≤ 1000000
+  knows : KnowsModule m ks []
+  few_nets : nets_known ks ≤ 1000000
 
-module _ (m : grammar.Module) where
-  after_ports : List Name → Result (Sides × List Name) Fault
-  after_ports listed = each (declare_item listed) nothing m.items >>= λ lists. each (take_side lists.directions) sideless (ports m) >>= λ sides. Ok (sides, lists.nets)
+all_by : {X : Type 0} (P : X → Type 0) (xs : List X) → ((x : X) → Contains xs x → P x) → AllByRecursion P xs
+all_by P [] all = tt
+all_by P (x ∷ xs) all = (all x (0, omega arith, refl), all_by P xs (λ y has. all y (behind y (x ∷ []) xs has)))
 
-  at_ports : declared_at m ≡ (each list_port [] (ports m) >>= after_ports)
-  unfolding declared_at after_ports
+both_same : (a s : Sides) (b ks : List Known) (r : Result (Sides × List Known) Fault) → r ≡ Ok (a, b) → r ≡ Ok (s, ks) → (a ≡ s) × (b ≡ ks)
+both_same a s b ks r e f =
+    let pair : (a, b) ≡ (s, ks) = cc in
+    (ap (λ (p : Sides × List Known). p.0) pair, ap (λ (p : Sides × List Known). p.1) pair)
+
+module _ (m : grammar.Module) (are : ArePorts m.ports) where
+  after_items : Lists → Result (Sides × List Known) Fault
+  after_items lists = each (take_side lists.directions) sideless (ports m) >>= λ sides. Ok (sides, lists.names)
+
+  after_ports : Lists → Result (Sides × List Known) Fault
+  after_ports ported = each declare_item ported m.items >>= after_items
+
+  at_ports : declared_at m ≡ (declare_ports m.ports >>= after_ports)
+  unfolding declared_at sides_at after_ports after_items
   at_ports = refl
 
-  declared_well : (s : Sides) (nets : List Name) → declared_at m ≡ Ok (s, nets) → DeclaredWell m s nets
-  unfolding after_ports
-  declared_well s nets e =
-      let a = ok_both (each list_port [] (ports m)) after_ports (s, nets) (sym at_ports ∙ e) in
-      let listed = ports_listed (ports m) a.0 a.1 in
-      let b = ok_both (each (declare_item a.0) nothing m.items) (λ lists. each (take_side lists.directions) sideless (ports m) >>= λ sides. Ok (sides, lists.nets)) (s, nets) a.2 in
-      let names = are_declared a.0 m b.0 b.1 in
-      let c = ok_both (each (take_side b.0.directions) sideless (ports m)) (λ sides. Ok (sides, b.0.nets)) (s, nets) b.2 in
+  declared_well : (s : Sides) (ks : List Known) → declared_at m ≡ Ok (s, ks) → DeclaredWell m s ks
+  unfolding after_ports after_items
+  declared_well s ks e =
+      let a = ok_both (declare_ports m.ports) after_ports (s, ks) (sym at_ports ∙ e) in
+      let ported = ports_declare m a.0 are a.1 in
+      let b = ok_both (each declare_item a.0 m.items) after_items (s, ks) a.2 in
+      let all = items_declare m a.0 b.0 ported b.1 in
+      let c = ok_both (each (take_side b.0.directions) sideless (ports m)) (λ sides. Ok (sides, b.0.names)) (s, ks) b.2 in
       let walked : each (take_side (with_direction (declarations m))) sideless (ports m) ≡ Ok c.0 =
-      ap (λ (ds : List _). each (take_side ds) sideless (ports m)) (sym names.directions) ∙ c.1 in
-      let sides = are_sides m names.directed_once c.0 walked in
-      let same_sides : c.0 ≡ s = let pair : (c.0, b.0.nets) ≡ (s, nets) = cc in ap (λ (p : Sides × List Name). p.0) pair in
-      let same_nets : b.0.nets ≡ nets = let pair : (c.0, b.0.nets) ≡ (s, nets) = cc in ap (λ (p : Sides × List Name). p.1) pair in
+      ap (λ (ds : List Declared). each (take_side ds) sideless (ports m)) (sym all.directions) ∙ c.1 in
+      let sides = are_sides m all.directed_once all.ranges c.0 walked in
+      let same = both_same c.0 s b.0.names ks (Ok (c.0, b.0.names)) refl c.2 in
       record {
         keeps = record {
-          listed_once = listed.once;
-          directed_once = names.directed_once;
-          wired_once = names.wired_once;
-          are_ports = λ name has. subst (λ (ns : List Name). Contains ns name) listed.are (names.are_ports name has);
+          listed_once = all.listed_once;
+          directed_once = all.directed_once;
+          wired_once = all.wired_once;
+          are_ports = λ name has. subst (λ (ns : List Name). Contains ns name) all.listed (all.are_ports name has);
           are_directed = sides.directed;
+          one_range = all.ranges;
         };
-        few_inputs = names.few_inputs;
-        sides = subst (λ (t : Sides). AreSides m t) same_sides (record { inputs = sides.inputs; outputs = sides.outputs; stand = sides.stand });
-        are_nets = sym same_nets ∙ names.nets;
-        few_nets = names.few_nets;
+        few_inputs = all.few_inputs;
+        sides = subst (λ (t : Sides). AreSides m t) same.0 (record { inputs = sides.inputs; outputs = sides.outputs; stand = sides.stand });
+        knows = subst (λ (js : List Known). KnowsModule m js []) same.1 (subst (λ (ns : List Name). AreKnown b.0.names ns (range_in m)) (sym (append-nil (all_names (declarations m)))) all.known);
+        few_nets = subst (λ (js : List Known). nets_known js ≤ 1000000) same.1 all.few_nets;
       }
 
-  declared_breaks : (f : Fault) → declared_at m ≡ Err f → Breaks f.kind f.line m
-  unfolding after_ports
-  declared_breaks f e = elim (err_either (each list_port [] (ports m)) after_ports f (sym at_ports ∙ e)) [
-    | inl here ↦ (let at = port_repeated (ports m) f here in breaks_as m f.line kind.Redeclared f.kind at.0 (inl at.1))
-    | inr past ↦ (let listed = ports_listed (ports m) past.0 past.1 in
-        elim (err_either (each (declare_item past.0) nothing m.items) (λ lists. each (take_side lists.directions) sideless (ports m) >>= λ sides. Ok (sides, lists.nets)) f past.2) [
-          | inl here ↦ declaration_breaks past.0 m f listed.are here
-          | inr more ↦ (let names = are_declared past.0 m more.0 more.1 in
-              elim (err_either (each (take_side more.0.directions) sideless (ports m)) (λ sides. Ok (sides, more.0.nets)) f more.2) [
-                | inl here ↦ side_breaks m names.directed_once f (ap (λ (ds : List _). each (take_side ds) sideless (ports m)) (sym names.directions) ∙ here)
+  pub declared_breaks : (f : Fault) → declared_at m ≡ Err f → Breaks f.kind f.line m
+  unfolding after_ports after_items
+  declared_breaks f e = elim (err_either (declare_ports m.ports) after_ports f (sym at_ports ∙ e)) [
+    | inl here ↦ port_breaks m f are here
+    | inr past ↦ (let ported = ports_declare m past.0 are past.1 in
+        elim (err_either (each declare_item past.0 m.items) after_items f past.2) [
+          | inl here ↦ item_breaks m past.0 f ported here
+          | inr more ↦ (let all = items_declare m past.0 more.0 ported more.1 in
+              elim (err_either (each (take_side more.0.directions) sideless (ports m)) (λ sides. Ok (sides, more.0.names)) f more.2) [
+                | inl here ↦ side_breaks m all.directed_once all.ranges f (ap (λ (ds : List Declared). each (take_side ds) sideless (ports m)) (sym all.directions) ∙ here)
                 | inr done ↦ absurd cc
               ])
         ])
   ]
 
-  -- ---- the drivers
+-- ---- the drivers
 
-  after_drivers : Sides → Drivers → Result (Unit {0}) Fault
-  after_drivers s drivers = each (read_all drivers.driven) tt (primitives m) >>= λ reads. each (read_net drivers.driven) tt s.outputs
+module _ (m : grammar.Module) where
+  after_reads : Sides → Drivers → Result Drivers Fault
+  after_reads s drivers = each (read_placed drivers.driven) tt s.outputs >>= λ outputs. Ok drivers
 
-  at_drivers : (s : Sides) (nets : List Name) → driven_at s nets (primitives m) ≡ (each (drive_all s.inputs) (record { driven = different s.inputs; nets = nets }) (primitives m) >>= after_drivers s)
-  unfolding driven_at after_drivers
-  at_drivers s nets = refl
+  after_drivers : Sides → Drivers → Result Drivers Fault
+  after_drivers s drivers = each (read_all drivers) tt (primitives m) >>= λ reads. after_reads s drivers
 
-  module _ (s : Sides) (nets : List Name) (well : DeclaredWell m s nets) where
-    walk_of : List Name → List Name → List Name → Result Drivers Fault
-    walk_of inputs driven seen = each (drive_all inputs) (record { driven = driven; nets = seen }) (primitives m)
+  walk_of : List Name → List Name → List Known → Result Drivers Fault
+  walk_of inputs driven ks = each (drive_all inputs) (record { driven = driven; names = ks }) (primitives m)
 
-    same_walk : walk_of s.inputs (different s.inputs) nets ≡ walk_of (ports_as is_input m) (ports_as is_input m) (different (all_names (declarations m)))
+  at_drivers : (s : Sides) (ks : List Known) → driven_at s ks (primitives m) ≡ (walk_of s.inputs (different s.inputs) ks >>= after_drivers s)
+  unfolding driven_at after_drivers after_reads walk_of
+  at_drivers s ks = refl
+
+  -- the inputs of a gate are among its terminals
+  all_joined : ((t : grammar.Terminal) → Contains (terminals_in m) t → IsJoined (source_of m t)) → AllByRecursion (λ (t : grammar.Terminal). IsJoined (source_of m t)) (flat_map inputs_of (primitives m))
+  all_joined joined = all_by (λ (t : grammar.Terminal). IsJoined (source_of m t)) (flat_map inputs_of (primitives m))
+      (λ t has. (let one = of_gathered inputs_of t (primitives m) has in
+      let count = output_count one.0.kind (length one.0.terminals) in
+      joined t (gathered (λ (p : Primitive). p.terminals) one.0 t (primitives m) one.1
+      (subst (λ (ts : List grammar.Terminal). Contains ts t) (take-append-drop count one.0.terminals) (behind t _ (inputs_of one.0) one.2)))))
+
+  module _ (s : Sides) (ks : List Known) (well : DeclaredWell m s ks) where
+    same_walk : walk_of s.inputs (different s.inputs) ks ≡ walk_of (ports_as is_input m) (ports_as is_input m) ks
     same_walk =
-        let all : different s.inputs ≡ ports_as is_input m =
-        ap different well.sides.inputs ∙ different_is (ports_as is_input m) (distinct_filter (λ (name : Name). is_in name (names_of (declared is_input m))) (names_of (ports m)) well.keeps.listed_once) in
-        ap (λ (inputs : List Name). walk_of inputs (different s.inputs) nets) well.sides.inputs
-        ∙ ap (λ (driven : List Name). walk_of (ports_as is_input m) driven nets) all
-        ∙ ap (λ (seen : List Name). walk_of (ports_as is_input m) (ports_as is_input m) seen) well.are_nets
+        let all : different s.inputs ≡ ports_as is_input m = ap different well.sides.inputs ∙ different_is (ports_as is_input m) (sides_apart m is_input well.keeps.listed_once) in
+        ap (λ (inputs : List Name). walk_of inputs (different s.inputs) ks) well.sides.inputs
+        ∙ ap (λ (driven : List Name). walk_of (ports_as is_input m) driven ks) all
 
-    driven_well : driven_at s nets (primitives m) ≡ Ok tt → IsConsistent m
-    unfolding walk_of after_drivers
-    driven_well e =
-        let a = ok_both (walk_of s.inputs (different s.inputs) nets) (after_drivers s) tt (sym (at_drivers s nets) ∙ e) in
-        let drives = all_drive (ports_as is_input m) (different (all_names (declarations m))) (primitives m) a.0 well.few_nets (sym same_walk ∙ a.1) in
-        let b = ok_both (each (read_all a.0.driven) tt (primitives m)) (λ reads. each (read_net a.0.driven) tt s.outputs) tt a.2 in
-        let reads = all_driven_names a.0.driven (inputs_in m) b.0 (sym (reads_walk a.0.driven (primitives m)) ∙ b.1) in
-        let outputs = all_driven_names a.0.driven s.outputs tt b.2 in
-        let driven : a.0.driven ≡ driven_in m = drives.driven in
-        record {
-          declared = well.keeps;
-          driven = record {
-            driven_once = drives.once;
-            inputs_free = drives.free;
-            reads_driven = λ name has. subst (λ (ns : List Name). Contains ns name) driven (reads name has);
-            outputs_driven = λ name has.
-                (let placed = of_mapped scalar name (declared is_output m) has in
-                let direction : Contains (names_of (declared is_direction m)) name = output_directed name has in
-                let port = well.keeps.are_ports name direction in
-                let side : Contains (ports_as is_output m) name =
-                filtered (λ (x : Name). is_in x (names_of (declared is_output m))) name (names_of (ports m)) port (is_contained name (names_of (declared is_output m)) has) in
-                subst (λ (ns : List Name). Contains ns name) driven (outputs name (subst (λ (ns : List Name). Contains ns name) (sym well.sides.outputs) side)));
-          };
-          within = record {
-            few_inputs = well.few_inputs;
-            few_nets = subst (λ (ns : List Name). length ns ≤ 1000000) (drives.nets ∙ sym (fold-append with_name [] (all_names (declarations m)) (names_of (terminals_in m)))) drives.few_nets;
-          };
-        }
-      where
-        output_directed : (name : Name) → Contains (names_of (declared is_output m)) name → Contains (names_of (declared is_direction m)) name
-        output_directed name has =
-            let placed = of_mapped scalar name (declared is_output m) has in
-            let one = of_mapped (λ (x : Declared). x.name) placed.0 (filter (λ (x : Declared). is_output x.role) (declarations m)) placed.1 in
-            let in_it = of_filtered (λ (x : Declared). is_output x.role) one.0 (declarations m) one.1 in
-            subst (λ (n : Name). Contains (names_of (declared is_direction m)) n) (ap scalar one.2 ∙ placed.2)
-            (mapped scalar one.0.name (declared is_direction m) (mapped (λ (x : Declared). x.name) one.0 (with_direction (declarations m))
-            (filtered (λ (x : Declared). is_direction x.role) one.0 (declarations m) in_it.0 (output_directs one.0.role in_it.1))))
+    drives_well : (d : Drivers) → walk_of s.inputs (different s.inputs) ks ≡ Ok d → AllDrive m d
+    unfolding walk_of
+    drives_well d e = all_drive m ks d well.knows well.few_nets (sym same_walk ∙ e)
 
-    driven_breaks : (f : Fault) → driven_at s nets (primitives m) ≡ Err f → Breaks f.kind f.line m
-    unfolding walk_of after_drivers
-    driven_breaks f e = elim (err_either (walk_of s.inputs (different s.inputs) nets) (after_drivers s) f (sym (at_drivers s nets) ∙ e)) [
-      | inl here ↦ drivers_break m f well.few_nets (sym same_walk ∙ here)
-      | inr past ↦ (let drives = all_drive (ports_as is_input m) (different (all_names (declarations m))) (primitives m) past.0 well.few_nets (sym same_walk ∙ past.1) in
-          elim (err_either (each (read_all past.0.driven) tt (primitives m)) (λ reads. each (read_net past.0.driven) tt s.outputs) f past.2) [
-            | inl here ↦ (let at = undriven_name past.0.driven (inputs_in m) f (sym (reads_walk past.0.driven (primitives m)) ∙ here) in
+    few_in_all : (d : Drivers) → AllDrive m d → net_count m ≤ 1000000
+    few_in_all d drives =
+        let names = all_names (declarations m) ++ plain_names (terminals_in m) in
+        let same : names_in m ≡ different names = ap different (map-append scalar (map (λ (x : Declared). x.name) (declarations m)) (flat_map _ (terminals_in m))) in
+        let counted = nets_counted d.names names (range_in m) drives.names in
+        let whole : net_count m ≡ sum_by (width_by (range_in m)) (different names) = ap (λ (ns : List Name). sum_by (width_by (range_in m)) ns) same in
+        omega (arith, drives.few_nets, counted, whole)
+
+    -- an output bit is a bit of an output
+    output_side : (name : Name) → Contains (nets_at (output_bits m)) name → Contains (ports_as is_output m) name
+    output_side name has =
+        let placed = of_mapped (λ (p : Placed). p.net) name (output_bits m) has in
+        let one = of_gathered (λ (d : Declared). map (λ (net : Name). record { net = net; line = d.name.line }) (nets_of d.name.name d.range)) placed.0 (declared is_output m) placed.1 in
+        let d = one.0 in
+        let bit = of_mapped (λ (net : Name). record { net = net; line = d.name.line }) placed.0 (nets_of d.name.name d.range) one.2 in
+        let net : bit.0 ≡ name = ap (λ (p : Placed). p.net) bit.2 ∙ placed.2 in
+        let declared_so = of_filtered (λ (x : Declared). is_output x.role) d (declarations m) one.1 in
+        let as_output : Contains (names_of (declared_names is_output m)) (scalar d.name) = mapped scalar d.name (declared_names is_output m) (mapped (λ (x : Declared). x.name) d (declared is_output m) one.1) in
+        let directed : Contains (names_of (declared_names is_direction m)) (scalar d.name) =
+        mapped scalar d.name (declared_names is_direction m) (mapped (λ (x : Declared). x.name) d (with_direction (declarations m))
+        (filtered (λ (x : Declared). is_direction x.role) d (declarations m) declared_so.0 (output_directs d.role declared_so.1))) in
+        let port = of_mapped scalar (scalar d.name) (ports m) (well.keeps.are_ports (scalar d.name) directed) in
+        let passes : is_port_as is_output m port.0 ≡ true =
+        is_contained (scalar port.0) (names_of (declared_names is_output m)) (subst (λ (x : Name). Contains (names_of (declared_names is_output m)) x) (sym port.2) as_output) in
+        let stands = filtered (is_port_as is_output m) port.0 (ports m) port.1 passes in
+        let bits : nets_of d.name.name d.range ≡ nets_named m port.0 =
+        ap (λ (range : _). nets_of d.name.name range) (well.keeps.one_range d declared_so.0) ∙ ap (λ (x : Name). nets_of x.text (range_in m x.text)) (sym port.2) in
+        gathered (nets_named m) port.0 name (filter (is_port_as is_output m) (ports m)) stands
+        (subst (λ (x : Name). Contains (nets_named m port.0) x) net (subst (λ (ns : List Name). Contains ns bit.0) bits bit.1))
+
+    driven_well : (d : Drivers) → driven_at s ks (primitives m) ≡ Ok d → IsConsistent m × KnowsModule m d.names (plain_names (terminals_in m))
+    unfolding after_drivers after_reads
+    driven_well d e =
+        let a = ok_both (walk_of s.inputs (different s.inputs) ks) (after_drivers s) d (sym (at_drivers s ks) ∙ e) in
+        let drives = drives_well a.0 a.1 in
+        let b = ok_both (each (read_all a.0) tt (primitives m)) (λ reads. after_reads s a.0) d a.2 in
+        let reads = all_read m a.0 (plain_names (terminals_in m)) drives.names (primitives m) b.0 (all_joined drives.joined) b.1 in
+        let c = ok_both (each (read_placed a.0.driven) tt s.outputs) (λ outputs. Ok a.0) d b.2 in
+        let outputs = all_outputs m a.0 (plain_names (terminals_in m)) drives.names s.outputs c.0 c.1 in
+        let same : a.0 ≡ d = cc in (
+          record {
+            declared = well.keeps;
+            joined = record { each = drives.joined };
+            driven = record {
+              driven_once = drives.once;
+              inputs_free = drives.free;
+              reads_driven = λ name has. subst (λ (ns : List Name). Contains ns name) drives.driven (reads name has);
+              outputs_driven = λ name has. subst (λ (ns : List Name). Contains ns name) drives.driven (outputs name (subst (λ (ns : List Name). Contains ns name) (sym well.sides.outputs) (output_side name has)));
+            };
+            within = record { few_inputs = well.few_inputs; few_nets = few_in_all a.0 drives };
+          },
+          subst (λ (x : Drivers). KnowsModule m x.names (plain_names (terminals_in m))) same drives.names,
+        )
+
+    driven_breaks : (f : Fault) → driven_at s ks (primitives m) ≡ Err f → Breaks f.kind f.line m
+    unfolding after_drivers after_reads walk_of
+    driven_breaks f e = elim (err_either (walk_of s.inputs (different s.inputs) ks) (after_drivers s) f (sym (at_drivers s ks) ∙ e)) [
+      | inl here ↦ drivers_break m ks f well.knows well.few_nets (sym same_walk ∙ here)
+      | inr past ↦ (let drives = drives_well past.0 past.1 in
+          elim (err_either (each (read_all past.0) tt (primitives m)) (λ reads. after_reads s past.0) f past.2) [
+            | inl here ↦ (let at = reads_break m past.0 (plain_names (terminals_in m)) drives.names (primitives m) f (all_joined drives.joined) here in
                 breaks_as m f.line kind.Undriven f.kind at.0 (record {
-                  name = at.1.name;
-                  stands = in_front at.1.name (inputs_in m) (declared is_output m) at.1.stands;
+                  placed = at.1.placed;
+                  stands = in_front at.1.placed (inputs_in m) (output_bits m) at.1.stands;
                   there = at.1.there;
-                  missing = subst (λ (ns : List Name). ¬ Contains ns (scalar at.1.name)) drives.driven at.1.missing;
+                  missing = subst (λ (ns : List Name). ¬ Contains ns at.1.placed.net) drives.driven at.1.missing;
                 }))
-            | inr more ↦ (let at = undriven_name past.0.driven s.outputs f more.2 in
-                breaks_as m f.line kind.Undriven f.kind at.0 (record {
-                  name = at.1.name;
-                  stands = behind at.1.name (inputs_in m) (declared is_output m) (well.sides.stand at.1.name at.1.stands);
-                  there = at.1.there;
-                  missing = subst (λ (ns : List Name). ¬ Contains ns (scalar at.1.name)) drives.driven at.1.missing;
-                }))
+            | inr more ↦ elim (err_either (each (read_placed past.0.driven) tt s.outputs) (λ outputs. Ok past.0) f more.2) [
+              | inl here ↦ (let at = outputs_break m past.0 (plain_names (terminals_in m)) drives.names s.outputs f here in
+                  breaks_as m f.line kind.Undriven f.kind at.0 (record {
+                    placed = at.1.placed;
+                    stands = behind at.1.placed (inputs_in m) (output_bits m) (well.sides.stand at.1.placed at.1.stands);
+                    there = at.1.there;
+                    missing = subst (λ (ns : List Name). ¬ Contains ns at.1.placed.net) drives.driven at.1.missing;
+                  }))
+              | inr done ↦ absurd cc
+            ]
           ])
     ]
 
-  -- ---- the whole
+-- ---- the whole
 
-  at_checked : checked_at m ≡ (declared_at m >>= λ d. driven_at d.0 d.1 (primitives m) >>= λ driven. Ok d.0)
-  unfolding checked_at
-  at_checked = refl
+-- what the checks give, once they pass
+pub record Passes (m : grammar.Module) (s : Sides) (d : Drivers) : Type 0 where
+  pub consistent : IsConsistent m
+  pub sides : AreSides m s
+  pub knows : KnowsModule m d.names (plain_names (terminals_in m))
 
-  pub consistent : (s : Sides) → checked_at m ≡ Ok s → IsConsistent m × AreSides m s
-  consistent s e =
-      let a = ok_both (declared_at m) (λ d. driven_at d.0 d.1 (primitives m) >>= λ driven. Ok d.0) s (sym at_checked ∙ e) in
-      let well = declared_well a.0.0 a.0.1 a.1 in
-      let b = ok_both (driven_at a.0.0 a.0.1 (primitives m)) (λ driven. Ok a.0.0) s a.2 in
-      let same : a.0.0 ≡ s = cc in
-      (driven_well a.0.0 a.0.1 well b.1, subst (λ (t : Sides). AreSides m t) same well.sides)
+module _ (m : grammar.Module) (are : ArePorts m.ports) (s : Sides) (ks : List Known) (declared_so : declared_at m ≡ Ok (s, ks)) where
+  pub passes : (d : Drivers) → driven_at s ks (primitives m) ≡ Ok d → Passes m s d
+  passes d e =
+      let well = declared_well m are s ks declared_so in
+      let all = driven_well m s ks well d e in
+      record { consistent = all.0; sides = well.sides; knows = all.1 }
 
-  pub inconsistent : (f : Fault) → checked_at m ≡ Err f → Breaks f.kind f.line m
-  inconsistent f e = elim (err_either (declared_at m) (λ d. driven_at d.0 d.1 (primitives m) >>= λ driven. Ok d.0) f (sym at_checked ∙ e)) [
-    | inl here ↦ declared_breaks f here
-    | inr past ↦ elim (err_either (driven_at past.0.0 past.0.1 (primitives m)) (λ driven. Ok past.0.0) f past.2) [
-      | inl here ↦ driven_breaks past.0.0 past.0.1 (declared_well past.0.0 past.0.1 past.1) f here
-      | inr done ↦ absurd cc
-    ]
-  ]
+  pub drivers_refused : (f : Fault) → driven_at s ks (primitives m) ≡ Err f → Breaks f.kind f.line m
+  drivers_refused f e = driven_breaks m s ks (declared_well m are s ks declared_so) f e
 
 -- ---- a fault of names, and the conditions
 
@@ -203,23 +247,34 @@ module _ (m : grammar.Module) (line : ℕ) (keeps : IsConsistent m) where
   not_missing : (ns : List grammar.Name) (names : List Name) → ((name : Name) → Contains (names_of ns) name → Contains names name) → ¬ MissingOn line ns names
   not_missing ns names are at = at.missing (are (scalar at.name) (mapped scalar at.name ns at.stands))
 
+  not_again : (ps : List Placed) → IsDistinct (nets_at ps) → ¬ AgainOn line ps
+  not_again ps once at =
+      not_distinct (nets_at at.before) at.placed.net (nets_at at.after) at.repeats
+      (subst IsDistinct (ap nets_at at.splits ∙ map-append (λ (p : Placed). p.net) at.before (at.placed ∷ at.after)) once)
+
+  not_left_out : (ps : List Placed) (names : List Name) → ((name : Name) → Contains (nets_at ps) name → Contains names name) → ¬ LeftOutOn line ps names
+  not_left_out ps names are at = at.missing (are at.placed.net (mapped (λ (p : Placed). p.net) at.placed ps at.stands))
+
   pub refuted : (k : FaultKind) → ¬ Breaks k line m
   refuted kind.Redeclared at = elim at [
     | inl port ↦ not_repeated (ports m) keeps.declared.listed_once port
     | inr others ↦ elim others [
-      | inl direction ↦ not_repeated (declared is_direction m) keeps.declared.directed_once direction
-      | inr wire ↦ not_repeated (declared is_wire m) keeps.declared.wired_once wire
+      | inl direction ↦ not_repeated (declared_names is_direction m) keeps.declared.directed_once direction
+      | inr more ↦ elim more [
+        | inl wire ↦ not_repeated (declared_names is_wire m) keeps.declared.wired_once wire
+        | inr ranged ↦ ranged.other (keeps.declared.one_range ranged.declared ranged.stands)
+      ]
     ]
   ]
   refuted kind.PortUndeclared at = elim at [
-    | inl no_port ↦ not_missing (declared is_direction m) (names_of (ports m)) keeps.declared.are_ports no_port
-    | inr no_direction ↦ not_missing (ports m) (names_of (declared is_direction m)) keeps.declared.are_directed no_direction
+    | inl no_port ↦ not_missing (declared_names is_direction m) (names_of (ports m)) keeps.declared.are_ports no_port
+    | inr no_direction ↦ not_missing (ports m) (names_of (declared_names is_direction m)) keeps.declared.are_directed no_direction
   ]
-  refuted kind.DrivenInput at = keeps.driven.inputs_free (scalar at.name) (mapped scalar at.name (outputs_in m) at.stands) at.taken
-  refuted kind.TwoDrivers at = not_repeated (outputs_in m) keeps.driven.driven_once at
+  refuted kind.DrivenInput at = keeps.driven.inputs_free at.placed.net (mapped (λ (p : Placed). p.net) at.placed (outputs_in m) at.stands) at.taken
+  refuted kind.TwoDrivers at = not_again (outputs_in m) keeps.driven.driven_once at
   refuted kind.Undriven at =
-      not_missing (inputs_in m ++ declared is_output m) (driven_in m)
-      (λ name has. elim (either_side name (names_of (inputs_in m)) (names_of (declared is_output m)) (subst (λ (ns : List Name). Contains ns name) (map-append scalar (inputs_in m) (declared is_output m)) has)) [
+      not_left_out (inputs_in m ++ output_bits m) (driven_in m)
+      (λ name has. elim (either_side name (nets_at (inputs_in m)) (nets_at (output_bits m)) (subst (λ (ns : List Name). Contains ns name) (map-append (λ (p : Placed). p.net) (inputs_in m) (output_bits m)) has)) [
         | inl read ↦ keeps.driven.reads_driven name read
         | inr output ↦ keeps.driven.outputs_driven name output
       ]) at
@@ -227,8 +282,8 @@ module _ (m : grammar.Module) (line : ℕ) (keeps : IsConsistent m) where
     | inl inputs ↦ absurd (omega (arith, inputs, keeps.within.few_inputs))
     | inr nets ↦ absurd (omega (arith, nets, keeps.within.few_nets))
   ]
-  refuted kind.UnknownBit at = at
-  refuted kind.WidthNotOne at = at
+  refuted kind.UnknownBit at = subst IsJoined at.is (keeps.joined.each at.terminal at.stands)
+  refuted kind.WidthNotOne at = subst IsJoined at.is (keeps.joined.each at.terminal at.stands)
   refuted kind.OutOfMemory at = at
   refuted kind.BadByte at = at
   refuted kind.UnexpectedEnd at = at

@@ -9,8 +9,8 @@ use Rattle.td_syntax.specs.Grammar as grammar
 use Rattle.std.specs.List.{take-map}
 use Rattle.std.proofs.Math.ListN.{get_or-map}
 use Rattle.std.proofs.lemmas.List.{length-map}
-use Rattle.td_syntax.specs.declared.syntax.Name as syntax_name
-use Rattle.td_syntax.specs.Views.{name_view, names_view}
+use Rattle.td_syntax.specs.declared.syntax.Terminal as syntax_terminal
+use Rattle.td_syntax.specs.Views.{terminal_view}
 use Rattle.td_netlist.specs.declared.primitive.Primitive as code_primitive
 use Rattle.td_netlist.specs.CheckViews.{primitive_of}
 use Rattle.td_netlist.specs.Module.{Primitive, outputs_of, defaulted_by, defaulted_of}
@@ -30,9 +30,9 @@ count_below ps i d lt few =
     sums_below defaulted_of (λ (p : Primitive). length (outputs_of p)) (λ p. defaulted_below p.delay (length (outputs_of p))) (take i ps) in
     omega (arith, below, length-flat_map outputs_of (take i ps), length-flat_map-take outputs_of ps i d lt)
 
-pub count_fits : (xs : List code_primitive.Primitive) (i : ℕ) (d : code_primitive.Primitive) (count r : ℕ) (outputs : List syntax_name.Name) (stated : Option grammar.Delay)
+pub count_fits : (xs : List code_primitive.Primitive) (i : ℕ) (d : code_primitive.Primitive) (count r : ℕ) (outputs : List syntax_terminal.Terminal) (stated : Option grammar.Delay)
     → i < length xs → length (flat_map outputs_of (map primitive_of xs)) ≤ 200000
-    → count ≡ sum_by defaulted_of (map primitive_of (take i xs)) → names_view outputs ≡ outputs_of (primitive_of (get_or xs i d))
+    → count ≡ sum_by defaulted_of (map primitive_of (take i xs)) → map terminal_view outputs ≡ outputs_of (primitive_of (get_or xs i d))
     → r ≡ defaulted_by stated (length outputs) → count + r ≤ 200000
 count_fits xs i d count r outputs stated lt few counted are is =
     let within : i < length (map primitive_of xs) = omega (arith, length-map xs primitive_of) in
@@ -40,6 +40,6 @@ count_fits xs i d count r outputs stated lt few counted are is =
     let taken : sum_by defaulted_of (take i (map primitive_of xs)) ≡ count = ap (λ (ps : List Primitive). sum_by defaulted_of ps) (take-map primitive_of i xs) ∙ sym counted in
     let at : get_or (map primitive_of xs) i (primitive_of d) ≡ primitive_of (get_or xs i d) = get_or-map primitive_of xs i d in
     let long : length (outputs_of (get_or (map primitive_of xs) i (primitive_of d))) ≡ length outputs =
-    ap (λ (p : Primitive). length (outputs_of p)) at ∙ ap (λ (ns : List grammar.Name). length ns) (sym are) ∙ length-map outputs name_view in
+    ap (λ (p : Primitive). length (outputs_of p)) at ∙ ap (λ (ns : List grammar.Terminal). length ns) (sym are) ∙ length-map outputs terminal_view in
     let less = defaulted_below stated (length outputs) in
     omega (arith, below, taken, long, less, is)

@@ -1,13 +1,11 @@
 -- What the checks of declarations say: of the port list, of each declaration, of the ports by direction.
-use Rattle.std.proofs.Common.{◌≡◌, ℕ, ◌<◌, ◌≤◌, Bool, true, false, cond, List, [], ◌∷◌, ◌++◌, length, map, filter, fold, Option, None, Some, Ok, Err, refl, sym, ap, subst, ◌∙◌, arith, inl, inr}
-use Rattle.std.specs.Prelude.{is_some, nat_lt}
-use Rattle.std.specs.List.{Contains}
+use Rattle.std.proofs.Common.{◌≡◌, ℕ, Bool, true, false, cond, List, [], ◌∷◌, ◌++◌, map, filter, Option, None, Some, Ok, Err, refl, sym, ap, subst, ◌∙◌, inl, inr}
+use Rattle.std.specs.Prelude.{is_some, find}
+use Rattle.std.specs.List.{Contains, sum_by}
 use Rattle.std.specs.Str.{bytes_eq}
 use Rattle.std.specs.Cmp.Lexicographic.{same_text}
-use Rattle.std.proofs.lemmas.Bool.{ltb-true, ltb-false}
-use Rattle.std.proofs.lemmas.List.{append-nil, map_push, map-append, length-append}
+use Rattle.std.proofs.lemmas.List.{append-nil, map_push, map-append}
 use Rattle.std.proofs.lemmas.List.Elements.{filter-append}
-use Rattle.std.proofs.lemmas.List.Sums.{fold-append}
 use Rattle.td_syntax.specs.declared.syntax.Role.{Role}
 use Rattle.td_syntax.specs.Grammar as grammar
 use Rattle.td_netlist.specs.declared.fault.FaultKind.{FaultKind}
@@ -15,63 +13,26 @@ use Rattle.td_netlist.specs.declared.fault.FaultKind.TheVariants as kind
 use Rattle.td_netlist.specs.declared.fault.Fault.{Fault}
 use Rattle.td_netlist.specs.Netlist.{Name}
 use Rattle.td_netlist.specs.WellFormed.{IsDistinct}
-use Rattle.td_netlist.specs.Names.{is_in, with_name}
-use Rattle.td_netlist.specs.Module.{scalar, names_of, Declared, declared_as, is_direction, different}
+use Rattle.td_netlist.specs.Names.{is_in}
+use Rattle.td_netlist.specs.declared.ranges.Range.{Range}
+use Rattle.td_netlist.specs.Ranges.{width_of}
+use Rattle.td_netlist.specs.Module.{scalar, names_of, Declared, is_input, is_direction, is_of, range_found}
 use Rattle.td_netlist.specs.Means.{RepeatedOn}
-use Rattle.td_netlist.specs.Checks.{each, count_net, list_port, direction_of}
-use Rattle.td_netlist.proofs.Members.{first, later, one_of, nowhere, mapped}
-use Rattle.td_netlist.proofs.Distinct.{distinct_nil, distinct_push}
+use Rattle.td_netlist.specs.Checks.{list_port, direction_of}
+use Rattle.td_netlist.proofs.Members.{first, later, one_of, nowhere, mapped, of_mapped}
+use Rattle.td_netlist.proofs.Finding.{find_front, find_behind, found_there, found_none}
+use Rattle.td_netlist.proofs.Knowing.{named}
+use Rattle.td_netlist.proofs.Distinct.{distinct_push}
 use Rattle.td_netlist.proofs.Sets.{contains_is, not_contained}
 use Rattle.td_netlist.proofs.SameNames.{text_same}
-use Rattle.td_netlist.proofs.Steps.{unless_ok, unless_err, kept, stops}
+use Rattle.td_netlist.proofs.Steps.{unless_ok, unless_err}
 
 -- ---- nets
 
 pub named_push : (ns : List grammar.Name) (n : grammar.Name) → names_of (ns ++ n ∷ []) ≡ names_of ns ++ scalar n ∷ []
 named_push ns n = map_push scalar ns n
 
-more_with : (names : List Name) (name : Name) → length names ≤ length (with_name names name)
-more_with names name = by (is_in name names)
-  where
-    by : (b : Bool) → length names ≤ length (cond b names (names ++ name ∷ []))
-    by true = omega arith
-    by false = omega (arith, length-append names (name ∷ []))
-
--- names that are added never leave
-pub more_by : (seen names : List Name) → length seen ≤ length (fold with_name seen names)
-more_by seen [] = omega arith
-more_by seen (name ∷ names) = omega (arith, more_with seen name, more_by (with_name seen name) names)
-
-pub counted_ok : (nets t : List Name) (n : grammar.Name) → count_net nets n ≡ Ok t → (t ≡ with_name nets (scalar n)) × (length t ≤ 1000000)
-unfolding count_net
-counted_ok nets t n e =
-    let u = unless_ok _ n.line _ t e in
-    let few : nat_lt 1000000 (length (with_name nets (scalar n))) ≡ false = by (nat_lt 1000000 (length (with_name nets (scalar n)))) u.0 in
-    (sym u.1, subst (λ (s : List Name). length s ≤ 1000000) u.1 (ltb-false _ _ few))
-  where
-    by : (b : Bool) → cond b (Some kind.TooMany) None ≡ None → b ≡ false
-    by true e = absurd cc
-    by false e = refl
-
-pub counted_err : (nets : List Name) (n : grammar.Name) (f : Fault) → count_net nets n ≡ Err f → (f.kind ≡ kind.TooMany) × (1000000 < length (with_name nets (scalar n)))
-unfolding count_net
-counted_err nets n f e =
-    let u = unless_err _ n.line _ f e in
-    let h = by (nat_lt 1000000 (length (with_name nets (scalar n)))) f.kind u.0 in
-    (h.1, ltb-true _ _ h.0)
-  where
-    by : (b : Bool) (k : FaultKind) → cond b (Some kind.TooMany) None ≡ Some k → (b ≡ true) × (k ≡ kind.TooMany)
-    by true k e = (refl, let same : kind.TooMany ≡ k = cc in sym same)
-    by false k e = absurd cc
-
 -- ---- the port list
-
-pub record ListsPorts (seen : List Name) (ns : List grammar.Name) : Type 0 where
-  pub are : seen ≡ names_of ns
-  pub once : IsDistinct (names_of ns)
-
-lists_nothing : ListsPorts [] []
-lists_nothing = record { are = refl; once = distinct_nil }
 
 listed_fault : (b : Bool) → cond b (Some kind.Redeclared) None ≡ None → b ≡ false
 listed_fault true e = absurd cc
@@ -81,38 +42,45 @@ listed_twice : (b : Bool) (k : FaultKind) → cond b (Some kind.Redeclared) None
 listed_twice true k e = (refl, let same : kind.Redeclared ≡ k = cc in sym same)
 listed_twice false k e = absurd cc
 
-lists_one : (s t : List Name) (done : List grammar.Name) (n : grammar.Name) → ListsPorts s done → list_port s n ≡ Ok t → ListsPorts t (done ++ n ∷ [])
+-- what listing one port more makes of the list
+pub record ListsMore (seen t : List Name) (done : List grammar.Name) (n : grammar.Name) : Type 0 where
+  pub is : t ≡ seen ++ scalar n ∷ []
+  pub are : t ≡ names_of (done ++ n ∷ [])
+  pub once : IsDistinct (names_of (done ++ n ∷ []))
+
+pub lists_one : (s t : List Name) (done : List grammar.Name) (n : grammar.Name) → s ≡ names_of done → IsDistinct (names_of done) → list_port s n ≡ Ok t → ListsMore s t done n
 unfolding list_port
-lists_one s t done n keeps e =
+lists_one s t done n are once e =
     let u = unless_ok _ n.line _ t e in
     let new : is_in (scalar n) s ≡ false = listed_fault _ u.0 in
-    let absent : ¬ Contains (names_of done) (scalar n) = subst (λ (names : List Name). ¬ Contains names (scalar n)) keeps.are (not_contained (scalar n) s new) in
+    let absent : ¬ Contains (names_of done) (scalar n) = subst (λ (names : List Name). ¬ Contains names (scalar n)) are (not_contained (scalar n) s new) in
     record {
-      are = sym u.1 ∙ ap (λ (names : List Name). names ++ scalar n ∷ []) keeps.are ∙ sym (named_push done n);
-      once = subst IsDistinct (sym (named_push done n)) (distinct_push (names_of done) (scalar n) keeps.once absent);
+      is = sym u.1;
+      are = sym u.1 ∙ ap (λ (names : List Name). names ++ scalar n ∷ []) are ∙ sym (named_push done n);
+      once = subst IsDistinct (sym (named_push done n)) (distinct_push (names_of done) (scalar n) once absent);
     }
 
-pub ports_listed : (ns : List grammar.Name) (t : List Name) → each list_port [] ns ≡ Ok t → ListsPorts t ns
-ports_listed ns t e = kept list_port ListsPorts lists_one [] t [] ns lists_nothing e
-
-pub port_repeated : (ns : List grammar.Name) (f : Fault) → each list_port [] ns ≡ Err f → (f.kind ≡ kind.Redeclared) × RepeatedOn f.line ns
+pub listed_again : (s : List Name) (before : List grammar.Name) (n : grammar.Name) (after ports : List grammar.Name) (f : Fault) → s ≡ names_of before → ports ≡ before ++ n ∷ after
+    → list_port s n ≡ Err f → (f.kind ≡ kind.Redeclared) × RepeatedOn f.line ports
 unfolding list_port
-port_repeated ns f e =
-    let at = stops list_port ListsPorts lists_one [] [] ns f lists_nothing e in
-    let u = unless_err _ at.member.line _ f at.refused in
+listed_again s before n after ports f are splits e =
+    let u = unless_err _ n.line _ f e in
     let h = listed_twice _ f.kind u.0 in (
       h.1,
       record {
-        before = at.before;
-        name = at.member;
-        after = at.after;
-        splits = at.splits;
+        before = before;
+        name = n;
+        after = after;
+        splits = splits;
         there = u.1;
-        repeats = subst (λ (names : List Name). Contains names (scalar at.member)) at.so_far.are (contains_is (scalar at.member) at.state h.0);
+        repeats = subst (λ (names : List Name). Contains names (scalar n)) are (contains_is (scalar n) s h.0);
       },
     )
 
 -- ---- names that are declared as such
+
+abbrev pub declared_as : (Role → Bool) → List Declared → List grammar.Name
+declared_as is ds = map (λ (d : Declared). d.name) (filter (λ (d : Declared). is d.role) ds)
 
 module _ (is : Role → Bool) where
   declared_end : (d : Declared) → is d.role ≡ true → map (λ (x : Declared). x.name) (filter (λ (x : Declared). is x.role) (d ∷ [])) ≡ d.name ∷ []
@@ -151,11 +119,57 @@ directed_same ds d this = filter-append (λ (x : Declared). is_direction x.role)
 abbrev pub all_names : List Declared → List Name
 all_names ds = names_of (map (λ (d : Declared). d.name) ds)
 
-pub different_more : (ds : List Declared) (d : Declared) → different (all_names (ds ++ d ∷ [])) ≡ with_name (different (all_names ds)) (scalar d.name)
-different_more ds d =
-    ap (λ (ns : List grammar.Name). different (names_of ns)) (map_push (λ (x : Declared). x.name) ds d)
-    ∙ ap different (named_push (map (λ (x : Declared). x.name) ds) d.name)
-    ∙ fold-append with_name [] (all_names ds) (scalar d.name ∷ [])
+pub all_push : (ds : List Declared) (d : Declared) → all_names (ds ++ d ∷ []) ≡ all_names ds ++ scalar d.name ∷ []
+all_push ds d = ap names_of (map_push (λ (x : Declared). x.name) ds d) ∙ named_push (map (λ (x : Declared). x.name) ds) d.name
+
+pub all_both : (ds es : List Declared) → all_names (ds ++ es) ≡ all_names ds ++ all_names es
+all_both ds es = ap names_of (map-append (λ (x : Declared). x.name) ds es) ∙ map-append scalar (map (λ (x : Declared). x.name) ds) (map (λ (x : Declared). x.name) es)
+
+-- how many input bits they declare
+abbrev pub input_width : List Declared → ℕ
+input_width ds = sum_by (λ (d : Declared). width_of d.range) (filter (λ (d : Declared). is_input d.role) ds)
+
+-- ---- the range of a name
+
+abbrev pub range_by : List Declared → List ℕ → Option Range
+range_by ds text = range_found (find (is_of text) ds)
+
+of_text : (ds : List Declared) (d : Declared) (text : List ℕ) → Contains ds d → is_of text d ≡ true → Contains (all_names ds) (named text)
+of_text ds d text has is =
+    let same : text ≡ d.name.name = same_text text d.name.name (sym is) in
+    subst (λ (t : List ℕ). Contains (all_names ds) (named t)) (sym same) (mapped scalar d.name (map (λ (x : Declared). x.name) ds) (mapped (λ (x : Declared). x.name) d ds has))
+
+declared_found : (ds : List Declared) (text : List ℕ) → Contains (all_names ds) (named text) → (d : Declared) × (find (is_of text) ds ≡ Some d)
+declared_found ds text has = by (find (is_of text) ds) refl
+  where
+    by : (o : Option Declared) → find (is_of text) ds ≡ o → (d : Declared) × (find (is_of text) ds ≡ Some d)
+    by (Some d) e = (d, e)
+    by None e =
+        let placed = of_mapped scalar (named text) (map (λ (x : Declared). x.name) ds) has in
+        let one = of_mapped (λ (x : Declared). x.name) placed.0 ds placed.1 in
+        let same : one.0.name.name ≡ text = ap (λ (n : grammar.Name). n.name) one.2 ∙ ap (λ (n : Name). n.text) placed.2 in
+        absurd (found_none (is_of text) ds one.0 e one.1 (ap (λ (t : List ℕ). bytes_eq text t) same ∙ text_same text))
+
+undeclared : (ds : List Declared) (text : List ℕ) → ¬ Contains (all_names ds) (named text) → find (is_of text) ds ≡ None
+undeclared ds text missing = by (find (is_of text) ds) refl
+  where
+    by : (o : Option Declared) → find (is_of text) ds ≡ o → find (is_of text) ds ≡ None
+    by None e = e
+    by (Some d) e = let found = found_there (is_of text) ds d e in absurd (missing (of_text ds d text found.0 found.1))
+
+-- the first declaration decides
+pub range_kept : (ds es : List Declared) (text : List ℕ) → Contains (all_names ds) (named text) → range_by (ds ++ es) text ≡ range_by ds text
+range_kept ds es text has =
+    let found = declared_found ds text has in
+    ap range_found (find_front (is_of text) ds es found.0 found.1) ∙ sym (ap range_found found.1)
+
+pub range_new : (ds : List Declared) (d : Declared) (es : List Declared) → ¬ Contains (all_names ds) (scalar d.name) → range_by (ds ++ d ∷ es) d.name.name ≡ d.range
+range_new ds d es missing =
+    ap range_found (find_behind (is_of d.name.name) ds (d ∷ es) (undeclared ds d.name.name missing))
+    ∙ ap (λ (b : Bool). range_found (cond b (Some d) (find (is_of d.name.name) es))) (text_same d.name.name)
+
+pub range_none : (ds : List Declared) (text : List ℕ) → ¬ Contains (all_names ds) (named text) → range_by ds text ≡ None
+range_none ds text missing = ap range_found (undeclared ds text missing)
 
 -- ---- the direction of a name
 

@@ -17,7 +17,7 @@ found_in w (e ∷ es) = by (bytes_eq w e.0.now) refl (found_in w es)
         → found_of w (cond b (Some e.1) (lookup (λ (k : Bor (List ℕ)). bytes_eq w k.now) es)) ≡ cond b (Some (declared_of e)) (find (λ (d : Declared). bytes_eq w d.name.name) (map declared_of es))
     by true is rest =
         let same : w ≡ e.0.now = same_text w e.0.now (sym is) in
-        ap (λ (t : List ℕ). Some (record { role = e.1.role; name = record { name = t; line = e.1.line } })) same
+        ap (λ (t : List ℕ). Some (record { role = e.1.role; range = e.1.range; name = record { name = t; line = e.1.line } })) same
     by false is rest = rest
 
 pub none_found : (w : List ℕ) (o : Option Direction) → found_of w o ≡ None → o ≡ None

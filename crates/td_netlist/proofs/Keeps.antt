@@ -1,5 +1,5 @@
 -- What a module that was read keeps in its instances.
-use Rattle.std.proofs.Common.{List, [], ◌∷◌, ◌++◌, map, Option, sym, subst}
+use Rattle.std.proofs.Common.{ℕ, List, [], ◌∷◌, ◌++◌, map, Option, sym, subst}
 use Rattle.std.specs.List.{flat_map, AllByRecursion}
 use Rattle.std.proofs.lemmas.List.Concat.{flat_map-cons}
 use Rattle.td_gates.specs.declared.primitives.Kind.{Kind}
@@ -8,27 +8,34 @@ use Rattle.td_syntax.specs.Grammar.{IsItem, IsDelay}
 use Rattle.td_syntax.specs.Views.{option_delay_view}
 use Rattle.td_netlist.specs.declared.primitive.Primitive as code_primitive
 use Rattle.td_netlist.specs.Module.{Primitive, as_primitive, item_primitives}
+use Rattle.td_netlist.specs.Checks.{IsRanged}
 use Rattle.td_netlist.specs.CheckViews.{primitive_of}
 
-abbrev Keeps : List Primitive → Type 0
-Keeps ps = AllByRecursion (λ (p : Primitive). IsDelay p.delay) ps
+abbrev Keeps : ℕ → List Primitive → Type 0
+Keeps tens ps = AllByRecursion (λ (p : Primitive). IsDelay tens p.delay) ps
 
-keeps_both : (ps qs : List Primitive) → Keeps ps → Keeps qs → Keeps (ps ++ qs)
-keeps_both [] qs h k = k
-keeps_both (p ∷ ps) qs h k = (h.0, keeps_both ps qs h.1 k)
+keeps_both : (tens : ℕ) (ps qs : List Primitive) → Keeps tens ps → Keeps tens qs → Keeps tens (ps ++ qs)
+keeps_both tens [] qs h k = k
+keeps_both tens (p ∷ ps) qs h k = (h.0, keeps_both tens ps qs h.1 k)
 
-keeps_instances : (kind : Kind) (d : Option grammar.Delay) (is : List grammar.Instance) → IsDelay d → Keeps (map (as_primitive kind d) is)
-keeps_instances kind d [] h = tt
-keeps_instances kind d (i ∷ is) h = (h, keeps_instances kind d is h)
+keeps_instances : (tens : ℕ) (kind : Kind) (d : Option grammar.Delay) (is : List grammar.Instance) → IsDelay tens d → Keeps tens (map (as_primitive kind d) is)
+keeps_instances tens kind d [] h = tt
+keeps_instances tens kind d (i ∷ is) h = (h, keeps_instances tens kind d is h)
 
-keeps_item : (i : grammar.Item) → IsItem i → Keeps (item_primitives i)
-keeps_item (grammar.Declares d) h = tt
-keeps_item (grammar.Gates g) h = keeps_instances g.kind g.delay g.instances h.delay
+keeps_item : (tens : ℕ) (i : grammar.Item) → IsItem tens i → Keeps tens (item_primitives i)
+keeps_item tens (grammar.Declares d) h = tt
+keeps_item tens (grammar.Gates g) h = keeps_instances tens g.kind g.delay g.instances h.delay
 
-pub keeps_items : (is : List grammar.Item) → AllByRecursion IsItem is → Keeps (flat_map item_primitives is)
-keeps_items [] h = tt
-keeps_items (i ∷ is) h = subst (λ (ps : List Primitive). Keeps ps) (sym (flat_map-cons item_primitives i is)) (keeps_both (item_primitives i) (flat_map item_primitives is) (keeps_item i h.0) (keeps_items is h.1))
+pub keeps_items : (tens : ℕ) (is : List grammar.Item) → AllByRecursion (IsItem tens) is → Keeps tens (flat_map item_primitives is)
+keeps_items tens [] h = tt
+keeps_items tens (i ∷ is) h = subst (λ (ps : List Primitive). Keeps tens ps) (sym (flat_map-cons item_primitives i is)) (keeps_both tens (item_primitives i) (flat_map item_primitives is) (keeps_item tens i h.0) (keeps_items tens is h.1))
 
-pub kept_by_code : (ps : List code_primitive.Primitive) → Keeps (map primitive_of ps) → AllByRecursion (λ (p : code_primitive.Primitive). IsDelay (option_delay_view p.delay)) ps
-kept_by_code [] h = tt
-kept_by_code (p ∷ ps) h = (h.0, kept_by_code ps h.1)
+pub kept_by_code : (tens : ℕ) (ps : List code_primitive.Primitive) → Keeps tens (map primitive_of ps) → AllByRecursion (λ (p : code_primitive.Primitive). IsDelay tens (option_delay_view p.delay)) ps
+kept_by_code tens [] h = tt
+kept_by_code tens (p ∷ ps) h = (h.0, kept_by_code tens ps h.1)
+
+-- the ranges of declarations are within their limit
+pub ranged_items : (tens : ℕ) (is : List grammar.Item) → AllByRecursion (IsItem tens) is → AllByRecursion IsRanged is
+ranged_items tens [] all = tt
+ranged_items tens (grammar.Declares d ∷ is) all = (all.0.range, ranged_items tens is all.1)
+ranged_items tens (grammar.Gates g ∷ is) all = (tt, ranged_items tens is all.1)

@@ -18,10 +18,11 @@ use Rattle.td_netlist.specs.Netlist.{Name, Gate, Netlist}
 use Rattle.td_netlist.specs.Views.{name_of, gate_of, netlist_from}
 use Rattle.td_netlist.specs.FirstPass.{kind_from}
 use Rattle.td_netlist.specs.Faults.{Fails, told, UnlessMemory, IsUnlessMemory}
-use Rattle.td_netlist.specs.Module.{names_of, is_input, is_output, ports_as, gates_of, primitives, defaulted_of, nanosecond, netlist_in}
+use Rattle.td_netlist.specs.declared.netlist.Unit.{Unit as Step}
+use Rattle.td_netlist.specs.Module.{is_input, is_output, ports_as, nets_at, gates_of, primitives, defaulted_of, unit_of, netlist_in}
 use Rattle.td_netlist.specs.Means.{Means, IsConsistent, Breaks, OfNames, BreaksIn}
-use Rattle.td_netlist.specs.Checks.{Sides, checked_at}
-use Rattle.td_netlist.proofs.Consistent.{inconsistent, memory_alone, AreSides}
+use Rattle.td_netlist.specs.Checks.{Sides}
+use Rattle.td_netlist.proofs.Consistent.{memory_alone, AreSides}
 
 abbrev parsed_as : {Y : Type 0} → Y → Result Y syntax_faults.Fault
 parsed_as y = Ok y
@@ -39,12 +40,20 @@ breaks_by : (m : grammar.Module) (k : FaultKind) (line : ℕ) → MatchOption (t
 breaks_by m kind.OutOfMemory line at = tt
 breaks_by m k line at = at
 
-refused_by : (m : grammar.Module) (o : Option FaultKind) (line : ℕ) → MatchOption o (Unit {0}) (λ k. checked_at m ≡ Err (record { kind = k; line = line })) → MatchOption o (Unit {0}) (λ k. Breaks k line m)
-refused_by m None line e = tt
-refused_by m (Some k) line e = inconsistent m (record { kind = k; line = line }) e
+refused_by : {Y : Type 0} (m : grammar.Module) (checked : Result Y Fault) → ((f : Fault) → checked ≡ Err f → Breaks f.kind f.line m)
+    → (o : Option FaultKind) (line : ℕ) → MatchOption o (Unit {0}) (λ k. checked ≡ Err (record { kind = k; line = line })) → MatchOption o (Unit {0}) (λ k. Breaks k line m)
+refused_by m checked breaks None line e = tt
+refused_by m checked breaks (Some k) line e = breaks (record { kind = k; line = line }) e
 
-pub fault_breaks : (m : grammar.Module) (f : Fault) → Fails f (checked_at m) → UnlessMemory f.kind (Breaks f.kind f.line m)
-fault_breaks m f e = breaks_by m f.kind f.line (refused_by m (told f.kind) f.line e)
+pub fault_breaks : {Y : Type 0} (m : grammar.Module) (checked : Result Y Fault) → ((f : Fault) → checked ≡ Err f → Breaks f.kind f.line m) → (f : Fault) → Fails f checked → UnlessMemory f.kind (Breaks f.kind f.line m)
+fault_breaks m checked breaks f e = breaks_by m f.kind f.line (refused_by m checked breaks (told f.kind) f.line e)
+
+ok_no_err : {Y : Type 0} (checked : Result Y Fault) (y : Y) (f : Fault) → checked ≡ Ok y → checked ≡ Err f → ⊥
+ok_no_err checked y f is e = cc
+
+-- where the check passes, the function fails for want of memory alone
+pub memory_breaks : {Y : Type 0} (m : grammar.Module) (checked : Result Y Fault) (y : Y) → checked ≡ Ok y → (f : Fault) → Fails f checked → UnlessMemory f.kind (Breaks f.kind f.line m)
+memory_breaks m checked y is f e = fault_breaks m checked (λ g other. absurd (ok_no_err checked y g is other)) f e
 
 -- ---- what the text means
 
@@ -105,18 +114,19 @@ parse_memory e m fails = untold_by e.kind e.line m fails
 
 -- ---- the parts of a netlist
 
-made_of : List ℕ → List Name → List Name → List Gate → ℕ → Netlist
-made_of name inputs outputs gates defaulted = record { name = name; inputs = inputs; outputs = outputs; gates = gates; unit = nanosecond; defaulted = defaulted }
+made_of : List ℕ → List Name → List Name → List Gate → Step → ℕ → Netlist
+made_of name inputs outputs gates unit defaulted = record { name = name; inputs = inputs; outputs = outputs; gates = gates; unit = unit; defaulted = defaulted }
 
 module _ (m : grammar.Module) (default : Delay) (s : Sides) (sides : AreSides m s)
-    (name : List ℕ) (inputs outputs : List code_name.Name) (gates : List code_gate.Gate) (defaulted : ℕ) where
-  pub parts_are : name ≡ m.name.name → map name_of inputs ≡ s.inputs → map name_of outputs ≡ names_of s.outputs
-      → map gate_of gates ≡ gates_of default m → defaulted ≡ sum_by defaulted_of (primitives m)
-      → netlist_from name inputs outputs gates nanosecond defaulted ≡ netlist_in default m
+    (name : List ℕ) (inputs outputs : List code_name.Name) (gates : List code_gate.Gate) (unit : Step) (defaulted : ℕ) where
+  pub parts_are : name ≡ m.name.name → map name_of inputs ≡ s.inputs → map name_of outputs ≡ nets_at s.outputs
+      → map gate_of gates ≡ gates_of default m → unit ≡ unit_of m.fronts → defaulted ≡ sum_by defaulted_of (primitives m)
+      → netlist_from name inputs outputs gates unit defaulted ≡ netlist_in default m
   unfolding made_of
-  parts_are named are_inputs are_outputs are_gates counted =
-      ap (λ (x : List ℕ). made_of x (map name_of inputs) (map name_of outputs) (map gate_of gates) defaulted) named
-      ∙ ap (λ (x : List Name). made_of m.name.name x (map name_of outputs) (map gate_of gates) defaulted) (are_inputs ∙ sides.inputs)
-      ∙ ap (λ (x : List Name). made_of m.name.name (ports_as is_input m) x (map gate_of gates) defaulted) (are_outputs ∙ sides.outputs)
-      ∙ ap (λ (x : List Gate). made_of m.name.name (ports_as is_input m) (ports_as is_output m) x defaulted) are_gates
-      ∙ ap (λ (x : ℕ). made_of m.name.name (ports_as is_input m) (ports_as is_output m) (gates_of default m) x) counted
+  parts_are named are_inputs are_outputs are_gates step counted =
+      ap (λ (x : List ℕ). made_of x (map name_of inputs) (map name_of outputs) (map gate_of gates) unit defaulted) named
+      ∙ ap (λ (x : List Name). made_of m.name.name x (map name_of outputs) (map gate_of gates) unit defaulted) (are_inputs ∙ sides.inputs)
+      ∙ ap (λ (x : List Name). made_of m.name.name (ports_as is_input m) x (map gate_of gates) unit defaulted) (are_outputs ∙ sides.outputs)
+      ∙ ap (λ (x : List Gate). made_of m.name.name (ports_as is_input m) (ports_as is_output m) x unit defaulted) are_gates
+      ∙ ap (λ (x : Step). made_of m.name.name (ports_as is_input m) (ports_as is_output m) (gates_of default m) x defaulted) step
+      ∙ ap (λ (x : ℕ). made_of m.name.name (ports_as is_input m) (ports_as is_output m) (gates_of default m) (unit_of m.fronts) x) counted

@@ -1,6 +1,6 @@
 -- A walk of checks through a list: what it keeps, where it stops, and a walk through lists in lists.
 use Rattle.std.proofs.Common.{◌≡◌, List, [], ◌∷◌, ◌++◌, map, Option, None, Some, Result, Ok, Err, refl, sym, ap, subst, ◌∙◌, append_assoc, ◌⊎◌, inl, inr, ℕ}
-use Rattle.std.specs.List.{flat_map}
+use Rattle.std.specs.List.{flat_map, AllByRecursion}
 use Rattle.std.proofs.lemmas.List.{append-nil}
 use Rattle.std.proofs.lemmas.List.Concat.{flat_map-cons}
 use Rattle.td_netlist.specs.declared.fault.FaultKind.{FaultKind}
@@ -27,11 +27,11 @@ pub unless_err : {A : Type 0} (o : Option FaultKind) (line : ℕ) (x : A) (f : F
 unless_err None line x f e = absurd cc
 unless_err (Some k) line x f e = let same : fault k line ≡ f = cc in (ap (λ (g : Fault). Some g.kind) same, ap (λ (g : Fault). g.line) same)
 
-bind_assoc : {A B C : Type 0} (r : Result A Fault) (f : A → Result B Fault) (g : B → Result C Fault) → ((r >>= f) >>= g) ≡ (r >>= λ a. f a >>= g)
+pub bind_assoc : {A B C : Type 0} (r : Result A Fault) (f : A → Result B Fault) (g : B → Result C Fault) → ((r >>= f) >>= g) ≡ (r >>= λ a. f a >>= g)
 bind_assoc (Ok x) f g = refl
 bind_assoc (Err e) f g = refl
 
-bind_same : {A B : Type 0} (r : Result A Fault) (f g : A → Result B Fault) → ((a : A) → f a ≡ g a) → (r >>= f) ≡ (r >>= g)
+pub bind_same : {A B : Type 0} (r : Result A Fault) (f g : A → Result B Fault) → ((a : A) → f a ≡ g a) → (r >>= f) ≡ (r >>= g)
 bind_same (Ok x) f g h = h x
 bind_same (Err e) f g h = refl
 
@@ -102,6 +102,56 @@ module _ {S A : Type 0} (step : S → A → Result S Fault) (Keeps : S → List 
           after = rest.after;
           state = rest.state;
           splits = ap (λ (ys : List A). x ∷ ys) rest.splits;
+          so_far = subst (λ (ys : List A). Keeps rest.state ys) (append_assoc done (x ∷ []) rest.before) rest.so_far;
+          refused = rest.refused;
+        })
+  ]
+
+-- the same where each member fits
+module _ {S A : Type 0} (step : S → A → Result S Fault) (Keeps : S → List A → Type 0) (Fits : A → Type 0)
+    (goes : (s t : S) (done : List A) (x : A) → Fits x → Keeps s done → step s x ≡ Ok t → Keeps t (done ++ x ∷ [])) where
+  pub record StopsFitting (done xs : List A) (f : Fault) : Type 0 where
+    pub before : List A
+    pub member : A
+    pub after : List A
+    pub state : S
+    pub splits : xs ≡ before ++ member ∷ after
+    pub fits : Fits member
+    pub so_far : Keeps state (done ++ before)
+    pub refused : step state member ≡ Err f
+
+  pub kept_fitting : (s t : S) (done xs : List A) → AllByRecursion Fits xs → Keeps s done → each step s xs ≡ Ok t → Keeps t (done ++ xs)
+  unfolding each
+  kept_fitting s t done [] all keeps e =
+      let same : s ≡ t = cc in
+      subst (λ (u : S). Keeps u (done ++ [])) same (subst (λ (xs : List A). Keeps s xs) (sym (append-nil done)) keeps)
+  kept_fitting s t done (x ∷ xs) all keeps e =
+      let first = ok_both (step s x) (λ u. each step u xs) t e in
+      subst (λ (ys : List A). Keeps t ys) (append_assoc done (x ∷ []) xs)
+      (kept_fitting first.0 t (done ++ x ∷ []) xs all.1 (goes s first.0 done x all.0 keeps first.1) first.2)
+
+  pub stops_fitting : (s : S) (done xs : List A) (f : Fault) → AllByRecursion Fits xs → Keeps s done → each step s xs ≡ Err f → StopsFitting done xs f
+  unfolding each
+  stops_fitting s done [] f all keeps e = absurd cc
+  stops_fitting s done (x ∷ xs) f all keeps e = elim (err_either (step s x) (λ u. each step u xs) f e) [
+    | inl here ↦ record {
+      before = [];
+      member = x;
+      after = xs;
+      state = s;
+      splits = refl;
+      fits = all.0;
+      so_far = subst (λ (ys : List A). Keeps s ys) (sym (append-nil done)) keeps;
+      refused = here;
+    }
+    | inr past ↦ (let rest = stops_fitting past.0 (done ++ x ∷ []) xs f all.1 (goes s past.0 done x all.0 keeps past.1) past.2 in
+        record {
+          before = x ∷ rest.before;
+          member = rest.member;
+          after = rest.after;
+          state = rest.state;
+          splits = ap (λ (ys : List A). x ∷ ys) rest.splits;
+          fits = rest.fits;
           so_far = subst (λ (ys : List A). Keeps rest.state ys) (append_assoc done (x ∷ []) rest.before) rest.so_far;
           refused = rest.refused;
         })

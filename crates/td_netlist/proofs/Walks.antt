@@ -1,6 +1,7 @@
 -- Walking through a list member by member, as a loop does.
-use Rattle.std.proofs.Common.{◌≡◌, ℕ, suc, ◌+◌, ◌<◌, ◌≤◌, List, length, map, get_or, drop, Option, None, Some, Result, Ok, Err, sym, ap, ◌∙◌, add-one, drop-cons}
+use Rattle.std.proofs.Common.{◌≡◌, ℕ, zero, suc, ◌+◌, ◌<◌, ◌≤◌, List, [], ◌∷◌, arith, length, map, get_or, drop, Option, None, Some, Result, Ok, Err, sym, ap, subst, ◌∙◌, add-one, drop-cons}
 use Rattle.std.specs.Prelude.{MatchOption}
+use Rattle.std.specs.List.{AllByRecursion}
 use Rattle.std.proofs.lemmas.List.{drop_all}
 use Rattle.td_netlist.specs.declared.fault.FaultKind.{FaultKind}
 use Rattle.td_netlist.specs.declared.fault.Fault.{Fault}
@@ -29,3 +30,21 @@ module _ {S A X : Type 0} (step : S → A → Result S Fault) (view : X → A) (
 pub ends : {S A X : Type 0} (step : S → A → Result S Fault) (view : X → A) (xs : List X) (i : ℕ) (s : S) (total : Result S Fault) → length xs ≤ i → each step s (map view (drop i xs)) ≡ total → total ≡ Ok s
 unfolding each
 ends {X = X} step view xs i s total le so_far = sym so_far ∙ ap (λ (ys : List X). each step s (map view ys)) (drop_all i xs le)
+
+-- what holds of each member of a list, holds of the one at this place
+pub at_place : {A X : Type 0} (P : A → Type 0) (view : X → A) (xs : List X) (i : ℕ) (d : X) → AllByRecursion P (map view xs) → i < length xs → P (view (get_or xs i d))
+at_place P view [] i d all lt = absurd (omega (arith, lt))
+at_place P view (x ∷ xs) zero d all lt = all.0
+at_place P view (x ∷ xs) (suc i) d all lt = at_place P view xs i d all.1 (omega (arith, lt))
+
+-- ---- a fault in the middle
+
+fails_on : {A B : Type 0} (o : Option FaultKind) (line : ℕ) (r : Result A Fault) (f : A → Result B Fault) → MatchOption o (Unit {0}) (λ k. r ≡ Err (fault k line)) → MatchOption o (Unit {0}) (λ k. (r >>= f) ≡ Err (fault k line))
+fails_on None line r f e = tt
+fails_on (Some k) line r f e = ap (λ (x : Result _ Fault). x >>= f) e
+
+pub fails_behind : {A B : Type 0} (e : Fault) (r : Result A Fault) (f : A → Result B Fault) → Fails e r → Fails e (r >>= f)
+fails_behind e r f fails = fails_on (told e.kind) e.line r f fails
+
+pub fails_as : {A : Type 0} (e : Fault) (r s : Result A Fault) → r ≡ s → Fails e r → Fails e s
+fails_as e r s same fails = subst (λ (x : Result _ Fault). Fails e x) same fails

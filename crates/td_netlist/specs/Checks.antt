@@ -1,26 +1,63 @@
 -- The checks of a module in the order of its text, with the first fault. Proof devices: what a text means doesn't rest on them.
-use Rattle.std.specs.Prelude.{ℕ, ◌+◌, List, [], ◌∷◌, ◌++◌, length, find, Option, None, Some, is_some, ◌&&◌, nat_le, nat_lt, Result, Ok, Err, if◌then◌else◌}
+use Rattle.std.specs.Prelude.{ℕ, ◌+◌, List, [], ◌∷◌, ◌++◌, map, find, Option, None, Some, is_some, Bool, true, false, not, ◌&&◌, ◌==◌, nat_lt, Result, Ok, Err, if◌then◌else◌}
+use Rattle.std.specs.List.{sum_by}
 use Rattle.std.specs.Str.{bytes_eq}
 use Rattle.td_syntax.specs.declared.syntax.Role.{Role}
+use Rattle.td_syntax.specs.declared.syntax.Role.TheVariants as role
 use Rattle.td_syntax.specs.Grammar as grammar
+use Rattle.td_syntax.specs.Grammar.{value_of, IsMaybeRange}
 use Rattle.td_netlist.specs.declared.fault.FaultKind.{FaultKind}
-use Rattle.td_netlist.specs.declared.fault.FaultKind.TheVariants.{Redeclared, PortUndeclared, DrivenInput, TwoDrivers, Undriven, TooMany}
+use Rattle.td_netlist.specs.declared.fault.FaultKind.TheVariants.{Redeclared, PortUndeclared, UnknownBit, WidthNotOne, DrivenInput, TwoDrivers, Undriven, TooMany}
 use Rattle.td_netlist.specs.declared.fault.Fault.{Fault}
 use Rattle.td_netlist.specs.Faults.{fault, unless, ◌>>=◌}
-use Rattle.td_netlist.specs.Netlist.{Name}
-use Rattle.td_netlist.specs.Names.{is_in, with_name}
-use Rattle.td_netlist.specs.Module.{scalar, is_input, is_wire, ports, different, outputs_of, inputs_of, Declared, Primitive, primitives}
+use Rattle.td_netlist.specs.declared.ranges.Range.{Range}
+use Rattle.td_gates.specs.declared.timing.Delay.{Delay}
+use Rattle.td_netlist.specs.Netlist.{Name, Net, Low, High, Named, Gate}
+use Rattle.td_netlist.specs.Names.{is_in}
+use Rattle.td_netlist.specs.Ranges.{range_of, width_of, nets_of}
+use Rattle.td_netlist.specs.Module.{scalar, is_input, is_wire, different, port_names, whole_source, bit_source, Source, Joins, NoBit, NotOne, Placed, outputs_of, inputs_of, Declared, Primitive, delay_of}
 
 -- the members one after another, up to the first fault
 unfoldable pub each : {S A : Type 0} → (S → A → Result S Fault) → S → List A → Result S Fault
 each step s [] = Ok s
 each step s (x ∷ xs) = step s x >>= λ t. each step t xs
 
--- ---- declarations
+-- ---- names with their ranges
 
--- the nets so far, with one more
-unfoldable pub count_net : List Name → grammar.Name → Result (List Name) Fault
-count_net nets n = unless (if nat_lt 1000000 (length (with_name nets (scalar n))) then Some TooMany else None) n.line (with_name nets (scalar n))
+pub record Known : Type 0 where
+  pub text : List ℕ
+  pub range : Option Range
+
+-- what is known of a name, if anything is
+abbrev pub known : List Known → List ℕ → Option Known
+known ks text = find (λ k. bytes_eq text k.text) ks
+
+abbrev pub range_known : Option Known → Option Range
+range_known None = None
+range_known (Some k) = k.range
+
+abbrev pub nets_known : List Known → ℕ
+nets_known ks = sum_by (λ (k : Known). width_of k.range) ks
+
+abbrev pub same_number : Option Range → Option Range → Bool
+same_number None None = true
+same_number None (Some r) = false
+same_number (Some r) None = false
+same_number (Some r) (Some q) = r.left == q.left && r.right == q.right
+
+-- whether the name is known with another range
+abbrev pub is_other : Option Known → Option Range → Bool
+is_other None range = false
+is_other (Some k) range = not (same_number k.range range)
+
+-- one more name, unless there are too many nets then
+abbrev pub with_range : List Known → grammar.Name → Option Range → Result (List Known) Fault
+with_range ks n range = unless (if nat_lt 1000000 (nets_known ks + width_of range) then Some TooMany else None) n.line (ks ++ record { text = n.name; range = range } ∷ [])
+
+unfoldable pub know : List Known → grammar.Name → Option Range → Result (List Known) Fault
+know ks n range = if is_some (known ks n.name) then Ok ks else with_range ks n range
+
+-- ---- declarations
 
 unfoldable pub list_port : List Name → grammar.Name → Result (List Name) Fault
 list_port seen n = unless (if is_in (scalar n) seen then Some Redeclared else None) n.line (seen ++ scalar n ∷ [])
@@ -31,115 +68,237 @@ direction_of ds n = find (λ d. bytes_eq n.name d.name.name) ds
 
 -- what is declared so far
 pub record Lists : Type 0 where
+  pub listed : List Name
   pub directions : List Declared
-  -- the number of inputs
+  -- the number of input bits
   pub inputs : ℕ
   pub wires : List Name
-  pub nets : List Name
+  pub names : List Known
 
 abbrev pub nothing : Lists
-nothing = record { directions = []; inputs = 0; wires = []; nets = [] }
+nothing = record { listed = []; directions = []; inputs = 0; wires = []; names = [] }
 
--- one more where it is an input
-abbrev pub counted : Role → ℕ → ℕ
-counted r n = if is_input r then n + 1 else n
+abbrev pub input_bits : Role → Option Range → ℕ
+input_bits r range = if is_input r then width_of range else 0
 
-abbrev pub direction_fault : List Name → Lists → Role → grammar.Name → Option FaultKind
-direction_fault listed s r n =
+abbrev pub direction_fault : Lists → Role → Option Range → grammar.Name → Option FaultKind
+direction_fault s r range n =
     if is_some (direction_of s.directions n) then Some Redeclared
-    else (if is_in (scalar n) listed then (if is_input r && nat_le 4096 s.inputs then Some TooMany else None) else Some PortUndeclared)
+    else (if is_other (known s.names n.name) range then Some Redeclared
+    else (if not (is_in (scalar n) s.listed) then Some PortUndeclared
+    else (if nat_lt 4096 (s.inputs + input_bits r range) then Some TooMany
+    else None)))
 
-unfoldable pub declare_direction : List Name → Role → Lists → grammar.Name → Result Lists Fault
-declare_direction listed r s n = do
-  fine ← unless {A = Unit {0}} (direction_fault listed s r n) n.line tt
-  nets ← count_net s.nets n
-  Ok (record { directions = s.directions ++ record { role = r; name = n } ∷ []; inputs = counted r s.inputs; wires = s.wires; nets = nets })
+unfoldable pub declare_direction : Role → Option Range → Lists → grammar.Name → Result Lists Fault
+declare_direction r range s n = do
+  fine ← unless {A = Unit {0}} (direction_fault s r range n) n.line tt
+  names ← know s.names n range
+  Ok (record {
+    listed = s.listed;
+    directions = s.directions ++ record { role = r; range = range; name = n } ∷ [];
+    inputs = s.inputs + input_bits r range;
+    wires = s.wires;
+    names = names;
+  })
 
-unfoldable pub declare_wire : Lists → grammar.Name → Result Lists Fault
-declare_wire s n = do
-  fine ← unless {A = Unit {0}} (if is_in (scalar n) s.wires then Some Redeclared else None) n.line tt
-  nets ← count_net s.nets n
-  Ok (record { directions = s.directions; inputs = s.inputs; wires = s.wires ++ scalar n ∷ []; nets = nets })
+abbrev pub wire_fault : Lists → Option Range → grammar.Name → Option FaultKind
+wire_fault s range n =
+    if is_in (scalar n) s.wires then Some Redeclared
+    else (if is_other (known s.names n.name) range then Some Redeclared
+    else None)
 
-unfoldable pub declare : List Name → Role → Lists → grammar.Name → Result Lists Fault
-declare listed r s n = if is_wire r then declare_wire s n else declare_direction listed r s n
+unfoldable pub declare_wire : Option Range → Lists → grammar.Name → Result Lists Fault
+declare_wire range s n = do
+  fine ← unless {A = Unit {0}} (wire_fault s range n) n.line tt
+  names ← know s.names n range
+  Ok (record { listed = s.listed; directions = s.directions; inputs = s.inputs; wires = s.wires ++ scalar n ∷ []; names = names })
 
-unfoldable pub declare_item : List Name → Lists → grammar.Item → Result Lists Fault
-declare_item listed s (grammar.Declares d) = each (declare listed d.role) s d.names
-declare_item listed s (grammar.Gates g) = Ok s
+unfoldable pub declare : Role → Option Range → Lists → grammar.Name → Result Lists Fault
+declare r range s n = if is_wire r then declare_wire range s n else declare_direction r range s n
 
--- the ports by direction: the inputs, and the outputs with the lines of their directions
+unfoldable pub declare_item : Lists → grammar.Item → Result Lists Fault
+declare_item s (grammar.Declares d) = each (declare d.role (range_of d.range)) s d.names
+declare_item s (grammar.Gates g) = Ok s
+
+-- the numbers of its range are within their limit
+abbrev pub IsRanged : grammar.Item → Type 0
+IsRanged (grammar.Declares d) = IsMaybeRange d.range
+IsRanged (grammar.Gates g) = Unit {0}
+
+abbrev pub with_port : Lists → grammar.Name → Result Lists Fault
+with_port s n = list_port s.listed n >>= λ listed. Ok (record { listed = listed; directions = s.directions; inputs = s.inputs; wires = s.wires; names = s.names })
+
+-- A port that is declared is listed first. The role and the range are those of the port before it.
+pub record Ported : Type 0 where
+  pub role : Role
+  pub range : Option Range
+  pub lists : Lists
+
+-- A list of declared ports begins with a role, so that this one counts for none.
+abbrev pub portless : Ported
+portless = record { role = role.Input; range = None; lists = nothing }
+
+abbrev pub ported : Role → Option Range → Ported → grammar.Name → Result Ported Fault
+ported r range s n = with_port s.lists n >>= λ lists. declare_direction r range lists n >>= λ all. Ok (record { role = r; range = range; lists = all })
+
+unfoldable pub declare_port : Ported → grammar.Port → Result Ported Fault
+declare_port s (grammar.Bare n) = ported s.role s.range s n
+declare_port s (grammar.Headed h) = ported h.role (range_of h.range) s h.name
+
+unfoldable pub declare_ports : Option grammar.Ports → Result Lists Fault
+declare_ports None = Ok nothing
+declare_ports (Some (grammar.Names ns)) = each with_port nothing ns
+declare_ports (Some (grammar.Declared ps)) = each declare_port portless ps >>= λ s. Ok s.lists
+
+-- the bits of the ports by direction, those of outputs with the lines of their directions
 pub record Sides : Type 0 where
   pub inputs : List Name
-  pub outputs : List grammar.Name
+  pub outputs : List Placed
 
 abbrev pub sideless : Sides
 sideless = record { inputs = []; outputs = [] }
 
+abbrev pub placed_at : ℕ → List Name → List Placed
+placed_at line names = map (λ net. record { net = net; line = line }) names
+
 abbrev pub on_side : Sides → grammar.Name → Option Declared → Result Sides Fault
 on_side s n None = Err (fault PortUndeclared n.line)
 on_side s n (Some d) =
-    if is_input d.role then Ok (record { inputs = s.inputs ++ scalar n ∷ []; outputs = s.outputs })
-    else Ok (record { inputs = s.inputs; outputs = s.outputs ++ d.name ∷ [] })
+    if is_input d.role then Ok (record { inputs = s.inputs ++ nets_of n.name d.range; outputs = s.outputs })
+    else Ok (record { inputs = s.inputs; outputs = s.outputs ++ placed_at d.name.line (nets_of n.name d.range) })
 
 unfoldable pub take_side : List Declared → Sides → grammar.Name → Result Sides Fault
 take_side directions s n = on_side s n (direction_of directions n)
 
+-- all ports by direction
+unfoldable pub sides_at : List Declared → Option grammar.Ports → Result Sides Fault
+sides_at directions ports = each (take_side directions) sideless (port_names ports)
+
+-- ---- terminals
+
+abbrev pub joined : ℕ → Source → Result Net Fault
+joined line (Joins net) = Ok net
+joined line NoBit = Err (fault UnknownBit line)
+joined line NotOne = Err (fault WidthNotOne line)
+
+-- the net of a terminal, by what is known of its name
+unfoldable pub resolve : List Known → grammar.Terminal → Result Net Fault
+resolve ks (grammar.Whole n) = joined n.line (whole_source n.name (range_known (known ks n.name)))
+resolve ks (grammar.Select n digits) = joined n.line (bit_source n.name (value_of digits) (range_known (known ks n.name)))
+resolve ks (grammar.Level false) = Ok Low
+resolve ks (grammar.Level true) = Ok High
+
+-- a plain name without a declaration is a net
+abbrev pub meet : List Known → grammar.Terminal → Result (List Known) Fault
+meet ks (grammar.Whole n) = know ks n None
+meet ks (grammar.Select n digits) = Ok ks
+meet ks (grammar.Level b) = Ok ks
+
 -- ---- drivers
 
--- the driven nets and the nets so far
+-- the driven nets and the names so far
 pub record Drivers : Type 0 where
   pub driven : List Name
-  pub nets : List Name
+  pub names : List Known
 
 -- an input, or another net that is driven
 abbrev pub second_driver : List Name → Name → FaultKind
 second_driver inputs name = if is_in name inputs then DrivenInput else TwoDrivers
 
-abbrev pub drive_fault : List Name → Drivers → Name → Option FaultKind
-drive_fault inputs s name = if is_in name s.driven then Some (second_driver inputs name) else None
+abbrev pub drive_fault : List Name → List Name → Name → Option FaultKind
+drive_fault inputs driven name = if is_in name driven then Some (second_driver inputs name) else None
+
+abbrev pub drive_net : List Name → List Name → ℕ → Net → Result (List Name) Fault
+drive_net inputs driven line Low = Ok driven
+drive_net inputs driven line High = Ok driven
+drive_net inputs driven line (Named name) = unless (drive_fault inputs driven name) line (driven ++ name ∷ [])
+
+abbrev pub line_at : grammar.Terminal → ℕ
+line_at (grammar.Whole n) = n.line
+line_at (grammar.Select n digits) = n.line
+line_at (grammar.Level b) = 0
+
+-- the net of a terminal, and its name known from now on
+unfoldable pub seen : Drivers → grammar.Terminal → Result (Net × Drivers) Fault
+seen s t = do
+  net ← resolve s.names t
+  names ← meet s.names t
+  Ok (net, record { driven = s.driven; names = names })
+
+unfoldable pub see : Drivers → grammar.Terminal → Result Drivers Fault
+see s t = seen s t >>= λ x. Ok x.1
+
+abbrev pub with_driven : Drivers → List Name → Drivers
+with_driven s driven = record { driven = driven; names = s.names }
+
+-- a net driven more
+unfoldable pub drives : List Name → Drivers → ℕ → Net → Result Drivers Fault
+drives inputs s line net = drive_net inputs s.driven line net >>= λ driven. Ok (with_driven s driven)
 
 -- one driver more
-unfoldable pub drive : List Name → Drivers → grammar.Name → Result Drivers Fault
-drive inputs s n = do
-  nets ← count_net s.nets n
-  unless (drive_fault inputs s (scalar n)) n.line (record { driven = s.driven ++ scalar n ∷ []; nets = nets })
-
-unfoldable pub see : Drivers → grammar.Name → Result Drivers Fault
-see s n = do
-  nets ← count_net s.nets n
-  Ok (record { driven = s.driven; nets = nets })
+unfoldable pub drive : List Name → Drivers → grammar.Terminal → Result Drivers Fault
+drive inputs s t = seen s t >>= λ x. drives inputs x.1 (line_at t) x.0
 
 unfoldable pub drive_all : List Name → Drivers → Primitive → Result Drivers Fault
 drive_all inputs s p = do
   t ← each (drive inputs) s (outputs_of p)
   each see t (inputs_of p)
 
-unfoldable pub read_net : List Name → Unit {0} → grammar.Name → Result (Unit {0}) Fault
-read_net driven s n = unless (if is_in (scalar n) driven then None else Some Undriven) n.line tt
+abbrev pub read_from : List Name → ℕ → Net → Result (Unit {0}) Fault
+read_from driven line Low = Ok tt
+read_from driven line High = Ok tt
+read_from driven line (Named name) = unless (if is_in name driven then None else Some Undriven) line tt
 
-unfoldable pub read_all : List Name → Unit {0} → Primitive → Result (Unit {0}) Fault
-read_all driven s p = each (read_net driven) s (inputs_of p)
+unfoldable pub read_net : Drivers → Unit {0} → grammar.Terminal → Result (Unit {0}) Fault
+read_net s u t = resolve s.names t >>= read_from s.driven (line_at t)
+
+unfoldable pub read_all : Drivers → Unit {0} → Primitive → Result (Unit {0}) Fault
+read_all s u p = each (read_net s) u (inputs_of p)
+
+unfoldable pub read_placed : List Name → Unit {0} → Placed → Result (Unit {0}) Fault
+read_placed driven u p = read_from driven p.line (Named p.net)
+
+-- ---- gates
+
+-- one net more
+unfoldable pub with_net : List Known → List Net → grammar.Terminal → Result (List Net) Fault
+with_net ks nets t = resolve ks t >>= λ net. Ok (nets ++ net ∷ [])
+
+-- the gate of an instance that drives this net
+unfoldable pub gate_at : List Known → ℕ → Delay → Primitive → Name → Result Gate Fault
+gate_at ks tens default p output = each (with_net ks) [] (inputs_of p) >>= λ inputs. Ok (record {
+  kind = p.kind;
+  delay = delay_of tens default p.delay;
+  output = output;
+  inputs = inputs;
+})
+
+abbrev pub gate_driving : List Known → ℕ → Delay → Primitive → List Gate → Net → Result (List Gate) Fault
+gate_driving ks tens default p gates Low = Ok gates
+gate_driving ks tens default p gates High = Ok gates
+gate_driving ks tens default p gates (Named output) = gate_at ks tens default p output >>= λ gate. Ok (gates ++ gate ∷ [])
+
+-- one gate more
+unfoldable pub with_gate : List Known → ℕ → Delay → Primitive → List Gate → grammar.Terminal → Result (List Gate) Fault
+with_gate ks tens default p gates t = resolve ks t >>= gate_driving ks tens default p gates
+
+-- the gates of one instance more
+unfoldable pub with_gates : List Known → ℕ → Delay → List Gate → Primitive → Result (List Gate) Fault
+with_gates ks tens default gates p = each (with_gate ks tens default p) gates (outputs_of p)
 
 -- ---- the whole
 
--- the ports by direction and the nets of the declarations
-unfoldable pub declared_at : grammar.Module → Result (Sides × List Name) Fault
+-- the ports by direction and the names of the declarations
+unfoldable pub declared_at : grammar.Module → Result (Sides × List Known) Fault
 declared_at m = do
-  listed ← each list_port [] (ports m)
-  lists ← each (declare_item listed) nothing m.items
-  sides ← each (take_side lists.directions) sideless (ports m)
-  Ok (sides, lists.nets)
+  ported ← declare_ports m.ports
+  lists ← each declare_item ported m.items
+  sides ← sides_at lists.directions m.ports
+  Ok (sides, lists.names)
 
-unfoldable pub driven_at : Sides → List Name → List Primitive → Result (Unit {0}) Fault
-driven_at sides nets ps = do
-  drivers ← each (drive_all sides.inputs) (record { driven = different sides.inputs; nets = nets }) ps
-  reads ← each (read_all drivers.driven) tt ps
-  each (read_net drivers.driven) tt sides.outputs
-
--- the ports by direction, where all is fine
-unfoldable pub checked_at : grammar.Module → Result Sides Fault
-checked_at m = do
-  declared ← declared_at m
-  driven ← driven_at declared.0 declared.1 (primitives m)
-  Ok declared.0
+unfoldable pub driven_at : Sides → List Known → List Primitive → Result Drivers Fault
+driven_at sides names ps = do
+  drivers ← each (drive_all sides.inputs) (record { driven = different sides.inputs; names = names }) ps
+  reads ← each (read_all drivers) tt ps
+  outputs ← each (read_placed drivers.driven) tt sides.outputs
+  Ok drivers

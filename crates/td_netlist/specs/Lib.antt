@@ -6,8 +6,10 @@ pub mod Printed
 pub mod Kinds
 pub mod Faults
 pub mod FirstPass
+pub mod Ranges
 pub mod Module
 pub mod Means
 pub mod Checks
+pub mod KnownViews
 pub mod NameViews
 pub mod CheckViews

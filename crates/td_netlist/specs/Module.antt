@@ -1,18 +1,25 @@
 -- What a module declares, and the netlist that it lists.
-use Rattle.std.specs.Prelude.{ℕ, List, [], ◌++◌, length, map, filter, fold, take, drop, sum_by, Option, None, Some, Bool, true, false}
+use Rattle.std.specs.Prelude.{ℕ, ◌-◌, List, [], ◌∷◌, ◌++◌, length, map, filter, fold, find, take, drop, sum_by, Option, None, Some, Bool, true, false, ◌==◌, nat_lt, if◌then◌else◌}
 use Rattle.std.specs.List.{flat_map}
+use Rattle.std.specs.Str.{bytes_eq}
 use Rattle.td_gates.specs.declared.primitives.Kind.{Kind}
 use Rattle.td_gates.specs.declared.timing.Delay.{Delay}
+use Rattle.td_syntax.specs.declared.token.Directive.TheVariants as directive
+use Rattle.td_syntax.specs.declared.syntax.Front.{Front}
+use Rattle.td_syntax.specs.declared.syntax.Front.TheVariants as fronts
 use Rattle.td_syntax.specs.declared.syntax.Role.{Role}
 use Rattle.td_syntax.specs.declared.syntax.Role.TheVariants as role
 use Rattle.td_syntax.specs.Grammar as grammar
-use Rattle.td_syntax.specs.Grammar.{value_of, output_count}
+use Rattle.td_syntax.specs.Grammar.{value_of, output_count, tens_of, steps_of}
 use Rattle.td_netlist.specs.declared.netlist.Unit.{Unit as Step}
+use Rattle.td_netlist.specs.declared.netlist.Scale.{Scale}
 use Rattle.td_netlist.specs.declared.netlist.Scale.TheVariants as scale
-use Rattle.td_netlist.specs.Netlist.{Name, Named, Gate, Netlist}
+use Rattle.td_netlist.specs.declared.ranges.Range.{Range}
+use Rattle.td_netlist.specs.Netlist.{Name, Net, Low, High, Named, Gate, Netlist}
 use Rattle.td_netlist.specs.Names.{is_in, with_name}
+use Rattle.td_netlist.specs.Ranges.{range_of, width_of, holds, bit_name, nets_of}
 
--- the net of a name
+-- the net of a name that is no vector
 abbrev pub scalar : grammar.Name → Name
 scalar n = record { text = n.name; bit = None }
 
@@ -23,17 +30,26 @@ names_of ns = map scalar ns
 
 pub record Declared : Type 0 where
   pub role : Role
+  pub range : Option Range
   pub name : grammar.Name
 
-abbrev pub as_declared : Role → List grammar.Name → List Declared
-as_declared r ns = map (λ n. record { role = r; name = n }) ns
-
 abbrev pub item_declared : grammar.Item → List Declared
-item_declared (grammar.Declares d) = as_declared d.role d.names
+item_declared (grammar.Declares d) = map (λ n. record { role = d.role; range = range_of d.range; name = n }) d.names
 item_declared (grammar.Gates g) = []
 
+-- a bare name has direction and range of the port before it
+unfoldable pub ports_from : Role → Option Range → List grammar.Port → List Declared
+ports_from r range [] = []
+ports_from r range (grammar.Bare n ∷ ps) = record { role = r; range = range; name = n } ∷ ports_from r range ps
+ports_from r range (grammar.Headed h ∷ ps) = record { role = h.role; range = range_of h.range; name = h.name } ∷ ports_from h.role (range_of h.range) ps
+
+abbrev pub ports_declared : Option grammar.Ports → List Declared
+ports_declared None = []
+ports_declared (Some (grammar.Names ns)) = []
+ports_declared (Some (grammar.Declared ps)) = ports_from role.Input None ps
+
 abbrev pub declarations : grammar.Module → List Declared
-declarations m = flat_map item_declared m.items
+declarations m = ports_declared m.ports ++ flat_map item_declared m.items
 
 abbrev pub is_input : Role → Bool
 is_input role.Input = true
@@ -55,23 +71,101 @@ is_direction role.Input = true
 is_direction role.Output = true
 is_direction role.Wire = false
 
--- the names that are declared as such
-abbrev pub declared_as : (Role → Bool) → List Declared → List grammar.Name
-declared_as is ds = map (λ d. d.name) (filter (λ d. is d.role) ds)
+-- what is declared as such
+abbrev pub declared : (Role → Bool) → grammar.Module → List Declared
+declared is m = filter (λ d. is d.role) (declarations m)
 
-abbrev pub declared : (Role → Bool) → grammar.Module → List grammar.Name
-declared is m = declared_as is (declarations m)
+abbrev pub declared_names : (Role → Bool) → grammar.Module → List grammar.Name
+declared_names is m = map (λ d. d.name) (declared is m)
 
-abbrev pub port_list : Option (List grammar.Name) → List grammar.Name
-port_list None = []
-port_list (Some ns) = ns
+abbrev pub port_name : grammar.Port → grammar.Name
+port_name (grammar.Bare n) = n
+port_name (grammar.Headed h) = h.name
+
+abbrev pub port_names : Option grammar.Ports → List grammar.Name
+port_names None = []
+port_names (Some (grammar.Names ns)) = ns
+port_names (Some (grammar.Declared ps)) = map port_name ps
 
 abbrev pub ports : grammar.Module → List grammar.Name
-ports m = port_list m.ports
+ports m = port_names m.ports
 
--- the ports that are declared as such, in the order of the port list
+-- ---- ranges of names
+
+abbrev pub is_of : List ℕ → Declared → Bool
+is_of text d = bytes_eq text d.name.name
+
+abbrev pub range_found : Option Declared → Option Range
+range_found None = None
+range_found (Some d) = d.range
+
+-- the range of a name, by its first declaration; a name without one is no vector
+abbrev pub range_in : grammar.Module → List ℕ → Option Range
+range_in m text = range_found (find (is_of text) (declarations m))
+
+-- the nets of a name
+abbrev pub nets_named : grammar.Module → grammar.Name → List Name
+nets_named m n = nets_of n.name (range_in m n.name)
+
+-- the bits of the ports that are declared as such, in the order of the port list
 abbrev pub ports_as : (Role → Bool) → grammar.Module → List Name
-ports_as is m = filter (λ name. is_in name (names_of (declared is m))) (names_of (ports m))
+ports_as is m = flat_map (nets_named m) (filter (λ n. is_in (scalar n) (names_of (declared_names is m))) (ports m))
+
+-- ---- terminals
+
+-- what a terminal is joined to, or why it isn't
+pub data Source : Type 0 where
+  Joins : Net → Source
+  -- a bit that the name doesn't have
+  NoBit : Source
+  -- a vector of more bits, or fewer, than one
+  NotOne : Source
+
+abbrev pub whole_source : List ℕ → Option Range → Source
+whole_source text None = Joins (Named (record { text = text; bit = None }))
+whole_source text (Some r) = if r.left == r.right then Joins (Named (bit_name text r.left)) else NotOne
+
+abbrev pub bit_source : List ℕ → ℕ → Option Range → Source
+bit_source text bit None = NoBit
+bit_source text bit (Some r) = if holds r bit then Joins (Named (bit_name text bit)) else NoBit
+
+abbrev pub source_of : grammar.Module → grammar.Terminal → Source
+source_of m (grammar.Whole n) = whole_source n.name (range_in m n.name)
+source_of m (grammar.Select n digits) = bit_source n.name (value_of digits) (range_in m n.name)
+source_of m (grammar.Level false) = Joins Low
+source_of m (grammar.Level true) = Joins High
+
+-- the line of a terminal; constants have none
+abbrev pub line_of : grammar.Terminal → ℕ
+line_of (grammar.Whole n) = n.line
+line_of (grammar.Select n digits) = n.line
+line_of (grammar.Level b) = 0
+
+-- the net, where the terminal is joined to one
+abbrev pub net_from : Source → Net
+net_from (Joins net) = net
+net_from NoBit = Low
+net_from NotOne = Low
+
+abbrev pub net_of : grammar.Module → grammar.Terminal → Net
+net_of m t = net_from (source_of m t)
+
+-- a named net, and the line of the terminal or name that names it
+pub record Placed : Type 0 where
+  pub net : Name
+  pub line : ℕ
+
+abbrev pub placed_net : ℕ → Net → List Placed
+placed_net line Low = []
+placed_net line High = []
+placed_net line (Named name) = record { net = name; line = line } ∷ []
+
+-- constants are left out
+abbrev pub placed_in : grammar.Module → List grammar.Terminal → List Placed
+placed_in m ts = flat_map (λ t. placed_net (line_of t) (net_of m t)) ts
+
+abbrev pub nets_at : List Placed → List Name
+nets_at ps = map (λ p. p.net) ps
 
 -- ---- gates, in the order of the text
 
@@ -79,7 +173,7 @@ ports_as is m = filter (λ name. is_in name (names_of (declared is m))) (names_o
 pub record Primitive : Type 0 where
   pub kind : Kind
   pub delay : Option grammar.Delay
-  pub terminals : List grammar.Name
+  pub terminals : List grammar.Terminal
 
 abbrev pub as_primitive : Kind → Option grammar.Delay → grammar.Instance → Primitive
 as_primitive k d i = record { kind = k; delay = d; terminals = i.terminals }
@@ -92,43 +186,54 @@ abbrev pub primitives : grammar.Module → List Primitive
 primitives m = flat_map item_primitives m.items
 
 -- The outputs stand first: one, but of `buf` and `not` all terminals except the last.
-abbrev pub outputs_of : Primitive → List grammar.Name
+abbrev pub outputs_of : Primitive → List grammar.Terminal
 outputs_of p = take (output_count p.kind (length p.terminals)) p.terminals
 
-abbrev pub inputs_of : Primitive → List grammar.Name
+abbrev pub inputs_of : Primitive → List grammar.Terminal
 inputs_of p = drop (output_count p.kind (length p.terminals)) p.terminals
 
--- the terminals, those that drive, and those that read
-abbrev pub terminals_in : grammar.Module → List grammar.Name
+-- the terminals, the nets that they drive, and those that they read
+abbrev pub terminals_in : grammar.Module → List grammar.Terminal
 terminals_in m = flat_map (λ p. p.terminals) (primitives m)
 
-abbrev pub outputs_in : grammar.Module → List grammar.Name
-outputs_in m = flat_map outputs_of (primitives m)
+abbrev pub outputs_in : grammar.Module → List Placed
+outputs_in m = placed_in m (flat_map outputs_of (primitives m))
 
-abbrev pub inputs_in : grammar.Module → List grammar.Name
-inputs_in m = flat_map inputs_of (primitives m)
+abbrev pub inputs_in : grammar.Module → List Placed
+inputs_in m = placed_in m (flat_map inputs_of (primitives m))
 
--- the delay that is stated, or the default; one value serves for both changes, and of two the first is the rise delay
-abbrev pub delay_of : Delay → Option grammar.Delay → Delay
-delay_of default None = default
-delay_of default (Some (grammar.Plain n)) = record { rise = value_of n; fall = value_of n }
-delay_of default (Some (grammar.Single n)) = record { rise = value_of n; fall = value_of n }
-delay_of default (Some (grammar.Pair n m)) = record { rise = value_of n; fall = value_of m }
+-- the output bits, at the line of their declaration, in the order of the declarations
+abbrev pub output_bits : grammar.Module → List Placed
+output_bits m = flat_map (λ d. map (λ net. record { net = net; line = d.name.line }) (nets_of d.name.name d.range)) (declared is_output m)
+
+-- The delay in steps that is stated, or the default. One value serves for both changes, and of two the first is the rise
+-- delay.
+abbrev pub delay_of : ℕ → Delay → Option grammar.Delay → Delay
+delay_of tens default None = default
+delay_of tens default (Some (grammar.Plain n)) = record { rise = steps_of tens n; fall = steps_of tens n }
+delay_of tens default (Some (grammar.Single n)) = record { rise = steps_of tens n; fall = steps_of tens n }
+delay_of tens default (Some (grammar.Pair n m)) = record { rise = steps_of tens n; fall = steps_of tens m }
+
+-- the name of a net that an output drives
+abbrev pub name_from : Net → Name
+name_from Low = record { text = []; bit = None }
+name_from High = record { text = []; bit = None }
+name_from (Named name) = name
 
 -- a gate for each output
-abbrev pub gate_by : Delay → Primitive → grammar.Name → Gate
-gate_by default p output = record {
+abbrev pub gate_by : grammar.Module → Delay → Primitive → grammar.Terminal → Gate
+gate_by m default p output = record {
   kind = p.kind;
-  delay = delay_of default p.delay;
-  output = scalar output;
-  inputs = map (λ input. Named (scalar input)) (inputs_of p);
+  delay = delay_of (tens_of m.fronts) default p.delay;
+  output = name_from (net_of m output);
+  inputs = map (net_of m) (inputs_of p);
 }
 
-abbrev pub primitive_gates : Delay → Primitive → List Gate
-primitive_gates default p = map (gate_by default p) (outputs_of p)
+abbrev pub primitive_gates : grammar.Module → Delay → Primitive → List Gate
+primitive_gates m default p = map (gate_by m default p) (outputs_of p)
 
 abbrev pub gates_of : Delay → grammar.Module → List Gate
-gates_of default m = flat_map (primitive_gates default) (primitives m)
+gates_of default m = flat_map (primitive_gates m default) (primitives m)
 
 -- how many of its gates have the default delay
 abbrev pub defaulted_by : Option grammar.Delay → ℕ → ℕ
@@ -138,18 +243,40 @@ defaulted_by (Some d) n = 0
 abbrev pub defaulted_of : Primitive → ℕ
 defaulted_of p = defaulted_by p.delay (length (outputs_of p))
 
--- without a directive a step is a nanosecond
-abbrev pub nanosecond : Step
-nanosecond = record { magnitude = 1; scale = scale.Nanoseconds }
+-- ---- the step of time
 
--- the netlist of the module
+-- 1, 10 or 100 of a unit
+abbrev pub scaled : Scale → ℕ → Step
+scaled s zeros = record { magnitude = if zeros == 0 then 1 else (if zeros == 1 then 10 else 100); scale = s }
+
+-- a power of ten of a femtosecond
+abbrev pub step_of : ℕ → Step
+step_of tens =
+    if nat_lt tens 3 then scaled scale.Femtoseconds tens
+    else (if nat_lt tens 6 then scaled scale.Picoseconds (tens - 3)
+    else (if nat_lt tens 9 then scaled scale.Nanoseconds (tens - 6)
+    else (if nat_lt tens 12 then scaled scale.Microseconds (tens - 9)
+    else (if nat_lt tens 15 then scaled scale.Milliseconds (tens - 12)
+    else scaled scale.Seconds (tens - 15)))))
+
+abbrev pub step_behind : Step → Front → Step
+step_behind step fronts.Attributed = step
+step_behind step (fronts.Directed directive.Cells) = step
+step_behind step (fronts.Directed (directive.Timescale t)) = step_of t.step
+
+-- By the last directive. Without one a step is a nanosecond.
+abbrev pub unit_of : List Front → Step
+unit_of fs = fold step_behind (record { magnitude = 1; scale = scale.Nanoseconds }) fs
+
+-- ---- the netlist
+
 abbrev pub netlist_in : Delay → grammar.Module → Netlist
 netlist_in default m = record {
   name = m.name.name;
   inputs = ports_as is_input m;
   outputs = ports_as is_output m;
   gates = gates_of default m;
-  unit = nanosecond;
+  unit = unit_of m.fronts;
   defaulted = sum_by defaulted_of (primitives m);
 }
 
@@ -159,10 +286,22 @@ netlist_in default m = record {
 abbrev pub different : List Name → List Name
 different names = fold with_name [] names
 
--- the nets: the declared names and the names of terminals
-abbrev pub nets_in : grammar.Module → List Name
-nets_in m = different (names_of (map (λ d. d.name) (declarations m)) ++ names_of (terminals_in m))
+-- the names of the module: those that are declared, and the plain names of terminals
+abbrev pub plain_name : grammar.Terminal → List grammar.Name
+plain_name (grammar.Whole n) = n ∷ []
+plain_name (grammar.Select n digits) = []
+plain_name (grammar.Level b) = []
+
+abbrev pub names_in : grammar.Module → List Name
+names_in m = different (names_of (map (λ d. d.name) (declarations m) ++ flat_map plain_name (terminals_in m)))
+
+-- how many nets there are: a name has as many as its range holds
+abbrev pub net_count : grammar.Module → ℕ
+net_count m = sum_by (λ (name : Name). width_of (range_in m name.text)) (names_in m)
+
+abbrev pub input_count : grammar.Module → ℕ
+input_count m = sum_by (λ (d : Declared). width_of d.range) (declared is_input m)
 
 -- the nets with a driver: the inputs, and the outputs of gates
 abbrev pub driven_in : grammar.Module → List Name
-driven_in m = ports_as is_input m ++ names_of (outputs_in m)
+driven_in m = ports_as is_input m ++ nets_at (outputs_in m)

@@ -1,43 +1,54 @@
 //! Checks the declarations of a module.
 
-ghost use Rattle.std.specs.Prelude.{◌≡◌, [], map, Ok};
-ghost use Rattle.td_syntax.specs.Views.{name_view, names_view, module_view, item_view};
+ghost use Rattle.std.specs.Prelude.{◌≡◌, ◌++◌, map, OnOk};
+ghost use Rattle.std.specs.List.{AllByRecursion};
+ghost use Rattle.td_syntax.specs.Grammar.{IsItem, IsPort, ArePorts, tens_of};
+ghost use Rattle.td_netlist.specs.Ranges.{IsLimited, nets_of};
+ghost use Rattle.td_syntax.specs.Views.{name_view, names_view, port_view, ports_view, module_view, item_view};
 ghost use Rattle.td_netlist.specs.Faults.{Gives};
-ghost use Rattle.td_netlist.specs.Module.{scalar, ports, is_input, is_wire};
-ghost use Rattle.td_netlist.specs.Checks.{each, list_port, count_net, declare, declare_wire, declare_direction, declare_item, nothing, sideless, take_side, on_side, declared_at, direction_fault, direction_of};
-ghost use Rattle.td_netlist.specs.NameViews.{name_ref_of, found_of};
-ghost use Rattle.td_netlist.specs.CheckViews.{lists_of, sides_of};
+ghost use Rattle.td_netlist.specs.Module.{scalar, ports, port_name, port_names, is_input, is_wire};
+ghost use Rattle.td_netlist.specs.Checks.{each, list_port, with_port, declare, declare_wire, declare_direction, declare_item, declare_port, declare_ports, IsRanged, nothing, portless, sideless, placed_at, take_side, sides_at, declared_at, known, is_other, input_bits};
+ghost use Rattle.td_netlist.specs.NameViews.{name_ref_of, placed_ref_of};
+ghost use Rattle.td_netlist.specs.CheckViews.{lists_of, ported_of, sides_of};
 
 use crate::directions::Directions;
 use crate::fault::{Fault, FaultKind};
-use crate::name_ref::{Direction, NameRef};
+use crate::known::Known;
+use crate::name_ref::{Direction, NameRef, PlacedRef};
 use crate::names::Names;
-use std::alloc::Global;
-use td_syntax::{Item, Module, Name as Placed, Role};
+use crate::ranges::{Range, push_nets, range_of, width_of};
+use std::alloc::{AllocError, Global};
+use td_syntax::{Declaration, Item, Module, Name as Placed, Port, Ports, Role};
 
 /// The greatest number of inputs.
 const MAX_INPUTS: usize = 4_096;
 
-/// The greatest number of declared and implicit nets.
-const MAX_NETS: usize = 1_000_000;
-
-/// The names that are declared so far.
+/// What is declared so far.
 #[derive(Drop)]
-struct Lists<'a> {
+pub struct Lists<'a> {
+    listed: Names<'a>,
     directions: Directions<'a>,
     inputs: usize,
     wires: Names<'a>,
-    nets: Names<'a>,
+    names: Known<'a>,
 }
 
-/// The ports by direction, in the order of the port list. An output has the line of its direction.
+/// The same within a list of declared ports, with role and range of the port before.
+#[derive(Drop)]
+pub struct Ported<'a> {
+    role: Role,
+    range: Option<Range>,
+    lists: Lists<'a>,
+}
+
+/// The bits of the ports by direction, in the order of the port list. An output has the line of its direction.
 #[derive(Drop)]
 pub struct Sides<'a> {
     pub inputs: Vec<NameRef<'a>>,
-    pub outputs: Vec<Placed<'a>>,
+    pub outputs: Vec<PlacedRef<'a>>,
 }
 
-/// The net of a name.
+/// The net of a name that is no vector.
 pub fn scalar<'a>(name: Placed<'a>) -> NameRef<'a>
     ensures { name_ref_of result ≡ scalar (name_view name.entry) }
 {
@@ -58,40 +69,6 @@ pub fn refused<'a>(kind: FaultKind<'a>, name: Placed<'a>) -> Fault<'a>
     }
 }
 
-/// Counts the net of a name, unless it was counted before.
-#[tactic(auto, unfolding(crate::specs::Checks::count_net))]
-pub fn count_net<'a>(nets: &mut Names<'a>, name: Placed<'a>) -> Result<(), Fault<'a>>
-    ensures { Gives (λ _. nets.new) result (count_net nets.old (name_view name.entry)) }
-{
-    nets.add(scalar(name))?;
-    if MAX_NETS < nets.len() {
-        return Err(refused(FaultKind::TooMany, name));
-    }
-    Ok(())
-}
-
-/// The names of the ports, each of them once.
-fn listed<'a>(alloc: Global, ports: &[Placed<'a>]) -> Result<Names<'a>, Fault<'a>>
-    ensures { Gives (λ names. names) result (each list_port [] (names_view ports.now)) }
-{
-    let mut names = Names::new(alloc);
-    for port in ports {
-        list_port(&mut names, *port)?;
-    }
-    Ok(names)
-}
-
-#[tactic(auto, unfolding(crate::specs::Checks::list_port))]
-fn list_port<'a>(names: &mut Names<'a>, port: Placed<'a>) -> Result<(), Fault<'a>>
-    ensures { Gives (λ _. names.new) result (list_port names.old (name_view port.entry)) }
-{
-    if names.add(scalar(port))? {
-        Ok(())
-    } else {
-        Err(refused(FaultKind::Redeclared, port))
-    }
-}
-
 fn is_input(role: Role) -> bool
     ensures { result ≡ is_input role }
 {
@@ -104,99 +81,234 @@ fn is_wire(role: Role) -> bool
     matches!(role, Role::Wire)
 }
 
+/// How many inputs a declaration makes.
+fn input_bits(role: Role, range: Option<Range>) -> usize
+    ensures { result ≡ input_bits role range }
+{
+    if is_input(role) { width_of(range) } else { 0 }
+}
+
+/// Whether a name is known with another range.
+fn is_other<'a>(names: &Known<'a>, name: Placed<'a>, range: Option<Range>) -> bool
+    ensures { result ≡ is_other (known names.now name.entry.name.now) range }
+{
+    match names.get(name) {
+        None => false,
+        Some(known) => known != range,
+    }
+}
+
 impl<'a> Lists<'a> {
     fn new(alloc: Global) -> Lists<'a>
         ensures { lists_of result ≡ nothing }
     {
         Lists {
+            listed: Names::new(alloc),
             directions: Directions::new(alloc),
             inputs: 0,
             wires: Names::new(alloc),
-            nets: Names::new(alloc),
+            names: Known::new(alloc),
+        }
+    }
+
+    /// Lists a port, unless it is listed already.
+    #[tactic(auto, unfolding(crate::specs::Checks::list_port))]
+    fn list_port(&mut self, port: Placed<'a>) -> Result<(), Fault<'a>>
+        ensures { Gives (λ _. lists_of self.new) result (with_port (lists_of self.old) (name_view port.entry)) }
+    {
+        if self.listed.add(scalar(port))? {
+            Ok(())
+        } else {
+            Err(refused(FaultKind::Redeclared, port))
         }
     }
 
     #[tactic(auto, unfolding(crate::specs::Checks::declare_wire))]
-    fn declare_wire(&mut self, name: Placed<'a>) -> Result<(), Fault<'a>>
-        ensures { Gives (λ _. lists_of self.new) result (declare_wire (lists_of self.old) (name_view name.entry)) }
+    fn declare_wire(&mut self, range: Option<Range>, name: Placed<'a>) -> Result<(), Fault<'a>>
+        requires { IsLimited range }
+        ensures { Gives (λ _. lists_of self.new) result (declare_wire range (lists_of self.old) (name_view name.entry)) }
     {
-        if !self.wires.add(scalar(name))? {
+        if !self.wires.add(scalar(name))? || is_other(&self.names, name, range) {
             return Err(refused(FaultKind::Redeclared, name));
         }
-        count_net(&mut self.nets, name)
+        self.names.know(name, range)
     }
 
     #[tactic(auto, unfolding(crate::specs::Checks::declare_direction))]
     fn declare_direction(
         &mut self,
-        listed: &Names<'a>,
         role: Role,
+        range: Option<Range>,
         name: Placed<'a>,
     ) -> Result<(), Fault<'a>>
-        ensures { Gives (λ _. lists_of self.new) result (declare_direction listed.now role (lists_of self.old) (name_view name.entry)) }
+        requires { IsLimited range }
+        ensures { Gives (λ _. lists_of self.new) result (declare_direction role range (lists_of self.old) (name_view name.entry)) }
     {
-        if self.directions.get(name).is_some() {
+        if self.directions.get(name).is_some() || is_other(&self.names, name, range) {
             return Err(refused(FaultKind::Redeclared, name));
         }
-        if !listed.has(scalar(name)) {
+        if !self.listed.has(scalar(name)) {
             return Err(refused(FaultKind::PortUndeclared, name));
         }
-        if is_input(role) {
-            if MAX_INPUTS <= self.inputs {
-                return Err(refused(FaultKind::TooMany, name));
-            }
-            self.inputs += 1;
+        let inputs = self.inputs.saturating_add(input_bits(role, range));
+        if MAX_INPUTS < inputs {
+            return Err(refused(FaultKind::TooMany, name));
         }
-        count_net(&mut self.nets, name)?;
-        self.directions.add(role, name)?;
+        self.names.know(name, range)?;
+        self.inputs = inputs;
+        self.directions.add(role, range, name)?;
         Ok(())
     }
 
     #[tactic(auto, unfolding(crate::specs::Checks::declare))]
-    fn declare(&mut self, listed: &Names<'a>, role: Role, name: Placed<'a>) -> Result<(), Fault<'a>>
-        ensures { Gives (λ _. lists_of self.new) result (declare listed.now role (lists_of self.old) (name_view name.entry)) }
+    fn declare(
+        &mut self,
+        role: Role,
+        range: Option<Range>,
+        name: Placed<'a>,
+    ) -> Result<(), Fault<'a>>
+        requires { IsLimited range }
+        ensures { Gives (λ _. lists_of self.new) result (declare role range (lists_of self.old) (name_view name.entry)) }
     {
         if is_wire(role) {
-            self.declare_wire(name)
+            self.declare_wire(range, name)
         } else {
-            self.declare_direction(listed, role, name)
+            self.declare_direction(role, range, name)
         }
     }
 
     fn declare_names(
         &mut self,
-        listed: &Names<'a>,
         role: Role,
+        range: Option<Range>,
         names: &[Placed<'a>],
     ) -> Result<(), Fault<'a>>
-        ensures { Gives (λ _. lists_of self.new) result (each (declare listed.now role) (lists_of self.old) (names_view names.now)) }
+        requires { IsLimited range }
+        ensures { Gives (λ _. lists_of self.new) result (each (declare role range) (lists_of self.old) (names_view names.now)) }
     {
         for name in names {
-            self.declare(listed, role, *name)?;
+            self.declare(role, range, *name)?;
         }
         Ok(())
     }
 
     #[tactic(auto, unfolding(crate::specs::Checks::declare_item))]
-    fn declare_item(&mut self, listed: &Names<'a>, item: &Item<'a>) -> Result<(), Fault<'a>>
-        ensures { Gives (λ _. lists_of self.new) result (declare_item listed.now (lists_of self.old) (item_view item.now)) }
+    fn declare_item(&mut self, item: &Item<'a>) -> Result<(), Fault<'a>>
+        requires { IsRanged (item_view item.now) }
+        ensures { Gives (λ _. lists_of self.new) result (declare_item (lists_of self.old) (item_view item.now)) }
     {
         match item {
-            Item::Declares(declaration) => {
-                self.declare_names(listed, declaration.role, &declaration.names)
-            }
+            Item::Declares(declaration) => self.declare_names(
+                declaration.role,
+                range_of(declaration.range),
+                &declaration.names,
+            ),
             Item::Gates(_) => Ok(()),
         }
     }
 
-    fn declare_items(&mut self, listed: &Names<'a>, items: &[Item<'a>]) -> Result<(), Fault<'a>>
-        ensures { Gives (λ _. lists_of self.new) result (each (declare_item listed.now) (lists_of self.old) (map item_view items.now)) }
+    fn declare_items(&mut self, items: &[Item<'a>]) -> Result<(), Fault<'a>>
+        requires { AllByRecursion IsRanged (map item_view items.now) }
+        ensures { Gives (λ _. lists_of self.new) result (each declare_item (lists_of self.old) (map item_view items.now)) }
     {
         for item in items {
-            self.declare_item(listed, item)?;
+            self.declare_item(item)?;
         }
         Ok(())
     }
+
+    fn list_ports(&mut self, ports: &[Placed<'a>]) -> Result<(), Fault<'a>>
+        ensures { Gives (λ _. lists_of self.new) result (each with_port (lists_of self.old) (names_view ports.now)) }
+    {
+        for port in ports {
+            self.list_port(*port)?;
+        }
+        Ok(())
+    }
+}
+
+impl<'a> Ported<'a> {
+    fn new(alloc: Global) -> Ported<'a>
+        ensures { ported_of result ≡ portless }
+    {
+        Ported {
+            role: Role::Input,
+            range: None,
+            lists: Lists::new(alloc),
+        }
+    }
+
+    /// Lists a declared port and declares it.
+    #[tactic(auto, unfolding(crate::specs::Checks::declare_port))]
+    fn declare(&mut self, port: Port<'a>) -> Result<(), Fault<'a>>
+        requires ranged { IsPort (port_view port) }
+        requires so_far { IsLimited self.old.range }
+        ensures ranged { IsLimited self.new.range }
+        ensures declared { Gives (λ _. ported_of self.new) result (declare_port (ported_of self.old) (port_view port.entry)) }
+    {
+        let name = match port {
+            Port::Bare(name) => name,
+            Port::Headed(header) => {
+                self.role = header.role;
+                self.range = range_of(header.range);
+                header.name
+            }
+        };
+        self.lists.list_port(name)?;
+        self.lists.declare_direction(self.role, self.range, name)
+    }
+
+    fn declare_each(&mut self, ports: &[Port<'a>]) -> Result<(), Fault<'a>>
+        requires ranged { AllByRecursion IsPort (map port_view ports.now) }
+        requires so_far { IsLimited self.old.range }
+        ensures { Gives (λ _. ported_of self.new) result (each declare_port (ported_of self.old) (map port_view ports.now)) }
+    {
+        for port in ports {
+            self.declare(*port)?;
+        }
+        Ok(())
+    }
+}
+
+/// What the port list declares.
+#[tactic(auto, unfolding(crate::specs::Checks::declare_ports))]
+fn declared_ports<'a>(alloc: Global, ports: &Option<Ports<'a>>) -> Result<Lists<'a>, Fault<'a>>
+    requires { ArePorts (ports_view ports.now) }
+    ensures { Gives lists_of result (declare_ports (ports_view ports.now)) }
+{
+    match ports {
+        None => Ok(Lists::new(alloc)),
+        Some(Ports::Names(names)) => {
+            let mut lists = Lists::new(alloc);
+            lists.list_ports(names)?;
+            Ok(lists)
+        }
+        Some(Ports::Declared(ports)) => {
+            let mut ported = Ported::new(alloc);
+            ported.declare_each(ports)?;
+            Ok(ported.lists)
+        }
+    }
+}
+
+/// Appends the nets of an output with the line of its direction.
+fn push_outputs<'a>(
+    alloc: Global,
+    name: Placed<'a>,
+    direction: Direction,
+    outputs: &mut Vec<PlacedRef<'a>>,
+) -> Result<(), AllocError>
+    ensures { OnOk result (map placed_ref_of outputs.new.items ≡ map placed_ref_of outputs.old.items ++ placed_at direction.line (nets_of name.entry.name.now direction.range)) }
+{
+    let mut nets = Vec::new(alloc);
+    push_nets(name.name, direction.range, &mut nets)?;
+    for net in &nets {
+        outputs.push(PlacedRef {
+            net: *net,
+            line: direction.line,
+        })?;
+    }
+    Ok(())
 }
 
 impl<'a> Sides<'a> {
@@ -210,56 +322,96 @@ impl<'a> Sides<'a> {
     }
 
     #[tactic(auto, unfolding(crate::specs::Checks::take_side))]
-    fn take(&mut self, directions: &Directions<'a>, port: Placed<'a>) -> Result<(), Fault<'a>>
+    fn take(
+        &mut self,
+        alloc: Global,
+        directions: &Directions<'a>,
+        port: Placed<'a>,
+    ) -> Result<(), Fault<'a>>
         ensures { Gives (λ _. sides_of self.new) result (take_side directions.now (sides_of self.old) (name_view port.entry)) }
     {
         let Some(direction) = directions.get(port) else {
             return Err(refused(FaultKind::PortUndeclared, port));
         };
         if is_input(direction.role) {
-            self.inputs.push(scalar(port))?;
+            push_nets(port.name, direction.range, &mut self.inputs)?;
         } else {
-            self.outputs.push(Placed {
-                name: port.name,
-                line: direction.line,
-            })?;
+            push_outputs(alloc, port, direction, &mut self.outputs)?;
+        }
+        Ok(())
+    }
+
+    fn take_names(
+        &mut self,
+        alloc: Global,
+        directions: &Directions<'a>,
+        ports: &[Placed<'a>],
+    ) -> Result<(), Fault<'a>>
+        ensures { Gives (λ _. sides_of self.new) result (each (take_side directions.now) (sides_of self.old) (names_view ports.now)) }
+    {
+        for port in ports {
+            self.take(alloc, directions, *port)?;
+        }
+        Ok(())
+    }
+
+    fn take_ports(
+        &mut self,
+        alloc: Global,
+        directions: &Directions<'a>,
+        ports: &[Port<'a>],
+    ) -> Result<(), Fault<'a>>
+        ensures { Gives (λ _. sides_of self.new) result (each (take_side directions.now) (sides_of self.old) (map port_name (map port_view ports.now))) }
+    {
+        for port in ports {
+            self.take(alloc, directions, port_name(*port))?;
         }
         Ok(())
     }
 }
 
+fn port_name<'a>(port: Port<'a>) -> Placed<'a>
+    ensures { name_view result ≡ port_name (port_view port.entry) }
+{
+    match port {
+        Port::Bare(name) => name,
+        Port::Headed(header) => header.name,
+    }
+}
+
+/// The nets of the ports by direction.
+#[tactic(auto, unfolding(crate::specs::Checks::sides_at, crate::specs::Checks::each))]
 fn by_side<'a>(
     alloc: Global,
     directions: &Directions<'a>,
-    ports: &[Placed<'a>],
+    ports: &Option<Ports<'a>>,
 ) -> Result<Sides<'a>, Fault<'a>>
-    ensures { Gives sides_of result (each (take_side directions.now) sideless (names_view ports.now)) }
+    ensures { Gives sides_of result (sides_at directions.now (ports_view ports.now)) }
 {
-    let mut sides = Sides::new(alloc);
-    for port in ports {
-        sides.take(directions, *port)?;
+    match ports {
+        None => Ok(Sides::new(alloc)),
+        Some(Ports::Names(names)) => {
+            let mut sides = Sides::new(alloc);
+            sides.take_names(alloc, directions, names)?;
+            Ok(sides)
+        }
+        Some(Ports::Declared(ports)) => {
+            let mut sides = Sides::new(alloc);
+            sides.take_ports(alloc, directions, ports)?;
+            Ok(sides)
+        }
     }
-    Ok(sides)
 }
 
-fn ports<'m, 'a>(source: &'m Module<'a>) -> &'m [Placed<'a>]
-    ensures { names_view result.now ≡ ports (module_view source.now) }
-{
-    match &source.ports {
-        Some(ports) => ports,
-        None => &[],
-    }
-}
-
-/// The ports of a module by direction, and the nets of its declarations.
+/// The nets of the ports of a module by direction, and the names of its declarations.
 #[tactic(auto, unfolding(crate::specs::Checks::declared_at))]
-pub fn declared<'a>(alloc: Global, source: &Module<'a>) -> Result<(Sides<'a>, Names<'a>), Fault<'a>>
+pub fn declared<'a>(alloc: Global, source: &Module<'a>) -> Result<(Sides<'a>, Known<'a>), Fault<'a>>
+    requires ports { ArePorts (module_view source.now).ports }
+    requires items { AllByRecursion (IsItem (tens_of (module_view source.now).fronts)) (module_view source.now).items }
     ensures { Gives (λ x. (sides_of x.0, x.1)) result (declared_at (module_view source.now)) }
 {
-    let ports = ports(source);
-    let names = listed(alloc, ports)?;
-    let mut lists = Lists::new(alloc);
-    lists.declare_items(&names, &source.items)?;
-    let sides = by_side(alloc, &lists.directions, ports)?;
-    Ok((sides, lists.nets))
+    let mut lists = declared_ports(alloc, &source.ports)?;
+    lists.declare_items(&source.items)?;
+    let sides = by_side(alloc, &lists.directions, &source.ports)?;
+    Ok((sides, lists.names))
 }

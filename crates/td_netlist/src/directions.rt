@@ -6,6 +6,7 @@ ghost use Rattle.td_netlist.specs.NameViews.{found_of};
 ghost use Rattle.td_netlist.specs.Checks.{direction_of};
 
 use crate::name_ref::Direction;
+use crate::ranges::Range;
 use indexmap::IndexMap;
 use std::alloc::{AllocFailed, Global};
 use std::marker::Model;
@@ -47,13 +48,15 @@ impl<'a> Directions<'a> {
     pub fn add(
         &mut self,
         role: Role,
+        range: Option<Range>,
         name: Placed<'a>,
     ) -> Result<(), AllocFailed<(&'a [u8], Direction)>>
         requires { direction_of self.old (name_view name) ≡ None }
-        ensures { OnOk result (self.new ≡ self.old ++ record { role = role; name = name_view name.entry } ∷ []) }
+        ensures { OnOk result (self.new ≡ self.old ++ record { role = role; range = range; name = name_view name.entry } ∷ []) }
     {
         let direction = Direction {
             role,
+            range,
             line: name.line,
         };
         self.table.insert(name.name, direction)?;

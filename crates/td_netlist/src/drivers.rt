@@ -1,27 +1,32 @@
-//! Checks the drivers of a module's nets.
+//! Checks the terminals of a module's gates and the drivers of its nets.
 
 ghost use Rattle.std.specs.Prelude.{◌≡◌, [], map, Ok, IfOk};
-ghost use Rattle.td_syntax.specs.Views.{name_view, names_view};
+ghost use Rattle.td_syntax.specs.Views.{terminal_view};
 ghost use Rattle.td_netlist.specs.Faults.{Gives};
-ghost use Rattle.td_netlist.specs.Module.{different};
+ghost use Rattle.td_netlist.specs.Module.{different, whole_source, bit_source};
+ghost use Rattle.td_netlist.specs.Netlist.{Named};
+ghost use Rattle.td_netlist.specs.Ranges.{bit_name, IsLimited};
+ghost use Rattle.td_syntax.specs.Grammar.{value_of};
 ghost use Rattle.td_netlist.specs.Names.{is_in};
-ghost use Rattle.td_netlist.specs.Checks.{each, drive, see, drive_all, read_net, read_all, driven_at, second_driver};
-ghost use Rattle.td_netlist.specs.NameViews.{name_ref_of};
+ghost use Rattle.td_netlist.specs.Checks.{each, known, range_known, joined, resolve, meet, drive, drives, see, seen, read_from, drive_all, read_net, read_all, read_placed, driven_at, second_driver, line_at};
+ghost use Rattle.td_netlist.specs.NameViews.{name_ref_of, net_ref_of, placed_ref_of};
 ghost use Rattle.td_netlist.specs.CheckViews.{primitive_of, sides_of, drivers_of};
 
-use crate::declarations::{Sides, count_net, refused, scalar};
+use crate::declarations::{Sides, refused};
 use crate::fault::{Fault, FaultKind};
-use crate::name_ref::NameRef;
+use crate::known::Known;
+use crate::name_ref::{NameRef, NetRef, PlacedRef};
 use crate::names::Names;
 use crate::primitive::Primitive;
+use crate::ranges::{Range, holds};
 use std::alloc::{AllocError, Global};
-use td_syntax::Name as Placed;
+use td_syntax::{Name as Placed, Terminal, value_of};
 
-/// The driven nets and the nets so far.
+/// The driven nets and the names so far.
 #[derive(Drop)]
-struct Drivers<'a> {
+pub struct Drivers<'a> {
     driven: Names<'a>,
-    nets: Names<'a>,
+    names: Known<'a>,
 }
 
 fn is_among<'a>(names: &[NameRef<'a>], name: NameRef<'a>) -> bool
@@ -52,33 +57,149 @@ fn driven_inputs<'a>(alloc: Global, inputs: &[NameRef<'a>]) -> Result<Names<'a>,
     Ok(names)
 }
 
-impl<'a> Drivers<'a> {
-    #[tactic(auto, unfolding(crate::specs::Checks::drive))]
-    fn drive(&mut self, inputs: &[NameRef<'a>], terminal: Placed<'a>) -> Result<(), Fault<'a>>
-        ensures { Gives (λ _. drivers_of self.new) result (drive (map name_ref_of inputs.now) (drivers_of self.old) (name_view terminal.entry)) }
-    {
-        count_net(&mut self.nets, terminal)?;
-        let net = scalar(terminal);
-        if self.driven.add(net)? {
-            Ok(())
-        } else {
-            Err(refused(second_driver(inputs, net), terminal))
+/// The line of a terminal. Constants have none.
+fn line_of(terminal: Terminal<'_>) -> u32
+    ensures { result ≡ line_at (terminal_view terminal.entry) }
+{
+    match terminal {
+        Terminal::Whole(name) | Terminal::Select(name, _) => name.line,
+        Terminal::Level(_) => 0,
+    }
+}
+
+fn bit_of<'a>(name: Placed<'a>, bit: u32) -> NetRef<'a>
+    ensures { net_ref_of result ≡ Named (bit_name name.entry.name.now bit) }
+{
+    NetRef::Named(NameRef {
+        text: name.name,
+        bit: Some(bit),
+    })
+}
+
+/// The net of a plain name with this range.
+fn whole<'a>(name: Placed<'a>, range: Option<Range>) -> Result<NetRef<'a>, Fault<'a>>
+    ensures { Gives net_ref_of result (joined name.entry.line (whole_source name.entry.name.now range)) }
+{
+    match range {
+        None => Ok(NetRef::Named(NameRef {
+            text: name.name,
+            bit: None,
+        })),
+        Some(range) => {
+            if range.left == range.right {
+                Ok(bit_of(name, range.left))
+            } else {
+                Err(refused(FaultKind::WidthNotOne, name))
+            }
         }
     }
+}
 
-    #[tactic(auto, unfolding(crate::specs::Checks::see))]
-    fn see(&mut self, terminal: Placed<'a>) -> Result<(), Fault<'a>>
-        ensures { Gives (λ _. drivers_of self.new) result (see (drivers_of self.old) (name_view terminal.entry)) }
+/// The net of a bit of a name with this range. A bit above the greatest number of a range is in none.
+fn select<'a>(
+    name: Placed<'a>,
+    digits: &[u8],
+    range: Option<Range>,
+) -> Result<NetRef<'a>, Fault<'a>>
+    requires { IsLimited range }
+    ensures { Gives net_ref_of result (joined name.entry.line (bit_source name.entry.name.now (value_of digits.now) range)) }
+{
+    let bit = value_of(digits);
+    match range {
+        Some(range) => {
+            if holds(range, bit) {
+                Ok(bit_of(name, bit))
+            } else {
+                Err(refused(FaultKind::UnknownBit, name))
+            }
+        }
+        None => Err(refused(FaultKind::UnknownBit, name)),
+    }
+}
+
+fn range_known<'a>(names: &Known<'a>, name: Placed<'a>) -> Option<Range>
+    ensures value { result ≡ range_known (known names.now name.entry.name.now) }
+    ensures limited { IsLimited result }
+{
+    match names.get(name) {
+        Some(range) => range,
+        None => None,
+    }
+}
+
+/// The net of a terminal, by what is known of its name.
+#[tactic(auto, unfolding(crate::specs::Checks::resolve))]
+pub fn resolve<'a>(names: &Known<'a>, terminal: Terminal<'a>) -> Result<NetRef<'a>, Fault<'a>>
+    ensures { Gives net_ref_of result (resolve names.now (terminal_view terminal.entry)) }
+{
+    match terminal {
+        Terminal::Whole(name) => whole(name, range_known(names, name)),
+        Terminal::Select(name, digits) => select(name, digits, range_known(names, name)),
+        Terminal::Level(false) => Ok(NetRef::Low),
+        Terminal::Level(true) => Ok(NetRef::High),
+    }
+}
+
+/// A plain name without a declaration is a net.
+fn meet<'a>(names: &mut Known<'a>, terminal: Terminal<'a>) -> Result<(), Fault<'a>>
+    ensures { Gives (λ _. names.new) result (meet names.old (terminal_view terminal.entry)) }
+{
+    match terminal {
+        Terminal::Whole(name) => names.know(name, None),
+        Terminal::Select(_, _) | Terminal::Level(_) => Ok(()),
+    }
+}
+
+impl<'a> Drivers<'a> {
+    /// The net of a terminal, whose name is known from now on.
+    #[tactic(auto, unfolding(crate::specs::Checks::seen))]
+    fn see(&mut self, terminal: Terminal<'a>) -> Result<NetRef<'a>, Fault<'a>>
+        ensures { Gives (λ net. (net_ref_of net, drivers_of self.new)) result (seen (drivers_of self.old) (terminal_view terminal.entry)) }
     {
-        count_net(&mut self.nets, terminal)
+        let net = resolve(&self.names, terminal)?;
+        meet(&mut self.names, terminal)?;
+        Ok(net)
+    }
+
+    #[tactic(auto, unfolding(crate::specs::Checks::drive))]
+    fn drive(&mut self, inputs: &[NameRef<'a>], terminal: Terminal<'a>) -> Result<(), Fault<'a>>
+        ensures { Gives (λ _. drivers_of self.new) result (drive (map name_ref_of inputs.now) (drivers_of self.old) (terminal_view terminal.entry)) }
+    {
+        let net = self.see(terminal)?;
+        self.drive_net(inputs, net, line_of(terminal))
+    }
+
+    /// A net that is driven on this line.
+    #[tactic(auto, unfolding(crate::specs::Checks::drives))]
+    fn drive_net(
+        &mut self,
+        inputs: &[NameRef<'a>],
+        net: NetRef<'a>,
+        line: u32,
+    ) -> Result<(), Fault<'a>>
+        ensures { Gives (λ _. drivers_of self.new) result (drives (map name_ref_of inputs.now) (drivers_of self.old) line (net_ref_of net.entry)) }
+    {
+        match net {
+            NetRef::Low | NetRef::High => Ok(()),
+            NetRef::Named(name) => {
+                if self.driven.add(name)? {
+                    Ok(())
+                } else {
+                    Err(Fault {
+                        kind: second_driver(inputs, name),
+                        line,
+                    })
+                }
+            }
+        }
     }
 
     fn drive_terminals(
         &mut self,
         inputs: &[NameRef<'a>],
-        terminals: &[Placed<'a>],
+        terminals: &[Terminal<'a>],
     ) -> Result<(), Fault<'a>>
-        ensures { Gives (λ _. drivers_of self.new) result (each (drive (map name_ref_of inputs.now)) (drivers_of self.old) (names_view terminals.now)) }
+        ensures { Gives (λ _. drivers_of self.new) result (each (drive (map name_ref_of inputs.now)) (drivers_of self.old) (map terminal_view terminals.now)) }
     {
         for terminal in terminals {
             self.drive(inputs, *terminal)?;
@@ -86,11 +207,11 @@ impl<'a> Drivers<'a> {
         Ok(())
     }
 
-    fn see_terminals(&mut self, terminals: &[Placed<'a>]) -> Result<(), Fault<'a>>
-        ensures { Gives (λ _. drivers_of self.new) result (each see (drivers_of self.old) (names_view terminals.now)) }
+    fn see_terminals(&mut self, terminals: &[Terminal<'a>]) -> Result<(), Fault<'a>>
+        ensures { Gives (λ _. drivers_of self.new) result (each see (drivers_of self.old) (map terminal_view terminals.now)) }
     {
         for terminal in terminals {
-            self.see(*terminal)?;
+            let _net = self.see(*terminal)?;
         }
         Ok(())
     }
@@ -119,42 +240,73 @@ impl<'a> Drivers<'a> {
         }
         Ok(())
     }
-}
 
-#[tactic(auto, unfolding(crate::specs::Checks::read_net))]
-fn read_net<'a>(driven: &Names<'a>, terminal: Placed<'a>) -> Result<(), Fault<'a>>
-    ensures { Gives (λ _. tt) result (read_net driven.now tt (name_view terminal.entry)) }
-{
-    if driven.has(scalar(terminal)) {
+    /// A net that is read on this line is driven.
+    fn read_from(&self, net: NetRef<'a>, line: u32) -> Result<(), Fault<'a>>
+        ensures { Gives (λ _. tt) result (read_from (drivers_of self.now).driven line (net_ref_of net.entry)) }
+    {
+        match net {
+            NetRef::Low | NetRef::High => Ok(()),
+            NetRef::Named(name) => {
+                if self.driven.has(name) {
+                    Ok(())
+                } else {
+                    Err(Fault {
+                        kind: FaultKind::Undriven,
+                        line,
+                    })
+                }
+            }
+        }
+    }
+
+    #[tactic(auto, unfolding(crate::specs::Checks::read_net))]
+    fn read_net(&self, terminal: Terminal<'a>) -> Result<(), Fault<'a>>
+        ensures { Gives (λ _. tt) result (read_net (drivers_of self.now) tt (terminal_view terminal.entry)) }
+    {
+        self.read_from(resolve(&self.names, terminal)?, line_of(terminal))
+    }
+
+    fn read_terminals(&self, terminals: &[Terminal<'a>]) -> Result<(), Fault<'a>>
+        ensures { Gives (λ _. tt) result (each (read_net (drivers_of self.now)) tt (map terminal_view terminals.now)) }
+    {
+        for terminal in terminals {
+            self.read_net(*terminal)?;
+        }
         Ok(())
-    } else {
-        Err(refused(FaultKind::Undriven, terminal))
     }
-}
 
-fn read_terminals<'a>(driven: &Names<'a>, terminals: &[Placed<'a>]) -> Result<(), Fault<'a>>
-    ensures { Gives (λ _. tt) result (each (read_net driven.now) tt (names_view terminals.now)) }
-{
-    for terminal in terminals {
-        read_net(driven, *terminal)?;
+    #[tactic(auto, unfolding(crate::specs::Checks::read_all))]
+    fn read_all(&self, primitive: Primitive<'_, 'a>) -> Result<(), Fault<'a>>
+        ensures { Gives (λ _. tt) result (read_all (drivers_of self.now) tt (primitive_of primitive.entry)) }
+    {
+        self.read_terminals(primitive.inputs())
     }
-    Ok(())
-}
 
-#[tactic(auto, unfolding(crate::specs::Checks::read_all))]
-fn read_all<'a>(driven: &Names<'a>, primitive: Primitive<'_, 'a>) -> Result<(), Fault<'a>>
-    ensures { Gives (λ _. tt) result (read_all driven.now tt (primitive_of primitive.entry)) }
-{
-    read_terminals(driven, primitive.inputs())
-}
-
-fn read_each<'a>(driven: &Names<'a>, primitives: &[Primitive<'_, 'a>]) -> Result<(), Fault<'a>>
-    ensures { Gives (λ _. tt) result (each (read_all driven.now) tt (map primitive_of primitives.now)) }
-{
-    for primitive in primitives {
-        read_all(driven, *primitive)?;
+    fn read_each(&self, primitives: &[Primitive<'_, 'a>]) -> Result<(), Fault<'a>>
+        ensures { Gives (λ _. tt) result (each (read_all (drivers_of self.now)) tt (map primitive_of primitives.now)) }
+    {
+        for primitive in primitives {
+            self.read_all(*primitive)?;
+        }
+        Ok(())
     }
-    Ok(())
+
+    fn read_outputs(&self, outputs: &[PlacedRef<'a>]) -> Result<(), Fault<'a>>
+        ensures { Gives (λ _. tt) result (each (read_placed (drivers_of self.now).driven) tt (map placed_ref_of outputs.now)) }
+    {
+        for output in outputs {
+            self.read_from(NetRef::Named(output.net), output.line)?;
+        }
+        Ok(())
+    }
+
+    /// The names of the module with their ranges.
+    pub fn names(&self) -> &Known<'a>
+        ensures { result.now ≡ (drivers_of self.now).names }
+    {
+        &self.names
+    }
 }
 
 /// Each net that is read or is an output is driven, and none twice.
@@ -162,16 +314,17 @@ fn read_each<'a>(driven: &Names<'a>, primitives: &[Primitive<'_, 'a>]) -> Result
 pub fn all_driven<'a>(
     alloc: Global,
     sides: &Sides<'a>,
-    nets: Names<'a>,
+    names: Known<'a>,
     primitives: &[Primitive<'_, 'a>],
-) -> Result<(), Fault<'a>>
-    ensures { Gives (λ _. tt) result (driven_at (sides_of sides.now) nets.entry (map primitive_of primitives.now)) }
+) -> Result<Drivers<'a>, Fault<'a>>
+    ensures { Gives drivers_of result (driven_at (sides_of sides.now) names.entry (map primitive_of primitives.now)) }
 {
     let mut drivers = Drivers {
         driven: driven_inputs(alloc, &sides.inputs)?,
-        nets,
+        names,
     };
     drivers.drive_each(&sides.inputs, primitives)?;
-    read_each(&drivers.driven, primitives)?;
-    read_terminals(&drivers.driven, &sides.outputs)
+    drivers.read_each(primitives)?;
+    drivers.read_outputs(&sides.outputs)?;
+    Ok(drivers)
 }

@@ -1,24 +1,26 @@
 //! From the instances of a module to the gates of its netlist.
 
-ghost use Rattle.std.specs.Prelude.{◌≡◌, ◌≤◌, ◌++◌, map, IfOk, OnOk};
-ghost use Rattle.std.specs.List.{flat_map, AllByRecursion};
-ghost use Rattle.td_syntax.specs.Grammar as grammar;
-ghost use Rattle.td_syntax.specs.Grammar.{IsSteps, IsDelay};
-ghost use Rattle.td_syntax.specs.Views.{name_view, names_view, option_delay_view};
-ghost use Rattle.td_netlist.specs.Netlist.{Named};
-ghost use Rattle.td_netlist.specs.Module.{scalar, delay_of, gate_by, primitive_gates};
+ghost use Rattle.std.specs.Prelude.{◌≡◌, ◌≤◌, [], map, IfOk};
+ghost use Rattle.std.specs.List.{AllByRecursion};
+ghost use Rattle.td_syntax.specs.Grammar.{IsSteps, IsDelay, steps_of};
+ghost use Rattle.td_syntax.specs.Views.{numeral_view, option_delay_view, terminal_view};
+ghost use Rattle.td_netlist.specs.Faults.{Gives};
+ghost use Rattle.td_netlist.specs.Checks.{each, with_net, gate_at, with_gate, with_gates};
+ghost use Rattle.td_netlist.specs.Module.{delay_of};
 ghost use Rattle.td_netlist.specs.Views.{name_of, net_of, gate_of};
-ghost use Rattle.td_netlist.specs.NameViews.{name_ref_of};
+ghost use Rattle.td_netlist.specs.NameViews.{name_ref_of, net_ref_of};
 ghost use Rattle.td_netlist.specs.CheckViews.{primitive_of};
 
-use crate::declarations::scalar;
+use crate::drivers::resolve;
+use crate::fault::Fault;
+use crate::known::Known;
 use crate::name::{Name, Net};
-use crate::name_ref::NameRef;
+use crate::name_ref::{NameRef, NetRef};
 use crate::netlist::Gate;
 use crate::primitive::Primitive;
 use std::alloc::{AllocError, Global};
 use td_gates::Delay;
-use td_syntax::{Delay as Stated, Name as Placed, value_of};
+use td_syntax::{Delay as Stated, Number, Terminal, steps_of};
 
 /// A name of its own, with the bytes of the borrowed one.
 pub fn owned(alloc: Global, name: NameRef<'_>) -> Result<Name, AllocError>
@@ -30,90 +32,153 @@ pub fn owned(alloc: Global, name: NameRef<'_>) -> Result<Name, AllocError>
     })
 }
 
-fn steps(digits: &[u8]) -> u32
-    requires { IsSteps digits.now }
-    ensures value { result ≡ grammar.value_of digits.now }
+/// A number of steps, where a unit has 10 to the power of `tens` steps.
+fn steps(tens: u8, number: Number<'_>) -> u32
+    requires { IsSteps tens (numeral_view number) }
+    ensures value { result ≡ steps_of tens (numeral_view number.entry) }
     ensures least { 1 ≤ result }
     ensures greatest { result ≤ 1000000000 }
 {
-    value_of(digits)
+    steps_of(tens, number).unwrap_or(1)
 }
 
 /// The delay that is stated, or the default.
-fn delay(default: Delay, stated: Option<Stated<'_>>) -> Delay
-    requires { IsDelay (option_delay_view stated) }
-    ensures { result ≡ delay_of default (option_delay_view stated.entry) }
+fn delay(tens: u8, default: Delay, stated: Option<Stated<'_>>) -> Delay
+    requires { IsDelay tens (option_delay_view stated) }
+    ensures { result ≡ delay_of tens default (option_delay_view stated.entry) }
 {
     match stated {
         None => default,
-        Some(Stated::Plain(digits)) | Some(Stated::Single(digits)) => {
-            let steps = steps(digits);
+        Some(Stated::Plain(number)) | Some(Stated::Single(number)) => {
+            let steps = steps(tens, number);
             Delay {
                 rise: steps,
                 fall: steps,
             }
         }
         Some(Stated::Pair(rise, fall)) => Delay {
-            rise: steps(rise),
-            fall: steps(fall),
+            rise: steps(tens, rise),
+            fall: steps(tens, fall),
         },
     }
 }
 
-fn nets(alloc: Global, terminals: &[Placed<'_>]) -> Result<Vec<Net>, AllocError>
-    ensures { IfOk result (λ nets. map net_of nets.items ≡ map (λ n. Named (scalar n)) (names_view terminals.now)) }
+fn owned_net(alloc: Global, net: NetRef<'_>) -> Result<Net, AllocError>
+    ensures { IfOk result (λ owned. net_of owned ≡ net_ref_of net.entry) }
+{
+    match net {
+        NetRef::Low => Ok(Net::Low),
+        NetRef::High => Ok(Net::High),
+        NetRef::Named(name) => Ok(Net::Named(owned(alloc, name)?)),
+    }
+}
+
+/// How the delays of a module are taken: a unit has 10 to the power of `tens` steps, and a gate that states no delay has
+/// the default one.
+#[derive(Clone, Copy, Debug)]
+pub struct Timing {
+    pub tens: u8,
+    pub default: Delay,
+}
+
+fn nets<'a>(
+    alloc: Global,
+    names: &Known<'a>,
+    terminals: &[Terminal<'a>],
+) -> Result<Vec<Net>, Fault<'a>>
+    ensures { Gives (λ nets. map net_of nets.items) result (each (with_net names.now) [] (map terminal_view terminals.now)) }
 {
     let mut nets = Vec::new(alloc);
     for terminal in terminals {
-        nets.push(Net::Named(owned(alloc, scalar(*terminal))?))?;
+        push_net(alloc, names, *terminal, &mut nets)?;
     }
     Ok(nets)
 }
 
-fn gate(
+#[tactic(auto, unfolding(crate::specs::Checks::with_net))]
+fn push_net<'a>(
     alloc: Global,
-    default: Delay,
-    primitive: Primitive<'_, '_>,
-    output: Placed<'_>,
-) -> Result<Gate, AllocError>
-    requires { IsDelay (option_delay_view primitive.delay) }
-    ensures { IfOk result (λ gate. gate_of gate ≡ gate_by default (primitive_of primitive.entry) (name_view output.entry)) }
+    names: &Known<'a>,
+    terminal: Terminal<'a>,
+    nets: &mut Vec<Net>,
+) -> Result<(), Fault<'a>>
+    ensures { Gives (λ _. map net_of nets.new.items) result (with_net names.now (map net_of nets.old.items) (terminal_view terminal.entry)) }
 {
+    nets.push(owned_net(alloc, resolve(names, terminal)?)?)?;
+    Ok(())
+}
+
+#[tactic(auto, unfolding(crate::specs::Checks::gate_at))]
+fn gate<'a>(
+    alloc: Global,
+    names: &Known<'a>,
+    timing: &Timing,
+    primitive: Primitive<'_, 'a>,
+    output: NameRef<'a>,
+) -> Result<Gate, Fault<'a>>
+    requires { IsDelay timing.now.tens (option_delay_view primitive.delay) }
+    ensures { Gives gate_of result (gate_at names.now timing.now.tens timing.now.default (primitive_of primitive.entry) (name_ref_of output.entry)) }
+{
+    let output = owned(alloc, output)?;
+    let inputs = nets(alloc, names, primitive.inputs())?;
     Ok(Gate {
         kind: primitive.kind,
-        delay: delay(default, primitive.delay),
-        output: owned(alloc, scalar(output))?,
-        inputs: nets(alloc, primitive.inputs())?,
+        delay: delay(timing.tens, timing.default, primitive.delay),
+        output,
+        inputs,
     })
 }
 
-fn add_gates(
+fn add_gates<'a>(
     alloc: Global,
-    default: Delay,
-    primitive: Primitive<'_, '_>,
+    names: &Known<'a>,
+    timing: &Timing,
+    primitive: Primitive<'_, 'a>,
     gates: &mut Vec<Gate>,
-) -> Result<(), AllocError>
-    requires { IsDelay (option_delay_view primitive.delay) }
-    ensures { OnOk result (map gate_of gates.new.items ≡ map gate_of gates.old.items ++ primitive_gates default (primitive_of primitive.entry)) }
+) -> Result<(), Fault<'a>>
+    requires { IsDelay timing.now.tens (option_delay_view primitive.delay) }
+    ensures { Gives (λ _. map gate_of gates.new.items) result (with_gates names.now timing.now.tens timing.now.default (map gate_of gates.old.items) (primitive_of primitive.entry)) }
 {
-    for output in primitive.outputs() {
-        gates.push(gate(alloc, default, primitive, *output)?)?;
+    for terminal in primitive.outputs() {
+        add_gate(alloc, names, timing, primitive, *terminal, gates)?;
     }
     Ok(())
 }
 
-/// The gates of the instances, in their order.
-pub fn gates(
+#[tactic(auto, unfolding(crate::specs::Checks::with_gate))]
+fn add_gate<'a>(
     alloc: Global,
-    default: Delay,
-    primitives: &[Primitive<'_, '_>],
-) -> Result<Vec<Gate>, AllocError>
-    requires { AllByRecursion (λ p. IsDelay (option_delay_view p.delay)) primitives.now }
-    ensures { IfOk result (λ gates. map gate_of gates.items ≡ flat_map (primitive_gates default) (map primitive_of primitives.now)) }
+    names: &Known<'a>,
+    timing: &Timing,
+    primitive: Primitive<'_, 'a>,
+    terminal: Terminal<'a>,
+    gates: &mut Vec<Gate>,
+) -> Result<(), Fault<'a>>
+    requires { IsDelay timing.now.tens (option_delay_view primitive.delay) }
+    ensures { Gives (λ _. map gate_of gates.new.items) result (with_gate names.now timing.now.tens timing.now.default (primitive_of primitive.entry) (map gate_of gates.old.items) (terminal_view terminal.entry)) }
+{
+    match resolve(names, terminal)? {
+        NetRef::Low | NetRef::High => Ok(()),
+        NetRef::Named(output) => {
+            gates.push(gate(alloc, names, timing, primitive, output)?)?;
+            Ok(())
+        }
+    }
+}
+
+/// The gates of the instances, in their order.
+pub fn gates<'a>(
+    alloc: Global,
+    names: &Known<'a>,
+    timing: &Timing,
+    primitives: &[Primitive<'_, 'a>],
+) -> Result<Vec<Gate>, Fault<'a>>
+    requires { AllByRecursion (λ p. IsDelay timing.now.tens (option_delay_view p.delay)) primitives.now }
+    ensures { Gives (λ gates. map gate_of gates.items) result (each (with_gates names.now timing.now.tens timing.now.default) [] (map primitive_of primitives.now)) }
 {
     let mut gates = Vec::new(alloc);
     for primitive in primitives {
-        add_gates(alloc, default, *primitive, &mut gates)?;
+        add_gates(alloc, names, timing, *primitive, &mut gates)?;
     }
     Ok(gates)
 }

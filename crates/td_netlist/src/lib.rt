@@ -6,6 +6,7 @@ mod directions;
 mod drivers;
 mod fault;
 mod gates;
+mod known;
 pub mod laws;
 mod meaning;
 mod name;
@@ -13,6 +14,7 @@ mod name_ref;
 mod names;
 mod netlist;
 mod primitive;
+mod ranges;
 
 pub use fault::{Fault, FaultKind};
 pub use meaning::read;

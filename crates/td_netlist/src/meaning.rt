@@ -2,29 +2,27 @@
 
 ghost use Rattle.std.specs.Prelude.{◌≡◌, ◌≤◌, map, sum_by, Ok, IfOk, IfErr};
 ghost use Rattle.std.specs.List.{AllByRecursion};
-ghost use Rattle.td_syntax.specs.Grammar.{IsItem, item_gates};
+ghost use Rattle.td_syntax.specs.Grammar.{IsItem, ArePorts, item_gates, tens_of};
 ghost use Rattle.td_syntax.specs.Text.{Parses};
-ghost use Rattle.td_syntax.specs.Views.{module_view, names_view};
+ghost use Rattle.td_syntax.specs.Views.{module_view};
 ghost use Rattle.td_netlist.specs.Netlist as netlist;
-ghost use Rattle.td_netlist.specs.Checks.{checked_at};
-ghost use Rattle.td_netlist.specs.CheckViews.{primitive_of, sides_of};
-ghost use Rattle.td_netlist.specs.Faults.{Gives, IsUnlessMemory, UnlessMemory};
+ghost use Rattle.td_netlist.specs.Faults.{IsUnlessMemory, UnlessMemory};
 ghost use Rattle.td_netlist.specs.Means.{Means, IsConsistent, Breaks, OfNames, BreaksIn};
-ghost use Rattle.td_netlist.specs.Module.{names_of, netlist_in, primitives};
-ghost use Rattle.td_netlist.specs.NameViews.{name_ref_of};
+ghost use Rattle.td_netlist.specs.Module.{nets_at, netlist_in, step_of, unit_of};
+ghost use Rattle.td_netlist.specs.NameViews.{name_ref_of, placed_ref_of};
 ghost use Rattle.td_netlist.specs.Views.{name_of};
 
-use crate::declarations::{Sides, declared, scalar};
+use crate::declarations::declared;
 use crate::drivers::all_driven;
 use crate::fault::Fault;
-use crate::gates::{gates, owned};
+use crate::gates::{Timing, gates, owned};
 use crate::name::Name;
-use crate::name_ref::NameRef;
+use crate::name_ref::{NameRef, PlacedRef};
 use crate::netlist::{Netlist, Scale, Unit};
-use crate::primitive::{Primitive, defaulted_count, primitives};
+use crate::primitive::{defaulted_count, primitives};
 use std::alloc::{AllocError, Global};
 use td_gates::Delay;
-use td_syntax::{Module, Name as Placed, parse};
+use td_syntax::{Directive, Front, Module, parse, tens_of};
 
 fn owned_names(alloc: Global, names: &[NameRef<'_>]) -> Result<Vec<Name>, AllocError>
     ensures { IfOk result (λ owned. map name_of owned.items ≡ map name_ref_of names.now) }
@@ -36,49 +34,73 @@ fn owned_names(alloc: Global, names: &[NameRef<'_>]) -> Result<Vec<Name>, AllocE
     Ok(copies)
 }
 
-fn owned_scalars(alloc: Global, names: &[Placed<'_>]) -> Result<Vec<Name>, AllocError>
-    ensures { IfOk result (λ owned. map name_of owned.items ≡ names_of (names_view names.now)) }
+fn owned_outputs(alloc: Global, outputs: &[PlacedRef<'_>]) -> Result<Vec<Name>, AllocError>
+    ensures { IfOk result (λ owned. map name_of owned.items ≡ nets_at (map placed_ref_of outputs.now)) }
 {
     let mut copies = Vec::new(alloc);
-    for name in names {
-        copies.push(owned(alloc, scalar(*name))?)?;
+    for output in outputs {
+        copies.push(owned(alloc, output.net)?)?;
     }
     Ok(copies)
 }
 
-/// The ports of a module by direction, if its names keep the conditions.
-#[tactic(auto, unfolding(crate::specs::Checks::checked_at))]
-fn checked<'a>(
-    alloc: Global,
-    source: &Module<'a>,
-    instances: &[Primitive<'_, 'a>],
-) -> Result<Sides<'a>, Fault<'a>>
-    requires { map primitive_of instances.now ≡ primitives (module_view source.now) }
-    ensures { Gives sides_of result (checked_at (module_view source.now)) }
+/// The power of ten of a femtosecond as a magnitude and a unit.
+fn unit_of(tens: u8) -> Unit
+    ensures { result ≡ step_of tens }
 {
-    let (sides, nets) = declared(alloc, source)?;
-    all_driven(alloc, &sides, nets, instances)?;
-    Ok(sides)
+    let (scale, zeros) = match tens {
+        0..=2 => (Scale::Femtoseconds, tens),
+        3..=5 => (Scale::Picoseconds, tens - 3),
+        6..=8 => (Scale::Nanoseconds, tens - 6),
+        9..=11 => (Scale::Microseconds, tens - 9),
+        12..=14 => (Scale::Milliseconds, tens - 12),
+        _ => (Scale::Seconds, tens - 15),
+    };
+    let magnitude = match zeros {
+        0 => 1,
+        1 => 10,
+        _ => 100,
+    };
+    Unit { magnitude, scale }
+}
+
+/// The step of time, by the last directive: a nanosecond without one.
+fn unit(fronts: &[Front]) -> Unit
+    ensures { result ≡ unit_of fronts.now }
+{
+    let mut unit = Unit {
+        magnitude: 1,
+        scale: Scale::Nanoseconds,
+    };
+    for front in fronts {
+        if let Front::Directed(Directive::Timescale(timescale)) = front {
+            unit = unit_of(timescale.step);
+        }
+    }
+    unit
 }
 
 /// The netlist of a module.
 fn netlist<'a>(alloc: Global, source: &Module<'a>, default: Delay) -> Result<Netlist, Fault<'a>>
-    requires items { AllByRecursion IsItem (module_view source.now).items }
+    requires ports { ArePorts (module_view source.now).ports }
+    requires items { AllByRecursion (IsItem (tens_of (module_view source.now).fronts)) (module_view source.now).items }
     requires gates { sum_by item_gates (module_view source.now).items ≤ 200000 }
     ensures consistent { IfOk result (λ _. IsConsistent (module_view source.now)) }
     ensures lists { IfOk result (λ n. n ≡ netlist_in default (module_view source.now)) }
     ensures breaks { IfErr result (λ e. UnlessMemory e.kind (Breaks e.kind e.line (module_view source.now))) }
 {
     let instances = primitives(alloc, source)?;
-    let sides = checked(alloc, source, &instances)?;
+    let (sides, names) = declared(alloc, source)?;
+    let drivers = all_driven(alloc, &sides, names, &instances)?;
     let inputs = owned_names(alloc, &sides.inputs)?;
-    let outputs = owned_scalars(alloc, &sides.outputs)?;
-    let gates = gates(alloc, default, &instances)?;
-    let name = Vec::from_slice(alloc, source.name.name)?;
-    let unit = Unit {
-        magnitude: 1,
-        scale: Scale::Nanoseconds,
+    let outputs = owned_outputs(alloc, &sides.outputs)?;
+    let timing = Timing {
+        tens: tens_of(&source.fronts),
+        default,
     };
+    let gates = gates(alloc, drivers.names(), &timing, &instances)?;
+    let name = Vec::from_slice(alloc, source.name.name)?;
+    let unit = unit(&source.fronts);
     let defaulted = defaulted_count(&instances);
     let _rise = default.rise;
     Ok(Netlist::new(name, inputs, outputs, gates, unit, defaulted))

@@ -1,7 +1,7 @@
 //! The instances of gates in a module.
 
 ghost use Rattle.std.specs.Prelude.{◌≡◌, ◌≤◌, map, length, ◌++◌, IfOk, OnOk, sum_by};
-ghost use Rattle.td_syntax.specs.Views.{names_view, module_view, item_view, statement_view, option_delay_view};
+ghost use Rattle.td_syntax.specs.Views.{terminal_view, module_view, item_view, statement_view, option_delay_view};
 ghost use Rattle.td_netlist.specs.Module.{outputs_of, inputs_of, primitives, item_primitives, defaulted_by, defaulted_of};
 ghost use Rattle.td_netlist.specs.CheckViews.{primitive_of};
 ghost use Rattle.std.specs.List.{flat_map};
@@ -9,14 +9,14 @@ ghost use Rattle.td_syntax.specs.Grammar.{Gates, output_count};
 
 use std::alloc::{AllocError, Global};
 use td_gates::Kind;
-use td_syntax::{Delay, Item, Module, Name, Statement};
+use td_syntax::{Delay, Item, Module, Statement, Terminal};
 
 /// An instance, with what its statement says of it.
 #[derive(Clone, Copy, Debug)]
 pub struct Primitive<'m, 'a> {
     pub kind: Kind,
     pub delay: Option<Delay<'a>>,
-    pub terminals: &'m [Name<'a>],
+    pub terminals: &'m [Terminal<'a>],
 }
 
 fn output_count(kind: Kind, terminals: usize) -> usize
@@ -30,16 +30,16 @@ fn output_count(kind: Kind, terminals: usize) -> usize
 
 impl<'m, 'a> Primitive<'m, 'a> {
     /// The terminals that drive.
-    pub fn outputs(self) -> &'m [Name<'a>]
-        ensures { names_view result.now ≡ outputs_of (primitive_of self.entry) }
+    pub fn outputs(self) -> &'m [Terminal<'a>]
+        ensures { map terminal_view result.now ≡ outputs_of (primitive_of self.entry) }
     {
         let count = output_count(self.kind, self.terminals.len());
         self.terminals.split_at(count.min(self.terminals.len())).0
     }
 
     /// The terminals that read.
-    pub fn inputs(self) -> &'m [Name<'a>]
-        ensures { names_view result.now ≡ inputs_of (primitive_of self.entry) }
+    pub fn inputs(self) -> &'m [Terminal<'a>]
+        ensures { map terminal_view result.now ≡ inputs_of (primitive_of self.entry) }
     {
         let count = output_count(self.kind, self.terminals.len());
         self.terminals.split_at(count.min(self.terminals.len())).1

@@ -1,5 +1,6 @@
 use super::*;
 use itoa::Buffer;
+use std::alloc::AllocError;
 use std::test::*;
 use td_gates::{Delay, Kind};
 
@@ -137,6 +138,180 @@ fn kinds_and_lines(rt: HostRuntime) -> Result<(), Fail> {
         assert_eq!(rt; found.0, number);
         assert_eq!(rt; found.1, line);
     }
+    Ok(())
+}
+
+/// Each kind of fault that vectors, constants and declared ports can have, with its line.
+#[test]
+fn vectors(rt: HostRuntime) -> Result<(), Fail> {
+    let cases: [(&[u8], u8, u32); 29] = [
+        (
+            b"module t (input [1:0] a, output y); and #1 (y, a[1], a[0]); endmodule",
+            0,
+            0,
+        ),
+        (
+            b"module t (input [1:0] a, output y); and #1 (y, a[1],\na[2]); endmodule",
+            9,
+            2,
+        ),
+        (
+            b"module t (input a, output y); and #1 (y,\na[0]); endmodule",
+            9,
+            2,
+        ),
+        (
+            b"module t (input a, output y); and #1 (y, a,\nb[0]); endmodule",
+            9,
+            2,
+        ),
+        (
+            b"module t (input [0:0] a, output y); buf (y, a[1000000001]); endmodule",
+            9,
+            1,
+        ),
+        (
+            b"module t (input [1:0] a, output y);\nbuf (y, a); endmodule",
+            10,
+            2,
+        ),
+        (
+            b"module t (input [7:7] a, output y); buf (y, a); buf (w, a[7]); endmodule",
+            0,
+            0,
+        ),
+        (
+            b"module t (output [1:0] y, input a); buf (y[1], y[0], a); endmodule",
+            0,
+            0,
+        ),
+        (
+            b"module t (output\n[1:0] y, input a); buf (y[1], a); endmodule",
+            13,
+            2,
+        ),
+        (
+            b"module t (output [1:0] y, input a); buf (y[1],\ny[1], a); endmodule",
+            11,
+            2,
+        ),
+        (
+            b"module t (input [1:0] a, output y); buf (y, a[0]);\nnot (a[1], y); endmodule",
+            12,
+            2,
+        ),
+        (
+            b"module t (a, y); input [1:0] a; wire [1:0] a; output y; buf (y, a[0]); endmodule",
+            0,
+            0,
+        ),
+        (
+            b"module t (a, y); input [1:0] a; wire\n[0:1] a; output y; buf (y, a[0]); endmodule",
+            8,
+            2,
+        ),
+        (
+            b"module t (a, y); wire a; input\n[0:0] a; output y; buf (y, a); endmodule",
+            8,
+            2,
+        ),
+        (
+            b"module t (input a, output wire y); wire a, y; buf (y, a); endmodule",
+            0,
+            0,
+        ),
+        (b"module t (input a, b,\na, output y); endmodule", 8, 2),
+        (b"module t (input a, output y);\ninput a; endmodule", 8, 2),
+        (b"module t (input [4096:0]\na); endmodule", 14, 2),
+        (b"module t (input [4095:0] a); endmodule", 0, 0),
+        (b"module t (input [4094:0] a, b,\nc); endmodule", 14, 1),
+        (b"module t; wire [1000000000:0]\nw; endmodule", 14, 2),
+        (b"module t; wire [999999:0] w; endmodule", 0, 0),
+        (
+            b"module t; wire [1000000001:1000000001] w; endmodule",
+            14,
+            1,
+        ),
+        (
+            b"module t (output y); and #1 g(y,1'b1,1'b1); endmodule",
+            0,
+            0,
+        ),
+        (
+            b"module t (input \\a+ , output \\y+ ); buf #1 (\\y+ , \\a+ ); endmodule",
+            0,
+            0,
+        ),
+        (
+            b"module t (cpu3, y); input \\cpu3 ; output y; not #2 (y, \\cpu3 ); endmodule",
+            0,
+            0,
+        ),
+        (
+            b"`timescale 1ns/100ps\nmodule t (input a, output y);\nnot #1.25 (y, a); endmodule",
+            6,
+            3,
+        ),
+        (
+            b"module t (input a, output b, c); buf (b, c, a); endmodule",
+            0,
+            0,
+        ),
+        (
+            b"module t (input a, input b, a, c);\nwire a, a; endmodule",
+            8,
+            1,
+        ),
+    ];
+    for (text, number, line) in cases {
+        let found = fault_of(&rt, text);
+        let text = std::str::from_utf8(text).unwrap_or("");
+        assert_eq!(rt; found.0, number, "{text}");
+        assert_eq!(rt; found.1, line, "{text}");
+    }
+    Ok(())
+}
+
+/// A name of a netlist as it is printed.
+fn shown(name: &Name, out: &mut Vec<u8>) -> Result<(), AllocError> {
+    name.print(out)?;
+    out.extend_from_slice(b" ")
+}
+
+/// Bits from left to right, constants, the unit and delays in steps.
+#[test]
+fn whole(rt: HostRuntime) -> Result<(), Fail> {
+    let text =
+        b"`timescale 1ns/10ps\nmodule t (input [1:3] a, input \\b+ , output [1:0] y); nand #(1.5,2) (y[0], a[3], 1'b1, \\b+ ); buf (y[1], a[1]); endmodule";
+    let Ok(netlist) = read(rt.alloc(), text, UNIT) else {
+        assert!(rt; false);
+        return Ok(());
+    };
+    let mut names = Vec::new(rt.alloc());
+    for name in netlist.inputs() {
+        shown(name, &mut names)?;
+    }
+    for name in netlist.outputs() {
+        shown(name, &mut names)?;
+    }
+    assert_eq!(rt;
+        names.as_slice(),
+        b"a[1] a[2] a[3] \\b+ y[1] y[0] ".as_slice()
+    );
+    let unit = Unit {
+        magnitude: 10,
+        scale: Scale::Picoseconds,
+    };
+    assert_eq!(rt; netlist.unit(), unit);
+    assert_eq!(rt; netlist.defaulted(), 1);
+    assert_eq!(rt; netlist.gates().len(), 2);
+    let first = &netlist.gates()[0];
+    assert_eq!(rt; first.delay.rise, 150);
+    assert_eq!(rt; first.delay.fall, 200);
+    assert_eq!(rt; first.inputs.len(), 3);
+    assert!(rt; matches!(first.inputs[1], Net::High));
+    let second = &netlist.gates()[1];
+    assert_eq!(rt; second.delay.rise, 1);
     Ok(())
 }
 

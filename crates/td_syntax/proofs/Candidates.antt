@@ -1,9 +1,11 @@
 -- Only candidates are reserved words.
 use Rattle.std.proofs.Common.{◌≡◌, ℕ, Bool, true, false, List, [], ◌∷◌, refl, sym, ap, ◌∙◌}
-use Rattle.std.specs.Prelude.{◌&&◌, ◌||◌}
+use Rattle.std.specs.Prelude.{◌&&◌}
 use Rattle.std.specs.List.{list_any, list_all}
 use Rattle.std.specs.Str.{bytes_eq}
 use Rattle.std.proofs.lemmas.Slice.Eq.{bytes_eq-Decides}
+use Rattle.std.specs.Prelude.{None, codes}
+use Rattle.td_syntax.specs.Lexical.{Name, keyword_of, word_of}
 use Rattle.td_syntax.specs.Words.{reserved_words, is_candidate}
 
 both : (p q : Bool) → (p && q) ≡ true → (p ≡ true) × (q ≡ true)
@@ -24,3 +26,33 @@ none w (r ∷ rs) all no_w =
 pub others_are_not : (w : List ℕ) → is_candidate w ≡ false → list_any (λ r. bytes_eq r w) reserved_words ≡ false
 unfolding reserved_words
 others_are_not w no_w = none w reserved_words refl no_w
+
+-- a word that is no candidate isn't r, which is one
+other : (w r : List ℕ) → is_candidate r ≡ true → is_candidate w ≡ false → bytes_eq w r ≡ false
+other w r yes_r no_w = by (bytes_eq w r) refl
+  where
+    by : (b : Bool) → bytes_eq w r ≡ b → b ≡ false
+    by true e = sym yes_r ∙ ap is_candidate (sym ((bytes_eq-Decides w r).0 e)) ∙ no_w
+    by false e = refl
+
+no_keyword : (w : List ℕ) → is_candidate w ≡ false → keyword_of w ≡ None
+unfolding keyword_of
+no_keyword w h =
+    rw (
+      other w (codes "module") refl h,
+      other w (codes "endmodule") refl h,
+      other w (codes "input") refl h,
+      other w (codes "output") refl h,
+      other w (codes "wire") refl h,
+      other w (codes "and") refl h,
+      other w (codes "nand") refl h,
+      other w (codes "or") refl h,
+      other w (codes "nor") refl h,
+      other w (codes "xor") refl h,
+      other w (codes "xnor") refl h,
+      other w (codes "buf") refl h,
+      other w (codes "not") refl h,
+    ) refl
+
+pub plain_name : (w : List ℕ) → is_candidate w ≡ false → word_of w ≡ Name w
+plain_name w h = rw (no_keyword w h, others_are_not w h) refl

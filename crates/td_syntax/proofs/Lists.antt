@@ -85,3 +85,11 @@ module _ {A : Type 0} (step : ℕ → State → Result (Step A × State) Fault) 
 pub begins : {A : Type 0} (read : Result (List A × State) Fault) → with_front [] read ≡ read
 begins (Ok x) = refl
 begins (Err f) = refl
+
+-- what is seen as it is
+abbrev pub same : {A : Type 0} → A → A
+same x = x
+
+pub map_same : {A : Type 0} (xs : List A) → map same xs ≡ xs
+map_same [] = refl
+map_same {A} (x ∷ xs) = ap (λ (ys : List A). x ∷ ys) (map_same xs)

@@ -1,5 +1,5 @@
 -- What each reader takes from the tokens is what its tree is spelled by.
-use Rattle.std.proofs.Common.{◌≡◌, ℕ, zero, suc, ◌+◌, ◌≤◌, ◌<◌, Bool, true, false, cond, List, [], ◌∷◌, ◌++◌, length, map, Option, None, Some, Result, Ok, Err, refl, sym, ap, subst, ◌∙◌, arith, append_assoc, length-append, inl, inr, ◌⊎◌}
+use Rattle.std.proofs.Common.{◌≡◌, ℕ, zero, suc, ◌+◌, ◌≤◌, Bool, true, false, cond, List, [], ◌∷◌, ◌++◌, length, map, drop, Option, None, Some, Result, Ok, Err, refl, sym, ap, subst, ◌∙◌, arith, append_assoc, length-append, inl, inr, ◌⊎◌}
 use Rattle.std.specs.List.{flat_map, sum_by, AllByRecursion}
 use Rattle.std.proofs.lemmas.Bool.{eqb-true}
 use Rattle.std.proofs.lemmas.List.Concat.{flat_map-cons}
@@ -7,8 +7,8 @@ use Rattle.std.proofs.lemmas.List.Sums.{sum_by-cons}
 use Rattle.td_syntax.specs.declared.token.Symbol.{Symbol}
 use Rattle.td_syntax.specs.declared.token.Symbol.TheVariants as symbol
 use Rattle.td_syntax.specs.declared.token.Stop.{Stop}
-use Rattle.td_syntax.specs.Lexical.{Token, Name, Reserved, Number, Mark, Outside}
-use Rattle.td_syntax.specs.Tokens.{Placed, Stream, at, front_in, front_of, rest_of}
+use Rattle.td_syntax.specs.Lexical.{Token, Name, Escaped, Reserved, Number, Constant, Mark, Attribute, Directs, Outside}
+use Rattle.td_syntax.specs.Tokens.{Placed, at, front_in, front_of, rest_of}
 use Rattle.td_syntax.specs.Grammar as grammar
 use Rattle.td_syntax.specs.Grammar.{plain}
 use Rattle.td_syntax.specs.Faults.{Fault, refused, ◌>>=◌}
@@ -92,7 +92,7 @@ pub record Classifies {A : Type 0} (find : Placed → Option A) (spell : A → L
   pub stable : (p : Placed) → find p ≡ find (plain p)
   pub spelled : (p : Placed) (a : A) → find p ≡ Some a → plain p ∷ [] ≡ spell a
 
-read_as_is : {A : Type 0} (f : Fault) (rest : State) (o : Option A) (x : A × State) → read_as f rest o ≡ Ok x → (o ≡ Some x.0) × (rest ≡ x.1)
+pub read_as_is : {A : Type 0} (f : Fault) (rest : State) (o : Option A) (x : A × State) → read_as f rest o ≡ Ok x → (o ≡ Some x.0) × (rest ≡ x.1)
 read_as_is f rest None x e = absurd (err_is_no_ok f x (sym e))
 read_as_is {A} f rest (Some a) x e =
     let same = ok_is (a, rest) x e in
@@ -122,16 +122,24 @@ maybe_takes {A} find spell c s x e =
 
 stable_name : (l : ℕ) (t : Token) → as_name (at l t) ≡ as_name (plain (at l t))
 stable_name l (Name w) = refl
+stable_name l (Escaped w) = refl
 stable_name l (Reserved k) = refl
-stable_name l (Number w) = refl
+stable_name l (Number n) = refl
+stable_name l (Constant b w) = refl
 stable_name l (Mark m) = refl
+stable_name l Attribute = refl
+stable_name l (Directs d w) = refl
 stable_name l (Outside w) = refl
 
 spelled_name : (l : ℕ) (t : Token) (n : grammar.Name) → as_name (at l t) ≡ Some n → plain (at l t) ∷ [] ≡ grammar.name n
 spelled_name l (Name w) n e = let same : record { name = w; line = l } ≡ n = cc in ap grammar.name same
+spelled_name l (Escaped w) n e = let same : record { name = drop 1 w; line = l } ≡ n = cc in ap grammar.name same
 spelled_name l (Reserved k) n e = absurd cc
-spelled_name l (Number w) n e = absurd cc
+spelled_name l (Number m) n e = absurd cc
+spelled_name l (Constant b w) n e = absurd cc
 spelled_name l (Mark m) n e = absurd cc
+spelled_name l Attribute n e = absurd cc
+spelled_name l (Directs d w) n e = absurd cc
 spelled_name l (Outside w) n e = absurd cc
 
 pub names_classified : Classifies as_name grammar.name
@@ -146,7 +154,10 @@ decode zero = symbol.Open
 decode (suc zero) = symbol.Close
 decode (suc (suc zero)) = symbol.Comma
 decode (suc (suc (suc zero))) = symbol.Semicolon
-decode (suc (suc (suc (suc n)))) = symbol.Hash
+decode (suc (suc (suc (suc zero)))) = symbol.Hash
+decode (suc (suc (suc (suc (suc zero))))) = symbol.LeftBracket
+decode (suc (suc (suc (suc (suc (suc zero)))))) = symbol.RightBracket
+decode (suc (suc (suc (suc (suc (suc (suc n))))))) = symbol.Colon
 
 decoded : (m : Symbol) → decode (code_of m) ≡ m
 unfolding decode
@@ -155,6 +166,9 @@ decoded symbol.Close = refl
 decoded symbol.Comma = refl
 decoded symbol.Semicolon = refl
 decoded symbol.Hash = refl
+decoded symbol.LeftBracket = refl
+decoded symbol.RightBracket = refl
+decoded symbol.Colon = refl
 
 from_code : (n m : Symbol) → code_of n ≡ code_of m → n ≡ m
 from_code n m e = sym (decoded n) ∙ ap decode e ∙ decoded m
@@ -162,8 +176,12 @@ from_code n m e = sym (decoded n) ∙ ap decode e ∙ decoded m
 mark_by : (m : Symbol) (l : ℕ) (t : Token) → is_mark m t ≡ true → plain (at l t) ∷ [] ≡ grammar.mark m
 mark_by m l (Mark n) e = ap (λ (k : Symbol). grammar.mark k) (from_code n m (eqb-true _ _ e))
 mark_by m l (Name w) e = absurd cc
+mark_by m l (Escaped w) e = absurd cc
 mark_by m l (Reserved k) e = absurd cc
-mark_by m l (Number w) e = absurd cc
+mark_by m l (Number n) e = absurd cc
+mark_by m l (Constant b w) e = absurd cc
+mark_by m l Attribute e = absurd cc
+mark_by m l (Directs d w) e = absurd cc
 mark_by m l (Outside w) e = absurd cc
 
 pub mark_spelled : (m : Symbol) (p : Placed) → is_mark m p.token ≡ true → plain p ∷ [] ≡ grammar.mark m

@@ -1,5 +1,5 @@
 -- A text is a module exactly where it is read as one.
-use Rattle.std.proofs.Common.{◌≡◌, ℕ, ◌≤◌, cond, List, [], ◌++◌, length, map, Result, Ok, Err, refl, sym, ap, subst, ◌∙◌, inl, inr, ltb, arith}
+use Rattle.std.proofs.Common.{◌≡◌, ℕ, ◌≤◌, List, ◌++◌, length, map, Result, Ok, Err, refl, sym, ap, subst, ◌∙◌, inl, inr, ltb, arith}
 use Rattle.std.specs.Prelude.{IfOk}
 use Rattle.std.specs.List.{sum_by}
 use Rattle.std.proofs.lemmas.Bool.{ltb-false, le-ltb}
@@ -13,8 +13,8 @@ use Rattle.td_syntax.specs.Parsing.{start, module_at}
 use Rattle.td_syntax.specs.Text.{Parses, syntax_of}
 use Rattle.td_syntax.proofs.Lexing.{lexes, tokens_are}
 use Rattle.td_syntax.proofs.Takes.{bind_ok, chosen, ok_is, err_is_no_ok}
-use Rattle.td_syntax.proofs.Sound.{module_takes}
-use Rattle.td_syntax.proofs.Again.{module_again}
+use Rattle.td_syntax.proofs.SoundItems.{module_takes}
+use Rattle.td_syntax.proofs.AgainItems.{module_again}
 
 pub is_found : (text : List ℕ) (m : grammar.Module) → syntax_of text ≡ Ok m → Parses text m
 unfolding syntax_of
@@ -33,7 +33,7 @@ is_found text m e =
             stream = s;
             lexes = lexes 1 text;
             whole = sym t.takes.stop ∙ t.ended.1;
-            derives = record { spelled = spelled; items = t.items; gates = gates };
+            derives = record { spelled = spelled; ports = t.ports; items = t.items; gates = gates };
           })
     ]
 
@@ -42,7 +42,7 @@ unfolding syntax_of
 is_again text m p =
     let s = tokens_of 1 text in
     let same : s ≡ p.stream = tokens_are p.lexes in
-    let r = module_again (start s) m refl p.derives.items p.derives.gates (ap (λ (t : Stream). map plain t.tokens) same ∙ p.derives.spelled) (ap (λ (t : Stream). t.stop) same ∙ p.whole) in
+    let r = module_again (start s) m refl p.derives.ports p.derives.items p.derives.gates (ap (λ (t : Stream). map plain t.tokens) same ∙ p.derives.spelled) (ap (λ (t : Stream). t.stop) same ∙ p.whole) in
     rw (le-ltb 67108864 (length text) p.size, r.gives) refl
 
 pub found_as : {X : Type 0} (view : X → grammar.Module) (text : List ℕ) (r : Result X code_fault.Fault) → Gives view r (syntax_of text) → IfOk r (λ x. Parses text (view x))

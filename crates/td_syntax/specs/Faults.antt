@@ -1,11 +1,13 @@
 -- Why a text is refused, and where.
-use Rattle.std.specs.Prelude.{◌≡◌, ℕ, List, Option, None, Some, Result, Ok, Err, MatchOption}
+use Rattle.std.specs.Prelude.{◌≡◌, ℕ, List, Option, None, Some, Result, Ok, Err, MatchOption, codes}
 use Rattle.td_syntax.specs.declared.fault.FaultKind as code_kind
 use Rattle.td_syntax.specs.declared.fault.FaultKind.TheVariants as code
 use Rattle.td_syntax.specs.declared.fault.Fault as code_fault
 use Rattle.td_syntax.specs.declared.token.Stop.TheVariants as stop
 use Rattle.td_syntax.specs.declared.token.Stop.{Stop}
-use Rattle.td_syntax.specs.Lexical.{Token, Name, Reserved, Number, Mark, Outside}
+use Rattle.td_syntax.specs.declared.token.Symbol.TheVariants as symbol
+use Rattle.td_syntax.specs.declared.token.Symbol.{Symbol}
+use Rattle.td_syntax.specs.Lexical.{Token, Name, Escaped, Reserved, Number, Constant, Mark, Attribute, Directs, Outside}
 use Rattle.td_syntax.specs.Tokens.{Placed}
 
 pub data FaultKind : Type 0 where
@@ -25,12 +27,27 @@ pub record Fault : Type 0 where
 abbrev pub fault : FaultKind → ℕ → Fault
 fault kind line = record { kind = kind; line = line }
 
+-- a colon is a character that the subset leaves out, but in a range
+abbrev pub mark_refusal : Symbol → FaultKind
+mark_refusal symbol.Colon = OutOfSubset (codes ":")
+mark_refusal symbol.Open = Syntax
+mark_refusal symbol.Close = Syntax
+mark_refusal symbol.Comma = Syntax
+mark_refusal symbol.Semicolon = Syntax
+mark_refusal symbol.Hash = Syntax
+mark_refusal symbol.LeftBracket = Syntax
+mark_refusal symbol.RightBracket = Syntax
+
 -- what a token is told as where the grammar doesn't allow it
 abbrev pub refusal : Token → FaultKind
 refusal (Name w) = Syntax
+refusal (Escaped w) = Syntax
 refusal (Reserved k) = Syntax
-refusal (Number w) = Syntax
-refusal (Mark m) = Syntax
+refusal (Number n) = Syntax
+refusal (Constant b w) = OutOfSubset w
+refusal (Mark m) = mark_refusal m
+refusal Attribute = OutOfSubset (codes "(*")
+refusal (Directs d w) = OutOfSubset w
 refusal (Outside w) = OutOfSubset w
 
 abbrev pub refused : Placed → Fault
@@ -40,6 +57,7 @@ refused p = fault (refusal p.token) p.line
 abbrev pub stopped : Stop → ℕ → Fault
 stopped stop.Cut line = fault UnexpectedEnd line
 stopped stop.Bad line = fault BadByte line
+stopped stop.Malformed line = fault Syntax line
 stopped stop.End line = fault UnexpectedEnd line
 
 -- want of memory isn't a fault of the text

@@ -1,15 +1,21 @@
--- The syntax tree of a module, and the tokens that spell it.
-use Rattle.std.specs.Prelude.{◌≡◌, ℕ, ◌+◌, ◌*◌, ◌-◌, ◌≤◌, ◌==◌, if◌then◌else◌, List, [], ◌∷◌, ◌++◌, length, map, Option, None, Some, Bool, true, false}
-use Rattle.std.specs.List.{flat_map, fold, sum_by, AllByRecursion}
+-- The syntax tree of a text, and the tokens that spell it.
+use Rattle.std.specs.Prelude.{◌≡◌, ℕ, zero, suc, ◌+◌, ◌*◌, ◌-◌, ◌≤◌, ◌==◌, not, if◌then◌else◌, List, [], ◌∷◌, ◌++◌, length, map, take, drop, filter, replicate, Option, None, Some, Bool, true, false, Ok}
+use Rattle.std.specs.List.{flat_map, fold, sum_by, list_all, AllByRecursion}
 use Rattle.td_gates.specs.declared.primitives.Kind.{Kind}
 use Rattle.td_gates.specs.declared.primitives.Kind.TheVariants as kinds
 use Rattle.td_syntax.specs.declared.token.Keyword.{Keyword}
 use Rattle.td_syntax.specs.declared.token.Keyword.TheVariants as keyword
 use Rattle.td_syntax.specs.declared.token.Symbol.{Symbol}
 use Rattle.td_syntax.specs.declared.token.Symbol.TheVariants as symbol
+use Rattle.td_syntax.specs.declared.token.Directive.{Directive}
+use Rattle.td_syntax.specs.declared.token.Directive.TheVariants as directive
 use Rattle.td_syntax.specs.declared.syntax.Role.{Role}
 use Rattle.td_syntax.specs.declared.syntax.Role.TheVariants as role
+use Rattle.td_syntax.specs.declared.syntax.Front.{Front}
+use Rattle.td_syntax.specs.declared.syntax.Front.TheVariants as fronts
+use Rattle.td_syntax.specs.Bytes.{is_zero}
 use Rattle.td_syntax.specs.Lexical as lexical
+use Rattle.td_syntax.specs.Lexical.{Numeral}
 use Rattle.td_syntax.specs.Tokens.{Placed, at}
 
 -- ---- the tree
@@ -19,22 +25,55 @@ pub record Name : Type 0 where
   pub name : List ℕ
   pub line : ℕ
 
+-- [left:right], by the digits of both
+pub record Range : Type 0 where
+  pub left : List ℕ
+  pub right : List ℕ
+
+-- attributes are counted
 pub record Declaration : Type 0 where
+  pub attributes : ℕ
   pub role : Role
   pub wire : Bool
+  pub range : Option Range
   pub names : List Name
+
+-- a port that is declared in the port list
+pub record Header : Type 0 where
+  pub attributes : ℕ
+  pub role : Role
+  pub wire : Bool
+  pub range : Option Range
+  pub name : Name
+
+pub data Port : Type 0 where
+  -- with direction and range of the port before it
+  Bare : Name → Port
+  Headed : Header → Port
+
+-- a list of names, or one that begins with a declared port
+pub data Ports : Type 0 where
+  Names : List Name → Ports
+  Declared : List Port → Ports
 
 -- a delay as written: #n, #(n) or #(rise, fall)
 pub data Delay : Type 0 where
-  Plain : List ℕ → Delay
-  Single : List ℕ → Delay
-  Pair : List ℕ → List ℕ → Delay
+  Plain : Numeral → Delay
+  Single : Numeral → Delay
+  Pair : Numeral → Numeral → Delay
+
+-- a name, a bit by the digits of its number, or a constant
+pub data Terminal : Type 0 where
+  Whole : Name → Terminal
+  Select : Name → List ℕ → Terminal
+  Level : Bool → Terminal
 
 pub record Instance : Type 0 where
   pub name : Option Name
-  pub terminals : List Name
+  pub terminals : List Terminal
 
 pub record Statement : Type 0 where
+  pub attributes : ℕ
   pub kind : Kind
   pub delay : Option Delay
   pub instances : List Instance
@@ -44,11 +83,16 @@ pub data Item : Type 0 where
   Gates : Statement → Item
 
 pub record Module : Type 0 where
+  pub fronts : List Front
   pub name : Name
-  pub ports : Option (List Name)
+  pub ports : Option Ports
   pub items : List Item
+  pub behind : List Directive
 
 -- ---- its tokens, with the lines of names alone
+
+abbrev pub one : lexical.Token → List Placed
+one t = at 0 t ∷ []
 
 abbrev pub name : Name → List Placed
 name n = at n.line (lexical.Name n.name) ∷ []
@@ -56,11 +100,34 @@ name n = at n.line (lexical.Name n.name) ∷ []
 abbrev pub mark : Symbol → List Placed
 mark m = at 0 (lexical.Mark m) ∷ []
 
-abbrev pub number : List ℕ → List Placed
-number digits = at 0 (lexical.Number digits) ∷ []
+abbrev pub number : Numeral → List Placed
+number n = at 0 (lexical.Number n) ∷ []
+
+abbrev pub whole_number : List ℕ → Numeral
+whole_number digits = record { whole = digits; fraction = None }
+
+-- a number without a point
+abbrev pub whole : List ℕ → List Placed
+whole digits = number (whole_number digits)
 
 abbrev pub word : Keyword → List Placed
 word k = at 0 (lexical.Reserved k) ∷ []
+
+abbrev pub attribute : Unit {0} → List Placed
+attribute u = at 0 lexical.Attribute ∷ []
+
+abbrev pub attributes : ℕ → List Placed
+attributes n = flat_map attribute (replicate n tt)
+
+abbrev pub directed : Directive → List Placed
+directed d = at 0 (lexical.Directs (Ok d) []) ∷ []
+
+abbrev pub front : Front → List Placed
+front fronts.Attributed = attribute tt
+front (fronts.Directed d) = directed d
+
+abbrev pub level : Bool → List Placed
+level b = at 0 (lexical.Constant b []) ∷ []
 
 abbrev pub optional : {A : Type 0} → (A → List Placed) → Option A → List Placed
 optional spell None = []
@@ -81,8 +148,26 @@ abbrev pub wire_word : Bool → List Placed
 wire_word true = word keyword.Wire
 wire_word false = []
 
+abbrev pub range : Range → List Placed
+range r = mark symbol.LeftBracket ++ whole r.left ++ mark symbol.Colon ++ whole r.right ++ mark symbol.RightBracket
+
 abbrev pub declaration : Declaration → List Placed
-declaration d = role_word d.role ++ wire_word d.wire ++ separated name d.names ++ mark symbol.Semicolon
+declaration d = attributes d.attributes ++ role_word d.role ++ wire_word d.wire ++ optional range d.range ++ separated name d.names ++ mark symbol.Semicolon
+
+abbrev pub header : Header → List Placed
+header h = attributes h.attributes ++ role_word h.role ++ wire_word h.wire ++ optional range h.range ++ name h.name
+
+abbrev pub port : Port → List Placed
+port (Bare n) = name n
+port (Headed h) = header h
+
+abbrev pub port_list : Ports → List Placed
+port_list (Names ns) = separated name ns
+port_list (Declared ps) = separated port ps
+
+abbrev pub ports : Option Ports → List Placed
+ports None = []
+ports (Some ps) = mark symbol.Open ++ port_list ps ++ mark symbol.Close
 
 abbrev pub delay : Option Delay → List Placed
 delay None = []
@@ -90,36 +175,34 @@ delay (Some (Plain n)) = mark symbol.Hash ++ number n
 delay (Some (Single n)) = mark symbol.Hash ++ mark symbol.Open ++ number n ++ mark symbol.Close
 delay (Some (Pair n m)) = mark symbol.Hash ++ mark symbol.Open ++ number n ++ mark symbol.Comma ++ number m ++ mark symbol.Close
 
+-- the number of a bit
+abbrev pub select : List ℕ → List Placed
+select digits = mark symbol.LeftBracket ++ whole digits ++ mark symbol.RightBracket
+
+abbrev pub terminal : Terminal → List Placed
+terminal (Whole n) = name n
+terminal (Select n digits) = name n ++ select digits
+terminal (Level b) = level b
+
 abbrev pub instance : Instance → List Placed
-instance i = optional name i.name ++ mark symbol.Open ++ separated name i.terminals ++ mark symbol.Close
+instance i = optional name i.name ++ mark symbol.Open ++ separated terminal i.terminals ++ mark symbol.Close
 
 abbrev pub statement : Statement → List Placed
-statement s = word (keyword.Gate s.kind) ++ delay s.delay ++ separated instance s.instances ++ mark symbol.Semicolon
+statement s = attributes s.attributes ++ word (keyword.Gate s.kind) ++ delay s.delay ++ separated instance s.instances ++ mark symbol.Semicolon
 
 abbrev pub item : Item → List Placed
 item (Declares d) = declaration d
 item (Gates s) = statement s
 
-abbrev pub ports : Option (List Name) → List Placed
-ports None = []
-ports (Some ns) = mark symbol.Open ++ separated name ns ++ mark symbol.Close
-
 abbrev pub module_tokens : Module → List Placed
-module_tokens m = word keyword.Module ++ name m.name ++ ports m.ports ++ mark symbol.Semicolon ++ flat_map item m.items ++ word keyword.EndModule
+module_tokens m =
+    flat_map front m.fronts ++ word keyword.Module ++ name m.name ++ ports m.ports ++ mark symbol.Semicolon
+    ++ flat_map item m.items ++ word keyword.EndModule ++ flat_map directed m.behind
 
--- ---- what a tree keeps
-
--- a net declaration has no second `wire`, and names at least one name
-pub record IsDeclaration (d : Declaration) : Type 0 where
-  pub names : 1 ≤ length d.names
-  pub wire : d.role ≡ role.Wire → d.wire ≡ false
+-- ---- numbers
 
 abbrev pub IsBetween : ℕ → ℕ → ℕ → Type 0
 IsBetween low high n = (low ≤ n) × (n ≤ high)
-
--- an output and an input, or more
-abbrev pub IsInstance : Instance → Type 0
-IsInstance i = IsBetween 2 1024 (length i.terminals)
 
 -- the number so far with one more character behind it
 abbrev pub with_digit : ℕ → ℕ → ℕ
@@ -129,23 +212,85 @@ with_digit n d = if d == 95 then n else 10 * n + (d - 48)
 abbrev pub value_of : List ℕ → ℕ
 value_of digits = fold with_digit 0 digits
 
-abbrev pub IsSteps : List ℕ → Type 0
-IsSteps digits = IsBetween 1 1000000000 (value_of digits)
+abbrev pub is_digit : ℕ → Bool
+is_digit d = not (d == 95)
 
-abbrev pub IsDelay : Option Delay → Type 0
-IsDelay None = Unit {0}
-IsDelay (Some (Plain n)) = IsSteps n
-IsDelay (Some (Single n)) = IsSteps n
-IsDelay (Some (Pair n m)) = IsSteps n × IsSteps m
+-- the digits behind the point, without the _ between them
+abbrev pub fraction_digits : Option (List ℕ) → List ℕ
+fraction_digits None = []
+fraction_digits (Some digits) = filter is_digit digits
 
-pub record IsStatement (s : Statement) : Type 0 where
-  pub delay : IsDelay s.delay
-  pub instances : 1 ≤ length s.instances
-  pub each : AllByRecursion IsInstance s.instances
+-- ---- steps
 
-abbrev pub IsItem : Item → Type 0
-IsItem (Declares d) = IsDeclaration d
-IsItem (Gates s) = IsStatement s
+-- the number with so many of the digits behind it, and zeros where there are less
+abbrev pub steps_behind : ℕ → ℕ → List ℕ → ℕ
+steps_behind n zero digits = n
+steps_behind n (suc tens) [] = steps_behind (10 * n) tens []
+steps_behind n (suc tens) (d ∷ ds) = steps_behind (with_digit n d) tens ds
+
+-- A number of units, where a unit has 10 to the power of tens steps: its point moves so many places to the right.
+abbrev pub steps_of : ℕ → Numeral → ℕ
+steps_of tens n = steps_behind (value_of n.whole) tens (fraction_digits n.fraction)
+
+-- whether nothing but zeros stands behind the point then
+abbrev pub is_whole : ℕ → Numeral → Bool
+is_whole tens n = list_all is_zero (drop tens (fraction_digits n.fraction))
+
+-- a whole number of steps, from 1 to the greatest delay
+pub record IsSteps (tens : ℕ) (n : Numeral) : Type 0 where
+  pub whole : is_whole tens n ≡ true
+  pub within : IsBetween 1 1000000000 (steps_of tens n)
+
+abbrev pub IsDelay : ℕ → Option Delay → Type 0
+IsDelay tens None = Unit {0}
+IsDelay tens (Some (Plain n)) = IsSteps tens n
+IsDelay tens (Some (Single n)) = IsSteps tens n
+IsDelay tens (Some (Pair n m)) = IsSteps tens n × IsSteps tens m
+
+-- How many tens of a step a unit is, by the last directive: without one, a unit is a step.
+abbrev pub tens_behind : ℕ → Front → ℕ
+tens_behind tens fronts.Attributed = tens
+tens_behind tens (fronts.Directed directive.Cells) = tens
+tens_behind tens (fronts.Directed (directive.Timescale t)) = t.unit - t.step
+
+abbrev pub tens_of : List Front → ℕ
+tens_of fs = fold tens_behind 0 fs
+
+-- ---- what a tree keeps
+
+pub record IsRange (r : Range) : Type 0 where
+  pub left : value_of r.left ≤ 1000000000
+  pub right : value_of r.right ≤ 1000000000
+
+abbrev pub IsMaybeRange : Option Range → Type 0
+IsMaybeRange None = Unit {0}
+IsMaybeRange (Some r) = IsRange r
+
+-- a net declaration has no second `wire`, and names at least one name
+pub record IsDeclaration (d : Declaration) : Type 0 where
+  pub names : 1 ≤ length d.names
+  pub wire : d.role ≡ role.Wire → d.wire ≡ false
+  pub range : IsMaybeRange d.range
+
+-- a direction
+pub record IsHeader (h : Header) : Type 0 where
+  pub role : ¬ (h.role ≡ role.Wire)
+  pub range : IsMaybeRange h.range
+
+abbrev pub IsPort : Port → Type 0
+IsPort (Bare n) = Unit {0}
+IsPort (Headed h) = IsHeader h
+
+-- the first port is declared
+abbrev pub BeginsHeaded : List Port → Type 0
+BeginsHeaded [] = ⊥
+BeginsHeaded (Bare n ∷ ps) = ⊥
+BeginsHeaded (Headed h ∷ ps) = Unit {0}
+
+abbrev pub ArePorts : Option Ports → Type 0
+ArePorts None = Unit {0}
+ArePorts (Some (Names ns)) = Unit {0}
+ArePorts (Some (Declared ps)) = BeginsHeaded ps × AllByRecursion IsPort ps
 
 -- ---- how many gates
 
@@ -174,14 +319,40 @@ abbrev pub item_gates : Item → ℕ
 item_gates (Declares d) = 0
 item_gates (Gates s) = statement_gates s
 
+-- ---- gates
+
+abbrev pub IsNet : Terminal → Type 0
+IsNet (Whole n) = Unit {0}
+IsNet (Select n digits) = Unit {0}
+IsNet (Level b) = ⊥
+
+-- an output and an input, or more; no output is a constant
+pub record IsInstance (k : Kind) (i : Instance) : Type 0 where
+  pub terminals : IsBetween 2 1024 (length i.terminals)
+  pub outputs : AllByRecursion IsNet (take (instance_gates k i) i.terminals)
+
+pub record IsStatement (tens : ℕ) (s : Statement) : Type 0 where
+  pub delay : IsDelay tens s.delay
+  pub instances : 1 ≤ length s.instances
+  pub each : AllByRecursion (IsInstance s.kind) s.instances
+
+abbrev pub IsItem : ℕ → Item → Type 0
+IsItem tens (Declares d) = IsDeclaration d
+IsItem tens (Gates s) = IsStatement tens s
+
 -- ---- the derivation
 
--- a token with its line where it is a name, and with none elsewhere
+-- A token without what the grammar doesn't look at: lines, but those of names, the backslash of a name, and texts that are
+-- told alone.
 abbrev pub plain_as : ℕ → lexical.Token → Placed
 plain_as line (lexical.Name w) = at line (lexical.Name w)
+plain_as line (lexical.Escaped w) = at line (lexical.Name (drop 1 w))
 plain_as line (lexical.Reserved k) = at 0 (lexical.Reserved k)
-plain_as line (lexical.Number w) = at 0 (lexical.Number w)
+plain_as line (lexical.Number n) = at 0 (lexical.Number n)
+plain_as line (lexical.Constant b w) = at 0 (lexical.Constant b [])
 plain_as line (lexical.Mark m) = at 0 (lexical.Mark m)
+plain_as line lexical.Attribute = at 0 lexical.Attribute
+plain_as line (lexical.Directs d w) = at 0 (lexical.Directs d [])
 plain_as line (lexical.Outside w) = at 0 (lexical.Outside w)
 
 abbrev pub plain : Placed → Placed
@@ -190,5 +361,6 @@ plain p = plain_as p.line p.token
 -- The tokens are those of the module, in the grammar's order.
 pub record Derives (tokens : List Placed) (m : Module) : Type 0 where
   pub spelled : map plain tokens ≡ module_tokens m
-  pub items : AllByRecursion IsItem m.items
+  pub ports : ArePorts m.ports
+  pub items : AllByRecursion (IsItem (tens_of m.fronts)) m.items
   pub gates : sum_by item_gates m.items ≤ 200000

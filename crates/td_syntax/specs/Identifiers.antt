@@ -2,7 +2,8 @@
 use Rattle.std.specs.Prelude.{List, [], ◌∷◌, Bool, false, ◌&&◌, not, is_none, ℕ}
 use Rattle.std.specs.List.{list_all, list_any}
 use Rattle.std.specs.Str.{bytes_eq}
-use Rattle.td_syntax.specs.Lexical.{is_letter, is_name_byte, keyword_of}
+use Rattle.td_syntax.specs.Bytes.{is_letter, is_name_byte}
+use Rattle.td_syntax.specs.Lexical.{keyword_of}
 use Rattle.td_syntax.specs.Words.{reserved_words}
 
 abbrev pub begins_with_letter : List ℕ → Bool

@@ -1,8 +1,8 @@
 -- What stands at the front of a text: white space, a comment or a token, each the longest that begins there.
-use Rattle.std.specs.Prelude.{ℕ, suc, ◌+◌, ◌<◌, ◌≤◌, List, [], ◌∷◌, take, drop, Option, None, Some, Bool, ◌||◌, ◌&&◌, not, ◌==◌, nat_le, if◌then◌else◌, codes, false}
-use Rattle.std.specs.List.{prefix_len, position_or_len, list_all, list_any}
+use Rattle.std.specs.Prelude.{ℕ, suc, ◌+◌, ◌-◌, ◌<◌, ◌≤◌, List, [], ◌∷◌, length, take, drop, Option, None, Some, Bool, ◌||◌, ◌&&◌, ◌==◌, if◌then◌else◌, codes, true, false, Result, Ok, Err}
+use Rattle.std.specs.List.{prefix_len, position_or_len, list_any}
 use Rattle.std.specs.Option.{option_map}
-use Rattle.std.specs.Char.{is_ascii_digit, is_ascii_alphabetic, is_ascii_alphanumeric}
+use Rattle.std.specs.Char.{is_ascii_digit, is_ascii_alphanumeric}
 use Rattle.std.specs.Str.{bytes_eq}
 use Rattle.td_syntax.specs.Words.{reserved_words}
 use Rattle.td_gates.specs.declared.primitives.Kind.TheVariants as kind
@@ -12,43 +12,30 @@ use Rattle.td_syntax.specs.declared.token.Stop.{Stop}
 use Rattle.td_syntax.specs.declared.token.Stop.TheVariants as stop
 use Rattle.td_syntax.specs.declared.token.Symbol.{Symbol}
 use Rattle.td_syntax.specs.declared.token.Symbol.TheVariants as symbol
+use Rattle.td_syntax.specs.declared.token.Directive.{Directive}
+use Rattle.td_syntax.specs.declared.token.Directive.TheVariants as directive
+use Rattle.td_syntax.specs.declared.token.Unread.{Unread}
+use Rattle.td_syntax.specs.declared.attribute.Place.{Place}
+use Rattle.td_syntax.specs.declared.attribute.Place.TheVariants as place
+use Rattle.td_syntax.specs.Timescales.{timescale_at}
+use Rattle.td_syntax.specs.Bytes.{is_blank, is_letter, is_name_byte, is_number_byte, is_run_byte, is_printable, is_newline, is_point, is_quote, begins}
 
--- a token without where it lies in memory
+-- a number as written: digits with _ between them, and those behind its point
+pub record Numeral : Type 0 where
+  pub whole : List ℕ
+  pub fraction : Option (List ℕ)
+
+-- A token without where it lies in memory. An escaped name has its backslash, and what is told has its text.
 pub data Token : Type 0 where
   Name : List ℕ → Token
+  Escaped : List ℕ → Token
   Reserved : Keyword → Token
-  Number : List ℕ → Token
+  Number : Numeral → Token
+  Constant : Bool → List ℕ → Token
   Mark : Symbol → Token
+  Attribute : Token
+  Directs : Result Directive Unread → List ℕ → Token
   Outside : List ℕ → Token
-
--- ---- bytes
-
--- tab, newline, form feed, carriage return, space
-abbrev pub is_blank : ℕ → Bool
-is_blank b = b == 32 || b == 10 || b == 9 || b == 13 || b == 12
-
-abbrev pub is_letter : ℕ → Bool
-is_letter b = is_ascii_alphabetic b || b == 95
-
-abbrev pub is_name_byte : ℕ → Bool
-is_name_byte b = is_ascii_alphanumeric b || b == 95 || b == 36
-
-abbrev pub is_number_byte : ℕ → Bool
-is_number_byte b = is_ascii_digit b || b == 95
-
--- what a number with a fraction has
-abbrev pub is_fraction_byte : ℕ → Bool
-is_fraction_byte b = is_number_byte b || b == 46
-
--- what a number may run into: letters, digits, _, $ and .
-abbrev pub is_run_byte : ℕ → Bool
-is_run_byte b = is_name_byte b || b == 46
-
-abbrev pub is_printable : ℕ → Bool
-is_printable b = nat_le 33 b && nat_le b 126
-
-abbrev pub is_newline : ℕ → Bool
-is_newline b = b == 10
 
 -- ---- words
 
@@ -105,23 +92,105 @@ slash_at (c ∷ bs) =
     else (if c == 42 then comment_of (comment_end bs)
     else Found (Outside (47 ∷ [])) 1)
 
-abbrev pub begins_quote : List ℕ → Bool
-begins_quote [] = false
-begins_quote (b ∷ bs) = b == 39
+-- ---- numbers
 
--- a constant: the digits, the quote and the letters and digits behind it
+-- a number and how many bytes it takes, unless no digit stands behind its point
+unfoldable pub numeral_at : List ℕ → Option (Numeral × ℕ)
+numeral_at bytes =
+    let n = prefix_len is_number_byte bytes in
+    let behind = drop n bytes in
+    let k = prefix_len is_number_byte (drop 1 behind) in
+    if begins is_point behind then (if begins is_ascii_digit (drop 1 behind) then Some (record { whole = take n bytes; fraction = Some (take k (drop 1 behind)) }, n + 1 + k) else None)
+    else Some (record { whole = take n bytes; fraction = None }, n)
+
+-- the two constants of the subset
+unfoldable pub constant_of : List ℕ → Token
+constant_of text =
+    if bytes_eq text (codes "1'b0") || bytes_eq text (codes "1'B0") then Constant false text
+    else (if bytes_eq text (codes "1'b1") || bytes_eq text (codes "1'B1") then Constant true text
+    else Outside text)
+
+-- a constant: a number of n bytes, the quote and the letters and digits behind it
 abbrev pub constant_at : ℕ → List ℕ → Piece
 constant_at n bytes =
-    let m = n + 1 + prefix_len is_ascii_alphanumeric (drop 1 (drop n bytes)) in Found (Outside (take m bytes)) m
+    let m = n + 1 + prefix_len is_ascii_alphanumeric (drop 1 (drop n bytes)) in Found (constant_of (take m bytes)) m
 
--- digits, or a run that begins with digits and that the subset leaves out
+-- a number that takes n bytes, or what it runs into
+abbrev pub numeral_or : List ℕ → Numeral × ℕ → Piece
+numeral_or bytes x =
+    let run = prefix_len is_run_byte bytes in
+    if begins is_quote (drop x.1 bytes) then constant_at x.1 bytes
+    else (if begins is_name_byte (drop x.1 bytes) then Found (Outside (take run bytes)) run
+    else Found (Number x.0) x.1)
+
+abbrev pub number_by : List ℕ → Option (Numeral × ℕ) → Piece
+number_by bytes None = Last stop.Malformed
+number_by bytes (Some x) = numeral_or bytes x
+
 unfoldable pub number_at : List ℕ → Piece
-number_at bytes =
-    let n = prefix_len is_run_byte bytes in
-    let run = take n bytes in
-    if list_all is_number_byte run && not (begins_quote (drop n bytes)) then Found (Number run) n
-    else (if list_all is_fraction_byte run && begins_quote (drop n bytes) then constant_at n bytes
-    else Found (Outside run) n)
+number_at bytes = number_by bytes (numeral_at bytes)
+
+-- ---- escaped names
+
+-- the end of the text, or white space
+abbrev pub ends_name : List ℕ → Bool
+ends_name [] = true
+ends_name (b ∷ bs) = is_blank b
+
+-- The bytes are those behind the backslash.
+unfoldable pub escaped_at : List ℕ → Piece
+escaped_at bs =
+    let n = prefix_len is_printable bs in
+    if ends_name (drop n bs) then (if n == 0 then Last stop.Malformed else Found (Escaped (92 ∷ take n bs)) (n + 1))
+    else Last stop.Bad
+
+-- ---- directives
+
+-- the parts behind the word of a `timescale, and how many bytes the whole takes
+abbrev pub timescale_piece : List ℕ → List ℕ → Result (Directive × List ℕ) Unread → Piece
+timescale_piece word bytes (Ok x) = Found (Directs (Ok x.0) word) (length word + (length bytes - length x.1))
+timescale_piece word bytes (Err e) = Found (Directs (Err e) word) (length word + length bytes)
+
+-- a directive by its word, which begins with the backquote, and the bytes behind it
+unfoldable pub directive_of : List ℕ → List ℕ → Piece
+directive_of word bytes =
+    if bytes_eq word (codes "`timescale") then timescale_piece word bytes (timescale_at bytes)
+    else (if bytes_eq word (codes "`celldefine") || bytes_eq word (codes "`endcelldefine") then Found (Directs (Ok directive.Cells) word) (length word)
+    else Found (Outside word) (length word))
+
+-- The bytes are those behind the backquote.
+unfoldable pub directive_at : List ℕ → Piece
+directive_at bs =
+    let n = prefix_len is_name_byte bs in
+    if begins is_letter bs then directive_of (96 ∷ take n bs) (drop n bs)
+    else Found (Outside (96 ∷ [])) 1
+
+-- ---- attributes
+
+-- Whether this byte ends the attribute: the `)` behind a `*` that stands in no quoted text.
+abbrev pub closes : Place → ℕ → Bool
+closes place.Plain b = false
+closes place.Star b = b == 41
+closes place.Quoted b = false
+closes place.Escaped b = false
+
+-- what stands behind this byte, in an attribute that it doesn't end
+abbrev pub behind_byte : Place → ℕ → Place
+behind_byte place.Plain b = if b == 34 then place.Quoted else (if b == 42 then place.Star else place.Plain)
+behind_byte place.Star b = if b == 34 then place.Quoted else (if b == 42 then place.Star else place.Plain)
+behind_byte place.Quoted b = if b == 34 then place.Plain else (if b == 92 then place.Escaped else place.Quoted)
+behind_byte place.Escaped b = place.Quoted
+
+-- how many bytes stand up to the end of the attribute, if it ends
+unfoldable pub attribute_end : Place → List ℕ → Option ℕ
+attribute_end p [] = None
+attribute_end p (b ∷ bs) = if closes p b then Some 1 else option_map suc (attribute_end (behind_byte p b) bs)
+
+abbrev pub attribute_of : Option ℕ → Piece
+attribute_of None = Last stop.Cut
+attribute_of (Some n) = Found Attribute (n + 2)
+
+-- ---- marks
 
 -- the token of a character by itself
 abbrev pub mark_of : ℕ → Token
@@ -130,24 +199,27 @@ mark_of b =
     else (if b == 44 then Mark symbol.Comma
     else (if b == 59 then Mark symbol.Semicolon
     else (if b == 35 then Mark symbol.Hash
-    else Outside (b ∷ []))))
+    else (if b == 91 then Mark symbol.LeftBracket
+    else (if b == 93 then Mark symbol.RightBracket
+    else (if b == 58 then Mark symbol.Colon
+    else Outside (b ∷ [])))))))
 
--- A character by itself, or what the subset leaves out: an escaped name, or a directive. The bytes are those behind it.
+-- A character by itself, an escaped name or a directive. The bytes are those behind it.
 unfoldable pub char_at : ℕ → List ℕ → Piece
 char_at b bs =
-    if b == 92 then (let n = 1 + prefix_len is_printable bs in Found (Outside (take n (b ∷ bs))) n)
-    else (if b == 96 then (let n = 1 + prefix_len is_name_byte bs in Found (Outside (take n (b ∷ bs))) n)
+    if b == 92 then escaped_at bs
+    else (if b == 96 then directive_at bs
     else Found (mark_of b) 1)
 
 -- A `(` begins an attribute where a `*` stands behind it. The bytes are those behind the `(`.
 abbrev pub open_at : List ℕ → Piece
 open_at [] = Found (Mark symbol.Open) 1
-open_at (c ∷ bs) = if c == 42 then Found (Outside (40 ∷ 42 ∷ [])) 2 else Found (Mark symbol.Open) 1
+open_at (c ∷ bs) = if c == 42 then attribute_of (attribute_end place.Plain bs) else Found (Mark symbol.Open) 1
 
 unfoldable pub piece_at : List ℕ → Piece
 piece_at [] = Last stop.End
 piece_at (b ∷ bs) =
-    if is_blank b then Space 1
+    if is_blank b then Space (prefix_len is_blank (b ∷ bs))
     else (if is_letter b then (let n = prefix_len is_name_byte (b ∷ bs) in Found (word_of (take n (b ∷ bs))) n)
     else (if is_ascii_digit b then number_at (b ∷ bs)
     else (if b == 47 then slash_at bs

@@ -1,9 +1,12 @@
+pub mod Bytes
 pub mod Faults
 pub mod Grammar
 pub mod Identifiers
 pub mod Lexical
 pub mod Parsing
 pub mod Text
+pub mod Timescales
+pub mod TimescaleViews
 pub mod Tokens
 pub mod Views
 pub mod Words

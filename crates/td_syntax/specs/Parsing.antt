@@ -1,18 +1,23 @@
 -- Reading a module from the tokens in front, with the first fault that is met. Each reader gives what it read and what is left.
-use Rattle.std.specs.Prelude.{ℕ, zero, suc, ◌+◌, List, [], ◌∷◌, length, Option, None, Some, Bool, true, false, Result, Ok, Err, ◌==◌, ◌&&◌, nat_lt, if◌then◌else◌, codes}
+use Rattle.std.specs.Prelude.{ℕ, zero, suc, ◌+◌, List, [], ◌∷◌, drop, length, Option, None, Some, is_some, Bool, true, false, not, Result, Ok, Err, ◌==◌, ◌&&◌, ◌||◌, nat_lt, if◌then◌else◌, codes}
 use Rattle.td_gates.specs.declared.primitives.Kind.{Kind}
 use Rattle.td_syntax.specs.declared.token.Keyword.{Keyword}
 use Rattle.td_syntax.specs.declared.token.Keyword.TheVariants as keyword
 use Rattle.td_syntax.specs.declared.token.Symbol.{Symbol}
 use Rattle.td_syntax.specs.declared.token.Symbol.TheVariants as symbol
 use Rattle.td_syntax.specs.declared.token.Stop.TheVariants as stop
+use Rattle.td_syntax.specs.declared.token.Directive.{Directive}
+use Rattle.td_syntax.specs.declared.token.Unread.{Unread}
+use Rattle.td_syntax.specs.declared.token.Unread.TheVariants as unread
 use Rattle.td_syntax.specs.declared.syntax.Role.{Role}
 use Rattle.td_syntax.specs.declared.syntax.Role.TheVariants as role
-use Rattle.td_syntax.specs.Lexical.{Token, Name, Reserved, Number, Mark, Outside}
+use Rattle.td_syntax.specs.declared.syntax.Front.TheVariants as fronts
+use Rattle.td_syntax.specs.declared.syntax.Front.{Front as Fronted}
+use Rattle.td_syntax.specs.Lexical.{Numeral, Token, Name, Escaped, Reserved, Number, Constant, Mark, Attribute, Directs, Outside}
 use Rattle.td_syntax.specs.Tokens.{Placed, Stream, Front, Next, Behind, front_of, rest_of}
 use Rattle.td_syntax.specs.Grammar as grammar
-use Rattle.td_syntax.specs.Grammar.{has_many_outputs}
-use Rattle.td_syntax.specs.Faults.{Fault, FaultKind, Syntax, OutOfSubset, ZeroDelay, DelayTooLarge, TooMany, fault, refused, stopped, ◌>>=◌}
+use Rattle.td_syntax.specs.Grammar.{has_many_outputs, tens_of, steps_of, is_whole, value_of}
+use Rattle.td_syntax.specs.Faults.{Fault, Syntax, OutOfSubset, ZeroDelay, DelayTooFine, DelayTooLarge, TooMany, fault, refused, stopped, ◌>>=◌}
 
 -- what is left, and how many gates there are so far
 pub record State : Type 0 where
@@ -58,46 +63,130 @@ code_of symbol.Close = 1
 code_of symbol.Comma = 2
 code_of symbol.Semicolon = 3
 code_of symbol.Hash = 4
+code_of symbol.LeftBracket = 5
+code_of symbol.RightBracket = 6
+code_of symbol.Colon = 7
 
 abbrev pub is_mark : Symbol → Token → Bool
 is_mark m (Mark n) = code_of n == code_of m
 is_mark m (Name w) = false
+is_mark m (Escaped w) = false
 is_mark m (Reserved k) = false
-is_mark m (Number w) = false
+is_mark m (Number n) = false
+is_mark m (Constant b w) = false
+is_mark m Attribute = false
+is_mark m (Directs d w) = false
 is_mark m (Outside w) = false
 
+-- a backslash isn't part of a name
 abbrev pub name_by : ℕ → Token → Option grammar.Name
 name_by line (Name w) = Some (record { name = w; line = line })
+name_by line (Escaped w) = Some (record { name = drop 1 w; line = line })
 name_by line (Reserved k) = None
-name_by line (Number w) = None
+name_by line (Number n) = None
+name_by line (Constant b w) = None
 name_by line (Mark m) = None
+name_by line Attribute = None
+name_by line (Directs d w) = None
 name_by line (Outside w) = None
 
 abbrev pub as_name : Placed → Option grammar.Name
 as_name p = name_by p.line p.token
 
-abbrev pub number_by : Token → Option (List ℕ)
-number_by (Number w) = Some w
+abbrev pub number_by : Token → Option Numeral
+number_by (Number n) = Some n
 number_by (Name w) = None
+number_by (Escaped w) = None
 number_by (Reserved k) = None
+number_by (Constant b w) = None
 number_by (Mark m) = None
+number_by Attribute = None
+number_by (Directs d w) = None
 number_by (Outside w) = None
 
-abbrev pub as_number : Placed → Option (List ℕ)
+abbrev pub as_number : Placed → Option Numeral
 as_number p = number_by p.token
+
+-- a number without a point
+abbrev pub whole_in : List ℕ → Option (List ℕ) → Option (List ℕ)
+whole_in w None = Some w
+whole_in w (Some f) = None
+
+abbrev pub whole_by : Option Numeral → Option (List ℕ)
+whole_by None = None
+whole_by (Some n) = whole_in n.whole n.fraction
+
+abbrev pub as_whole : Placed → Option (List ℕ)
+as_whole p = whole_by (as_number p)
 
 abbrev pub keyword_by : Token → Option Keyword
 keyword_by (Reserved k) = Some k
 keyword_by (Name w) = None
-keyword_by (Number w) = None
+keyword_by (Escaped w) = None
+keyword_by (Number n) = None
+keyword_by (Constant b w) = None
 keyword_by (Mark m) = None
+keyword_by Attribute = None
+keyword_by (Directs d w) = None
 keyword_by (Outside w) = None
 
 abbrev pub as_keyword : Placed → Option Keyword
 as_keyword p = keyword_by p.token
 
+abbrev pub attribute_by : Token → Option (Unit {0})
+attribute_by Attribute = Some tt
+attribute_by (Name w) = None
+attribute_by (Escaped w) = None
+attribute_by (Reserved k) = None
+attribute_by (Number n) = None
+attribute_by (Constant b w) = None
+attribute_by (Mark m) = None
+attribute_by (Directs d w) = None
+attribute_by (Outside w) = None
+
+abbrev pub as_attribute : Placed → Option (Unit {0})
+as_attribute p = attribute_by p.token
+
+abbrev pub directive_by : Token → Option (Result Directive Unread)
+directive_by (Directs d w) = Some d
+directive_by (Name w) = None
+directive_by (Escaped w) = None
+directive_by (Reserved k) = None
+directive_by (Number n) = None
+directive_by (Constant b w) = None
+directive_by (Mark m) = None
+directive_by Attribute = None
+directive_by (Outside w) = None
+
+abbrev pub as_directive : Placed → Option (Result Directive Unread)
+as_directive p = directive_by p.token
+
+-- the text of a name as it is told
+abbrev pub name_text : Token → Option (List ℕ)
+name_text (Name w) = Some w
+name_text (Escaped w) = Some w
+name_text (Reserved k) = None
+name_text (Number n) = None
+name_text (Constant b w) = None
+name_text (Mark m) = None
+name_text Attribute = None
+name_text (Directs d w) = None
+name_text (Outside w) = None
+
+-- what a token is told as where a name, too, is outside the subset
+abbrev pub named_refusal : Placed → Option (List ℕ) → Fault
+named_refusal p None = refused p
+named_refusal p (Some w) = fault (OutOfSubset w) p.line
+
+abbrev pub refused_name : Placed → Fault
+refused_name p = named_refusal p (name_text p.token)
+
 unfoldable pub name_at : State → Result (grammar.Name × State) Fault
 name_at s = take_at as_name refused s
+
+-- a number without a point
+unfoldable pub whole_at : State → Result (List ℕ × State) Fault
+whole_at s = take_at as_whole refused s
 
 unfoldable pub mark_at : Symbol → State → Result State Fault
 mark_at m s = next_at s >>= λ p. if is_mark m p.0.token then Ok p.1 else Err (refused p.0)
@@ -143,142 +232,220 @@ step_of a false = Final a
 abbrev pub behind : {A : Type 0} → Symbol → A → State → Result (Step A × State) Fault
 behind end a s = separator_at end s >>= λ x. Ok (step_of a x.0, x.1)
 
--- a direction within the port list is outside the subset
-abbrev pub port_refusal : ℕ → Token → Fault
-port_refusal line (Reserved keyword.Input) = fault (OutOfSubset (codes "input")) line
-port_refusal line (Reserved keyword.Output) = fault (OutOfSubset (codes "output")) line
-port_refusal line (Reserved keyword.Wire) = fault Syntax line
-port_refusal line (Reserved keyword.Module) = fault Syntax line
-port_refusal line (Reserved keyword.EndModule) = fault Syntax line
-port_refusal line (Reserved (keyword.Gate kind)) = fault Syntax line
-port_refusal line (Name w) = fault Syntax line
-port_refusal line (Number w) = fault Syntax line
-port_refusal line (Mark m) = fault Syntax line
-port_refusal line (Outside w) = fault (OutOfSubset w) line
-
--- a list of ports ends with a `)`, other lists of names with a `;`
-abbrev pub refused_in_list : Symbol → Placed → Fault
-refused_in_list end p = if code_of end == 1 then port_refusal p.line p.token else refused p
-
-unfoldable pub listed_at : Symbol → State → Result (grammar.Name × State) Fault
-listed_at end s = take_at as_name (refused_in_list end) s
-
 unfoldable pub name_step : Symbol → ℕ → State → Result (Step grammar.Name × State) Fault
-name_step end k s = listed_at end s >>= λ n. behind end n.0 n.1
+name_step end k s = name_at s >>= λ n. behind end n.0 n.1
 
 unfoldable pub names_at : Symbol → State → Result (List grammar.Name × State) Fault
 names_at end s = many (name_step end) s
 
+-- ---- attributes and directives
+
+abbrev pub attribute_member : Option (Unit {0}) → Step (Unit {0})
+attribute_member None = Done
+attribute_member (Some u) = More u
+
+unfoldable pub attribute_step : ℕ → State → Result (Step (Unit {0}) × State) Fault
+attribute_step k s = maybe_at as_attribute s >>= λ x. Ok (attribute_member x.0, x.1)
+
+-- how many attributes stand in front
+unfoldable pub attributes_at : State → Result (ℕ × State) Fault
+attributes_at s = many attribute_step s >>= λ x. Ok (length x.0, x.1)
+
+-- A directive that was in front on this line. Where its parts are cut, the text ends behind it.
+unfoldable pub directive_at : ℕ → Result Directive Unread → State → Result (Directive × State) Fault
+directive_at line (Ok d) s = Ok (d, s)
+directive_at line (Err unread.Wrong) s = Err (fault Syntax line)
+directive_at line (Err unread.Short) s = next_at s >>= λ p. Err (refused p.0)
+
+abbrev pub module_by : Keyword → Option (Unit {0})
+module_by keyword.Module = Some tt
+module_by keyword.Wire = None
+module_by keyword.EndModule = None
+module_by keyword.Input = None
+module_by keyword.Output = None
+module_by (keyword.Gate k) = None
+
+abbrev pub as_module : Placed → Option (Unit {0})
+as_module p = elim (as_keyword p) [ None ↦ None | Some k ↦ module_by k ]
+
+abbrev pub front_directive : Placed → State → Option (Result Directive Unread) → Result (Step Fronted × State) Fault
+front_directive p s (Some d) = directive_at p.line d s >>= λ x. Ok (More (fronts.Directed x.0), x.1)
+front_directive p s None = elim (as_module p) [ None ↦ Err (refused p) | Some u ↦ Ok (Done, s) ]
+
+abbrev pub front_by : Placed → State → Option (Unit {0}) → Result (Step Fronted × State) Fault
+front_by p s (Some u) = Ok (More fronts.Attributed, s)
+front_by p s None = front_directive p s (as_directive p)
+
+-- an attribute, a directive or the word `module`
+unfoldable pub front_step : ℕ → State → Result (Step Fronted × State) Fault
+front_step k s = next_at s >>= λ p. front_by p.0 p.1 (as_attribute p.0)
+
+-- whether no token stands in front
+abbrev pub is_behind : Front → Bool
+is_behind (Behind stop line) = true
+is_behind (Next p) = false
+
+abbrev pub behind_by : ℕ → State → State → Option (Result Directive Unread) → Result (Step Directive × State) Fault
+behind_by line s rest None = Ok (Done, s)
+behind_by line s rest (Some d) = directive_at line d rest >>= λ x. Ok (More x.0, x.1)
+
+-- a directive behind the module, if one is in front
+unfoldable pub behind_step : ℕ → State → Result (Step Directive × State) Fault
+behind_step k s = if is_behind (front_of s.stream) then Ok (Done, s) else (next_at s >>= λ p. behind_by p.0.line s p.1 (as_directive p.0))
+
 -- ---- delays
 
--- a name in a delay is outside the subset
-abbrev pub delay_refusal : ℕ → Token → Fault
-delay_refusal line (Name w) = fault (OutOfSubset w) line
-delay_refusal line (Reserved k) = fault Syntax line
-delay_refusal line (Number w) = fault Syntax line
-delay_refusal line (Mark m) = fault Syntax line
-delay_refusal line (Outside w) = fault (OutOfSubset w) line
+-- Checked in this order: no whole number of steps, zero, too large.
+abbrev pub steps_by : ℕ → ℕ → Numeral → State → Result (Numeral × State) Fault
+steps_by tens line n rest =
+    if not (is_whole tens n) then Err (fault DelayTooFine line)
+    else (if steps_of tens n == 0 then Err (fault ZeroDelay line)
+    else (if nat_lt 1000000000 (steps_of tens n) then Err (fault DelayTooLarge line)
+    else Ok (n, rest)))
 
-abbrev pub refused_in_delay : Placed → Fault
-refused_in_delay p = delay_refusal p.line p.token
+abbrev pub steps_from : ℕ → Placed → State → Option Numeral → Result (Numeral × State) Fault
+steps_from tens p rest None = Err (refused_name p)
+steps_from tens p rest (Some n) = steps_by tens p.line n rest
 
--- a number of steps, from 1 to the greatest delay
-abbrev pub steps_by : ℕ → List ℕ → State → Result (List ℕ × State) Fault
-steps_by line digits rest =
-    if grammar.value_of digits == 0 then Err (fault ZeroDelay line)
-    else (if nat_lt 1000000000 (grammar.value_of digits) then Err (fault DelayTooLarge line)
-    else Ok (digits, rest))
-
-abbrev pub steps_from : Placed → State → Option (List ℕ) → Result (List ℕ × State) Fault
-steps_from p rest None = Err (refused_in_delay p)
-steps_from p rest (Some digits) = steps_by p.line digits rest
-
-unfoldable pub steps_at : State → Result (List ℕ × State) Fault
-steps_at s = next_at s >>= λ p. steps_from p.0 p.1 (as_number p.0)
+-- a delay where a unit has 10 to the power of tens steps
+unfoldable pub steps_at : ℕ → State → Result (Numeral × State) Fault
+steps_at tens s = next_at s >>= λ p. steps_from tens p.0 p.1 (as_number p.0)
 
 -- the end of a delay in brackets; a third value is outside the subset
 unfoldable pub close_at : State → Result State Fault
 close_at s = next_at s >>= λ p.
     if is_mark symbol.Close p.0.token then Ok p.1
     else (if is_mark symbol.Comma p.0.token then Err (fault (OutOfSubset (codes ",")) p.0.line)
-    else Err (refused_in_delay p.0))
+    else Err (refused_name p.0))
 
 -- whether a second value follows
 unfoldable pub second_at : State → Result (Bool × State) Fault
 second_at s = next_at s >>= λ p.
     if is_mark symbol.Comma p.0.token then Ok (true, p.1)
     else (if is_mark symbol.Close p.0.token then Ok (false, p.1)
-    else Err (refused_in_delay p.0))
+    else Err (refused_name p.0))
 
-abbrev pub pair_at : List ℕ → Bool × State → Result (grammar.Delay × State) Fault
-pair_at first x = elim x.0 [
-  | true ↦ steps_at x.1 >>= λ second. close_at second.1 >>= λ rest. Ok (grammar.Pair first second.0, rest)
+abbrev pub pair_at : ℕ → Numeral → Bool × State → Result (grammar.Delay × State) Fault
+pair_at tens first x = elim x.0 [
+  | true ↦ steps_at tens x.1 >>= λ second. close_at second.1 >>= λ rest. Ok (grammar.Pair first second.0, rest)
   | false ↦ Ok (grammar.Single first, x.1)
 ]
 
 -- behind #( stand one number or two
-unfoldable pub bracketed_at : State → Result (grammar.Delay × State) Fault
-bracketed_at s = steps_at s >>= λ first. second_at first.1 >>= pair_at first.0
+unfoldable pub bracketed_at : ℕ → State → Result (grammar.Delay × State) Fault
+bracketed_at tens s = steps_at tens s >>= λ first. second_at first.1 >>= pair_at tens first.0
 
-abbrev pub value_at : Bool × State → Result (grammar.Delay × State) Fault
-value_at x = elim x.0 [
-  | true ↦ bracketed_at x.1
-  | false ↦ steps_at x.1 >>= λ n. Ok (grammar.Plain n.0, n.1)
+abbrev pub value_at : ℕ → Bool × State → Result (grammar.Delay × State) Fault
+value_at tens x = elim x.0 [
+  | true ↦ bracketed_at tens x.1
+  | false ↦ steps_at tens x.1 >>= λ n. Ok (grammar.Plain n.0, n.1)
 ]
 
-abbrev pub delay_by : Bool × State → Result (Option grammar.Delay × State) Fault
-delay_by x = elim x.0 [
-  | true ↦ maybe_mark_at symbol.Open x.1 >>= value_at >>= λ d. Ok (Some d.0, d.1)
+abbrev pub delay_by : ℕ → Bool × State → Result (Option grammar.Delay × State) Fault
+delay_by tens x = elim x.0 [
+  | true ↦ maybe_mark_at symbol.Open x.1 >>= value_at tens >>= λ d. Ok (Some d.0, d.1)
   | false ↦ Ok (None, x.1)
 ]
 
-unfoldable pub delay_at : State → Result (Option grammar.Delay × State) Fault
-delay_at s = maybe_mark_at symbol.Hash s >>= delay_by
+unfoldable pub delay_at : ℕ → State → Result (Option grammar.Delay × State) Fault
+delay_at tens s = maybe_mark_at symbol.Hash s >>= delay_by tens
 
--- ---- gates
+-- ---- terminals
 
 -- one gate more
 unfoldable pub count_at : ℕ → State → Result State Fault
 count_at line s = if nat_lt s.gates 200000 then Ok (record { stream = s.stream; gates = s.gates + 1 }) else Err (fault TooMany line)
 
+-- a terminal that drives; no constant does
+unfoldable pub output_at : ℕ → grammar.Terminal → State → Result State Fault
+output_at line (grammar.Whole n) s = count_at line s
+output_at line (grammar.Select n digits) s = count_at line s
+output_at line (grammar.Level b) s = Err (fault Syntax line)
+
 -- The terminal with this number begins on this line. The first is an output.
-unfoldable pub begin_terminal : ℕ → ℕ → State → Result State Fault
-begin_terminal k line s =
-    if nat_lt k 1024 then (if k == 0 then count_at line s else Ok s)
+unfoldable pub begin_terminal : ℕ → ℕ → grammar.Terminal → State → Result State Fault
+begin_terminal k line t s =
+    if nat_lt k 1024 then (if k == 0 then output_at line t s else Ok s)
     else Err (fault TooMany line)
 
 -- Behind a comma the terminal was no last one.
-unfoldable pub more_terminals : Kind → ℕ → ℕ → State → Result State Fault
-more_terminals kind k line s = if has_many_outputs kind && nat_lt 0 k then count_at line s else Ok s
+unfoldable pub more_terminals : Kind → ℕ → ℕ → grammar.Terminal → State → Result State Fault
+more_terminals kind k line t s = if has_many_outputs kind && nat_lt 0 k then output_at line t s else Ok s
 
 -- The terminal before a `)` is the last one.
 unfoldable pub end_terminals : ℕ → ℕ → State → Result State Fault
 end_terminals k line s = if k == 0 then Err (fault Syntax line) else Ok s
 
-unfoldable pub terminal_end : Kind → ℕ → grammar.Name → State → Result (Step grammar.Name × State) Fault
-terminal_end kind k n s = next_at s >>= λ p.
-    if is_mark symbol.Comma p.0.token then (more_terminals kind k n.line p.1 >>= λ rest. Ok (More n, rest))
-    else (if is_mark symbol.Close p.0.token then (end_terminals k p.0.line p.1 >>= λ rest. Ok (Final n, rest))
+unfoldable pub terminal_end : Kind → ℕ → ℕ → grammar.Terminal → State → Result (Step grammar.Terminal × State) Fault
+terminal_end kind k line t s = next_at s >>= λ p.
+    if is_mark symbol.Comma p.0.token then (more_terminals kind k line t p.1 >>= λ rest. Ok (More t, rest))
+    else (if is_mark symbol.Close p.0.token then (end_terminals k p.0.line p.1 >>= λ rest. Ok (Final t, rest))
     else Err (refused p.0))
 
-unfoldable pub terminal_step : Kind → ℕ → State → Result (Step grammar.Name × State) Fault
-terminal_step kind k s = name_at s >>= λ n. begin_terminal k n.0.line n.1 >>= terminal_end kind k n.0
+-- a name or a constant
+abbrev pub base_by : ℕ → Token → Option grammar.Terminal
+base_by line (Name w) = Some (grammar.Whole (record { name = w; line = line }))
+base_by line (Escaped w) = Some (grammar.Whole (record { name = drop 1 w; line = line }))
+base_by line (Constant b w) = Some (grammar.Level b)
+base_by line (Reserved k) = None
+base_by line (Number n) = None
+base_by line (Mark m) = None
+base_by line Attribute = None
+base_by line (Directs d w) = None
+base_by line (Outside w) = None
+
+abbrev pub as_base : Placed → Option grammar.Terminal
+as_base p = base_by p.line p.token
+
+-- the number of a bit, behind its [
+unfoldable pub bit_at : State → Result (List ℕ × State) Fault
+bit_at s = whole_at s >>= λ digits. mark_at symbol.RightBracket digits.1 >>= λ rest. Ok (digits.0, rest)
+
+abbrev pub selected_by : grammar.Name → Bool × State → Result (grammar.Terminal × State) Fault
+selected_by n x = elim x.0 [
+  | true ↦ bit_at x.1 >>= λ digits. Ok (grammar.Select n digits.0, digits.1)
+  | false ↦ Ok (grammar.Whole n, x.1)
+]
+
+-- a name may have a bit behind it
+unfoldable pub selected_at : grammar.Terminal → State → Result (grammar.Terminal × State) Fault
+selected_at (grammar.Whole n) s = maybe_mark_at symbol.LeftBracket s >>= selected_by n
+selected_at (grammar.Select n digits) s = Ok (grammar.Select n digits, s)
+selected_at (grammar.Level b) s = Ok (grammar.Level b, s)
+
+abbrev pub terminal_by : Kind → ℕ → Placed → State → Option grammar.Terminal → Result (Step grammar.Terminal × State) Fault
+terminal_by kind k p s None = Err (refused p)
+terminal_by kind k p s (Some base) = begin_terminal k p.line base s >>= selected_at base >>= λ t. terminal_end kind k p.line t.0 t.1
+
+unfoldable pub terminal_step : Kind → ℕ → State → Result (Step grammar.Terminal × State) Fault
+terminal_step kind k s = next_at s >>= λ p. terminal_by kind k p.0 p.1 (as_base p.0)
+
+-- ---- gates
+
+-- a range behind the name of an instance is outside the subset
+abbrev pub opening_refusal : Bool → Placed → Fault
+opening_refusal named p = if named && is_mark symbol.LeftBracket p.token then fault (OutOfSubset (codes "[")) p.line else refused p
+
+-- the ( of an instance, which may have a name before it
+unfoldable pub opening_at : Bool → State → Result State Fault
+opening_at named s = next_at s >>= λ p. if is_mark symbol.Open p.0.token then Ok p.1 else Err (opening_refusal named p.0)
 
 unfoldable pub instance_at : Kind → State → Result (grammar.Instance × State) Fault
 instance_at kind s = do
   name ← maybe_at as_name s
-  bracket ← mark_at symbol.Open name.1
+  bracket ← opening_at (is_some name.0) name.1
   terminals ← many (terminal_step kind) bracket
   Ok (record { name = name.0; terminals = terminals.0 }, terminals.1)
 
 unfoldable pub instance_step : Kind → ℕ → State → Result (Step grammar.Instance × State) Fault
 instance_step kind k s = instance_at kind s >>= λ i. behind symbol.Semicolon i.0 i.1
 
-unfoldable pub statement_at : Kind → State → Result (grammar.Statement × State) Fault
-statement_at kind s = do
-  delay ← delay_at s
+-- behind the word of the kind
+unfoldable pub statement_at : ℕ → ℕ → Kind → State → Result (grammar.Statement × State) Fault
+statement_at tens attributes kind s = do
+  delay ← delay_at tens s
   instances ← many (instance_step kind) delay.1
-  Ok (record { kind = kind; delay = delay.0; instances = instances.0 }, instances.1)
+  Ok (record { attributes = attributes; kind = kind; delay = delay.0; instances = instances.0 }, instances.1)
 
 -- ---- declarations
 
@@ -312,11 +479,105 @@ wire_at role.Input s = maybe_at as_wire s >>= wired
 wire_at role.Output s = maybe_at as_wire s >>= wired
 wire_at role.Wire s = behind_wire s >>= λ rest. Ok (false, rest)
 
-unfoldable pub declaration_at : Role → State → Result (grammar.Declaration × State) Fault
-declaration_at r s = do
+abbrev pub limited_from : Placed → State → Option (List ℕ) → Result (List ℕ × State) Fault
+limited_from p rest None = Err (refused p)
+limited_from p rest (Some digits) = if nat_lt 1000000000 (value_of digits) then Err (fault TooMany p.line) else Ok (digits, rest)
+
+-- a number of a range, within its limit
+unfoldable pub limited_at : State → Result (List ℕ × State) Fault
+limited_at s = next_at s >>= λ p. limited_from p.0 p.1 (as_whole p.0)
+
+-- behind the [ of a range
+unfoldable pub bounds_at : State → Result (grammar.Range × State) Fault
+bounds_at s = do
+  left ← limited_at s
+  colon ← mark_at symbol.Colon left.1
+  right ← limited_at colon
+  rest ← mark_at symbol.RightBracket right.1
+  Ok (record { left = left.0; right = right.0 }, rest)
+
+abbrev pub range_by : Bool × State → Result (Option grammar.Range × State) Fault
+range_by x = elim x.0 [
+  | true ↦ bounds_at x.1 >>= λ r. Ok (Some r.0, r.1)
+  | false ↦ Ok (None, x.1)
+]
+
+unfoldable pub range_at : State → Result (Option grammar.Range × State) Fault
+range_at s = maybe_mark_at symbol.LeftBracket s >>= range_by
+
+-- behind the word of the role
+unfoldable pub declaration_at : ℕ → Role → State → Result (grammar.Declaration × State) Fault
+declaration_at attributes r s = do
   wire ← wire_at r s
-  names ← names_at symbol.Semicolon wire.1
-  Ok (record { role = r; wire = wire.0; names = names.0 }, names.1)
+  range ← range_at wire.1
+  names ← names_at symbol.Semicolon range.1
+  Ok (record { attributes = attributes; role = r; wire = wire.0; range = range.0; names = names.0 }, names.1)
+
+-- ---- ports
+
+abbrev pub direction_by : Keyword → Option Role
+direction_by keyword.Input = Some role.Input
+direction_by keyword.Output = Some role.Output
+direction_by keyword.Module = None
+direction_by keyword.EndModule = None
+direction_by keyword.Wire = None
+direction_by (keyword.Gate k) = None
+
+abbrev pub as_direction : Placed → Option Role
+as_direction p = elim (as_keyword p) [ None ↦ None | Some k ↦ direction_by k ]
+
+unfoldable pub direction_at : State → Result (Role × State) Fault
+direction_at s = take_at as_direction refused s
+
+unfoldable pub header_at : State → Result (grammar.Header × State) Fault
+header_at s = do
+  attributes ← attributes_at s
+  role ← direction_at attributes.1
+  wire ← wire_at role.0 role.1
+  range ← range_at wire.1
+  name ← name_at range.1
+  Ok (record { attributes = attributes.0; role = role.0; wire = wire.0; range = range.0; name = name.0 }, name.1)
+
+unfoldable pub headed_at : State → Result (grammar.Port × State) Fault
+headed_at s = header_at s >>= λ h. Ok (grammar.Headed h.0, h.1)
+
+abbrev pub port_by : Option grammar.Name × State → Result (grammar.Port × State) Fault
+port_by x = elim x.0 [
+  | Some n ↦ Ok (grammar.Bare n, x.1)
+  | None ↦ headed_at x.1
+]
+
+-- The first port is no bare name.
+unfoldable pub port_at : ℕ → State → Result (grammar.Port × State) Fault
+port_at k s = if k == 0 then headed_at s else (maybe_at as_name s >>= port_by)
+
+unfoldable pub port_step : ℕ → State → Result (Step grammar.Port × State) Fault
+port_step k s = port_at k s >>= λ p. behind symbol.Close p.0 p.1
+
+-- whether a declared port begins so
+abbrev pub is_heading : Placed → Bool
+is_heading p = is_some (as_attribute p) || is_some (as_direction p)
+
+-- the ports, of which there is one at least
+unfoldable pub listed_at : State → Result (grammar.Ports × State) Fault
+listed_at s = next_at s >>= λ p.
+    if is_heading p.0 then (many port_step s >>= λ ports. Ok (grammar.Declared ports.0, ports.1))
+    else (names_at symbol.Close s >>= λ names. Ok (grammar.Names names.0, names.1))
+
+abbrev pub listed : Bool × State → Result (grammar.Ports × State) Fault
+listed x = elim x.0 [
+  | true ↦ Ok (grammar.Names [], x.1)
+  | false ↦ listed_at x.1
+]
+
+abbrev pub ports_by : Bool × State → Result (Option grammar.Ports × State) Fault
+ports_by x = elim x.0 [
+  | true ↦ maybe_mark_at symbol.Close x.1 >>= listed >>= λ ports. Ok (Some ports.0, ports.1)
+  | false ↦ Ok (None, x.1)
+]
+
+unfoldable pub ports_at : State → Result (Option grammar.Ports × State) Fault
+ports_at s = maybe_mark_at symbol.Open s >>= ports_by
 
 -- ---- items
 
@@ -326,52 +587,24 @@ declares d = Ok (More (grammar.Declares d.0), d.1)
 abbrev pub gates : grammar.Statement × State → Result (Step grammar.Item × State) Fault
 gates g = Ok (More (grammar.Gates g.0), g.1)
 
-abbrev pub item_by : ℕ → Token → State → Result (Step grammar.Item × State) Fault
-item_by line (Reserved keyword.Input) s = declaration_at role.Input s >>= declares
-item_by line (Reserved keyword.Output) s = declaration_at role.Output s >>= declares
-item_by line (Reserved keyword.Wire) s = declaration_at role.Wire s >>= declares
-item_by line (Reserved (keyword.Gate kind)) s = statement_at kind s >>= gates
-item_by line (Reserved keyword.EndModule) s = Ok (Done, s)
-item_by line (Reserved keyword.Module) s = Err (fault Syntax line)
--- an instance of a module
-item_by line (Name w) s = Err (fault (OutOfSubset w) line)
-item_by line (Number w) s = Err (fault Syntax line)
-item_by line (Mark m) s = Err (fault Syntax line)
-item_by line (Outside w) s = Err (fault (OutOfSubset w) line)
+abbrev pub item_word : ℕ → ℕ → Placed → State → Keyword → Result (Step grammar.Item × State) Fault
+item_word tens attributes p s keyword.Input = declaration_at attributes role.Input s >>= declares
+item_word tens attributes p s keyword.Output = declaration_at attributes role.Output s >>= declares
+item_word tens attributes p s keyword.Wire = declaration_at attributes role.Wire s >>= declares
+item_word tens attributes p s (keyword.Gate kind) = statement_at tens attributes kind s >>= gates
+-- attributes stand before items alone
+item_word tens attributes p s keyword.EndModule = if attributes == 0 then Ok (Done, s) else Err (refused p)
+item_word tens attributes p s keyword.Module = Err (refused p)
 
-unfoldable pub item_step : ℕ → State → Result (Step grammar.Item × State) Fault
-item_step k s = next_at s >>= λ p. item_by p.0.line p.0.token p.1
+-- a name begins an instance of a module
+abbrev pub item_by : ℕ → ℕ → Placed → State → Option Keyword → Result (Step grammar.Item × State) Fault
+item_by tens attributes p s None = Err (refused_name p)
+item_by tens attributes p s (Some k) = item_word tens attributes p s k
+
+unfoldable pub item_step : ℕ → ℕ → State → Result (Step grammar.Item × State) Fault
+item_step tens k s = attributes_at s >>= λ a. next_at a.1 >>= λ p. item_by tens a.0 p.0 p.1 (as_keyword p.0)
 
 -- ---- the module
-
-abbrev pub listed : Bool × State → Result (Option (List grammar.Name) × State) Fault
-listed x = elim x.0 [
-  | true ↦ Ok (Some [], x.1)
-  | false ↦ names_at symbol.Close x.1 >>= λ names. Ok (Some names.0, names.1)
-]
-
-abbrev pub ports_by : Bool × State → Result (Option (List grammar.Name) × State) Fault
-ports_by x = elim x.0 [
-  | true ↦ maybe_mark_at symbol.Close x.1 >>= listed
-  | false ↦ Ok (None, x.1)
-]
-
-unfoldable pub ports_at : State → Result (Option (List grammar.Name) × State) Fault
-ports_at s = maybe_mark_at symbol.Open s >>= ports_by
-
-abbrev pub module_by : Keyword → Option (Unit {0})
-module_by keyword.Module = Some tt
-module_by keyword.Wire = None
-module_by keyword.EndModule = None
-module_by keyword.Input = None
-module_by keyword.Output = None
-module_by (keyword.Gate k) = None
-
-abbrev pub as_module : Placed → Option (Unit {0})
-as_module p = elim (as_keyword p) [ None ↦ None | Some k ↦ module_by k ]
-
-unfoldable pub module_word_at : State → Result (Unit {0} × State) Fault
-module_word_at s = take_at as_module refused s
 
 -- a second module is outside the subset
 abbrev pub second_refusal : Placed → Fault
@@ -381,6 +614,7 @@ abbrev pub end_by : State → Front → Result State Fault
 end_by s (Behind stop.End line) = Ok s
 end_by s (Behind stop.Cut line) = Err (stopped stop.Cut line)
 end_by s (Behind stop.Bad line) = Err (stopped stop.Bad line)
+end_by s (Behind stop.Malformed line) = Err (stopped stop.Malformed line)
 end_by s (Next p) = Err (second_refusal p)
 
 -- nothing stands behind the module
@@ -389,10 +623,11 @@ end_at s = end_by s (front_of s.stream)
 
 unfoldable pub module_at : State → Result (grammar.Module × State) Fault
 module_at s = do
-  begin ← module_word_at s
-  name ← name_at begin.1
+  fronts ← many front_step s
+  name ← name_at fronts.1
   ports ← ports_at name.1
   semicolon ← mark_at symbol.Semicolon ports.1
-  items ← many item_step semicolon
-  rest ← end_at items.1
-  Ok (record { name = name.0; ports = ports.0; items = items.0 }, rest)
+  items ← many (item_step (tens_of fronts.0)) semicolon
+  behind ← many behind_step items.1
+  rest ← end_at behind.1
+  Ok (record { fronts = fronts.0; name = name.0; ports = ports.0; items = items.0; behind = behind.0 }, rest)

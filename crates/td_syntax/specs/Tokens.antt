@@ -2,8 +2,9 @@
 use Rattle.std.specs.Prelude.{◌≡◌, ℕ, zero, suc, ◌+◌, List, [], ◌∷◌, length, take, drop}
 use Rattle.std.specs.List.{count_by}
 use Rattle.td_syntax.specs.declared.token.Stop.{Stop}
-use Rattle.td_syntax.specs.declared.token.Stop.TheVariants.{Cut, Bad, End}
-use Rattle.td_syntax.specs.Lexical.{Token, Space, Found, Last, is_newline, piece_at}
+use Rattle.td_syntax.specs.declared.token.Stop.TheVariants.{Cut, Bad, Malformed, End}
+use Rattle.td_syntax.specs.Bytes.{is_newline}
+use Rattle.td_syntax.specs.Lexical.{Token, Space, Found, Last, piece_at}
 
 -- a token, and the line of its first byte
 pub record Placed : Type 0 where
@@ -28,10 +29,11 @@ ends line stop = record { tokens = []; stop = stop; line = line }
 abbrev pub before : Placed → Stream → Stream
 before t s = record { tokens = t ∷ s.tokens; stop = s.stop; line = s.line }
 
--- A comment that is cut short is told at the line of the end, another stop where it stands.
+-- A comment or an attribute that is cut short is told at the line of the end, another stop where it stands.
 abbrev pub stop_line : ℕ → List ℕ → Stop → ℕ
 stop_line line bytes Cut = line + newlines bytes
 stop_line line bytes Bad = line
+stop_line line bytes Malformed = line
 stop_line line bytes End = line
 
 -- The bytes, which begin on this line, have these tokens: white space and comments stand between them.

@@ -3,9 +3,10 @@
 ghost use Rattle.std.specs.Prelude.{◌≡◌};
 ghost use Rattle.std.specs.List.{list_all};
 ghost use Rattle.td_syntax.specs.Identifiers.{begins_with_letter, is_simple_identifier};
-ghost use Rattle.td_syntax.specs.Lexical.{is_name_byte};
+ghost use Rattle.td_syntax.specs.Bytes.{is_name_byte};
 
-use crate::piece::{is_letter, is_name_byte, keyword_of};
+use crate::bytes::{is_letter, is_name_byte};
+use crate::piece::keyword_of;
 use crate::reserved::is_reserved;
 
 fn begins_with_letter(name: &[u8]) -> bool

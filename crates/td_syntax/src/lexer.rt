@@ -42,7 +42,7 @@ fn stop_line(stop: Stop, line: u32, rest: &[u8]) -> u32
 {
     match stop {
         Stop::Cut => line + newlines(rest) as u32,
-        Stop::Bad | Stop::End => line,
+        Stop::Bad | Stop::Malformed | Stop::End => line,
     }
 }
 
@@ -56,6 +56,13 @@ impl<'a> Lexer<'a> {
             rest: text,
             line: 1,
         }
+    }
+
+    /// There are no more tokens than bytes of a text.
+    pub fn is_within(&self)
+        ensures { length self.now.tokens ≤ 67108865 }
+    {
+        let _rest = &self.rest;
     }
 
     /// What stands in front, which stays.

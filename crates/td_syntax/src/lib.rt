@@ -1,9 +1,15 @@
 //! The syntax of structural Verilog: from the bytes of a text to its syntax tree.
 #![tactic(auto)]
 
+mod attribute;
+mod bytes;
+mod declarations;
 mod delay;
+mod directives;
 mod fault;
+mod gates;
 mod identifier;
+mod items;
 mod lexer;
 mod parser;
 mod piece;
@@ -11,13 +17,23 @@ mod read;
 mod reserved;
 mod step;
 mod syntax;
+mod timescale;
 mod token;
 
-pub use delay::value_of;
+pub use delay::{steps_of, value_of};
+pub use directives::tens_of;
 pub use fault::{Fault, FaultKind};
 pub use identifier::is_simple_identifier;
 pub use read::parse;
-pub use syntax::{Declaration, Delay, Instance, Item, Module, Name, Role, Statement};
+pub use syntax::{
+    Declaration, Delay, Front, Header, Instance, Item, Module, Name, Port, Ports, Range, Role,
+    Statement, Terminal,
+};
+pub use token::{Directive, Number, Timescale};
 
 #[cfg(test)]
+mod grammar_tests;
+#[cfg(test)]
 mod tests;
+#[cfg(test)]
+mod token_tests;

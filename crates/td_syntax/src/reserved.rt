@@ -1,9 +1,9 @@
 //! Reserved words outside the subset.
 
 ghost use Rattle.std.specs.Prelude.{◌≡◌};
-ghost use Rattle.std.specs.List.{list_any};
+ghost use Rattle.std.specs.List.{list_any, list_all};
 ghost use Rattle.std.specs.Str.{bytes_eq};
-ghost use Rattle.td_syntax.specs.Words.{reserved_words, is_candidate};
+ghost use Rattle.td_syntax.specs.Words.{reserved_words, is_word_byte, is_candidate};
 
 static WORDS: [&'static str; 111] = [
     "always",
@@ -125,13 +125,26 @@ fn has(words: &[&str], word: &[u8]) -> bool
     words.iter().any(|w| w.as_bytes() == word)
 }
 
-/// Tells most names from reserved words without a look at the list.
-fn is_candidate(word: &[u8]) -> bool
+fn is_word_byte(b: u8) -> bool
+    ensures { result ≡ is_word_byte b }
+{
+    97 <= b && b <= 122 || b == b'_' || b == b'0' || b == b'1'
+}
+
+fn has_word_bytes(word: &[u8]) -> bool
+    ensures { result ≡ list_all is_word_byte word.now }
+{
+    word.iter().all(|b| is_word_byte(*b))
+}
+
+/// Tells most names from reserved words, also those of the subset, without a look at the list.
+pub fn is_candidate(word: &[u8]) -> bool
     ensures { result ≡ is_candidate word.now }
 {
     match word {
-        [first, _, ..] => b'a' <= *first && *first <= b'w',
-        _ => false,
+        [] => false,
+        [_] => false,
+        [first, rest @ ..] => 97 <= *first && *first <= 120 && has_word_bytes(rest),
     }
 }
 

@@ -1,9 +1,10 @@
-use Rattle.std.proofs.Common.{◌≡◌, take, map}
-use Rattle.std.specs.List.{flat_map}
-use Rattle.td_netlist.specs.Module.{primitive_gates}
-use Rattle.td_netlist.specs.CheckViews.{primitive_of}
+use Rattle.std.proofs.Common.{◌≡◌, drop, map}
+use Rattle.td_netlist.specs.Checks as checks
+use Rattle.td_netlist.specs.Checks.{each}
 use Rattle.td_netlist.specs.Views.{gate_of}
+use Rattle.td_netlist.specs.CheckViews.{primitive_of}
+use Rattle.std.proofs.Common.{[]}
 use Rattle.td_netlist.proofs.gates.gates.Given as goal
 
 abbrev pub invariant-loop-primitive : goal.invariant-loop-primitive
-invariant-loop-primitive l = map gate_of l.gates.items ≡ flat_map (primitive_gates l.default) (map primitive_of (take l.primitive-index l.primitives))
+invariant-loop-primitive l = each (checks.with_gates l.names l.timing.tens l.timing.default) (map gate_of l.gates.items) (map primitive_of (drop l.primitive-index l.primitives)) ≡ each (checks.with_gates l.names l.timing.tens l.timing.default) ([]) (map primitive_of l.primitives)

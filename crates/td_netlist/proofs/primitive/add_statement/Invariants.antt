@@ -6,4 +6,4 @@ use Rattle.td_netlist.specs.CheckViews.{primitive_of}
 use Rattle.td_netlist.proofs.primitive.add_statement.Given as goal
 
 abbrev pub invariant-loop-instance : goal.invariant-loop-instance
-invariant-loop-instance l = map primitive_of l.primitives.items ≡ map primitive_of l.fn.primitives.items ++ item_primitives (Gates (record { kind = l.statement.kind; delay = (statement_view l.statement).delay; instances = map instance_view (take l.instance-index l.statement.instances.items) }))
+invariant-loop-instance l = map primitive_of l.primitives.items ≡ map primitive_of l.fn.primitives.items ++ item_primitives (Gates (record { attributes = l.statement.attributes; kind = l.statement.kind; delay = (statement_view l.statement).delay; instances = map instance_view (take l.instance-index l.statement.instances.items) }))

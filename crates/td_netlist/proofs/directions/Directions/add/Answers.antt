@@ -13,4 +13,4 @@ returns c =
     let absent = none_found c.args.name.name.now _ (found_in c.args.name.name.now c.self.inside.table.entries ∙ ap (λ (ds : List Declared). direction_of ds (name_view c.args.name)) c.self.view_is ∙ c.requires) in
     ap (λ (es : List _). map declared_of es) (c.in_ok-insert.ensures.entries ∙ insert_entry-new _ c.self.inside.table c.args.name.name _ absent)
     ∙ map_push declared_of c.self.inside.table.entries _
-    ∙ ap (λ (ds : List Declared). ds ++ record { role = c.args.role; name = name_view c.args.name } ∷ []) c.self.view_is
+    ∙ ap (λ (ds : List Declared). ds ++ record { role = c.args.role; range = c.args.range; name = name_view c.args.name } ∷ []) c.self.view_is

@@ -1,9 +1,9 @@
 use Rattle.std.proofs.Common.{map}
 use Rattle.std.proofs.lemmas.Result.{err_from_is_err_and}
 use Rattle.td_netlist.specs.Checks as checks
-use Rattle.td_netlist.specs.Checks.{each, sideless}
-use Rattle.td_netlist.specs.NameViews.{name_ref_of}
+use Rattle.td_netlist.specs.Checks.{each}
 use Rattle.td_netlist.specs.CheckViews.{drivers_of, primitive_of}
+use Rattle.td_netlist.specs.NameViews.{name_ref_of}
 use Rattle.td_netlist.proofs.Walks.{goes, fails, ends}
 use Rattle.td_netlist.proofs.drivers.Drivers.drive_each.Goals as goal
 

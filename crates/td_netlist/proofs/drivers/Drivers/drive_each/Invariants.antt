@@ -1,8 +1,8 @@
 use Rattle.std.proofs.Common.{◌≡◌, drop, map}
 use Rattle.td_netlist.specs.Checks as checks
-use Rattle.td_netlist.specs.Checks.{each, sideless}
-use Rattle.td_netlist.specs.NameViews.{name_ref_of}
+use Rattle.td_netlist.specs.Checks.{each}
 use Rattle.td_netlist.specs.CheckViews.{drivers_of, primitive_of}
+use Rattle.td_netlist.specs.NameViews.{name_ref_of}
 use Rattle.td_netlist.proofs.drivers.Drivers.drive_each.Given as goal
 
 abbrev pub invariant-loop-primitive : goal.invariant-loop-primitive

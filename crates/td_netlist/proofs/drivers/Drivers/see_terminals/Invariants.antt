@@ -1,9 +1,9 @@
 use Rattle.std.proofs.Common.{◌≡◌, drop, map}
-use Rattle.td_syntax.specs.Views.{name_view}
+use Rattle.td_syntax.specs.Views.{terminal_view}
 use Rattle.td_netlist.specs.Checks as checks
-use Rattle.td_netlist.specs.Checks.{each, sideless}
+use Rattle.td_netlist.specs.Checks.{each}
 use Rattle.td_netlist.specs.CheckViews.{drivers_of}
 use Rattle.td_netlist.proofs.drivers.Drivers.see_terminals.Given as goal
 
 abbrev pub invariant-loop-terminal : goal.invariant-loop-terminal
-invariant-loop-terminal l = each (checks.see) (drivers_of l.self) (map name_view (drop l.terminal-index l.terminals)) ≡ each (checks.see) (drivers_of l.fn.self) (map name_view l.terminals)
+invariant-loop-terminal l = each (checks.see) (drivers_of l.self) (map terminal_view (drop l.terminal-index l.terminals)) ≡ each (checks.see) (drivers_of l.fn.self) (map terminal_view l.terminals)

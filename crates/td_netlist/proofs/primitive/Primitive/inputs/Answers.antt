@@ -1,6 +1,6 @@
 use Rattle.std.proofs.Common.{◌≡◌, length, ap, sym, ◌∙◌, map}
 use Rattle.std.proofs.lemmas.List.{length-map}
-use Rattle.td_syntax.specs.Views.{name_view}
+use Rattle.td_syntax.specs.Views.{terminal_view}
 use Rattle.td_syntax.specs.Grammar.{output_count}
 use Rattle.td_netlist.proofs.Terminals.{rest_of}
 use Rattle.td_netlist.proofs.primitive.Primitive.inputs.Goals as goal
@@ -8,5 +8,5 @@ use Rattle.td_netlist.proofs.primitive.Primitive.inputs.Goals as goal
 pub returns : goal.returns
 returns c =
     let ts = c.args.self.terminals.now in
-    let same : output_count c.args.self.kind (length ts) ≡ output_count c.args.self.kind (length (map name_view ts)) = ap (λ (n : _). output_count c.args.self.kind n) (sym (length-map ts name_view)) in
-    rw (c.split_at.ensures.back, c.min.ensures) (rest_of name_view (output_count c.args.self.kind (length ts)) ts c.output_count-count.result _ (c.output_count-count.ensures ∙ same) same)
+    let same : output_count c.args.self.kind (length ts) ≡ output_count c.args.self.kind (length (map terminal_view ts)) = ap (λ (n : _). output_count c.args.self.kind n) (sym (length-map ts terminal_view)) in
+    rw (c.split_at.ensures.back, c.min.ensures) (rest_of terminal_view (output_count c.args.self.kind (length ts)) ts c.output_count-count.result _ (c.output_count-count.ensures ∙ same) same)

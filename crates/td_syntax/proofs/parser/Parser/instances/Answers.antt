@@ -4,7 +4,7 @@ use Rattle.std.proofs.lemmas.List.{map_push}
 use Rattle.td_syntax.specs.Views.{instance_view, step_view}
 use Rattle.td_syntax.specs.Parsing.{instance_step, many}
 use Rattle.td_syntax.proofs.Lists.{goes_on, final, is_done, fails}
-use Rattle.td_syntax.proofs.Sound.{instances_shorten}
+use Rattle.td_syntax.proofs.SoundGates.{instances_shorten}
 use Rattle.td_syntax.proofs.parser.Parser.instances.Goals as goal
 
 pub instances-smaller : goal.instances-smaller

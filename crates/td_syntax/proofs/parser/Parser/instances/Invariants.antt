@@ -1,8 +1,7 @@
-use Rattle.std.proofs.Common.{◌≡◌}
 use Rattle.td_syntax.specs.Views.{instance_view}
 use Rattle.td_syntax.specs.Parsing.{instance_step, many}
 use Rattle.td_syntax.proofs.Lists.{left, SoFar}
-use Rattle.td_syntax.proofs.Sound.{instances_shorten}
+use Rattle.td_syntax.proofs.SoundGates.{instances_shorten}
 use Rattle.td_syntax.proofs.parser.Parser.instances.Given as goal
 
 abbrev pub invariant-instances : goal.invariant-instances

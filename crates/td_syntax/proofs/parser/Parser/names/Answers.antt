@@ -4,7 +4,7 @@ use Rattle.std.proofs.lemmas.List.{map_push}
 use Rattle.td_syntax.specs.Views.{name_view, step_view}
 use Rattle.td_syntax.specs.Parsing.{name_step, many, names_at}
 use Rattle.td_syntax.proofs.Lists.{goes_on, final, is_done, fails}
-use Rattle.td_syntax.proofs.Sound.{names_shorten}
+use Rattle.td_syntax.proofs.SoundDelays.{names_shorten}
 use Rattle.td_syntax.proofs.parser.Parser.names.Goals as goal
 
 pub names-smaller : goal.names-smaller

@@ -1,8 +1,7 @@
-use Rattle.std.proofs.Common.{◌≡◌}
 use Rattle.td_syntax.specs.Views.{name_view}
 use Rattle.td_syntax.specs.Parsing.{name_step, many}
 use Rattle.td_syntax.proofs.Lists.{left, SoFar}
-use Rattle.td_syntax.proofs.Sound.{names_shorten}
+use Rattle.td_syntax.proofs.SoundDelays.{names_shorten}
 use Rattle.td_syntax.proofs.parser.Parser.names.Given as goal
 
 abbrev pub invariant-names : goal.invariant-names

@@ -1,0 +1,11 @@
+use Rattle.std.proofs.Common.{◌≡◌, drop, map}
+use Rattle.td_syntax.specs.Views.{port_view}
+use Rattle.td_syntax.specs.declared.syntax.Port.{Port}
+use Rattle.td_netlist.specs.Module.{port_name}
+use Rattle.td_netlist.specs.Checks as checks
+use Rattle.td_netlist.specs.Checks.{each}
+use Rattle.td_netlist.specs.CheckViews.{sides_of}
+use Rattle.td_netlist.proofs.declarations.Sides.take_ports.Given as goal
+
+abbrev pub invariant-loop-port : goal.invariant-loop-port
+invariant-loop-port l = each (checks.take_side l.directions) (sides_of l.self) (map (λ (p : Port). port_name (port_view p)) (drop l.port-index l.ports)) ≡ each (checks.take_side l.directions) (sides_of l.fn.self) (map (λ (p : Port). port_name (port_view p)) l.ports)
