@@ -1,38 +1,25 @@
 -- Declarations and ports that the grammar derives are read.
-use Rattle.std.proofs.Common.{◌≡◌, ℕ, zero, suc, ◌+◌, ◌-◌, ◌≤◌, ◌<◌, Bool, true, false, not, cond, List, [], ◌∷◌, ◌++◌, length, map, take, drop, replicate, Option, None, Some, is_some, Result, Ok, Err, refl, sym, ap, subst, ◌∙◌, arith, zero-add, append_assoc, length-append, inl, inr}
-use Rattle.std.specs.Prelude.{◌==◌, ◌&&◌, ◌||◌, nat_lt, codes}
-use Rattle.std.specs.List.{AllByRecursion, flat_map, sum_by}
-use Rattle.std.proofs.lemmas.List.{append-nil, length-replicate}
+use Rattle.std.proofs.Common.{◌≡◌, ℕ, zero, suc, ◌+◌, ◌≤◌, Bool, true, false, cond, List, [], ◌∷◌, ◌++◌, length, replicate, Option, None, Some, Ok, refl, sym, ap, subst, ◌∙◌, arith, append_assoc}
+use Rattle.std.specs.Prelude.{◌==◌}
+use Rattle.std.specs.List.{AllByRecursion}
 use Rattle.std.proofs.lemmas.List.Concat.{flat_map-cons}
-use Rattle.std.proofs.lemmas.List.Sums.{sum_by-cons}
-use Rattle.std.proofs.lemmas.Bool.{ltb-true, ltb-false, lt-ltb, le-ltb, eqb-true}
+use Rattle.std.proofs.lemmas.Bool.{le-ltb}
 use Rattle.std.proofs.Math.Dec.{eqb-suc-zero}
-use Rattle.td_gates.specs.declared.primitives.Kind.{Kind}
-use Rattle.td_syntax.specs.declared.token.Keyword.{Keyword}
 use Rattle.td_syntax.specs.declared.token.Keyword.TheVariants as keyword
-use Rattle.td_syntax.specs.declared.token.Symbol.{Symbol}
 use Rattle.td_syntax.specs.declared.token.Symbol.TheVariants as symbol
-use Rattle.td_syntax.specs.declared.token.Stop.{Stop}
-use Rattle.td_syntax.specs.declared.token.Stop.TheVariants as stop
-use Rattle.td_syntax.specs.declared.token.Directive.{Directive}
-use Rattle.td_syntax.specs.declared.token.Unread.{Unread}
-use Rattle.td_syntax.specs.declared.token.Unread.TheVariants as unread
 use Rattle.td_syntax.specs.declared.syntax.Role.{Role}
 use Rattle.td_syntax.specs.declared.syntax.Role.TheVariants as role
-use Rattle.td_syntax.specs.declared.syntax.Front.{Front as Fronted}
-use Rattle.td_syntax.specs.declared.syntax.Front.TheVariants as fronts
-use Rattle.td_syntax.specs.Lexical.{Token, Numeral, Name, Escaped, Reserved, Number, Constant, Mark, Attribute, Directs, Outside}
-use Rattle.td_syntax.specs.Tokens.{Placed, Stream, Front, Next, Behind, at, front_in, front_of, rest_of}
+use Rattle.td_syntax.specs.Lexical.{Token, Name, Escaped, Reserved, Number, Constant, Mark, Attribute, Directs, Outside}
+use Rattle.td_syntax.specs.Tokens.{Placed, at}
 use Rattle.td_syntax.specs.Grammar as grammar
 use Rattle.td_syntax.specs.Grammar.{plain}
 use Rattle.td_syntax.specs.Grammar.{IsRange, IsMaybeRange, IsDeclaration, IsHeader, IsPort, BeginsHeaded, ArePorts, value_of}
-use Rattle.td_syntax.specs.Faults.{Fault, fault, refused, ◌>>=◌}
-use Rattle.td_syntax.specs.Parsing.{State, behind_front, Step, More, Final, Done, is_mark, as_name, as_whole, as_wire, as_attribute, as_direction, next_at, name_at, maybe_at, maybe_mark_at, take_at, names_at, many, attributes_at, behind_wire, wired, wire_at, limited_from, limited_at, bounds_at, range_by, range_at, declaration_at, direction_at, header_at, headed_at, port_by, port_at, port_step, is_heading, listed_at, listed, ports_by, ports_at}
-use Rattle.td_syntax.proofs.Takes.{Takes, next_takes, names_classified, name_takes, maybe_mark_takes, AllFrom, gates_from}
-use Rattle.td_syntax.proofs.SoundHeads.{attributes_classified, attributes_take}
-use Rattle.td_syntax.proofs.SoundDelays.{Any, no_gates, any_gates, wholes_classified}
-use Rattle.td_syntax.proofs.SoundDeclarations.{wires_classified, wire_takes, range_takes, bounds_text, declaration_rest, IsHeaded, HeadedIf, PortAt, port_member, ports_shorten}
-use Rattle.td_syntax.proofs.AgainTokens.{Reads, Passes, Begins, Fronts, in_front, take_again, maybe_again, maybe_not, name_again, whole_again, mark_plain, same_code, mark_again, maybe_mark_again, maybe_mark_not, comma_again, end_again, MemberAgain, group3, group4, group5, list_again, names_again, any_all}
+use Rattle.td_syntax.specs.Faults.{◌>>=◌}
+use Rattle.td_syntax.specs.Parsing.{State, behind_front, is_mark, as_name, as_whole, as_wire, as_attribute, as_direction, maybe_at, maybe_mark_at, take_at, behind_wire, wired, wire_at, limited_at, bounds_at, range_at, declaration_at, direction_at, header_at, headed_at, port_by, port_at, port_step, is_heading, listed_at, listed, ports_at}
+use Rattle.td_syntax.proofs.Takes.{names_classified, maybe_mark_takes, AllFrom}
+use Rattle.td_syntax.proofs.SoundDelays.{no_gates, any_gates, wholes_classified}
+use Rattle.td_syntax.proofs.SoundDeclarations.{wires_classified, wire_takes, range_takes, bounds_text, declaration_rest, HeadedIf, PortAt, port_member, ports_shorten}
+use Rattle.td_syntax.proofs.AgainTokens.{Reads, Begins, in_front, maybe_again, maybe_not, name_again, mark_plain, mark_again, maybe_mark_again, maybe_mark_not, comma_again, end_again, MemberAgain, group4, group5, list_again, names_again}
 use Rattle.td_syntax.proofs.AgainHeads.{attributes_again}
 
 -- ---- ranges

@@ -1,37 +1,23 @@
 -- Statements of gates that the grammar derives are read.
-use Rattle.std.proofs.Common.{◌≡◌, ℕ, zero, suc, ◌+◌, ◌-◌, ◌≤◌, ◌<◌, Bool, true, false, not, cond, List, [], ◌∷◌, ◌++◌, length, map, take, drop, replicate, Option, None, Some, is_some, Result, Ok, Err, refl, sym, ap, subst, ◌∙◌, arith, zero-add, append_assoc, length-append, inl, inr}
-use Rattle.std.specs.Prelude.{◌==◌, ◌&&◌, ◌||◌, nat_lt, codes}
-use Rattle.std.specs.List.{AllByRecursion, flat_map, sum_by}
-use Rattle.std.proofs.lemmas.List.{append-nil, length-replicate}
-use Rattle.std.proofs.lemmas.List.Concat.{flat_map-cons}
+use Rattle.std.proofs.Common.{◌≡◌, ℕ, zero, suc, ◌+◌, ◌-◌, ◌≤◌, ◌<◌, Bool, true, false, cond, List, [], ◌∷◌, ◌++◌, length, map, take, Option, None, Some, is_some, Result, Ok, refl, sym, ap, subst, ◌∙◌, arith}
+use Rattle.std.specs.Prelude.{◌==◌, ◌&&◌, nat_lt}
+use Rattle.std.specs.List.{AllByRecursion, sum_by}
 use Rattle.std.proofs.lemmas.List.Sums.{sum_by-cons}
-use Rattle.std.proofs.lemmas.Bool.{ltb-true, ltb-false, lt-ltb, le-ltb, eqb-true}
+use Rattle.std.proofs.lemmas.Bool.{lt-ltb}
 use Rattle.std.proofs.Math.Dec.{eqb-suc-zero}
 use Rattle.td_gates.specs.declared.primitives.Kind.{Kind}
-use Rattle.td_syntax.specs.declared.token.Keyword.{Keyword}
-use Rattle.td_syntax.specs.declared.token.Keyword.TheVariants as keyword
-use Rattle.td_syntax.specs.declared.token.Symbol.{Symbol}
 use Rattle.td_syntax.specs.declared.token.Symbol.TheVariants as symbol
-use Rattle.td_syntax.specs.declared.token.Stop.{Stop}
-use Rattle.td_syntax.specs.declared.token.Stop.TheVariants as stop
-use Rattle.td_syntax.specs.declared.token.Directive.{Directive}
-use Rattle.td_syntax.specs.declared.token.Unread.{Unread}
-use Rattle.td_syntax.specs.declared.token.Unread.TheVariants as unread
-use Rattle.td_syntax.specs.declared.syntax.Role.{Role}
-use Rattle.td_syntax.specs.declared.syntax.Role.TheVariants as role
-use Rattle.td_syntax.specs.declared.syntax.Front.{Front as Fronted}
-use Rattle.td_syntax.specs.declared.syntax.Front.TheVariants as fronts
-use Rattle.td_syntax.specs.Lexical.{Token, Numeral, Name, Escaped, Reserved, Number, Constant, Mark, Attribute, Directs, Outside}
-use Rattle.td_syntax.specs.Tokens.{Placed, Stream, Front, Next, Behind, at, front_in, front_of, rest_of}
+use Rattle.td_syntax.specs.Lexical.{Token, Name, Escaped, Reserved, Number, Constant, Mark, Attribute, Directs, Outside}
+use Rattle.td_syntax.specs.Tokens.{Placed, Stream, at}
 use Rattle.td_syntax.specs.Grammar as grammar
 use Rattle.td_syntax.specs.Grammar.{plain}
 use Rattle.td_syntax.specs.Grammar.{IsBetween, IsNet, IsInstance, IsStatement, has_many_outputs, output_count, instance_gates, statement_gates}
-use Rattle.td_syntax.specs.Faults.{Fault, fault, refused, ◌>>=◌}
-use Rattle.td_syntax.specs.Parsing.{State, behind_front, Step, More, Final, Done, is_mark, as_name, as_base, base_by, next_at, maybe_at, many, count_at, output_at, begin_terminal, more_terminals, end_terminals, terminal_end, bit_at, selected_by, selected_at, terminal_by, terminal_step, opening_at, instance_at, instance_step, delay_at, statement_at}
-use Rattle.td_syntax.proofs.Takes.{Takes, next_takes, names_classified, maybe_takes, mark_takes, AllFrom, gates_from}
+use Rattle.td_syntax.specs.Faults.{Fault}
+use Rattle.td_syntax.specs.Parsing.{State, behind_front, is_mark, as_name, as_base, base_by, maybe_at, many, count_at, output_at, begin_terminal, more_terminals, end_terminals, terminal_end, bit_at, selected_at, terminal_step, opening_at, instance_at, instance_step, statement_at}
+use Rattle.td_syntax.proofs.Takes.{next_takes, names_classified, maybe_takes, AllFrom, gates_from}
 use Rattle.td_syntax.proofs.SoundDelays.{delay_takes}
-use Rattle.td_syntax.proofs.SoundGates.{first_gates, later_gates, OutputIf, Selected, selected_takes, opening_takes, MoreTerminal, LastTerminal, more_gates, last_gates, terminal_member, terminals_shorten, terminal_count, AnInstance, its_gates, instance_member, instances_shorten, statement_rest}
-use Rattle.td_syntax.proofs.AgainTokens.{Reads, Passes, Begins, Fronts, in_front, take_again, maybe_again, maybe_not, name_again, whole_again, mark_plain, same_code, mark_again, maybe_mark_again, maybe_mark_not, comma_again, end_again, MemberAgain, group3, group4, group5, list_again, names_again, any_all}
+use Rattle.td_syntax.proofs.SoundGates.{first_gates, later_gates, OutputIf, selected_takes, opening_takes, MoreTerminal, LastTerminal, more_gates, last_gates, terminal_member, terminals_shorten, terminal_count, AnInstance, its_gates, instance_member, instances_shorten, statement_rest}
+use Rattle.td_syntax.proofs.AgainTokens.{Reads, Passes, Begins, in_front, maybe_again, maybe_not, whole_again, mark_plain, mark_again, maybe_mark_again, maybe_mark_not, comma_again, end_again, MemberAgain, group4, group5, list_again}
 use Rattle.td_syntax.proofs.AgainDelays.{delay_again}
 
 -- ---- terminals

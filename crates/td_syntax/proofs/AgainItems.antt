@@ -1,40 +1,31 @@
 -- What the grammar derives is read.
-use Rattle.std.proofs.Common.{◌≡◌, ℕ, zero, suc, ◌+◌, ◌-◌, ◌≤◌, ◌<◌, Bool, true, false, not, cond, List, [], ◌∷◌, ◌++◌, length, map, take, drop, replicate, Option, None, Some, is_some, Result, Ok, Err, refl, sym, ap, subst, ◌∙◌, arith, zero-add, append_assoc, length-append, inl, inr}
-use Rattle.std.specs.Prelude.{◌==◌, ◌&&◌, ◌||◌, nat_lt, codes}
+use Rattle.std.proofs.Common.{◌≡◌, ℕ, ◌+◌, ◌≤◌, List, [], ◌∷◌, ◌++◌, map, drop, Option, Some, Ok, refl, sym, ap, subst, ◌∙◌, arith, append_assoc}
 use Rattle.std.specs.List.{AllByRecursion, flat_map, sum_by}
-use Rattle.std.proofs.lemmas.List.{append-nil, length-replicate}
 use Rattle.std.proofs.lemmas.List.Concat.{flat_map-cons}
 use Rattle.std.proofs.lemmas.List.Sums.{sum_by-cons}
-use Rattle.std.proofs.lemmas.Bool.{ltb-true, ltb-false, lt-ltb, le-ltb, eqb-true}
-use Rattle.std.proofs.Math.Dec.{eqb-suc-zero}
-use Rattle.td_gates.specs.declared.primitives.Kind.{Kind}
 use Rattle.td_syntax.specs.declared.token.Keyword.{Keyword}
 use Rattle.td_syntax.specs.declared.token.Keyword.TheVariants as keyword
-use Rattle.td_syntax.specs.declared.token.Symbol.{Symbol}
 use Rattle.td_syntax.specs.declared.token.Symbol.TheVariants as symbol
 use Rattle.td_syntax.specs.declared.token.Stop.{Stop}
 use Rattle.td_syntax.specs.declared.token.Stop.TheVariants as stop
 use Rattle.td_syntax.specs.declared.token.Directive.{Directive}
-use Rattle.td_syntax.specs.declared.token.Unread.{Unread}
-use Rattle.td_syntax.specs.declared.token.Unread.TheVariants as unread
 use Rattle.td_syntax.specs.declared.syntax.Role.{Role}
 use Rattle.td_syntax.specs.declared.syntax.Role.TheVariants as role
 use Rattle.td_syntax.specs.declared.syntax.Front.{Front as Fronted}
-use Rattle.td_syntax.specs.declared.syntax.Front.TheVariants as fronts
-use Rattle.td_syntax.specs.Lexical.{Token, Numeral, Name, Escaped, Reserved, Number, Constant, Mark, Attribute, Directs, Outside}
-use Rattle.td_syntax.specs.Tokens.{Placed, Stream, Front, Next, Behind, at, front_in, front_of, rest_of}
+use Rattle.td_syntax.specs.Lexical.{Token, Name, Escaped, Reserved, Number, Constant, Mark, Attribute, Directs, Outside}
+use Rattle.td_syntax.specs.Tokens.{Placed, at, front_of}
 use Rattle.td_syntax.specs.Grammar as grammar
 use Rattle.td_syntax.specs.Grammar.{plain}
 use Rattle.td_syntax.specs.Grammar.{IsItem, ArePorts, item_gates, tens_of}
-use Rattle.td_syntax.specs.Faults.{Fault, fault, refused, ◌>>=◌}
-use Rattle.td_syntax.specs.Parsing.{State, behind_front, Step, More, Final, Done, as_keyword, as_attribute, next_at, name_at, mark_at, many, many_from, attributes_at, front_step, behind_step, declaration_at, statement_at, declares, gates, item_word, item_by, item_step, ports_at, end_by, end_at, module_at}
+use Rattle.td_syntax.specs.Faults.{◌>>=◌}
+use Rattle.td_syntax.specs.Parsing.{State, behind_front, More, as_keyword, name_at, mark_at, many, many_from, front_step, behind_step, declaration_at, declares, gates, item_word, item_step, ports_at, end_at, module_at}
 use Rattle.td_syntax.proofs.Lists.{unrolled}
-use Rattle.td_syntax.proofs.Takes.{Takes, next_takes, name_takes, mark_takes}
+use Rattle.td_syntax.proofs.Takes.{next_takes, name_takes, mark_takes}
 use Rattle.td_syntax.proofs.SoundHeads.{attributes_take, fronts_take, behind_takes}
 use Rattle.td_syntax.proofs.SoundDeclarations.{declaration_rest, ports_take}
 use Rattle.td_syntax.proofs.SoundGates.{statement_rest}
 use Rattle.td_syntax.proofs.SoundItems.{declared_text, gates_text, items_sequence, items_shorten, items_take}
-use Rattle.td_syntax.proofs.AgainTokens.{Reads, Passes, Begins, Fronts, in_front, take_again, maybe_again, maybe_not, name_again, whole_again, mark_plain, same_code, mark_again, maybe_mark_again, maybe_mark_not, comma_again, end_again, MemberAgain, group3, group4, group5, list_again, names_again, any_all}
+use Rattle.td_syntax.proofs.AgainTokens.{Reads, Begins, in_front, name_again, mark_again, group4}
 use Rattle.td_syntax.proofs.AgainHeads.{attributes_again, fronts_again, behind_again}
 use Rattle.td_syntax.proofs.AgainDeclarations.{declaration_again, ports_again}
 use Rattle.td_syntax.proofs.AgainGates.{statement_again}

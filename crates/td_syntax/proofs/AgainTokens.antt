@@ -1,32 +1,14 @@
 -- What the grammar derives is read: single tokens, and lists.
-use Rattle.std.proofs.Common.{◌≡◌, ℕ, zero, suc, ◌+◌, ◌-◌, ◌≤◌, ◌<◌, Bool, true, false, not, cond, List, [], ◌∷◌, ◌++◌, length, map, take, drop, replicate, Option, None, Some, is_some, Result, Ok, Err, refl, sym, ap, subst, ◌∙◌, arith, zero-add, append_assoc, length-append, inl, inr}
-use Rattle.std.specs.Prelude.{◌==◌, ◌&&◌, ◌||◌, nat_lt, codes}
-use Rattle.std.specs.List.{AllByRecursion, flat_map, sum_by}
-use Rattle.std.proofs.lemmas.List.{append-nil, length-replicate}
-use Rattle.std.proofs.lemmas.List.Concat.{flat_map-cons}
-use Rattle.std.proofs.lemmas.List.Sums.{sum_by-cons}
-use Rattle.std.proofs.lemmas.Bool.{ltb-true, ltb-false, lt-ltb, le-ltb, eqb-true}
-use Rattle.std.proofs.Math.Dec.{eqb-suc-zero}
-use Rattle.td_gates.specs.declared.primitives.Kind.{Kind}
-use Rattle.td_syntax.specs.declared.token.Keyword.{Keyword}
-use Rattle.td_syntax.specs.declared.token.Keyword.TheVariants as keyword
+use Rattle.std.proofs.Common.{◌≡◌, ℕ, ◌+◌, ◌≤◌, true, false, List, [], ◌∷◌, ◌++◌, length, map, Option, None, Some, Result, Ok, refl, ap, ◌∙◌, arith, append_assoc}
 use Rattle.td_syntax.specs.declared.token.Symbol.{Symbol}
 use Rattle.td_syntax.specs.declared.token.Symbol.TheVariants as symbol
 use Rattle.td_syntax.specs.declared.token.Stop.{Stop}
-use Rattle.td_syntax.specs.declared.token.Stop.TheVariants as stop
-use Rattle.td_syntax.specs.declared.token.Directive.{Directive}
-use Rattle.td_syntax.specs.declared.token.Unread.{Unread}
-use Rattle.td_syntax.specs.declared.token.Unread.TheVariants as unread
-use Rattle.td_syntax.specs.declared.syntax.Role.{Role}
-use Rattle.td_syntax.specs.declared.syntax.Role.TheVariants as role
-use Rattle.td_syntax.specs.declared.syntax.Front.{Front as Fronted}
-use Rattle.td_syntax.specs.declared.syntax.Front.TheVariants as fronts
-use Rattle.td_syntax.specs.Lexical.{Token, Numeral, Name, Escaped, Reserved, Number, Constant, Mark, Attribute, Directs, Outside}
-use Rattle.td_syntax.specs.Tokens.{Placed, Stream, Front, Next, Behind, at, front_in, front_of, rest_of}
+use Rattle.td_syntax.specs.Lexical.{Token, Name, Escaped, Reserved, Number, Constant, Mark, Attribute, Directs, Outside}
+use Rattle.td_syntax.specs.Tokens.{Placed, at, front_of, rest_of}
 use Rattle.td_syntax.specs.Grammar as grammar
 use Rattle.td_syntax.specs.Grammar.{plain}
-use Rattle.td_syntax.specs.Faults.{Fault, fault, refused, ◌>>=◌}
-use Rattle.td_syntax.specs.Parsing.{State, behind_front, Step, More, Final, Done, is_mark, as_name, as_whole, next_at, name_at, whole_at, take_at, maybe_at, mark_at, maybe_mark_at, separator_at, behind, name_step, names_at, many, many_from}
+use Rattle.td_syntax.specs.Faults.{Fault, refused}
+use Rattle.td_syntax.specs.Parsing.{State, behind_front, Step, More, Final, is_mark, as_name, as_whole, next_at, name_at, whole_at, take_at, maybe_at, mark_at, maybe_mark_at, separator_at, behind, name_step, names_at, many_from}
 use Rattle.td_syntax.proofs.Lists.{Shortens, unrolled}
 use Rattle.td_syntax.proofs.Takes.{Classifies, names_classified, MemberTakes, AllFrom, gates_from}
 use Rattle.td_syntax.proofs.SoundDelays.{Any, no_gates, any_gates, name_member, names_shorten, wholes_classified}

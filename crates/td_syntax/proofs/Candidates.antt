@@ -1,11 +1,11 @@
 -- Only candidates are reserved words.
 use Rattle.std.proofs.Common.{◌≡◌, ℕ, Bool, true, false, List, [], ◌∷◌, refl, sym, ap, ◌∙◌}
-use Rattle.std.specs.Prelude.{◌&&◌, ◌||◌}
+use Rattle.std.specs.Prelude.{◌&&◌}
 use Rattle.std.specs.List.{list_any, list_all}
 use Rattle.std.specs.Str.{bytes_eq}
 use Rattle.std.proofs.lemmas.Slice.Eq.{bytes_eq-Decides}
-use Rattle.std.specs.Prelude.{Option, None, codes}
-use Rattle.td_syntax.specs.Lexical.{Token, Name, keyword_of, word_as, word_of}
+use Rattle.std.specs.Prelude.{None, codes}
+use Rattle.td_syntax.specs.Lexical.{Name, keyword_of, word_of}
 use Rattle.td_syntax.specs.Words.{reserved_words, is_candidate}
 
 both : (p q : Bool) → (p && q) ≡ true → (p ≡ true) × (q ≡ true)

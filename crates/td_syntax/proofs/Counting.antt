@@ -1,10 +1,10 @@
 -- Attributes are counted one by one.
-use Rattle.std.proofs.Common.{◌≡◌, ℕ, zero, suc, ◌+◌, ◌<◌, List, [], ◌∷◌, ◌++◌, length, map, replicate, Option, None, Some, Result, Ok, Err, refl, sym, ap, subst, ◌∙◌, arith}
+use Rattle.std.proofs.Common.{◌≡◌, ℕ, zero, suc, ◌<◌, List, [], ◌∷◌, ◌++◌, length, map, replicate, Option, None, Some, Result, Ok, Err, refl, ap, ◌∙◌}
 use Rattle.std.specs.Prelude.{MatchOption}
 use Rattle.std.proofs.lemmas.List.{length-replicate}
 use Rattle.td_syntax.specs.declared.fault.Fault as code_fault
 use Rattle.td_syntax.specs.Faults.{Fault, FaultKind, fault, told, Fails, ◌>>=◌}
-use Rattle.td_syntax.specs.Parsing.{State, Step, More, Done, as_attribute, attribute_member, attribute_step, attributes_at, maybe_at, many}
+use Rattle.td_syntax.specs.Parsing.{State, as_attribute, attribute_member, attribute_step, attributes_at, maybe_at, many}
 use Rattle.td_syntax.proofs.Lists.{SoFar, same, map_same, left, goes_on, is_done, fails}
 use Rattle.td_syntax.proofs.SoundHeads.{attributes_shorten}
 

@@ -1,35 +1,22 @@
 -- What the readers of gates take.
-use Rattle.std.proofs.Common.{◌≡◌, ℕ, zero, suc, ◌+◌, ◌-◌, ◌≤◌, ◌<◌, Bool, true, false, not, cond, List, [], ◌∷◌, ◌++◌, length, map, take, drop, replicate, Option, None, Some, is_some, Result, Ok, Err, refl, sym, ap, subst, ◌∙◌, arith, zero-add, append_assoc, length-append, inl, inr}
-use Rattle.std.specs.Prelude.{◌==◌, ◌&&◌, ◌||◌, nat_lt, codes}
-use Rattle.std.specs.List.{AllByRecursion, flat_map, sum_by}
+use Rattle.std.proofs.Common.{◌≡◌, ℕ, zero, suc, ◌+◌, ◌-◌, ◌≤◌, ◌<◌, Bool, true, false, cond, List, [], ◌∷◌, ◌++◌, length, take, drop, Option, None, Some, is_some, Ok, Err, refl, sym, ap, subst, ◌∙◌, arith, inl, inr}
+use Rattle.std.specs.Prelude.{◌==◌, ◌&&◌, nat_lt}
+use Rattle.std.specs.List.{AllByRecursion, sum_by}
 use Rattle.std.proofs.lemmas.List.{append-nil}
-use Rattle.std.proofs.lemmas.List.Concat.{flat_map-cons}
 use Rattle.std.proofs.lemmas.List.Sums.{sum_by-cons}
-use Rattle.std.proofs.lemmas.Bool.{ltb-true, ltb-false, lt-ltb, eqb-true}
+use Rattle.std.proofs.lemmas.Bool.{ltb-true, lt-ltb}
 use Rattle.std.proofs.Math.Dec.{eqb-suc-zero}
 use Rattle.td_gates.specs.declared.primitives.Kind.{Kind}
-use Rattle.td_syntax.specs.declared.token.Keyword.{Keyword}
-use Rattle.td_syntax.specs.declared.token.Keyword.TheVariants as keyword
-use Rattle.td_syntax.specs.declared.token.Symbol.{Symbol}
 use Rattle.td_syntax.specs.declared.token.Symbol.TheVariants as symbol
-use Rattle.td_syntax.specs.declared.token.Stop.{Stop}
-use Rattle.td_syntax.specs.declared.token.Stop.TheVariants as stop
-use Rattle.td_syntax.specs.declared.token.Directive.{Directive}
-use Rattle.td_syntax.specs.declared.token.Unread.{Unread}
-use Rattle.td_syntax.specs.declared.token.Unread.TheVariants as unread
-use Rattle.td_syntax.specs.declared.syntax.Role.{Role}
-use Rattle.td_syntax.specs.declared.syntax.Role.TheVariants as role
-use Rattle.td_syntax.specs.declared.syntax.Front.{Front as Fronted}
-use Rattle.td_syntax.specs.declared.syntax.Front.TheVariants as fronts
-use Rattle.td_syntax.specs.Lexical.{Token, Numeral, Name, Escaped, Reserved, Number, Constant, Mark, Attribute, Directs, Outside}
-use Rattle.td_syntax.specs.Tokens.{Placed, Stream, Front, Next, Behind, at, front_in, front_of, rest_of}
+use Rattle.td_syntax.specs.Lexical.{Token, Name, Escaped, Reserved, Number, Constant, Mark, Attribute, Directs, Outside}
+use Rattle.td_syntax.specs.Tokens.{Placed, at}
 use Rattle.td_syntax.specs.Grammar as grammar
 use Rattle.td_syntax.specs.Grammar.{plain}
 use Rattle.td_syntax.specs.Grammar.{IsBetween, IsNet, IsInstance, IsStatement, has_many_outputs, output_count, instance_gates, statement_gates}
-use Rattle.td_syntax.specs.Faults.{Fault, Syntax, TooMany, fault, refused, ◌>>=◌}
+use Rattle.td_syntax.specs.Faults.{Syntax, TooMany, fault, refused, ◌>>=◌}
 use Rattle.td_syntax.specs.Parsing.{State, Step, More, Final, Done, is_mark, as_name, as_base, base_by, next_at, whole_at, maybe_at, mark_at, maybe_mark_at, behind, many, count_at, output_at, begin_terminal, more_terminals, end_terminals, terminal_end, bit_at, selected_by, selected_at, terminal_by, terminal_step, opening_refusal, opening_at, instance_at, instance_step, delay_at, statement_at}
 use Rattle.td_syntax.proofs.Lists.{Shortens}
-use Rattle.td_syntax.proofs.Takes.{Takes, takes_nothing, takes_then, regrouped, then_two, bind_ok, chosen, done, ok_is, err_is_no_ok, taken, next_takes, Classifies, read_as_is, take_takes, maybe_takes, names_classified, name_takes, mark_taken, mark_takes, if_mark, maybe_mark_takes, MemberTakes, behind_never, behind_more, behind_final, AllFrom, gates_from, TakesList, list_takes, list_shortens, SequenceTakes, TakesAll, all_takes, all_shortens}
+use Rattle.td_syntax.proofs.Takes.{Takes, takes_nothing, takes_then, regrouped, then_two, bind_ok, chosen, done, ok_is, err_is_no_ok, taken, next_takes, maybe_takes, names_classified, mark_taken, mark_takes, if_mark, maybe_mark_takes, MemberTakes, behind_never, behind_more, behind_final, AllFrom, gates_from, list_takes, list_shortens}
 use Rattle.td_syntax.proofs.SoundDelays.{positive, whole_takes, delay_takes}
 
 -- ---- terminals

@@ -1,5 +1,5 @@
 -- What each reader takes from the tokens is what its tree is spelled by.
-use Rattle.std.proofs.Common.{◌≡◌, ℕ, zero, suc, ◌+◌, ◌≤◌, ◌<◌, Bool, true, false, cond, List, [], ◌∷◌, ◌++◌, length, map, drop, Option, None, Some, Result, Ok, Err, refl, sym, ap, subst, ◌∙◌, arith, append_assoc, length-append, inl, inr, ◌⊎◌}
+use Rattle.std.proofs.Common.{◌≡◌, ℕ, zero, suc, ◌+◌, ◌≤◌, Bool, true, false, cond, List, [], ◌∷◌, ◌++◌, length, map, drop, Option, None, Some, Result, Ok, Err, refl, sym, ap, subst, ◌∙◌, arith, append_assoc, length-append, inl, inr, ◌⊎◌}
 use Rattle.std.specs.List.{flat_map, sum_by, AllByRecursion}
 use Rattle.std.proofs.lemmas.Bool.{eqb-true}
 use Rattle.std.proofs.lemmas.List.Concat.{flat_map-cons}
@@ -8,7 +8,7 @@ use Rattle.td_syntax.specs.declared.token.Symbol.{Symbol}
 use Rattle.td_syntax.specs.declared.token.Symbol.TheVariants as symbol
 use Rattle.td_syntax.specs.declared.token.Stop.{Stop}
 use Rattle.td_syntax.specs.Lexical.{Token, Name, Escaped, Reserved, Number, Constant, Mark, Attribute, Directs, Outside}
-use Rattle.td_syntax.specs.Tokens.{Placed, Stream, at, front_in, front_of, rest_of}
+use Rattle.td_syntax.specs.Tokens.{Placed, at, front_in, front_of, rest_of}
 use Rattle.td_syntax.specs.Grammar as grammar
 use Rattle.td_syntax.specs.Grammar.{plain}
 use Rattle.td_syntax.specs.Faults.{Fault, refused, ◌>>=◌}

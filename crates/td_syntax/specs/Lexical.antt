@@ -1,8 +1,8 @@
 -- What stands at the front of a text: white space, a comment or a token, each the longest that begins there.
-use Rattle.std.specs.Prelude.{ℕ, suc, ◌+◌, ◌-◌, ◌<◌, ◌≤◌, List, [], ◌∷◌, length, take, drop, Option, None, Some, Bool, ◌||◌, ◌&&◌, not, ◌==◌, nat_le, if◌then◌else◌, codes, true, false, Result, Ok, Err}
-use Rattle.std.specs.List.{prefix_len, position_or_len, list_all, list_any}
+use Rattle.std.specs.Prelude.{ℕ, suc, ◌+◌, ◌-◌, ◌<◌, ◌≤◌, List, [], ◌∷◌, length, take, drop, Option, None, Some, Bool, ◌||◌, ◌&&◌, ◌==◌, if◌then◌else◌, codes, true, false, Result, Ok, Err}
+use Rattle.std.specs.List.{prefix_len, position_or_len, list_any}
 use Rattle.std.specs.Option.{option_map}
-use Rattle.std.specs.Char.{is_ascii_digit, is_ascii_alphabetic, is_ascii_alphanumeric}
+use Rattle.std.specs.Char.{is_ascii_digit, is_ascii_alphanumeric}
 use Rattle.std.specs.Str.{bytes_eq}
 use Rattle.td_syntax.specs.Words.{reserved_words}
 use Rattle.td_gates.specs.declared.primitives.Kind.TheVariants as kind

@@ -17,7 +17,7 @@ use Rattle.td_syntax.specs.Lexical.{Numeral, Token, Name, Escaped, Reserved, Num
 use Rattle.td_syntax.specs.Tokens.{Placed, Stream, Front, Next, Behind, front_of, rest_of}
 use Rattle.td_syntax.specs.Grammar as grammar
 use Rattle.td_syntax.specs.Grammar.{has_many_outputs, tens_of, steps_of, is_whole, value_of}
-use Rattle.td_syntax.specs.Faults.{Fault, FaultKind, Syntax, OutOfSubset, ZeroDelay, DelayTooFine, DelayTooLarge, TooMany, fault, refused, stopped, ◌>>=◌}
+use Rattle.td_syntax.specs.Faults.{Fault, Syntax, OutOfSubset, ZeroDelay, DelayTooFine, DelayTooLarge, TooMany, fault, refused, stopped, ◌>>=◌}
 
 -- what is left, and how many gates there are so far
 pub record State : Type 0 where

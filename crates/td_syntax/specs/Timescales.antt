@@ -1,7 +1,6 @@
 -- The parts of a `timescale: two spans of time with a slash between them, white space free between the parts.
 use Rattle.std.specs.Prelude.{ℕ, ◌+◌, List, [], ◌∷◌, drop, Option, None, Some, ◌==◌, nat_le, min, if◌then◌else◌, Result, Ok, Err}
 use Rattle.std.specs.List.{prefix_len}
-use Rattle.td_syntax.specs.declared.token.Timescale.{Timescale}
 use Rattle.td_syntax.specs.declared.token.Directive.{Directive}
 use Rattle.td_syntax.specs.declared.token.Directive.TheVariants as directive
 use Rattle.td_syntax.specs.declared.token.Unread.{Unread}

@@ -1,6 +1,5 @@
 -- Tokens as the definitions name them, without where they lie in memory.
 use Rattle.std.specs.Prelude.{ℕ, List, map, Option, None, Some}
-use Rattle.std.specs.Global.{Vec}
 use Rattle.std.specs.Borrow.{Bor}
 use Rattle.td_syntax.specs.declared.syntax.Name as syntax_name
 use Rattle.td_syntax.specs.declared.syntax.Range as syntax_range

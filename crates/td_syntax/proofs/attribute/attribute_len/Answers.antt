@@ -1,4 +1,4 @@
-use Rattle.std.proofs.Common.{◌≡◌, ◌∷◌, get_or, drop, sym, subst, suc, add-one, drop-cons, List, ◌∙◌}
+use Rattle.std.proofs.Common.{◌≡◌, get_or, drop, sym, subst, suc, add-one, drop-cons, ◌∙◌}
 use Rattle.std.proofs.lemmas.List.{drop_all}
 use Rattle.td_syntax.specs.declared.attribute.Place.TheVariants.{Plain}
 use Rattle.td_syntax.specs.Lexical.{attribute_end}

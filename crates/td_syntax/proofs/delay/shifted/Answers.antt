@@ -1,6 +1,5 @@
-use Rattle.std.proofs.Common.{◌≡◌, refl, inl, get_or, drop, subst, suc, drop-cons, add-one}
-use Rattle.std.proofs.lemmas.List.{drop_all}
-use Rattle.td_syntax.proofs.Values.{Shifts, skips_if, shifts_if, drops_if, left_over_if, all_zeros, shifted_as}
+use Rattle.std.proofs.Common.{refl, inl, get_or, drop, subst, suc, drop-cons, add-one}
+use Rattle.td_syntax.proofs.Values.{Shifts, skips_if, shifts_if, drops_if}
 use Rattle.td_syntax.proofs.delay.shifted.Goals as goal
 use Rattle.td_syntax.proofs.delay.shifted.Goals.{then-digit-ne95+then-left-gt0, then-digit-ne95+else-left-gt0+else-digit-ne48, else-digit-ne95}
 

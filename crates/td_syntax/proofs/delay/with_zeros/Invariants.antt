@@ -1,4 +1,4 @@
-use Rattle.std.proofs.Common.{◌≡◌, ◌≤◌, ◌-◌, []}
+use Rattle.std.proofs.Common.{◌≤◌, ◌-◌, []}
 use Rattle.td_syntax.specs.Grammar.{steps_behind}
 use Rattle.td_syntax.proofs.Values.{Alike}
 use Rattle.td_syntax.proofs.delay.with_zeros.Given as goal

@@ -1,4 +1,4 @@
-use Rattle.std.proofs.Common.{◌≡◌, Ok, ap, ◌∙◌, add-one, arith}
+use Rattle.std.proofs.Common.{Ok, ap, ◌∙◌, add-one, arith}
 use Rattle.std.proofs.lemmas.Result.{err_from_is_err_and}
 use Rattle.td_syntax.proofs.Counting.{shorter, one_counted, all_counted, none_counted, none_yet}
 use Rattle.td_syntax.proofs.parser.Parser.attributes.Goals as goal

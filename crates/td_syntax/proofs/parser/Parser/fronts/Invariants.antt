@@ -1,4 +1,3 @@
-use Rattle.std.proofs.Common.{◌≡◌}
 use Rattle.td_syntax.specs.Parsing.{front_step, many}
 use Rattle.td_syntax.proofs.Lists.{left, SoFar, same}
 use Rattle.td_syntax.proofs.SoundHeads.{fronts_shorten}

@@ -1,4 +1,3 @@
-use Rattle.std.proofs.Common.{◌≡◌}
 use Rattle.td_syntax.specs.Views.{name_view}
 use Rattle.td_syntax.specs.Parsing.{name_step, many}
 use Rattle.td_syntax.proofs.Lists.{left, SoFar}
