@@ -36,4 +36,10 @@ mod grammar_tests;
 #[cfg(test)]
 mod tests;
 #[cfg(test)]
+mod timescale_tests;
+#[cfg(test)]
 mod token_tests;
+#[cfg(test)]
+mod value_tests;
+#[cfg(test)]
+mod word_tests;

@@ -20,7 +20,7 @@ fn told<'a>(kind: FaultKind<'a>) -> (&'static str, &'a [u8]) {
 }
 
 /// The first fault of a text, with its line and text; "ok" for none.
-fn fault_of<'a>(rt: &HostRuntime, text: &'a [u8]) -> (&'static str, u32, &'a [u8]) {
+pub fn fault_of<'a>(rt: &HostRuntime, text: &'a [u8]) -> (&'static str, u32, &'a [u8]) {
     match parse(rt.alloc(), text) {
         Ok(_) => ("ok", 0, b""),
         Err(fault) => {
@@ -74,7 +74,7 @@ pub fn shown(case: &Case) -> &'static str {
 }
 
 /// A text of so many copies, with what stands before and behind them.
-fn repeated(
+pub fn repeated(
     alloc: Global,
     before: &[u8],
     copy: &[u8],
@@ -150,8 +150,12 @@ fn letters(alloc: Global, count: usize) -> Result<Vec<u8>, AllocError> {
 
 #[test]
 fn text_limit(rt: HostRuntime) -> Result<(), Fail> {
-    let text = letters(rt.alloc(), 67_108_865)?;
-    assert!(rt; fault_of(&rt, &text).0 == "too many");
+    let longest = letters(rt.alloc(), 67_108_864)?;
+    let (kind, line, _) = fault_of(&rt, &longest);
+    assert!(rt; (kind, line) == ("syntax", 1));
+    let longer = letters(rt.alloc(), 67_108_865)?;
+    let (kind, line, _) = fault_of(&rt, &longer);
+    assert!(rt; (kind, line) == ("too many", 1));
     Ok(())
 }
 

@@ -561,3 +561,42 @@ fn attributes(rt: HostRuntime) -> Result<(), Fail> {
     }
     Ok(())
 }
+
+#[test]
+fn quoted_texts_in_attributes(rt: HostRuntime) -> Result<(), Fail> {
+    let cases: [Case; 14] = [
+        (b"module t; (* \"\" *) wire b; endmodule", "ok", 0, b""),
+        (b"module t; (* \"*)\n*)\" *)\n@", "out of subset", 3, b"@"),
+        (
+            b"module t; (* \" *) wire b; (* \" *)\nendmodule",
+            "syntax",
+            2,
+            b"",
+        ),
+        (b"module t; (* \"a\\\\\" *) wire b; endmodule", "ok", 0, b""),
+        (
+            b"module t; (* \"a\\\\\\\" *) wire b; \n",
+            "unexpected end",
+            2,
+            b"",
+        ),
+        (b"module t; (* \"\\\n\"*)\n@", "out of subset", 3, b"@"),
+        (b"module t; (*\"a\"*\"b\"*)\n@", "out of subset", 2, b"@"),
+        (
+            b"module t; (*\"a*\") wire b; *)\n@",
+            "out of subset",
+            2,
+            b"@",
+        ),
+        (b"module t; (*)*) wire b; endmodule", "ok", 0, b""),
+        (b"module t; (* * ) *) wire b; endmodule", "ok", 0, b""),
+        (b"module t; ( * a *) wire b; endmodule", "syntax", 1, b""),
+        (b"(*", "unexpected end", 1, b""),
+        (b"(* \"*)\n*", "unexpected end", 2, b""),
+        (b"(", "syntax", 1, b""),
+    ];
+    for case in &cases {
+        assert!(rt; agrees(&rt, case), "{}", shown(case));
+    }
+    Ok(())
+}
