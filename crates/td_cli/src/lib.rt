@@ -33,4 +33,8 @@ pub use vector::Symbol;
 pub use writer::WriterSink;
 
 #[cfg(test)]
+mod grammar_tests;
+#[cfg(test)]
+mod search_tests;
+#[cfg(test)]
 mod tests;

@@ -4,21 +4,22 @@ use td_gates::MemorySink;
 
 /// What a command wrote and how it ended.
 #[derive(Drop)]
-struct Ended {
-    status: u8,
-    out: MemorySink,
-    err: MemorySink,
+pub struct Ended<'a> {
+    pub status: u8,
+    pub out: MemorySink,
+    pub err: MemorySink,
+    pub files: MemoryFiles<'a>,
 }
 
-const ROOM: usize = 1 << 20;
+pub const ROOM: usize = 1 << 16;
 
 /// Carries out a command over files in memory. Standard output takes so many bytes, some at a time.
-fn carried_out(
+pub fn carried_out<'a>(
     rt: &HostRuntime,
     words: &[&str],
-    files: MemoryFiles<'_>,
+    files: MemoryFiles<'a>,
     room: usize,
-) -> Result<Ended, Fail> {
+) -> Result<Ended<'a>, Fail> {
     let alloc = rt.alloc();
     let mut files = files;
     let mut out = MemorySink::new(alloc, room, 7)?;
@@ -28,10 +29,11 @@ fn carried_out(
         status: status.code(),
         out,
         err,
+        files,
     })
 }
 
-const INVERTER: &[u8] = b"module t(a, y);\ninput a;\noutput y;\nnot #(2,3) g(y,a);\nendmodule\n";
+pub const INVERTER: &[u8] = b"module t(a, y);\ninput a;\noutput y;\nnot #(2,3) g(y,a);\nendmodule\n";
 
 const NOR: &[u8] = b"module t(a, y);\ninput a;\noutput y;\nnor (y,a,a);\nendmodule\n";
 
@@ -49,8 +51,11 @@ const NO_INPUT: &[u8] = b"module t;\nendmodule\n";
 
 const ATTRIBUTED: &[u8] = b"module t(a);\n(* x *) input a;\nendmodule\n";
 
+const ASSIGNED: &[u8] =
+    b"module t(a, y);\ninput a;\noutput y;\nassign y = a;\nendmodule\n";
+
 /// A pulse of one moment, through an `and` of delay 2 and of delay 1, and a late falling edge.
-const LOST: &[u8] =
+pub const LOST: &[u8] =
     b"module t(a, y);\ninput a;\noutput y;\nnot #1 n(b,a); and #2 g(y,a,b);\nendmodule\n";
 
 const LATE: &[u8] =
@@ -65,7 +70,7 @@ const HIDDEN: &[u8] =
 const SLOW_ARM: &[u8] =
     b"module t(a, b, y);\ninput a, b;\noutput y;\nbuf #4 s(t,a); or #1 g(y,b,t);\nendmodule\n";
 
-const C17: &[u8] = b"module c17 (N1,N2,N3,N6,N7,N22,N23);
+pub const C17: &[u8] = b"module c17 (N1,N2,N3,N6,N7,N22,N23);
 input N1,N2,N3,N6,N7;
 output N22,N23;
 wire N10,N11,N16,N19;
@@ -78,7 +83,7 @@ nand NAND2_6 (N23, N16, N19);
 endmodule
 ";
 
-const FILES: [(&str, &[u8]); 14] = [
+pub const FILES: [(&str, &[u8]); 15] = [
     ("inverter.v", INVERTER),
     ("nor.v", NOR),
     ("parted.v", PARTED),
@@ -87,6 +92,7 @@ const FILES: [(&str, &[u8]); 14] = [
     ("both.v", BOTH),
     ("none.v", NO_INPUT),
     ("attribute.v", ATTRIBUTED),
+    ("assigned.v", ASSIGNED),
     ("lost.v", LOST),
     ("late.v", LATE),
     ("reconvergent.v", RECONVERGENT),
@@ -98,7 +104,7 @@ const FILES: [(&str, &[u8]); 14] = [
 /// Each command line, what it writes to standard output, and to standard error, and its exit status.
 #[test]
 fn printed_runs(rt: HostRuntime) -> Result<(), Fail> {
-    let cases: [([&str; 5], &[u8], &[u8], u8); 24] = [
+    let cases: [([&str; 5], &[u8], &[u8], u8); 25] = [
         (
             ["tdelay", "sim", "c17.v", "01010", "01110"],
             b"unit 1 ns\ndefaulted 6\nlast N22 3\nlast N23 3\ntime 3\n",
@@ -232,10 +238,16 @@ fn printed_runs(rt: HostRuntime) -> Result<(), Fail> {
             1,
         ),
         (
-            ["tdelay", "sim", "attribute.v", "0", "1"],
+            ["tdelay", "sim", "assigned.v", "0", "1"],
             b"",
-            b"tdelay: netlist fault 4 OutOfSubset at line 2 ((*)\n",
+            b"tdelay: netlist fault 4 OutOfSubset at line 4 (assign)\n",
             1,
+        ),
+        (
+            ["tdelay", "sim", "attribute.v", "0", "1"],
+            b"unit 1 ns\ndefaulted 0\ntime 0\n",
+            b"",
+            0,
         ),
         (
             ["tdelay", "sim", "absent.v", "0", "1"],
@@ -252,7 +264,7 @@ fn printed_runs(rt: HostRuntime) -> Result<(), Fail> {
         ),
     ];
     for (words, out, err, status) in &cases {
-        let ended = carried_out(&rt, words, MemoryFiles::new(&FILES), ROOM)?;
+        let ended = carried_out(&rt, words, MemoryFiles::new(rt.alloc(), &FILES), ROOM)?;
         assert_eq!(rt; ended.out.bytes(), *out);
         assert_eq!(rt; ended.err.bytes(), *err);
         assert_eq!(rt; ended.status, *status);
@@ -274,7 +286,7 @@ fn default_delays(rt: HostRuntime) -> Result<(), Fail> {
         "1",
         "0",
     ];
-    let rise = carried_out(&rt, &words, MemoryFiles::new(&FILES), ROOM)?;
+    let rise = carried_out(&rt, &words, MemoryFiles::new(rt.alloc(), &FILES), ROOM)?;
     assert_eq!(rt;
         rise.out.bytes(),
         b"unit 1 ns\ndefaulted 1\nlast y 20\ntime 20\n".as_slice()
@@ -287,7 +299,7 @@ fn default_delays(rt: HostRuntime) -> Result<(), Fail> {
         "0",
         "1",
     ];
-    let fall = carried_out(&rt, &words, MemoryFiles::new(&FILES), ROOM)?;
+    let fall = carried_out(&rt, &words, MemoryFiles::new(rt.alloc(), &FILES), ROOM)?;
     assert_eq!(rt;
         fall.out.bytes(),
         b"unit 1 ns\ndefaulted 1\nlast y 1000000000\ntime 1000000000\n".as_slice()
@@ -343,7 +355,7 @@ For more information, try '--help'.
         ),
     ];
     for (words, err) in &cases {
-        let ended = carried_out(&rt, words, MemoryFiles::new(&FILES), ROOM)?;
+        let ended = carried_out(&rt, words, MemoryFiles::new(rt.alloc(), &FILES), ROOM)?;
         assert_eq!(rt; ended.out.bytes(), b"".as_slice());
         assert_eq!(rt; ended.err.bytes(), *err);
         assert_eq!(rt; ended.status, 2);
@@ -358,6 +370,8 @@ Usage: tdelay <COMMAND>
 Commands:
   sim    Simulates one pair of vectors: when each output changes last
   bound  Bounds the delay of all pairs of vectors that two patterns allow
+  worst  Searches for the worst delay of all pairs of vectors, and a pair that has it
+  check  Checks the certificate of a worst delay, and trusts nothing else
   help   Print this message or the help of the given subcommand(s)
 
 Options:
@@ -382,14 +396,14 @@ Options:
 /// Help goes to standard output, with status 0.
 #[test]
 fn help(rt: HostRuntime) -> Result<(), Fail> {
-    let whole = carried_out(&rt, &["tdelay", "--help"], MemoryFiles::new(&FILES), ROOM)?;
+    let whole = carried_out(&rt, &["tdelay", "--help"], MemoryFiles::new(rt.alloc(), &FILES), ROOM)?;
     assert_eq!(rt; whole.out.bytes(), HELP);
     assert_eq!(rt; whole.err.bytes(), b"".as_slice());
     assert_eq!(rt; whole.status, 0);
     let sim = carried_out(
         &rt,
         &["tdelay", "sim", "--help"],
-        MemoryFiles::new(&FILES),
+        MemoryFiles::new(rt.alloc(), &FILES),
         ROOM,
     )?;
     assert_eq!(rt; sim.out.bytes(), SIM_HELP);
@@ -403,7 +417,7 @@ fn failing_output(rt: HostRuntime) -> Result<(), Fail> {
     let report = b"unit 1 ns\ndefaulted 0\nlast y 3\ntime 3\n";
     let words = ["tdelay", "sim", "inverter.v", "0", "1"];
     for room in 0..report.len() {
-        let ended = carried_out(&rt, &words, MemoryFiles::new(&FILES), room)?;
+        let ended = carried_out(&rt, &words, MemoryFiles::new(rt.alloc(), &FILES), room)?;
         assert_eq!(rt; ended.out.bytes(), &report[..room]);
         assert_eq!(rt;
             ended.err.bytes(),
@@ -418,7 +432,7 @@ fn failing_output(rt: HostRuntime) -> Result<(), Fail> {
 #[test]
 fn failing_reader(rt: HostRuntime) -> Result<(), Fail> {
     let words = ["tdelay", "sim", "inverter.v", "0", "1"];
-    let files = MemoryFiles::new(&FILES).reading(INVERTER.len() - 1);
+    let files = MemoryFiles::new(rt.alloc(), &FILES).reading(INVERTER.len() - 1);
     let ended = carried_out(&rt, &words, files, ROOM)?;
     assert_eq!(rt; ended.out.bytes(), b"".as_slice());
     assert_eq!(rt;
@@ -443,7 +457,7 @@ fn bounds_of_cubes(rt: HostRuntime) -> Result<(), Fail> {
     ];
     for (file, out) in &free {
         let words = ["tdelay", "bound", *file];
-        let ended = carried_out(&rt, &words, MemoryFiles::new(&FILES), ROOM)?;
+        let ended = carried_out(&rt, &words, MemoryFiles::new(rt.alloc(), &FILES), ROOM)?;
         assert_eq!(rt; ended.out.bytes(), *out);
         assert_eq!(rt; ended.err.bytes(), b"".as_slice());
         assert_eq!(rt; ended.status, 0);
@@ -490,14 +504,14 @@ fn bounds_of_cubes(rt: HostRuntime) -> Result<(), Fail> {
         let words = [
             "tdelay", "bound", *file, "--first", *first, "--second", *second,
         ];
-        let ended = carried_out(&rt, &words, MemoryFiles::new(&FILES), ROOM)?;
+        let ended = carried_out(&rt, &words, MemoryFiles::new(rt.alloc(), &FILES), ROOM)?;
         assert_eq!(rt; ended.out.bytes(), *out);
         assert_eq!(rt; ended.err.bytes(), b"".as_slice());
         assert_eq!(rt; ended.status, 0);
     }
     // one option alone
     let words = ["tdelay", "bound", "slow.v", "--second", ".1"];
-    let ended = carried_out(&rt, &words, MemoryFiles::new(&FILES), ROOM)?;
+    let ended = carried_out(&rt, &words, MemoryFiles::new(rt.alloc(), &FILES), ROOM)?;
     assert_eq!(rt;
         ended.out.bytes(),
         b"unit 1 ns\ndefaulted 0\na 1\nt 1\nm 1\n".as_slice()
@@ -525,7 +539,7 @@ fn bad_cubes(rt: HostRuntime) -> Result<(), Fail> {
         let words = [
             "tdelay", "bound", *file, "--first", *first, "--second", *second,
         ];
-        let ended = carried_out(&rt, &words, MemoryFiles::new(&FILES), ROOM)?;
+        let ended = carried_out(&rt, &words, MemoryFiles::new(rt.alloc(), &FILES), ROOM)?;
         assert_eq!(rt; ended.out.bytes(), b"".as_slice());
         assert_eq!(rt; ended.err.bytes(), *err);
         assert_eq!(rt; ended.status, *status);

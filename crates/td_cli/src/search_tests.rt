@@ -1,0 +1,248 @@
+//! The commands `worst` and `check` as printed text.
+
+use super::*;
+use crate::tests::{Ended, FILES, INVERTER, LOST, ROOM, carried_out};
+use std::test::*;
+
+const INVERTER_CERTIFICATE: &[u8] =
+    b"tdelay-cert 1\ncircuit 1 1\ntime 3\nfrom 0\nto 1\nb a 3\n";
+
+const LOST_CERTIFICATE: &[u8] =
+    b"tdelay-cert 1\ncircuit 1 2\ntime 0\nfrom 0\nto 1\ns 0\ns 1\nb a 0\nb a 0\ns 1\nb a 0\nb a 0\n";
+
+/// Carries out a command over the circuits of the tests.
+fn run_words(rt: &HostRuntime, words: &[&str]) -> Result<Ended<'static>, Fail> {
+    carried_out(rt, words, MemoryFiles::new(rt.alloc(), &FILES), ROOM)
+}
+
+/// Exact answers, with a pair that has the time and the number of the tree's nodes.
+#[test]
+fn exact_answers(rt: HostRuntime) -> Result<(), Fail> {
+    let cases: [(&str, &[u8]); 8] = [
+        (
+            "inverter.v",
+            b"unit 1 ns\ndefaulted 0\nexact 3\nfrom 0\nto 1\nnodes 1\n",
+        ),
+        (
+            "lost.v",
+            b"unit 1 ns\ndefaulted 0\nexact 0\nfrom 0\nto 1\nnodes 7\n",
+        ),
+        (
+            "parted.v",
+            b"unit 1 ns\ndefaulted 0\nexact 2\nfrom 0\nto 1\nnodes 1\n",
+        ),
+        (
+            "late.v",
+            b"unit 1 ns\ndefaulted 0\nexact 4\nfrom 0\nto 1\nnodes 1\n",
+        ),
+        (
+            "reconvergent.v",
+            b"unit 1 ns\ndefaulted 0\nexact 3\nfrom 00\nto 11\nnodes 31\n",
+        ),
+        (
+            "hidden.v",
+            b"unit 1 ns\ndefaulted 0\nexact 5\nfrom 00\nto 11\nnodes 1\n",
+        ),
+        (
+            "c17.v",
+            b"unit 1 ns\ndefaulted 6\nexact 3\nfrom 00000\nto 11111\nnodes 1\n",
+        ),
+        (
+            "none.v",
+            b"unit 1 ns\ndefaulted 0\nexact 0\nfrom none\nto none\nnodes 1\n",
+        ),
+    ];
+    for (file, out) in &cases {
+        let ended = run_words(&rt, &["tdelay", "worst", *file])?;
+        assert_eq!(rt; ended.out.bytes(), *out);
+        assert_eq!(rt; ended.err.bytes(), b"".as_slice());
+        assert_eq!(rt; ended.status, 0);
+    }
+    Ok(())
+}
+
+/// Searches that a budget cuts short, with status 3, and no certificate.
+#[test]
+fn short_searches(rt: HostRuntime) -> Result<(), Fail> {
+    let cases: [(&str, &[u8], u8); 3] = [
+        (
+            "--budget=1",
+            b"unit 1 ns\ndefaulted 0\nbetween 0 3\ncause budget\nfrom 0\nto 1\nnodes 1\n",
+            3,
+        ),
+        (
+            "--budget=0",
+            b"unit 1 ns\ndefaulted 0\nbetween 0 3\ncause budget\nfrom 0\nto 1\nnodes 0\n",
+            3,
+        ),
+        (
+            "--budget=7",
+            b"unit 1 ns\ndefaulted 0\nexact 0\nfrom 0\nto 1\nnodes 7\n",
+            0,
+        ),
+    ];
+    for (budget, out, status) in &cases {
+        let words = ["tdelay", "worst", "lost.v", *budget, "--cert", "c"];
+        let ended = run_words(&rt, &words)?;
+        assert_eq!(rt; ended.out.bytes(), *out);
+        assert_eq!(rt; ended.status, *status);
+        assert_eq!(rt; ended.files.written().is_empty(), *status == 3);
+    }
+    Ok(())
+}
+
+/// A number outside its range is a bad command line.
+#[test]
+fn bad_numbers(rt: HostRuntime) -> Result<(), Fail> {
+    for option in [
+        "--budget=10000001",
+        "--workers=0",
+        "--workers=2",
+        "--default-fall=0",
+    ] {
+        let ended = run_words(&rt, &["tdelay", "worst", "lost.v", option])?;
+        assert_eq!(rt; ended.out.bytes(), b"".as_slice());
+        assert_eq!(rt; ended.status, 2);
+    }
+    Ok(())
+}
+
+/// The certificate of an exact answer, which the checker accepts.
+#[test]
+fn written_certificates(rt: HostRuntime) -> Result<(), Fail> {
+    let cases: [(&str, &[u8], &[u8], &[u8]); 2] = [
+        ("inverter.v", INVERTER, INVERTER_CERTIFICATE, b"accepted 3\n"),
+        ("lost.v", LOST, LOST_CERTIFICATE, b"accepted 0\n"),
+    ];
+    for (file, netlist, certificate, accepted) in &cases {
+        let ended = run_words(&rt, &["tdelay", "worst", *file, "--cert", "c"])?;
+        assert_eq!(rt; ended.status, 0);
+        let written = ended.files.written().first().ok_or("a certificate")?;
+        assert_eq!(rt; written.name(), b"c".as_slice());
+        assert_eq!(rt; written.bytes(), *certificate);
+        let both = [("t.v", *netlist), ("c", written.bytes())];
+        let files = MemoryFiles::new(rt.alloc(), &both);
+        let checked = carried_out(&rt, &["tdelay", "check", "t.v", "c"], files, ROOM)?;
+        assert_eq!(rt; checked.out.bytes(), *accepted);
+        assert_eq!(rt; checked.err.bytes(), b"".as_slice());
+        assert_eq!(rt; checked.status, 0);
+    }
+    Ok(())
+}
+
+/// A certificate whose writer fails after each number of bytes: the report went out, and the failure is told.
+#[test]
+fn failing_certificates(rt: HostRuntime) -> Result<(), Fail> {
+    let words = ["tdelay", "worst", "inverter.v", "--cert", "c"];
+    let report = b"unit 1 ns\ndefaulted 0\nexact 3\nfrom 0\nto 1\nnodes 1\n";
+    for room in 0..INVERTER_CERTIFICATE.len() {
+        let files = MemoryFiles::new(rt.alloc(), &FILES).writing(room);
+        let ended = carried_out(&rt, &words, files, ROOM)?;
+        assert_eq!(rt; ended.out.bytes(), report.as_slice());
+        assert_eq!(rt; ended.err.bytes(), b"tdelay: cannot write c\n".as_slice());
+        assert_eq!(rt; ended.status, 5);
+    }
+    // Where standard output fails, the certificate isn't begun.
+    for room in 0..report.len() {
+        let files = MemoryFiles::new(rt.alloc(), &FILES);
+        let ended = carried_out(&rt, &words, files, room)?;
+        assert_eq!(rt; ended.err.bytes(), b"tdelay: cannot write stdout\n".as_slice());
+        assert_eq!(rt; ended.files.written().is_empty(), true);
+        assert_eq!(rt; ended.status, 5);
+    }
+    Ok(())
+}
+
+/// Checks a certificate's text of a netlist's: what is printed, why none is, and the status.
+fn checks(
+    rt: &HostRuntime,
+    netlist: &[u8],
+    certificate: &[u8],
+    out: &[u8],
+    err: &[u8],
+    status: u8,
+) -> Result<(), Fail> {
+    let both = [("t.v", netlist), ("c", certificate)];
+    let files = MemoryFiles::new(rt.alloc(), &both);
+    let ended = carried_out(rt, &["tdelay", "check", "t.v", "c"], files, ROOM)?;
+    assert_eq!(rt; ended.out.bytes(), out);
+    assert_eq!(rt; ended.err.bytes(), err);
+    assert_eq!(rt; ended.status, status);
+    Ok(())
+}
+
+/// Certificates that are refused, by their first bad line, and texts that are none.
+#[test]
+fn refused_certificates(rt: HostRuntime) -> Result<(), Fail> {
+    let cases: [(&[u8], &[u8], &[u8]); 6] = [
+        (
+            INVERTER,
+            b"tdelay-cert 1\ncircuit 1 1\ntime 3\nfrom 0\nto 1\nb a 2\n",
+            b"refused 3 LeafBound line 6\n",
+        ),
+        (
+            INVERTER,
+            b"tdelay-cert 1\ncircuit 1 1\ntime 3\nfrom 0\nto 1\nb a 4\n",
+            b"refused 4 LeafAboveTime line 6\n",
+        ),
+        (
+            INVERTER,
+            b"tdelay-cert 1\ncircuit 1 1\ntime 3\nfrom 0\nto 1\np 3\n",
+            b"refused 6 NotAPoint line 6\n",
+        ),
+        (
+            INVERTER,
+            b"tdelay-cert 1\ncircuit 1 1\ntime 2\nfrom 0\nto 1\nb a 3\n",
+            b"refused 2 PairTime\n",
+        ),
+        (LOST, INVERTER_CERTIFICATE, b"refused 7 OtherCircuit\n"),
+        (
+            LOST,
+            b"tdelay-cert 1\ncircuit 1 2\ntime 0\nfrom 0\nto 1\ns 0\ns 0\nb a 0\nb a 0\ns 1\nb a 0\nb a 0\n",
+            b"refused 5 BadPosition line 7\n",
+        ),
+    ];
+    for (netlist, certificate, out) in &cases {
+        checks(&rt, *netlist, *certificate, *out, b"", 4)?;
+    }
+    let faults: [(&[u8], &[u8], &[u8]); 4] = [
+        (
+            LOST,
+            b"tdelay-cert 1\ncircuit 1 2\n",
+            b"tdelay: certificate fault 2 UnexpectedEnd at line 3\n",
+        ),
+        (
+            INVERTER,
+            b"tdelay-cert 1\ncircuit 1 1\ntime 3\nfrom 0\nto 1\nb a 3\nb a 3\n",
+            b"tdelay: certificate fault 3 Trailing at line 7\n",
+        ),
+        (
+            INVERTER,
+            b"tdelay-cert 9\n",
+            b"tdelay: certificate fault 5 Version at line 1\n",
+        ),
+        // The netlist is judged before the certificate.
+        (
+            b"module t(a);\n",
+            b"tdelay-cert 9\n",
+            b"tdelay: netlist fault 2 UnexpectedEnd at line 2\n",
+        ),
+    ];
+    for (netlist, certificate, err) in &faults {
+        checks(&rt, *netlist, *certificate, b"", *err, 1)?;
+    }
+    Ok(())
+}
+
+/// Both files are read before anything is judged.
+#[test]
+fn unread_certificates(rt: HostRuntime) -> Result<(), Fail> {
+    let ended = run_words(&rt, &["tdelay", "check", "two.v", "absent"])?;
+    assert_eq!(rt; ended.err.bytes(), b"tdelay: cannot read absent\n".as_slice());
+    assert_eq!(rt; ended.status, 5);
+    let ended = run_words(&rt, &["tdelay", "check", "absent.v", "absent"])?;
+    assert_eq!(rt; ended.err.bytes(), b"tdelay: cannot read absent.v\n".as_slice());
+    assert_eq!(rt; ended.out.bytes(), b"".as_slice());
+    assert_eq!(rt; ended.status, 5);
+    Ok(())
+}
