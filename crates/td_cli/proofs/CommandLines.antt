@@ -1,8 +1,8 @@
 -- What the parser of command lines gives, by the rows of a command's matches.
-use Rattle.std.proofs.Common.{rules, ◌≡◌, ◌∙◌, ◌&&◌, ◌<◌, ℕ, Bool, true, false, not, List, codes, Option, Some, None, Result, Ok, Err, IfSome, IfNone, ap, sym, refl, arith}
-use Rattle.std.specs.Str.Parse.{IsNumeral, digits_value, without_leading_plus, ParsesUnsigned}
+use Rattle.std.proofs.Common.{◌≡◌, ◌&&◌, ◌<◌, ℕ, Bool, true, false, not, List, Option, Some, None, Result, IfSome, IfNone, sym, refl}
+use Rattle.std.specs.Str.Parse.{ParsesUnsigned}
 use Rattle.clap.specs.Words.{Row, Text, ReadsOne, one_of}
-use Rattle.td_cli.specs.CommandLine.{IsNumber, HasNumber}
+use Rattle.td_cli.specs.CommandLine.{HasNumber}
 
 -- a command without global arguments, of which the parser knows that it is plain
 pub third_of_plain : (groups external globals rest : Bool) → (groups && (not external && (not globals && rest))) ≡ true → globals ≡ false

@@ -204,7 +204,7 @@ fn check_file<F: Files, O: Sink, E: Sink>(
 ) -> Status
     ensures { EndsOnFile (F.holds files.old) name.now
         (λ certificate. CheckEnds result text.now default certificate
-            (O.output out.old) (O.output out.new) (E.output err.old) (E.output err.new)) result
+        (O.output out.old) (O.output out.new) (E.output err.old) (E.output err.new)) result
         (O.output out.old) (O.output out.new) (E.output err.old) (E.output err.new) }
 {
     match files.read(alloc, name) {

@@ -2,17 +2,18 @@
 
 use super::*;
 use crate::tests::{Ended, FILES, INVERTER, LOST, ROOM, carried_out};
+use std::alloc::Global;
+use std::process::Abort;
 use std::test::*;
 
-const INVERTER_CERTIFICATE: &[u8] =
-    b"tdelay-cert 1\ncircuit 1 1\ntime 3\nfrom 0\nto 1\nb a 3\n";
+const INVERTER_CERTIFICATE: &[u8] = b"tdelay-cert 1\ncircuit 1 1\ntime 3\nfrom 0\nto 1\nb a 3\n";
 
 const LOST_CERTIFICATE: &[u8] =
     b"tdelay-cert 1\ncircuit 1 2\ntime 0\nfrom 0\nto 1\ns 0\ns 1\nb a 0\nb a 0\ns 1\nb a 0\nb a 0\n";
 
 /// Carries out a command over the circuits of the tests.
-fn run_words(rt: &HostRuntime, words: &[&str]) -> Result<Ended<'static>, Fail> {
-    carried_out(rt, words, MemoryFiles::new(rt.alloc(), &FILES), ROOM)
+fn run_words(alloc: Global, words: &[&str]) -> Result<Ended<'static>, Fail> {
+    carried_out(alloc, words, MemoryFiles::new(alloc, &FILES), ROOM)
 }
 
 /// Exact answers, with a pair that has the time and the number of the tree's nodes.
@@ -53,7 +54,7 @@ fn exact_answers(rt: HostRuntime) -> Result<(), Fail> {
         ),
     ];
     for (file, out) in &cases {
-        let ended = run_words(&rt, &["tdelay", "worst", *file])?;
+        let ended = run_words(rt.alloc(), &["tdelay", "worst", *file])?;
         assert_eq!(rt; ended.out.bytes(), *out);
         assert_eq!(rt; ended.err.bytes(), b"".as_slice());
         assert_eq!(rt; ended.status, 0);
@@ -83,7 +84,7 @@ fn short_searches(rt: HostRuntime) -> Result<(), Fail> {
     ];
     for (budget, out, status) in &cases {
         let words = ["tdelay", "worst", "lost.v", *budget, "--cert", "c"];
-        let ended = run_words(&rt, &words)?;
+        let ended = run_words(rt.alloc(), &words)?;
         assert_eq!(rt; ended.out.bytes(), *out);
         assert_eq!(rt; ended.status, *status);
         assert_eq!(rt; ended.files.written().is_empty(), *status == 3);
@@ -100,7 +101,7 @@ fn bad_numbers(rt: HostRuntime) -> Result<(), Fail> {
         "--workers=2",
         "--default-fall=0",
     ] {
-        let ended = run_words(&rt, &["tdelay", "worst", "lost.v", option])?;
+        let ended = run_words(rt.alloc(), &["tdelay", "worst", "lost.v", option])?;
         assert_eq!(rt; ended.out.bytes(), b"".as_slice());
         assert_eq!(rt; ended.status, 2);
     }
@@ -111,21 +112,29 @@ fn bad_numbers(rt: HostRuntime) -> Result<(), Fail> {
 #[test]
 fn written_certificates(rt: HostRuntime) -> Result<(), Fail> {
     let cases: [(&str, &[u8], &[u8], &[u8]); 2] = [
-        ("inverter.v", INVERTER, INVERTER_CERTIFICATE, b"accepted 3\n"),
+        (
+            "inverter.v",
+            INVERTER,
+            INVERTER_CERTIFICATE,
+            b"accepted 3\n",
+        ),
         ("lost.v", LOST, LOST_CERTIFICATE, b"accepted 0\n"),
     ];
     for (file, netlist, certificate, accepted) in &cases {
-        let ended = run_words(&rt, &["tdelay", "worst", *file, "--cert", "c"])?;
+        let ended = run_words(rt.alloc(), &["tdelay", "worst", *file, "--cert", "c"])?;
         assert_eq!(rt; ended.status, 0);
         let written = ended.files.written().first().ok_or("a certificate")?;
         assert_eq!(rt; written.name(), b"c".as_slice());
         assert_eq!(rt; written.bytes(), *certificate);
-        let both = [("t.v", *netlist), ("c", written.bytes())];
-        let files = MemoryFiles::new(rt.alloc(), &both);
-        let checked = carried_out(&rt, &["tdelay", "check", "t.v", "c"], files, ROOM)?;
-        assert_eq!(rt; checked.out.bytes(), *accepted);
-        assert_eq!(rt; checked.err.bytes(), b"".as_slice());
-        assert_eq!(rt; checked.status, 0);
+        checks(
+            &rt,
+            rt.alloc(),
+            *netlist,
+            written.bytes(),
+            *accepted,
+            b"",
+            0,
+        )?;
     }
     Ok(())
 }
@@ -137,7 +146,7 @@ fn failing_certificates(rt: HostRuntime) -> Result<(), Fail> {
     let report = b"unit 1 ns\ndefaulted 0\nexact 3\nfrom 0\nto 1\nnodes 1\n";
     for room in 0..INVERTER_CERTIFICATE.len() {
         let files = MemoryFiles::new(rt.alloc(), &FILES).writing(room);
-        let ended = carried_out(&rt, &words, files, ROOM)?;
+        let ended = carried_out(rt.alloc(), &words, files, ROOM)?;
         assert_eq!(rt; ended.out.bytes(), report.as_slice());
         assert_eq!(rt; ended.err.bytes(), b"tdelay: cannot write c\n".as_slice());
         assert_eq!(rt; ended.status, 5);
@@ -145,8 +154,11 @@ fn failing_certificates(rt: HostRuntime) -> Result<(), Fail> {
     // Where standard output fails, the certificate isn't begun.
     for room in 0..report.len() {
         let files = MemoryFiles::new(rt.alloc(), &FILES);
-        let ended = carried_out(&rt, &words, files, room)?;
-        assert_eq!(rt; ended.err.bytes(), b"tdelay: cannot write stdout\n".as_slice());
+        let ended = carried_out(rt.alloc(), &words, files, room)?;
+        assert_eq!(rt;
+            ended.err.bytes(),
+            b"tdelay: cannot write stdout\n".as_slice()
+        );
         assert_eq!(rt; ended.files.written().is_empty(), true);
         assert_eq!(rt; ended.status, 5);
     }
@@ -155,7 +167,8 @@ fn failing_certificates(rt: HostRuntime) -> Result<(), Fail> {
 
 /// Checks a certificate's text of a netlist's: what is printed, why none is, and the status.
 fn checks(
-    rt: &HostRuntime,
+    rt: &impl Abort,
+    alloc: Global,
     netlist: &[u8],
     certificate: &[u8],
     out: &[u8],
@@ -163,8 +176,8 @@ fn checks(
     status: u8,
 ) -> Result<(), Fail> {
     let both = [("t.v", netlist), ("c", certificate)];
-    let files = MemoryFiles::new(rt.alloc(), &both);
-    let ended = carried_out(rt, &["tdelay", "check", "t.v", "c"], files, ROOM)?;
+    let files = MemoryFiles::new(alloc, &both);
+    let ended = carried_out(alloc, &["tdelay", "check", "t.v", "c"], files, ROOM)?;
     assert_eq!(rt; ended.out.bytes(), out);
     assert_eq!(rt; ended.err.bytes(), err);
     assert_eq!(rt; ended.status, status);
@@ -203,7 +216,7 @@ fn refused_certificates(rt: HostRuntime) -> Result<(), Fail> {
         ),
     ];
     for (netlist, certificate, out) in &cases {
-        checks(&rt, *netlist, *certificate, *out, b"", 4)?;
+        checks(&rt, rt.alloc(), *netlist, *certificate, *out, b"", 4)?;
     }
     let faults: [(&[u8], &[u8], &[u8]); 4] = [
         (
@@ -229,7 +242,7 @@ fn refused_certificates(rt: HostRuntime) -> Result<(), Fail> {
         ),
     ];
     for (netlist, certificate, err) in &faults {
-        checks(&rt, *netlist, *certificate, b"", *err, 1)?;
+        checks(&rt, rt.alloc(), *netlist, *certificate, b"", *err, 1)?;
     }
     Ok(())
 }
@@ -237,11 +250,17 @@ fn refused_certificates(rt: HostRuntime) -> Result<(), Fail> {
 /// Both files are read before anything is judged.
 #[test]
 fn unread_certificates(rt: HostRuntime) -> Result<(), Fail> {
-    let ended = run_words(&rt, &["tdelay", "check", "two.v", "absent"])?;
-    assert_eq!(rt; ended.err.bytes(), b"tdelay: cannot read absent\n".as_slice());
+    let ended = run_words(rt.alloc(), &["tdelay", "check", "two.v", "absent"])?;
+    assert_eq!(rt;
+        ended.err.bytes(),
+        b"tdelay: cannot read absent\n".as_slice()
+    );
     assert_eq!(rt; ended.status, 5);
-    let ended = run_words(&rt, &["tdelay", "check", "absent.v", "absent"])?;
-    assert_eq!(rt; ended.err.bytes(), b"tdelay: cannot read absent.v\n".as_slice());
+    let ended = run_words(rt.alloc(), &["tdelay", "check", "absent.v", "absent"])?;
+    assert_eq!(rt;
+        ended.err.bytes(),
+        b"tdelay: cannot read absent.v\n".as_slice()
+    );
     assert_eq!(rt; ended.out.bytes(), b"".as_slice());
     assert_eq!(rt; ended.status, 5);
     Ok(())

@@ -1,4 +1,5 @@
 use super::*;
+use std::alloc::Global;
 use std::test::*;
 use td_gates::MemorySink;
 
@@ -15,12 +16,11 @@ pub const ROOM: usize = 1 << 16;
 
 /// Carries out a command over files in memory. Standard output takes so many bytes, some at a time.
 pub fn carried_out<'a>(
-    rt: &HostRuntime,
+    alloc: Global,
     words: &[&str],
     files: MemoryFiles<'a>,
     room: usize,
 ) -> Result<Ended<'a>, Fail> {
-    let alloc = rt.alloc();
     let mut files = files;
     let mut out = MemorySink::new(alloc, room, 7)?;
     let mut err = MemorySink::new(alloc, ROOM, 7)?;
@@ -33,7 +33,8 @@ pub fn carried_out<'a>(
     })
 }
 
-pub const INVERTER: &[u8] = b"module t(a, y);\ninput a;\noutput y;\nnot #(2,3) g(y,a);\nendmodule\n";
+pub const INVERTER: &[u8] =
+    b"module t(a, y);\ninput a;\noutput y;\nnot #(2,3) g(y,a);\nendmodule\n";
 
 const NOR: &[u8] = b"module t(a, y);\ninput a;\noutput y;\nnor (y,a,a);\nendmodule\n";
 
@@ -51,8 +52,7 @@ const NO_INPUT: &[u8] = b"module t;\nendmodule\n";
 
 const ATTRIBUTED: &[u8] = b"module t(a);\n(* x *) input a;\nendmodule\n";
 
-const ASSIGNED: &[u8] =
-    b"module t(a, y);\ninput a;\noutput y;\nassign y = a;\nendmodule\n";
+const ASSIGNED: &[u8] = b"module t(a, y);\ninput a;\noutput y;\nassign y = a;\nendmodule\n";
 
 /// A pulse of one moment, through an `and` of delay 2 and of delay 1, and a late falling edge.
 pub const LOST: &[u8] =
@@ -264,7 +264,12 @@ fn printed_runs(rt: HostRuntime) -> Result<(), Fail> {
         ),
     ];
     for (words, out, err, status) in &cases {
-        let ended = carried_out(&rt, words, MemoryFiles::new(rt.alloc(), &FILES), ROOM)?;
+        let ended = carried_out(
+            rt.alloc(),
+            words,
+            MemoryFiles::new(rt.alloc(), &FILES),
+            ROOM,
+        )?;
         assert_eq!(rt; ended.out.bytes(), *out);
         assert_eq!(rt; ended.err.bytes(), *err);
         assert_eq!(rt; ended.status, *status);
@@ -286,7 +291,12 @@ fn default_delays(rt: HostRuntime) -> Result<(), Fail> {
         "1",
         "0",
     ];
-    let rise = carried_out(&rt, &words, MemoryFiles::new(rt.alloc(), &FILES), ROOM)?;
+    let rise = carried_out(
+        rt.alloc(),
+        &words,
+        MemoryFiles::new(rt.alloc(), &FILES),
+        ROOM,
+    )?;
     assert_eq!(rt;
         rise.out.bytes(),
         b"unit 1 ns\ndefaulted 1\nlast y 20\ntime 20\n".as_slice()
@@ -299,7 +309,12 @@ fn default_delays(rt: HostRuntime) -> Result<(), Fail> {
         "0",
         "1",
     ];
-    let fall = carried_out(&rt, &words, MemoryFiles::new(rt.alloc(), &FILES), ROOM)?;
+    let fall = carried_out(
+        rt.alloc(),
+        &words,
+        MemoryFiles::new(rt.alloc(), &FILES),
+        ROOM,
+    )?;
     assert_eq!(rt;
         fall.out.bytes(),
         b"unit 1 ns\ndefaulted 1\nlast y 1000000000\ntime 1000000000\n".as_slice()
@@ -355,7 +370,12 @@ For more information, try '--help'.
         ),
     ];
     for (words, err) in &cases {
-        let ended = carried_out(&rt, words, MemoryFiles::new(rt.alloc(), &FILES), ROOM)?;
+        let ended = carried_out(
+            rt.alloc(),
+            words,
+            MemoryFiles::new(rt.alloc(), &FILES),
+            ROOM,
+        )?;
         assert_eq!(rt; ended.out.bytes(), b"".as_slice());
         assert_eq!(rt; ended.err.bytes(), *err);
         assert_eq!(rt; ended.status, 2);
@@ -396,12 +416,17 @@ Options:
 /// Help goes to standard output, with status 0.
 #[test]
 fn help(rt: HostRuntime) -> Result<(), Fail> {
-    let whole = carried_out(&rt, &["tdelay", "--help"], MemoryFiles::new(rt.alloc(), &FILES), ROOM)?;
+    let whole = carried_out(
+        rt.alloc(),
+        &["tdelay", "--help"],
+        MemoryFiles::new(rt.alloc(), &FILES),
+        ROOM,
+    )?;
     assert_eq!(rt; whole.out.bytes(), HELP);
     assert_eq!(rt; whole.err.bytes(), b"".as_slice());
     assert_eq!(rt; whole.status, 0);
     let sim = carried_out(
-        &rt,
+        rt.alloc(),
         &["tdelay", "sim", "--help"],
         MemoryFiles::new(rt.alloc(), &FILES),
         ROOM,
@@ -417,7 +442,12 @@ fn failing_output(rt: HostRuntime) -> Result<(), Fail> {
     let report = b"unit 1 ns\ndefaulted 0\nlast y 3\ntime 3\n";
     let words = ["tdelay", "sim", "inverter.v", "0", "1"];
     for room in 0..report.len() {
-        let ended = carried_out(&rt, &words, MemoryFiles::new(rt.alloc(), &FILES), room)?;
+        let ended = carried_out(
+            rt.alloc(),
+            &words,
+            MemoryFiles::new(rt.alloc(), &FILES),
+            room,
+        )?;
         assert_eq!(rt; ended.out.bytes(), &report[..room]);
         assert_eq!(rt;
             ended.err.bytes(),
@@ -433,7 +463,7 @@ fn failing_output(rt: HostRuntime) -> Result<(), Fail> {
 fn failing_reader(rt: HostRuntime) -> Result<(), Fail> {
     let words = ["tdelay", "sim", "inverter.v", "0", "1"];
     let files = MemoryFiles::new(rt.alloc(), &FILES).reading(INVERTER.len() - 1);
-    let ended = carried_out(&rt, &words, files, ROOM)?;
+    let ended = carried_out(rt.alloc(), &words, files, ROOM)?;
     assert_eq!(rt; ended.out.bytes(), b"".as_slice());
     assert_eq!(rt;
         ended.err.bytes(),
@@ -457,7 +487,12 @@ fn bounds_of_cubes(rt: HostRuntime) -> Result<(), Fail> {
     ];
     for (file, out) in &free {
         let words = ["tdelay", "bound", *file];
-        let ended = carried_out(&rt, &words, MemoryFiles::new(rt.alloc(), &FILES), ROOM)?;
+        let ended = carried_out(
+            rt.alloc(),
+            &words,
+            MemoryFiles::new(rt.alloc(), &FILES),
+            ROOM,
+        )?;
         assert_eq!(rt; ended.out.bytes(), *out);
         assert_eq!(rt; ended.err.bytes(), b"".as_slice());
         assert_eq!(rt; ended.status, 0);
@@ -504,14 +539,24 @@ fn bounds_of_cubes(rt: HostRuntime) -> Result<(), Fail> {
         let words = [
             "tdelay", "bound", *file, "--first", *first, "--second", *second,
         ];
-        let ended = carried_out(&rt, &words, MemoryFiles::new(rt.alloc(), &FILES), ROOM)?;
+        let ended = carried_out(
+            rt.alloc(),
+            &words,
+            MemoryFiles::new(rt.alloc(), &FILES),
+            ROOM,
+        )?;
         assert_eq!(rt; ended.out.bytes(), *out);
         assert_eq!(rt; ended.err.bytes(), b"".as_slice());
         assert_eq!(rt; ended.status, 0);
     }
     // one option alone
     let words = ["tdelay", "bound", "slow.v", "--second", ".1"];
-    let ended = carried_out(&rt, &words, MemoryFiles::new(rt.alloc(), &FILES), ROOM)?;
+    let ended = carried_out(
+        rt.alloc(),
+        &words,
+        MemoryFiles::new(rt.alloc(), &FILES),
+        ROOM,
+    )?;
     assert_eq!(rt;
         ended.out.bytes(),
         b"unit 1 ns\ndefaulted 0\na 1\nt 1\nm 1\n".as_slice()
@@ -539,7 +584,12 @@ fn bad_cubes(rt: HostRuntime) -> Result<(), Fail> {
         let words = [
             "tdelay", "bound", *file, "--first", *first, "--second", *second,
         ];
-        let ended = carried_out(&rt, &words, MemoryFiles::new(rt.alloc(), &FILES), ROOM)?;
+        let ended = carried_out(
+            rt.alloc(),
+            &words,
+            MemoryFiles::new(rt.alloc(), &FILES),
+            ROOM,
+        )?;
         assert_eq!(rt; ended.out.bytes(), b"".as_slice());
         assert_eq!(rt; ended.err.bytes(), *err);
         assert_eq!(rt; ended.status, *status);

@@ -1,4 +1,4 @@
-use Rattle.std.proofs.Common.{rules, ◌<◌, ◌≤◌, arith}
+use Rattle.std.proofs.Common.{rules, ◌<◌, ◌≤◌}
 use Rattle.td_cli.proofs.command.budget.Goals as goal
 
 pub returns-in_err-budget : goal.returns-in_err-budget

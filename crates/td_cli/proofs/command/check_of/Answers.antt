@@ -1,5 +1,5 @@
-use Rattle.std.proofs.Common.{rules, ◌≡◌, ◌∙◌, sym, codes, Some, None}
-use Rattle.clap.specs.Words.{found_of, rows_of}
+use Rattle.std.proofs.Common.{◌≡◌, ◌∙◌, sym, codes, Some, None}
+use Rattle.clap.specs.Words.{found_of}
 use Rattle.clap.proofs.WalkLemmas.{first_value-rows}
 use Rattle.td_cli.proofs.command.check_of.Goals as goal
 
@@ -10,7 +10,7 @@ returns-in_err-file c = rw c.from_residual.ensures (λ asked has.
 pub returns-in_err-certificate : goal.returns-in_err-certificate
 returns-in_err-certificate c = rw c.from_residual-in_err-certificate.ensures (λ asked has.
     let no : None ≡ Some asked.certificate.now =
-        c.in_err-certificate.ensures ∙ first_value-rows (found_of c.args.matches.now) (codes "CERT") ∙ has.certificate in cc)
+    c.in_err-certificate.ensures ∙ first_value-rows (found_of c.args.matches.now) (codes "CERT") ∙ has.certificate in cc)
 
 pub returns-in_err-default : goal.returns-in_err-default
 returns-in_err-default c = rw c.from_residual-in_err-default.ensures (λ asked has. c.in_err-default.ensures _ has.default)

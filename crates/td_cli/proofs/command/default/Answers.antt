@@ -1,4 +1,4 @@
-use Rattle.std.proofs.Common.{rules, ◌<◌, arith}
+use Rattle.std.proofs.Common.{rules, ◌<◌}
 use Rattle.td_cli.proofs.command.default.Goals as goal
 
 pub returns-in_err-rise : goal.returns-in_err-rise

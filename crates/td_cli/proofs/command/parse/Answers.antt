@@ -1,4 +1,4 @@
-use Rattle.std.proofs.Common.{rules, ◌≡◌, ◌∙◌, refl, ap, true, map, subst}
+use Rattle.std.proofs.Common.{◌≡◌, ◌∙◌, refl, ap, true, map, subst}
 use Rattle.clap.specs.Words.{App, is_simple, subcommand_of, takes}
 use Rattle.td_cli.specs.CommandLine.{program, IsAnswered, EnteredAsks}
 use Rattle.td_cli.proofs.command.parse.Goals as goal

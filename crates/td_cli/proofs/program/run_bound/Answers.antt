@@ -1,4 +1,4 @@
-use Rattle.std.proofs.Common.{rules, inr}
+use Rattle.std.proofs.Common.{inr}
 use Rattle.td_cli.proofs.program.run_bound.Goals as goal
 
 pub returns-in-Err : goal.returns-in-Err

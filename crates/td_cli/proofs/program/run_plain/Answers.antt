@@ -1,4 +1,4 @@
-use Rattle.std.proofs.Common.{rules, map}
+use Rattle.std.proofs.Common.{map}
 use Rattle.td_cli.proofs.Programs.{refused_words}
 use Rattle.td_cli.proofs.program.run_plain.Goals as goal
 

@@ -1,4 +1,4 @@
-use Rattle.std.proofs.Common.{rules, sym, subst, inl, inr}
+use Rattle.std.proofs.Common.{sym, subst, inl, inr}
 use Rattle.td_cli.proofs.program.run_worst.Goals as goal
 
 pub returns-in-Err : goal.returns-in-Err

@@ -1,4 +1,4 @@
-use Rattle.std.proofs.Common.{rules, refl, inl, inr}
+use Rattle.std.proofs.Common.{refl, inl, inr}
 use Rattle.td_cli.proofs.program.tell_error.Goals as goal
 
 pub returns-then-use_stderr-clause-told : goal.returns-then-use_stderr-clause-told

@@ -1,4 +1,4 @@
-use Rattle.std.proofs.Common.{rules, codes}
+use Rattle.std.proofs.Common.{codes}
 use Rattle.std.proofs.lemmas.Result.{IfOk-weaker}
 use Rattle.td_cli.specs.Reports.{newline}
 use Rattle.td_cli.proofs.Outputs.{three_pushed}
@@ -7,5 +7,5 @@ use Rattle.td_cli.proofs.program.unwritten_line.Goals as goal
 pub returns : goal.returns
 returns c = IfOk-weaker c.push-2.result _ _
     (λ done third. three_pushed c.args.text.now (codes "tdelay: cannot write ") c.args.file.now newline _ _ _
-        c.in_ok-push.ensures c.in_ok-word.ensures third)
+    c.in_ok-push.ensures c.in_ok-word.ensures third)
     c.push-2.ensures

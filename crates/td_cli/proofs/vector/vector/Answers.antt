@@ -1,4 +1,4 @@
-use Rattle.std.proofs.Common.{◌≡◌, ◌<◌, arith, map, List}
+use Rattle.std.proofs.Common.{arith}
 use Rattle.td_cli.proofs.Vectors.{no_vector, if_none}
 use Rattle.td_cli.proofs.vector.vector.Goals as goal
 
