@@ -117,7 +117,16 @@ buf #3 (w0,a); xor #(1,4) (w1,w0,a); or #1 (w2,w1,b); or #1 (w3,b,w1); and #2 (z
     tree: "s 0\ns 1\nb a 0\nb m 3\nb a 11\n",
 };
 
-const ALL: [Searched; 9] = [
+const CONSTANTS: Searched = Searched {
+    netlist: "module t (y); output y; and #1 g(y,1'b1,1'b1); endmodule",
+    circuit: "0 1",
+    time: 0,
+    from: "none",
+    to: "none",
+    tree: "b a 0\n",
+};
+
+const ALL: [Searched; 10] = [
     INVERTER,
     LOST_PULSE,
     EQUAL_PULSE,
@@ -127,6 +136,7 @@ const ALL: [Searched; 9] = [
     SIX_NAND_GATES,
     OR_WITH_SLOW_ARM,
     BOTH_DOMAINS,
+    CONSTANTS,
 ];
 
 /// What the checker says of the certificate with another tree.
