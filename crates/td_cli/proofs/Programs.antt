@@ -1,28 +1,33 @@
 -- How the program ends.
-use Rattle.std.proofs.Common.{◌≡◌, ◌⊎◌, ◌∙◌, ℕ, Bool, true, false, List, refl, sym, subst, inl, inr}
+use Rattle.std.proofs.Common.{◌≡◌, ◌⊎◌, ◌∙◌, ℕ, Bool, true, false, List, Option, None, refl, sym, subst, inl, inr}
 use Rattle.clap.specs.Words.{takes}
 use Rattle.td_gates.specs.Output.{Output, Sent}
 use Rattle.td_gates.specs.declared.timing.Delay.{Delay}
 use Rattle.td_checker.specs.declared.verdict.Verdict.{Verdict}
 use Rattle.td_checker.specs.declared.verdict.Verdict.TheVariants as verdict
 use Rattle.td_cli.specs.declared.status.Status.{Status}
-use Rattle.td_cli.specs.declared.status.Status.TheVariants.{Done, Rejected}
+use Rattle.td_cli.specs.declared.status.Status.TheVariants.{Done, Refused, Rejected, Device}
+use Rattle.td_cli.specs.declared.refusal.Refusal.{Refusal}
+use Rattle.td_cli.specs.declared.refusal.Refusal.TheVariants as refusal
+use Rattle.td_cli.specs.Refusals.{refusal_text}
+use Rattle.td_cli.specs.Outcomes.{HasNoCircuit}
+use Rattle.td_cli.specs.Written.{WrittenFile}
 use Rattle.td_cli.specs.CheckReports.{ending_of, IsCheckReport}
 use Rattle.td_cli.specs.CommandLine.{program}
-use Rattle.td_cli.specs.Commands.{Disk, CheckEnds, IsOutOfMemory, TellsText, ProgramEnds}
+use Rattle.td_cli.specs.Commands.{Disk, disk_of, status_of, Tells, IsTold, CheckEnds, WorstEnds, WorstOf, IsOutOfMemory, TellsText, ProgramEnds}
 
 -- words that were refused are no command line that the program takes, unless memory ran out
-pub refused_words : (disk : Disk) (words : List (List ℕ)) (status : Status) (out_old out_new err_old err_new : Output)
+pub refused_words : (disk : Disk) → disk.kept_new ≡ disk.kept_old → (words : List (List ℕ)) (status : Status) (out_old out_new err_old err_new : Output)
     → (takes program words ≡ true → IsOutOfMemory status out_old out_new err_old err_new)
     → (IsOutOfMemory status out_old out_new err_old err_new ⊎ TellsText status out_old out_new err_old err_new)
     → ProgramEnds disk words status out_old out_new err_old err_new
-refused_words disk words status out_old out_new err_old err_new memory told = go (takes program words) refl
+refused_words disk kept words status out_old out_new err_old err_new memory told = go (takes program words) refl
   where
     go : (taken : Bool) → takes program words ≡ taken → ProgramEnds disk words status out_old out_new err_old err_new
-    go true e = inr (inr (inl (memory e)))
+    go true e = inr (kept, inr (inl (memory e)))
     go false e = elim told [
-      | inl ran_out ↦ inr (inr (inl ran_out))
-      | inr text ↦ inr (inl (e, text))
+      | inl ran_out ↦ inr (kept, inr (inl ran_out))
+      | inr text ↦ inr (kept, inl (e, text))
     ]
 
 -- the program ends with a verdict as done or as rejected
@@ -49,3 +54,43 @@ verdict_sent text default certificate ending report out_old out_new err is sent 
           let ends : ending ≡ Rejected = is.ends ∙ rejected in
           subst Goal (sym ends) (λ as_rejected. record { report = report; is = as_rejected; sent = sent; silent = refl }) is
     ]
+
+-- want of memory was told
+worst_lacks_memory : (text : List ℕ) (default : Delay) (budget : ℕ) (status : Status) (out err_old err_new : Output) → status ≡ Device
+    → Tells err_old err_new (refusal_text refusal.OutOfMemory) → WorstEnds status text default budget None out out err_old err_new
+worst_lacks_memory text default budget status out err_old err_new ends told =
+    subst (λ ended. WorstEnds ended text default budget None out out err_old err_new) (sym ends) (inl (record { nothing = refl; told = told }), refl)
+
+-- a reason for which there is no circuit was told
+worst_has_no_circuit : (text : List ℕ) (default : Delay) (budget : ℕ) (reason : Refusal) (status : Status) (out err_old err_new : Output)
+    → HasNoCircuit text default reason → status_of reason ≡ Refused → status ≡ Refused → Tells err_old err_new (refusal_text reason)
+    → WorstEnds status text default budget None out out err_old err_new
+worst_has_no_circuit text default budget reason status out err_old err_new why refuses ends told =
+    subst (λ ended. WorstEnds ended text default budget None out out err_old err_new) (sym ends)
+    (record { reason = reason; why = why; ends = refuses; told = told; nothing = refl }, refl)
+
+-- the search was refused, which was told
+worst_told : (text : List ℕ) (default : Delay) (budget : ℕ) (reason : Refusal) (status : Status) (out err_old err_new : Output)
+    → HasNoCircuit text default reason → IsTold reason status err_old err_new
+    → WorstEnds status text default budget None out out err_old err_new
+worst_told text default budget reason status out err_old err_new why (inr told) =
+    worst_lacks_memory text default budget status out err_old err_new told.1 told.0
+worst_told text default budget refusal.OutOfMemory status out err_old err_new why (inl told) =
+    worst_lacks_memory text default budget status out err_old err_new told.1 told.0
+worst_told text default budget (refusal.Netlist fault) status out err_old err_new why (inl told) =
+    worst_has_no_circuit text default budget (refusal.Netlist fault) status out err_old err_new why refl told.1 told.0
+worst_told text default budget (refusal.Loop name) status out err_old err_new why (inl told) =
+    worst_has_no_circuit text default budget (refusal.Loop name) status out err_old err_new why refl told.1 told.0
+worst_told text default budget (refusal.Certificate fault) status out err_old err_new why (inl told) = absurd why
+worst_told text default budget (refusal.BadVector word) status out err_old err_new why (inl told) = absurd why
+
+-- a search that was refused keeps no file
+pub worst_refused : (holds : List ℕ → List ℕ → Type 0) (kept : Option (List WrittenFile)) (name : Option (List ℕ)) (text : List ℕ) (default : Delay)
+    (budget : ℕ) (reason : Refusal) (status : Status) (out err_old err_new : Output)
+    → HasNoCircuit text default reason → IsTold reason status err_old err_new
+    → WorstOf (disk_of holds kept kept) text default budget name status out out err_old err_new
+worst_refused holds kept name text default budget reason status out err_old err_new why told = inl (record {
+  certificate = None;
+  ends = worst_told text default budget reason status out err_old err_new why told;
+  kept = refl;
+})

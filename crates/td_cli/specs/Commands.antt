@@ -1,5 +1,5 @@
 -- What a command writes, and how it ends.
-use Rattle.std.specs.Prelude.{◌≡◌, ℕ, List, ◌++◌, ◌⊎◌, Option, Some, None, IfSome, option_map, codes, false}
+use Rattle.std.specs.Prelude.{◌≡◌, ℕ, List, ◌++◌, ◌⊎◌, Option, Some, None, IsSome, option_map, codes, false}
 use Rattle.clap.specs.Words.{takes}
 use Rattle.td_gates.specs.declared.timing.Delay.{Delay}
 use Rattle.td_gates.specs.Output.{Output, Sent, Failed}
@@ -12,7 +12,7 @@ use Rattle.td_cli.specs.Refusals.{refusal_text}
 use Rattle.td_cli.specs.BoundReports.{IsBoundReport}
 use Rattle.td_cli.specs.CheckReports.{IsCheckReport}
 use Rattle.td_cli.specs.WorstReports.{IsWorstReport}
-use Rattle.td_cli.specs.Written.{WrittenFile, IsKept}
+use Rattle.td_cli.specs.Written.{WrittenFile, IsKeptOf}
 use Rattle.td_certificate.specs.declared.certificate.Certificate.{Certificate}
 use Rattle.td_cli.specs.Outcomes.{HasNoReport, HasNoBounds, HasNoCircuit, HasNoVerdict}
 use Rattle.td_cli.specs.CommandLine.{program, delays, Asks}
@@ -52,10 +52,22 @@ pub record Refuses (Holds : Refusal → Type 0) (status : Status) (out_old out_n
   pub told : Tells err_old err_new (refusal_text reason)
   pub nothing : out_new ≡ out_old
 
--- a device failed or memory ran out: no more than a beginning of a report went out
-abbrev pub Breaks : (List ℕ → Type 0) → Output → Output → Type 0
-Breaks IsReport out_old out_new =
-    (out_new ≡ out_old) ⊎ ((report : List ℕ) × IsReport report × Failed out_old out_new report)
+-- standard output failed behind a beginning of a report, which was told
+pub record IsCutOff (IsReport : List ℕ → Type 0) (out_old out_new err_old err_new : Output) : Type 0 where
+  pub report : List ℕ
+  pub is : IsReport report
+  pub broke : Failed out_old out_new report
+  pub told : Tells err_old err_new (codes "tdelay: cannot write stdout" ++ newline)
+
+-- nothing went out, and want of memory was told
+pub record LacksMemory (out_old out_new err_old err_new : Output) : Type 0 where
+  pub nothing : out_new ≡ out_old
+  pub told : Tells err_old err_new (refusal_text refusal.OutOfMemory)
+
+-- a device failed or memory ran out
+abbrev pub Breaks : (List ℕ → Type 0) → Output → Output → Output → Output → Type 0
+Breaks IsReport out_old out_new err_old err_new =
+    LacksMemory out_old out_new err_old err_new ⊎ IsCutOff IsReport out_old out_new err_old err_new
 
 -- what a command wrote, by how it ended: what is a report of it, and which reasons hold for not having one
 abbrev pub Ends : (List ℕ → Type 0) → (Refusal → Type 0) → Status → Output → Output → Output → Output → Type 0
@@ -64,7 +76,7 @@ Ends IsReport Holds Refused out_old out_new err_old err_new = Refuses Holds Refu
 Ends IsReport Holds BadCommand out_old out_new err_old err_new = Refuses Holds BadCommand out_old out_new err_old err_new
 Ends IsReport Holds Between out_old out_new err_old err_new = ⊥
 Ends IsReport Holds Rejected out_old out_new err_old err_new = ⊥
-Ends IsReport Holds Device out_old out_new err_old err_new = Breaks IsReport out_old out_new
+Ends IsReport Holds Device out_old out_new err_old err_new = Breaks IsReport out_old out_new err_old err_new
 
 -- what `sim` wrote
 abbrev pub SimEnds : Status → List ℕ → Delay → List ℕ → List ℕ → Output → Output → Output → Output → Type 0
@@ -85,20 +97,21 @@ CheckEnds Refused text default certificate_text out_old out_new err_old err_new 
 CheckEnds BadCommand text default certificate_text out_old out_new err_old err_new = ⊥
 CheckEnds Between text default certificate_text out_old out_new err_old err_new = ⊥
 CheckEnds Device text default certificate_text out_old out_new err_old err_new =
-    Breaks (λ report. (ending : Status) × IsCheckReport text default certificate_text ending report) out_old out_new
+    Breaks (λ report. (ending : Status) × IsCheckReport text default certificate_text ending report) out_old out_new err_old err_new
 
 -- what `worst` wrote to standard output and standard error, where it has this certificate to write
 abbrev pub WorstEnds : Status → List ℕ → Delay → ℕ → Option Certificate → Output → Output → Output → Output → Type 0
 WorstEnds Done text default budget certificate out_old out_new err_old err_new =
-    Reports (λ report. IsWorstReport text default budget report certificate) out_old out_new err_old err_new
+    Reports (λ report. IsWorstReport text default budget report certificate) out_old out_new err_old err_new × IsSome certificate
 WorstEnds Between text default budget certificate out_old out_new err_old err_new =
-    Reports (λ report. IsWorstReport text default budget report None × (certificate ≡ None)) out_old out_new err_old err_new
+    Reports (λ report. IsWorstReport text default budget report None) out_old out_new err_old err_new × (certificate ≡ None)
 WorstEnds Refused text default budget certificate out_old out_new err_old err_new =
     Refuses (HasNoCircuit text default) Refused out_old out_new err_old err_new × (certificate ≡ None)
 WorstEnds BadCommand text default budget certificate out_old out_new err_old err_new = ⊥
 WorstEnds Rejected text default budget certificate out_old out_new err_old err_new = ⊥
 WorstEnds Device text default budget certificate out_old out_new err_old err_new =
-    Breaks (λ report. (found : Option Certificate) × IsWorstReport text default budget report found) out_old out_new × (certificate ≡ None)
+    Breaks (λ report. (found : Option Certificate) × IsWorstReport text default budget report found) out_old out_new err_old err_new
+    × (certificate ≡ None)
 
 -- ---- files
 
@@ -119,12 +132,12 @@ pub record Lacks (text : List ℕ) (default : Delay) (budget : ℕ) (name : List
   pub ends : status ≡ Device
   pub told : IsNotWritten name err_old err_new
 
--- The search ended so, and the certificate of an exact answer was kept where a name is given.
+-- The search ended so, and the certificate of an exact answer was kept where a name is given, and else no file was written.
 pub record Keeps (text : List ℕ) (default : Delay) (budget : ℕ) (name : Option (List ℕ)) (status : Status)
     (kept_old kept_new : Option (List WrittenFile)) (out_old out_new err_old err_new : Output) : Type 0 where
   pub certificate : Option Certificate
   pub ends : WorstEnds status text default budget certificate out_old out_new err_old err_new
-  pub kept : IfSome certificate (λ some. IsKept kept_old kept_new name some)
+  pub kept : IsKeptOf kept_old kept_new name certificate
 
 -- the line that tells a file that can't be read
 abbrev pub unread_text : List ℕ → List ℕ
@@ -173,22 +186,25 @@ RequestEnds disk (request.Sim asked) status out_old out_new err_old err_new =
     EndsOnFile disk.holds asked.file.now
     (λ text. SimEnds status text (delays asked.rise asked.fall) asked.from.now asked.to.now out_old out_new err_old err_new)
     status out_old out_new err_old err_new
+    × (disk.kept_new ≡ disk.kept_old)
 RequestEnds disk (request.Bound asked) status out_old out_new err_old err_new =
     EndsOnFile disk.holds asked.file.now
     (λ text. BoundEnds status text (delays asked.rise asked.fall) (option_map (λ word. word.now) asked.first)
     (option_map (λ word. word.now) asked.second) out_old out_new err_old err_new)
     status out_old out_new err_old err_new
+    × (disk.kept_new ≡ disk.kept_old)
 RequestEnds disk (request.Worst asked) status out_old out_new err_old err_new =
-    EndsOnFile disk.holds asked.file.now
-    (λ text. WorstOf disk text (delays asked.rise asked.fall) asked.budget (option_map (λ word. word.now) asked.certificate)
+    ((text : List ℕ) × disk.holds asked.file.now text
+    × WorstOf disk text (delays asked.rise asked.fall) asked.budget (option_map (λ word. word.now) asked.certificate)
     status out_old out_new err_old err_new)
-    status out_old out_new err_old err_new
+    ⊎ (IsNotRead asked.file.now status out_old out_new err_old err_new × (disk.kept_new ≡ disk.kept_old))
 RequestEnds disk (request.Check asked) status out_old out_new err_old err_new =
     EndsOnFile disk.holds asked.file.now
     (λ text. EndsOnFile disk.holds asked.certificate.now
     (λ certificate_text. CheckEnds status text (delays asked.rise asked.fall) certificate_text out_old out_new err_old err_new)
     status out_old out_new err_old err_new)
     status out_old out_new err_old err_new
+    × (disk.kept_new ≡ disk.kept_old)
 
 -- ---- the program
 
@@ -231,6 +247,7 @@ pub record IsSilent (words : List (List ℕ)) (out_old out_new err_old err_new :
 abbrev pub ProgramEnds : Disk → List (List ℕ) → Status → Output → Output → Output → Output → Type 0
 ProgramEnds disk words status out_old out_new err_old err_new =
     ((asked : Request) × Asks words asked × RequestEnds disk asked status out_old out_new err_old err_new)
-    ⊎ (((takes program words ≡ false) × TellsText status out_old out_new err_old err_new)
+    ⊎ ((disk.kept_new ≡ disk.kept_old)
+    × (((takes program words ≡ false) × TellsText status out_old out_new err_old err_new)
     ⊎ (IsOutOfMemory status out_old out_new err_old err_new
-    ⊎ ((status ≡ BadCommand) × IsSilent words out_old out_new err_old err_new)))
+    ⊎ ((status ≡ BadCommand) × IsSilent words out_old out_new err_old err_new))))

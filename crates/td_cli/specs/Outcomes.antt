@@ -8,7 +8,7 @@ use Rattle.td_circuit.specs.declared.building.BuildFault.{BuildFault}
 use Rattle.td_circuit.specs.declared.building.BuildFault.TheVariants as build
 use Rattle.td_netlist.specs.Netlist.{Netlist}
 use Rattle.td_netlist.specs.Views.{name_of}
-use Rattle.td_netlist.specs.Means.{Means}
+use Rattle.td_netlist.specs.Means.{Means, OfNames, BreaksIn}
 use Rattle.td_circuit.specs.Loops.{Loop, LiesOnLoop}
 use Rattle.td_circuit.specs.Numbering.{Numbered}
 use Rattle.td_cli.specs.declared.refusal.VectorWord.TheVariants as vector
@@ -54,10 +54,16 @@ pub record HasBadTo (text : List ℕ) (default : Delay) (from to : List ℕ) : T
   pub from_is : IsVector (length netlist.inputs) from
   pub no_vector : ¬ IsVector (length netlist.inputs) to
 
+-- the text means no netlist, and the fault is one of it: of a fault of names, the name or terminal breaks its condition
+pub record IsNetlistFault (text : List ℕ) (default : Delay) (fault : Fault) : Type 0 where
+  pub told : fault.kind ≢ kind.OutOfMemory
+  pub means_none : (netlist : Netlist) → ¬ Means text default netlist
+  pub breaks : OfNames fault.kind (BreaksIn text fault.kind fault.line)
+
 -- what holds where this is why the text has no circuit: nothing is said of want of memory
 abbrev pub HasNoCircuit : List ℕ → Delay → Refusal → Type 0
 HasNoCircuit text default refusal.OutOfMemory = Unit {0}
-HasNoCircuit text default (refusal.Netlist fault) = (netlist : Netlist) → ¬ Means text default netlist
+HasNoCircuit text default (refusal.Netlist fault) = IsNetlistFault text default fault
 HasNoCircuit text default (refusal.Loop name) = (netlist : Netlist) × Means text default netlist × LiesOnLoop netlist (name_of name)
 HasNoCircuit text default (refusal.Certificate fault) = ⊥
 HasNoCircuit text default (refusal.BadVector word) = ⊥
@@ -65,7 +71,7 @@ HasNoCircuit text default (refusal.BadVector word) = ⊥
 -- what holds where this is why `sim` has no report: the text is judged first, then the first vector, then the second
 abbrev pub HasNoReport : List ℕ → Delay → List ℕ → List ℕ → Refusal → Type 0
 HasNoReport text default from to refusal.OutOfMemory = Unit {0}
-HasNoReport text default from to (refusal.Netlist fault) = (netlist : Netlist) → ¬ Means text default netlist
+HasNoReport text default from to (refusal.Netlist fault) = IsNetlistFault text default fault
 HasNoReport text default from to (refusal.Loop name) = (netlist : Netlist) × Means text default netlist × LiesOnLoop netlist (name_of name)
 HasNoReport text default from to (refusal.Certificate fault) = ⊥
 HasNoReport text default from to (refusal.BadVector vector.From) = HasBadFrom text default from
@@ -96,7 +102,7 @@ pub record HasBadSecond (text : List ℕ) (default : Delay) (first second : Opti
 -- what holds where this is why `bound` has no report, judged in the same order
 abbrev pub HasNoBounds : List ℕ → Delay → Option (List ℕ) → Option (List ℕ) → Refusal → Type 0
 HasNoBounds text default first second refusal.OutOfMemory = Unit {0}
-HasNoBounds text default first second (refusal.Netlist fault) = (netlist : Netlist) → ¬ Means text default netlist
+HasNoBounds text default first second (refusal.Netlist fault) = IsNetlistFault text default fault
 HasNoBounds text default first second (refusal.Loop name) = (netlist : Netlist) × Means text default netlist × LiesOnLoop netlist (name_of name)
 HasNoBounds text default first second (refusal.Certificate fault) = ⊥
 HasNoBounds text default first second (refusal.BadVector vector.First) = HasBadFirst text default first

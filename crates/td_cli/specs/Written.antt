@@ -1,6 +1,6 @@
 -- Files that were written.
 use Rattle.std.specs.Prelude.{◌≡◌, ℕ, List, [], ◌∷◌, ◌++◌, Option, Some, None}
-use Rattle.td_gates.specs.Output.{Output, Sent}
+use Rattle.td_gates.specs.Output.{Output}
 use Rattle.td_certificate.specs.declared.certificate.Certificate.{Certificate}
 use Rattle.td_certificate.specs.Spelling.{spelling}
 
@@ -14,20 +14,28 @@ abbrev pub KeepsFile : Option (List WrittenFile) → Option (List WrittenFile) �
 KeepsFile (Some old) new name output = new ≡ Some (old ++ record { name = name; output = output } ∷ [])
 KeepsFile None new name output = new ≡ None
 
--- nothing went out yet, where it is known what did
-abbrev pub AreNone : Option (List ℕ) → Type 0
-AreNone None = Unit {0}
-AreNone (Some bytes) = bytes ≡ []
+-- a new writer: nothing went out yet, where it is known which files were written
+abbrev pub IsFresh : Option (List WrittenFile) → Output → Type 0
+IsFresh None output = Unit {0}
+IsFresh (Some files) output = output.sent ≡ Some []
+
+-- this text went out, where it is known which files were written
+abbrev pub HasText : Option (List WrittenFile) → Output → List ℕ → Type 0
+HasText None output text = Unit {0}
+HasText (Some files) output text = output.sent ≡ Some text
 
 -- a new file of this name was written, which has the certificate's text
 pub record IsWritten (kept_old kept_new : Option (List WrittenFile)) (name : List ℕ) (certificate : Certificate) : Type 0 where
-  pub first : Output
-  pub last : Output
-  pub empty : AreNone first.sent
-  pub sent : Sent first last (spelling certificate)
-  pub keeps : KeepsFile kept_old kept_new name last
+  pub output : Output
+  pub has : HasText kept_old output (spelling certificate)
+  pub keeps : KeepsFile kept_old kept_new name output
 
--- the certificate was written, where a name is given
+-- the certificate was written, where a name is given, and else no file was
 abbrev pub IsKept : Option (List WrittenFile) → Option (List WrittenFile) → Option (List ℕ) → Certificate → Type 0
 IsKept kept_old kept_new None certificate = kept_new ≡ kept_old
 IsKept kept_old kept_new (Some name) certificate = IsWritten kept_old kept_new name certificate
+
+-- the same of the certificate of an exact answer, and without one no file was written
+abbrev pub IsKeptOf : Option (List WrittenFile) → Option (List WrittenFile) → Option (List ℕ) → Option Certificate → Type 0
+IsKeptOf kept_old kept_new name None = kept_new ≡ kept_old
+IsKeptOf kept_old kept_new name (Some certificate) = IsKept kept_old kept_new name certificate

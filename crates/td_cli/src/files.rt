@@ -16,7 +16,7 @@ pub enum ReadFault {
 /// Files by name.
 pub trait Files {
     ghost use Rattle.std.specs.Prelude.{◌≡◌, ℕ, List, Option, IfOk, OnOk};
-    ghost use Rattle.td_cli.specs.Written.{WrittenFile, KeepsFile, AreNone};
+    ghost use Rattle.td_cli.specs.Written.{WrittenFile, KeepsFile, IsFresh};
 
     /// A writer of one file.
     type Writer: Sink + Drop;
@@ -34,7 +34,7 @@ pub trait Files {
 
     /// A writer of a new file of this name.
     fn create(&mut self, alloc: Global, name: &str) -> Result<Self::Writer, DeviceFault>
-        ensures empty { IfOk result (λ writer. AreNone (Self.Writer.output writer).sent) }
+        ensures fresh { IfOk result (λ writer. IsFresh (kept self.old) (Self.Writer.output writer)) }
         ensures stays { self.new ≡ self.old };
 
     /// Ends the writing of a file: what its writer took is the file of this name.

@@ -59,6 +59,7 @@ pub fn run_plain<S: AsStr, F: Files, O: Sink, E: Sink>(
         (O.output out.old) (O.output out.new) (E.output err.old) (E.output err.new)) }
     ensures none { IfNone result (IsSilent (map S.text words.now)
         (O.output out.old) (O.output out.new) (E.output err.old) (E.output err.new)) }
+    ensures unwritten { IfNone result (F.kept files.new ≡ F.kept files.old) }
 {
     match parse(alloc, words) {
         Ok(Some(request)) => Some(carry_out(alloc, files, &request, out, err)),
@@ -202,10 +203,11 @@ fn check_file<F: Files, O: Sink, E: Sink>(
     out: &mut O,
     err: &mut E,
 ) -> Status
-    ensures { EndsOnFile (F.holds files.old) name.now
+    ensures ends { EndsOnFile (F.holds files.old) name.now
         (λ certificate. CheckEnds result text.now default certificate
         (O.output out.old) (O.output out.new) (E.output err.old) (E.output err.new)) result
         (O.output out.old) (O.output out.new) (E.output err.old) (E.output err.new) }
+    ensures kept { F.kept files.new ≡ F.kept files.old }
 {
     match files.read(alloc, name) {
         Ok(certificate) => carry_out_check(alloc, text, default, &certificate, out, err),

@@ -1,10 +1,10 @@
 use Rattle.std.proofs.Common.{sym, subst, inl, inr}
 use Rattle.td_cli.proofs.program.check_file.Goals as goal
 
-pub returns-in-Err : goal.returns-in-Err
-returns-in-Err g c = inr (c.tell_unread.ensures _)
+pub returns-in-Err-clause-ends : goal.returns-in-Err-clause-ends
+returns-in-Err-clause-ends g c = inr (c.tell_unread.ensures _)
 
-pub returns-in-Ok : goal.returns-in-Ok
-returns-in-Ok g c =
+pub returns-in-Ok-clause-ends : goal.returns-in-Ok-clause-ends
+returns-in-Ok-clause-ends g c =
     let held = subst (λ bytes. g.F.Files.holds c.args.files.now c.args.name.now bytes) (sym c.deref.ensures.value) c.in-Ok.ensures.bytes in
     inl (c.deref.result.now, held, c.carry_out_check.ensures)

@@ -1,10 +1,13 @@
-use Rattle.std.proofs.Common.{map}
+use Rattle.std.proofs.Common.{map, refl}
+use Rattle.td_cli.specs.Commands.{disk_of}
 use Rattle.td_cli.proofs.Programs.{refused_words}
 use Rattle.td_cli.proofs.program.run_plain.Goals as goal
 
 pub returns-in-Err-clause-some : goal.returns-in-Err-clause-some
 returns-in-Err-clause-some g c =
-    refused_words _ (map g.S.AsStr.text c.args.words.now) c.tell_error.result
-    (g.O.Sink.output c.args.out.now) (g.O.Sink.output c.tell_error.new.out) (g.E.Sink.output c.args.err.now) (g.E.Sink.output c.tell_error.new.err)
+    refused_words (disk_of (g.F.Files.holds c.args.files.now) (g.F.Files.kept c.args.files.now) (g.F.Files.kept c.args.files.now)) refl
+    (map g.S.AsStr.text c.args.words.now) c.tell_error.result
+    (g.O.Sink.output c.args.out.now) (g.O.Sink.output c.tell_error.new.out)
+    (g.E.Sink.output c.args.err.now) (g.E.Sink.output c.tell_error.new.err)
     (λ taken. c.tell_error.ensures.memory (c.in-Err.ensures.fault taken))
     c.tell_error.ensures.told
