@@ -1,4 +1,4 @@
-use Rattle.std.proofs.Common.{rules, ap, inr}
+use Rattle.std.proofs.Common.{ap, inr}
 use Rattle.td_cli.proofs.program.run_sim.Goals as goal
 
 pub returns-in-Err : goal.returns-in-Err
