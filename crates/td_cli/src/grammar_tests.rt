@@ -76,7 +76,7 @@ fn printed_names(rt: HostRuntime) -> Result<(), Fail> {
         alloc,
         b"module t (input a, output [1:0] \\y+ ); buf (\\y+ [1], \\y+ [0], a); endmodule\n",
         &["tdelay", "sim", "t.v", "0", "1"],
-        b"unit 1 ns\ndefaulted 1\nlast \\y+ [1] 1\nlast \\y+ [0] 1\ntime 1\n",
+        b"unit 1 ns\ndefaulted 2\nlast \\y+ [1] 1\nlast \\y+ [0] 1\ntime 1\n",
         b"",
         0,
     )?;
