@@ -70,7 +70,8 @@ impl Text {
 
     /// Appends the printed form of a name.
     pub fn name(&mut self, name: &Name) -> Result<(), AllocError>
-        ensures { OnOk result (self.new ≡ self.old ++ printed (name_of name.now)) }
+        ensures appended { OnOk result (self.new ≡ self.old ++ printed (name_of name.now)) }
+        ensures unchanged { OnErr result (self.new ≡ self.old) }
     {
         name.print(&mut self.bytes)?;
         Ok(())
