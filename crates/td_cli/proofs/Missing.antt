@@ -1,11 +1,11 @@
 -- Files in memory that don't have a name.
-use Rattle.std.proofs.Common.{◌≡◌, ◌<◌, ◌≤◌, ◌∙◌, ◌⊎◌, ◌+◌, ℕ, List, length, get_or, slice_get, Some, inl, inr, ap, false, rules, sym, true}
+use Rattle.std.proofs.Common.{◌≡◌, ◌<◌, ◌≤◌, ◌∙◌, ◌+◌, ℕ, List, length, get_or, slice_get, Some, inl, inr, ap, false, rules, sym, true}
 use Rattle.std.proofs.Math.Nat.{eq-or-lt_of_le, not-suc-le-zero}
 use Rattle.std.proofs.lemmas.Option.{same_Some, slice_get-get_or, slice_get_within}
 use Rattle.std.proofs.lemmas.Slice.Eq.{bytes_eq-Decides}
 use Rattle.std.specs.Borrow.{Bor}
 use Rattle.std.specs.Str.{bytes_eq}
-use Rattle.td_cli.specs.MemoryFiles.{IsFileAt, HasFile, IsMissing}
+use Rattle.td_cli.specs.MemoryFiles.{IsMissing}
 
 -- none of the files before this place has the name
 abbrev pub IsMissingBefore : List (Bor (List ℕ) × Bor (List ℕ)) → ℕ → List ℕ → Type 0
