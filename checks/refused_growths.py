@@ -95,18 +95,19 @@ def lines_of(text):
     return {line.split(" ", 1)[0]: line.split(" ", 1)[-1] for line in text.splitlines()}
 
 
-def is_right(ample, got):
-    """Whether a run with refused growths told nothing wrong, and by what it ended."""
+def is_right(ample, got, worst):
+    """By what a run with refused growths ended, None where it told anything wrong. The worst delay is that of the netlist, for a
+    search."""
     status, out, err, certificate = got
     if got == ample:
         return "the same"
     if status == 5 and err in ("tdelay: out of memory\n", "") and ample[1].startswith(out):
         whole = certificate in (None, b"") or (ample[3] or b"").startswith(certificate)
         return "out of memory" if whole else None
-    told, right = lines_of(out), lines_of(ample[1])
-    if status == 3 and told.get("cause") == "memory" and err == "" and certificate is None and "exact" in right:
+    told = lines_of(out)
+    if status == 3 and told.get("cause") == "memory" and err == "" and certificate is None and worst is not None:
         low, high = map(int, told["between"].split())
-        return "between" if low <= int(right["exact"]) <= high else None
+        return "between" if low <= worst <= high else None
     return None
 
 
@@ -135,13 +136,18 @@ def main():
         ]
         for words in commands:
             ample = run(program, shim, folder, words, 0, -1)
+            worst = None
+            if words[0] == "worst":
+                whole = run(program, shim, folder, words[:2], 0, -1)
+                worst = int(lines_of(whole[1])["exact"])
+                ample = run(program, shim, folder, words, 0, -1)
             with open(os.path.join(folder, "growths")) as file:
                 growths = int(file.read())
             ends = {}
             for first in range(1, growths + 1):
                 for last in (first, 10**9):
                     got = run(program, shim, folder, words, first, last)
-                    how = is_right(ample, got)
+                    how = is_right(ample, got, worst)
                     if how is None:
                         wrong += 1
                         print("wrong:", " ".join(words), first, last, got)
