@@ -11,13 +11,7 @@ pub struct WriterSink<W> {
 }
 
 impl<W: Write> WriterSink<W> {
-    ghost use Rattle.std.specs.Prelude.{◌≡◌};
-
-    /// A sink over this writer, which hasn't failed yet.
-    pub fn new(writer: W) -> Self
-        ensures writer { result.writer ≡ writer }
-        ensures failures { result.failures ≡ 0 }
-    {
+    pub fn new(writer: W) -> Self {
         WriterSink {
             writer,
             failures: 0,
