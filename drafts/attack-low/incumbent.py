@@ -1,0 +1,20 @@
+I='src/incumbent.rt'
+BUGS=[
+('new_one_more',I,[('for _ in 1..seats {','for _ in 0..seats {')],'incumbent::Incumbent::new'),
+('new_one_less',I,[('for _ in 1..seats {','for _ in 2..seats {')],'incumbent::Incumbent::new'),
+('new_rest_dropped',I,[('        all.push_reserved(Seat { seat: rest });\n','        let _last = Seat { seat: rest };\n')],'incumbent::Incumbent::new'),
+('new_key_half',I,[('&(seats as u64))?','&(seats as u64 / 2))?')],'incumbent::Incumbent::new'),
+('look_one_less',I,[('self.table.shared.load::<Look>(&mut seat.seat, 0)','self.table.shared.load::<Look>(&mut seat.seat, 0).saturating_sub(1)')],'incumbent::Incumbent::look'),
+('look_one_more',I,[('self.table.shared.load::<Look>(&mut seat.seat, 0)','self.table.shared.load::<Look>(&mut seat.seat, 0).saturating_add(1)')],'incumbent::Incumbent::look'),
+('look_raises',I,[('self.table.shared.load::<Look>(&mut seat.seat, 0)','self.table.shared.fetch_max::<Raise>(&mut seat.seat, 0, 1)')],'incumbent::Incumbent::look'),
+('raise_word_before',I,[('self.raise_from(seat, offer).max(offer)','self.raise_from(seat, offer)')],'incumbent::Incumbent::raise'),
+('raise_half',I,[('self.raise_from(seat, offer).max(offer)','self.raise_from(seat, offer / 2).max(offer)')],'incumbent::Incumbent::raise'),
+('raise_only_looks',I,[('self.raise_from(seat, offer).max(offer)','self.look(seat).max(offer)')],'incumbent::Incumbent::raise'),
+('raise_skips_zero_and_seen',I,[('self.raise_from(seat, offer).max(offer)','{ if offer == 0 { return self.look(seat); } self.raise_from(seat, offer).max(offer) }')],'incumbent::Incumbent::raise'),
+('raise_from_one_less',I,[('.fetch_max::<Raise>(&mut seat.seat, 0, offer)','.fetch_max::<Raise>(&mut seat.seat, 0, offer.saturating_sub(1))')],'incumbent::Incumbent::raise_from'),
+('raise_from_adds',I,[('.fetch_max::<Raise>(&mut seat.seat, 0, offer)','.fetch_add::<Raise>(&mut seat.seat, 0, offer)')],'incumbent::Incumbent::raise_from'),
+('join_forgets_second',I,[('self.table.shared.join_seat::<Both>(&mut seat, other);','let _other = Seat { seat: other };')],'incumbent::Incumbent::join'),
+('join_answers_looked',I,[('self.table.shared.join_seat::<Both>(&mut seat, other);','self.table.shared.join_seat::<Both>(&mut seat, other);\n        self.table.shared.load::<Look>(&mut seat, 0);')],'incumbent::Incumbent::join'),
+('close_zero',I,[('let word = closed.word(0);','let word = 0;')],'incumbent::Incumbent::close'),
+('close_at_least_one',I,[('let word = closed.word(0);','let word = closed.word(0).max(1);')],'incumbent::Incumbent::close'),
+]
