@@ -69,6 +69,8 @@ pub fn write<W: Sink>(
     ensures front { OnErr result (SentFront (W.output out.old) (W.output out.new) (spelling certificate.now)) }
     // The writer failed in this call.
     ensures device { IfErr result (λ fault. fault ≡ WriteFault.Device → (W.output out.new).failures ≢ (W.output out.old).failures) }
+    // Where memory ran out, it did not.
+    ensures memory { IfErr result (λ fault. fault ≡ WriteFault.OutOfMemory → (W.output out.new).failures ≡ (W.output out.old).failures) }
 {
     let mut batch = head(alloc, certificate)?;
     for node in certificate.tree.nodes() {

@@ -3,3 +3,4 @@ pub mod CommandLines
 pub mod Refusing
 pub mod Outputs
 pub mod Programs
+pub mod Missing

@@ -1,6 +1,9 @@
 -- How the program ends.
-use Rattle.std.proofs.Common.{◌≡◌, ◌⊎◌, ◌∙◌, ℕ, Bool, true, false, List, Option, None, refl, sym, subst, inl, inr}
-use Rattle.clap.specs.Words.{takes}
+use Rattle.std.proofs.Common.{◌≡◌, ◌≢◌, ◌⊎◌, ◌∙◌, ℕ, List, Option, None, refl, sym, subst, inl, inr}
+use Rattle.clap.specs.Words.{kind_of, HasKind}
+use Rattle.clap.specs.declared.error.Error.{Error}
+use Rattle.clap.specs.declared.error.kind.ErrorKind.{ErrorKind}
+use Rattle.clap.specs.declared.error.kind.ErrorKind.TheVariants as kind
 use Rattle.td_gates.specs.Output.{Output, Sent}
 use Rattle.td_gates.specs.declared.timing.Delay.{Delay}
 use Rattle.td_checker.specs.declared.verdict.Verdict.{Verdict}
@@ -13,22 +16,30 @@ use Rattle.td_cli.specs.Refusals.{refusal_text}
 use Rattle.td_cli.specs.Outcomes.{HasNoCircuit}
 use Rattle.td_cli.specs.Written.{WrittenFile}
 use Rattle.td_cli.specs.CheckReports.{ending_of, IsCheckReport}
-use Rattle.td_cli.specs.CommandLine.{program}
-use Rattle.td_cli.specs.Commands.{Disk, disk_of, status_of, Tells, IsTold, CheckEnds, WorstEnds, WorstOf, IsOutOfMemory, TellsText, ProgramEnds}
+use Rattle.td_cli.specs.CommandLine.{kinds_of}
+use Rattle.td_cli.specs.Commands.{Disk, disk_of, status_of, Tells, IsTold, CheckEnds, WorstEnds, WorstOf, IsOutOfMemory, IsShown, TellsText, ProgramEnds}
 
--- words that were refused are no command line that the program takes, unless memory ran out
-pub refused_words : (disk : Disk) → disk.kept_new ≡ disk.kept_old → (words : List (List ℕ)) (status : Status) (out_old out_new err_old err_new : Output)
-    → (takes program words ≡ true → IsOutOfMemory status out_old out_new err_old err_new)
-    → (IsOutOfMemory status out_old out_new err_old err_new ⊎ TellsText status out_old out_new err_old err_new)
+-- a kind whose text goes to standard error isn't
+pub not_shown : (k : ErrorKind) → (k ≢ kind.DisplayHelp) × (k ≢ kind.DisplayVersion) → ¬ IsShown k
+not_shown k neither (inl e) = neither.0 e
+not_shown k neither (inr e) = neither.1 e
+
+-- words that were refused: help or their fault was told, unless memory ran out
+pub refused_words : (disk : Disk) → disk.kept_new ≡ disk.kept_old → (words : List (List ℕ)) (error : Error) (status : Status)
+    (out_old out_new err_old err_new : Output)
+    → HasKind (kinds_of words) error
+    → (kind_of error ≡ kind.OutOfMemory → IsOutOfMemory status out_old out_new err_old err_new)
+    → (IsOutOfMemory status out_old out_new err_old err_new ⊎ TellsText (kind_of error) status out_old out_new err_old err_new)
     → ProgramEnds disk words status out_old out_new err_old err_new
-refused_words disk kept words status out_old out_new err_old err_new memory told = go (takes program words) refl
-  where
-    go : (taken : Bool) → takes program words ≡ taken → ProgramEnds disk words status out_old out_new err_old err_new
-    go true e = inr (kept, inr (inl (memory e)))
-    go false e = elim told [
-      | inl ran_out ↦ inr (kept, inr (inl ran_out))
-      | inr text ↦ inr (kept, inl (e, text))
-    ]
+refused_words disk kept words error status out_old out_new err_old err_new (inl ran_out) memory told = inr (kept, inr (inl (memory ran_out)))
+refused_words disk kept words error status out_old out_new err_old err_new (inr among) memory (inl ran_out) = inr (kept, inr (inl ran_out))
+refused_words disk kept words error status out_old out_new err_old err_new (inr among) memory (inr text) =
+    inr (kept, inl (kind_of error, among, text))
+
+-- another reason for the first of two cases
+pub because : {A B X Y : Type 0} → (A → B) → (A × X) ⊎ Y → (B × X) ⊎ Y
+because why (inl first) = inl (why first.0, first.1)
+because why (inr second) = inr second
 
 -- the program ends with a verdict as done or as rejected
 ending_cases : (verdict : Verdict) → (ending_of verdict ≡ Done) ⊎ (ending_of verdict ≡ Rejected)
@@ -85,11 +96,11 @@ worst_told text default budget (refusal.Certificate fault) status out err_old er
 worst_told text default budget (refusal.BadVector word) status out err_old err_new why (inl told) = absurd why
 
 -- a search that was refused keeps no file
-pub worst_refused : (holds : List ℕ → List ℕ → Type 0) (kept : Option (List WrittenFile)) (name : Option (List ℕ)) (text : List ℕ) (default : Delay)
+pub worst_refused : (holds : List ℕ → List ℕ → Type 0) (fails : List ℕ → Type 0) (kept : Option (List WrittenFile)) (name : Option (List ℕ)) (text : List ℕ) (default : Delay)
     (budget : ℕ) (reason : Refusal) (status : Status) (out err_old err_new : Output)
     → HasNoCircuit text default reason → IsTold reason status err_old err_new
-    → WorstOf (disk_of holds kept kept) text default budget name status out out err_old err_new
-worst_refused holds kept name text default budget reason status out err_old err_new why told = inl (record {
+    → WorstOf (disk_of holds fails kept kept) text default budget name status out out err_old err_new
+worst_refused holds fails kept name text default budget reason status out err_old err_new why told = inl (record {
   certificate = None;
   ends = worst_told text default budget reason status out err_old err_new why told;
   kept = refl;

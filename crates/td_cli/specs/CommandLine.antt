@@ -1,7 +1,7 @@
 -- The command line as the parser of command lines is told it, and what the words ask for.
 use Rattle.std.specs.Prelude.{◌≡◌, ℕ, ◌≤◌, List, [], ◌∷◌, codes, pos, true, Option, Some, None, option_map}
 use Rattle.std.specs.Str.Parse.{IsNumeral, digits_value, without_leading_plus}
-use Rattle.clap.specs.Words.{App, Row, Rule, Text, first_of, new_app, new_rule, one_of, subcommand_of, with_rule, with_subcommand}
+use Rattle.clap.specs.Words.{App, Kinds, Row, Rule, Text, fault_of, first_of, new_app, new_rule, one_of, subcommand_of, with_rule, with_subcommand}
 use Rattle.clap.specs.declared.builder.value_parser.ValueParser.TheVariants.{Signed}
 use Rattle.td_gates.specs.Delays.{Delays, IsInRange}
 use Rattle.td_cli.specs.declared.command.SimRequest.{SimRequest}
@@ -87,6 +87,10 @@ pub record HasDefault (rows : List Row) (default : Delays) : Type 0 where
 abbrev pub HasBudget : List Row → ℕ → Type 0
 HasBudget rows budget = HasNumber (codes "budget") rows budget × (budget ≤ 10000000)
 
+-- how many threads search
+abbrev pub HasWorkers : List Row → ℕ → Type 0
+HasWorkers rows workers = HasNumber (codes "workers") rows workers × (workers ≤ 1)
+
 -- the words of `sim` ask for this
 pub record AsksSim (rows : List Row) (asked : SimRequest) : Type 0 where
   pub file : first_of (codes "FILE") rows ≡ Some asked.file.now
@@ -104,6 +108,7 @@ pub record AsksBound (rows : List Row) (asked : BoundRequest) : Type 0 where
 -- the words of `worst` ask for this
 pub record AsksWorst (rows : List Row) (asked : WorstRequest) : Type 0 where
   pub file : first_of (codes "FILE") rows ≡ Some asked.file.now
+  pub workers : HasWorkers rows asked.workers
   pub budget : HasBudget rows asked.budget
   pub certificate : first_of (codes "cert") rows ≡ option_map (λ word. word.now) asked.certificate
   pub default : HasDefault rows (delays asked.rise asked.fall)
@@ -125,9 +130,15 @@ CommandAsks name rows (request.Check asked) = (name ≡ codes "check") × AsksCh
 abbrev pub EnteredAsks : Option (Text × List Row) → Request → Type 0
 EnteredAsks entered asked = (name : Text) × (rows : List Row) × (entered ≡ Some (name, rows)) × CommandAsks name rows asked
 
--- The words of the command line, of which the first is the program's name, ask for this.
-abbrev pub Asks : List Text → Request → Type 0
-Asks words asked = EnteredAsks (subcommand_of program words) asked
+-- the kinds of what there is to tell of the words in place of a command: help, or a fault of theirs; none where the program
+-- takes them
+abbrev pub kinds_of : List Text → Kinds
+kinds_of words = fault_of program words
+
+-- The program takes the words of the command line, of which the first is its name, and they ask for this.
+pub record Asks (words : List Text) (asked : Request) : Type 0 where
+  pub taken : kinds_of words ≡ []
+  pub asks : EnteredAsks (subcommand_of program words) asked
 
 -- the numbers that were asked for are in range
 abbrev pub IsCarriedOut : Request → Type 0

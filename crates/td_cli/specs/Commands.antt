@@ -1,6 +1,8 @@
 -- What a command writes, and how it ends.
-use Rattle.std.specs.Prelude.{◌≡◌, ℕ, List, ◌++◌, ◌⊎◌, Option, Some, None, IsSome, option_map, codes, false}
-use Rattle.clap.specs.Words.{takes}
+use Rattle.std.specs.Prelude.{◌≡◌, ℕ, List, [], ◌++◌, ◌⊎◌, Option, Some, None, IsSome, option_map, codes}
+use Rattle.clap.specs.Words.{IsAmong}
+use Rattle.clap.specs.declared.error.kind.ErrorKind.{ErrorKind}
+use Rattle.clap.specs.declared.error.kind.ErrorKind.TheVariants as kind
 use Rattle.td_gates.specs.declared.timing.Delay.{Delay}
 use Rattle.td_gates.specs.Output.{Output, Sent, Failed}
 use Rattle.td_cli.specs.declared.status.Status.{Status}
@@ -15,7 +17,7 @@ use Rattle.td_cli.specs.WorstReports.{IsWorstReport}
 use Rattle.td_cli.specs.Written.{WrittenFile, IsKeptOf}
 use Rattle.td_certificate.specs.declared.certificate.Certificate.{Certificate}
 use Rattle.td_cli.specs.Outcomes.{HasNoReport, HasNoBounds, HasNoCircuit, HasNoVerdict}
-use Rattle.td_cli.specs.CommandLine.{program, delays, Asks}
+use Rattle.td_cli.specs.CommandLine.{delays, kinds_of, Asks}
 use Rattle.td_cli.specs.declared.command.Request.{Request}
 use Rattle.td_cli.specs.declared.command.Request.TheVariants as request
 
@@ -155,40 +157,43 @@ pub record IsUnread (name : List ℕ) (status : Status) (out_old out_new err_old
   pub nothing : out_new ≡ out_old
   pub told : Tells err_old err_new (unread_text name)
 
--- a file was not read
-abbrev pub IsNotRead : List ℕ → Status → Output → Output → Output → Output → Type 0
-IsNotRead name status out_old out_new err_old err_new =
-    IsUnread name status out_old out_new err_old err_new ⊎ IsOutOfMemory status out_old out_new err_old err_new
-
--- a file of this name was read, and the command ended as it does on its bytes; or it was not read
-abbrev pub EndsOnFile : (List ℕ → List ℕ → Type 0) → List ℕ → (List ℕ → Type 0) → Status → Output → Output → Output → Output → Type 0
-EndsOnFile Holds name EndsOn status out_old out_new err_old err_new =
-    ((text : List ℕ) × Holds name text × EndsOn text) ⊎ IsNotRead name status out_old out_new err_old err_new
-
--- what is known of files: the bytes that a read of a name may give, and those that were written, before and after
+-- what is known of files: the bytes that a read of a name may give, which names a device may fail to read, and the files that
+-- were written, before and after
 pub record Disk : Type 1 where
   pub holds : List ℕ → List ℕ → Type 0
+  pub fails : List ℕ → Type 0
   pub kept_old : Option (List WrittenFile)
   pub kept_new : Option (List WrittenFile)
 
-abbrev pub disk_of : (List ℕ → List ℕ → Type 0) → Option (List WrittenFile) → Option (List WrittenFile) → Disk
-disk_of holds kept_old kept_new = record { holds = holds; kept_old = kept_old; kept_new = kept_new }
+abbrev pub disk_of : (List ℕ → List ℕ → Type 0) → (List ℕ → Type 0) → Option (List WrittenFile) → Option (List WrittenFile) → Disk
+disk_of holds fails kept_old kept_new = record { holds = holds; fails = fails; kept_old = kept_old; kept_new = kept_new }
+
+-- a file was not read: a device may fail to, or memory ran out
+abbrev pub IsNotRead : Disk → List ℕ → Status → Output → Output → Output → Output → Type 0
+IsNotRead disk name status out_old out_new err_old err_new =
+    (disk.fails name × IsUnread name status out_old out_new err_old err_new) ⊎ IsOutOfMemory status out_old out_new err_old err_new
+
+-- a file of this name was read, and the command ended as it does on its bytes; or it was not read
+abbrev pub EndsOnFile : Disk → List ℕ → (List ℕ → Type 0) → Status → Output → Output → Output → Output → Type 0
+EndsOnFile disk name EndsOn status out_old out_new err_old err_new =
+    ((text : List ℕ) × disk.holds name text × EndsOn text) ⊎ IsNotRead disk name status out_old out_new err_old err_new
 
 -- what `worst` wrote: the report, and where a name is given and the answer is exact, the certificate
 abbrev pub WorstOf : Disk → List ℕ → Delay → ℕ → Option (List ℕ) → Status → Output → Output → Output → Output → Type 0
 WorstOf disk text default budget name status out_old out_new err_old err_new =
     Keeps text default budget name status disk.kept_old disk.kept_new out_old out_new err_old err_new
-    ⊎ ((file : List ℕ) × (name ≡ Some file) × Lacks text default budget file status out_old out_new err_old err_new)
+    ⊎ ((file : List ℕ) × (name ≡ Some file) × Lacks text default budget file status out_old out_new err_old err_new
+    × (disk.kept_new ≡ disk.kept_old))
 
 -- what was written for a request
 abbrev pub RequestEnds : Disk → Request → Status → Output → Output → Output → Output → Type 0
 RequestEnds disk (request.Sim asked) status out_old out_new err_old err_new =
-    EndsOnFile disk.holds asked.file.now
+    EndsOnFile disk asked.file.now
     (λ text. SimEnds status text (delays asked.rise asked.fall) asked.from.now asked.to.now out_old out_new err_old err_new)
     status out_old out_new err_old err_new
     × (disk.kept_new ≡ disk.kept_old)
 RequestEnds disk (request.Bound asked) status out_old out_new err_old err_new =
-    EndsOnFile disk.holds asked.file.now
+    EndsOnFile disk asked.file.now
     (λ text. BoundEnds status text (delays asked.rise asked.fall) (option_map (λ word. word.now) asked.first)
     (option_map (λ word. word.now) asked.second) out_old out_new err_old err_new)
     status out_old out_new err_old err_new
@@ -197,10 +202,10 @@ RequestEnds disk (request.Worst asked) status out_old out_new err_old err_new =
     ((text : List ℕ) × disk.holds asked.file.now text
     × WorstOf disk text (delays asked.rise asked.fall) asked.budget (option_map (λ word. word.now) asked.certificate)
     status out_old out_new err_old err_new)
-    ⊎ (IsNotRead asked.file.now status out_old out_new err_old err_new × (disk.kept_new ≡ disk.kept_old))
+    ⊎ (IsNotRead disk asked.file.now status out_old out_new err_old err_new × (disk.kept_new ≡ disk.kept_old))
 RequestEnds disk (request.Check asked) status out_old out_new err_old err_new =
-    EndsOnFile disk.holds asked.file.now
-    (λ text. EndsOnFile disk.holds asked.certificate.now
+    EndsOnFile disk asked.file.now
+    (λ text. EndsOnFile disk asked.certificate.now
     (λ certificate_text. CheckEnds status text (delays asked.rise asked.fall) certificate_text out_old out_new err_old err_new)
     status out_old out_new err_old err_new)
     status out_old out_new err_old err_new
@@ -208,46 +213,66 @@ RequestEnds disk (request.Check asked) status out_old out_new err_old err_new =
 
 -- ---- the program
 
--- standard output failed behind a beginning of a text, which was told
-pub record IsUnwritten (text : List ℕ) (status : Status) (out_old out_new err_old err_new : Output) : Type 0 where
+-- a kind of text that goes to standard output
+abbrev pub IsShown : ErrorKind → Type 0
+IsShown told = (told ≡ kind.DisplayHelp) ⊎ (told ≡ kind.DisplayVersion)
+
+-- standard output failed behind a beginning of help, which was told
+pub record IsUnwritten (told_kind : ErrorKind) (text : List ℕ) (status : Status) (out_old out_new err_old err_new : Output) : Type 0 where
+  pub shown : IsShown told_kind
   pub ends : status ≡ Device
   pub broke : Failed out_old out_new text
   pub told : Tells err_old err_new (codes "tdelay: cannot write stdout" ++ newline)
 
 -- help went out
-pub record IsHelp (text : List ℕ) (status : Status) (out_old out_new err_old err_new : Output) : Type 0 where
+pub record IsHelp (told_kind : ErrorKind) (text : List ℕ) (status : Status) (out_old out_new err_old err_new : Output) : Type 0 where
+  pub shown : IsShown told_kind
   pub ends : status ≡ Done
   pub sent : Sent out_old out_new text
   pub silent : err_new ≡ err_old
 
 -- a fault of the command line was told
-pub record IsMistake (text : List ℕ) (status : Status) (out_old out_new err_old err_new : Output) : Type 0 where
+pub record IsMistake (told_kind : ErrorKind) (text : List ℕ) (status : Status) (out_old out_new err_old err_new : Output) : Type 0 where
+  pub mistake : ¬ IsShown told_kind
   pub ends : status ≡ BadCommand
   pub nothing : out_new ≡ out_old
   pub told : Tells err_old err_new text
 
--- the parser's text was told: help, or a fault of the command line
-abbrev pub TellsText : Status → Output → Output → Output → Output → Type 0
-TellsText status out_old out_new err_old err_new = (text : List ℕ)
-    × (IsHelp text status out_old out_new err_old err_new
-    ⊎ (IsMistake text status out_old out_new err_old err_new ⊎ IsUnwritten text status out_old out_new err_old err_new))
+-- the parser's text of this kind was told: help, or a fault of the command line
+abbrev pub TellsText : ErrorKind → Status → Output → Output → Output → Output → Type 0
+TellsText told_kind status out_old out_new err_old err_new = (text : List ℕ)
+    × (IsHelp told_kind text status out_old out_new err_old err_new
+    ⊎ (IsMistake told_kind text status out_old out_new err_old err_new ⊎ IsUnwritten told_kind text status out_old out_new err_old err_new))
 
--- these words ask for nothing
-abbrev pub AskNothing : List (List ℕ) → Type 0
-AskNothing words = (asked : Request) → ¬ Asks words asked
+-- help or a fault was told, of a kind that there is to tell of the words
+abbrev pub TellsOf : List (List ℕ) → Status → Output → Output → Output → Output → Type 0
+TellsOf words status out_old out_new err_old err_new =
+    (told : ErrorKind) × IsAmong told (kinds_of words) × TellsText told status out_old out_new err_old err_new
+
+-- the program takes these words, and they ask for nothing
+pub record AskNothing (words : List (List ℕ)) : Type 0 where
+  pub taken : kinds_of words ≡ []
+  pub none : (asked : Request) → ¬ Asks words asked
 
 -- nothing was written
 pub record IsSilent (words : List (List ℕ)) (out_old out_new err_old err_new : Output) : Type 0 where
-  pub none : AskNothing words
+  pub nothing_asked : AskNothing words
   pub nothing : out_new ≡ out_old
   pub silent : err_new ≡ err_old
 
--- What the program wrote, by what the words ask for: where they are no command line that it takes, help or their fault was
--- told. Want of memory may be told in place of any.
+-- it was told that nothing is asked for
+pub record TellsNothingAsked (words : List (List ℕ)) (status : Status) (out_old out_new err_old err_new : Output) : Type 0 where
+  pub nothing_asked : AskNothing words
+  pub ends : status ≡ BadCommand
+  pub nothing : out_new ≡ out_old
+  pub told : Tells err_old err_new (codes "tdelay: bad command line" ++ newline)
+
+-- What the program wrote, by what the words ask for: where the program doesn't take them, help or their fault was told. Want
+-- of memory may be told in place of any.
 abbrev pub ProgramEnds : Disk → List (List ℕ) → Status → Output → Output → Output → Output → Type 0
 ProgramEnds disk words status out_old out_new err_old err_new =
     ((asked : Request) × Asks words asked × RequestEnds disk asked status out_old out_new err_old err_new)
     ⊎ ((disk.kept_new ≡ disk.kept_old)
-    × (((takes program words ≡ false) × TellsText status out_old out_new err_old err_new)
+    × (TellsOf words status out_old out_new err_old err_new
     ⊎ (IsOutOfMemory status out_old out_new err_old err_new
-    ⊎ ((status ≡ BadCommand) × IsSilent words out_old out_new err_old err_new))))
+    ⊎ TellsNothingAsked words status out_old out_new err_old err_new)))

@@ -1,10 +1,9 @@
 //! The command line.
 
-ghost use Rattle.std.specs.Prelude.{◌≡◌, ◌<◌, ℕ, codes, map, false, true, IfOk, IfErr, IfSome, IfNone};
-ghost use Rattle.clap.specs.Words.{app_of, rule_of, found_of, kind_of, rows_of, subcommand_rows_of, takes};
-ghost use Rattle.clap.specs.declared.error.kind.ErrorKind.TheVariants as ErrorKind;
+ghost use Rattle.std.specs.Prelude.{◌≡◌, ◌<◌, ℕ, [], codes, map, false, IfOk, IfErr, IfSome, IfNone};
+ghost use Rattle.clap.specs.Words.{app_of, rule_of, found_of, rows_of, subcommand_rows_of, HasKind};
 ghost use Rattle.td_cli.specs.CommandLine.{needed, option, number_option, sim_command, bound_command, worst_command, check_command, program, with_default};
-ghost use Rattle.td_cli.specs.CommandLine.{HasNumber, HasDefault, HasBudget, AsksSim, AsksBound, AsksWorst, AsksCheck, EnteredAsks, Asks, IsAnswered};
+ghost use Rattle.td_cli.specs.CommandLine.{HasNumber, HasDefault, HasWorkers, HasBudget, AsksSim, AsksBound, AsksWorst, AsksCheck, EnteredAsks, kinds_of, Asks, IsAnswered};
 
 use clap::builder::ValueParser;
 use clap::{Arg, ArgMatches, Command, Error};
@@ -38,6 +37,8 @@ pub struct BoundRequest<'a> {
 #[derive(Clone, Copy, Debug)]
 pub struct WorstRequest<'a> {
     pub file: &'a str,
+    /// How many threads search, one for now.
+    pub workers: u32,
     /// The most nodes that the search handles, at most 10,000,000.
     pub budget: u32,
     /// Where the certificate of an exact answer goes.
@@ -65,6 +66,9 @@ pub enum Request<'a> {
     Worst(WorstRequest<'a>),
     Check(CheckRequest<'a>),
 }
+
+/// The most threads that may search.
+const MOST_WORKERS: u32 = 1;
 
 /// The most nodes that a search may handle.
 const MOST_NODES: u32 = 10_000_000;
@@ -183,7 +187,7 @@ fn worst_command<'a>(alloc: Global) -> Result<Command<'a>, AllocError>
         alloc,
         "workers",
         1,
-        1,
+        MOST_WORKERS,
         "1",
         "How many threads search; one for now",
     );
@@ -284,6 +288,18 @@ fn bound_of<'a>(matches: &ArgMatches<'a>) -> Option<BoundRequest<'a>>
     })
 }
 
+/// How many threads search.
+fn workers(matches: &ArgMatches<'_>) -> Option<u32>
+    ensures { IsAnswered (HasWorkers (rows_of (found_of matches.now))) result }
+{
+    let workers = number(matches, "workers")?;
+    if workers <= MOST_WORKERS {
+        Some(workers)
+    } else {
+        None
+    }
+}
+
 /// The most nodes that a search may handle.
 fn budget(matches: &ArgMatches<'_>) -> Option<u32>
     ensures { IsAnswered (HasBudget (rows_of (found_of matches.now))) result }
@@ -300,10 +316,12 @@ fn worst_of<'a>(matches: &ArgMatches<'a>) -> Option<WorstRequest<'a>>
     ensures { IsAnswered (AsksWorst (rows_of (found_of matches.now))) result }
 {
     let file = matches.get_str("FILE")?;
+    let workers = workers(matches)?;
     let budget = budget(matches)?;
     let default = default(matches)?;
     Some(WorstRequest {
         file,
+        workers,
         budget,
         certificate: matches.get_str("cert"),
         rise: default.rise,
@@ -341,8 +359,9 @@ fn request_of<'a>(matches: &ArgMatches<'a>) -> Option<Request<'a>>
 /// What the words of a command line ask for. The first is the program's name.
 pub fn parse<'a, S: AsStr>(alloc: Global, words: &'a [S]) -> Result<Option<Request<'a>>, Error>
     ensures asked { IfOk result (IsAnswered (Asks (map S.text words.entry.now))) }
-    // Words that the program takes are refused for want of memory alone.
-    ensures fault { IfErr result (λ error. takes program (map S.text words.entry.now) ≡ true → kind_of error ≡ ErrorKind.OutOfMemory) }
+    ensures taken { IfOk result (λ _. kinds_of (map S.text words.entry.now) ≡ []) }
+    // Words are refused for what there is to tell of them, or for want of memory.
+    ensures fault { IfErr result (HasKind (kinds_of (map S.text words.entry.now))) }
 {
     match command(alloc)?.try_get_matches_from(words) {
         Ok(matches) => Ok(request_of(&matches)),

@@ -4,7 +4,8 @@ use crate::writer::WriterSink;
 use std::alloc::Global;
 use std::io::Read;
 use std::{fs, io, rt};
-use td_gates::{DeviceFault, Sink};
+use td_certificate::WriteFault;
+use td_gates::Sink;
 
 /// Why a file couldn't be read.
 #[derive(Clone, Copy, Debug, PartialEq, Eq, Drop)]
@@ -15,8 +16,9 @@ pub enum ReadFault {
 
 /// Files by name.
 pub trait Files {
-    ghost use Rattle.std.specs.Prelude.{◌≡◌, ℕ, List, Option, IfOk, OnOk};
+    ghost use Rattle.std.specs.Prelude.{◌≡◌, ℕ, List, Option, IfOk, IfErr, OnOk, OnErr};
     ghost use Rattle.td_cli.specs.Written.{WrittenFile, KeepsFile, IsFresh};
+    ghost use Rattle.td_cli.specs.declared.files.ReadFault.TheVariants as Fault;
 
     /// A writer of one file.
     type Writer: Sink + Drop;
@@ -24,22 +26,27 @@ pub trait Files {
     /// The bytes that a read of a name may give.
     ghost holds: { Self → List ℕ → List ℕ → Type 0 };
 
+    /// A device may fail to read this name.
+    ghost fails: { Self → List ℕ → Type 0 };
+
     /// The files that were written so far, in order, where that is known.
     ghost kept: { Self → Option (List WrittenFile) };
 
     /// All bytes of a file. The name `stdin` is standard input.
     fn read(&mut self, alloc: Global, name: &str) -> Result<Vec<u8>, ReadFault>
         ensures bytes { IfOk result (λ bytes. holds self.old name.now bytes.items) }
+        ensures fault { IfErr result (λ fault. fault ≡ Fault.Device → fails self.old name.now) }
         ensures stays { self.new ≡ self.old };
 
     /// A writer of a new file of this name.
-    fn create(&mut self, alloc: Global, name: &str) -> Result<Self::Writer, DeviceFault>
+    fn create(&mut self, alloc: Global, name: &str) -> Result<Self::Writer, WriteFault>
         ensures fresh { IfOk result (λ writer. IsFresh (kept self.old) (Self.Writer.output writer)) }
         ensures stays { self.new ≡ self.old };
 
     /// Ends the writing of a file: what its writer took is the file of this name.
-    fn close(&mut self, alloc: Global, name: &str, writer: Self::Writer) -> Result<(), DeviceFault>
-        ensures { OnOk result (KeepsFile (kept self.old) (kept self.new) name.now (Self.Writer.output writer)) };
+    fn close(&mut self, alloc: Global, name: &str, writer: Self::Writer) -> Result<(), WriteFault>
+        ensures keeps { OnOk result (KeepsFile (kept self.old) (kept self.new) name.now (Self.Writer.output writer)) }
+        ensures stays { OnErr result (kept self.new ≡ kept self.old) };
 }
 
 /// The files of the system.
@@ -49,7 +56,12 @@ pub struct RealFiles<'r, R> {
 }
 
 impl<'r, R: rt::Files + Input + AllocGlobal> RealFiles<'r, R> {
-    pub fn new(rt: &'r R) -> Self {
+    ghost use Rattle.std.specs.Prelude.{◌≡◌};
+
+    /// The files that the runtime `rt` gives.
+    pub fn new(rt: &'r R) -> Self
+        ensures { result.rt.now ≡ rt.now }
+    {
         RealFiles { rt }
     }
 }
@@ -61,11 +73,20 @@ fn fault_of(error: io::Error) -> ReadFault {
     }
 }
 
+fn write_fault_of(error: io::Error) -> WriteFault {
+    match error.kind() {
+        io::ErrorKind::OutOfMemory => WriteFault::OutOfMemory,
+        _ => WriteFault::Device,
+    }
+}
+
 impl<'r, R: rt::Files + Input + AllocGlobal> Files for RealFiles<'r, R> {
     ghost use Rattle.std.specs.Prelude.{⊤, None};
 
     /// Of the system's files nothing is known.
     ghost holds = { λ _ _ _. ⊤ };
+
+    ghost fails = { λ _ _. ⊤ };
 
     ghost kept = { λ _. None };
 
@@ -87,10 +108,10 @@ impl<'r, R: rt::Files + Input + AllocGlobal> Files for RealFiles<'r, R> {
         }
     }
 
-    fn create(&mut self, _alloc: Global, name: &str) -> Result<Self::Writer, DeviceFault> {
+    fn create(&mut self, _alloc: Global, name: &str) -> Result<Self::Writer, WriteFault> {
         match fs::create(self.rt, name) {
             Ok(file) => Ok(WriterSink::new(file)),
-            Err(_) => Err(DeviceFault),
+            Err(error) => Err(write_fault_of(error)),
         }
     }
 
@@ -99,7 +120,7 @@ impl<'r, R: rt::Files + Input + AllocGlobal> Files for RealFiles<'r, R> {
         _alloc: Global,
         _name: &str,
         _writer: Self::Writer,
-    ) -> Result<(), DeviceFault> {
+    ) -> Result<(), WriteFault> {
         Ok(())
     }
 }

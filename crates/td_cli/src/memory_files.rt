@@ -1,11 +1,12 @@
 //! Files in memory, for tests.
 
-ghost use Rattle.std.specs.Prelude.{◌≡◌, IfOk, IfSome};
-ghost use Rattle.td_cli.specs.MemoryFiles.{HasFile};
+ghost use Rattle.std.specs.Prelude.{◌≡◌, [], IfOk, IfSome, IfNone};
+ghost use Rattle.td_cli.specs.MemoryFiles.{HasFile, IsMissing};
 
 use crate::files::{Files, ReadFault};
 use std::alloc::{AllocError, Global};
-use td_gates::{DeviceFault, MemorySink};
+use td_certificate::WriteFault;
+use td_gates::MemorySink;
 
 /// A file that was written.
 #[derive(Drop)]
@@ -42,8 +43,13 @@ pub struct MemoryFiles<'a> {
 }
 
 impl<'a> MemoryFiles<'a> {
-    /// These files, whose readers and writers never fail.
-    pub fn new(alloc: Global, files: &'a [(&'a str, &'a [u8])]) -> Self {
+    /// These files, whose readers never fail, and whose writers fail after 1,048,576 bytes.
+    pub fn new(alloc: Global, files: &'a [(&'a str, &'a [u8])]) -> Self
+        ensures files { result.files.now ≡ files.now }
+        ensures readable { result.readable ≡ 18446744073709551615 }
+        ensures writable { result.writable ≡ 1048576 }
+        ensures written { result.written.items ≡ [] }
+    {
         MemoryFiles {
             files,
             readable: usize::MAX,
@@ -53,13 +59,17 @@ impl<'a> MemoryFiles<'a> {
     }
 
     /// The same files, of which a reader fails after so many bytes.
-    pub fn reading(mut self, readable: usize) -> Self {
+    pub fn reading(mut self, readable: usize) -> Self
+        ensures { result ≡ record self.entry { readable = readable } }
+    {
         self.readable = readable;
         self
     }
 
     /// The same files, of which a writer fails after so many bytes.
-    pub fn writing(mut self, writable: usize) -> Self {
+    pub fn writing(mut self, writable: usize) -> Self
+        ensures { result ≡ record self.entry { writable = writable } }
+    {
         self.writable = writable;
         self
     }
@@ -82,7 +92,8 @@ fn copied(alloc: Global, bytes: &[u8]) -> Result<Vec<u8>, AllocError>
 
 /// The bytes of the first file of this name.
 fn found<'a>(files: &[(&'a str, &'a [u8])], name: &str) -> Option<&'a [u8]>
-    ensures { IfSome result (λ bytes. HasFile files.now name.now bytes.now) }
+    ensures some { IfSome result (λ bytes. HasFile files.now name.now bytes.now) }
+    ensures none { IfNone result (IsMissing files.now name.now) }
 {
     for (file, bytes) in files {
         if *file == name {
@@ -94,10 +105,13 @@ fn found<'a>(files: &[(&'a str, &'a [u8])], name: &str) -> Option<&'a [u8]>
 
 impl<'a> Files for MemoryFiles<'a> {
     ghost use Rattle.std.specs.Prelude.{Some, map};
-    ghost use Rattle.td_cli.specs.MemoryFiles.{HasFile, written_file};
+    ghost use Rattle.td_cli.specs.MemoryFiles.{HasFile, FailsOn, written_file};
 
     /// A file of this name has these bytes.
     ghost holds = { λ files name bytes. HasFile files.files.now name bytes };
+
+    /// No file has this name, or the reader of one fails.
+    ghost fails = { λ files name. FailsOn files.files.now files.readable name };
 
     ghost kept = { λ files. Some (map written_file files.written.items) };
 
@@ -112,17 +126,20 @@ impl<'a> Files for MemoryFiles<'a> {
         }
     }
 
-    fn create(&mut self, alloc: Global, _name: &str) -> Result<MemorySink, DeviceFault> {
-        MemorySink::new(alloc, self.writable, usize::MAX).map_err(|_| DeviceFault)
+    fn create(&mut self, alloc: Global, _name: &str) -> Result<MemorySink, WriteFault> {
+        match MemorySink::new(alloc, self.writable, usize::MAX) {
+            Ok(sink) => Ok(sink),
+            Err(_) => Err(WriteFault::OutOfMemory),
+        }
     }
 
-    fn close(&mut self, alloc: Global, name: &str, writer: MemorySink) -> Result<(), DeviceFault> {
+    fn close(&mut self, alloc: Global, name: &str, writer: MemorySink) -> Result<(), WriteFault> {
         let Ok(name) = copied(alloc, name.as_bytes()) else {
-            return Err(DeviceFault);
+            return Err(WriteFault::OutOfMemory);
         };
         match self.written.push(MemoryFile { name, sink: writer }) {
             Ok(()) => Ok(()),
-            Err(_) => Err(DeviceFault),
+            Err(_) => Err(WriteFault::OutOfMemory),
         }
     }
 }

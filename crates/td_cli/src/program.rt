@@ -1,13 +1,14 @@
 //! The program.
 
-ghost use Rattle.std.specs.Prelude.{◌≡◌, ◌≤◌, ◌⊎◌, ◌++◌, map, option_map, OnOk, IfSome, IfNone};
+ghost use Rattle.std.specs.Prelude.{◌≡◌, ◌≤◌, ◌⊎◌, ◌++◌, map, option_map, OnOk, OnErr, IfSome, IfNone};
 ghost use Rattle.clap.specs.Words.{kind_of};
 ghost use Rattle.clap.specs.declared.error.kind.ErrorKind.TheVariants as Kind;
 ghost use Rattle.td_gates.specs.Output.{Output};
-ghost use Rattle.td_cli.specs.Commands.{Tells, IsTold, SimEnds, BoundEnds, unread_text, IsNotRead, IsOutOfMemory};
+ghost use Rattle.td_cli.specs.Commands.{Tells, IsTold, SimEnds, BoundEnds, unread_text, IsUnread, IsOutOfMemory};
+ghost use Rattle.td_cli.specs.declared.files.ReadFault.TheVariants as Fault;
 ghost use Rattle.td_gates.specs.Delays.{IsInRange};
 ghost use Rattle.td_cli.specs.CommandLine.{delays, IsCarriedOut};
-ghost use Rattle.td_cli.specs.Commands.{CheckEnds, WorstOf, EndsOnFile, unwritten_text, IsNotWritten, disk_of, RequestEnds, TellsText, IsSilent, ProgramEnds};
+ghost use Rattle.td_cli.specs.Commands.{CheckEnds, WorstOf, EndsOnFile, unwritten_text, IsNotWritten, disk_of, RequestEnds, IsShown, TellsText, IsSilent, ProgramEnds};
 ghost use Rattle.td_cli.specs.Written.{IsWritten};
 ghost use Rattle.td_cli.specs.declared.status.Status.TheVariants as Ended;
 ghost use Rattle.td_certificate.specs.Spelling.{HasSpelling};
@@ -38,12 +39,12 @@ pub fn run<S: AsStr, F: Files, O: Sink, E: Sink>(
     out: &mut O,
     err: &mut E,
 ) -> Status
-    ensures { ProgramEnds (disk_of (F.holds files.old) (F.kept files.old) (F.kept files.new)) (map S.text words.now) result
+    ensures { ProgramEnds (disk_of (F.holds files.old) (F.fails files.old) (F.kept files.old) (F.kept files.new)) (map S.text words.now) result
         (O.output out.old) (O.output out.new) (E.output err.old) (E.output err.new) }
 {
     match run_plain(alloc, words, files, out, err) {
         Some(status) => status,
-        None => Status::BadCommand,
+        None => tell(err, b"tdelay: bad command line\n", Status::BadCommand),
     }
 }
 
@@ -55,7 +56,7 @@ pub fn run_plain<S: AsStr, F: Files, O: Sink, E: Sink>(
     out: &mut O,
     err: &mut E,
 ) -> Option<Status>
-    ensures some { IfSome result (λ status. ProgramEnds (disk_of (F.holds files.old) (F.kept files.old) (F.kept files.new)) (map S.text words.now) status
+    ensures some { IfSome result (λ status. ProgramEnds (disk_of (F.holds files.old) (F.fails files.old) (F.kept files.old) (F.kept files.new)) (map S.text words.now) status
         (O.output out.old) (O.output out.new) (E.output err.old) (E.output err.new)) }
     ensures none { IfNone result (IsSilent (map S.text words.now)
         (O.output out.old) (O.output out.new) (E.output err.old) (E.output err.new)) }
@@ -77,7 +78,7 @@ pub fn carry_out<F: Files, O: Sink, E: Sink>(
     err: &mut E,
 ) -> Status
     requires { IsCarriedOut request.now }
-    ensures { RequestEnds (disk_of (F.holds files.old) (F.kept files.old) (F.kept files.new)) request.now result
+    ensures { RequestEnds (disk_of (F.holds files.old) (F.fails files.old) (F.kept files.old) (F.kept files.new)) request.now result
         (O.output out.old) (O.output out.new) (E.output err.old) (E.output err.new) }
 {
     match request {
@@ -97,7 +98,7 @@ fn run_sim<F: Files, O: Sink, E: Sink>(
     err: &mut E,
 ) -> Status
     requires { IsInRange (delays request.rise request.fall) }
-    ensures { RequestEnds (disk_of (F.holds files.old) (F.kept files.old) (F.kept files.new)) (Asked.Sim request.entry) result
+    ensures { RequestEnds (disk_of (F.holds files.old) (F.fails files.old) (F.kept files.old) (F.kept files.new)) (Asked.Sim request.entry) result
         (O.output out.old) (O.output out.new) (E.output err.old) (E.output err.new) }
 {
     let Some(default) = Delay::new(request.rise, request.fall) else {
@@ -118,7 +119,7 @@ fn run_bound<F: Files, O: Sink, E: Sink>(
     err: &mut E,
 ) -> Status
     requires { IsInRange (delays request.rise request.fall) }
-    ensures { RequestEnds (disk_of (F.holds files.old) (F.kept files.old) (F.kept files.new)) (Asked.Bound request.entry) result
+    ensures { RequestEnds (disk_of (F.holds files.old) (F.fails files.old) (F.kept files.old) (F.kept files.new)) (Asked.Bound request.entry) result
         (O.output out.old) (O.output out.new) (E.output err.old) (E.output err.new) }
 {
     let Some(default) = Delay::new(request.rise, request.fall) else {
@@ -148,7 +149,7 @@ fn run_worst<F: Files, O: Sink, E: Sink>(
 ) -> Status
     requires range { IsInRange (delays request.rise request.fall) }
     requires budget { request.budget ≤ 10000000 }
-    ensures { RequestEnds (disk_of (F.holds files.old) (F.kept files.old) (F.kept files.new)) (Asked.Worst request.entry) result
+    ensures { RequestEnds (disk_of (F.holds files.old) (F.fails files.old) (F.kept files.old) (F.kept files.new)) (Asked.Worst request.entry) result
         (O.output out.old) (O.output out.new) (E.output err.old) (E.output err.new) }
 {
     let Some(default) = Delay::new(request.rise, request.fall) else {
@@ -181,7 +182,7 @@ fn run_check<F: Files, O: Sink, E: Sink>(
     err: &mut E,
 ) -> Status
     requires { IsInRange (delays request.rise request.fall) }
-    ensures { RequestEnds (disk_of (F.holds files.old) (F.kept files.old) (F.kept files.new)) (Asked.Check request.entry) result
+    ensures { RequestEnds (disk_of (F.holds files.old) (F.fails files.old) (F.kept files.old) (F.kept files.new)) (Asked.Check request.entry) result
         (O.output out.old) (O.output out.new) (E.output err.old) (E.output err.new) }
 {
     let Some(default) = Delay::new(request.rise, request.fall) else {
@@ -203,7 +204,7 @@ fn check_file<F: Files, O: Sink, E: Sink>(
     out: &mut O,
     err: &mut E,
 ) -> Status
-    ensures ends { EndsOnFile (F.holds files.old) name.now
+    ensures ends { EndsOnFile (disk_of (F.holds files.old) (F.fails files.old) (F.kept files.old) (F.kept files.new)) name.now
         (λ certificate. CheckEnds result text.now default certificate
         (O.output out.old) (O.output out.new) (E.output err.old) (E.output err.new)) result
         (O.output out.old) (O.output out.new) (E.output err.old) (E.output err.new) }
@@ -217,7 +218,9 @@ fn check_file<F: Files, O: Sink, E: Sink>(
 
 /// Tells that a file can't be read, or want of memory.
 fn tell_unread<E: Sink>(alloc: Global, err: &mut E, file: &str, fault: ReadFault) -> Status
-    ensures { (output : Output) → IsNotRead file.now result output output (E.output err.old) (E.output err.new) }
+    ensures { (output : Output)
+        → ((fault ≡ Fault.Device) × IsUnread file.now result output output (E.output err.old) (E.output err.new))
+        ⊎ IsOutOfMemory result output output (E.output err.old) (E.output err.new) }
 {
     let mut text = Text::new(alloc);
     let told = match fault {
@@ -317,7 +320,7 @@ pub fn carry_out_worst<F: Files, O: Sink, E: Sink>(
     err: &mut E,
 ) -> Status
     requires { budget ≤ 10000000 }
-    ensures { WorstOf (disk_of (F.holds files.old) (F.kept files.old) (F.kept files.new)) text.now default budget
+    ensures { WorstOf (disk_of (F.holds files.old) (F.fails files.old) (F.kept files.old) (F.kept files.new)) text.now default budget
         (option_map (λ word. word.now) name.entry) result
         (O.output out.old) (O.output out.new) (E.output err.old) (E.output err.new) }
 {
@@ -348,7 +351,8 @@ fn keep<F: Files>(
     certificate: &Certificate,
 ) -> Result<(), WriteFault>
     requires { HasSpelling certificate.now }
-    ensures { OnOk result (IsWritten (F.kept files.old) (F.kept files.new) name.now certificate.now) }
+    ensures written { OnOk result (IsWritten (F.kept files.old) (F.kept files.new) name.now certificate.now) }
+    ensures stays { OnErr result (F.kept files.new ≡ F.kept files.old) }
 {
     let mut writer = files.create(alloc, name)?;
     write(alloc, &mut writer, certificate)?;
@@ -408,7 +412,7 @@ fn tell_error<O: Sink, E: Sink>(alloc: Global, error: Error, out: &mut O, err: &
     ensures memory { kind_of error ≡ Kind.OutOfMemory → IsOutOfMemory result
         (O.output out.old) (O.output out.new) (E.output err.old) (E.output err.new) }
     ensures told { IsOutOfMemory result (O.output out.old) (O.output out.new) (E.output err.old) (E.output err.new)
-        ⊎ TellsText result (O.output out.old) (O.output out.new) (E.output err.old) (E.output err.new) }
+        ⊎ TellsText (kind_of error) result (O.output out.old) (O.output out.new) (E.output err.old) (E.output err.new) }
 {
     if error.kind() == ErrorKind::OutOfMemory {
         return tell(err, b"tdelay: out of memory\n", Status::Device);
@@ -420,13 +424,14 @@ fn tell_error<O: Sink, E: Sink>(alloc: Global, error: Error, out: &mut O, err: &
     if error.use_stderr() {
         tell(err, text.as_bytes(), Status::BadCommand)
     } else {
-        tell_help(out, err, text.as_bytes())
+        tell_help(&error, out, err, text.as_bytes())
     }
 }
 
 /// Help on standard output.
-fn tell_help<O: Sink, E: Sink>(out: &mut O, err: &mut E, text: &[u8]) -> Status
-    ensures { TellsText result (O.output out.old) (O.output out.new) (E.output err.old) (E.output err.new) }
+fn tell_help<O: Sink, E: Sink>(error: &Error, out: &mut O, err: &mut E, text: &[u8]) -> Status
+    requires { IsShown (kind_of error.now) }
+    ensures { TellsText (kind_of error.now) result (O.output out.old) (O.output out.new) (E.output err.old) (E.output err.new) }
 {
     match out.write_all(text) {
         Ok(()) => Status::Done,

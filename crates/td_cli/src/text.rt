@@ -20,7 +20,7 @@ impl Model for Text {
 }
 
 impl Text {
-    ghost use Rattle.std.specs.Prelude.{◌≡◌, ◌++◌, [], OnOk, decimal};
+    ghost use Rattle.std.specs.Prelude.{◌≡◌, ◌++◌, [], OnOk, OnErr, decimal};
     ghost use Rattle.td_netlist.specs.Views.{name_of};
     ghost use Rattle.td_netlist.specs.Printed.{printed};
 
@@ -43,7 +43,8 @@ impl Text {
 
     /// Appends bytes.
     pub fn push(&mut self, bytes: &[u8]) -> Result<(), AllocError>
-        ensures { OnOk result (self.new ≡ self.old ++ bytes.now) }
+        ensures appended { OnOk result (self.new ≡ self.old ++ bytes.now) }
+        ensures unchanged { OnErr result (self.new ≡ self.old) }
     {
         self.bytes.extend_from_slice(bytes)?;
         Ok(())
@@ -51,14 +52,16 @@ impl Text {
 
     /// Appends a word.
     pub fn word(&mut self, word: &str) -> Result<(), AllocError>
-        ensures { OnOk result (self.new ≡ self.old ++ word.now) }
+        ensures appended { OnOk result (self.new ≡ self.old ++ word.now) }
+        ensures unchanged { OnErr result (self.new ≡ self.old) }
     {
         self.push(word.as_bytes())
     }
 
     /// Appends a number in decimal digits.
     pub fn number(&mut self, number: u64) -> Result<(), AllocError>
-        ensures { OnOk result (self.new ≡ self.old ++ decimal number) }
+        ensures appended { OnOk result (self.new ≡ self.old ++ decimal number) }
+        ensures unchanged { OnErr result (self.new ≡ self.old) }
     {
         let digits = format!(in self.alloc; "{number}")?;
         self.bytes.extend_from_slice(digits.as_bytes())?;
@@ -67,7 +70,8 @@ impl Text {
 
     /// Appends the printed form of a name.
     pub fn name(&mut self, name: &Name) -> Result<(), AllocError>
-        ensures { OnOk result (self.new ≡ self.old ++ printed (name_of name.now)) }
+        ensures appended { OnOk result (self.new ≡ self.old ++ printed (name_of name.now)) }
+        ensures unchanged { OnErr result (self.new ≡ self.old) }
     {
         name.print(&mut self.bytes)?;
         Ok(())

@@ -11,7 +11,13 @@ pub struct WriterSink<W> {
 }
 
 impl<W: Write> WriterSink<W> {
-    pub fn new(writer: W) -> Self {
+    ghost use Rattle.std.specs.Prelude.{◌≡◌};
+
+    /// A sink over this writer, which hasn't failed yet.
+    pub fn new(writer: W) -> Self
+        ensures writer { result.writer ≡ writer }
+        ensures failures { result.failures ≡ 0 }
+    {
         WriterSink {
             writer,
             failures: 0,

@@ -1,6 +1,7 @@
 //! Names of nets.
 
-ghost use Rattle.std.specs.Prelude.{◌≡◌, ◌++◌, OnOk, codes, decimal};
+ghost use Rattle.std.specs.Prelude.{◌≡◌, ◌++◌, length, take, OnOk, OnErr};
+ghost use Rattle.td_netlist.specs.Printed.{bit_text};
 
 use itoa::Buffer;
 use std::alloc::AllocError;
@@ -13,16 +14,22 @@ pub struct Name {
     pub bit: Option<u32>,
 }
 
-fn print_bit(bit: u32, out: &mut Vec<u8>) -> Result<(), AllocError>
-    ensures { OnOk result (out.new.items ≡ out.old.items ++ codes "[" ++ decimal bit ++ codes "]") }
+/// Appends `[i]` for the bit i, behind these bytes; nothing where there is no bit. A beginning may stay behind a refused growth.
+fn append_bit(before: &[u8], bit: Option<u32>, out: &mut Vec<u8>) -> Result<(), AllocError>
+    ensures printed { OnOk result (out.new.items ≡ out.old.items ++ bit_text before.now bit) }
+    ensures front { OnErr result (take (length out.old.items) out.new.items ≡ out.old.items) }
 {
+    let Some(bit) = bit else {
+        return Ok(());
+    };
+    out.extend_from_slice(before)?;
     out.extend_from_slice(b"[")?;
     out.extend_from_slice(Buffer::new().format(bit).as_bytes())?;
     out.extend_from_slice(b"]")
 }
 
 impl Name {
-    ghost use Rattle.std.specs.Prelude.{◌≡◌, ◌++◌, IfOk, OnOk};
+    ghost use Rattle.std.specs.Prelude.{◌≡◌, ◌++◌, length, take, IfOk, OnOk, OnErr};
     ghost use Rattle.td_netlist.specs.Printed.{printed};
     ghost use Rattle.td_netlist.specs.Views.{name_of};
 
@@ -36,20 +43,32 @@ impl Name {
     /// Appends the name as a text of the language spells it: a simple identifier as it is, any other with a backslash
     /// before it (IEEE 1364-2005, clause 3.7). A bit is followed by `[i]`, with a space before it after a backslash.
     pub fn print(&self, out: &mut Vec<u8>) -> Result<(), AllocError>
-        ensures { OnOk result (out.new.items ≡ out.old.items ++ printed (name_of self.now)) }
+        ensures printed { OnOk result (out.new.items ≡ out.old.items ++ printed (name_of self.now)) }
+        ensures unchanged { OnErr result (out.new.items ≡ out.old.items) }
     {
-        let is_simple = is_simple_identifier(&self.text);
-        if !is_simple {
-            out.extend_from_slice(b"\\")?;
-        }
-        out.extend_from_slice(&self.text)?;
-        if let Some(bit) = self.bit {
-            if !is_simple {
-                out.extend_from_slice(b" ")?;
+        let start = out.len();
+        match self.append(out) {
+            Ok(()) => Ok(()),
+            Err(error) => {
+                out.truncate(start);
+                Err(error)
             }
-            print_bit(bit, out)?;
         }
-        Ok(())
+    }
+
+    /// The same, where a beginning may stay behind a refused growth.
+    fn append(&self, out: &mut Vec<u8>) -> Result<(), AllocError>
+        ensures printed { OnOk result (out.new.items ≡ out.old.items ++ printed (name_of self.now)) }
+        ensures front { OnErr result (take (length out.old.items) out.new.items ≡ out.old.items) }
+    {
+        if is_simple_identifier(&self.text) {
+            out.extend_from_slice(&self.text)?;
+            append_bit(b"", self.bit, out)
+        } else {
+            out.extend_from_slice(b"\\")?;
+            out.extend_from_slice(&self.text)?;
+            append_bit(b" ", self.bit, out)
+        }
     }
 }
 

@@ -7,3 +7,4 @@ pub mod Named
 pub mod Gates
 pub mod Settled
 pub mod Existence
+pub mod Worst

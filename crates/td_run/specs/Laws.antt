@@ -1,11 +1,11 @@
--- Laws of settled levels, runs and delays.
+-- Laws of settled levels, runs, delays and worst delays.
 use Rattle.std.specs.Prelude.{◌≡◌, ℕ, List, length}
 use Rattle.td_gates.specs.declared.primitives.Level.{Level}
 use Rattle.td_gates.specs.Wave.{Wave}
 use Rattle.td_netlist.specs.Netlist.{Net, Netlist}
 use Rattle.td_netlist.specs.WellFormed.{IsWellFormed}
 use Rattle.td_circuit.specs.Loops.{Loop}
-use Rattle.td_circuit.specs.Run.{IsNetOf, IsSettled, Runs, IsDelay}
+use Rattle.td_circuit.specs.Run.{IsNetOf, IsSettled, Runs, IsDelay, IsWorst}
 
 -- a netlist without a loop, in which each net that is read has one driver
 pub record IsAcyclic (netlist : Netlist) : Type 0 where
@@ -33,3 +33,8 @@ abbrev pub OneDelay : Type 0
 OneDelay = (netlist : Netlist) (first second : List Level) → IsAcyclic netlist → Fits netlist first → Fits netlist second
     → (delay : ℕ) × IsDelay netlist first second delay
     × ((other : ℕ) → IsDelay netlist first second other → other ≡ delay)
+
+-- each netlist without a loop has exactly one worst delay over all pairs of Boolean vectors
+abbrev pub OneWorst : Type 0
+OneWorst = (netlist : Netlist) → IsAcyclic netlist
+    → (worst : ℕ) × IsWorst netlist worst × ((other : ℕ) → IsWorst netlist other → other ≡ worst)

@@ -1,6 +1,6 @@
 //! Laws of the definitions. These functions run nothing.
 
-ghost use Rattle.td_run.specs.Laws.{OneSettling, OneRun, OneDelay};
+ghost use Rattle.td_run.specs.Laws.{OneSettling, OneRun, OneDelay, OneWorst};
 
 /// A netlist without a loop has exactly one map of settled levels for each vector.
 pub fn one_settling()
@@ -15,4 +15,9 @@ pub fn one_run()
 /// Each pair of vectors of a netlist without a loop has exactly one delay.
 pub fn one_delay()
     ensures { OneDelay }
+{}
+
+/// A netlist without a loop has exactly one worst delay over all pairs of Boolean vectors.
+pub fn one_worst()
+    ensures { OneWorst }
 {}

@@ -1,8 +1,9 @@
 use Rattle.std.proofs.Common.{sym, subst, inl, inr}
+use Rattle.td_cli.proofs.Programs.{because}
 use Rattle.td_cli.proofs.program.check_file.Goals as goal
 
 pub returns-in-Err-clause-ends : goal.returns-in-Err-clause-ends
-returns-in-Err-clause-ends g c = inr (c.tell_unread.ensures _)
+returns-in-Err-clause-ends g c = inr (because c.in-Err.ensures.fault (c.tell_unread.ensures _))
 
 pub returns-in-Ok-clause-ends : goal.returns-in-Ok-clause-ends
 returns-in-Ok-clause-ends g c =

@@ -5,9 +5,11 @@ use Rattle.td_cli.proofs.program.run_plain.Goals as goal
 
 pub returns-in-Err-clause-some : goal.returns-in-Err-clause-some
 returns-in-Err-clause-some g c =
-    refused_words (disk_of (g.F.Files.holds c.args.files.now) (g.F.Files.kept c.args.files.now) (g.F.Files.kept c.args.files.now)) refl
-    (map g.S.AsStr.text c.args.words.now) c.tell_error.result
+    refused_words
+    (disk_of (g.F.Files.holds c.args.files.now) (g.F.Files.fails c.args.files.now) (g.F.Files.kept c.args.files.now) (g.F.Files.kept c.args.files.now))
+    refl (map g.S.AsStr.text c.args.words.now) c.in-Err.error c.tell_error.result
     (g.O.Sink.output c.args.out.now) (g.O.Sink.output c.tell_error.new.out)
     (g.E.Sink.output c.args.err.now) (g.E.Sink.output c.tell_error.new.err)
-    (λ taken. c.tell_error.ensures.memory (c.in-Err.ensures.fault taken))
+    c.in-Err.ensures.fault
+    c.tell_error.ensures.memory
     c.tell_error.ensures.told

@@ -1,8 +1,9 @@
 use Rattle.std.proofs.Common.{ap, sym, subst, inl, inr}
+use Rattle.td_cli.proofs.Programs.{because}
 use Rattle.td_cli.proofs.program.run_worst.Goals as goal
 
 pub returns-in-Err : goal.returns-in-Err
-returns-in-Err g c = inr (c.tell_unread.ensures _, ap g.F.Files.kept c.read.ensures.stays)
+returns-in-Err g c = inr (because c.in-Err.ensures.fault (c.tell_unread.ensures _), ap g.F.Files.kept c.read.ensures.stays)
 
 pub returns-in-Ok : goal.returns-in-Ok
 returns-in-Ok g c =
