@@ -9,7 +9,7 @@ use Rattle.td_netlist.specs.Netlist.{Netlist}
 use Rattle.td_netlist.specs.declared.fault.Fault.{Fault}
 use Rattle.td_netlist.specs.declared.fault.FaultKind.TheVariants as netlist_kind
 use Rattle.td_netlist.specs.Faults.{IsUnlessMemory}
-use Rattle.td_netlist.specs.Means.{Means, OfNames, BreaksIn}
+use Rattle.td_netlist.specs.Means.{Means, IsFaultIn}
 use Rattle.td_netlist.specs.WellFormed.{IsWellFormed}
 use Rattle.td_netlist.specs.Views.{name_of}
 use Rattle.td_netlist.proofs.Readings.{one_netlist}
@@ -65,12 +65,12 @@ spelled_fault kind.Version line text c spells within other is = spells-stops tex
 
 pub refused : (text : List ℕ) (default : Delay) (result : Result Netlist Fault) (told : Fault) → result ≡ Err told
     → ((netlist : Netlist) → Means text default netlist → IsUnlessMemory result netlist)
-    → OfNames told.kind (BreaksIn text told.kind told.line) → told.kind ≢ netlist_kind.OutOfMemory
+    → IsFaultIn text told.kind told.line → told.kind ≢ netlist_kind.OutOfMemory
     → (certificate : List ℕ) → IsCheckFault text default certificate (fault.Netlist told)
-refused text default result told is only breaks other certificate = (
+refused text default result told is only has other certificate = (
   other,
   λ netlist means. other (subst (λ (r : Result Netlist Fault). IsUnlessMemory r netlist) is (only netlist means)),
-  breaks,
+  has,
 )
 
 -- texts that have a verdict have no fault

@@ -3,7 +3,7 @@ use Rattle.std.specs.Prelude.{◌≡◌, ◌≢◌, ℕ, List, Result, Ok, Err}
 use Rattle.td_gates.specs.declared.timing.Delay.{Delay}
 use Rattle.td_netlist.specs.declared.fault.FaultKind.TheVariants as netlist_kind
 use Rattle.td_netlist.specs.Netlist.{Netlist}
-use Rattle.td_netlist.specs.Means.{Means, OfNames, BreaksIn}
+use Rattle.td_netlist.specs.Means.{Means, IsFaultIn}
 use Rattle.td_netlist.specs.Views.{name_of}
 use Rattle.td_circuit.specs.Loops.{Loop, LiesOnLoop}
 use Rattle.td_circuit.specs.Run.{IsWorst}
@@ -31,13 +31,13 @@ pub record HaveVerdict (netlist_text : List ℕ) (default : Delay) (text : List 
   pub within : IsWithinLimit text
   pub is : IsVerdict netlist certificate verdict
 
--- What a fault says of the texts, looked for in this order: the netlist's text means none, and a fault of names is one; the
--- netlist has a loop; the certificate's text has the fault. Nothing is said of want of memory.
+-- What a fault says of the texts, looked for in this order: the netlist's text means none, and has the fault; the netlist has
+-- a loop; the certificate's text has the fault. Nothing is said of want of memory.
 abbrev pub IsCheckFault : List ℕ → Delay → List ℕ → CheckFault → Type 0
 IsCheckFault netlist_text default text fault.OutOfMemory = Unit {0}
 IsCheckFault netlist_text default text (fault.Netlist told) =
     (told.kind ≢ netlist_kind.OutOfMemory) × ((netlist : Netlist) → ¬ Means netlist_text default netlist)
-    × OfNames told.kind (BreaksIn netlist_text told.kind told.line)
+    × IsFaultIn netlist_text told.kind told.line
 IsCheckFault netlist_text default text (fault.Loop name) =
     (netlist : Netlist) × Means netlist_text default netlist × LiesOnLoop netlist (name_of name)
 IsCheckFault netlist_text default text (fault.Certificate told) =

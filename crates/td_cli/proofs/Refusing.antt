@@ -4,7 +4,7 @@ use Rattle.td_gates.specs.declared.timing.Delay.{Delay}
 use Rattle.td_netlist.specs.declared.fault.Fault.{Fault}
 use Rattle.td_netlist.specs.declared.fault.FaultKind.TheVariants as kind
 use Rattle.td_netlist.specs.Netlist.{Netlist}
-use Rattle.td_netlist.specs.Means.{Means, OfNames, BreaksIn}
+use Rattle.td_netlist.specs.Means.{Means, IsFaultIn}
 use Rattle.td_circuit.specs.declared.building.BuildFault.{BuildFault}
 use Rattle.td_circuit.specs.declared.building.BuildFault.TheVariants as build
 use Rattle.td_circuit.specs.Built.{FitsBuildFault}
@@ -13,12 +13,12 @@ use Rattle.td_cli.specs.Outcomes.{IsOfFault, IsOfLoop, HasNoCircuit}
 
 pub refused-fits : (text : List ℕ) (default : Delay) (fault : Fault) (refused : Refusal) → IsOfFault fault refused
     → ((netlist : Netlist) → Means text default netlist → fault.kind ≡ kind.OutOfMemory)
-    → OfNames fault.kind (BreaksIn text fault.kind fault.line) → HasNoCircuit text default refused
-refused-fits text default fault refused is only breaks =
+    → IsFaultIn text fault.kind fault.line → HasNoCircuit text default refused
+refused-fits text default fault refused is only has =
     let P : Refusal → Type 0 = λ r. HasNoCircuit text default r in
     elim is [
       | inl memory ↦ subst P (sym memory) tt
-      | inr other ↦ subst P (sym other.1) (record { told = other.0; means_none = λ netlist means. other.0 (only netlist means); breaks = breaks })
+      | inr other ↦ subst P (sym other.1) (record { told = other.0; means_none = λ netlist means. other.0 (only netlist means); has = has })
     ]
 
 pub looped-fits : (text : List ℕ) (default : Delay) (netlist : Netlist) → Means text default netlist → (fault : BuildFault) (refused : Refusal)

@@ -18,6 +18,8 @@ use Rattle.td_cli.specs.Written.{WrittenFile, IsKeptOf}
 use Rattle.td_certificate.specs.declared.certificate.Certificate.{Certificate}
 use Rattle.td_cli.specs.Outcomes.{HasNoReport, HasNoBounds, HasNoCircuit, HasNoVerdict}
 use Rattle.td_cli.specs.CommandLine.{delays, kinds_of, Asks}
+use Rattle.td_cli.specs.declared.files.ReadFault.{ReadFault}
+use Rattle.td_cli.specs.declared.files.ReadFault.TheVariants as unread
 use Rattle.td_cli.specs.declared.command.Request.{Request}
 use Rattle.td_cli.specs.declared.command.Request.TheVariants as request
 
@@ -260,12 +262,15 @@ pub record IsSilent (words : List (List ℕ)) (out_old out_new err_old err_new :
   pub nothing : out_new ≡ out_old
   pub silent : err_new ≡ err_old
 
+abbrev pub bad_command_text : List ℕ
+bad_command_text = codes "tdelay: bad command line" ++ newline
+
 -- it was told that nothing is asked for
 pub record TellsNothingAsked (words : List (List ℕ)) (status : Status) (out_old out_new err_old err_new : Output) : Type 0 where
   pub nothing_asked : AskNothing words
   pub ends : status ≡ BadCommand
   pub nothing : out_new ≡ out_old
-  pub told : Tells err_old err_new (codes "tdelay: bad command line" ++ newline)
+  pub told : Tells err_old err_new bad_command_text
 
 -- What the program wrote, by what the words ask for: where the program doesn't take them, help or their fault was told. Want
 -- of memory may be told in place of any.
@@ -276,3 +281,8 @@ ProgramEnds disk words status out_old out_new err_old err_new =
     × (TellsOf words status out_old out_new err_old err_new
     ⊎ (IsOutOfMemory status out_old out_new err_old err_new
     ⊎ TellsNothingAsked words status out_old out_new err_old err_new)))
+
+-- the words can't be read, which was told: memory ran out, or a device failed
+abbrev pub RefusesWords : ReadFault → Status → Output → Output → Type 0
+RefusesWords unread.OutOfMemory status err_old err_new = (status ≡ Device) × Tells err_old err_new (refusal_text refusal.OutOfMemory)
+RefusesWords unread.Device status err_old err_new = (status ≡ BadCommand) × Tells err_old err_new bad_command_text

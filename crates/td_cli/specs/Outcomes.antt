@@ -8,7 +8,7 @@ use Rattle.td_circuit.specs.declared.building.BuildFault.{BuildFault}
 use Rattle.td_circuit.specs.declared.building.BuildFault.TheVariants as build
 use Rattle.td_netlist.specs.Netlist.{Netlist}
 use Rattle.td_netlist.specs.Views.{name_of}
-use Rattle.td_netlist.specs.Means.{Means, OfNames, BreaksIn}
+use Rattle.td_netlist.specs.Means.{Means, IsFaultIn}
 use Rattle.td_circuit.specs.Loops.{Loop, LiesOnLoop}
 use Rattle.td_circuit.specs.Numbering.{Numbered}
 use Rattle.td_cli.specs.declared.refusal.VectorWord.TheVariants as vector
@@ -54,11 +54,11 @@ pub record HasBadTo (text : List ℕ) (default : Delay) (from to : List ℕ) : T
   pub from_is : IsVector (length netlist.inputs) from
   pub no_vector : ¬ IsVector (length netlist.inputs) to
 
--- the text means no netlist, and the fault is one of it: of a fault of names, the name or terminal breaks its condition
+-- the text means no netlist, and has the fault
 pub record IsNetlistFault (text : List ℕ) (default : Delay) (fault : Fault) : Type 0 where
   pub told : fault.kind ≢ kind.OutOfMemory
   pub means_none : (netlist : Netlist) → ¬ Means text default netlist
-  pub breaks : OfNames fault.kind (BreaksIn text fault.kind fault.line)
+  pub has : IsFaultIn text fault.kind fault.line
 
 -- what holds where this is why the text has no circuit: nothing is said of want of memory
 abbrev pub HasNoCircuit : List ℕ → Delay → Refusal → Type 0

@@ -14,6 +14,15 @@ pub enum ReadFault {
     Device,
 }
 
+impl From<io::Error> for ReadFault {
+    fn from(error: io::Error) -> ReadFault {
+        match error.kind() {
+            io::ErrorKind::OutOfMemory => ReadFault::OutOfMemory,
+            _ => ReadFault::Device,
+        }
+    }
+}
+
 /// Files by name.
 pub trait Files {
     ghost use Rattle.std.specs.Prelude.{◌≡◌, ℕ, List, Option, IfOk, IfErr, OnOk, OnErr};
@@ -66,13 +75,6 @@ impl<'r, R: rt::Files + Input + AllocGlobal> RealFiles<'r, R> {
     }
 }
 
-fn fault_of(error: io::Error) -> ReadFault {
-    match error.kind() {
-        io::ErrorKind::OutOfMemory => ReadFault::OutOfMemory,
-        _ => ReadFault::Device,
-    }
-}
-
 fn write_fault_of(error: io::Error) -> WriteFault {
     match error.kind() {
         io::ErrorKind::OutOfMemory => WriteFault::OutOfMemory,
@@ -99,12 +101,12 @@ impl<'r, R: rt::Files + Input + AllocGlobal> Files for RealFiles<'r, R> {
         } else {
             match fs::open(self.rt, name) {
                 Ok(mut file) => file.read_to_end(&mut bytes),
-                Err(error) => return Err(fault_of(error)),
+                Err(error) => return Err(ReadFault::from(error)),
             }
         };
         match read {
             Ok(_) => Ok(bytes),
-            Err(error) => Err(fault_of(error)),
+            Err(error) => Err(ReadFault::from(error)),
         }
     }
 

@@ -22,7 +22,8 @@ pub use command::{BoundRequest, CheckRequest, Request, SimRequest, WorstRequest,
 pub use files::{Files, ReadFault, RealFiles};
 pub use memory_files::{MemoryFile, MemoryFiles};
 pub use program::{
-    carry_out, carry_out_bound, carry_out_check, carry_out_sim, carry_out_worst, run, run_plain,
+    carry_out, carry_out_bound, carry_out_check, carry_out_sim, carry_out_worst, refuse_words, run,
+    run_plain,
 };
 pub use refusal::Refusal;
 pub use searching::{Found, worst};

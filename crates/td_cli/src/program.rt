@@ -8,7 +8,7 @@ ghost use Rattle.td_cli.specs.Commands.{Tells, IsTold, SimEnds, BoundEnds, unrea
 ghost use Rattle.td_cli.specs.declared.files.ReadFault.TheVariants as Fault;
 ghost use Rattle.td_gates.specs.Delays.{IsInRange};
 ghost use Rattle.td_cli.specs.CommandLine.{delays, IsCarriedOut};
-ghost use Rattle.td_cli.specs.Commands.{CheckEnds, WorstOf, EndsOnFile, unwritten_text, IsNotWritten, disk_of, RequestEnds, IsShown, TellsText, IsSilent, ProgramEnds};
+ghost use Rattle.td_cli.specs.Commands.{CheckEnds, WorstOf, EndsOnFile, unwritten_text, IsNotWritten, disk_of, RequestEnds, IsShown, TellsText, IsSilent, ProgramEnds, RefusesWords};
 ghost use Rattle.td_cli.specs.Written.{IsWritten};
 ghost use Rattle.td_cli.specs.declared.status.Status.TheVariants as Ended;
 ghost use Rattle.td_certificate.specs.Spelling.{HasSpelling};
@@ -66,6 +66,17 @@ pub fn run_plain<S: AsStr, F: Files, O: Sink, E: Sink>(
         Ok(Some(request)) => Some(carry_out(alloc, files, &request, out, err)),
         Ok(None) => None,
         Err(error) => Some(tell_error(alloc, error, out, err)),
+    }
+}
+
+/// Tells on `err` that the words of the command line can't be read: memory ran out, or a device failed, as where a word isn't
+/// text in UTF-8.
+pub fn refuse_words<E: Sink>(err: &mut E, fault: ReadFault) -> Status
+    ensures { RefusesWords fault result (E.output err.old) (E.output err.new) }
+{
+    match fault {
+        ReadFault::OutOfMemory => tell(err, b"tdelay: out of memory\n", Status::Device),
+        ReadFault::Device => tell(err, b"tdelay: bad command line\n", Status::BadCommand),
     }
 }
 

@@ -596,3 +596,19 @@ fn bad_cubes(rt: HostRuntime) -> Result<(), Fail> {
     }
     Ok(())
 }
+
+/// What is told of words that can't be read, and how the program ends then.
+#[test]
+fn words_that_cannot_be_read(rt: HostRuntime) -> Result<(), Fail> {
+    let cases: [(ReadFault, &[u8], u8); 2] = [
+        (ReadFault::OutOfMemory, b"tdelay: out of memory\n", 5),
+        (ReadFault::Device, b"tdelay: bad command line\n", 2),
+    ];
+    for (fault, told, code) in &cases {
+        let mut err = MemorySink::new(rt.alloc(), ROOM, 7)?;
+        let status = refuse_words(&mut err, *fault);
+        assert_eq!(rt; err.bytes(), *told);
+        assert_eq!(rt; status.code(), *code);
+    }
+    Ok(())
+}

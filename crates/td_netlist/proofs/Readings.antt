@@ -1,5 +1,5 @@
 -- From the checks of a module to what its text means.
-use Rattle.std.proofs.Common.{◌≡◌, ℕ, List, map, Option, None, Some, Result, Ok, Err, refl, sym, ap, subst, ◌∙◌}
+use Rattle.std.proofs.Common.{◌≡◌, ℕ, List, map, Option, None, Some, Result, Ok, Err, refl, inl, inr, sym, ap, subst, ◌∙◌}
 use Rattle.std.specs.Prelude.{MatchOption, sum_by, IfOk, IfErr}
 use Rattle.td_gates.specs.declared.timing.Delay.{Delay}
 use Rattle.td_syntax.specs.declared.fault.FaultKind as syntax_kind
@@ -7,7 +7,7 @@ use Rattle.td_syntax.specs.declared.fault.FaultKind.TheVariants as syntax
 use Rattle.td_syntax.specs.declared.fault.Fault as syntax_fault
 use Rattle.td_syntax.specs.Grammar as grammar
 use Rattle.td_syntax.specs.Faults as syntax_faults
-use Rattle.td_syntax.specs.Text.{Parses}
+use Rattle.td_syntax.specs.Text.{Parses, syntax_of}
 use Rattle.td_syntax.proofs.Whole.{is_again}
 use Rattle.td_netlist.specs.declared.fault.FaultKind.{FaultKind}
 use Rattle.td_netlist.specs.declared.fault.FaultKind.TheVariants as kind
@@ -20,8 +20,8 @@ use Rattle.td_netlist.specs.FirstPass.{kind_from}
 use Rattle.td_netlist.specs.Faults.{Fails, told, UnlessMemory, IsUnlessMemory}
 use Rattle.td_netlist.specs.declared.netlist.Unit.{Unit as Step}
 use Rattle.td_netlist.specs.Module.{is_input, is_output, ports_as, nets_at, gates_of, primitives, defaulted_of, unit_of, netlist_in}
-use Rattle.td_netlist.specs.Means.{Means, IsConsistent, Breaks, OfNames, BreaksIn}
-use Rattle.td_netlist.specs.Checks.{Sides}
+use Rattle.td_netlist.specs.Means.{Means, IsConsistent, Breaks, BreaksIn, IsFaultIn}
+use Rattle.td_netlist.specs.Checks.{Sides, checked_at}
 use Rattle.td_netlist.proofs.Consistent.{memory_alone, AreSides}
 
 abbrev parsed_as : {Y : Type 0} → Y → Result Y syntax_faults.Fault
@@ -57,27 +57,43 @@ memory_breaks m checked y is f e = fault_breaks m checked (λ g other. absurd (o
 
 -- ---- what the text means
 
-of_names_by : (text : List ℕ) (m : grammar.Module) (k : FaultKind) (line : ℕ) → Parses text m → UnlessMemory k (Breaks k line m) → OfNames k (BreaksIn text k line)
-of_names_by text m kind.Redeclared line p at = record { tree = m; parses = p; breaks = at }
-of_names_by text m kind.PortUndeclared line p at = record { tree = m; parses = p; breaks = at }
-of_names_by text m kind.DrivenInput line p at = record { tree = m; parses = p; breaks = at }
-of_names_by text m kind.TwoDrivers line p at = record { tree = m; parses = p; breaks = at }
-of_names_by text m kind.Undriven line p at = record { tree = m; parses = p; breaks = at }
-of_names_by text m kind.UnknownBit line p at = record { tree = m; parses = p; breaks = at }
-of_names_by text m kind.WidthNotOne line p at = record { tree = m; parses = p; breaks = at }
-of_names_by text m k line p at = tt
+-- a fault of the grammar is the first one of the text
+pub first_by : (text : List ℕ) (k : syntax_kind.FaultKind) (line : ℕ) → MatchOption (syntax_faults.told k) (Unit {0}) (λ j. syntax_of text ≡ Err (syntax_faults.fault j line))
+    → IsFaultIn text (kind_from k) line
+first_by text syntax.OutOfMemory line e = tt
+first_by text syntax.BadByte line e = inl (record { first = syntax_faults.fault syntax_faults.BadByte line; stands = e; of_kind = refl; there = refl })
+first_by text syntax.UnexpectedEnd line e = inl (record { first = syntax_faults.fault syntax_faults.UnexpectedEnd line; stands = e; of_kind = refl; there = refl })
+first_by text syntax.Syntax line e = inl (record { first = syntax_faults.fault syntax_faults.Syntax line; stands = e; of_kind = refl; there = refl })
+first_by text (syntax.OutOfSubset w) line e = inl (record { first = syntax_faults.fault (syntax_faults.OutOfSubset w.now) line; stands = e; of_kind = refl; there = refl })
+first_by text syntax.ZeroDelay line e = inl (record { first = syntax_faults.fault syntax_faults.ZeroDelay line; stands = e; of_kind = refl; there = refl })
+first_by text syntax.DelayTooFine line e = inl (record { first = syntax_faults.fault syntax_faults.DelayTooFine line; stands = e; of_kind = refl; there = refl })
+first_by text syntax.DelayTooLarge line e = inl (record { first = syntax_faults.fault syntax_faults.DelayTooLarge line; stands = e; of_kind = refl; there = refl })
+first_by text syntax.TooMany line e = inl (record { first = syntax_faults.fault syntax_faults.TooMany line; stands = e; of_kind = refl; there = refl })
 
--- a fault of tokens and grammar is none of names
-pub not_of_names : (text : List ℕ) (k : syntax_kind.FaultKind) (line : ℕ) → OfNames (kind_from k) (BreaksIn text (kind_from k) line)
-not_of_names text syntax.OutOfMemory line = tt
-not_of_names text syntax.BadByte line = tt
-not_of_names text syntax.UnexpectedEnd line = tt
-not_of_names text syntax.Syntax line = tt
-not_of_names text (syntax.OutOfSubset w) line = tt
-not_of_names text syntax.ZeroDelay line = tt
-not_of_names text syntax.DelayTooFine line = tt
-not_of_names text syntax.DelayTooLarge line = tt
-not_of_names text syntax.TooMany line = tt
+broken_by : (text : List ℕ) (m : grammar.Module) (k : FaultKind) (line : ℕ) → Parses text m → UnlessMemory k (Breaks k line m)
+    → MatchOption (told k) (Unit {0}) (λ j. checked_at m ≡ Err (record { kind = j; line = line })) → IsFaultIn text k line
+broken_by text m kind.OutOfMemory line p at e = tt
+broken_by text m kind.BadByte line p at e = inr (record { tree = m; parses = p; breaks = at; first = e })
+broken_by text m kind.UnexpectedEnd line p at e = inr (record { tree = m; parses = p; breaks = at; first = e })
+broken_by text m kind.Syntax line p at e = inr (record { tree = m; parses = p; breaks = at; first = e })
+broken_by text m (kind.OutOfSubset w) line p at e = inr (record { tree = m; parses = p; breaks = at; first = e })
+broken_by text m kind.ZeroDelay line p at e = inr (record { tree = m; parses = p; breaks = at; first = e })
+broken_by text m kind.DelayTooFine line p at e = inr (record { tree = m; parses = p; breaks = at; first = e })
+broken_by text m kind.DelayTooLarge line p at e = inr (record { tree = m; parses = p; breaks = at; first = e })
+broken_by text m kind.Redeclared line p at e = inr (record { tree = m; parses = p; breaks = at; first = e })
+broken_by text m kind.UnknownBit line p at e = inr (record { tree = m; parses = p; breaks = at; first = e })
+broken_by text m kind.WidthNotOne line p at e = inr (record { tree = m; parses = p; breaks = at; first = e })
+broken_by text m kind.TwoDrivers line p at e = inr (record { tree = m; parses = p; breaks = at; first = e })
+broken_by text m kind.DrivenInput line p at e = inr (record { tree = m; parses = p; breaks = at; first = e })
+broken_by text m kind.Undriven line p at e = inr (record { tree = m; parses = p; breaks = at; first = e })
+broken_by text m kind.TooMany line p at e = inr (record { tree = m; parses = p; breaks = at; first = e })
+broken_by text m kind.PortUndeclared line p at e = inr (record { tree = m; parses = p; breaks = at; first = e })
+
+-- a fault of the names of the text's tree is one of the text
+pub broken_in : {Y : Type 0} (text : List ℕ) (m : grammar.Module) (r : Result Y Fault) → Parses text m → IfErr r (λ e. UnlessMemory e.kind (Breaks e.kind e.line m))
+    → IfErr r (λ e. Fails e (checked_at m)) → IfErr r (λ e. IsFaultIn text e.kind e.line)
+broken_in text m (Ok y) p at first = tt
+broken_in text m (Err e) p at first = broken_by text m e.kind e.line p at first
 
 module _ (text : List ℕ) (m : grammar.Module) (default : Delay) (p : Parses text m) where
   pub found_by : (netlist : Netlist) → IsConsistent m → netlist ≡ netlist_in default m → Means text default netlist
@@ -93,9 +109,6 @@ module _ (text : List ℕ) (m : grammar.Module) (default : Delay) (p : Parses te
       → (n : Netlist) → Means text default n → IsUnlessMemory r n
   only_as (Ok netlist) keeps is breaks n means = only_by netlist n keeps is means
   only_as (Err e) keeps is breaks n means = only_memory e.kind e.line n breaks means
-
-  pub names_broken : (k : FaultKind) (line : ℕ) → UnlessMemory k (Breaks k line m) → OfNames k (BreaksIn text k line)
-  names_broken k line at = of_names_by text m k line p at
 
 untold_by : {Y : Type 0} (k : syntax_kind.FaultKind) (line : ℕ) (y : Y) → MatchOption (syntax_faults.told k) (Unit {0}) (λ j. parsed_as y ≡ Err (syntax_faults.fault j line)) → kind_from k ≡ kind.OutOfMemory
 untold_by syntax.OutOfMemory line y e = refl

@@ -1,4 +1,5 @@
--- The checks of a module in the order of its text, with the first fault. Proof devices: what a text means doesn't rest on them.
+-- The checks of a module in the order of its text, with the first fault. What a text means doesn't rest on them; which of
+-- several faults of names is told does.
 use Rattle.std.specs.Prelude.{ℕ, ◌+◌, List, [], ◌∷◌, ◌++◌, map, find, Option, None, Some, is_some, Bool, true, false, not, ◌&&◌, ◌==◌, nat_lt, Result, Ok, Err, if◌then◌else◌}
 use Rattle.std.specs.List.{sum_by}
 use Rattle.std.specs.Str.{bytes_eq}
@@ -15,7 +16,7 @@ use Rattle.td_gates.specs.declared.timing.Delay.{Delay}
 use Rattle.td_netlist.specs.Netlist.{Name, Net, Low, High, Named, Gate}
 use Rattle.td_netlist.specs.Names.{is_in}
 use Rattle.td_netlist.specs.Ranges.{range_of, width_of, nets_of}
-use Rattle.td_netlist.specs.Module.{scalar, is_input, is_wire, different, port_names, whole_source, bit_source, Source, Joins, NoBit, NotOne, Placed, outputs_of, inputs_of, Declared, Primitive, delay_of}
+use Rattle.td_netlist.specs.Module.{scalar, is_input, is_wire, different, port_names, whole_source, bit_source, Source, Joins, NoBit, NotOne, Placed, outputs_of, inputs_of, Declared, Primitive, primitives, delay_of}
 
 -- the members one after another, up to the first fault
 unfoldable pub each : {S A : Type 0} → (S → A → Result S Fault) → S → List A → Result S Fault
@@ -302,3 +303,9 @@ driven_at sides names ps = do
   reads ← each (read_all drivers) tt ps
   outputs ← each (read_placed drivers.driven) tt sides.outputs
   Ok drivers
+
+-- declarations and ports first, then the drivers of all gates, then what gates read and the outputs
+unfoldable pub checked_at : grammar.Module → Result Drivers Fault
+checked_at m = do
+  declared ← declared_at m
+  driven_at declared.0 declared.1 (primitives m)

@@ -1,5 +1,5 @@
--- When a text means a netlist, and what a fault of a name says.
-use Rattle.std.specs.Prelude.{◌≡◌, ℕ, ◌<◌, ◌≤◌, ◌⊎◌, List, ◌∷◌, ◌++◌}
+-- When a text means a netlist, and what a fault says of it.
+use Rattle.std.specs.Prelude.{◌≡◌, ℕ, ◌<◌, ◌≤◌, ◌⊎◌, List, ◌∷◌, ◌++◌, Err}
 use Rattle.std.specs.List.{Contains}
 use Rattle.td_gates.specs.declared.timing.Delay.{Delay}
 use Rattle.td_syntax.specs.Grammar as grammar
@@ -7,6 +7,9 @@ use Rattle.td_syntax.specs.Text.{Parses}
 use Rattle.td_netlist.specs.declared.fault.FaultKind.{FaultKind}
 use Rattle.td_netlist.specs.declared.fault.FaultKind.TheVariants as kind
 use Rattle.td_netlist.specs.Netlist.{Name, Netlist}
+use Rattle.td_netlist.specs.Faults.{UnlessMemory, fault}
+use Rattle.td_netlist.specs.Checks.{checked_at}
+use Rattle.td_netlist.specs.FirstPass.{IsFirstIn}
 use Rattle.td_netlist.specs.WellFormed.{IsDistinct}
 use Rattle.td_netlist.specs.Module.{scalar, names_of, Declared, declarations, declared_names, is_direction, is_input, is_wire, ports, range_in, ports_as, Source, Joins, NoBit, NotOne, source_of, line_of, Placed, nets_at, terminals_in, outputs_in, inputs_in, output_bits, net_count, input_count, driven_in, netlist_in}
 
@@ -147,22 +150,18 @@ Breaks kind.ZeroDelay line m = ⊥
 Breaks kind.DelayTooFine line m = ⊥
 Breaks kind.DelayTooLarge line m = ⊥
 
--- the kinds of faults that are answered for names alone
-abbrev pub OfNames : FaultKind → Type 0 → Type 0
-OfNames kind.Redeclared P = P
-OfNames kind.PortUndeclared P = P
-OfNames kind.DrivenInput P = P
-OfNames kind.TwoDrivers P = P
-OfNames kind.Undriven P = P
-OfNames kind.UnknownBit P = P
-OfNames kind.WidthNotOne P = P
-OfNames k P = Unit {0}
-
--- the grammar derives the text, and a name or terminal on that line breaks the condition
+-- The grammar derives the text, and a name or terminal on that line breaks the condition, as the first one in the order of the
+-- checks.
 pub record BreaksIn (text : List ℕ) (k : FaultKind) (line : ℕ) : Type 0 where
   pub tree : grammar.Module
   pub parses : Parses text tree
   pub breaks : Breaks k line tree
+  pub first : checked_at tree ≡ Err (fault k line)
+
+-- What a fault says of a text: it is the text's first fault of tokens and grammar, or the text has none of these and it is the
+-- first of names. Nothing is said of want of memory.
+abbrev pub IsFaultIn : List ℕ → FaultKind → ℕ → Type 0
+IsFaultIn text k line = UnlessMemory k (IsFirstIn text k line ⊎ BreaksIn text k line)
 
 -- a text means at most one netlist
 abbrev pub MeansOne : Type 0

@@ -160,7 +160,7 @@ impl<'a> From<td_syntax::FaultKind<'a>> for FaultKind<'a> {
 }
 
 impl<'a> From<td_syntax::Fault<'a>> for Fault<'a> {
-    ghost from_gives = { λ fault result. result.kind ≡ kind_from fault.kind };
+    ghost from_gives = { λ fault result. (result.kind ≡ kind_from fault.kind) × (result.line ≡ fault.line) };
 
     fn from(fault: td_syntax::Fault<'a>) -> Fault<'a> {
         Fault {

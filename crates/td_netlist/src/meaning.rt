@@ -6,8 +6,9 @@ ghost use Rattle.td_syntax.specs.Grammar.{IsItem, ArePorts, item_gates, tens_of}
 ghost use Rattle.td_syntax.specs.Text.{Parses};
 ghost use Rattle.td_syntax.specs.Views.{module_view};
 ghost use Rattle.td_netlist.specs.Netlist as netlist;
-ghost use Rattle.td_netlist.specs.Faults.{IsUnlessMemory, UnlessMemory};
-ghost use Rattle.td_netlist.specs.Means.{Means, IsConsistent, Breaks, OfNames, BreaksIn};
+ghost use Rattle.td_netlist.specs.Faults.{IsUnlessMemory, UnlessMemory, Fails};
+ghost use Rattle.td_netlist.specs.Checks.{checked_at};
+ghost use Rattle.td_netlist.specs.Means.{Means, IsConsistent, Breaks, IsFaultIn};
 ghost use Rattle.td_netlist.specs.Module.{nets_at, netlist_in, step_of, unit_of};
 ghost use Rattle.td_netlist.specs.NameViews.{name_ref_of, placed_ref_of};
 ghost use Rattle.td_netlist.specs.Views.{name_of};
@@ -88,6 +89,7 @@ fn netlist<'a>(alloc: Global, source: &Module<'a>, default: Delay) -> Result<Net
     ensures consistent { IfOk result (λ _. IsConsistent (module_view source.now)) }
     ensures lists { IfOk result (λ n. n ≡ netlist_in default (module_view source.now)) }
     ensures breaks { IfErr result (λ e. UnlessMemory e.kind (Breaks e.kind e.line (module_view source.now))) }
+    ensures first { IfErr result (λ e. Fails e (checked_at (module_view source.now))) }
 {
     let instances = primitives(alloc, source)?;
     let (sides, names) = declared(alloc, source)?;
@@ -121,8 +123,9 @@ pub fn read<'a>(alloc: Global, text: &'a [u8], default: Delay) -> Result<Netlist
     ensures found { IfOk result (λ n. Means text.now default n) }
     // What the text means is read, unless memory runs out.
     ensures only { (n : netlist.Netlist) → Means text.now default n → IsUnlessMemory result n }
-    // A fault of names is told only where the grammar derives the text and a name on that line breaks the condition.
-    ensures breaks { IfErr result (λ e. OfNames e.kind (BreaksIn text.now e.kind e.line)) }
+    // A fault is the first one of tokens and grammar, or there is none of these and it is the first of names: a name or terminal
+    // on that line breaks the condition.
+    ensures fault { IfErr result (λ e. IsFaultIn text.now e.kind e.line) }
 {
     let module = parse(alloc, text)?;
     netlist(alloc, &module, default)

@@ -1,8 +1,9 @@
 -- Circuits made by hand. Their nets are named by number: first the inputs, and then the gates in order.
-use Rattle.std.specs.Prelude.{◌≡◌, ℕ, ◌+◌, ◌<◌, ◌≤◌, List, [], length, slice_get, Some}
+use Rattle.std.specs.Prelude.{◌≡◌, ℕ, ◌+◌, ◌-◌, ◌<◌, ◌≤◌, List, [], ◌∷◌, length, map, slice_get, Some}
 use Rattle.td_gates.specs.Delays.{IsInRange}
 use Rattle.td_gates.specs.Table.{TakesInputs}
-use Rattle.td_netlist.specs.Netlist.{Name, Net, Named, Gate}
+use Rattle.td_netlist.specs.Netlist.{Name, Net, Named, Gate, Netlist}
+use Rattle.td_rows.specs.declared.Cell.{Cell}
 
 -- the name of a number
 abbrev pub w : ℕ → Name
@@ -30,3 +31,22 @@ AreCells inputs gates = (i : ℕ) (gate : Gate) → slice_get gates i ≡ Some g
 pub record AreInputs (count : ℕ) (names : List Name) : Type 0 where
   pub count_is : length names ≡ count
   pub each : (i : ℕ) (name : Name) → slice_get names i ≡ Some name → name ≡ w i
+
+abbrev pub named : ℕ → Net
+named number = Named (w number)
+
+-- the gate of the cell with this number
+abbrev pub gate_at : ℕ → Cell → Gate
+gate_at place cell = record { kind = cell.kind; delay = cell.delay; output = w place; inputs = map named cell.reads.now }
+
+-- each gate is that of its cell, where the first one comes after the inputs
+abbrev pub AreMade : ℕ → List Cell → List Gate → Type 0
+AreMade inputs cells gates =
+    (i : ℕ) (gate : Gate) → slice_get gates i ≡ Some gate → (cell : Cell) × (slice_get cells i ≡ Some cell) × (gate ≡ gate_at (inputs + i) cell)
+
+-- the netlist of these cells, whose output is the last one's
+pub record IsMade (inputs : ℕ) (cells : List Cell) (netlist : Netlist) : Type 0 where
+  pub inputs_are : AreInputs inputs netlist.inputs
+  pub gates_are : AreMade inputs cells netlist.gates
+  pub count_is : length netlist.gates ≡ length cells
+  pub outputs_are : netlist.outputs ≡ w (inputs + (length cells - 1)) ∷ []

@@ -1,10 +1,11 @@
 //! Circuits made by hand, for tests.
 #![tactic(auto)]
 
-ghost use Rattle.std.specs.Prelude.{◌≡◌, ◌≤◌, ◌<◌, ◌+◌, true, length, map, IfOk};
+ghost use Rattle.std.specs.Prelude.{◌≡◌, ◌≤◌, ◌<◌, ◌+◌, ◌↔◌, length, map, nat_lt, IfOk, IsTrue};
+ghost use Rattle.std.specs.List.{list_all};
 ghost use Rattle.td_gates.specs.Table.{TakesInputs};
 ghost use Rattle.td_netlist.specs.Views.{name_of, net_of, gate_of};
-ghost use Rattle.td_rows.specs.Cells.{w, AreLower, IsCell, AreCells, AreInputs};
+ghost use Rattle.td_rows.specs.Cells.{w, named, gate_at, IsCell, AreCells, AreInputs, AreMade, IsMade};
 
 pub mod slow;
 
@@ -50,7 +51,7 @@ fn name_at(alloc: Global, place: u32) -> Name
 }
 
 fn takes(kind: Kind, count: usize) -> bool
-    ensures { result ≡ true → TakesInputs kind count }
+    ensures { IsTrue result ↔ TakesInputs kind count }
 {
     match kind {
         Kind::And => count >= 1,
@@ -64,27 +65,34 @@ fn takes(kind: Kind, count: usize) -> bool
     }
 }
 
-fn lower_nets(alloc: Global, reads: &[u32], end: u32) -> Result<Vec<Net>, Refused>
-    ensures lower { IfOk result (λ nets. AreLower end (map net_of nets.items)) }
-    ensures count { IfOk result (λ nets. length nets.items ≡ length reads.now) }
+fn are_lower(reads: &[u32], end: u32) -> bool
+    ensures { result ≡ list_all (λ read. nat_lt read end) reads.now }
+{
+    reads.iter().all(|read| *read < end)
+}
+
+fn named_nets(alloc: Global, reads: &[u32]) -> Result<Vec<Net>, AllocError>
+    ensures { IfOk result (λ nets. map net_of nets.items ≡ map named reads.now) }
 {
     let mut nets = Vec::new(alloc);
     for read in reads {
-        if *read >= end {
-            return Err(Refused::Malformed);
-        }
         nets.push(Net::Named(name_at(alloc, *read)))?;
     }
     Ok(nets)
 }
 
+#[tactic(auto, using(crate::proofs::Gates::is_cell))]
 fn cell_gate(alloc: Global, cell: &Cell<'_>, place: u32) -> Result<Gate, Refused>
-    ensures { IfOk result (λ gate. IsCell place (gate_of gate)) }
+    ensures made { IfOk result (λ gate. gate_of gate ≡ gate_at place cell.now) }
+    ensures fits { IfOk result (λ gate. IsCell place (gate_of gate)) }
 {
     if cell.reads.len() > 1023 || !takes(cell.kind, cell.reads.len()) {
         return Err(Refused::Malformed);
     }
-    let inputs = lower_nets(alloc, cell.reads, place)?;
+    if !are_lower(cell.reads, place) {
+        return Err(Refused::Malformed);
+    }
+    let inputs = named_nets(alloc, cell.reads)?;
     let delay = cell.delay;
     let _rise = delay.rise;
     Ok(Gate {
@@ -108,6 +116,7 @@ fn input_names(alloc: Global, count: u32) -> Result<Vec<Name>, AllocError>
 fn cell_gates(alloc: Global, inputs: u32, cells: &[Cell<'_>]) -> Result<Vec<Gate>, Refused>
     requires few_inputs { inputs ≤ 4096 }
     requires few_cells { length cells.now ≤ 200000 }
+    ensures made { IfOk result (λ gates. AreMade inputs cells.now (map gate_of gates.items)) }
     ensures cells { IfOk result (λ gates. AreCells inputs (map gate_of gates.items)) }
     ensures count { IfOk result (λ gates. length gates.items ≡ length cells.now) }
 {
@@ -119,7 +128,9 @@ fn cell_gates(alloc: Global, inputs: u32, cells: &[Cell<'_>]) -> Result<Vec<Gate
 }
 
 /// The netlist of these gates, whose output is the last one's.
-pub fn netlist_of(alloc: Global, inputs: u32, cells: &[Cell<'_>]) -> Result<Netlist, Refused> {
+pub fn netlist_of(alloc: Global, inputs: u32, cells: &[Cell<'_>]) -> Result<Netlist, Refused>
+    ensures { IfOk result (λ netlist. IsMade inputs cells.now netlist) }
+{
     let count = cells.len();
     if inputs > 4096 || count == 0 || count > 200_000 {
         return Err(Refused::Malformed);
@@ -136,7 +147,9 @@ pub fn netlist_of(alloc: Global, inputs: u32, cells: &[Cell<'_>]) -> Result<Netl
 }
 
 /// The circuit of these gates, whose output is the last one's.
-pub fn circuit_of(alloc: Global, inputs: u32, cells: &[Cell<'_>]) -> Result<Circuit, Refused> {
+pub fn circuit_of(alloc: Global, inputs: u32, cells: &[Cell<'_>]) -> Result<Circuit, Refused>
+    ensures { IfOk result (λ circuit. IsMade inputs cells.now circuit.netlist) }
+{
     match build(alloc, netlist_of(alloc, inputs, cells)?) {
         Ok(circuit) => Ok(circuit),
         Err((_, BuildFault::OutOfMemory)) => Err(Refused::OutOfMemory),

@@ -6,5 +6,5 @@ returns-in_default c = record {
   found = tt;
   formed = tt;
   fault = refused c.args.text.now c.args.default c.read.result c.in-Err.fault c.in-Err.is c.read.ensures.only
-      c.in-Err.ensures.breaks c.in_default.not-OutOfMemory;
+      c.in-Err.ensures.fault c.in_default.not-OutOfMemory;
 }

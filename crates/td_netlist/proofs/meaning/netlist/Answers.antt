@@ -15,7 +15,7 @@ use Rattle.td_netlist.specs.CheckViews.{primitive_of, sides_of, drivers_of}
 use Rattle.td_netlist.proofs.Keeps.{keeps_items, kept_by_code}
 use Rattle.td_netlist.proofs.Formed.{well_formed, gates_below}
 use Rattle.td_netlist.proofs.Readings.{parts_are}
-use Rattle.td_netlist.proofs.Netlists.{declared_fault, driven_fault, passed, gates_listed, gates_fault}
+use Rattle.td_netlist.proofs.Netlists.{declared_fault, driven_fault, passed, gates_listed, gates_fault, declared_first, driven_first, gates_first}
 use Rattle.td_netlist.proofs.meaning.netlist.Goals as goal
 
 pub returns-in_err-sides-clause-breaks : goal.returns-in_err-sides-clause-breaks
@@ -29,6 +29,18 @@ returns-in_err-drivers-clause-breaks c =
     let same = ap (λ (ps : List code_primitive.Primitive). map primitive_of ps) c.deref.ensures.value ∙ c.in_ok-instances.ensures in
     let p = err_from_is_err_and c.from_residual-in_err-drivers.result c.from_residual-in_err-drivers.ensures.1 in
     rw (p.1, p.2) (driven_fault m c.requires.ports (sides_of c.in_ok-sides.sides) c.in_ok-sides.names c.in_ok-sides.ensures (map primitive_of c.deref.result.now) same c.in_err-drivers.field-0.0 c.in_err-drivers.ensures)
+
+pub returns-in_err-sides-clause-first : goal.returns-in_err-sides-clause-first
+returns-in_err-sides-clause-first c =
+    let p = err_from_is_err_and c.from_residual-in_err-sides.result c.from_residual-in_err-sides.ensures.1 in
+    rw (p.1, p.2) (declared_first (module_view c.args.source.now) c.requires.ports c.in_err-sides.field-0.0 c.in_err-sides.ensures)
+
+pub returns-in_err-drivers-clause-first : goal.returns-in_err-drivers-clause-first
+returns-in_err-drivers-clause-first c =
+    let m = module_view c.args.source.now in
+    let same = ap (λ (ps : List code_primitive.Primitive). map primitive_of ps) c.deref.ensures.value ∙ c.in_ok-instances.ensures in
+    let p = err_from_is_err_and c.from_residual-in_err-drivers.result c.from_residual-in_err-drivers.ensures.1 in
+    rw (p.1, p.2) (driven_first m c.requires.ports (sides_of c.in_ok-sides.sides) c.in_ok-sides.names c.in_ok-sides.ensures (map primitive_of c.deref.result.now) same c.in_err-drivers.field-0.0 c.in_err-drivers.ensures)
 
 pub gates-requires : goal.gates-requires
 gates-requires c =
@@ -45,6 +57,16 @@ returns-in_err-gates-clause-breaks c =
     let tens : c.tens_of.result ≡ tens_of m.fronts = c.tens_of.ensures ∙ ap (λ (fs : List Front). tens_of fs) c.deref-4.ensures.value in
     let p = err_from_is_err_and c.from_residual-in_err-gates.result c.from_residual-in_err-gates.ensures.1 in
     rw (p.1, p.2) (gates_fault m c.requires.ports (sides_of c.in_ok-sides.sides) c.in_ok-sides.names c.in_ok-sides.ensures (map primitive_of c.deref.result.now) same (drivers_of c.in_ok-drivers.drivers) c.in_ok-drivers.ensures
+    c.requires.items c.args.default c.names.result.now c.tens_of.result (map primitive_of c.deref-5.result.now) c.names.ensures tens again c.in_err-gates.field-0.0 c.in_err-gates.ensures)
+
+pub returns-in_err-gates-clause-first : goal.returns-in_err-gates-clause-first
+returns-in_err-gates-clause-first c =
+    let m = module_view c.args.source.now in
+    let same = ap (λ (ps : List code_primitive.Primitive). map primitive_of ps) c.deref.ensures.value ∙ c.in_ok-instances.ensures in
+    let again = ap (λ (ps : List code_primitive.Primitive). map primitive_of ps) c.deref-5.ensures.value ∙ c.in_ok-instances.ensures in
+    let tens : c.tens_of.result ≡ tens_of m.fronts = c.tens_of.ensures ∙ ap (λ (fs : List Front). tens_of fs) c.deref-4.ensures.value in
+    let p = err_from_is_err_and c.from_residual-in_err-gates.result c.from_residual-in_err-gates.ensures.1 in
+    rw (p.1, p.2) (gates_first m c.requires.ports (sides_of c.in_ok-sides.sides) c.in_ok-sides.names c.in_ok-sides.ensures (map primitive_of c.deref.result.now) same (drivers_of c.in_ok-drivers.drivers) c.in_ok-drivers.ensures
     c.requires.items c.args.default c.names.result.now c.tens_of.result (map primitive_of c.deref-5.result.now) c.names.ensures tens again c.in_err-gates.field-0.0 c.in_err-gates.ensures)
 
 pub defaulted_count-defaulted-requires : goal.defaulted_count-defaulted-requires
