@@ -81,7 +81,6 @@ fn named_nets(alloc: Global, reads: &[u32]) -> Result<Vec<Net>, AllocError>
     Ok(nets)
 }
 
-#[tactic(auto, using(crate::proofs::Gates::is_cell))]
 fn cell_gate(alloc: Global, cell: &Cell<'_>, place: u32) -> Result<Gate, Refused>
     ensures made { IfOk result (λ gate. gate_of gate ≡ gate_at place cell.now) }
     ensures fits { IfOk result (λ gate. IsCell place (gate_of gate)) }
