@@ -5,7 +5,7 @@ use Rattle.td_certificate.specs.declared.certificate.Certificate.{Certificate}
 use Rattle.td_certificate.specs.declared.fields.Reason.{Reason}
 use Rattle.td_certificate.specs.declared.fields.Reason.TheVariants as reason
 use Rattle.td_certificate.specs.Spelling.{Spells, spelling}
-use Rattle.td_certificate.specs.Reading.{Ends, Wrong, certificate_at}
+use Rattle.td_certificate.specs.Reading.{Reading, Ends, Wrong, certificate_at}
 use Rattle.td_certificate.specs.Faults.{line_behind, IsWithinLimit, IsFront, HasMore, StopsAt, reason_of, reason_in, kind_of, IsFault}
 use Rattle.td_certificate.proofs.Codes.{IsStopped-none, IsCode-one}
 use Rattle.td_certificate.proofs.CertificateCode.{certificate_code}
@@ -75,6 +75,18 @@ read_stop text rest line why e l =
 pub reason_is : (text rest : List ℕ) (why : Reason) → certificate_at text ≡ Err (Wrong why rest) → reason_in text ≡ Some why
 unfolding reason_in
 reason_is text rest why e = ap reason_of e
+
+-- a text with a reason stops at a byte of some line
+stop_of : (text : List ℕ) (why : Reason) (read : Reading Certificate) → certificate_at text ≡ read → reason_of read ≡ Some why → (line : ℕ) × StopsAt text line
+stop_of text why (Ok x) e is = absurd cc
+stop_of text why (Err Ends) e is = absurd cc
+stop_of text why (Err (Wrong other rest)) e is =
+    let line : ℕ = line_behind (take (length text - length rest) text) in
+    (line, read_stop text rest line other e refl)
+
+pub stops_for : (text : List ℕ) (why : Reason) → reason_in text ≡ Some why → (line : ℕ) × StopsAt text line
+unfolding reason_in
+stops_for text why is = stop_of text why (certificate_at text) refl is
 
 pub unreadable_fault : (why : Reason) (line : ℕ) (text : List ℕ) → IsWithinLimit text → StopsAt text line → reason_in text ≡ Some why → IsFault (kind_of why) line text
 unreadable_fault reason.Syntax line text within s is = (within, s, is)

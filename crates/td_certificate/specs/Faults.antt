@@ -1,13 +1,14 @@
 -- Why a text isn't a certificate's spelling, and the line of the fault.
-use Rattle.std.specs.Prelude.{◌≡◌, ℕ, ◌+◌, ◌<◌, ◌≤◌, ◌==◌, ◌⊎◌, List, ◌∷◌, ◌++◌, length, Option, Some, None, Result, Ok, Err}
+use Rattle.std.specs.Prelude.{◌≡◌, ◌≢◌, ℕ, ◌+◌, ◌^◌, ◌<◌, ◌≤◌, ◌==◌, ◌⊎◌, nat_le, if◌then◌else◌, false, codes, decimal, List, [], ◌∷◌, ◌++◌, length, Option, Some, None, Result, Ok, Err}
 use Rattle.std.specs.List.{count_by}
+use Rattle.std.specs.Char.{is_ascii_digit}
 use Rattle.td_certificate.specs.declared.fault.CertFaultKind.{CertFaultKind}
 use Rattle.td_certificate.specs.declared.fault.CertFaultKind.TheVariants as kind
 use Rattle.td_certificate.specs.declared.fault.CertFault.{CertFault}
 use Rattle.td_certificate.specs.declared.certificate.Certificate.{Certificate}
 use Rattle.td_certificate.specs.declared.fields.Reason.{Reason}
 use Rattle.td_certificate.specs.declared.fields.Reason.TheVariants as reason
-use Rattle.td_certificate.specs.Spelling.{HasSpelling, spelling}
+use Rattle.td_certificate.specs.Spelling.{HasSpelling, spelling, greatest}
 use Rattle.td_certificate.specs.Reading.{Reading, Ends, Wrong, certificate_at}
 
 -- the line of a place is one more than the number of newlines before it
@@ -52,6 +53,16 @@ reason_of (Err (Wrong reason rest)) = Some reason
 -- why reading the text stops at a byte, where it does
 unfoldable pub reason_in : List ℕ → Option Reason
 reason_in text = reason_of (certificate_at text)
+
+-- no digit stands in front
+abbrev pub NoDigit : List ℕ → Type 0
+NoDigit [] = Unit {0}
+NoDigit (b ∷ rest) = is_ascii_digit b ≡ false
+
+-- A first line with a number other than 1 is told as another version, or as a number too large, whatever follows the number.
+abbrev pub VersionsAreTold : Type 0
+VersionsAreTold = (n : ℕ) (later : List ℕ) → n ≢ 1 → n < 10 ^ 64 → NoDigit later
+    → reason_in (codes "tdelay-cert " ++ decimal n ++ later) ≡ Some (if nat_le n greatest then reason.Version else reason.NumberTooLarge)
 
 -- the kind by which a reason is told
 abbrev pub kind_of : Reason → CertFaultKind
