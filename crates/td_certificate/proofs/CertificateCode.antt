@@ -8,10 +8,11 @@ use Rattle.td_certificate.specs.declared.tree.Node.{Node}
 use Rattle.td_certificate.specs.declared.certificate.Certificate.{Certificate}
 use Rattle.td_certificate.specs.Spelling.{head_lines, ended, text_of, greatest, spelling, HasSpelling}
 use Rattle.td_certificate.specs.Text.{bits, node_line}
-use Rattle.td_certificate.specs.Reading.{◌>>=◌, number_at, number_behind, vector_behind, nodes_at, certificate_of, certificate_at}
+use Rattle.td_certificate.specs.Reading.{◌>>=◌, number_at, number_behind, vector_behind, version_at, nodes_at, certificate_of, certificate_at}
 use Rattle.td_certificate.proofs.Codes.{IsCode, IsCode-then, IsCode-done}
 use Rattle.td_certificate.proofs.FieldCodes.{IsLimit, AtMost, number_text, number_code}
-use Rattle.td_certificate.proofs.VectorCodes.{behind_word, number_behind_code, HasLength}
+use Rattle.td_certificate.proofs.VectorCodes.{behind_fixed, number_behind_code, HasLength}
+use Rattle.td_certificate.proofs.VersionCode.{version_code}
 use Rattle.td_certificate.proofs.NodeCodes.{IsCode-as, greatest_limit, vector_text, vector_behind_code}
 use Rattle.td_certificate.proofs.TreeCodes.{AreNodes, nodes_text, nodes_code}
 
@@ -179,7 +180,7 @@ pub certificate_code : IsCode HasSpelling spelling certificate_at
 unfolding certificate_at
 certificate_code =
     IsCode-as HasSpelling HasSpelling (λ c. codes "tdelay-cert 1\n" ++ text_from_inputs c) spelling certificate_at (λ c v. v) (λ c v. v) (λ c v. spelling_is c)
-    (behind_word (codes "tdelay-cert 1\n") HasSpelling text_from_inputs
+    (behind_fixed (codes "tdelay-cert 1\n") version_at HasSpelling text_from_inputs
     (λ bytes. number_behind (codes "circuit ") 4096 32 bytes >>= λ inputs. number_at 200000 10 inputs.1 >>= λ gates. number_behind (codes "time ") greatest 10 gates.1 >>= λ time. vector_behind (codes "from ") inputs.0 time.1 >>= λ first. vector_behind (codes "to ") inputs.0 first.1 >>= λ second. nodes_at 1 second.1 >>= λ tree.
     Ok (certificate_of inputs.0 gates.0 time.0 first.0 second.0 tree.0, tree.1))
-    from_inputs)
+    version_code from_inputs)

@@ -1,14 +1,16 @@
 -- A text is a spelling, a proper front of one, a spelling with more after it, or can't be read on: one of them alone.
-use Rattle.std.proofs.Common.{◌≡◌, ℕ, ◌<◌, List, [], ◌∷◌, ◌++◌, length, Result, Ok, Err, ◌⊎◌, inl, inr, refl, sym, ap, ◌∙◌, append_assoc, arith}
+use Rattle.std.proofs.Common.{◌≡◌, ℕ, ◌<◌, List, [], ◌∷◌, ◌++◌, length, Result, Ok, Err, Option, Some, ◌⊎◌, inl, inr, refl, sym, ap, ◌∙◌, append_assoc, arith}
 use Rattle.std.specs.Prelude.{IfOk, IfErr}
 use Rattle.std.proofs.lemmas.List.{append-nil}
 use Rattle.td_certificate.specs.declared.fault.CertFaultKind.{CertFaultKind}
 use Rattle.td_certificate.specs.declared.fault.CertFaultKind.TheVariants as kind
 use Rattle.td_certificate.specs.declared.fault.CertFault.{CertFault}
 use Rattle.td_certificate.specs.declared.certificate.Certificate.{Certificate}
+use Rattle.td_certificate.specs.declared.fields.Reason.{Reason}
+use Rattle.td_certificate.specs.declared.fields.Reason.TheVariants as reason
 use Rattle.td_certificate.specs.Spelling.{HasSpelling, Spells, spelling}
-use Rattle.td_certificate.specs.Faults.{IsWithinLimit, IsFront, HasMore, StopsAt, IsFault, IsReadAs, IsTold}
-use Rattle.td_certificate.proofs.Texts.{spells_once}
+use Rattle.td_certificate.specs.Faults.{IsWithinLimit, IsFront, HasMore, StopsAt, reason_in, kind_of, IsFault, IsReadAs, IsTold}
+use Rattle.td_certificate.proofs.Texts.{spells_once, stops_for}
 
 no_cons : {X : Type 0} (b : ℕ) (bs : List ℕ) → b ∷ bs ≡ [] → X
 no_cons b bs e = absurd cc
@@ -131,3 +133,26 @@ more_only kind.Version line at text s within f = more-stops text at line s f.1
 pub trailing_only : (text : List ℕ) (result : Result Certificate CertFault) → IsAnswer text result → (at : ℕ) → HasMore text at → IsWithinLimit text → IsTold kind.Trailing result
 trailing_only text (Ok d) a at s within = spells-more text d at a.0.0 s
 trailing_only text (Err fault) a at s within = more_only fault.kind fault.line at text s within a.1
+
+abbrev some_reason : Reason → Option Reason
+some_reason why = Some why
+
+reason_same : (this that : Reason) → some_reason this ≡ some_reason that → this ≡ that
+reason_same this that e = cc
+
+-- the reason is that of the fault
+same_kind : (text : List ℕ) (this why : Reason) → reason_in text ≡ Some this → reason_in text ≡ Some why → (kind_of this ≡ kind_of why) ⊎ (kind_of this ≡ kind.OutOfMemory)
+same_kind text this why is e = inl (ap kind_of (reason_same this why (sym is ∙ e)))
+
+stop_only : (k : CertFaultKind) (line : ℕ) (text : List ℕ) (why : Reason) → reason_in text ≡ Some why → IsWithinLimit text → IsFault k line text → (k ≡ kind_of why) ⊎ (k ≡ kind.OutOfMemory)
+stop_only kind.OutOfMemory line text why e within f = inr refl
+stop_only kind.TooLong line text why e within f = too_long text within f.0
+stop_only kind.UnexpectedEnd line text why e within f = let s = stops_for text why e in front-stops text s.0 f.1 s.1
+stop_only kind.Trailing line text why e within f = let s = stops_for text why e in more-stops text line s.0 f.1 s.1
+stop_only kind.Syntax line text why e within f = same_kind text reason.Syntax why f.2 e
+stop_only kind.NumberTooLarge line text why e within f = same_kind text reason.NumberTooLarge why f.2 e
+stop_only kind.Version line text why e within f = same_kind text reason.Version why f.2 e
+
+pub stops_only : (text : List ℕ) (result : Result Certificate CertFault) → IsAnswer text result → (why : Reason) → reason_in text ≡ Some why → IsWithinLimit text → IsTold (kind_of why) result
+stops_only text (Ok d) a why e within = let s = stops_for text why e in spells-stops text d s.0 a.0.0 s.1
+stops_only text (Err fault) a why e within = stop_only fault.kind fault.line text why e within a.1

@@ -5,6 +5,8 @@ use Rattle.std.specs.Char.{is_ascii_digit}
 use Rattle.std.proofs.lemmas.List.{append-nil}
 use Rattle.std.proofs.lemmas.Bool.{eqb-true, eq-eqb, ne_eqb, ltb-true, lt-ltb, leb-true, le-leb}
 use Rattle.std.proofs.lemmas.Fmt.{decimal_digit, decimal_step, decimal_by_steps}
+use Rattle.td_certificate.specs.declared.fields.Reason.{Reason}
+use Rattle.td_certificate.specs.declared.fields.Reason.TheVariants.{Syntax, NumberTooLarge}
 use Rattle.td_certificate.specs.Reading.{Ends, Wrong, Reading, literal, digits_at, number_at}
 use Rattle.td_certificate.proofs.Loops.{done, done_is}
 use Rattle.td_certificate.proofs.Codes.{IsCode, IsFrontOf, IsStopped}
@@ -12,26 +14,34 @@ use Rattle.td_certificate.proofs.Codes.{IsCode, IsFrontOf, IsStopped}
 abbrev pub ends : {A : Type 0} → Reading A
 ends = Err Ends
 
-abbrev pub wrong : {A : Type 0} → List ℕ → Reading A
-wrong rest = Err (Wrong rest)
+abbrev pub wrong : {A : Type 0} → Reason → List ℕ → Reading A
+wrong reason rest = Err (Wrong reason rest)
 
 -- where a test chose, each way
 pub chosen : {A : Type 0} (b : Bool) (x y z : A) → cond b x y ≡ z → ((b ≡ true) × (x ≡ z)) ⊎ ((b ≡ false) × (y ≡ z))
 chosen true x y z e = inl (refl, e)
 chosen false x y z e = inr (refl, e)
 
-pub wrong_is : {A : Type 0} (this that : List ℕ) → wrong {A = A} this ≡ wrong that → this ≡ that
-wrong_is this that e = cc
+pub wrong_is : {A : Type 0} (this that : List ℕ) (why reason : Reason) → wrong {A = A} why this ≡ wrong reason that → this ≡ that
+wrong_is this that why reason e = cc
 
 -- reading stops at the first byte, whatever follows
-pub stopped_at_once : {A : Type 0} (read : List ℕ → Reading A) (b : ℕ) (bytes rest : List ℕ) → wrong {A = A} (b ∷ bytes) ≡ wrong rest → read [] ≡ Err Ends
-    → ((other : List ℕ) → read (b ∷ other) ≡ Err (Wrong (b ∷ other))) → IsStopped read (b ∷ bytes) rest
-stopped_at_once read b bytes rest e goes stays = record { front = []; next = b; later = bytes; parts = refl; rest_is = sym (wrong_is (b ∷ bytes) rest e); goes = goes; stays = stays }
+pub stopped_at_once : {A : Type 0} (read : List ℕ → Reading A) (b : ℕ) (bytes rest : List ℕ) (why reason : Reason) → wrong {A = A} why (b ∷ bytes) ≡ wrong reason rest → read [] ≡ Err Ends
+    → ((other : List ℕ) → read (b ∷ other) ≡ Err (Wrong why (b ∷ other))) → IsStopped read (b ∷ bytes) rest
+stopped_at_once read b bytes rest why reason e goes stays = record {
+  front = [];
+  next = b;
+  later = bytes;
+  parts = refl;
+  rest_is = sym (wrong_is (b ∷ bytes) rest why reason e);
+  goes = goes;
+  stays = λ other. (why, stays other);
+}
 
 -- one more byte in front
 pub stopped_behind : {A B : Type 0} (read : List ℕ → Reading A) (read_behind : List ℕ → Reading B) (b : ℕ) (bytes rest : List ℕ) → IsStopped read_behind bytes rest
     → ((other : List ℕ) → read_behind other ≡ Err Ends → read (b ∷ other) ≡ Err Ends)
-    → ((other at : List ℕ) → read_behind other ≡ Err (Wrong at) → read (b ∷ other) ≡ Err (Wrong at))
+    → ((other at : List ℕ) (why : Reason) → read_behind other ≡ Err (Wrong why at) → read (b ∷ other) ≡ Err (Wrong why at))
     → IsStopped read (b ∷ bytes) rest
 stopped_behind read read_behind b bytes rest s goes stays = record {
   front = b ∷ s.front;
@@ -40,7 +50,7 @@ stopped_behind read read_behind b bytes rest s goes stays = record {
   parts = ap (λ (t : List ℕ). b ∷ t) s.parts;
   rest_is = s.rest_is;
   goes = goes s.front s.goes;
-  stays = λ other. stays (s.front ++ s.next ∷ other) (s.next ∷ other) (s.stays other);
+  stays = λ other. let w = s.stays other in (w.0, stays (s.front ++ s.next ∷ other) (s.next ∷ other) w.0 w.1);
 }
 
 -- ---- words
@@ -52,7 +62,7 @@ literal_same : (c b : ℕ) (cs rest : List ℕ) → b ≡ c → literal (c ∷ c
 unfolding literal
 literal_same c b cs rest e = rw (eq-eqb b c e) refl
 
-literal_differs : (c b : ℕ) (cs rest : List ℕ) → eqb b c ≡ false → literal (c ∷ cs) (b ∷ rest) ≡ Err (Wrong (b ∷ rest))
+literal_differs : (c b : ℕ) (cs rest : List ℕ) → eqb b c ≡ false → literal (c ∷ cs) (b ∷ rest) ≡ Err (Wrong Syntax (b ∷ rest))
 unfolding literal
 literal_differs c b cs rest e = rw e refl
 
@@ -61,9 +71,9 @@ unfolding literal
 literal_takes [] bytes rest u e = ap (λ (x : Unit {0} × List ℕ). x.1) (done_is (tt, bytes) (u, rest) e)
 literal_takes (c ∷ cs) [] rest u e = absurd cc
 literal_takes (c ∷ cs) (b ∷ bytes) rest u e =
-    elim (chosen (eqb b c) (literal cs bytes) (wrong (b ∷ bytes)) (done (u, rest)) e) [
+    elim (chosen (eqb b c) (literal cs bytes) (wrong Syntax (b ∷ bytes)) (done (u, rest)) e) [
       | inl here ↦ let same : b ≡ c = eqb-true b c here.0 in ap (λ (n : ℕ). n ∷ bytes) same ∙ ap (λ (t : List ℕ). c ∷ t) (literal_takes cs bytes rest u here.1)
-      | inr there ↦ absurd (let h : wrong (b ∷ bytes) ≡ done (u, rest) = there.1 in cc)
+      | inr there ↦ absurd (let h : wrong Syntax (b ∷ bytes) ≡ done (u, rest) = there.1 in cc)
     ]
 
 literal_again : (word rest : List ℕ) → literal word (word ++ rest) ≡ Ok (tt, rest)
@@ -76,25 +86,25 @@ unfolding literal
 literal_ends [] bytes e = absurd cc
 literal_ends (c ∷ cs) [] e = (c, cs, refl)
 literal_ends (c ∷ cs) (b ∷ bytes) e =
-    elim (chosen (eqb b c) (literal cs bytes) (wrong (b ∷ bytes)) ends e) [
+    elim (chosen (eqb b c) (literal cs bytes) (wrong Syntax (b ∷ bytes)) ends e) [
       | inl here ↦
           let same : b ≡ c = eqb-true b c here.0 in
           let p = literal_ends cs bytes here.1 in
           (p.0, p.1, ap (λ (t : List ℕ). c ∷ t) p.2 ∙ ap (λ (n : ℕ). n ∷ (bytes ++ p.0 ∷ p.1)) (sym same))
-      | inr there ↦ absurd (let h : wrong {A = Unit {0}} (b ∷ bytes) ≡ ends = there.1 in cc)
+      | inr there ↦ absurd (let h : wrong {A = Unit {0}} Syntax (b ∷ bytes) ≡ ends = there.1 in cc)
     ]
 
-literal_stops : (word bytes rest : List ℕ) → literal word bytes ≡ Err (Wrong rest) → IsStopped (literal word) bytes rest
+literal_stops : (word bytes rest : List ℕ) (reason : Reason) → literal word bytes ≡ Err (Wrong reason rest) → IsStopped (literal word) bytes rest
 unfolding literal
-literal_stops [] bytes rest e = absurd cc
-literal_stops (c ∷ cs) [] rest e = absurd cc
-literal_stops (c ∷ cs) (b ∷ bytes) rest e =
-    elim (chosen (eqb b c) (literal cs bytes) (wrong (b ∷ bytes)) (wrong rest) e) [
+literal_stops [] bytes rest reason e = absurd cc
+literal_stops (c ∷ cs) [] rest reason e = absurd cc
+literal_stops (c ∷ cs) (b ∷ bytes) rest reason e =
+    elim (chosen (eqb b c) (literal cs bytes) (wrong Syntax (b ∷ bytes)) (wrong reason rest) e) [
       | inl here ↦
           let same : b ≡ c = eqb-true b c here.0 in
-          stopped_behind (literal (c ∷ cs)) (literal cs) b bytes rest (literal_stops cs bytes rest here.1)
-          (λ other h. literal_same c b cs other same ∙ h) (λ other at h. literal_same c b cs other same ∙ h)
-      | inr there ↦ stopped_at_once (literal (c ∷ cs)) b bytes rest there.1 refl (λ other. literal_differs c b cs other there.0)
+          stopped_behind (literal (c ∷ cs)) (literal cs) b bytes rest (literal_stops cs bytes rest reason here.1)
+          (λ other h. literal_same c b cs other same ∙ h) (λ other at why h. literal_same c b cs other same ∙ h)
+      | inr there ↦ stopped_at_once (literal (c ∷ cs)) b bytes rest Syntax reason there.1 refl (λ other. literal_differs c b cs other there.0)
     ]
 
 pub literal_code : (word : List ℕ) → IsCode {A = Unit {0}} Always (λ u. word) (literal word)
@@ -104,7 +114,7 @@ literal_code word = record {
   takes = λ bytes u rest e. (tt, literal_takes word bytes rest u e);
   again = λ u rest v. literal_again word rest;
   ends = λ bytes e. let p = literal_ends word bytes e in record { value = tt; has = tt; next = p.0; later = p.1; parts = p.2 };
-  stops = λ bytes rest e. literal_stops word bytes rest e;
+  stops = λ bytes rest reason e. literal_stops word bytes rest reason e;
 }
 
 -- ---- numbers
@@ -192,7 +202,7 @@ record Further (most close number b : ℕ) (rest : List ℕ) : Type 0 where
 data Tells (most close number b : ℕ) (rest : List ℕ) : Type 0 where
   closes : b ≡ close → digits_at most close number (b ∷ rest) ≡ Ok (number, rest) → Tells most close number b rest
   more : Further most close number b rest → Tells most close number b rest
-  bad : ((other : List ℕ) → digits_at most close number (b ∷ other) ≡ Err (Wrong (b ∷ other))) → Tells most close number b rest
+  bad : (why : Reason) → ((other : List ℕ) → digits_at most close number (b ∷ other) ≡ Err (Wrong why (b ∷ other))) → Tells most close number b rest
 
 tells : (most close number b : ℕ) (rest : List ℕ) → Tells most close number b rest
 unfolding digits_at
@@ -203,11 +213,11 @@ tells most close number b rest =
         | true ↦ λ digit. elim (ltb 0 number) as (λ t. ltb 0 number ≡ t → Tells most close number b rest) [
           | true ↦ λ pos. elim (leb (10 * number + (b - 48)) most) as (λ t. leb (10 * number + (b - 48)) most ≡ t → Tells most close number b rest) [
             | true ↦ λ within. more (record { digit = digit; pos = ltb-true 0 number pos; within = leb-true (10 * number + (b - 48)) most within })
-            | false ↦ λ above. bad (λ later. rw (other, digit, pos, above) refl)
+            | false ↦ λ above. bad NumberTooLarge (λ later. rw (other, digit, pos, above) refl)
           ] refl
-          | false ↦ λ none. bad (λ later. rw (other, digit, none) refl)
+          | false ↦ λ none. bad Syntax (λ later. rw (other, digit, none) refl)
         ] refl
-        | false ↦ λ none. bad (λ later. rw (other, none) refl)
+        | false ↦ λ none. bad Syntax (λ later. rw (other, none) refl)
       ] refl
     ] refl
 
@@ -225,7 +235,7 @@ digits_take most close number (b ∷ bytes) m rest limit le e =
           let q = digits_take most close (10 * number + (b - 48)) bytes m rest limit f.within (sym (digits_more most close number b bytes limit f.digit f.pos f.within) ∙ e) in
           let one : decimal (10 * number + (b - 48)) ++ bytes ≡ decimal number ++ b ∷ bytes = ap (λ (t : List ℕ). t ++ bytes) (decimal_more number b f.pos r.0 r.1 (omega (arith, limit.high, f.within))) ∙ append_assoc (decimal number) (b ∷ []) bytes in
           (q.0, sym one ∙ q.1)
-      | bad w ↦ absurd (let h : wrong (b ∷ bytes) ≡ done (m, rest) = sym (w bytes) ∙ e in cc)
+      | bad why w ↦ absurd (let h : wrong why (b ∷ bytes) ≡ done (m, rest) = sym (w bytes) ∙ e in cc)
     ]
 
 digits_end : (most close number : ℕ) (bytes : List ℕ) → IsLimit most close → number ≤ most → digits_at most close number bytes ≡ Err Ends
@@ -245,22 +255,22 @@ digits_end most close number (b ∷ bytes) limit le e =
           let one : decimal (10 * number + (b - 48)) ++ bytes ≡ decimal number ++ b ∷ bytes = ap (λ (t : List ℕ). t ++ bytes) (decimal_more number b f.pos r.0 r.1 (omega (arith, limit.high, f.within))) ∙ append_assoc (decimal number) (b ∷ []) bytes in
           subst (λ (t : List ℕ). IsFrontOf (AtMost most) (number_text close) t) one
           (digits_end most close (10 * number + (b - 48)) bytes limit f.within (sym (digits_more most close number b bytes limit f.digit f.pos f.within) ∙ e))
-      | bad w ↦ absurd (let h : wrong {A = ℕ} (b ∷ bytes) ≡ ends = sym (w bytes) ∙ e in cc)
+      | bad why w ↦ absurd (let h : wrong {A = ℕ} why (b ∷ bytes) ≡ ends = sym (w bytes) ∙ e in cc)
     ]
 
-digits_stop : (most close number : ℕ) (bytes rest : List ℕ) → IsLimit most close → number ≤ most → digits_at most close number bytes ≡ Err (Wrong rest)
+digits_stop : (most close number : ℕ) (bytes rest : List ℕ) (reason : Reason) → IsLimit most close → number ≤ most → digits_at most close number bytes ≡ Err (Wrong reason rest)
     → IsStopped (digits_at most close number) bytes rest
 unfolding digits_at
-digits_stop most close number [] rest limit le e = absurd cc
-digits_stop most close number (b ∷ bytes) rest limit le e =
+digits_stop most close number [] rest reason limit le e = absurd cc
+digits_stop most close number (b ∷ bytes) rest reason limit le e =
     elim (tells most close number b bytes) [
-      | closes same ok ↦ absurd (let h : done (number, bytes) ≡ wrong rest = sym ok ∙ e in cc)
+      | closes same ok ↦ absurd (let h : done (number, bytes) ≡ wrong reason rest = sym ok ∙ e in cc)
       | more f ↦
           let step : (other : List ℕ) → digits_at most close number (b ∷ other) ≡ digits_at most close (10 * number + (b - 48)) other = λ other. digits_more most close number b other limit f.digit f.pos f.within in
           stopped_behind (digits_at most close number) (digits_at most close (10 * number + (b - 48))) b bytes rest
-          (digits_stop most close (10 * number + (b - 48)) bytes rest limit f.within (sym (step bytes) ∙ e))
-          (λ other h. step other ∙ h) (λ other at h. step other ∙ h)
-      | bad w ↦ stopped_at_once (digits_at most close number) b bytes rest (sym (w bytes) ∙ e) refl w
+          (digits_stop most close (10 * number + (b - 48)) bytes rest reason limit f.within (sym (step bytes) ∙ e))
+          (λ other h. step other ∙ h) (λ other at why h. step other ∙ h)
+      | bad why w ↦ stopped_at_once (digits_at most close number) b bytes rest why reason (sym (w bytes) ∙ e) refl w
     ]
 
 number_none : (most close : ℕ) → number_at most close [] ≡ Err Ends
@@ -276,7 +286,7 @@ digit_text b bytes d =
 -- what the test of a first byte tells
 data TellsFirst (most close b : ℕ) : Type 0 where
   starts : is_ascii_digit b ≡ true → b - 48 ≤ most → TellsFirst most close b
-  refused : ((other : List ℕ) → number_at most close (b ∷ other) ≡ Err (Wrong (b ∷ other))) → TellsFirst most close b
+  refused : (why : Reason) → ((other : List ℕ) → number_at most close (b ∷ other) ≡ Err (Wrong why (b ∷ other))) → TellsFirst most close b
 
 tells_first : (most close b : ℕ) → TellsFirst most close b
 unfolding number_at
@@ -284,9 +294,9 @@ tells_first most close b =
     elim (is_ascii_digit b) as (λ t. is_ascii_digit b ≡ t → TellsFirst most close b) [
       | true ↦ λ digit. elim (leb (b - 48) most) as (λ t. leb (b - 48) most ≡ t → TellsFirst most close b) [
         | true ↦ λ within. starts digit (leb-true (b - 48) most within)
-        | false ↦ λ above. refused (λ other. rw (digit, above) refl)
+        | false ↦ λ above. refused NumberTooLarge (λ other. rw (digit, above) refl)
       ] refl
-      | false ↦ λ none. refused (λ other. rw none refl)
+      | false ↦ λ none. refused Syntax (λ other. rw none refl)
     ] refl
 
 number_takes : (most close : ℕ) → IsLimit most close → (bytes : List ℕ) (m : ℕ) (rest : List ℕ) → number_at most close bytes ≡ Ok (m, rest) → (m ≤ most) × (bytes ≡ number_text close m ++ rest)
@@ -296,7 +306,7 @@ number_takes most close limit (b ∷ bytes) m rest e =
       | starts d le ↦
           let p = digits_take most close (b - 48) bytes m rest limit le (sym (number_first most close b bytes d le) ∙ e) in
           (p.0, sym (digit_text b bytes d) ∙ p.1)
-      | refused w ↦ absurd (let h : wrong (b ∷ bytes) ≡ done (m, rest) = sym (w bytes) ∙ e in cc)
+      | refused why w ↦ absurd (let h : wrong why (b ∷ bytes) ≡ done (m, rest) = sym (w bytes) ∙ e in cc)
     ]
 
 number_ends : (most close : ℕ) → IsLimit most close → (bytes : List ℕ) → number_at most close bytes ≡ Err Ends → IsFrontOf (AtMost most) (number_text close) bytes
@@ -306,18 +316,18 @@ number_ends most close limit (b ∷ bytes) e =
       | starts d le ↦
           subst (λ (t : List ℕ). IsFrontOf (AtMost most) (number_text close) t) (digit_text b bytes d)
           (digits_end most close (b - 48) bytes limit le (sym (number_first most close b bytes d le) ∙ e))
-      | refused w ↦ absurd (let h : wrong {A = ℕ} (b ∷ bytes) ≡ ends = sym (w bytes) ∙ e in cc)
+      | refused why w ↦ absurd (let h : wrong {A = ℕ} why (b ∷ bytes) ≡ ends = sym (w bytes) ∙ e in cc)
     ]
 
-number_stops : (most close : ℕ) → IsLimit most close → (bytes rest : List ℕ) → number_at most close bytes ≡ Err (Wrong rest) → IsStopped (number_at most close) bytes rest
-number_stops most close limit [] rest e = absurd (let h : ends {A = ℕ} ≡ wrong rest = sym (number_none most close) ∙ e in cc)
-number_stops most close limit (b ∷ bytes) rest e =
+number_stops : (most close : ℕ) → IsLimit most close → (bytes rest : List ℕ) (reason : Reason) → number_at most close bytes ≡ Err (Wrong reason rest) → IsStopped (number_at most close) bytes rest
+number_stops most close limit [] rest reason e = absurd (let h : ends {A = ℕ} ≡ wrong reason rest = sym (number_none most close) ∙ e in cc)
+number_stops most close limit (b ∷ bytes) rest reason e =
     elim (tells_first most close b) [
       | starts d le ↦
           stopped_behind (number_at most close) (digits_at most close (b - 48)) b bytes rest
-          (digits_stop most close (b - 48) bytes rest limit le (sym (number_first most close b bytes d le) ∙ e))
-          (λ other h. number_first most close b other d le ∙ h) (λ other at h. number_first most close b other d le ∙ h)
-      | refused w ↦ stopped_at_once (number_at most close) b bytes rest (sym (w bytes) ∙ e) (number_none most close) w
+          (digits_stop most close (b - 48) bytes rest reason limit le (sym (number_first most close b bytes d le) ∙ e))
+          (λ other h. number_first most close b other d le ∙ h) (λ other at why h. number_first most close b other d le ∙ h)
+      | refused why w ↦ stopped_at_once (number_at most close) b bytes rest why reason (sym (w bytes) ∙ e) (number_none most close) w
     ]
 
 pub number_code : (most close : ℕ) → IsLimit most close → IsCode (AtMost most) (number_text close) (number_at most close)
@@ -328,5 +338,5 @@ number_code most close limit = record {
   again = λ m rest le.
       ap (number_at most close) (append_assoc (decimal m) (close ∷ []) rest) ∙ number_goes most close m (close ∷ rest) limit le ∙ digits_closed most close m rest;
   ends = λ bytes e. number_ends most close limit bytes e;
-  stops = λ bytes rest e. number_stops most close limit bytes rest e;
+  stops = λ bytes rest reason e. number_stops most close limit bytes rest reason e;
 }

@@ -4,6 +4,7 @@ use Rattle.std.specs.Prelude.{◌||◌}
 use Rattle.std.proofs.lemmas.List.{append-nil, nil_from_length, length-drop}
 use Rattle.std.proofs.Math.Seq.{drop-cons}
 use Rattle.std.proofs.lemmas.Bool.{ne_eqb, eq-eqb}
+use Rattle.td_certificate.specs.declared.fields.Reason.TheVariants.{Syntax}
 use Rattle.td_certificate.specs.declared.fields.Stop as code_stop
 use Rattle.td_certificate.specs.declared.fields.Stop.TheVariants as code
 use Rattle.td_certificate.specs.Reading.{Ends, Wrong, Reading, ◌>>=◌, Fails, byte_at, literal, bits_at}
@@ -47,12 +48,12 @@ literal_ends : (word : List ℕ) (i : ℕ) (rest : List ℕ) → i < length word
 unfolding literal
 literal_ends word i rest lt e = rw (drop-cons word i 0, e) refl
 
-literal_at : (c b : ℕ) (cs rest : List ℕ) → literal (c ∷ cs) (b ∷ rest) ≡ cond (eqb b c) (literal cs rest) (Err (Wrong (b ∷ rest)))
+literal_at : (c b : ℕ) (cs rest : List ℕ) → literal (c ∷ cs) (b ∷ rest) ≡ cond (eqb b c) (literal cs rest) (Err (Wrong Syntax (b ∷ rest)))
 unfolding literal
 literal_at c b cs rest = refl
 
 literal_same : (word : List ℕ) (i : ℕ) (x : ℕ × List ℕ) (rest : List ℕ) → i < length word → byte_at rest ≡ Ok x
-    → literal (drop i word) rest ≡ cond (eqb x.0 (get_or word i 0)) (literal (drop (i + 1) word) x.1) (Err (Wrong rest))
+    → literal (drop i word) rest ≡ cond (eqb x.0 (get_or word i 0)) (literal (drop (i + 1) word) x.1) (Err (Wrong Syntax rest))
 literal_same word i x rest lt e =
     rw (add-one, drop-cons word i 0, byte_is rest x e) (literal_at (get_or word i 0) x.0 (drop (suc i) word) x.1)
 
@@ -61,7 +62,7 @@ pub literal_stops : (stop : code_stop.Stop) (word : List ℕ) (i : ℕ) (rest : 
 literal_stops stop word i rest total lt e so_far = no_byte stop rest total e (λ none. sym so_far ∙ literal_ends word i rest lt none)
 
 pub literal_differs : (word : List ℕ) (i : ℕ) (x : ℕ × List ℕ) (rest : List ℕ) (total : Reading (Unit {0})) → i < length word → byte_at rest ≡ Ok x
-    → x.0 ≢ get_or word i 0 → literal (drop i word) rest ≡ total → total ≡ Err (Wrong rest)
+    → x.0 ≢ get_or word i 0 → literal (drop i word) rest ≡ total → total ≡ Err (Wrong Syntax rest)
 literal_differs word i x rest total lt e ne so_far = sym so_far ∙ literal_same word i x rest lt e ∙ rw (ne_eqb x.0 (get_or word i 0) ne) refl
 
 pub literal_goes_on : (word : List ℕ) (i : ℕ) (x : ℕ × List ℕ) (rest : List ℕ) (total : Reading (Unit {0})) → i < length word → byte_at rest ≡ Ok x
@@ -82,7 +83,7 @@ bits_end zero rest lt e = absurd (omega arith)
 bits_end (suc count) rest lt e = rw e refl
 
 bits_same : (count : ℕ) (x : ℕ × List ℕ) (rest : List ℕ) → byte_at rest ≡ Ok x
-    → bits_at (suc count) rest ≡ cond (eqb x.0 48 || eqb x.0 49) (bits_at count x.1 >>= λ others. Ok (eqb x.0 49 ∷ others.0, others.1)) (Err (Wrong rest))
+    → bits_at (suc count) rest ≡ cond (eqb x.0 48 || eqb x.0 49) (bits_at count x.1 >>= λ others. Ok (eqb x.0 49 ∷ others.0, others.1)) (Err (Wrong Syntax rest))
 unfolding bits_at
 bits_same count x rest e = rw (byte_is rest x e) refl
 
@@ -92,10 +93,10 @@ bits_stop stop front count i rest total lt e so_far =
     no_byte stop rest total e (λ none. sym so_far ∙ ap (with_front front) (bits_end (count - i) rest (omega arith) none))
 
 pub bits_differ : (front : List Bool) (count i : ℕ) (x : ℕ × List ℕ) (rest : List ℕ) (total : Reading (List Bool)) → i < count → byte_at rest ≡ Ok x
-    → (eqb x.0 48 || eqb x.0 49) ≡ false → with_front front (bits_at (count - i) rest) ≡ total → total ≡ Err (Wrong rest)
+    → (eqb x.0 48 || eqb x.0 49) ≡ false → with_front front (bits_at (count - i) rest) ≡ total → total ≡ Err (Wrong Syntax rest)
 bits_differ front count i x rest total lt e is so_far =
     let k : count - i ≡ suc (count - (i + 1)) = omega arith in
-    let one : bits_at (count - i) rest ≡ Err (Wrong rest) = rw (k, bits_same (count - (i + 1)) x rest e, is) refl in
+    let one : bits_at (count - i) rest ≡ Err (Wrong Syntax rest) = rw (k, bits_same (count - (i + 1)) x rest e, is) refl in
     sym so_far ∙ ap (with_front front) one
 
 pub bits_go_on : (front : List Bool) (count i : ℕ) (x : ℕ × List ℕ) (rest : List ℕ) (total : Reading (List Bool)) (bit : Bool) → i < count → byte_at rest ≡ Ok x

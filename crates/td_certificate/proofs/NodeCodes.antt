@@ -7,6 +7,8 @@ use Rattle.td_certificate.specs.declared.tree.BoundedBy.{BoundedBy}
 use Rattle.td_certificate.specs.declared.tree.BoundedBy.TheVariants.{Arrival, Possible, Both}
 use Rattle.td_certificate.specs.declared.tree.Node.{Node}
 use Rattle.td_certificate.specs.declared.tree.Node.TheVariants as node
+use Rattle.td_certificate.specs.declared.fields.Reason.{Reason}
+use Rattle.td_certificate.specs.declared.fields.Reason.TheVariants.{Syntax}
 use Rattle.td_certificate.specs.Spelling.{ended, greatest, IsNode}
 use Rattle.td_certificate.specs.Text.{bit, bits, letter, node_line}
 use Rattle.td_certificate.specs.Reading.{Ends, Wrong, Reading, ◌>>=◌, literal, bits_at, vector_at, letter_at, number_behind, vector_behind, Tag, SplitTag, BoundTag, PointTag, tag_at, behind_tag, node_at}
@@ -61,7 +63,7 @@ vector_behind_code word count = behind_word word (HasLength count) vector_text (
 -- ---- letters
 
 abbrev picked_at : {A : Type 0} → List ℕ → Option A → ℕ → Reading A
-picked_at rest None b = Err (Wrong (b ∷ rest))
+picked_at rest None b = Err (Wrong Syntax (b ∷ rest))
 picked_at rest (Some x) b = Ok (x, rest)
 
 abbrev by_letter : {A : Type 0} → (ℕ → Option A) → List ℕ → Reading A
@@ -81,7 +83,7 @@ letter_takes : {A : Type 0} (pick : ℕ → Option A) (byte_of : A → ℕ) → 
 letter_takes pick byte_of is [] x rest e = absurd cc
 letter_takes {A} pick byte_of is (b ∷ bytes) x rest e =
     option_cases (pick b)
-    (λ h. absurd (let q : wrong (b ∷ bytes) ≡ done (x, rest) = ap (λ (o : Option A). picked_at bytes o b) (sym h) ∙ e in cc))
+    (λ h. absurd (let q : wrong Syntax (b ∷ bytes) ≡ done (x, rest) = ap (λ (o : Option A). picked_at bytes o b) (sym h) ∙ e in cc))
     (λ y h.
     let p : (y, bytes) ≡ (x, rest) = done_is (y, bytes) (x, rest) (ap (λ (o : Option A). picked_at bytes o b) (sym h) ∙ e) in
     ap (λ (n : ℕ). n ∷ bytes) (is.from b y h) ∙ ap (λ (q : A × List ℕ). byte_of q.0 ∷ q.1) p)
@@ -90,15 +92,15 @@ letter_ends : {A : Type 0} (pick : ℕ → Option A) (byte_of : A → ℕ) → I
 letter_ends pick byte_of is [] e = record { value = is.some; has = tt; next = byte_of is.some; later = []; parts = refl }
 letter_ends {A} pick byte_of is (b ∷ bytes) e =
     option_cases (pick b)
-    (λ h. absurd (let q : wrong {A = A} (b ∷ bytes) ≡ ends = ap (λ (o : Option A). picked_at bytes o b) (sym h) ∙ e in cc))
+    (λ h. absurd (let q : wrong {A = A} Syntax (b ∷ bytes) ≡ ends = ap (λ (o : Option A). picked_at bytes o b) (sym h) ∙ e in cc))
     (λ y h. absurd (let q : done (y, bytes) ≡ ends = ap (λ (o : Option A). picked_at bytes o b) (sym h) ∙ e in cc))
 
-letter_stops : {A : Type 0} (pick : ℕ → Option A) (bytes rest : List ℕ) → by_letter pick bytes ≡ Err (Wrong rest) → IsStopped (by_letter pick) bytes rest
-letter_stops pick [] rest e = absurd cc
-letter_stops {A} pick (b ∷ bytes) rest e =
+letter_stops : {A : Type 0} (pick : ℕ → Option A) (bytes rest : List ℕ) (reason : Reason) → by_letter pick bytes ≡ Err (Wrong reason rest) → IsStopped (by_letter pick) bytes rest
+letter_stops pick [] rest reason e = absurd cc
+letter_stops {A} pick (b ∷ bytes) rest reason e =
     option_cases (pick b)
-    (λ h. stopped_at_once (by_letter pick) b bytes rest (ap (λ (o : Option A). picked_at bytes o b) (sym h) ∙ e) refl (λ other. ap (λ (o : Option A). picked_at other o b) h))
-    (λ y h. absurd (let q : done (y, bytes) ≡ wrong rest = ap (λ (o : Option A). picked_at bytes o b) (sym h) ∙ e in cc))
+    (λ h. stopped_at_once (by_letter pick) b bytes rest Syntax reason (ap (λ (o : Option A). picked_at bytes o b) (sym h) ∙ e) refl (λ other. ap (λ (o : Option A). picked_at other o b) h))
+    (λ y h. absurd (let q : done (y, bytes) ≡ wrong reason rest = ap (λ (o : Option A). picked_at bytes o b) (sym h) ∙ e in cc))
 
 by_letter_code : {A : Type 0} (pick : ℕ → Option A) (byte_of : A → ℕ) → IsLetter pick byte_of → IsCode Always (λ x. byte_of x ∷ []) (by_letter pick)
 by_letter_code {A} pick byte_of is = record {
@@ -153,11 +155,11 @@ letter_by : (bytes : List ℕ) → letter_at bytes ≡ by_letter pick_domain byt
 unfolding letter_at
 letter_by [] = refl
 letter_by (b ∷ rest) =
-    elim (eqb b 97) as (λ t. cond t (done (Arrival, rest)) (cond (eqb b 116) (done (Possible, rest)) (cond (eqb b 109) (done (Both, rest)) (wrong (b ∷ rest)))) ≡ picked_at rest (cond t (Some Arrival) (cond (eqb b 116) (Some Possible) (cond (eqb b 109) (Some Both) None))) b) [
+    elim (eqb b 97) as (λ t. cond t (done (Arrival, rest)) (cond (eqb b 116) (done (Possible, rest)) (cond (eqb b 109) (done (Both, rest)) (wrong Syntax (b ∷ rest)))) ≡ picked_at rest (cond t (Some Arrival) (cond (eqb b 116) (Some Possible) (cond (eqb b 109) (Some Both) None))) b) [
       | true ↦ refl
-      | false ↦ elim (eqb b 116) as (λ t. cond t (done (Possible, rest)) (cond (eqb b 109) (done (Both, rest)) (wrong (b ∷ rest))) ≡ picked_at rest (cond t (Some Possible) (cond (eqb b 109) (Some Both) None)) b) [
+      | false ↦ elim (eqb b 116) as (λ t. cond t (done (Possible, rest)) (cond (eqb b 109) (done (Both, rest)) (wrong Syntax (b ∷ rest))) ≡ picked_at rest (cond t (Some Possible) (cond (eqb b 109) (Some Both) None)) b) [
         | true ↦ refl
-        | false ↦ elim (eqb b 109) as (λ t. cond t (done (Both, rest)) (wrong (b ∷ rest)) ≡ picked_at rest (cond t (Some Both) None) b) [ true ↦ refl | false ↦ refl ]
+        | false ↦ elim (eqb b 109) as (λ t. cond t (done (Both, rest)) (wrong Syntax (b ∷ rest)) ≡ picked_at rest (cond t (Some Both) None) b) [ true ↦ refl | false ↦ refl ]
       ]
     ]
 
@@ -189,11 +191,11 @@ tag_by : (bytes : List ℕ) → tag_at bytes ≡ by_letter pick_tag bytes
 unfolding tag_at
 tag_by [] = refl
 tag_by (b ∷ rest) =
-    elim (eqb b 115) as (λ t. cond t (done (SplitTag, rest)) (cond (eqb b 98) (done (BoundTag, rest)) (cond (eqb b 112) (done (PointTag, rest)) (wrong (b ∷ rest)))) ≡ picked_at rest (cond t (Some SplitTag) (cond (eqb b 98) (Some BoundTag) (cond (eqb b 112) (Some PointTag) None))) b) [
+    elim (eqb b 115) as (λ t. cond t (done (SplitTag, rest)) (cond (eqb b 98) (done (BoundTag, rest)) (cond (eqb b 112) (done (PointTag, rest)) (wrong Syntax (b ∷ rest)))) ≡ picked_at rest (cond t (Some SplitTag) (cond (eqb b 98) (Some BoundTag) (cond (eqb b 112) (Some PointTag) None))) b) [
       | true ↦ refl
-      | false ↦ elim (eqb b 98) as (λ t. cond t (done (BoundTag, rest)) (cond (eqb b 112) (done (PointTag, rest)) (wrong (b ∷ rest))) ≡ picked_at rest (cond t (Some BoundTag) (cond (eqb b 112) (Some PointTag) None)) b) [
+      | false ↦ elim (eqb b 98) as (λ t. cond t (done (BoundTag, rest)) (cond (eqb b 112) (done (PointTag, rest)) (wrong Syntax (b ∷ rest))) ≡ picked_at rest (cond t (Some BoundTag) (cond (eqb b 112) (Some PointTag) None)) b) [
         | true ↦ refl
-        | false ↦ elim (eqb b 112) as (λ t. cond t (done (PointTag, rest)) (wrong (b ∷ rest)) ≡ picked_at rest (cond t (Some PointTag) None) b) [ true ↦ refl | false ↦ refl ]
+        | false ↦ elim (eqb b 112) as (λ t. cond t (done (PointTag, rest)) (wrong Syntax (b ∷ rest)) ≡ picked_at rest (cond t (Some PointTag) None) b) [ true ↦ refl | false ↦ refl ]
       ]
     ]
 

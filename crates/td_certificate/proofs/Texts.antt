@@ -1,12 +1,12 @@
 -- What reading says of a text.
-use Rattle.std.proofs.Common.{◌≡◌, ◌≢◌, ℕ, ◌-◌, ◌≤◌, List, [], ◌∷◌, ◌++◌, length, take, Ok, Err, refl, sym, ap, ◌∙◌, arith}
+use Rattle.std.proofs.Common.{◌≡◌, ◌≢◌, ℕ, ◌-◌, ◌≤◌, List, [], ◌∷◌, ◌++◌, length, take, Some, Ok, Err, refl, sym, ap, ◌∙◌, arith}
 use Rattle.std.proofs.lemmas.List.{append-nil, nil_from_length, take_at, length-append}
-use Rattle.td_certificate.specs.declared.fault.CertFaultKind.{CertFaultKind}
-use Rattle.td_certificate.specs.declared.fault.CertFaultKind.TheVariants as kind
 use Rattle.td_certificate.specs.declared.certificate.Certificate.{Certificate}
+use Rattle.td_certificate.specs.declared.fields.Reason.{Reason}
+use Rattle.td_certificate.specs.declared.fields.Reason.TheVariants as reason
 use Rattle.td_certificate.specs.Spelling.{Spells, spelling}
-use Rattle.td_certificate.specs.Reading.{Ends, Wrong, certificate_at}
-use Rattle.td_certificate.specs.Faults.{line_behind, IsWithinLimit, IsFront, HasMore, StopsAt, IsUnreadable, IsFault}
+use Rattle.td_certificate.specs.Reading.{Reading, Ends, Wrong, certificate_at}
+use Rattle.td_certificate.specs.Faults.{line_behind, IsWithinLimit, IsFront, HasMore, StopsAt, reason_of, reason_in, kind_of, IsFault}
 use Rattle.td_certificate.proofs.Codes.{IsStopped-none, IsCode-one}
 use Rattle.td_certificate.proofs.CertificateCode.{certificate_code}
 
@@ -33,9 +33,9 @@ read_within text rest c e =
     let p = certificate_code.takes text c rest e in
     omega (arith, ap length p.1, length-append (spelling c) rest)
 
-pub stop_within : (text rest : List ℕ) → certificate_at text ≡ Err (Wrong rest) → length rest ≤ length text
-stop_within text rest e =
-    let s = certificate_code.stops text rest e in
+pub stop_within : (text rest : List ℕ) (why : Reason) → certificate_at text ≡ Err (Wrong why rest) → length rest ≤ length text
+stop_within text rest why e =
+    let s = certificate_code.stops text rest why e in
     omega (arith, ap length s.parts, ap length s.rest_is, length-append s.front (s.next ∷ s.later))
 
 pub read_more : (text rest : List ℕ) (c : Certificate) (line : ℕ) → certificate_at text ≡ Ok (c, rest) → length rest ≢ 0 → line ≡ line_behind (take (length text - length rest) text) → HasMore text line
@@ -59,9 +59,9 @@ read_front text e =
 pub whole_line : (text : List ℕ) (line : ℕ) → line ≡ line_behind (take (length text - 0) text) → line ≡ line_behind text
 whole_line text line l = line_is text text [] line (sym (append-nil text)) l
 
-pub read_stop : (text rest : List ℕ) (line : ℕ) → certificate_at text ≡ Err (Wrong rest) → line ≡ line_behind (take (length text - length rest) text) → StopsAt text line
-read_stop text rest line e l =
-    let s = certificate_code.stops text rest e in
+pub read_stop : (text rest : List ℕ) (line : ℕ) (why : Reason) → certificate_at text ≡ Err (Wrong why rest) → line ≡ line_behind (take (length text - length rest) text) → StopsAt text line
+read_stop text rest line why e l =
+    let s = certificate_code.stops text rest why e in
     record {
       front = s.front;
       next = s.next;
@@ -72,14 +72,26 @@ read_stop text rest line e l =
       line = line_is text s.front rest line (s.parts ∙ ap (λ (t : List ℕ). s.front ++ t) (sym s.rest_is)) l;
     }
 
-pub unreadable_fault : (k : CertFaultKind) (line : ℕ) (text : List ℕ) → IsUnreadable k → IsWithinLimit text → StopsAt text line → IsFault k line text
-unreadable_fault kind.OutOfMemory line text u within s = absurd u
-unreadable_fault kind.TooLong line text u within s = absurd u
-unreadable_fault kind.UnexpectedEnd line text u within s = absurd u
-unreadable_fault kind.Trailing line text u within s = absurd u
-unreadable_fault kind.Syntax line text u within s = (within, s)
-unreadable_fault kind.NumberTooLarge line text u within s = (within, s)
-unreadable_fault kind.Version line text u within s = (within, s)
+pub reason_is : (text rest : List ℕ) (why : Reason) → certificate_at text ≡ Err (Wrong why rest) → reason_in text ≡ Some why
+unfolding reason_in
+reason_is text rest why e = ap reason_of e
+
+-- a text with a reason stops at a byte of some line
+stop_of : (text : List ℕ) (why : Reason) (read : Reading Certificate) → certificate_at text ≡ read → reason_of read ≡ Some why → (line : ℕ) × StopsAt text line
+stop_of text why (Ok x) e is = absurd cc
+stop_of text why (Err Ends) e is = absurd cc
+stop_of text why (Err (Wrong other rest)) e is =
+    let line : ℕ = line_behind (take (length text - length rest) text) in
+    (line, read_stop text rest line other e refl)
+
+pub stops_for : (text : List ℕ) (why : Reason) → reason_in text ≡ Some why → (line : ℕ) × StopsAt text line
+unfolding reason_in
+stops_for text why is = stop_of text why (certificate_at text) refl is
+
+pub unreadable_fault : (why : Reason) (line : ℕ) (text : List ℕ) → IsWithinLimit text → StopsAt text line → reason_in text ≡ Some why → IsFault (kind_of why) line text
+unreadable_fault reason.Syntax line text within s is = (within, s, is)
+unreadable_fault reason.NumberTooLarge line text within s is = (within, s, is)
+unreadable_fault reason.Version line text within s is = (within, s, is)
 
 pub spells_once : (this that : Certificate) (text other more : List ℕ) → Spells this text → Spells that other → text ≡ other ++ more → (this ≡ that) × (more ≡ [])
 spells_once this that text other more p q e =

@@ -1,11 +1,15 @@
 -- Why a text isn't a certificate's spelling, and the line of the fault.
-use Rattle.std.specs.Prelude.{◌≡◌, ℕ, ◌+◌, ◌<◌, ◌≤◌, ◌==◌, ◌⊎◌, List, ◌∷◌, ◌++◌, length, Result, Ok, Err}
+use Rattle.std.specs.Prelude.{◌≡◌, ◌≢◌, ℕ, ◌+◌, ◌^◌, ◌<◌, ◌≤◌, ◌==◌, ◌⊎◌, nat_le, if◌then◌else◌, false, codes, decimal, List, [], ◌∷◌, ◌++◌, length, Option, Some, None, Result, Ok, Err}
 use Rattle.std.specs.List.{count_by}
+use Rattle.std.specs.Char.{is_ascii_digit}
 use Rattle.td_certificate.specs.declared.fault.CertFaultKind.{CertFaultKind}
 use Rattle.td_certificate.specs.declared.fault.CertFaultKind.TheVariants as kind
 use Rattle.td_certificate.specs.declared.fault.CertFault.{CertFault}
 use Rattle.td_certificate.specs.declared.certificate.Certificate.{Certificate}
-use Rattle.td_certificate.specs.Spelling.{HasSpelling, spelling}
+use Rattle.td_certificate.specs.declared.fields.Reason.{Reason}
+use Rattle.td_certificate.specs.declared.fields.Reason.TheVariants as reason
+use Rattle.td_certificate.specs.Spelling.{HasSpelling, spelling, greatest}
+use Rattle.td_certificate.specs.Reading.{Reading, Ends, Wrong, certificate_at}
 
 -- the line of a place is one more than the number of newlines before it
 abbrev pub line_behind : List ℕ → ℕ
@@ -41,15 +45,30 @@ pub record StopsAt (text : List ℕ) (place : ℕ) : Type 0 where
   pub unreadable : (c : Certificate) (more : List ℕ) → HasSpelling c → ¬ (spelling c ≡ front ++ next ∷ more)
   pub line : place ≡ line_behind front
 
--- the kinds of a byte that can't be read
-abbrev pub IsUnreadable : CertFaultKind → Type 0
-IsUnreadable kind.OutOfMemory = ⊥
-IsUnreadable kind.TooLong = ⊥
-IsUnreadable kind.UnexpectedEnd = ⊥
-IsUnreadable kind.Trailing = ⊥
-IsUnreadable kind.Syntax = Unit {0}
-IsUnreadable kind.NumberTooLarge = Unit {0}
-IsUnreadable kind.Version = Unit {0}
+abbrev pub reason_of : {A : Type 0} → Reading A → Option Reason
+reason_of (Ok x) = None
+reason_of (Err Ends) = None
+reason_of (Err (Wrong reason rest)) = Some reason
+
+-- why reading the text stops at a byte, where it does
+unfoldable pub reason_in : List ℕ → Option Reason
+reason_in text = reason_of (certificate_at text)
+
+-- no digit stands in front
+abbrev pub NoDigit : List ℕ → Type 0
+NoDigit [] = Unit {0}
+NoDigit (b ∷ rest) = is_ascii_digit b ≡ false
+
+-- A first line with a number other than 1 is told as another version, or as a number too large, whatever follows the number.
+abbrev pub VersionsAreTold : Type 0
+VersionsAreTold = (n : ℕ) (later : List ℕ) → n ≢ 1 → n < 10 ^ 64 → NoDigit later
+    → reason_in (codes "tdelay-cert " ++ decimal n ++ later) ≡ Some (if nat_le n greatest then reason.Version else reason.NumberTooLarge)
+
+-- the kind by which a reason is told
+abbrev pub kind_of : Reason → CertFaultKind
+kind_of reason.Syntax = kind.Syntax
+kind_of reason.NumberTooLarge = kind.NumberTooLarge
+kind_of reason.Version = kind.Version
 
 -- what a fault says of the text
 abbrev pub IsFault : CertFaultKind → ℕ → List ℕ → Type 0
@@ -57,9 +76,9 @@ IsFault kind.OutOfMemory line text = line ≡ 0
 IsFault kind.TooLong line text = (268435456 < length text) × (line ≡ 1)
 IsFault kind.UnexpectedEnd line text = IsWithinLimit text × IsFront text × (line ≡ line_behind text)
 IsFault kind.Trailing line text = IsWithinLimit text × HasMore text line
-IsFault kind.Syntax line text = IsWithinLimit text × StopsAt text line
-IsFault kind.NumberTooLarge line text = IsWithinLimit text × StopsAt text line
-IsFault kind.Version line text = IsWithinLimit text × StopsAt text line
+IsFault kind.Syntax line text = IsWithinLimit text × StopsAt text line × (reason_in text ≡ Some reason.Syntax)
+IsFault kind.NumberTooLarge line text = IsWithinLimit text × StopsAt text line × (reason_in text ≡ Some reason.NumberTooLarge)
+IsFault kind.Version line text = IsWithinLimit text × StopsAt text line × (reason_in text ≡ Some reason.Version)
 
 -- memory aside, the certificate was read
 abbrev pub IsReadAs : Certificate → Result Certificate CertFault → Type 0

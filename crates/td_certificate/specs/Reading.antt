@@ -1,20 +1,22 @@
 -- Reading a certificate from the front, up to the first byte that can't be read on.
-use Rattle.std.specs.Prelude.{◌≡◌, ℕ, zero, suc, ◌+◌, ◌-◌, ◌*◌, Bool, List, [], ◌∷◌, length, codes, Result, Ok, Err, nat_lt, nat_le, ◌==◌, ◌||◌, if◌then◌else◌}
+use Rattle.std.specs.Prelude.{◌≡◌, ℕ, zero, suc, ◌+◌, ◌-◌, ◌*◌, ◌<◌, ◌≤◌, Bool, false, List, [], ◌∷◌, length, codes, Option, Some, None, Result, Ok, Err, nat_lt, nat_le, ◌==◌, ◌||◌, ◌&&◌, not, if◌then◌else◌}
 use Rattle.std.specs.Char.{is_ascii_digit}
 use Rattle.td_certificate.specs.declared.tree.BoundedBy.{BoundedBy}
 use Rattle.td_certificate.specs.declared.tree.BoundedBy.TheVariants.{Arrival, Possible, Both}
 use Rattle.td_certificate.specs.declared.tree.Node.{Node}
 use Rattle.td_certificate.specs.declared.tree.Node.TheVariants as node
+use Rattle.td_certificate.specs.declared.fields.Reason.{Reason}
+use Rattle.td_certificate.specs.declared.fields.Reason.TheVariants.{Syntax, NumberTooLarge, Version}
 use Rattle.td_certificate.specs.declared.fields.Stop as code_stop
 use Rattle.td_certificate.specs.declared.fields.Stop.TheVariants as code
 use Rattle.td_certificate.specs.Trees.{sides}
 use Rattle.td_certificate.specs.declared.certificate.Certificate.{Certificate}
 use Rattle.td_certificate.specs.Spelling.{greatest}
 
--- why reading stops: the bytes end, or from here on they can't be read
+-- why reading stops: the bytes end, or from here on they can't be read, for this reason
 pub data Stop : Type 0 where
   Ends : Stop
-  Wrong : List ℕ → Stop
+  Wrong : Reason → List ℕ → Stop
 
 -- what was read, and the bytes after it
 abbrev pub Reading : Type 0 → Type 0
@@ -29,7 +31,7 @@ abbrev pub ◌>>=◌ : {A B : Type 0} → Result A Stop → (A → Result B Stop
 abbrev pub Fails : {Y : Type 0} → code_stop.Stop → Result Y Stop → Type 0
 Fails code.OutOfMemory read = Unit {0}
 Fails code.Ends read = read ≡ Err Ends
-Fails (code.Wrong reason rest) read = read ≡ Err (Wrong rest.now)
+Fails (code.Wrong reason rest) read = read ≡ Err (Wrong reason rest.now)
 
 abbrev pub Gives : {X Y : Type 0} → (X → Y) → Result X code_stop.Stop → Result Y Stop → Type 0
 Gives view (Ok x) read = read ≡ Ok (view x)
@@ -44,7 +46,7 @@ byte_at (b ∷ rest) = Ok (b, rest)
 unfoldable pub literal : List ℕ → List ℕ → Reading (Unit {0})
 literal [] bytes = Ok (tt, bytes)
 literal (c ∷ cs) [] = Err Ends
-literal (c ∷ cs) (b ∷ rest) = if b == c then literal cs rest else Err (Wrong (b ∷ rest))
+literal (c ∷ cs) (b ∷ rest) = if b == c then literal cs rest else Err (Wrong Syntax (b ∷ rest))
 
 -- the digits behind those of a number so far, up to the byte that closes it
 unfoldable pub digits_at : ℕ → ℕ → ℕ → List ℕ → Reading ℕ
@@ -54,7 +56,7 @@ digits_at most close number (b ∷ rest) =
     if is_ascii_digit b then (
     if nat_lt 0 number then (
     if nat_le (10 * number + (b - 48)) most then digits_at most close (10 * number + (b - 48)) rest
-    else Err (Wrong (b ∷ rest))) else Err (Wrong (b ∷ rest))) else Err (Wrong (b ∷ rest)))
+    else Err (Wrong NumberTooLarge (b ∷ rest))) else Err (Wrong Syntax (b ∷ rest))) else Err (Wrong Syntax (b ∷ rest)))
 
 -- a number up to the most, without leading zeros, and the byte that closes it
 unfoldable pub number_at : ℕ → ℕ → List ℕ → Reading ℕ
@@ -62,14 +64,14 @@ number_at most close [] = Err Ends
 number_at most close (b ∷ rest) =
     if is_ascii_digit b then (
     if nat_le (b - 48) most then digits_at most close (b - 48) rest
-    else Err (Wrong (b ∷ rest))) else Err (Wrong (b ∷ rest))
+    else Err (Wrong NumberTooLarge (b ∷ rest))) else Err (Wrong Syntax (b ∷ rest))
 
 -- so many characters 0 or 1
 unfoldable pub bits_at : ℕ → List ℕ → Reading (List Bool)
 bits_at zero bytes = Ok ([], bytes)
 bits_at (suc count) [] = Err Ends
 bits_at (suc count) (b ∷ rest) =
-    if b == 48 || b == 49 then (bits_at count rest >>= λ others. Ok ((b == 49) ∷ others.0, others.1)) else Err (Wrong (b ∷ rest))
+    if b == 48 || b == 49 then (bits_at count rest >>= λ others. Ok ((b == 49) ∷ others.0, others.1)) else Err (Wrong Syntax (b ∷ rest))
 
 -- the bits of a vector, or `none`, and the newline
 unfoldable pub vector_at : ℕ → List ℕ → Reading (List Bool)
@@ -86,7 +88,7 @@ letter_at [] = Err Ends
 letter_at (b ∷ rest) =
     if b == 97 then Ok (Arrival, rest) else (
     if b == 116 then Ok (Possible, rest) else (
-    if b == 109 then Ok (Both, rest) else Err (Wrong (b ∷ rest))))
+    if b == 109 then Ok (Both, rest) else Err (Wrong Syntax (b ∷ rest))))
 
 -- a word, a number and the byte that closes it
 unfoldable pub number_behind : List ℕ → ℕ → ℕ → List ℕ → Reading ℕ
@@ -100,6 +102,44 @@ vector_behind word count bytes = do
   behind ← literal word bytes
   vector_at count behind.1
 
+-- ---- the first line
+
+-- the bytes begin with a digit, and a leading 0 is the only one
+abbrev pub begins_number : List ℕ → Bool
+begins_number [] = false
+begins_number (d ∷ []) = is_ascii_digit d
+begins_number (d ∷ e ∷ rest) = is_ascii_digit d && not (d == 48 && is_ascii_digit e)
+
+-- the number of the digits in front, behind those of a number so far
+unfoldable pub front_number : ℕ → List ℕ → ℕ
+front_number number [] = number
+front_number number (b ∷ rest) = if is_ascii_digit b then front_number (10 * number + (b - 48)) rest else number
+
+-- the number, or none where it passes the most
+abbrev pub IsUpTo : ℕ → ℕ → Option ℕ → Type 0
+IsUpTo most number (Some told) = (told ≡ number) × (number ≤ most)
+IsUpTo most number None = most < number
+
+-- Why no version 1 stands here: where another number does, it is another version, or passes the greatest number.
+unfoldable pub version_reason : List ℕ → Reason
+version_reason behind =
+    if begins_number behind && not (front_number 0 behind == 1) then (
+    if nat_le (front_number 0 behind) greatest then Version else NumberTooLarge) else Syntax
+
+-- for this reason, where reading stops at a byte
+abbrev pub because : {A : Type 0} → Reason → Reading A → Reading A
+because reason (Ok x) = Ok x
+because reason (Err Ends) = Err Ends
+because reason (Err (Wrong other rest)) = Err (Wrong reason rest)
+
+-- the first line: what stands behind its word and space says why it isn't that of version 1
+unfoldable pub version_at : List ℕ → Reading (Unit {0})
+version_at bytes = do
+  word ← literal (codes "tdelay-cert ") bytes
+  because (version_reason word.1) (literal (codes "1\n") word.1)
+
+-- ---- the tree
+
 -- the letter of a node
 pub data Tag : Type 0 where
   SplitTag : Tag
@@ -111,7 +151,7 @@ tag_at [] = Err Ends
 tag_at (b ∷ rest) =
     if b == 115 then Ok (SplitTag, rest) else (
     if b == 98 then Ok (BoundTag, rest) else (
-    if b == 112 then Ok (PointTag, rest) else Err (Wrong (b ∷ rest))))
+    if b == 112 then Ok (PointTag, rest) else Err (Wrong Syntax (b ∷ rest))))
 
 -- what stands behind the letter of a node
 unfoldable pub behind_tag : Tag → List ℕ → Reading Node
@@ -150,10 +190,12 @@ abbrev pub certificate_of : ℕ → ℕ → ℕ → List Bool → List Bool → 
 certificate_of inputs gates time first second tree =
     record { inputs = inputs; gates = gates; time = time; pair = record { first = first; second = second }; tree = tree }
 
+-- ---- the whole
+
 -- a certificate, and the bytes after it
 unfoldable pub certificate_at : List ℕ → Reading Certificate
 certificate_at bytes = do
-  version ← literal (codes "tdelay-cert 1\n") bytes
+  version ← version_at bytes
   inputs ← number_behind (codes "circuit ") 4096 32 version.1
   gates ← number_at 200000 10 inputs.1
   time ← number_behind (codes "time ") greatest 10 gates.1

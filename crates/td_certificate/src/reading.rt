@@ -1,10 +1,11 @@
 //! Reading a certificate's text.
 
-ghost use Rattle.std.specs.Prelude.{◌≡◌, ◌≤◌, ◌<◌, ◌+◌, ◌-◌, ◌∷◌, ℕ, take, length, codes, IfOk, IfErr};
-ghost use Rattle.td_certificate.specs.Reading.{Gives, literal, nodes_at, certificate_at};
+ghost use Rattle.std.specs.Prelude.{◌≡◌, ◌≤◌, ◌<◌, ◌+◌, ◌-◌, ◌^◌, ◌∷◌, ℕ, take, length, Some, IfOk, IfErr};
+ghost use Rattle.td_certificate.specs.Reading.{Gives, begins_number, front_number, IsUpTo, version_reason, version_at, nodes_at, certificate_at};
 ghost use Rattle.td_certificate.specs.Spelling.{Spells};
 ghost use Rattle.td_certificate.specs.declared.certificate.Certificate.{Certificate as Contents};
-ghost use Rattle.td_certificate.specs.Faults.{IsFault, IsUnreadable, IsWithinLimit, IsFront, HasMore, IsReadAs, IsTold, line_behind};
+ghost use Rattle.td_certificate.specs.declared.fields.Reason.{Reason as Why};
+ghost use Rattle.td_certificate.specs.Faults.{IsFault, reason_in, kind_of, IsWithinLimit, IsFront, HasMore, IsReadAs, IsTold, line_behind};
 
 use crate::certificate::Certificate;
 use crate::fault::{CertFault, CertFaultKind};
@@ -22,51 +23,59 @@ const MAX_INPUTS: u64 = 4_096;
 /// The greatest number of gates.
 const MAX_GATES: u64 = 200_000;
 
-/// The digits before the first other byte.
-fn leading_digits(text: &[u8]) -> &[u8] {
-    match text.iter().position(|byte| !byte.is_ascii_digit()) {
-        None => text,
-        Some(end) => &text[..end],
+/// Whether a number's digits stand in front of these bytes.
+fn begins_number(bytes: &[u8]) -> bool
+    ensures { result ≡ begins_number bytes.now }
+{
+    match bytes {
+        [] => false,
+        [first] => first.is_ascii_digit(),
+        [first, second, ..] => {
+            first.is_ascii_digit() && !(*first == b'0' && second.is_ascii_digit())
+        }
     }
 }
 
-/// Whether the number of these digits passes the greatest of a certificate.
-fn passes_limit(digits: &[u8]) -> bool {
+/// The number of the digits in front of these bytes, none where it passes the greatest of a certificate.
+fn front_number(bytes: &[u8]) -> Option<u64>
+    ensures { IsUpTo (10 ^ 18) (front_number 0 bytes.now) result }
+{
     let mut number = 0u64;
-    for digit in digits {
-        number = 10 * number + u64::from(digit.wrapping_sub(b'0'));
+    for byte in bytes {
+        if !byte.is_ascii_digit() {
+            return Some(number);
+        }
+        number = 10 * number + u64::from(*byte - b'0');
         if number > GREATEST {
-            return true;
+            return None;
         }
     }
-    false
+    Some(number)
 }
 
 /// What is wrong with a first line that isn't that of version 1, from the byte behind its word and space on.
-fn version_reason(behind: &[u8]) -> Reason {
-    match leading_digits(behind) {
-        [] => Reason::Syntax,
-        [b'0', _, ..] => Reason::Syntax,
-        [b'1'] => Reason::Syntax,
-        digits => {
-            if passes_limit(digits) {
-                Reason::NumberTooLarge
-            } else {
-                Reason::Version
-            }
-        }
+#[tactic(auto, unfolding(crate::specs::Reading::version_reason))]
+fn version_reason(behind: &[u8]) -> Reason
+    ensures { result ≡ version_reason behind.now }
+{
+    if !begins_number(behind) {
+        return Reason::Syntax;
+    }
+    match front_number(behind) {
+        None => Reason::NumberTooLarge,
+        Some(1) => Reason::Syntax,
+        Some(_) => Reason::Version,
     }
 }
 
 /// Takes the first line.
+#[tactic(auto, unfolding(crate::specs::Reading::version_at))]
 fn version(text: &[u8]) -> Result<&[u8], Stop<'_>>
-    ensures { Gives (λ rest. (tt, rest.now)) result (literal (codes "tdelay-cert 1\n") text.now) }
+    ensures { Gives (λ rest. (tt, rest.now)) result (version_at text.now) }
 {
-    match literal(b"tdelay-cert 1\n", text) {
-        Err(Stop::Wrong(_, rest)) => match literal(b"tdelay-cert ", text) {
-            Ok(behind) => Err(Stop::Wrong(version_reason(behind), rest)),
-            Err(_) => Err(Stop::Wrong(Reason::Syntax, rest)),
-        },
+    let behind = literal(b"tdelay-cert ", text)?;
+    match literal(b"1\n", behind) {
+        Err(Stop::Wrong(_, rest)) => Err(Stop::Wrong(version_reason(behind), rest)),
         other => other,
     }
 }
@@ -121,7 +130,7 @@ fn line_of(text: &[u8], rest: &[u8]) -> u32
 }
 
 fn kind_of(reason: Reason) -> CertFaultKind
-    ensures { IsUnreadable result }
+    ensures { result ≡ kind_of reason }
 {
     match reason {
         Reason::Syntax => CertFaultKind::Syntax,
@@ -180,6 +189,7 @@ pub fn read(alloc: Global, text: &[u8]) -> Result<Certificate, CertFault>
     ensures only { (c : Contents) → Spells c text.now → IsWithinLimit text.now → IsReadAs c result }
     ensures ends { IsFront text.now → IsWithinLimit text.now → IsTold CertFaultKind.UnexpectedEnd result }
     ensures trailing { (line : ℕ) → HasMore text.now line → IsWithinLimit text.now → IsTold CertFaultKind.Trailing result }
+    ensures stops { (why : Why) → reason_in text.now ≡ Some why → IsWithinLimit text.now → IsTold (kind_of why) result }
 {
     read_whole(alloc, text)
 }

@@ -100,7 +100,7 @@ fn each_front_ends_too_early(rt: HostRuntime) {
 
 #[test]
 fn first_lines(rt: HostRuntime) {
-    let cases: [(&[u8], CertFaultKind); 22] = [
+    let cases: [(&[u8], CertFaultKind); 27] = [
         (b"tdelay-cert 9", CertFaultKind::Version),
         (b"tdelay-cert 9\n", CertFaultKind::Version),
         (b"tdelay-cert 2\ncircuit 1 1\n", CertFaultKind::Version),
@@ -108,6 +108,9 @@ fn first_lines(rt: HostRuntime) {
         (b"tdelay-cert 4x", CertFaultKind::Version),
         (b"tdelay-cert 0", CertFaultKind::Version),
         (b"tdelay-cert 10\n", CertFaultKind::Version),
+        (b"tdelay-cert 12", CertFaultKind::Version),
+        (b"tdelay-cert 2x", CertFaultKind::Version),
+        (b"tdelay-cert 0x", CertFaultKind::Version),
         (b"tdelay-cert 1000000000000000000", CertFaultKind::Version),
         (
             b"tdelay-cert 1000000000000000001",
@@ -117,7 +120,12 @@ fn first_lines(rt: HostRuntime) {
             b"tdelay-cert 99999999999999999999999\n",
             CertFaultKind::NumberTooLarge,
         ),
+        (
+            b"tdelay-cert 10000000000000000000000",
+            CertFaultKind::NumberTooLarge,
+        ),
         (b"tdelay-cert 01", CertFaultKind::Syntax),
+        (b"tdelay-cert 09999999999999999999\n", CertFaultKind::Syntax),
         (b"tdelay-cert 00\n", CertFaultKind::Syntax),
         (b"tdelay-cert 1x\n", CertFaultKind::Syntax),
         (b"tdelay-cert 1\r\n", CertFaultKind::Syntax),
