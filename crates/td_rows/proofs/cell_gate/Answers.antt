@@ -1,6 +1,4 @@
-use Rattle.std.proofs.Common.{rules, ◌≡◌, arith, ap, sym, subst, refl}
-use Rattle.td_netlist.specs.Views.{gate_of}
-use Rattle.td_rows.specs.Cells.{gate_at}
+use Rattle.std.proofs.Common.{rules, arith, refl}
 use Rattle.td_rows.proofs.Gates.{is_cell}
 use Rattle.td_rows.proofs.cell_gate.Goals as goal
 

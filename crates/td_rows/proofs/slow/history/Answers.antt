@@ -1,10 +1,7 @@
-use Rattle.std.proofs.Common.{◌≡◌, refl, ◌+◌, ◌++◌, ◌∷◌, [], ◌∙◌, ap, sym, arith, map, length, Some, List, length-append}
+use Rattle.std.proofs.Common.{◌≡◌, refl, ◌+◌, ◌++◌, ◌∷◌, [], ◌∙◌, ap, arith, map, length, length-append}
 use Rattle.std.proofs.lemmas.List.{map-append, length-map}
-use Rattle.std.specs.Prelude.{slice_get}
-use Rattle.td_gates.specs.Table.{table}
-use Rattle.td_gates.specs.Schedule.{step, target_at, IsHistory}
+use Rattle.td_gates.specs.Schedule.{step, target_at}
 use Rattle.td_rows.specs.States.{state_of}
-use Rattle.td_rows.specs.declared.slow.State.{State}
 use Rattle.td_rows.proofs.Histories.{history-push, last-push}
 use Rattle.td_rows.proofs.slow.history.Goals as goal
 
