@@ -20,7 +20,7 @@ use Rattle.td_netlist.specs.FirstPass.{kind_from}
 use Rattle.td_netlist.specs.Faults.{Fails, told, UnlessMemory, IsUnlessMemory}
 use Rattle.td_netlist.specs.declared.netlist.Unit.{Unit as Step}
 use Rattle.td_netlist.specs.Module.{is_input, is_output, ports_as, nets_at, gates_of, primitives, defaulted_of, unit_of, netlist_in}
-use Rattle.td_netlist.specs.Means.{Means, IsConsistent, Breaks, BreaksIn, IsFaultIn}
+use Rattle.td_netlist.specs.Means.{Means, IsConsistent, Breaks, IsFaultIn}
 use Rattle.td_netlist.specs.Checks.{Sides, checked_at}
 use Rattle.td_netlist.proofs.Consistent.{memory_alone, AreSides}
 
