@@ -6,10 +6,8 @@ use Rattle.td_certificate.specs.declared.fault.CertFaultKind.{CertFaultKind}
 use Rattle.td_certificate.specs.declared.fault.CertFaultKind.TheVariants as kind
 use Rattle.td_certificate.specs.declared.fault.CertFault.{CertFault}
 use Rattle.td_certificate.specs.declared.certificate.Certificate.{Certificate}
-use Rattle.td_certificate.specs.declared.fields.Reason.{Reason}
-use Rattle.td_certificate.specs.declared.fields.Reason.TheVariants as reason
 use Rattle.td_certificate.specs.Spelling.{HasSpelling, Spells, spelling}
-use Rattle.td_certificate.specs.Faults.{IsWithinLimit, IsFront, HasMore, StopsAt, reason_in, kind_of, IsFault, IsReadAs, IsTold}
+use Rattle.td_certificate.specs.Faults.{IsWithinLimit, IsFront, HasMore, StopsAt, kind_in, IsFault, IsReadAs, IsTold}
 use Rattle.td_certificate.proofs.Texts.{spells_once, stops_for}
 
 no_cons : {X : Type 0} (b : ℕ) (bs : List ℕ) → b ∷ bs ≡ [] → X
@@ -134,25 +132,25 @@ pub trailing_only : (text : List ℕ) (result : Result Certificate CertFault) �
 trailing_only text (Ok d) a at s within = spells-more text d at a.0.0 s
 trailing_only text (Err fault) a at s within = more_only fault.kind fault.line at text s within a.1
 
-abbrev some_reason : Reason → Option Reason
-some_reason why = Some why
+abbrev some_kind : CertFaultKind → Option CertFaultKind
+some_kind k = Some k
 
-reason_same : (this that : Reason) → some_reason this ≡ some_reason that → this ≡ that
-reason_same this that e = cc
+kind_same : (this that : CertFaultKind) → some_kind this ≡ some_kind that → this ≡ that
+kind_same this that e = cc
 
--- the reason is that of the fault
-same_kind : (text : List ℕ) (this why : Reason) → reason_in text ≡ Some this → reason_in text ≡ Some why → (kind_of this ≡ kind_of why) ⊎ (kind_of this ≡ kind.OutOfMemory)
-same_kind text this why is e = inl (ap kind_of (reason_same this why (sym is ∙ e)))
+-- the kind is that of the fault
+same_kind : (text : List ℕ) (k that : CertFaultKind) → kind_in text ≡ Some k → kind_in text ≡ Some that → (k ≡ that) ⊎ (k ≡ kind.OutOfMemory)
+same_kind text k that is e = inl (kind_same k that (sym is ∙ e))
 
-stop_only : (k : CertFaultKind) (line : ℕ) (text : List ℕ) (why : Reason) → reason_in text ≡ Some why → IsWithinLimit text → IsFault k line text → (k ≡ kind_of why) ⊎ (k ≡ kind.OutOfMemory)
-stop_only kind.OutOfMemory line text why e within f = inr refl
-stop_only kind.TooLong line text why e within f = too_long text within f.0
-stop_only kind.UnexpectedEnd line text why e within f = let s = stops_for text why e in front-stops text s.0 f.1 s.1
-stop_only kind.Trailing line text why e within f = let s = stops_for text why e in more-stops text line s.0 f.1 s.1
-stop_only kind.Syntax line text why e within f = same_kind text reason.Syntax why f.2 e
-stop_only kind.NumberTooLarge line text why e within f = same_kind text reason.NumberTooLarge why f.2 e
-stop_only kind.Version line text why e within f = same_kind text reason.Version why f.2 e
+stop_only : (k that : CertFaultKind) (line : ℕ) (text : List ℕ) → kind_in text ≡ Some that → IsWithinLimit text → IsFault k line text → (k ≡ that) ⊎ (k ≡ kind.OutOfMemory)
+stop_only kind.OutOfMemory that line text e within f = inr refl
+stop_only kind.TooLong that line text e within f = too_long text within f.0
+stop_only kind.UnexpectedEnd that line text e within f = let s = stops_for text that e in front-stops text s.0 f.1 s.1
+stop_only kind.Trailing that line text e within f = let s = stops_for text that e in more-stops text line s.0 f.1 s.1
+stop_only kind.Syntax that line text e within f = same_kind text kind.Syntax that f.2 e
+stop_only kind.NumberTooLarge that line text e within f = same_kind text kind.NumberTooLarge that f.2 e
+stop_only kind.Version that line text e within f = same_kind text kind.Version that f.2 e
 
-pub stops_only : (text : List ℕ) (result : Result Certificate CertFault) → IsAnswer text result → (why : Reason) → reason_in text ≡ Some why → IsWithinLimit text → IsTold (kind_of why) result
-stops_only text (Ok d) a why e within = let s = stops_for text why e in spells-stops text d s.0 a.0.0 s.1
-stops_only text (Err fault) a why e within = stop_only fault.kind fault.line text why e within a.1
+pub stops_only : (text : List ℕ) (result : Result Certificate CertFault) → IsAnswer text result → (that : CertFaultKind) → kind_in text ≡ Some that → IsWithinLimit text → IsTold that result
+stops_only text (Ok d) a that e within = let s = stops_for text that e in spells-stops text d s.0 a.0.0 s.1
+stops_only text (Err fault) a that e within = stop_only fault.kind that fault.line text e within a.1

@@ -1,12 +1,13 @@
 -- What reading says of a text.
 use Rattle.std.proofs.Common.{◌≡◌, ◌≢◌, ℕ, ◌-◌, ◌≤◌, List, [], ◌∷◌, ◌++◌, length, take, Some, Ok, Err, refl, sym, ap, ◌∙◌, arith}
 use Rattle.std.proofs.lemmas.List.{append-nil, nil_from_length, take_at, length-append}
+use Rattle.td_certificate.specs.declared.fault.CertFaultKind.{CertFaultKind}
 use Rattle.td_certificate.specs.declared.certificate.Certificate.{Certificate}
 use Rattle.td_certificate.specs.declared.fields.Reason.{Reason}
 use Rattle.td_certificate.specs.declared.fields.Reason.TheVariants as reason
 use Rattle.td_certificate.specs.Spelling.{Spells, spelling}
 use Rattle.td_certificate.specs.Reading.{Reading, Ends, Wrong, certificate_at}
-use Rattle.td_certificate.specs.Faults.{line_behind, IsWithinLimit, IsFront, HasMore, StopsAt, reason_of, reason_in, kind_of, IsFault}
+use Rattle.td_certificate.specs.Faults.{line_behind, IsWithinLimit, IsFront, HasMore, StopsAt, kind_at, kind_in, kind_of, IsFault}
 use Rattle.td_certificate.proofs.Codes.{IsStopped-none, IsCode-one}
 use Rattle.td_certificate.proofs.CertificateCode.{certificate_code}
 
@@ -72,23 +73,23 @@ read_stop text rest line why e l =
       line = line_is text s.front rest line (s.parts ∙ ap (λ (t : List ℕ). s.front ++ t) (sym s.rest_is)) l;
     }
 
-pub reason_is : (text rest : List ℕ) (why : Reason) → certificate_at text ≡ Err (Wrong why rest) → reason_in text ≡ Some why
-unfolding reason_in
-reason_is text rest why e = ap reason_of e
+pub kind_is : (text rest : List ℕ) (why : Reason) → certificate_at text ≡ Err (Wrong why rest) → kind_in text ≡ Some (kind_of why)
+unfolding kind_in
+kind_is text rest why e = ap kind_at e
 
--- a text with a reason stops at a byte of some line
-stop_of : (text : List ℕ) (why : Reason) (read : Reading Certificate) → certificate_at text ≡ read → reason_of read ≡ Some why → (line : ℕ) × StopsAt text line
-stop_of text why (Ok x) e is = absurd cc
-stop_of text why (Err Ends) e is = absurd cc
-stop_of text why (Err (Wrong other rest)) e is =
+-- a text with a kind stops at a byte of some line
+stop_of : (text : List ℕ) (k : CertFaultKind) (read : Reading Certificate) → certificate_at text ≡ read → kind_at read ≡ Some k → (line : ℕ) × StopsAt text line
+stop_of text k (Ok x) e is = absurd cc
+stop_of text k (Err Ends) e is = absurd cc
+stop_of text k (Err (Wrong why rest)) e is =
     let line : ℕ = line_behind (take (length text - length rest) text) in
-    (line, read_stop text rest line other e refl)
+    (line, read_stop text rest line why e refl)
 
-pub stops_for : (text : List ℕ) (why : Reason) → reason_in text ≡ Some why → (line : ℕ) × StopsAt text line
-unfolding reason_in
-stops_for text why is = stop_of text why (certificate_at text) refl is
+pub stops_for : (text : List ℕ) (k : CertFaultKind) → kind_in text ≡ Some k → (line : ℕ) × StopsAt text line
+unfolding kind_in
+stops_for text k is = stop_of text k (certificate_at text) refl is
 
-pub unreadable_fault : (why : Reason) (line : ℕ) (text : List ℕ) → IsWithinLimit text → StopsAt text line → reason_in text ≡ Some why → IsFault (kind_of why) line text
+pub unreadable_fault : (why : Reason) (line : ℕ) (text : List ℕ) → IsWithinLimit text → StopsAt text line → kind_in text ≡ Some (kind_of why) → IsFault (kind_of why) line text
 unreadable_fault reason.Syntax line text within s is = (within, s, is)
 unreadable_fault reason.NumberTooLarge line text within s is = (within, s, is)
 unreadable_fault reason.Version line text within s is = (within, s, is)

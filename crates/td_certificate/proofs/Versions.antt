@@ -1,14 +1,16 @@
 -- The number of another version, as it is written in the first line.
-use Rattle.std.proofs.Common.{◌≡◌, ◌≢◌, ℕ, ◌+◌, ◌-◌, ◌*◌, ◌/◌, ◌%◌, ◌^◌, ◌<◌, ◌≤◌, true, cond, eqb, leb, List, [], ◌∷◌, ◌++◌, Err, Some, refl, ap, ◌∙◌, append_assoc, arith}
+use Rattle.std.proofs.Common.{◌≡◌, ◌≢◌, ℕ, ◌+◌, ◌-◌, ◌*◌, ◌/◌, ◌%◌, ◌^◌, ◌<◌, ◌≤◌, Bool, true, false, cond, eqb, leb, List, [], ◌∷◌, ◌++◌, Err, Some, refl, ap, ◌∙◌, append_assoc, arith}
 use Rattle.std.specs.Prelude.{codes, decimal}
 use Rattle.std.specs.Char.{is_ascii_digit}
 use Rattle.std.proofs.lemmas.Bool.{ne_eqb, eqb-true}
 use Rattle.std.proofs.lemmas.Fmt.{decimal_by_steps_wide}
+use Rattle.td_certificate.specs.declared.fault.CertFaultKind.{CertFaultKind}
+use Rattle.td_certificate.specs.declared.fault.CertFaultKind.TheVariants as kind
 use Rattle.td_certificate.specs.declared.fields.Reason.{Reason}
 use Rattle.td_certificate.specs.declared.fields.Reason.TheVariants.{Syntax, NumberTooLarge, Version}
 use Rattle.td_certificate.specs.Spelling.{greatest}
 use Rattle.td_certificate.specs.Reading.{Wrong, Reading, ◌>>=◌, literal, begins_number, front_number, version_reason, because, version_at, certificate_at}
-use Rattle.td_certificate.specs.Faults.{NoDigit, VersionsAreTold, reason_in}
+use Rattle.td_certificate.specs.Faults.{NoDigit, VersionsAreTold, kind_of, kind_in}
 use Rattle.td_certificate.proofs.FieldCodes.{range_digit, digit_range, literal_code}
 use Rattle.td_certificate.proofs.VectorCodes.{cases}
 
@@ -106,13 +108,17 @@ version_stops behind rest e =
     ap (λ (r : Reading (Unit {0})). r >>= λ word. because (version_reason word.1) (literal (codes "1\n") word.1)) ((literal_code (codes "tdelay-cert ")).again tt behind tt)
     ∙ ap (λ (r : Reading (Unit {0})). because (version_reason behind) r) e
 
-reason_first : (bytes rest : List ℕ) (why : Reason) → version_at bytes ≡ Err (Wrong why rest) → reason_in bytes ≡ Some why
-unfolding reason_in certificate_at
-reason_first bytes rest why e = rw e refl
+kind_first : (bytes rest : List ℕ) (why : Reason) → version_at bytes ≡ Err (Wrong why rest) → kind_in bytes ≡ Some (kind_of why)
+unfolding kind_in certificate_at
+kind_first bytes rest why e = rw e refl
+
+kind_either : (within : Bool) → kind_of (cond within Version NumberTooLarge) ≡ cond within kind.Version kind.NumberTooLarge
+kind_either true = refl
+kind_either false = refl
 
 pub versions_are_told : VersionsAreTold
 versions_are_told n later other small none =
     let w = written n small in
     let s = shape_stops n (decimal n) later other w.shape in
-    reason_first (codes "tdelay-cert " ++ decimal n ++ later) s.0 (version_reason (decimal n ++ later)) (version_stops (decimal n ++ later) s.0 s.1)
-    ∙ ap (λ (r : Reason). Some r) (reason_written n later other small none)
+    kind_first (codes "tdelay-cert " ++ decimal n ++ later) s.0 (version_reason (decimal n ++ later)) (version_stops (decimal n ++ later) s.0 s.1)
+    ∙ ap (λ (k : CertFaultKind). Some k) (ap kind_of (reason_written n later other small none) ∙ kind_either (leb n greatest))

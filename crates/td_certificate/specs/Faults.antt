@@ -45,14 +45,20 @@ pub record StopsAt (text : List ℕ) (place : ℕ) : Type 0 where
   pub unreadable : (c : Certificate) (more : List ℕ) → HasSpelling c → ¬ (spelling c ≡ front ++ next ∷ more)
   pub line : place ≡ line_behind front
 
-abbrev pub reason_of : {A : Type 0} → Reading A → Option Reason
-reason_of (Ok x) = None
-reason_of (Err Ends) = None
-reason_of (Err (Wrong reason rest)) = Some reason
+-- the kind by which a reason is told
+abbrev pub kind_of : Reason → CertFaultKind
+kind_of reason.Syntax = kind.Syntax
+kind_of reason.NumberTooLarge = kind.NumberTooLarge
+kind_of reason.Version = kind.Version
 
--- why reading the text stops at a byte, where it does
-unfoldable pub reason_in : List ℕ → Option Reason
-reason_in text = reason_of (certificate_at text)
+abbrev pub kind_at : {A : Type 0} → Reading A → Option CertFaultKind
+kind_at (Ok x) = None
+kind_at (Err Ends) = None
+kind_at (Err (Wrong reason rest)) = Some (kind_of reason)
+
+-- the kind of the byte at which reading the text stops, where it does
+unfoldable pub kind_in : List ℕ → Option CertFaultKind
+kind_in text = kind_at (certificate_at text)
 
 -- no digit stands in front
 abbrev pub NoDigit : List ℕ → Type 0
@@ -62,13 +68,7 @@ NoDigit (b ∷ rest) = is_ascii_digit b ≡ false
 -- A first line with a number other than 1 is told as another version, or as a number too large, whatever follows the number.
 abbrev pub VersionsAreTold : Type 0
 VersionsAreTold = (n : ℕ) (later : List ℕ) → n ≢ 1 → n < 10 ^ 64 → NoDigit later
-    → reason_in (codes "tdelay-cert " ++ decimal n ++ later) ≡ Some (if nat_le n greatest then reason.Version else reason.NumberTooLarge)
-
--- the kind by which a reason is told
-abbrev pub kind_of : Reason → CertFaultKind
-kind_of reason.Syntax = kind.Syntax
-kind_of reason.NumberTooLarge = kind.NumberTooLarge
-kind_of reason.Version = kind.Version
+    → kind_in (codes "tdelay-cert " ++ decimal n ++ later) ≡ Some (if nat_le n greatest then kind.Version else kind.NumberTooLarge)
 
 -- what a fault says of the text
 abbrev pub IsFault : CertFaultKind → ℕ → List ℕ → Type 0
@@ -76,9 +76,9 @@ IsFault kind.OutOfMemory line text = line ≡ 0
 IsFault kind.TooLong line text = (268435456 < length text) × (line ≡ 1)
 IsFault kind.UnexpectedEnd line text = IsWithinLimit text × IsFront text × (line ≡ line_behind text)
 IsFault kind.Trailing line text = IsWithinLimit text × HasMore text line
-IsFault kind.Syntax line text = IsWithinLimit text × StopsAt text line × (reason_in text ≡ Some reason.Syntax)
-IsFault kind.NumberTooLarge line text = IsWithinLimit text × StopsAt text line × (reason_in text ≡ Some reason.NumberTooLarge)
-IsFault kind.Version line text = IsWithinLimit text × StopsAt text line × (reason_in text ≡ Some reason.Version)
+IsFault kind.Syntax line text = IsWithinLimit text × StopsAt text line × (kind_in text ≡ Some kind.Syntax)
+IsFault kind.NumberTooLarge line text = IsWithinLimit text × StopsAt text line × (kind_in text ≡ Some kind.NumberTooLarge)
+IsFault kind.Version line text = IsWithinLimit text × StopsAt text line × (kind_in text ≡ Some kind.Version)
 
 -- memory aside, the certificate was read
 abbrev pub IsReadAs : Certificate → Result Certificate CertFault → Type 0

@@ -4,8 +4,8 @@ ghost use Rattle.std.specs.Prelude.{◌≡◌, ◌≤◌, ◌<◌, ◌+◌, ◌-
 ghost use Rattle.td_certificate.specs.Reading.{Gives, begins_number, front_number, IsUpTo, version_reason, version_at, nodes_at, certificate_at};
 ghost use Rattle.td_certificate.specs.Spelling.{Spells};
 ghost use Rattle.td_certificate.specs.declared.certificate.Certificate.{Certificate as Contents};
-ghost use Rattle.td_certificate.specs.declared.fields.Reason.{Reason as Why};
-ghost use Rattle.td_certificate.specs.Faults.{IsFault, reason_in, kind_of, IsWithinLimit, IsFront, HasMore, IsReadAs, IsTold, line_behind};
+ghost use Rattle.td_certificate.specs.declared.fault.CertFaultKind.{CertFaultKind as Kind};
+ghost use Rattle.td_certificate.specs.Faults.{IsFault, kind_of, kind_in, IsWithinLimit, IsFront, HasMore, IsReadAs, IsTold, line_behind};
 
 use crate::certificate::Certificate;
 use crate::fault::{CertFault, CertFaultKind};
@@ -189,7 +189,7 @@ pub fn read(alloc: Global, text: &[u8]) -> Result<Certificate, CertFault>
     ensures only { (c : Contents) → Spells c text.now → IsWithinLimit text.now → IsReadAs c result }
     ensures ends { IsFront text.now → IsWithinLimit text.now → IsTold CertFaultKind.UnexpectedEnd result }
     ensures trailing { (line : ℕ) → HasMore text.now line → IsWithinLimit text.now → IsTold CertFaultKind.Trailing result }
-    ensures stops { (why : Why) → reason_in text.now ≡ Some why → IsWithinLimit text.now → IsTold (kind_of why) result }
+    ensures stops { (kind : Kind) → kind_in text.now ≡ Some kind → IsWithinLimit text.now → IsTold kind result }
 {
     read_whole(alloc, text)
 }
