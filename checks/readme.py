@@ -1,0 +1,91 @@
+#!/usr/bin/env python3
+"""readme.py PROGRAM: looks that README.md tells the truth where a script can see it.
+
+Each contract that README.md quotes stands in the sources, word for word, and each command that it shows prints with PROGRAM (a built
+`tdelay`) what README.md shows. Run it at the top of the repository. Exit status 1 where anything differs.
+"""
+
+import glob
+import os
+import re
+import subprocess
+import sys
+import tempfile
+
+README = open("README.md").read()
+
+INVERTER = "module t(a, y);\ninput a;\noutput y;\nnot #(2,3) g(y,a);\nendmodule\n"
+LOST = "module t(a, y);\ninput a;\noutput y;\n%s\nendmodule\n"
+LOST_GATES = "not #1 n(b,a); and #2 g(y,a,b);"
+
+
+def plain(text):
+    """A piece of source on one line, however it is laid out."""
+    text = re.sub(r"\s+", " ", text.strip())
+    return text.replace("( ", "(").replace(", )", ",)").replace(",)", ")")
+
+
+def quoted():
+    """The lines of contracts that README.md quotes."""
+    for block in re.findall(r"```\n(pub fn.*?)```", README, flags=re.S):
+        yield from re.split(r"\n(?=pub fn|    ensures|    requires)", block.strip())
+
+
+def sources():
+    """All code, without comments."""
+    texts = (open(path).read() for path in sorted(glob.glob("crates/*/src/*.rt")))
+    return plain(" ".join(re.sub(r"^\s*//.*$", "", text, flags=re.M) for text in texts))
+
+
+def unstated():
+    code = sources()
+    lines = list(quoted())
+    missing = [line for line in lines if plain(line) not in code]
+    print(f"{len(lines)} lines of contracts, {len(missing)} not in the sources")
+    for line in missing:
+        print("  " + plain(line))
+    return len(missing)
+
+
+def shown(folder):
+    """Commands with what README.md shows of them: words, texts that README.md has to have, what is printed, exit status."""
+    with open(os.path.join(folder, "inverter.v"), "w") as file:
+        file.write(INVERTER)
+    with open(os.path.join(folder, "lost.v"), "w") as file:
+        file.write(LOST % LOST_GATES)
+    exact = "unit 1 ns\ndefaulted 0\nexact 3\nfrom 0\nto 1\nnodes 1\n"
+    short = "between 0 3\ncause budget\nfrom 0\nto 1\nnodes 1\n"
+    run = "unit 1 ns\ndefaulted 6\nlast N22 3\nlast N23 3\ntime 3\n"
+    bounds = "unit 1 ns\ndefaulted 0\na 3\nt none\nm 3\n"
+    c17 = os.path.abspath("examples/c17.v")
+    yield ["sim", c17, "01010", "01110"], ["./tdelay sim examples/c17.v 01010 01110", run], run, 0
+    yield ["bound", c17, "--first", "0.0..", "--second", ".1..."], ["./tdelay bound examples/c17.v --first 0.0.. --second .1..."], None, 0
+    yield ["bound", "inverter.v"], [INVERTER, "`a 3`, `t none`, `m 3`"], bounds, 0
+    yield ["worst", "inverter.v", "--cert", "inverter.cert"], ["./tdelay worst inverter.v --cert inverter.cert", exact], exact, 0
+    yield ["worst", "lost.v", "--budget", "1"], [LOST_GATES, short], "unit 1 ns\ndefaulted 0\n" + short, 3
+    yield ["check", "inverter.v", "inverter.cert"], ["./tdelay check inverter.v inverter.cert", "`accepted 3`"], "accepted 3\n", 0
+
+
+def misprinted(program):
+    wrong = 0
+    with tempfile.TemporaryDirectory() as folder:
+        for words, texts, printed, status in shown(folder):
+            ran = subprocess.run([program] + words, cwd=folder, capture_output=True, text=True)
+            faults = [f"README.md has no {text!r}" for text in texts if text not in README]
+            if printed is not None and ran.stdout != printed:
+                faults.append(f"printed {ran.stdout!r}")
+            if ran.stderr or ran.returncode != status:
+                faults.append(f"status {ran.returncode}, told {ran.stderr!r}")
+            print(" ".join(words[:1] + [os.path.basename(words[1])] + words[2:]) + ": " + ("; ".join(faults) or "as shown"))
+            wrong += bool(faults)
+    return wrong
+
+
+def main():
+    if len(sys.argv) != 2:
+        sys.exit(__doc__)
+    sys.exit(1 if unstated() + misprinted(os.path.abspath(sys.argv[1])) else 0)
+
+
+if __name__ == "__main__":
+    main()
