@@ -119,7 +119,7 @@ literal_code word = record {
 
 -- ---- numbers
 
-both : (p q : Bool) → (p && q) ≡ true → (p ≡ true) × (q ≡ true)
+pub both : (p q : Bool) → (p && q) ≡ true → (p ≡ true) × (q ≡ true)
 both true q e = (refl, e)
 both false q e = absurd cc
 
@@ -180,7 +180,7 @@ number_goes most close number rest limit le =
     (decimal_by_steps (Goes most close) (goes_one most close) (goes_more most close limit) number (omega (arith, limit.high))).on le rest
 
 -- a further digit of the text
-decimal_more : (number b : ℕ) → 0 < number → 48 ≤ b → b ≤ 57 → 10 * number + (b - 48) < 2 ^ 64 → decimal (10 * number + (b - 48)) ≡ decimal number ++ b ∷ []
+pub decimal_more : (number b : ℕ) → 0 < number → 48 ≤ b → b ≤ 57 → 10 * number + (b - 48) < 2 ^ 64 → decimal (10 * number + (b - 48)) ≡ decimal number ++ b ∷ []
 decimal_more number b pos low high small =
     let n : ℕ = 10 * number + (b - 48) in
     let q : n / 10 ≡ number = omega arith in
@@ -277,7 +277,7 @@ number_none : (most close : ℕ) → number_at most close [] ≡ Err Ends
 unfolding number_at
 number_none most close = refl
 
-digit_text : (b : ℕ) (bytes : List ℕ) → is_ascii_digit b ≡ true → decimal (b - 48) ++ bytes ≡ b ∷ bytes
+pub digit_text : (b : ℕ) (bytes : List ℕ) → is_ascii_digit b ≡ true → decimal (b - 48) ++ bytes ≡ b ∷ bytes
 digit_text b bytes d =
     let r = digit_range b d in
     let k : 48 + (b - 48) ≡ b = omega arith in

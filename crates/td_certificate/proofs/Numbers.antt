@@ -28,7 +28,7 @@ front_done number i bytes total le so_far =
     sym (ap (front_number number) none) ∙ so_far
 
 -- further digits make no number less
-front_grows : (number : ℕ) (bytes : List ℕ) → number ≤ front_number number bytes
+pub front_grows : (number : ℕ) (bytes : List ℕ) → number ≤ front_number number bytes
 unfolding front_number
 front_grows number [] = omega arith
 front_grows number (b ∷ rest) =

@@ -23,7 +23,7 @@ record IsWritten (n : ℕ) (ds : List ℕ) : Type 0 where
   shape : Shape n ds
   front : (later : List ℕ) → front_number 0 (ds ++ later) ≡ front_number n later
 
-front_digit : (number b : ℕ) (rest : List ℕ) → is_ascii_digit b ≡ true → front_number number (b ∷ rest) ≡ front_number (10 * number + (b - 48)) rest
+pub front_digit : (number b : ℕ) (rest : List ℕ) → is_ascii_digit b ≡ true → front_number number (b ∷ rest) ≡ front_number (10 * number + (b - 48)) rest
 unfolding front_number
 front_digit number b rest d = rw d refl
 

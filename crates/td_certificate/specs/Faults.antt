@@ -70,6 +70,19 @@ abbrev pub VersionsAreTold : Type 0
 VersionsAreTold = (n : ℕ) (later : List ℕ) → n ≢ 1 → n < 10 ^ 64 → NoDigit later
     → kind_in (codes "tdelay-cert " ++ decimal n ++ later) ≡ Some (if nat_le n greatest then kind.Version else kind.NumberTooLarge)
 
+-- the first line has the number of another version
+pub record NamesVersion (text : List ℕ) : Type 0 where
+  pub number : ℕ
+  pub later : List ℕ
+  pub other : number ≢ 1
+  pub within : number ≤ greatest
+  pub ended : NoDigit later
+  pub parts : text ≡ codes "tdelay-cert " ++ decimal number ++ later
+
+-- and of no other text is Version told
+abbrev pub VersionsAreNamed : Type 0
+VersionsAreNamed = (text : List ℕ) → kind_in text ≡ Some kind.Version → NamesVersion text
+
 -- what a fault says of the text
 abbrev pub IsFault : CertFaultKind → ℕ → List ℕ → Type 0
 IsFault kind.OutOfMemory line text = line ≡ 0

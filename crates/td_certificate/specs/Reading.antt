@@ -104,7 +104,7 @@ vector_behind word count bytes = do
 
 -- ---- the first line
 
--- the bytes begin with a digit, and a leading 0 is the only one
+-- a number's digits stand in front: one at least, and none behind a leading 0
 abbrev pub begins_number : List ℕ → Bool
 begins_number [] = false
 begins_number (d ∷ []) = is_ascii_digit d
@@ -120,13 +120,13 @@ abbrev pub IsUpTo : ℕ → ℕ → Option ℕ → Type 0
 IsUpTo most number (Some told) = (told ≡ number) × (number ≤ most)
 IsUpTo most number None = most < number
 
--- Why no version 1 stands here: where another number does, it is another version, or passes the greatest number.
+-- Why version 1 doesn't stand here: another number is another version, or passes the greatest; with no other it is the syntax.
 unfoldable pub version_reason : List ℕ → Reason
 version_reason behind =
     if begins_number behind && not (front_number 0 behind == 1) then (
     if nat_le (front_number 0 behind) greatest then Version else NumberTooLarge) else Syntax
 
--- for this reason, where reading stops at a byte
+-- where reading stops at a byte, it does for this reason
 abbrev pub because : {A : Type 0} → Reason → Reading A → Reading A
 because reason (Ok x) = Ok x
 because reason (Err Ends) = Err Ends

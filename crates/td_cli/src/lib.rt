@@ -32,10 +32,3 @@ pub use status::Status;
 pub use text::Text;
 pub use vector::Symbol;
 pub use writer::WriterSink;
-
-#[cfg(test)]
-mod grammar_tests;
-#[cfg(test)]
-mod search_tests;
-#[cfg(test)]
-mod tests;

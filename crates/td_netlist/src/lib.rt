@@ -20,6 +20,3 @@ pub use fault::{Fault, FaultKind};
 pub use meaning::read;
 pub use name::{Name, Net};
 pub use netlist::{Gate, Netlist, Scale, Unit};
-
-#[cfg(test)]
-mod tests;

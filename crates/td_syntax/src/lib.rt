@@ -30,16 +30,3 @@ pub use syntax::{
     Statement, Terminal,
 };
 pub use token::{Directive, Number, Timescale};
-
-#[cfg(test)]
-mod grammar_tests;
-#[cfg(test)]
-mod tests;
-#[cfg(test)]
-mod timescale_tests;
-#[cfg(test)]
-mod token_tests;
-#[cfg(test)]
-mod value_tests;
-#[cfg(test)]
-mod word_tests;

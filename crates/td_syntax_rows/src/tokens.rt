@@ -1,4 +1,4 @@
-use crate::tests::{Case, agrees, shown};
+use crate::parsed::{Case, agrees, shown};
 use std::test::*;
 
 #[test]

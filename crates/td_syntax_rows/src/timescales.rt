@@ -1,7 +1,7 @@
-use super::*;
-use crate::tests::fault_of;
+use crate::parsed::fault_of;
 use std::alloc::{AllocError, Global};
 use std::test::*;
+use td_syntax::{Directive, FaultKind, Front, Timescale, parse};
 
 /// A magnitude and a unit as a power of ten of a femtosecond.
 type Span = (&'static [u8], u8);

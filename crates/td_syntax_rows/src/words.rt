@@ -1,6 +1,6 @@
-use super::*;
-use crate::tests::{Case, agrees, fault_of, repeated, shown};
+use crate::parsed::{Case, agrees, fault_of, repeated, shown};
 use std::test::*;
+use td_syntax::{Item, Name, is_simple_identifier, parse};
 
 const SUBSET: &str = "and buf endmodule input module nand nor not or output wire xnor xor";
 

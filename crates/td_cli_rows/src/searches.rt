@@ -1,10 +1,10 @@
 //! The commands `worst` and `check` as printed text.
 
-use super::*;
-use crate::tests::{Ended, FILES, INVERTER, LOST, ROOM, carried_out};
+use crate::runs::{Ended, FILES, INVERTER, LOST, ROOM, carried_out};
 use std::alloc::Global;
 use std::process::Abort;
 use std::test::*;
+use td_cli::MemoryFiles;
 
 const INVERTER_CERTIFICATE: &[u8] = b"tdelay-cert 1\ncircuit 1 1\ntime 3\nfrom 0\nto 1\nb a 3\n";
 

@@ -1,8 +1,8 @@
-use super::*;
 use itoa::Buffer;
 use std::alloc::AllocError;
 use std::test::*;
 use td_gates::{Delay, Kind};
+use td_netlist::{Name, Net, Scale, Unit, read};
 
 const UNIT: Delay = Delay { rise: 1, fall: 1 };
 

@@ -1,5 +1,5 @@
-use super::*;
 use std::test::*;
+use td_syntax::{Directive, Front, Number, Timescale, steps_of, tens_of, value_of};
 
 #[test]
 fn values(rt: HostRuntime) -> Result<(), Fail> {

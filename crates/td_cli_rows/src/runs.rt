@@ -1,6 +1,6 @@
-use super::*;
 use std::alloc::Global;
 use std::test::*;
+use td_cli::{MemoryFiles, ReadFault, refuse_words, run};
 use td_gates::MemorySink;
 
 /// What a command wrote and how it ended.

@@ -1,10 +1,10 @@
 //! Texts of the whole grammar, from the command line to printed text.
 
-use super::*;
-use crate::tests::{ROOM, carried_out};
+use crate::runs::{ROOM, carried_out};
 use std::alloc::Global;
 use std::process::Abort;
 use std::test::*;
+use td_cli::MemoryFiles;
 
 /// Carries out a command on a text, the file `t.v`: what is printed, why nothing is, and the status.
 fn prints(

@@ -1,6 +1,9 @@
-use super::*;
 use std::alloc::{AllocError, Global};
 use std::test::*;
+use td_syntax::{
+    Declaration, Delay, Directive, FaultKind, Front, Header, Item, Port, Ports, Range, Role,
+    Statement, Terminal, Timescale, parse, steps_of, tens_of,
+};
 
 const INVERTER: &[u8] = b"module t (a, y);\ninput a;\noutput y;\nnot #(2,3) g(y,a);\nendmodule\n";
 

@@ -1,0 +1,178 @@
+-- A text of which Version is told has another version's number in its first line.
+use Rattle.std.proofs.Common.{◌≡◌, ◌≢◌, ℕ, ◌+◌, ◌-◌, ◌*◌, ◌^◌, ◌<◌, ◌≤◌, Bool, true, false, cond, eqb, leb, List, [], ◌∷◌, ◌++◌, Ok, Err, Some, inl, inr, refl, sym, ap, ◌∙◌, append_assoc, arith}
+use Rattle.std.specs.Prelude.{codes, decimal, ◌&&◌, not}
+use Rattle.std.specs.Char.{is_ascii_digit}
+use Rattle.std.proofs.lemmas.Bool.{eq-eqb, leb-true}
+use Rattle.td_certificate.specs.declared.certificate.Certificate.{Certificate}
+use Rattle.td_certificate.specs.declared.fault.CertFaultKind.TheVariants as kind
+use Rattle.td_certificate.specs.declared.fields.Reason.{Reason}
+use Rattle.td_certificate.specs.declared.fields.Reason.TheVariants.{Syntax, NumberTooLarge, Version}
+use Rattle.td_certificate.specs.Spelling.{greatest}
+use Rattle.td_certificate.specs.Reading.{Ends, Wrong, Reading, literal, begins_number, front_number, version_reason, because, version_at, certificate_at}
+use Rattle.td_certificate.specs.Faults.{NoDigit, VersionsAreNamed, kind_at, kind_in}
+use Rattle.td_certificate.proofs.Loops.{done}
+use Rattle.td_certificate.proofs.Codes.{bind_err}
+use Rattle.td_certificate.proofs.FieldCodes.{ends, wrong, both, digit_range, decimal_more, digit_text, literal_code}
+use Rattle.td_certificate.proofs.Numbers.{front_grows}
+use Rattle.td_certificate.proofs.VectorCodes.{cases}
+use Rattle.td_certificate.proofs.Versions.{front_digit}
+use Rattle.td_certificate.proofs.PlainReading.{literal_plain, behind_version, version_plain}
+
+-- ---- the digits in front are a number's as it is written
+
+record Split (bytes : List ℕ) (number : ℕ) : Type 0 where
+  later : List ℕ
+  ended : NoDigit later
+  parts : bytes ≡ decimal number ++ later
+
+front_stays : (number b : ℕ) (rest : List ℕ) → is_ascii_digit b ≡ false → front_number number (b ∷ rest) ≡ number
+unfolding front_number
+front_stays number b rest d = rw d refl
+
+front_none : (number : ℕ) → front_number number [] ≡ number
+unfolding front_number
+front_none number = refl
+
+to_number : (bytes : List ℕ) (this that : ℕ) → this ≡ that → Split bytes that → Split bytes this
+to_number bytes this that e s = record { later = s.later; ended = s.ended; parts = s.parts ∙ ap (λ (n : ℕ). decimal n ++ s.later) (sym e) }
+
+split_front : (number : ℕ) (bytes : List ℕ) → 0 < number → front_number number bytes ≤ greatest → Split (decimal number ++ bytes) (front_number number bytes)
+split_front number [] pos le = to_number (decimal number ++ []) (front_number number []) number (front_none number) (record { later = []; ended = tt; parts = refl })
+split_front number (b ∷ rest) pos le =
+    cases (is_ascii_digit b)
+    (λ d.
+    let r = digit_range b d in
+    let next : ℕ = 10 * number + (b - 48) in
+    let e : front_number number (b ∷ rest) ≡ front_number next rest = front_digit number b rest d in
+    let s = split_front next rest (omega arith) (omega (arith, e, le)) in
+    let small : 10 * number + (b - 48) < 2 ^ 64 = omega (arith, e, le, front_grows next rest) in
+    to_number (decimal number ++ b ∷ rest) (front_number number (b ∷ rest)) (front_number next rest) e
+    (record {
+      later = s.later;
+      ended = s.ended;
+      parts = sym (ap (λ (t : List ℕ). t ++ rest) (decimal_more number b pos r.0 r.1 small) ∙ append_assoc (decimal number) (b ∷ []) rest) ∙ s.parts;
+    }))
+    (λ d. to_number (decimal number ++ b ∷ rest) (front_number number (b ∷ rest)) number (front_stays number b rest d) (record { later = b ∷ rest; ended = d; parts = refl }))
+
+first_number : (d : ℕ) (rest : List ℕ) → is_ascii_digit d ≡ true → front_number 0 (d ∷ rest) ≡ front_number (d - 48) rest
+first_number d rest digit = front_digit 0 d rest digit ∙ ap (λ (k : ℕ). front_number k rest) (omega arith)
+
+-- a first digit that isn't 0, and others
+split_some : (d : ℕ) (rest : List ℕ) → is_ascii_digit d ≡ true → 48 < d → front_number 0 (d ∷ rest) ≤ greatest → Split (d ∷ rest) (front_number 0 (d ∷ rest))
+split_some d rest digit low le =
+    let e = first_number d rest digit in
+    let s = split_front (d - 48) rest (omega arith) (omega (arith, e, le)) in
+    to_number (d ∷ rest) (front_number 0 (d ∷ rest)) (front_number (d - 48) rest) e
+    (record { later = s.later; ended = s.ended; parts = sym (digit_text d rest digit) ∙ s.parts })
+
+-- one digit with no other behind it
+split_one : (d : ℕ) (rest : List ℕ) → is_ascii_digit d ≡ true → NoDigit rest → Split (d ∷ rest) (front_number 0 (d ∷ rest))
+split_one d [] digit none =
+    to_number (d ∷ []) (front_number 0 (d ∷ [])) (d - 48) (first_number d [] digit ∙ front_none (d - 48)) (record { later = []; ended = tt; parts = sym (digit_text d [] digit) })
+split_one d (b ∷ rest) digit none =
+    to_number (d ∷ b ∷ rest) (front_number 0 (d ∷ b ∷ rest)) (d - 48) (first_number d (b ∷ rest) digit ∙ front_stays (d - 48) b rest none)
+    (record { later = b ∷ rest; ended = none; parts = sym (digit_text d (b ∷ rest) digit) })
+
+not_both : (p q : Bool) → not (p && q) ≡ true → p ≡ true → q ≡ false
+not_both true true e h = absurd cc
+not_both true false e h = refl
+not_both false q e h = absurd cc
+
+not_true : (p : Bool) → not p ≡ true → p ≡ false
+not_true true e = absurd cc
+not_true false e = refl
+
+split_begun : (bytes : List ℕ) → begins_number bytes ≡ true → front_number 0 bytes ≤ greatest → Split bytes (front_number 0 bytes)
+split_begun [] e le = absurd cc
+split_begun (d ∷ []) e le = split_one d [] e tt
+split_begun (d ∷ b ∷ rest) e le =
+    let p = both (is_ascii_digit d) (not (eqb d 48 && is_ascii_digit b)) e in
+    let r = digit_range d p.0 in
+    cases (eqb d 48)
+    (λ h. split_one d (b ∷ rest) p.0 (not_both (eqb d 48) (is_ascii_digit b) p.1 h))
+    (λ h. split_some d (b ∷ rest) p.0 (omega (arith, r.0, ne_of d 48 h)) le)
+  where
+    ne_of : (x y : ℕ) → eqb x y ≡ false → x ≢ y
+    ne_of x y h e = let q : eqb x y ≡ true = eq-eqb x y e in cc
+
+-- ---- what version_reason says
+
+record IsOther (behind : List ℕ) : Type 0 where
+  begins : begins_number behind ≡ true
+  other : front_number 0 behind ≢ 1
+  within : front_number 0 behind ≤ greatest
+
+reason_by : Bool → Bool → Bool → Reason
+reason_by begins one within = cond (begins && not one) (cond within Version NumberTooLarge) Syntax
+
+by_version : (begins one within : Bool) → reason_by begins one within ≡ Version → (begins ≡ true) × (one ≡ false) × (within ≡ true)
+unfolding reason_by
+by_version true true within e = absurd cc
+by_version true false true e = (refl, refl, refl)
+by_version true false false e = absurd cc
+by_version false one within e = absurd cc
+
+other_of : (behind : List ℕ) → version_reason behind ≡ Version → IsOther behind
+unfolding version_reason reason_by
+other_of behind e =
+    let p = by_version (begins_number behind) (eqb (front_number 0 behind) 1) (leb (front_number 0 behind) greatest) e in
+    record {
+      begins = p.0;
+      other = λ same. let q : eqb (front_number 0 behind) 1 ≡ true = eq-eqb (front_number 0 behind) 1 same in let h : eqb (front_number 0 behind) 1 ≡ false = p.1 in cc;
+      within = leb-true (front_number 0 behind) greatest p.2;
+    }
+
+-- ---- from the text to its first line
+
+because_reason : {A : Type 0} (why reason : Reason) (read : Reading A) (rest : List ℕ) → because why read ≡ Err (Wrong reason rest) → why ≡ reason
+because_reason why reason (Ok y) rest e = absurd (let h : done y ≡ wrong reason rest = e in cc)
+because_reason {A} why reason (Err Ends) rest e = absurd (let h : ends {A = A} ≡ wrong reason rest = e in cc)
+because_reason {A} why reason (Err (Wrong other this)) rest e = let h : wrong {A = A} why this ≡ wrong reason rest = e in cc
+
+abbrev line_end : Unit {0} × List ℕ → Reading (Unit {0})
+line_end word = because (version_reason word.1) (literal (codes "1\n") word.1)
+
+record Behind (text : List ℕ) : Type 0 where
+  behind : List ℕ
+  parts : text ≡ codes "tdelay-cert " ++ behind
+  reason : version_reason behind ≡ Version
+
+behind_of : (text rest : List ℕ) → version_at text ≡ Err (Wrong Version rest) → Behind text
+unfolding version_at
+behind_of text rest e =
+    elim (bind_err (literal (codes "tdelay-cert ") text) line_end (Wrong Version rest) e) as (λ _. Behind text) [
+      | inl here ↦ absurd (literal_plain (codes "tdelay-cert ") text rest here)
+      | inr there ↦
+          let p = (literal_code (codes "tdelay-cert ")).takes text there.value.0 there.value.1 there.was in
+          record { behind = there.value.1; parts = p.1; reason = because_reason (version_reason there.value.1) Version (literal (codes "1\n") there.value.1) rest there.stopped }
+    ]
+
+abbrev then_version : Unit {0} × List ℕ → Reading Certificate
+then_version word = behind_version word.1
+
+first_of : (text rest : List ℕ) → certificate_at text ≡ Err (Wrong Version rest) → version_at text ≡ Err (Wrong Version rest)
+unfolding certificate_at
+first_of text rest e =
+    elim (bind_err (version_at text) then_version (Wrong Version rest) e) as (λ _. version_at text ≡ Err (Wrong Version rest)) [
+      | inl here ↦ here
+      | inr there ↦ absurd (version_plain there.value.1 rest there.stopped)
+    ]
+
+wrong_of : (read : Reading Certificate) → kind_at read ≡ Some kind.Version → (rest : List ℕ) × (read ≡ Err (Wrong Version rest))
+wrong_of (Ok x) e = absurd cc
+wrong_of (Err Ends) e = absurd cc
+wrong_of (Err (Wrong Syntax rest)) e = absurd cc
+wrong_of (Err (Wrong NumberTooLarge rest)) e = absurd cc
+wrong_of (Err (Wrong Version rest)) e = (rest, refl)
+
+certificate_wrong : (text : List ℕ) → kind_in text ≡ Some kind.Version → (rest : List ℕ) × (certificate_at text ≡ Err (Wrong Version rest))
+unfolding kind_in
+certificate_wrong text e = wrong_of (certificate_at text) e
+
+pub versions_are_named : VersionsAreNamed
+versions_are_named text e =
+    let w = certificate_wrong text e in
+    let b = behind_of text w.0 (first_of text w.0 w.1) in
+    let o = other_of b.behind b.reason in
+    let s = split_begun b.behind o.begins o.within in
+    record { number = front_number 0 b.behind; later = s.later; other = o.other; within = o.within; ended = s.ended; parts = b.parts ∙ ap (λ (t : List ℕ). codes "tdelay-cert " ++ t) s.parts }

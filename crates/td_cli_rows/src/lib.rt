@@ -1,0 +1,9 @@
+//! The program's commands over files in memory. There are tests here, and nothing else.
+#![tactic(auto)]
+
+#[cfg(test)]
+mod runs;
+#[cfg(test)]
+mod searches;
+#[cfg(test)]
+mod texts;
