@@ -6,6 +6,7 @@ pub mod BoundReports
 pub mod CheckReports
 pub mod WorstReports
 pub mod Written
+pub mod Devices
 pub mod Refusals
 pub mod Outcomes
 pub mod Commands

@@ -1,5 +1,8 @@
 //! Named files: the real ones, and what a command needs of them.
 
+ghost use Rattle.std.specs.IoError.{error_kind};
+ghost use Rattle.td_cli.specs.Devices.{IsWriteFault};
+
 use crate::writer::WriterSink;
 use std::alloc::Global;
 use std::io::Read;
@@ -15,6 +18,11 @@ pub enum ReadFault {
 }
 
 impl From<io::Error> for ReadFault {
+    ghost use Rattle.std.specs.IoError.{error_kind};
+    ghost use Rattle.td_cli.specs.Devices.{IsReadFault};
+
+    ghost from_gives = { λ error fault. IsReadFault (error_kind error) fault };
+
     fn from(error: io::Error) -> ReadFault {
         match error.kind() {
             io::ErrorKind::OutOfMemory => ReadFault::OutOfMemory,
@@ -28,6 +36,7 @@ pub trait Files {
     ghost use Rattle.std.specs.Prelude.{◌≡◌, ℕ, List, Option, IfOk, IfErr, OnOk, OnErr};
     ghost use Rattle.td_cli.specs.Written.{WrittenFile, KeepsFile, IsFresh};
     ghost use Rattle.td_cli.specs.declared.files.ReadFault.TheVariants as Fault;
+    ghost use Rattle.td_certificate.specs.declared.fault.WriteFault.TheVariants as Unwritten;
 
     /// A writer of one file.
     type Writer: Sink + Drop;
@@ -37,6 +46,9 @@ pub trait Files {
 
     /// A device may fail to read this name.
     ghost fails: { Self → List ℕ → Type 0 };
+
+    /// A device may fail to make or to end a file of this name.
+    ghost breaks: { Self → List ℕ → Type 0 };
 
     /// The files that were written so far, in order, where that is known.
     ghost kept: { Self → Option (List WrittenFile) };
@@ -50,11 +62,13 @@ pub trait Files {
     /// A writer of a new file of this name.
     fn create(&mut self, alloc: Global, name: &str) -> Result<Self::Writer, WriteFault>
         ensures fresh { IfOk result (λ writer. IsFresh (kept self.old) (Self.Writer.output writer)) }
+        ensures fault { IfErr result (λ fault. fault ≡ Unwritten.Device → breaks self.old name.now) }
         ensures stays { self.new ≡ self.old };
 
     /// Ends the writing of a file: what its writer took is the file of this name.
     fn close(&mut self, alloc: Global, name: &str, writer: Self::Writer) -> Result<(), WriteFault>
         ensures keeps { OnOk result (KeepsFile (kept self.old) (kept self.new) name.now (Self.Writer.output writer)) }
+        ensures fault { IfErr result (λ fault. fault ≡ Unwritten.Device → breaks self.old name.now) }
         ensures stays { OnErr result (kept self.new ≡ kept self.old) };
 }
 
@@ -75,7 +89,9 @@ impl<'r, R: rt::Files + Input + AllocGlobal> RealFiles<'r, R> {
     }
 }
 
-fn write_fault_of(error: io::Error) -> WriteFault {
+fn write_fault_of(error: io::Error) -> WriteFault
+    ensures { IsWriteFault (error_kind error) result }
+{
     match error.kind() {
         io::ErrorKind::OutOfMemory => WriteFault::OutOfMemory,
         _ => WriteFault::Device,
@@ -89,6 +105,8 @@ impl<'r, R: rt::Files + Input + AllocGlobal> Files for RealFiles<'r, R> {
     ghost holds = { λ _ _ _. ⊤ };
 
     ghost fails = { λ _ _. ⊤ };
+
+    ghost breaks = { λ _ _. ⊤ };
 
     ghost kept = { λ _. None };
 

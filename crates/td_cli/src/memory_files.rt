@@ -113,6 +113,9 @@ impl<'a> Files for MemoryFiles<'a> {
     /// No file has this name, or the reader of one fails.
     ghost fails = { λ files name. FailsOn files.files.now files.readable name };
 
+    /// Only its writer fails, and want of memory.
+    ghost breaks = { λ _ _. ⊥ };
+
     ghost kept = { λ files. Some (map written_file files.written.items) };
 
     type Writer = MemorySink;
