@@ -14,7 +14,9 @@ use Rattle.td_cli.specs.Refusals.{refusal_text}
 use Rattle.td_cli.specs.BoundReports.{IsBoundReport}
 use Rattle.td_cli.specs.CheckReports.{IsCheckReport}
 use Rattle.td_cli.specs.WorstReports.{IsWorstReport}
-use Rattle.td_cli.specs.Written.{WrittenFile, IsKeptOf}
+use Rattle.td_cli.specs.Written.{WrittenFile, IsKeptOf, IsLeft}
+use Rattle.td_certificate.specs.declared.fault.WriteFault.{WriteFault}
+use Rattle.td_certificate.specs.declared.fault.WriteFault.TheVariants as unwritten
 use Rattle.td_certificate.specs.declared.certificate.Certificate.{Certificate}
 use Rattle.td_cli.specs.Outcomes.{HasNoReport, HasNoBounds, HasNoCircuit, HasNoVerdict}
 use Rattle.td_cli.specs.CommandLine.{delays, kinds_of, Asks}
@@ -123,18 +125,23 @@ WorstEnds Device text default budget certificate out_old out_new err_old err_new
 abbrev pub unwritten_text : List ℕ → List ℕ
 unwritten_text name = codes "tdelay: cannot write " ++ name ++ newline
 
--- a file was not written, which was told, or want of memory in its place
-abbrev pub IsNotWritten : List ℕ → Output → Output → Type 0
-IsNotWritten name err_old err_new = Tells err_old err_new (unwritten_text name) ⊎ Tells err_old err_new (refusal_text refusal.OutOfMemory)
+-- it was told why a file was not written; want of memory may be told in place of a device's failure
+abbrev pub IsNotWritten : List ℕ → WriteFault → Output → Output → Type 0
+IsNotWritten name unwritten.Device err_old err_new =
+    Tells err_old err_new (unwritten_text name) ⊎ Tells err_old err_new (refusal_text refusal.OutOfMemory)
+IsNotWritten name unwritten.OutOfMemory err_old err_new = Tells err_old err_new (refusal_text refusal.OutOfMemory)
 
--- The report went out, and then the certificate was not written.
-pub record Lacks (text : List ℕ) (default : Delay) (budget : ℕ) (name : List ℕ) (status : Status) (out_old out_new err_old err_new : Output) : Type 0 where
+-- The report went out, and then the certificate was not written, for a reason that is left to see.
+pub record Lacks (breaks : Type 0) (kept_old kept_new : Option (List WrittenFile)) (text : List ℕ) (default : Delay) (budget : ℕ)
+    (name : List ℕ) (status : Status) (out_old out_new err_old err_new : Output) : Type 0 where
   pub certificate : Certificate
   pub report : List ℕ
   pub is : IsWorstReport text default budget report (Some certificate)
   pub sent : Sent out_old out_new report
   pub ends : status ≡ Device
-  pub told : IsNotWritten name err_old err_new
+  pub fault : WriteFault
+  pub left : IsLeft breaks kept_old kept_new name certificate fault
+  pub told : IsNotWritten name fault err_old err_new
 
 -- The search ended so, and the certificate of an exact answer was kept where a name is given, and else no file was written.
 pub record Keeps (text : List ℕ) (default : Delay) (budget : ℕ) (name : Option (List ℕ)) (status : Status)
@@ -159,16 +166,19 @@ pub record IsUnread (name : List ℕ) (status : Status) (out_old out_new err_old
   pub nothing : out_new ≡ out_old
   pub told : Tells err_old err_new (unread_text name)
 
--- what is known of files: the bytes that a read of a name may give, which names a device may fail to read, and the files that
--- were written, before and after
+-- what is known of files: the bytes that a read of a name may give, which names a device may fail to read, of which it may fail
+-- to make or end a file, and the files that were written, before and after
 pub record Disk : Type 1 where
   pub holds : List ℕ → List ℕ → Type 0
   pub fails : List ℕ → Type 0
+  pub breaks : List ℕ → Type 0
   pub kept_old : Option (List WrittenFile)
   pub kept_new : Option (List WrittenFile)
 
-abbrev pub disk_of : (List ℕ → List ℕ → Type 0) → (List ℕ → Type 0) → Option (List WrittenFile) → Option (List WrittenFile) → Disk
-disk_of holds fails kept_old kept_new = record { holds = holds; fails = fails; kept_old = kept_old; kept_new = kept_new }
+abbrev pub disk_of : (List ℕ → List ℕ → Type 0) → (List ℕ → Type 0) → (List ℕ → Type 0) → Option (List WrittenFile) → Option (List WrittenFile)
+    → Disk
+disk_of holds fails breaks kept_old kept_new =
+    record { holds = holds; fails = fails; breaks = breaks; kept_old = kept_old; kept_new = kept_new }
 
 -- a file was not read: a device may fail to, or memory ran out
 abbrev pub IsNotRead : Disk → List ℕ → Status → Output → Output → Output → Output → Type 0
@@ -184,8 +194,8 @@ EndsOnFile disk name EndsOn status out_old out_new err_old err_new =
 abbrev pub WorstOf : Disk → List ℕ → Delay → ℕ → Option (List ℕ) → Status → Output → Output → Output → Output → Type 0
 WorstOf disk text default budget name status out_old out_new err_old err_new =
     Keeps text default budget name status disk.kept_old disk.kept_new out_old out_new err_old err_new
-    ⊎ ((file : List ℕ) × (name ≡ Some file) × Lacks text default budget file status out_old out_new err_old err_new
-    × (disk.kept_new ≡ disk.kept_old))
+    ⊎ ((file : List ℕ) × (name ≡ Some file)
+    × Lacks (disk.breaks file) disk.kept_old disk.kept_new text default budget file status out_old out_new err_old err_new)
 
 -- what was written for a request
 abbrev pub RequestEnds : Disk → Request → Status → Output → Output → Output → Output → Type 0

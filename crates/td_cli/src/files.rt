@@ -65,7 +65,7 @@ pub trait Files {
         ensures fault { IfErr result (λ fault. fault ≡ Unwritten.Device → breaks self.old name.now) }
         ensures stays { self.new ≡ self.old };
 
-    /// Ends the writing of a file: what its writer took is the file of this name.
+    /// Ends the writing of a file, also where its writer failed: what its writer took is the file of this name.
     fn close(&mut self, alloc: Global, name: &str, writer: Self::Writer) -> Result<(), WriteFault>
         ensures keeps { OnOk result (KeepsFile (kept self.old) (kept self.new) name.now (Self.Writer.output writer)) }
         ensures fault { IfErr result (λ fault. fault ≡ Unwritten.Device → breaks self.old name.now) }

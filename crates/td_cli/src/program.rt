@@ -39,7 +39,7 @@ pub fn run<S: AsStr, F: Files, O: Sink, E: Sink>(
     out: &mut O,
     err: &mut E,
 ) -> Status
-    ensures { ProgramEnds (disk_of (F.holds files.old) (F.fails files.old) (F.kept files.old) (F.kept files.new)) (map S.text words.now) result
+    ensures { ProgramEnds (disk_of (F.holds files.old) (F.fails files.old) (F.breaks files.old) (F.kept files.old) (F.kept files.new)) (map S.text words.now) result
         (O.output out.old) (O.output out.new) (E.output err.old) (E.output err.new) }
 {
     match run_plain(alloc, words, files, out, err) {
@@ -56,7 +56,7 @@ pub fn run_plain<S: AsStr, F: Files, O: Sink, E: Sink>(
     out: &mut O,
     err: &mut E,
 ) -> Option<Status>
-    ensures some { IfSome result (λ status. ProgramEnds (disk_of (F.holds files.old) (F.fails files.old) (F.kept files.old) (F.kept files.new)) (map S.text words.now) status
+    ensures some { IfSome result (λ status. ProgramEnds (disk_of (F.holds files.old) (F.fails files.old) (F.breaks files.old) (F.kept files.old) (F.kept files.new)) (map S.text words.now) status
         (O.output out.old) (O.output out.new) (E.output err.old) (E.output err.new)) }
     ensures none { IfNone result (IsSilent (map S.text words.now)
         (O.output out.old) (O.output out.new) (E.output err.old) (E.output err.new)) }
@@ -89,7 +89,7 @@ pub fn carry_out<F: Files, O: Sink, E: Sink>(
     err: &mut E,
 ) -> Status
     requires { IsCarriedOut request.now }
-    ensures { RequestEnds (disk_of (F.holds files.old) (F.fails files.old) (F.kept files.old) (F.kept files.new)) request.now result
+    ensures { RequestEnds (disk_of (F.holds files.old) (F.fails files.old) (F.breaks files.old) (F.kept files.old) (F.kept files.new)) request.now result
         (O.output out.old) (O.output out.new) (E.output err.old) (E.output err.new) }
 {
     match request {
@@ -109,7 +109,7 @@ fn run_sim<F: Files, O: Sink, E: Sink>(
     err: &mut E,
 ) -> Status
     requires { IsInRange (delays request.rise request.fall) }
-    ensures { RequestEnds (disk_of (F.holds files.old) (F.fails files.old) (F.kept files.old) (F.kept files.new)) (Asked.Sim request.entry) result
+    ensures { RequestEnds (disk_of (F.holds files.old) (F.fails files.old) (F.breaks files.old) (F.kept files.old) (F.kept files.new)) (Asked.Sim request.entry) result
         (O.output out.old) (O.output out.new) (E.output err.old) (E.output err.new) }
 {
     let Some(default) = Delay::new(request.rise, request.fall) else {
@@ -130,7 +130,7 @@ fn run_bound<F: Files, O: Sink, E: Sink>(
     err: &mut E,
 ) -> Status
     requires { IsInRange (delays request.rise request.fall) }
-    ensures { RequestEnds (disk_of (F.holds files.old) (F.fails files.old) (F.kept files.old) (F.kept files.new)) (Asked.Bound request.entry) result
+    ensures { RequestEnds (disk_of (F.holds files.old) (F.fails files.old) (F.breaks files.old) (F.kept files.old) (F.kept files.new)) (Asked.Bound request.entry) result
         (O.output out.old) (O.output out.new) (E.output err.old) (E.output err.new) }
 {
     let Some(default) = Delay::new(request.rise, request.fall) else {
@@ -160,7 +160,7 @@ fn run_worst<F: Files, O: Sink, E: Sink>(
 ) -> Status
     requires range { IsInRange (delays request.rise request.fall) }
     requires budget { request.budget ≤ 10000000 }
-    ensures { RequestEnds (disk_of (F.holds files.old) (F.fails files.old) (F.kept files.old) (F.kept files.new)) (Asked.Worst request.entry) result
+    ensures { RequestEnds (disk_of (F.holds files.old) (F.fails files.old) (F.breaks files.old) (F.kept files.old) (F.kept files.new)) (Asked.Worst request.entry) result
         (O.output out.old) (O.output out.new) (E.output err.old) (E.output err.new) }
 {
     let Some(default) = Delay::new(request.rise, request.fall) else {
@@ -193,7 +193,7 @@ fn run_check<F: Files, O: Sink, E: Sink>(
     err: &mut E,
 ) -> Status
     requires { IsInRange (delays request.rise request.fall) }
-    ensures { RequestEnds (disk_of (F.holds files.old) (F.fails files.old) (F.kept files.old) (F.kept files.new)) (Asked.Check request.entry) result
+    ensures { RequestEnds (disk_of (F.holds files.old) (F.fails files.old) (F.breaks files.old) (F.kept files.old) (F.kept files.new)) (Asked.Check request.entry) result
         (O.output out.old) (O.output out.new) (E.output err.old) (E.output err.new) }
 {
     let Some(default) = Delay::new(request.rise, request.fall) else {
@@ -215,7 +215,7 @@ fn check_file<F: Files, O: Sink, E: Sink>(
     out: &mut O,
     err: &mut E,
 ) -> Status
-    ensures ends { EndsOnFile (disk_of (F.holds files.old) (F.fails files.old) (F.kept files.old) (F.kept files.new)) name.now
+    ensures ends { EndsOnFile (disk_of (F.holds files.old) (F.fails files.old) (F.breaks files.old) (F.kept files.old) (F.kept files.new)) name.now
         (λ certificate. CheckEnds result text.now default certificate
         (O.output out.old) (O.output out.new) (E.output err.old) (E.output err.new)) result
         (O.output out.old) (O.output out.new) (E.output err.old) (E.output err.new) }
@@ -331,7 +331,7 @@ pub fn carry_out_worst<F: Files, O: Sink, E: Sink>(
     err: &mut E,
 ) -> Status
     requires { budget ≤ 10000000 }
-    ensures { WorstOf (disk_of (F.holds files.old) (F.fails files.old) (F.kept files.old) (F.kept files.new)) text.now default budget
+    ensures { WorstOf (disk_of (F.holds files.old) (F.fails files.old) (F.breaks files.old) (F.kept files.old) (F.kept files.new)) text.now default budget
         (option_map (λ word. word.now) name.entry) result
         (O.output out.old) (O.output out.new) (E.output err.old) (E.output err.new) }
 {
@@ -354,7 +354,7 @@ pub fn carry_out_worst<F: Files, O: Sink, E: Sink>(
     }
 }
 
-/// Writes a certificate to a new file.
+/// Writes a certificate to a new file. Where its writer fails, what the writer took is left.
 fn keep<F: Files>(
     alloc: Global,
     files: &mut F,
@@ -363,18 +363,18 @@ fn keep<F: Files>(
 ) -> Result<(), WriteFault>
     requires { HasSpelling certificate.now }
     ensures written { OnOk result (IsWritten (F.kept files.old) (F.kept files.new) name.now certificate.now) }
-    ensures stays { OnErr result (F.kept files.new ≡ F.kept files.old) }
+    ensures left { IfErr result (IsLeft (F.breaks files.old name.now) (F.kept files.old) (F.kept files.new) name.now certificate.now) }
 {
     let mut writer = files.create(alloc, name)?;
-    write(alloc, &mut writer, certificate)?;
+    let written = write(alloc, &mut writer, certificate);
     files.close(alloc, name, writer)?;
-    Ok(())
+    written
 }
 
 /// Tells that a file can't be written, or want of memory.
 fn tell_unwritten<E: Sink>(alloc: Global, err: &mut E, file: &str, fault: WriteFault) -> Status
     ensures ends { result ≡ Ended.Device }
-    ensures told { IsNotWritten file.now (E.output err.old) (E.output err.new) }
+    ensures told { IsNotWritten file.now fault (E.output err.old) (E.output err.new) }
 {
     let mut text = Text::new(alloc);
     let told = match fault {
