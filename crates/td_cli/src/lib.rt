@@ -5,6 +5,7 @@ mod bounding;
 mod checking;
 mod command;
 mod files;
+pub mod laws;
 mod memory_files;
 mod program;
 mod refusal;
