@@ -31,8 +31,8 @@ pub refused_words : (disk : Disk) → disk.kept_new ≡ disk.kept_old → (words
     → (kind_of error ≡ kind.OutOfMemory → IsOutOfMemory status out_old out_new err_old err_new)
     → (IsOutOfMemory status out_old out_new err_old err_new ⊎ TellsText (kind_of error) status out_old out_new err_old err_new)
     → ProgramEnds disk words status out_old out_new err_old err_new
-refused_words disk kept words error status out_old out_new err_old err_new (inl ran_out) memory told = inr (kept, inr (inl (memory ran_out)))
-refused_words disk kept words error status out_old out_new err_old err_new (inr among) memory (inl ran_out) = inr (kept, inr (inl ran_out))
+refused_words disk kept words error status out_old out_new err_old err_new (inl ran_out) memory told = inr (kept, inr (memory ran_out))
+refused_words disk kept words error status out_old out_new err_old err_new (inr among) memory (inl ran_out) = inr (kept, inr ran_out)
 refused_words disk kept words error status out_old out_new err_old err_new (inr among) memory (inr text) =
     inr (kept, inl (kind_of error, among, text))
 

@@ -1,10 +1,10 @@
 use Rattle.std.proofs.Common.{map, refl}
 use Rattle.td_cli.specs.Commands.{disk_of}
 use Rattle.td_cli.proofs.Programs.{refused_words}
-use Rattle.td_cli.proofs.program.run_plain.Goals as goal
+use Rattle.td_cli.proofs.program.run.Goals as goal
 
-pub returns-in-Err-clause-some : goal.returns-in-Err-clause-some
-returns-in-Err-clause-some g c =
+pub returns-in-Err : goal.returns-in-Err
+returns-in-Err g c =
     refused_words
     (disk_of (g.F.Files.holds c.args.files.now) (g.F.Files.fails c.args.files.now) (g.F.Files.kept c.args.files.now) (g.F.Files.kept c.args.files.now))
     refl (map g.S.AsStr.text c.args.words.now) c.in-Err.error c.tell_error.result
