@@ -1,10 +1,8 @@
 -- What the parser of command lines gives, by the rows of a command's matches.
-use Rattle.std.proofs.Common.{◌≡◌, ◌&&◌, ◌<◌, ℕ, Bool, true, false, not, List, Option, Some, None, Result, IfSome, IfNone, [], sym, refl}
+use Rattle.std.proofs.Common.{◌≡◌, ◌&&◌, ◌<◌, ℕ, Bool, true, false, not, List, Option, Some, None, Result, IfSome, IfNone, sym, refl}
 use Rattle.std.specs.Str.Parse.{ParsesUnsigned}
 use Rattle.clap.specs.Words.{Row, Text, ReadsOne, one_of}
-use Rattle.clap.specs.Words.{subcommand_of}
-use Rattle.td_cli.specs.declared.command.Request.{Request}
-use Rattle.td_cli.specs.CommandLine.{program, kinds_of, HasNumber, EnteredAsks, Asks, IsAnswered}
+use Rattle.td_cli.specs.CommandLine.{HasNumber}
 
 -- a command without global arguments, of which the parser knows that it is plain
 pub third_of_plain : (groups external globals rest : Bool) → (groups && (not external && (not globals && rest))) ≡ true → globals ≡ false
@@ -12,12 +10,6 @@ third_of_plain false external globals rest e = cc
 third_of_plain true true globals rest e = cc
 third_of_plain true false true rest e = cc
 third_of_plain true false false rest e = refl
-
--- what was entered is what the words ask for, where the program takes them
-pub answered : (words : List Text) (answer : Option Request) → kinds_of words ≡ []
-    → IsAnswered (EnteredAsks (subcommand_of program words)) answer → IsAnswered (Asks words) answer
-answered words (Some asked) taken asks = record { taken = taken; asks = asks }
-answered words None taken none = λ asked asks. none asked asks.asks
 
 module _ {E : Type 0} (A B : List ℕ → Result ℕ E → Type 0) where
   -- what the parser of numbers of 32 bits answers

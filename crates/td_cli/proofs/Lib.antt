@@ -4,3 +4,10 @@ pub mod Refusing
 pub mod Outputs
 pub mod Programs
 pub mod Missing
+pub mod Rows
+pub mod Uses
+pub mod Turns
+pub mod Levels
+pub mod Numbers
+pub mod Filled
+pub mod Taken

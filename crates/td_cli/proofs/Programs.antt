@@ -31,8 +31,8 @@ pub refused_words : (disk : Disk) → disk.kept_new ≡ disk.kept_old → (words
     → (kind_of error ≡ kind.OutOfMemory → IsOutOfMemory status out_old out_new err_old err_new)
     → (IsOutOfMemory status out_old out_new err_old err_new ⊎ TellsText (kind_of error) status out_old out_new err_old err_new)
     → ProgramEnds disk words status out_old out_new err_old err_new
-refused_words disk kept words error status out_old out_new err_old err_new (inl ran_out) memory told = inr (kept, inr (inl (memory ran_out)))
-refused_words disk kept words error status out_old out_new err_old err_new (inr among) memory (inl ran_out) = inr (kept, inr (inl ran_out))
+refused_words disk kept words error status out_old out_new err_old err_new (inl ran_out) memory told = inr (kept, inr (memory ran_out))
+refused_words disk kept words error status out_old out_new err_old err_new (inr among) memory (inl ran_out) = inr (kept, inr ran_out)
 refused_words disk kept words error status out_old out_new err_old err_new (inr among) memory (inr text) =
     inr (kept, inl (kind_of error, among, text))
 
@@ -96,11 +96,11 @@ worst_told text default budget (refusal.Certificate fault) status out err_old er
 worst_told text default budget (refusal.BadVector word) status out err_old err_new why (inl told) = absurd why
 
 -- a search that was refused keeps no file
-pub worst_refused : (holds : List ℕ → List ℕ → Type 0) (fails : List ℕ → Type 0) (kept : Option (List WrittenFile)) (name : Option (List ℕ)) (text : List ℕ) (default : Delay)
+pub worst_refused : (holds : List ℕ → List ℕ → Type 0) (fails breaks : List ℕ → Type 0) (kept : Option (List WrittenFile)) (name : Option (List ℕ)) (text : List ℕ) (default : Delay)
     (budget : ℕ) (reason : Refusal) (status : Status) (out err_old err_new : Output)
     → HasNoCircuit text default reason → IsTold reason status err_old err_new
-    → WorstOf (disk_of holds fails kept kept) text default budget name status out out err_old err_new
-worst_refused holds fails kept name text default budget reason status out err_old err_new why told = inl (record {
+    → WorstOf (disk_of holds fails breaks kept kept) text default budget name status out out err_old err_new
+worst_refused holds fails breaks kept name text default budget reason status out err_old err_new why told = inl (record {
   certificate = None;
   ends = worst_told text default budget reason status out err_old err_new why told;
   kept = refl;

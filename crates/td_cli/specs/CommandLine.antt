@@ -140,6 +140,10 @@ pub record Asks (words : List Text) (asked : Request) : Type 0 where
   pub taken : kinds_of words ≡ []
   pub asks : EnteredAsks (subcommand_of program words) asked
 
+-- what the program takes asks for a command
+abbrev pub TakenAsk : Type 0
+TakenAsk = (words : List Text) → kinds_of words ≡ [] → (asked : Request) × Asks words asked
+
 -- the numbers that were asked for are in range
 abbrev pub IsCarriedOut : Request → Type 0
 IsCarriedOut (request.Sim asked) = IsInRange (delays asked.rise asked.fall)

@@ -1,5 +1,5 @@
 -- What a command writes, and how it ends.
-use Rattle.std.specs.Prelude.{◌≡◌, ℕ, List, [], ◌++◌, ◌⊎◌, Option, Some, None, IsSome, option_map, codes}
+use Rattle.std.specs.Prelude.{◌≡◌, ℕ, List, ◌++◌, ◌⊎◌, Option, Some, None, IsSome, option_map, codes}
 use Rattle.clap.specs.Words.{IsAmong}
 use Rattle.clap.specs.declared.error.kind.ErrorKind.{ErrorKind}
 use Rattle.clap.specs.declared.error.kind.ErrorKind.TheVariants as kind
@@ -261,26 +261,8 @@ abbrev pub TellsOf : List (List ℕ) → Status → Output → Output → Output
 TellsOf words status out_old out_new err_old err_new =
     (told : ErrorKind) × IsAmong told (kinds_of words) × TellsText told status out_old out_new err_old err_new
 
--- the program takes these words, and they ask for nothing
-pub record AskNothing (words : List (List ℕ)) : Type 0 where
-  pub taken : kinds_of words ≡ []
-  pub none : (asked : Request) → ¬ Asks words asked
-
--- nothing was written
-pub record IsSilent (words : List (List ℕ)) (out_old out_new err_old err_new : Output) : Type 0 where
-  pub nothing_asked : AskNothing words
-  pub nothing : out_new ≡ out_old
-  pub silent : err_new ≡ err_old
-
 abbrev pub bad_command_text : List ℕ
 bad_command_text = codes "tdelay: bad command line" ++ newline
-
--- it was told that nothing is asked for
-pub record TellsNothingAsked (words : List (List ℕ)) (status : Status) (out_old out_new err_old err_new : Output) : Type 0 where
-  pub nothing_asked : AskNothing words
-  pub ends : status ≡ BadCommand
-  pub nothing : out_new ≡ out_old
-  pub told : Tells err_old err_new bad_command_text
 
 -- What the program wrote, by what the words ask for: where the program doesn't take them, help or their fault was told. Want
 -- of memory may be told in place of any.
@@ -288,9 +270,7 @@ abbrev pub ProgramEnds : Disk → List (List ℕ) → Status → Output → Outp
 ProgramEnds disk words status out_old out_new err_old err_new =
     ((asked : Request) × Asks words asked × RequestEnds disk asked status out_old out_new err_old err_new)
     ⊎ ((disk.kept_new ≡ disk.kept_old)
-    × (TellsOf words status out_old out_new err_old err_new
-    ⊎ (IsOutOfMemory status out_old out_new err_old err_new
-    ⊎ TellsNothingAsked words status out_old out_new err_old err_new)))
+    × (TellsOf words status out_old out_new err_old err_new ⊎ IsOutOfMemory status out_old out_new err_old err_new))
 
 -- the words can't be read, which was told: memory ran out, or a device failed
 abbrev pub RefusesWords : ReadFault → Status → Output → Output → Type 0

@@ -1,6 +1,6 @@
 //! The command line.
 
-ghost use Rattle.std.specs.Prelude.{◌≡◌, ◌<◌, ℕ, [], codes, map, false, IfOk, IfErr, IfSome, IfNone};
+ghost use Rattle.std.specs.Prelude.{◌≡◌, ◌<◌, ℕ, codes, map, false, IfOk, IfErr, IfSome, IfNone};
 ghost use Rattle.clap.specs.Words.{app_of, rule_of, found_of, rows_of, subcommand_rows_of, HasKind};
 ghost use Rattle.td_cli.specs.CommandLine.{needed, option, number_option, sim_command, bound_command, worst_command, check_command, program, with_default};
 ghost use Rattle.td_cli.specs.CommandLine.{HasNumber, HasDefault, HasWorkers, HasBudget, AsksSim, AsksBound, AsksWorst, AsksCheck, EnteredAsks, kinds_of, Asks, IsAnswered};
@@ -357,14 +357,17 @@ fn request_of<'a>(matches: &ArgMatches<'a>) -> Option<Request<'a>>
 }
 
 /// What the words of a command line ask for. The first is the program's name.
-pub fn parse<'a, S: AsStr>(alloc: Global, words: &'a [S]) -> Result<Option<Request<'a>>, Error>
-    ensures asked { IfOk result (IsAnswered (Asks (map S.text words.entry.now))) }
-    ensures taken { IfOk result (λ _. kinds_of (map S.text words.entry.now) ≡ []) }
+pub fn parse<'a, S: AsStr>(alloc: Global, words: &'a [S]) -> Result<Request<'a>, Error>
+    ensures asked { IfOk result (Asks (map S.text words.entry.now)) }
     // Words are refused for what there is to tell of them, or for want of memory.
     ensures fault { IfErr result (HasKind (kinds_of (map S.text words.entry.now))) }
 {
     match command(alloc)?.try_get_matches_from(words) {
-        Ok(matches) => Ok(request_of(&matches)),
+        Ok(matches) => match request_of(&matches) {
+            Some(request) => Ok(request),
+            // The words that the program takes ask for one of its commands.
+            None => unreachable!(),
+        },
         Err(error) => Err(error),
     }
 }

@@ -5,6 +5,7 @@ mod bounding;
 mod checking;
 mod command;
 mod files;
+pub mod laws;
 mod memory_files;
 mod program;
 mod refusal;
@@ -23,7 +24,6 @@ pub use files::{Files, ReadFault, RealFiles};
 pub use memory_files::{MemoryFile, MemoryFiles};
 pub use program::{
     carry_out, carry_out_bound, carry_out_check, carry_out_sim, carry_out_worst, refuse_words, run,
-    run_plain,
 };
 pub use refusal::Refusal;
 pub use searching::{Found, worst};

@@ -1,6 +1,6 @@
 //! The program.
 
-ghost use Rattle.std.specs.Prelude.{◌≡◌, ◌≤◌, ◌⊎◌, ◌++◌, map, option_map, OnOk, OnErr, IfSome, IfNone};
+ghost use Rattle.std.specs.Prelude.{◌≡◌, ◌≤◌, ◌⊎◌, ◌++◌, map, option_map, OnOk, IfErr};
 ghost use Rattle.clap.specs.Words.{kind_of};
 ghost use Rattle.clap.specs.declared.error.kind.ErrorKind.TheVariants as Kind;
 ghost use Rattle.td_gates.specs.Output.{Output};
@@ -8,8 +8,8 @@ ghost use Rattle.td_cli.specs.Commands.{Tells, IsTold, SimEnds, BoundEnds, unrea
 ghost use Rattle.td_cli.specs.declared.files.ReadFault.TheVariants as Fault;
 ghost use Rattle.td_gates.specs.Delays.{IsInRange};
 ghost use Rattle.td_cli.specs.CommandLine.{delays, IsCarriedOut};
-ghost use Rattle.td_cli.specs.Commands.{CheckEnds, WorstOf, EndsOnFile, unwritten_text, IsNotWritten, disk_of, RequestEnds, IsShown, TellsText, IsSilent, ProgramEnds, RefusesWords};
-ghost use Rattle.td_cli.specs.Written.{IsWritten};
+ghost use Rattle.td_cli.specs.Commands.{CheckEnds, WorstOf, EndsOnFile, unwritten_text, IsNotWritten, disk_of, RequestEnds, IsShown, TellsText, ProgramEnds, RefusesWords};
+ghost use Rattle.td_cli.specs.Written.{IsWritten, IsLeft};
 ghost use Rattle.td_cli.specs.declared.status.Status.TheVariants as Ended;
 ghost use Rattle.td_certificate.specs.Spelling.{HasSpelling};
 ghost use Rattle.td_cli.specs.declared.command.Request.TheVariants as Asked;
@@ -42,30 +42,9 @@ pub fn run<S: AsStr, F: Files, O: Sink, E: Sink>(
     ensures { ProgramEnds (disk_of (F.holds files.old) (F.fails files.old) (F.breaks files.old) (F.kept files.old) (F.kept files.new)) (map S.text words.now) result
         (O.output out.old) (O.output out.new) (E.output err.old) (E.output err.new) }
 {
-    match run_plain(alloc, words, files, out, err) {
-        Some(status) => status,
-        None => tell(err, b"tdelay: bad command line\n", Status::BadCommand),
-    }
-}
-
-/// The same for all commands that wait for nobody; `None`, with nothing read or written, for others.
-pub fn run_plain<S: AsStr, F: Files, O: Sink, E: Sink>(
-    alloc: Global,
-    words: &[S],
-    files: &mut F,
-    out: &mut O,
-    err: &mut E,
-) -> Option<Status>
-    ensures some { IfSome result (λ status. ProgramEnds (disk_of (F.holds files.old) (F.fails files.old) (F.breaks files.old) (F.kept files.old) (F.kept files.new)) (map S.text words.now) status
-        (O.output out.old) (O.output out.new) (E.output err.old) (E.output err.new)) }
-    ensures none { IfNone result (IsSilent (map S.text words.now)
-        (O.output out.old) (O.output out.new) (E.output err.old) (E.output err.new)) }
-    ensures unwritten { IfNone result (F.kept files.new ≡ F.kept files.old) }
-{
     match parse(alloc, words) {
-        Ok(Some(request)) => Some(carry_out(alloc, files, &request, out, err)),
-        Ok(None) => None,
-        Err(error) => Some(tell_error(alloc, error, out, err)),
+        Ok(request) => carry_out(alloc, files, &request, out, err),
+        Err(error) => tell_error(alloc, error, out, err),
     }
 }
 

@@ -139,7 +139,8 @@ fn written_certificates(rt: HostRuntime) -> Result<(), Fail> {
     Ok(())
 }
 
-/// A certificate whose writer fails after each number of bytes: the report went out, and the failure is told.
+/// A certificate whose writer fails after each number of bytes: the report went out, the failure is told, and what
+/// the writer took is left.
 #[test]
 fn failing_certificates(rt: HostRuntime) -> Result<(), Fail> {
     let words = ["tdelay", "worst", "inverter.v", "--cert", "c"];
@@ -150,6 +151,8 @@ fn failing_certificates(rt: HostRuntime) -> Result<(), Fail> {
         assert_eq!(rt; ended.out.bytes(), report.as_slice());
         assert_eq!(rt; ended.err.bytes(), b"tdelay: cannot write c\n".as_slice());
         assert_eq!(rt; ended.status, 5);
+        let left = ended.files.written().first().ok_or("a beginning")?;
+        assert_eq!(rt; left.bytes(), &INVERTER_CERTIFICATE[..room]);
     }
     // Where standard output fails, the certificate isn't begun.
     for room in 0..report.len() {
