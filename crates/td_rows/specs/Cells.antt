@@ -1,9 +1,12 @@
 -- Circuits made by hand. Their nets are named by number: first the inputs, and then the gates in order.
-use Rattle.std.specs.Prelude.{◌≡◌, ℕ, ◌+◌, ◌-◌, ◌<◌, ◌≤◌, List, [], ◌∷◌, length, map, slice_get, Some}
+use Rattle.std.specs.Prelude.{◌≡◌, ◌⊎◌, ℕ, ◌+◌, ◌-◌, ◌<◌, ◌≤◌, nat_lt, false, List, [], ◌∷◌, length, map, slice_get, Some}
+use Rattle.std.specs.List.{list_all}
 use Rattle.td_gates.specs.Delays.{IsInRange}
 use Rattle.td_gates.specs.Table.{TakesInputs}
 use Rattle.td_netlist.specs.Netlist.{Name, Net, Named, Gate, Netlist}
 use Rattle.td_rows.specs.declared.Cell.{Cell}
+use Rattle.td_rows.specs.declared.Refused.{Refused}
+use Rattle.td_rows.specs.declared.Refused.TheVariants as refused
 
 -- the name of a number
 abbrev pub w : ℕ → Name
@@ -50,3 +53,21 @@ pub record IsMade (inputs : ℕ) (cells : List Cell) (netlist : Netlist) : Type 
   pub gates_are : AreMade inputs cells netlist.gates
   pub count_is : length netlist.gates ≡ length cells
   pub outputs_are : netlist.outputs ≡ w (inputs + (length cells - 1)) ∷ []
+
+-- no gate at this place: it reads too many nets, not as many as its kind takes, or one that isn't lower
+abbrev pub IsBadCell : ℕ → Cell → Type 0
+IsBadCell place cell = (1023 < length cell.reads.now)
+    ⊎ ((¬ TakesInputs cell.kind (length cell.reads.now)) ⊎ (list_all (λ read. nat_lt read place) cell.reads.now ≡ false))
+
+-- one of the cells is no gate at its place
+abbrev pub HasBadCell : ℕ → List Cell → Type 0
+HasBadCell inputs cells = (i : ℕ) × (cell : Cell) × (slice_get cells i ≡ Some cell) × IsBadCell (inputs + i) cell
+
+-- no netlist has these cells: there are too many inputs, no cell, too many of them, or one that is no gate
+abbrev pub IsMalformed : ℕ → List Cell → Type 0
+IsMalformed inputs cells = (4096 < inputs) ⊎ ((length cells ≡ 0) ⊎ ((200000 < length cells) ⊎ HasBadCell inputs cells))
+
+-- why it was refused: this, or memory ran out
+abbrev pub IsRefused : Type 0 → Refused → Type 0
+IsRefused why refused.OutOfMemory = Unit {0}
+IsRefused why refused.Malformed = why

@@ -1,11 +1,14 @@
 //! Circuits made by hand, for tests.
 #![tactic(auto)]
 
-ghost use Rattle.std.specs.Prelude.{◌≡◌, ◌≤◌, ◌<◌, ◌+◌, ◌↔◌, length, map, nat_lt, IfOk, IsTrue};
+ghost use Rattle.std.specs.Prelude.{◌≡◌, ◌≤◌, ◌<◌, ◌+◌, ◌↔◌, ◌⊎◌, length, map, nat_lt, IfOk, IfErr, IsTrue};
 ghost use Rattle.std.specs.List.{list_all};
 ghost use Rattle.td_gates.specs.Table.{TakesInputs};
 ghost use Rattle.td_netlist.specs.Views.{name_of, net_of, gate_of};
+ghost use Rattle.td_netlist.specs.Netlist.{Netlist};
+ghost use Rattle.td_circuit.specs.Loops.{Loop};
 ghost use Rattle.td_rows.specs.Cells.{w, named, gate_at, IsCell, AreCells, AreInputs, AreMade, IsMade};
+ghost use Rattle.td_rows.specs.Cells.{IsBadCell, HasBadCell, IsMalformed, IsRefused};
 
 pub mod slow;
 
@@ -30,12 +33,22 @@ pub enum Refused {
 }
 
 impl From<AllocError> for Refused {
+    ghost use Rattle.std.specs.Prelude.{◌≡◌};
+    ghost use Rattle.td_rows.specs.declared.Refused.TheVariants.{OutOfMemory};
+
+    ghost from_gives = { λ _ refused. refused ≡ OutOfMemory };
+
     fn from(_error: AllocError) -> Self {
         Refused::OutOfMemory
     }
 }
 
 impl<T: Drop> From<AllocFailed<T>> for Refused {
+    ghost use Rattle.std.specs.Prelude.{◌≡◌};
+    ghost use Rattle.td_rows.specs.declared.Refused.TheVariants.{OutOfMemory};
+
+    ghost from_gives = { λ _ refused. refused ≡ OutOfMemory };
+
     fn from(_error: AllocFailed<T>) -> Self {
         Refused::OutOfMemory
     }
@@ -84,6 +97,7 @@ fn named_nets(alloc: Global, reads: &[u32]) -> Result<Vec<Net>, AllocError>
 fn cell_gate(alloc: Global, cell: &Cell<'_>, place: u32) -> Result<Gate, Refused>
     ensures made { IfOk result (λ gate. gate_of gate ≡ gate_at place cell.now) }
     ensures fits { IfOk result (λ gate. IsCell place (gate_of gate)) }
+    ensures refused { IfErr result (IsRefused (IsBadCell place cell.now)) }
 {
     if cell.reads.len() > 1023 || !takes(cell.kind, cell.reads.len()) {
         return Err(Refused::Malformed);
@@ -118,6 +132,7 @@ fn cell_gates(alloc: Global, inputs: u32, cells: &[Cell<'_>]) -> Result<Vec<Gate
     ensures made { IfOk result (λ gates. AreMade inputs cells.now (map gate_of gates.items)) }
     ensures cells { IfOk result (λ gates. AreCells inputs (map gate_of gates.items)) }
     ensures count { IfOk result (λ gates. length gates.items ≡ length cells.now) }
+    ensures refused { IfErr result (IsRefused (HasBadCell inputs cells.now)) }
 {
     let mut gates = Vec::new(alloc);
     for (i, cell) in cells.iter().enumerate() {
@@ -128,7 +143,8 @@ fn cell_gates(alloc: Global, inputs: u32, cells: &[Cell<'_>]) -> Result<Vec<Gate
 
 /// The netlist of these gates, whose output is the last one's.
 pub fn netlist_of(alloc: Global, inputs: u32, cells: &[Cell<'_>]) -> Result<Netlist, Refused>
-    ensures { IfOk result (λ netlist. IsMade inputs cells.now netlist) }
+    ensures made { IfOk result (λ netlist. IsMade inputs cells.now netlist) }
+    ensures refused { IfErr result (IsRefused (IsMalformed inputs cells.now)) }
 {
     let count = cells.len();
     if inputs > 4096 || count == 0 || count > 200_000 {
@@ -147,7 +163,9 @@ pub fn netlist_of(alloc: Global, inputs: u32, cells: &[Cell<'_>]) -> Result<Netl
 
 /// The circuit of these gates, whose output is the last one's.
 pub fn circuit_of(alloc: Global, inputs: u32, cells: &[Cell<'_>]) -> Result<Circuit, Refused>
-    ensures { IfOk result (λ circuit. IsMade inputs cells.now circuit.netlist) }
+    ensures made { IfOk result (λ circuit. IsMade inputs cells.now circuit.netlist) }
+    ensures refused { IfErr result (IsRefused (IsMalformed inputs cells.now
+        ⊎ ((netlist : Netlist) × IsMade inputs cells.now netlist × Loop netlist))) }
 {
     match build(alloc, netlist_of(alloc, inputs, cells)?) {
         Ok(circuit) => Ok(circuit),
