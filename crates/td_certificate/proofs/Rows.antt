@@ -1,7 +1,7 @@
 -- Worked rows: an inverter that rises in 2 steps and falls in 3, and its certificate of one leaf.
-use Rattle.std.proofs.Common.{◌≡◌, ◌≢◌, ◌<◌, ◌≤◌, ◌+◌, ◌*◌, ◌-◌, ℕ, zero, suc, true, false, List, [], ◌∷◌, map, Option, Some, None, refl, sym, ap, subst, ◌∙◌, arith}
+use Rattle.std.proofs.Common.{◌≡◌, ◌≢◌, ◌≤◌, ◌+◌, ◌*◌, ◌-◌, ℕ, zero, suc, true, false, [], ◌∷◌, map, Option, Some, None, refl, sym, ap, ◌∙◌, arith}
 use Rattle.std.specs.Prelude.{codes, slice_get, if◌then◌else◌}
-use Rattle.std.specs.List.{All, AllByRecursion}
+use Rattle.std.specs.List.{AllByRecursion}
 use Rattle.std.proofs.lemmas.Bool.{le-leb}
 use Rattle.std.proofs.lemmas.List.Elements.{All-from_recursion, recursion_from_All}
 use Rattle.td_gates.specs.declared.primitives.Level.{Level}
@@ -9,17 +9,16 @@ use Rattle.td_gates.specs.declared.primitives.Level.TheVariants as level
 use Rattle.td_gates.specs.declared.primitives.Kind.TheVariants.{Not}
 use Rattle.td_gates.specs.declared.timing.Delay.{Delay}
 use Rattle.td_gates.specs.Wave.{Wave, at, before, IsWave}
-use Rattle.td_gates.specs.Schedule.{target_before, HeldFor, MeetsWindows, Obeys}
+use Rattle.td_gates.specs.Schedule.{target_before, HeldFor, Obeys}
 use Rattle.td_gates.specs.Table.{delay_to, table}
 use Rattle.td_gates.proofs.Windows.{Obeys-from_MeetsWindows}
 use Rattle.td_netlist.specs.declared.netlist.Scale.TheVariants as scale
 use Rattle.td_netlist.specs.Names.{name_eq}
 use Rattle.td_netlist.specs.Netlist.{Name, Net, Low, High, Named, Gate, Netlist}
-use Rattle.td_circuit.specs.Run.{Runs, IsDelayOfBits}
+use Rattle.td_circuit.specs.Run.{IsDelayOfBits}
 use Rattle.td_domain.specs.declared.cubes.Trit.{Trit}
 use Rattle.td_domain.specs.declared.cubes.Trit.TheVariants.{Free}
-use Rattle.td_domain.specs.Bounds.{AreSignals}
-use Rattle.td_arrival.specs.Arrivals.{input_signal, constant_signal, gate_signal, last_of}
+use Rattle.td_arrival.specs.Arrivals.{input_signal, constant_signal, gate_signal}
 use Rattle.td_arrival.specs.declared.signals.Signal.{Signal}
 use Rattle.td_certificate.specs.declared.tree.BoundedBy.TheVariants as by
 use Rattle.td_certificate.specs.declared.tree.Node.TheVariants as node
