@@ -1,23 +1,28 @@
 -- How the program ends.
-use Rattle.std.proofs.Common.{◌≡◌, ◌≢◌, ◌⊎◌, ◌∙◌, ℕ, List, Option, None, refl, sym, subst, inl, inr}
+use Rattle.std.proofs.Common.{◌≡◌, ◌≢◌, ◌⊎◌, ◌∙◌, ◌++◌, ℕ, List, [], ◌∷◌, Option, Some, None, refl, sym, ap, subst, inl, inr, append-nil, codes}
+use Rattle.std.specs.Borrow.{Bor}
 use Rattle.clap.specs.Words.{kind_of, HasKind}
 use Rattle.clap.specs.declared.error.Error.{Error}
 use Rattle.clap.specs.declared.error.kind.ErrorKind.{ErrorKind}
 use Rattle.clap.specs.declared.error.kind.ErrorKind.TheVariants as kind
-use Rattle.td_gates.specs.Output.{Output, Sent}
+use Rattle.td_gates.specs.Output.{Output, Sent, Failed}
 use Rattle.td_gates.specs.declared.timing.Delay.{Delay}
-use Rattle.td_checker.specs.declared.verdict.Verdict.{Verdict}
-use Rattle.td_checker.specs.declared.verdict.Verdict.TheVariants as verdict
+use Rattle.td_certificate.specs.declared.certificate.Certificate.{Certificate}
+use Rattle.td_certificate.specs.Spelling.{spelling}
+use Rattle.td_certificate.specs.declared.fault.WriteFault.{WriteFault}
+use Rattle.td_cli.specs.declared.files.ReadFault.{ReadFault}
+use Rattle.td_cli.specs.declared.files.ReadFault.TheVariants as unread
 use Rattle.td_cli.specs.declared.status.Status.{Status}
-use Rattle.td_cli.specs.declared.status.Status.TheVariants.{Done, Refused, Rejected, Device}
+use Rattle.td_cli.specs.declared.status.Status.TheVariants.{Done, Between, Device}
 use Rattle.td_cli.specs.declared.refusal.Refusal.{Refusal}
 use Rattle.td_cli.specs.declared.refusal.Refusal.TheVariants as refusal
-use Rattle.td_cli.specs.Refusals.{refusal_text}
+use Rattle.td_cli.specs.Files.{FileStep, FileText, IsWritten, IsLeft, AreWritten}
+use Rattle.td_cli.specs.Refusals.{unwritten_text}
 use Rattle.td_cli.specs.Outcomes.{HasNoCircuit}
-use Rattle.td_cli.specs.Written.{WrittenFile}
-use Rattle.td_cli.specs.CheckReports.{ending_of, IsCheckReport}
+use Rattle.td_cli.specs.WorstReports.{IsWorstReport}
 use Rattle.td_cli.specs.CommandLine.{kinds_of}
-use Rattle.td_cli.specs.Commands.{Disk, disk_of, status_of, Tells, IsTold, CheckEnds, WorstEnds, WorstOf, IsOutOfMemory, IsShown, TellsText, ProgramEnds}
+use Rattle.td_cli.specs.Ends.{Product, Streams, streams, Tells, TellsReason, TellsUnread, TellsUnwritten, Says, Finishes, Refuses, LosesReport, LosesFile, Ends}
+use Rattle.td_cli.specs.Requests.{Disk, Reads, HoldsOnFile, certificate_files, search_ending, IsWorstProduct, IsOutOfMemory, IsShown, TellsText, ProgramEnds}
 
 -- a kind whose text goes to standard error isn't
 pub not_shown : (k : ErrorKind) → (k ≢ kind.DisplayHelp) × (k ≢ kind.DisplayVersion) → ¬ IsShown k
@@ -25,83 +30,187 @@ not_shown k neither (inl e) = neither.0 e
 not_shown k neither (inr e) = neither.1 e
 
 -- words that were refused: help or their fault was told, unless memory ran out
-pub refused_words : (disk : Disk) → disk.kept_new ≡ disk.kept_old → (words : List (List ℕ)) (error : Error) (status : Status)
-    (out_old out_new err_old err_new : Output)
+pub refused_words : (disk : Disk) (words : List (List ℕ)) (error : Error) (status : Status) (old new : Streams)
     → HasKind (kinds_of words) error
-    → (kind_of error ≡ kind.OutOfMemory → IsOutOfMemory status out_old out_new err_old err_new)
-    → (IsOutOfMemory status out_old out_new err_old err_new ⊎ TellsText (kind_of error) status out_old out_new err_old err_new)
-    → ProgramEnds disk words status out_old out_new err_old err_new
-refused_words disk kept words error status out_old out_new err_old err_new (inl ran_out) memory told = inr (kept, inr (memory ran_out))
-refused_words disk kept words error status out_old out_new err_old err_new (inr among) memory (inl ran_out) = inr (kept, inr ran_out)
-refused_words disk kept words error status out_old out_new err_old err_new (inr among) memory (inr text) =
-    inr (kept, inl (kind_of error, among, text))
+    → (kind_of error ≡ kind.OutOfMemory → IsOutOfMemory status old new)
+    → (IsOutOfMemory status old new ⊎ TellsText (kind_of error) status old new)
+    → ProgramEnds disk words [] status old new
+refused_words disk words error status old new (inl ran_out) memory told = inr (refl, inr (memory ran_out))
+refused_words disk words error status old new (inr among) memory (inl ran_out) = inr (refl, inr ran_out)
+refused_words disk words error status old new (inr among) memory (inr text) = inr (refl, inl (kind_of error, among, text))
 
--- another reason for the first of two cases
-pub because : {A B X Y : Type 0} → (A → B) → (A × X) ⊎ Y → (B × X) ⊎ Y
-because why (inl first) = inl (why first.0, first.1)
-because why (inr second) = inr second
+module _ (P : Product → Type 0) (H : Refusal → Type 0) (b : List ℕ → Type 0) where
+  -- a command ends so whatever else is said, and may be refused
+  pub lifted : (Q : Product → Type 0) (K : Refusal → Type 0) (c : List ℕ → Type 0)
+      → ((product : Product) → P product → Q product) → ((reason : Refusal) → H reason → K reason) → ((name : List ℕ) → b name → c name)
+      → (steps : List FileStep) (status : Status) (old new : Streams) → Ends P H b steps status old new → Ends Q K c steps status old new
+  lifted Q K c says holds breaks steps status old new (inl ends) = inl (record {
+    product = ends.product;
+    is = says ends.product ends.is;
+    sent = ends.sent;
+    written = ends.written;
+    silent = ends.silent;
+    ends = ends.ends;
+  })
+  lifted Q K c says holds breaks steps status old new (inr (inl ends)) = inr (inl (record {
+    reason = ends.reason;
+    why = λ other. holds ends.reason (ends.why other);
+    told = ends.told;
+    nothing = ends.nothing;
+    no_file = ends.no_file;
+    ends = ends.ends;
+  }))
+  lifted Q K c says holds breaks steps status old new (inr (inr (inl ends))) = inr (inr (inl (record {
+    product = ends.product;
+    is = says ends.product ends.is;
+    broke = ends.broke;
+    told = ends.told;
+    no_file = ends.no_file;
+    ends = ends.ends;
+  })))
+  lifted Q K c says holds breaks steps status old new (inr (inr (inr ends))) = inr (inr (inr (record {
+    product = ends.product;
+    is = says ends.product ends.is;
+    sent = ends.sent;
+    before = ends.before;
+    lost = ends.lost;
+    after = ends.after;
+    files = ends.files;
+    done = ends.done;
+    rest = ends.rest;
+    parts = ends.parts;
+    written = ends.written;
+    fault = ends.fault;
+    left = left_more c breaks ends.lost ends.fault ends.rest ends.left;
+    told = ends.told;
+    ends = ends.ends;
+  })))
+    where
+      left_more : (c : List ℕ → Type 0) → ((name : List ℕ) → b name → c name) → (file : FileText) (fault : WriteFault) (rest : List FileStep)
+          → IsLeft (b file.name) file fault rest → IsLeft (c file.name) file fault rest
+      left_more c more file fault rest (inl not) = inl ((λ device. more file.name (not.0 device)), not.1)
+      left_more c more file fault rest (inr broken) = inr broken
 
--- the program ends with a verdict as done or as rejected
-ending_cases : (verdict : Verdict) → (ending_of verdict ≡ Done) ⊎ (ending_of verdict ≡ Rejected)
-ending_cases verdict.Accepted = inl refl
-ending_cases verdict.PairTime = inr refl
-ending_cases (verdict.LeafBound line) = inr refl
-ending_cases (verdict.LeafAboveTime line) = inr refl
-ending_cases (verdict.BadPosition line) = inr refl
-ending_cases (verdict.NotAPoint line) = inr refl
-ending_cases verdict.OtherCircuit = inr refl
+  -- a reason that holds was told
+  pub refused : (reason : Refusal) (status : Status) (out err_old err_new : Output) → (reason ≢ refusal.OutOfMemory → H reason)
+      → TellsReason reason status err_old err_new → Ends P H b [] status (streams out err_old) (streams out err_new)
+  refused reason status out err_old err_new holds told = inr (inl (record {
+    reason = told.told;
+    why = λ other. elim told.which [
+      | inl same ↦ subst H (sym same) (holds (λ memory. other (same ∙ memory)))
+      | inr memory ↦ absurd (other memory)
+    ];
+    told = told.tells;
+    nothing = refl;
+    no_file = refl;
+    ends = told.ends;
+  }))
 
--- the report of a verdict went out
-pub verdict_sent : (text : List ℕ) (default : Delay) (certificate : List ℕ) (ending : Status) (report : List ℕ) (out_old out_new err : Output)
-    → IsCheckReport text default certificate ending report → Sent out_old out_new report
-    → CheckEnds ending text default certificate out_old out_new err err
-verdict_sent text default certificate ending report out_old out_new err is sent =
-    let Goal : Status → Type 0 = λ ended. IsCheckReport text default certificate ended report → CheckEnds ended text default certificate out_old out_new err err in
-    elim (ending_cases is.verdict) [
-      | inl done ↦
-          let ends : ending ≡ Done = is.ends ∙ done in
-          subst Goal (sym ends) (λ as_done. record { report = report; is = as_done; sent = sent; silent = refl }) is
-      | inr rejected ↦
-          let ends : ending ≡ Rejected = is.ends ∙ rejected in
-          subst Goal (sym ends) (λ as_rejected. record { report = report; is = as_rejected; sent = sent; silent = refl }) is
-    ]
+  -- a report was said, and no file is due
+  pub said : (report : List ℕ) (ending status : Status) (old new : Streams)
+      → P (record { report = report; files = []; ending = ending }) → Says report ending status old new → Ends P H b [] status old new
+  said report ending status old new is (inl sent) = inl (record {
+    product = record { report = report; files = []; ending = ending };
+    is = is;
+    sent = sent.0;
+    written = refl;
+    silent = sent.1;
+    ends = sent.2;
+  })
+  said report ending status old new is (inr lost) = inr (inr (inl (record {
+    product = record { report = report; files = []; ending = ending };
+    is = is;
+    broke = lost.0;
+    told = lost.1;
+    no_file = refl;
+    ends = lost.2;
+  })))
 
--- want of memory was told
-worst_lacks_memory : (text : List ℕ) (default : Delay) (budget : ℕ) (status : Status) (out err_old err_new : Output) → status ≡ Device
-    → Tells err_old err_new (refusal_text refusal.OutOfMemory) → WorstEnds status text default budget None out out err_old err_new
-worst_lacks_memory text default budget status out err_old err_new ends told =
-    subst (λ ended. WorstEnds ended text default budget None out out err_old err_new) (sym ends) (inl (record { nothing = refl; told = told }), refl)
+-- what a command on a text does, said of the file that was read as it
+pub on_file : (disk : Disk) (name text : List ℕ) → disk.holds name text
+    → (P : List ℕ → Product → Type 0) (H : List ℕ → Refusal → Type 0) (b c : List ℕ → Type 0) → ((name : List ℕ) → b name → c name)
+    → (steps : List FileStep) (status : Status) (old new : Streams) → Ends (P text) (H text) b steps status old new
+    → Ends (λ product. Reads disk name (λ read. P read product)) (HoldsOnFile disk name H) c steps status old new
+on_file disk name text held P H b c breaks = lifted (P text) (H text) b _ _ c
+    (λ product is. (text, held, is)) (λ reason holds. inr (text, held, holds)) breaks
 
--- a reason for which there is no circuit was told
-worst_has_no_circuit : (text : List ℕ) (default : Delay) (budget : ℕ) (reason : Refusal) (status : Status) (out err_old err_new : Output)
-    → HasNoCircuit text default reason → status_of reason ≡ Refused → status ≡ Refused → Tells err_old err_new (refusal_text reason)
-    → WorstEnds status text default budget None out out err_old err_new
-worst_has_no_circuit text default budget reason status out err_old err_new why refuses ends told =
-    subst (λ ended. WorstEnds ended text default budget None out out err_old err_new) (sym ends)
-    (record { reason = reason; why = why; ends = refuses; told = told; nothing = refl }, refl)
+-- a file that can't be read was told
+pub not_read : (disk : Disk) (file : Bor (List ℕ)) (P : Product → Type 0) (H : List ℕ → Refusal → Type 0) (b : List ℕ → Type 0)
+    (fault : ReadFault) (status : Status) (out err_old err_new : Output)
+    → (fault ≡ unread.Device → disk.fails file.now) → TellsUnread file fault status err_old err_new
+    → Ends P (HoldsOnFile disk file.now H) b [] status (streams out err_old) (streams out err_new)
+not_read disk file P H b unread.OutOfMemory status out err_old err_new fails told =
+    refused P (HoldsOnFile disk file.now H) b refusal.OutOfMemory status out err_old err_new (λ other. absurd (other refl)) told
+not_read disk file P H b unread.Device status out err_old err_new fails told =
+    refused P (HoldsOnFile disk file.now H) b (refusal.Unreadable file) status out err_old err_new
+    (λ other. inl (file, refl, refl, fails refl)) told
 
--- the search was refused, which was told
-worst_told : (text : List ℕ) (default : Delay) (budget : ℕ) (reason : Refusal) (status : Status) (out err_old err_new : Output)
-    → HasNoCircuit text default reason → IsTold reason status err_old err_new
-    → WorstEnds status text default budget None out out err_old err_new
-worst_told text default budget reason status out err_old err_new why (inr told) =
-    worst_lacks_memory text default budget status out err_old err_new told.1 told.0
-worst_told text default budget refusal.OutOfMemory status out err_old err_new why (inl told) =
-    worst_lacks_memory text default budget status out err_old err_new told.1 told.0
-worst_told text default budget (refusal.Netlist fault) status out err_old err_new why (inl told) =
-    worst_has_no_circuit text default budget (refusal.Netlist fault) status out err_old err_new why refl told.1 told.0
-worst_told text default budget (refusal.Loop name) status out err_old err_new why (inl told) =
-    worst_has_no_circuit text default budget (refusal.Loop name) status out err_old err_new why refl told.1 told.0
-worst_told text default budget (refusal.Certificate fault) status out err_old err_new why (inl told) = absurd why
-worst_told text default budget (refusal.BadVector word) status out err_old err_new why (inl told) = absurd why
+-- ---- the search
 
--- a search that was refused keeps no file
-pub worst_refused : (holds : List ℕ → List ℕ → Type 0) (fails breaks : List ℕ → Type 0) (kept : Option (List WrittenFile)) (name : Option (List ℕ)) (text : List ℕ) (default : Delay)
-    (budget : ℕ) (reason : Refusal) (status : Status) (out err_old err_new : Output)
-    → HasNoCircuit text default reason → IsTold reason status err_old err_new
-    → WorstOf (disk_of holds fails breaks kept kept) text default budget name status out out err_old err_new
-worst_refused holds fails breaks kept name text default budget reason status out err_old err_new why told = inl (record {
-  certificate = None;
-  ends = worst_told text default budget reason status out err_old err_new why told;
-  kept = refl;
-})
+abbrev pub certificate_file : List ℕ → Certificate → FileText
+certificate_file name certificate = record { name = name; text = spelling certificate }
+
+module _ (text : List ℕ) (default : Delay) (budget : ℕ) (b : List ℕ → Type 0) where
+  abbrev pub WorstEnds : Option (List ℕ) → List FileStep → Status → Streams → Streams → Type 0
+  WorstEnds name = Ends (IsWorstProduct text default budget name) (HasNoCircuit text default) b
+
+  -- the report of a search was not said
+  pub lost_report : (name : Option (List ℕ)) (report : List ℕ) (certificate : Option Certificate) (status : Status) (old new : Streams)
+      → IsWorstReport text default budget report certificate → Failed old.out new.out report
+      → Tells old.err new.err (unwritten_text (codes "stdout")) → status ≡ Device → WorstEnds name [] status old new
+  lost_report name report certificate status old new is broke told ends = inr (inr (inl (record {
+    product = record { report = report; files = certificate_files name certificate; ending = search_ending certificate };
+    is = record { certificate = certificate; is = is; files = refl; ends = refl };
+    broke = broke;
+    told = told;
+    no_file = refl;
+    ends = ends;
+  })))
+
+  -- the report of a search was said, and no file is due
+  pub without_file : (name : Option (List ℕ)) (report : List ℕ) (certificate : Option Certificate) (status : Status) (old new : Streams)
+      → IsWorstReport text default budget report certificate → certificate_files name certificate ≡ []
+      → Sent old.out new.out report → new.err ≡ old.err → status ≡ search_ending certificate → WorstEnds name [] status old new
+  without_file name report certificate status old new is none sent silent ends = inl (record {
+    product = record { report = report; files = certificate_files name certificate; ending = search_ending certificate };
+    is = record { certificate = certificate; is = is; files = refl; ends = refl };
+    sent = sent;
+    written = subst (λ files. AreWritten files []) (sym none) refl;
+    silent = silent;
+    ends = ends;
+  })
+
+  -- the report of a search and its certificate were written
+  pub with_file : (name report : List ℕ) (certificate : Certificate) (steps : List FileStep) (status : Status) (old new : Streams)
+      → IsWorstReport text default budget report (Some certificate) → IsWritten (certificate_file name certificate) steps
+      → Sent old.out new.out report → new.err ≡ old.err → status ≡ Done → WorstEnds (Some name) steps status old new
+  with_file name report certificate steps status old new is written sent silent ends = inl (record {
+    product = record { report = report; files = certificate_file name certificate ∷ []; ending = Done };
+    is = record { certificate = Some certificate; is = is; files = refl; ends = refl };
+    sent = sent;
+    written = (steps, [], sym (append-nil steps), written, refl);
+    silent = silent;
+    ends = ends;
+  })
+
+  -- the certificate of a search was not written
+  pub lost_file : (name report : List ℕ) (certificate : Certificate) (fault : WriteFault) (steps : List FileStep) (status : Status) (old new : Streams)
+      → IsWorstReport text default budget report (Some certificate) → IsLeft (b name) (certificate_file name certificate) fault steps
+      → Sent old.out new.out report → TellsUnwritten name fault old.err new.err → status ≡ Device → WorstEnds (Some name) steps status old new
+  lost_file name report certificate fault steps status old new is left sent told ends = inr (inr (inr (record {
+    product = record { report = report; files = certificate_file name certificate ∷ []; ending = Done };
+    is = record { certificate = Some certificate; is = is; files = refl; ends = refl };
+    sent = sent;
+    before = [];
+    lost = certificate_file name certificate;
+    after = [];
+    files = refl;
+    done = [];
+    rest = steps;
+    parts = refl;
+    written = refl;
+    fault = fault;
+    left = left;
+    told = told;
+    ends = ends;
+  })))

@@ -5,9 +5,10 @@ pub mod Reports
 pub mod BoundReports
 pub mod CheckReports
 pub mod WorstReports
-pub mod Written
+pub mod Files
 pub mod Devices
 pub mod Refusals
 pub mod Outcomes
-pub mod Commands
+pub mod Ends
+pub mod Requests
 pub mod MemoryFiles

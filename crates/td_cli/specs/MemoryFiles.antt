@@ -1,9 +1,11 @@
 -- Files in memory.
-use Rattle.std.specs.Prelude.{◌≡◌, ◌<◌, ◌⊎◌, ℕ, List, length, slice_get, Some}
+use Rattle.std.proofs.Common.{◌≡◌, ◌<◌, ◌⊎◌, ◌∙◌, ℕ, List, [], ◌++◌, length, map, slice_get, Option, Some, None, sym, ap, append-nil, append_assoc}
 use Rattle.std.specs.Borrow.{Bor}
 use Rattle.td_gates.specs.MemorySinks.{output_of}
 use Rattle.td_cli.specs.declared.memory_files.MemoryFile.{MemoryFile}
-use Rattle.td_cli.specs.Written.{WrittenFile}
+use Rattle.td_cli.specs.declared.memory_files.MemoryStep.{MemoryStep}
+use Rattle.td_cli.specs.declared.memory_files.MemoryStep.TheVariants as step
+use Rattle.td_cli.specs.Files.{FileStep, Made, Ended}
 
 -- the file at this place has this name and these bytes
 abbrev pub IsFileAt : List (Bor (List ℕ) × Bor (List ℕ)) → ℕ → Bor (List ℕ) × Bor (List ℕ) → List ℕ → List ℕ → Type 0
@@ -21,6 +23,29 @@ IsMissing files name = (bytes : List ℕ) → ¬ HasFile files name bytes
 abbrev pub FailsOn : List (Bor (List ℕ) × Bor (List ℕ)) → ℕ → List ℕ → Type 0
 FailsOn files readable name = IsMissing files name ⊎ ((bytes : List ℕ) × HasFile files name bytes × (readable < length bytes))
 
--- what is known of a file that was written
-abbrev pub written_file : MemoryFile → WrittenFile
-written_file file = record { name = file.name.items; output = output_of file.sink }
+-- a file is made empty, with a writer that hasn't failed
+abbrev pub step_of : MemoryStep → FileStep
+step_of (step.Made name) = Made name.items (record { sent = Some []; failures = 0 })
+step_of (step.Ended file) = Ended file.name.items (output_of file.sink)
+
+-- the name of a file that was made
+abbrev pub made_name : MemoryStep → Option (List ℕ)
+made_name (step.Made name) = Some name.items
+made_name (step.Ended file) = None
+
+-- the file whose writing ended
+abbrev pub ended_file : MemoryStep → Option MemoryFile
+ended_file (step.Made name) = None
+ended_file (step.Ended file) = Some file
+
+-- these steps were taken after those
+abbrev pub IsAfter : List MemoryStep → List MemoryStep → List FileStep → Type 0
+IsAfter old new steps = map step_of new ≡ map step_of old ++ steps
+
+pub after_nothing : (old : List MemoryStep) → IsAfter old old []
+after_nothing old = sym (append-nil (map step_of old))
+
+pub after_both : (first then last : List MemoryStep) (steps more : List FileStep) → IsAfter first then steps → IsAfter then last more
+    → IsAfter first last (steps ++ more)
+after_both first then last steps more one other =
+    other ∙ ap (λ known. known ++ more) one ∙ append_assoc (map step_of first) steps more

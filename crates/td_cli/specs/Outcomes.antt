@@ -1,5 +1,5 @@
 -- When a command is refused, and why.
-use Rattle.std.specs.Prelude.{◌≡◌, ◌≢◌, ℕ, List, length, ◌⊎◌, Option}
+use Rattle.std.specs.Prelude.{◌≡◌, ◌≢◌, ℕ, List, [], ◌∷◌, length, ◌⊎◌, Option}
 use Rattle.td_gates.specs.declared.primitives.Level.{Level}
 use Rattle.td_gates.specs.declared.timing.Delay.{Delay}
 use Rattle.td_netlist.specs.declared.fault.Fault.{Fault}
@@ -11,6 +11,7 @@ use Rattle.td_netlist.specs.Views.{name_of}
 use Rattle.td_netlist.specs.Means.{Means, IsFaultIn}
 use Rattle.td_circuit.specs.Loops.{Loop, LiesOnLoop}
 use Rattle.td_circuit.specs.Numbering.{Numbered}
+use Rattle.td_cli.specs.declared.refusal.VectorWord.{VectorWord}
 use Rattle.td_cli.specs.declared.refusal.VectorWord.TheVariants as vector
 use Rattle.td_cli.specs.declared.refusal.Refusal.{Refusal}
 use Rattle.td_cli.specs.declared.refusal.Refusal.TheVariants as refusal
@@ -34,25 +35,21 @@ pub record IsCircuitOf (text : List ℕ) (default : Delay) (circuit : Numbered) 
   pub means : Means text default circuit.netlist
   pub acyclic : ¬ Loop circuit.netlist
 
--- the word is a vector of so many inputs
-pub record IsVector (count : ℕ) (word : List ℕ) : Type 0 where
-  pub levels : List Level
-  pub spells : SpellsVector level_character count word levels
+-- the words of a command that give something for each input, each with what it is for so many inputs to be given
+abbrev pub VectorWords : Type 1
+VectorWords = List (VectorWord × (ℕ → Type 0))
 
--- the text means a netlist without a loop, for whose inputs the first word is no vector
-pub record HasBadFrom (text : List ℕ) (default : Delay) (from : List ℕ) : Type 0 where
+-- the first of the words that gives nothing for so many inputs
+abbrev pub IsFirstBad : ℕ → VectorWords → VectorWord → Type 0
+IsFirstBad count [] word = ⊥
+IsFirstBad count (given ∷ others) word = ((word ≡ given.0) × ¬ given.1 count) ⊎ (given.1 count × IsFirstBad count others word)
+
+-- the text means a netlist without a loop, for whose inputs this word gives nothing
+pub record HasBadWord (text : List ℕ) (default : Delay) (words : VectorWords) (word : VectorWord) : Type 0 where
   pub netlist : Netlist
   pub means : Means text default netlist
   pub acyclic : ¬ Loop netlist
-  pub no_vector : ¬ IsVector (length netlist.inputs) from
-
--- the same of the second word, where the first is a vector
-pub record HasBadTo (text : List ℕ) (default : Delay) (from to : List ℕ) : Type 0 where
-  pub netlist : Netlist
-  pub means : Means text default netlist
-  pub acyclic : ¬ Loop netlist
-  pub from_is : IsVector (length netlist.inputs) from
-  pub no_vector : ¬ IsVector (length netlist.inputs) to
+  pub first_bad : IsFirstBad (length netlist.inputs) words word
 
 -- the text means no netlist, and has the fault
 pub record IsNetlistFault (text : List ℕ) (default : Delay) (fault : Fault) : Type 0 where
@@ -60,55 +57,34 @@ pub record IsNetlistFault (text : List ℕ) (default : Delay) (fault : Fault) : 
   pub means_none : (netlist : Netlist) → ¬ Means text default netlist
   pub has : IsFaultIn text fault.kind fault.line
 
--- what holds where this is why the text has no circuit: nothing is said of want of memory
-abbrev pub HasNoCircuit : List ℕ → Delay → Refusal → Type 0
-HasNoCircuit text default refusal.OutOfMemory = Unit {0}
-HasNoCircuit text default (refusal.Netlist fault) = IsNetlistFault text default fault
-HasNoCircuit text default (refusal.Loop name) = (netlist : Netlist) × Means text default netlist × LiesOnLoop netlist (name_of name)
-HasNoCircuit text default (refusal.Certificate fault) = ⊥
-HasNoCircuit text default (refusal.BadVector word) = ⊥
+-- What holds where this is why a command with these words says nothing of a netlist's text: the text is judged first, then the
+-- words in turn. Nothing is said of want of memory.
+abbrev pub IsRefusedFor : List ℕ → Delay → VectorWords → Refusal → Type 0
+IsRefusedFor text default words refusal.OutOfMemory = Unit {0}
+IsRefusedFor text default words (refusal.Netlist fault) = IsNetlistFault text default fault
+IsRefusedFor text default words (refusal.Loop name) = (netlist : Netlist) × Means text default netlist × LiesOnLoop netlist (name_of name)
+IsRefusedFor text default words (refusal.BadVector word) = HasBadWord text default words word
+IsRefusedFor text default words other = ⊥
 
--- what holds where this is why `sim` has no report: the text is judged first, then the first vector, then the second
-abbrev pub HasNoReport : List ℕ → Delay → List ℕ → List ℕ → Refusal → Type 0
-HasNoReport text default from to refusal.OutOfMemory = Unit {0}
-HasNoReport text default from to (refusal.Netlist fault) = IsNetlistFault text default fault
-HasNoReport text default from to (refusal.Loop name) = (netlist : Netlist) × Means text default netlist × LiesOnLoop netlist (name_of name)
-HasNoReport text default from to (refusal.Certificate fault) = ⊥
-HasNoReport text default from to (refusal.BadVector vector.From) = HasBadFrom text default from
-HasNoReport text default from to (refusal.BadVector vector.To) = HasBadTo text default from to
-HasNoReport text default from to (refusal.BadVector vector.First) = ⊥
-HasNoReport text default from to (refusal.BadVector vector.Second) = ⊥
+-- why the text has no circuit
+abbrev pub HasNoCircuit : List ℕ → Delay → Refusal → Type 0
+HasNoCircuit text default = IsRefusedFor text default []
+
+-- the word spells a level for each of so many inputs
+abbrev pub SpellsLevels : List ℕ → ℕ → Type 0
+SpellsLevels word count = (levels : List Level) × SpellsVector level_character count word levels
 
 -- the option gives trits for so many inputs
-pub record GivesTrits (count : ℕ) (word : Option (List ℕ)) : Type 0 where
-  pub trits : List Trit
-  pub are : AreTrits count word trits
+abbrev pub GivesTrits : Option (List ℕ) → ℕ → Type 0
+GivesTrits word count = (trits : List Trit) × AreTrits count word trits
 
--- the text means a netlist without a loop, for whose inputs the first option gives no trits
-pub record HasBadFirst (text : List ℕ) (default : Delay) (first : Option (List ℕ)) : Type 0 where
-  pub netlist : Netlist
-  pub means : Means text default netlist
-  pub acyclic : ¬ Loop netlist
-  pub no_trits : ¬ GivesTrits (length netlist.inputs) first
+-- why `sim` has no report
+abbrev pub HasNoReport : List ℕ → Delay → List ℕ → List ℕ → Refusal → Type 0
+HasNoReport text default from to = IsRefusedFor text default ((vector.From, SpellsLevels from) ∷ (vector.To, SpellsLevels to) ∷ [])
 
--- the same of the second option, where the first gives trits
-pub record HasBadSecond (text : List ℕ) (default : Delay) (first second : Option (List ℕ)) : Type 0 where
-  pub netlist : Netlist
-  pub means : Means text default netlist
-  pub acyclic : ¬ Loop netlist
-  pub first_gives : GivesTrits (length netlist.inputs) first
-  pub no_trits : ¬ GivesTrits (length netlist.inputs) second
-
--- what holds where this is why `bound` has no report, judged in the same order
+-- why `bound` has no report
 abbrev pub HasNoBounds : List ℕ → Delay → Option (List ℕ) → Option (List ℕ) → Refusal → Type 0
-HasNoBounds text default first second refusal.OutOfMemory = Unit {0}
-HasNoBounds text default first second (refusal.Netlist fault) = IsNetlistFault text default fault
-HasNoBounds text default first second (refusal.Loop name) = (netlist : Netlist) × Means text default netlist × LiesOnLoop netlist (name_of name)
-HasNoBounds text default first second (refusal.Certificate fault) = ⊥
-HasNoBounds text default first second (refusal.BadVector vector.First) = HasBadFirst text default first
-HasNoBounds text default first second (refusal.BadVector vector.Second) = HasBadSecond text default first second
-HasNoBounds text default first second (refusal.BadVector vector.From) = ⊥
-HasNoBounds text default first second (refusal.BadVector vector.To) = ⊥
+HasNoBounds text default first second = IsRefusedFor text default ((vector.First, GivesTrits first) ∷ (vector.Second, GivesTrits second) ∷ [])
 
 -- the reason that tells a fault of the checker
 abbrev pub refusal_of : CheckFault → Refusal

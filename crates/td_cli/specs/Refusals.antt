@@ -10,7 +10,7 @@ use Rattle.td_certificate.specs.Kinds.{kind_number, kind_name}
 use Rattle.td_cli.specs.declared.refusal.VectorWord.{VectorWord}
 use Rattle.td_cli.specs.declared.refusal.VectorWord.TheVariants as vector
 use Rattle.td_cli.specs.declared.refusal.Refusal.{Refusal}
-use Rattle.td_cli.specs.declared.refusal.Refusal.TheVariants.{OutOfMemory, Netlist, Loop, Certificate, BadVector}
+use Rattle.td_cli.specs.declared.refusal.Refusal.TheVariants.{OutOfMemory, Unreadable, Netlist, Loop, Certificate, BadVector}
 use Rattle.td_cli.specs.Reports.{newline}
 
 abbrev pub vector_word : VectorWord → List ℕ
@@ -54,7 +54,12 @@ certificate_fault_text fault =
 -- the line that tells why a command wasn't carried out
 abbrev pub refusal_text : Refusal → List ℕ
 refusal_text OutOfMemory = codes "tdelay: out of memory" ++ newline
+refusal_text (Unreadable name) = codes "tdelay: cannot read " ++ name.now ++ newline
 refusal_text (Netlist fault) = codes "tdelay: netlist fault " ++ fault_text fault ++ newline
 refusal_text (Loop name) = codes "tdelay: circuit fault 1 Loop on " ++ printed (name_of name) ++ newline
 refusal_text (Certificate fault) = codes "tdelay: certificate fault " ++ certificate_fault_text fault ++ newline
 refusal_text (BadVector word) = codes "tdelay: bad vector " ++ vector_word word ++ newline
+
+-- the line that tells a file that can't be written
+abbrev pub unwritten_text : List ℕ → List ℕ
+unwritten_text name = codes "tdelay: cannot write " ++ name ++ newline

@@ -1,6 +1,8 @@
 //! Named files: the real ones, and what a command needs of them.
 
+ghost use Rattle.std.specs.Prelude.{◌≡◌, IfOk, IfSome, OnOk};
 ghost use Rattle.std.specs.IoError.{error_kind};
+ghost use Rattle.std.specs.Io.KnownBytes.{IsAtEnd};
 ghost use Rattle.td_cli.specs.Devices.{IsWriteFault};
 
 use crate::writer::WriterSink;
@@ -33,8 +35,8 @@ impl From<io::Error> for ReadFault {
 
 /// Files by name.
 pub trait Files {
-    ghost use Rattle.std.specs.Prelude.{◌≡◌, ℕ, List, Option, IfOk, IfErr, OnOk, OnErr};
-    ghost use Rattle.td_cli.specs.Written.{WrittenFile, KeepsFile, IsFresh};
+    ghost use Rattle.std.specs.Prelude.{◌≡◌, ℕ, List, [], ◌∷◌, ◌++◌, IfOk, IfErr, OnOk};
+    ghost use Rattle.td_cli.specs.Files.{FileStep, Made, Ended};
     ghost use Rattle.td_cli.specs.declared.files.ReadFault.TheVariants as Fault;
     ghost use Rattle.td_certificate.specs.declared.fault.WriteFault.TheVariants as Unwritten;
 
@@ -50,8 +52,8 @@ pub trait Files {
     /// A device may fail to make or to end a file of this name.
     ghost breaks: { Self → List ℕ → Type 0 };
 
-    /// The files that were written so far, in order, where that is known.
-    ghost kept: { Self → Option (List WrittenFile) };
+    /// Between the two moments these steps were taken, in order, and no others.
+    ghost did: { Self → Self → List FileStep → Type 0 };
 
     /// All bytes of a file. The name `stdin` is standard input.
     fn read(&mut self, alloc: Global, name: &str) -> Result<Vec<u8>, ReadFault>
@@ -59,17 +61,26 @@ pub trait Files {
         ensures fault { IfErr result (λ fault. fault ≡ Fault.Device → fails self.old name.now) }
         ensures stays { self.new ≡ self.old };
 
-    /// A writer of a new file of this name.
+    /// Makes a new file of this name, which empties one that is there, and answers its writer.
     fn create(&mut self, alloc: Global, name: &str) -> Result<Self::Writer, WriteFault>
-        ensures fresh { IfOk result (λ writer. IsFresh (kept self.old) (Self.Writer.output writer)) }
+        ensures made { IfOk result (λ writer. did self.old self.new (Made name.now (Self.Writer.output writer) ∷ [])) }
+        ensures devices { (other : List ℕ) → breaks self.new other → breaks self.old other }
         ensures fault { IfErr result (λ fault. fault ≡ Unwritten.Device → breaks self.old name.now) }
-        ensures stays { self.new ≡ self.old };
+        ensures stays { IfErr result (λ _. self.new ≡ self.old) };
 
-    /// Ends the writing of a file, also where its writer failed: what its writer took is the file of this name.
-    fn close(&mut self, alloc: Global, name: &str, writer: Self::Writer) -> Result<(), WriteFault>
-        ensures keeps { OnOk result (KeepsFile (kept self.old) (kept self.new) name.now (Self.Writer.output writer)) }
-        ensures fault { IfErr result (λ fault. fault ≡ Unwritten.Device → breaks self.old name.now) }
-        ensures stays { OnErr result (kept self.new ≡ kept self.old) };
+    /// Ends the writing of a file, also where its writer failed: what its writer took is the file of this name. Where it
+    /// can't be ended, the writer comes back.
+    fn close(&mut self, alloc: Global, name: &str, writer: Self::Writer) -> Result<(), (Self::Writer, WriteFault)>
+        ensures ended { OnOk result (did self.old self.new (Ended name.now (Self.Writer.output writer) ∷ [])) }
+        ensures back { IfErr result (λ refused. refused.0 ≡ writer) }
+        ensures fault { IfErr result (λ refused. refused.1 ≡ Unwritten.Device → breaks self.old name.now) }
+        ensures stays { IfErr result (λ _. self.new ≡ self.old) };
+
+    /// No step was taken where nothing was done.
+    ghost did_nothing: { (files : Self) → did files files [] };
+
+    /// Steps taken one after another were taken in all.
+    ghost did_both: { (first then last : Self) (steps more : List FileStep) → did first then steps → did then last more → did first last (steps ++ more) };
 }
 
 /// The files of the system.
@@ -89,6 +100,18 @@ impl<'r, R: rt::Files + Input + AllocGlobal> RealFiles<'r, R> {
     }
 }
 
+/// All bytes that a reader has left.
+fn read_all<R: Read>(alloc: Global, reader: &mut R) -> Result<Vec<u8>, ReadFault>
+    ensures all { IfOk result (λ bytes. IfSome (R.remaining reader.old) (λ left. bytes.items ≡ left)) }
+    ensures end { OnOk result (IsAtEnd (R.remaining reader.new)) }
+{
+    let mut bytes = Vec::new(alloc);
+    match reader.read_to_end(&mut bytes) {
+        Ok(_) => Ok(bytes),
+        Err(error) => Err(ReadFault::from(error)),
+    }
+}
+
 fn write_fault_of(error: io::Error) -> WriteFault
     ensures { IsWriteFault (error_kind error) result }
 {
@@ -99,31 +122,29 @@ fn write_fault_of(error: io::Error) -> WriteFault
 }
 
 impl<'r, R: rt::Files + Input + AllocGlobal> Files for RealFiles<'r, R> {
-    ghost use Rattle.std.specs.Prelude.{⊤, None};
+    ghost use Rattle.std.specs.Prelude.{⊤};
 
-    /// Of the system's files nothing is known.
+    /// Of the system's files nothing is known: what a name holds, which devices fail, and what was done to them.
     ghost holds = { λ _ _ _. ⊤ };
 
     ghost fails = { λ _ _. ⊤ };
 
     ghost breaks = { λ _ _. ⊤ };
 
-    ghost kept = { λ _. None };
+    ghost did = { λ _ _ _. ⊤ };
+
+    ghost did_nothing = { λ _. tt };
+
+    ghost did_both = { λ _ _ _ _ _ _ _. tt };
 
     type Writer = WriterSink<R::File>;
 
     fn read(&mut self, alloc: Global, name: &str) -> Result<Vec<u8>, ReadFault> {
-        let mut bytes = Vec::new(alloc);
-        let read = if name == "stdin" {
-            self.rt.reader().read_to_end(&mut bytes)
-        } else {
-            match fs::open(self.rt, name) {
-                Ok(mut file) => file.read_to_end(&mut bytes),
-                Err(error) => return Err(ReadFault::from(error)),
-            }
-        };
-        match read {
-            Ok(_) => Ok(bytes),
+        if name == "stdin" {
+            return read_all(alloc, &mut self.rt.reader());
+        }
+        match fs::open(self.rt, name) {
+            Ok(mut file) => read_all(alloc, &mut file),
             Err(error) => Err(ReadFault::from(error)),
         }
     }
@@ -140,7 +161,7 @@ impl<'r, R: rt::Files + Input + AllocGlobal> Files for RealFiles<'r, R> {
         _alloc: Global,
         _name: &str,
         _writer: Self::Writer,
-    ) -> Result<(), WriteFault> {
+    ) -> Result<(), (Self::Writer, WriteFault)> {
         Ok(())
     }
 }

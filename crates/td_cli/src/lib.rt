@@ -21,7 +21,7 @@ pub use bounding::bounds;
 pub use checking::{Checked, verdict_on};
 pub use command::{BoundRequest, CheckRequest, Request, SimRequest, WorstRequest, parse};
 pub use files::{Files, ReadFault, RealFiles};
-pub use memory_files::{MemoryFile, MemoryFiles};
+pub use memory_files::{MemoryFile, MemoryFiles, MemoryStep};
 pub use program::{
     carry_out, carry_out_bound, carry_out_check, carry_out_sim, carry_out_worst, refuse_words, run,
 };

@@ -1,7 +1,7 @@
 //! Files in memory, for tests.
 
-ghost use Rattle.std.specs.Prelude.{◌≡◌, [], IfOk, IfSome, IfNone};
-ghost use Rattle.td_cli.specs.MemoryFiles.{HasFile, IsMissing};
+ghost use Rattle.std.specs.Prelude.{◌≡◌, [], option_map, IfOk, IfSome, IfNone};
+ghost use Rattle.td_cli.specs.MemoryFiles.{HasFile, IsMissing, made_name, ended_file};
 
 use crate::files::{Files, ReadFault};
 use std::alloc::{AllocError, Global};
@@ -31,6 +31,37 @@ impl MemoryFile {
     }
 }
 
+/// What was done to a file.
+#[derive(Drop)]
+pub enum MemoryStep {
+    /// A file of this name was made.
+    Made(Vec<u8>),
+    /// The writing of a file ended.
+    Ended(MemoryFile),
+}
+
+impl MemoryStep {
+    /// The name of a file that was made.
+    pub fn made(&self) -> Option<&[u8]>
+        ensures { option_map (λ name. name.now) result ≡ made_name self.now }
+    {
+        match self {
+            MemoryStep::Made(name) => Some(name),
+            MemoryStep::Ended(_) => None,
+        }
+    }
+
+    /// The file whose writing ended.
+    pub fn ended(&self) -> Option<&MemoryFile>
+        ensures { option_map (λ file. file.now) result ≡ ended_file self.now }
+    {
+        match self {
+            MemoryStep::Made(_) => None,
+            MemoryStep::Ended(file) => Some(file),
+        }
+    }
+}
+
 /// Files in memory. Reading one fails after a stated number of bytes, and so does writing one.
 #[derive(Drop)]
 pub struct MemoryFiles<'a> {
@@ -39,7 +70,7 @@ pub struct MemoryFiles<'a> {
     readable: usize,
     /// How many bytes a writer takes before it fails.
     writable: usize,
-    written: Vec<MemoryFile>,
+    steps: Vec<MemoryStep>,
 }
 
 impl<'a> MemoryFiles<'a> {
@@ -48,13 +79,13 @@ impl<'a> MemoryFiles<'a> {
         ensures files { result.files.now ≡ files.now }
         ensures readable { result.readable ≡ 18446744073709551615 }
         ensures writable { result.writable ≡ 1048576 }
-        ensures written { result.written.items ≡ [] }
+        ensures steps { result.steps.items ≡ [] }
     {
         MemoryFiles {
             files,
             readable: usize::MAX,
             writable: 1 << 20,
-            written: Vec::new(alloc),
+            steps: Vec::new(alloc),
         }
     }
 
@@ -74,11 +105,11 @@ impl<'a> MemoryFiles<'a> {
         self
     }
 
-    /// The files that were written, in order.
-    pub fn written(&self) -> &[MemoryFile]
-        ensures { result.now ≡ self.now.written.items }
+    /// What was done to files, in order.
+    pub fn steps(&self) -> &[MemoryStep]
+        ensures { result.now ≡ self.now.steps.items }
     {
-        &self.written
+        &self.steps
     }
 }
 
@@ -104,8 +135,8 @@ fn found<'a>(files: &[(&'a str, &'a [u8])], name: &str) -> Option<&'a [u8]>
 }
 
 impl<'a> Files for MemoryFiles<'a> {
-    ghost use Rattle.std.specs.Prelude.{Some, map};
-    ghost use Rattle.td_cli.specs.MemoryFiles.{HasFile, FailsOn, written_file};
+    ghost use Rattle.std.specs.Prelude.{◌≡◌, ◌++◌, map};
+    ghost use Rattle.td_cli.specs.MemoryFiles.{HasFile, FailsOn, IsAfter, after_nothing, after_both};
 
     /// A file of this name has these bytes.
     ghost holds = { λ files name bytes. HasFile files.files.now name bytes };
@@ -116,7 +147,11 @@ impl<'a> Files for MemoryFiles<'a> {
     /// Only its writer fails, and want of memory.
     ghost breaks = { λ _ _. ⊥ };
 
-    ghost kept = { λ files. Some (map written_file files.written.items) };
+    ghost did = { λ old new steps. IsAfter old.steps.items new.steps.items steps };
+
+    ghost did_nothing = { λ files. after_nothing files.steps.items };
+
+    ghost did_both = { λ first then last steps more. after_both first.steps.items then.steps.items last.steps.items steps more };
 
     type Writer = MemorySink;
 
@@ -129,20 +164,28 @@ impl<'a> Files for MemoryFiles<'a> {
         }
     }
 
-    fn create(&mut self, alloc: Global, _name: &str) -> Result<MemorySink, WriteFault> {
-        match MemorySink::new(alloc, self.writable, usize::MAX) {
-            Ok(sink) => Ok(sink),
-            Err(_) => Err(WriteFault::OutOfMemory),
-        }
+    fn create(&mut self, alloc: Global, name: &str) -> Result<MemorySink, WriteFault> {
+        let sink = MemorySink::new(alloc, self.writable, usize::MAX)?;
+        let name = copied(alloc, name.as_bytes())?;
+        self.steps.reserve(1)?;
+        self.steps.push_reserved(MemoryStep::Made(name));
+        Ok(sink)
     }
 
-    fn close(&mut self, alloc: Global, name: &str, writer: MemorySink) -> Result<(), WriteFault> {
+    fn close(
+        &mut self,
+        alloc: Global,
+        name: &str,
+        writer: MemorySink,
+    ) -> Result<(), (MemorySink, WriteFault)> {
         let Ok(name) = copied(alloc, name.as_bytes()) else {
-            return Err(WriteFault::OutOfMemory);
+            return Err((writer, WriteFault::OutOfMemory));
         };
-        match self.written.push(MemoryFile { name, sink: writer }) {
-            Ok(()) => Ok(()),
-            Err(_) => Err(WriteFault::OutOfMemory),
+        if self.steps.reserve(1).is_err() {
+            return Err((writer, WriteFault::OutOfMemory));
         }
+        let file = MemoryFile { name, sink: writer };
+        self.steps.push_reserved(MemoryStep::Ended(file));
+        Ok(())
     }
 }

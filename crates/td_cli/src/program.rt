@@ -1,18 +1,20 @@
 //! The program.
 
-ghost use Rattle.std.specs.Prelude.{◌≡◌, ◌≤◌, ◌⊎◌, ◌++◌, map, option_map, OnOk, IfErr};
+ghost use Rattle.std.specs.Prelude.{◌≡◌, ◌≤◌, ◌⊎◌, ◌++◌, [], map, OnOk, IfErr};
 ghost use Rattle.clap.specs.Words.{kind_of};
 ghost use Rattle.clap.specs.declared.error.kind.ErrorKind.TheVariants as Kind;
-ghost use Rattle.td_gates.specs.Output.{Output};
-ghost use Rattle.td_cli.specs.Commands.{Tells, IsTold, SimEnds, BoundEnds, unread_text, IsUnread, IsOutOfMemory};
-ghost use Rattle.td_cli.specs.declared.files.ReadFault.TheVariants as Fault;
 ghost use Rattle.td_gates.specs.Delays.{IsInRange};
+ghost use Rattle.td_certificate.specs.Spelling.{HasSpelling, spelling};
 ghost use Rattle.td_cli.specs.CommandLine.{delays, IsCarriedOut};
-ghost use Rattle.td_cli.specs.Commands.{CheckEnds, WorstOf, EndsOnFile, unwritten_text, IsNotWritten, disk_of, RequestEnds, IsShown, TellsText, ProgramEnds, RefusesWords};
-ghost use Rattle.td_cli.specs.Written.{IsWritten, IsLeft};
-ghost use Rattle.td_cli.specs.declared.status.Status.TheVariants as Ended;
-ghost use Rattle.td_certificate.specs.Spelling.{HasSpelling};
+ghost use Rattle.td_cli.specs.Ends.{Ends, Tells, TellsReason, TellsUnread, TellsUnwritten, Says, streams};
+ghost use Rattle.td_cli.specs.Files.{IsWritten, IsLeft, Takes};
+ghost use Rattle.td_cli.specs.Outcomes.{HasNoReport, HasNoBounds, HasNoCircuit, HasNoVerdict};
+ghost use Rattle.td_cli.specs.Refusals.{unwritten_text};
+ghost use Rattle.td_cli.specs.Requests.{disk_of, words_of, IsSimProduct, IsBoundProduct, IsCheckProduct, IsWorstProduct, Reads, HoldsOnFile, RequestEnds, IsOutOfMemory, IsShown, TellsText, ProgramEnds, RefusesWords};
 ghost use Rattle.td_cli.specs.declared.command.Request.TheVariants as Asked;
+ghost use Rattle.td_cli.specs.declared.refusal.Refusal.TheVariants as Reason;
+ghost use Rattle.td_cli.specs.declared.files.ReadFault.TheVariants as Fault;
+ghost use Rattle.td_cli.specs.declared.status.Status.TheVariants as Ended;
 
 use crate::bounding::bounds;
 use crate::checking::verdict_on;
@@ -39,8 +41,8 @@ pub fn run<S: AsStr, F: Files, O: Sink, E: Sink>(
     out: &mut O,
     err: &mut E,
 ) -> Status
-    ensures { ProgramEnds (disk_of (F.holds files.old) (F.fails files.old) (F.breaks files.old) (F.kept files.old) (F.kept files.new)) (map S.text words.now) result
-        (O.output out.old) (O.output out.new) (E.output err.old) (E.output err.new) }
+    ensures { Takes (F.did files.old files.new) (λ steps. ProgramEnds (disk_of (F.holds files.old) (F.fails files.old) (F.breaks files.old)) (map S.text words.now) steps result
+        (streams (O.output out.old) (E.output err.old)) (streams (O.output out.new) (E.output err.new))) }
 {
     match parse(alloc, words) {
         Ok(request) => carry_out(alloc, files, &request, out, err),
@@ -68,8 +70,8 @@ pub fn carry_out<F: Files, O: Sink, E: Sink>(
     err: &mut E,
 ) -> Status
     requires { IsCarriedOut request.now }
-    ensures { RequestEnds (disk_of (F.holds files.old) (F.fails files.old) (F.breaks files.old) (F.kept files.old) (F.kept files.new)) request.now result
-        (O.output out.old) (O.output out.new) (E.output err.old) (E.output err.new) }
+    ensures { Takes (F.did files.old files.new) (λ steps. RequestEnds (disk_of (F.holds files.old) (F.fails files.old) (F.breaks files.old)) request.now steps result
+        (streams (O.output out.old) (E.output err.old)) (streams (O.output out.new) (E.output err.new))) }
 {
     match request {
         Request::Sim(request) => run_sim(alloc, files, *request, out, err),
@@ -88,8 +90,8 @@ fn run_sim<F: Files, O: Sink, E: Sink>(
     err: &mut E,
 ) -> Status
     requires { IsInRange (delays request.rise request.fall) }
-    ensures { RequestEnds (disk_of (F.holds files.old) (F.fails files.old) (F.breaks files.old) (F.kept files.old) (F.kept files.new)) (Asked.Sim request.entry) result
-        (O.output out.old) (O.output out.new) (E.output err.old) (E.output err.new) }
+    ensures { Takes (F.did files.old files.new) (λ steps. RequestEnds (disk_of (F.holds files.old) (F.fails files.old) (F.breaks files.old)) (Asked.Sim request.entry) steps result
+        (streams (O.output out.old) (E.output err.old)) (streams (O.output out.new) (E.output err.new))) }
 {
     let Some(default) = Delay::new(request.rise, request.fall) else {
         return Status::BadCommand;
@@ -109,8 +111,8 @@ fn run_bound<F: Files, O: Sink, E: Sink>(
     err: &mut E,
 ) -> Status
     requires { IsInRange (delays request.rise request.fall) }
-    ensures { RequestEnds (disk_of (F.holds files.old) (F.fails files.old) (F.breaks files.old) (F.kept files.old) (F.kept files.new)) (Asked.Bound request.entry) result
-        (O.output out.old) (O.output out.new) (E.output err.old) (E.output err.new) }
+    ensures { Takes (F.did files.old files.new) (λ steps. RequestEnds (disk_of (F.holds files.old) (F.fails files.old) (F.breaks files.old)) (Asked.Bound request.entry) steps result
+        (streams (O.output out.old) (E.output err.old)) (streams (O.output out.new) (E.output err.new))) }
 {
     let Some(default) = Delay::new(request.rise, request.fall) else {
         return Status::BadCommand;
@@ -139,8 +141,8 @@ fn run_worst<F: Files, O: Sink, E: Sink>(
 ) -> Status
     requires range { IsInRange (delays request.rise request.fall) }
     requires budget { request.budget ≤ 10000000 }
-    ensures { RequestEnds (disk_of (F.holds files.old) (F.fails files.old) (F.breaks files.old) (F.kept files.old) (F.kept files.new)) (Asked.Worst request.entry) result
-        (O.output out.old) (O.output out.new) (E.output err.old) (E.output err.new) }
+    ensures { Takes (F.did files.old files.new) (λ steps. RequestEnds (disk_of (F.holds files.old) (F.fails files.old) (F.breaks files.old)) (Asked.Worst request.entry) steps result
+        (streams (O.output out.old) (E.output err.old)) (streams (O.output out.new) (E.output err.new))) }
 {
     let Some(default) = Delay::new(request.rise, request.fall) else {
         return Status::BadCommand;
@@ -172,8 +174,8 @@ fn run_check<F: Files, O: Sink, E: Sink>(
     err: &mut E,
 ) -> Status
     requires { IsInRange (delays request.rise request.fall) }
-    ensures { RequestEnds (disk_of (F.holds files.old) (F.fails files.old) (F.breaks files.old) (F.kept files.old) (F.kept files.new)) (Asked.Check request.entry) result
-        (O.output out.old) (O.output out.new) (E.output err.old) (E.output err.new) }
+    ensures { Takes (F.did files.old files.new) (λ steps. RequestEnds (disk_of (F.holds files.old) (F.fails files.old) (F.breaks files.old)) (Asked.Check request.entry) steps result
+        (streams (O.output out.old) (E.output err.old)) (streams (O.output out.new) (E.output err.new))) }
 {
     let Some(default) = Delay::new(request.rise, request.fall) else {
         return Status::BadCommand;
@@ -194,11 +196,10 @@ fn check_file<F: Files, O: Sink, E: Sink>(
     out: &mut O,
     err: &mut E,
 ) -> Status
-    ensures ends { EndsOnFile (disk_of (F.holds files.old) (F.fails files.old) (F.breaks files.old) (F.kept files.old) (F.kept files.new)) name.now
-        (λ certificate. CheckEnds result text.now default certificate
-        (O.output out.old) (O.output out.new) (E.output err.old) (E.output err.new)) result
-        (O.output out.old) (O.output out.new) (E.output err.old) (E.output err.new) }
-    ensures kept { F.kept files.new ≡ F.kept files.old }
+    ensures ends { Ends (λ product. Reads (disk_of (F.holds files.old) (F.fails files.old) (F.breaks files.old)) name.now (λ certificate. IsCheckProduct text.now default certificate product))
+        (HoldsOnFile (disk_of (F.holds files.old) (F.fails files.old) (F.breaks files.old)) name.now (HasNoVerdict text.now default)) (λ _. ⊥) [] result
+        (streams (O.output out.old) (E.output err.old)) (streams (O.output out.new) (E.output err.new)) }
+    ensures stays { files.new ≡ files.old }
 {
     match files.read(alloc, name) {
         Ok(certificate) => carry_out_check(alloc, text, default, &certificate, out, err),
@@ -208,28 +209,12 @@ fn check_file<F: Files, O: Sink, E: Sink>(
 
 /// Tells that a file can't be read, or want of memory.
 fn tell_unread<E: Sink>(alloc: Global, err: &mut E, file: &str, fault: ReadFault) -> Status
-    ensures { (output : Output)
-        → ((fault ≡ Fault.Device) × IsUnread file.now result output output (E.output err.old) (E.output err.new))
-        ⊎ IsOutOfMemory result output output (E.output err.old) (E.output err.new) }
+    ensures { TellsUnread file.entry fault result (E.output err.old) (E.output err.new) }
 {
-    let mut text = Text::new(alloc);
-    let told = match fault {
-        ReadFault::OutOfMemory => Err(AllocError),
-        ReadFault::Device => unread_line(&mut text, file),
-    };
-    match told {
-        Ok(()) => tell(err, text.bytes(), Status::Device),
-        Err(_) => tell(err, b"tdelay: out of memory\n", Status::Device),
+    match fault {
+        ReadFault::OutOfMemory => tell_refusal(alloc, err, &Refusal::OutOfMemory),
+        ReadFault::Device => tell_refusal(alloc, err, &Refusal::Unreadable(file)),
     }
-}
-
-/// Appends the line that tells a file that can't be read.
-fn unread_line(text: &mut Text, file: &str) -> Result<(), AllocError>
-    ensures { OnOk result (text.new ≡ text.old ++ unread_text file.now) }
-{
-    text.push(b"tdelay: cannot read ")?;
-    text.word(file)?;
-    text.push(b"\n")
 }
 
 /// Carries out `sim` on bytes that were read: the report goes to `out`, why there is none to `err`.
@@ -242,14 +227,11 @@ pub fn carry_out_sim<O: Sink, E: Sink>(
     out: &mut O,
     err: &mut E,
 ) -> Status
-    ensures { SimEnds result text.now default from.now to.now
-        (O.output out.old) (O.output out.new) (E.output err.old) (E.output err.new) }
+    ensures { Ends (IsSimProduct text.now default from.now to.now) (HasNoReport text.now default from.now to.now) (λ _. ⊥) [] result
+        (streams (O.output out.old) (E.output err.old)) (streams (O.output out.new) (E.output err.new)) }
 {
     match sim(alloc, text, default, from, to) {
-        Ok(report) => match out.write_all(report.bytes()) {
-            Ok(()) => Status::Done,
-            Err(_) => tell(err, b"tdelay: cannot write stdout\n", Status::Device),
-        },
+        Ok(report) => say(report.bytes(), Status::Done, out, err),
         Err(refusal) => tell_refusal(alloc, err, &refusal),
     }
 }
@@ -264,14 +246,12 @@ pub fn carry_out_bound<O: Sink, E: Sink>(
     out: &mut O,
     err: &mut E,
 ) -> Status
-    ensures { BoundEnds result text.now default (option_map (λ word. word.now) first.entry) (option_map (λ word. word.now) second.entry)
-        (O.output out.old) (O.output out.new) (E.output err.old) (E.output err.new) }
+    ensures { Ends (IsBoundProduct text.now default (words_of first.entry) (words_of second.entry))
+        (HasNoBounds text.now default (words_of first.entry) (words_of second.entry)) (λ _. ⊥) [] result
+        (streams (O.output out.old) (E.output err.old)) (streams (O.output out.new) (E.output err.new)) }
 {
     match bounds(alloc, text, default, first, second) {
-        Ok(report) => match out.write_all(report.bytes()) {
-            Ok(()) => Status::Done,
-            Err(_) => tell(err, b"tdelay: cannot write stdout\n", Status::Device),
-        },
+        Ok(report) => say(report.bytes(), Status::Done, out, err),
         Err(refusal) => tell_refusal(alloc, err, &refusal),
     }
 }
@@ -285,14 +265,11 @@ pub fn carry_out_check<O: Sink, E: Sink>(
     out: &mut O,
     err: &mut E,
 ) -> Status
-    ensures { CheckEnds result text.now default certificate.now
-        (O.output out.old) (O.output out.new) (E.output err.old) (E.output err.new) }
+    ensures { Ends (IsCheckProduct text.now default certificate.now) (HasNoVerdict text.now default certificate.now) (λ _. ⊥) [] result
+        (streams (O.output out.old) (E.output err.old)) (streams (O.output out.new) (E.output err.new)) }
 {
     match verdict_on(alloc, text, default, certificate) {
-        Ok(checked) => match out.write_all(checked.report.bytes()) {
-            Ok(()) => checked.ending,
-            Err(_) => tell(err, b"tdelay: cannot write stdout\n", Status::Device),
-        },
+        Ok(checked) => say(checked.report.bytes(), checked.ending, out, err),
         Err(refusal) => tell_refusal(alloc, err, &refusal),
     }
 }
@@ -310,9 +287,9 @@ pub fn carry_out_worst<F: Files, O: Sink, E: Sink>(
     err: &mut E,
 ) -> Status
     requires { budget ≤ 10000000 }
-    ensures { WorstOf (disk_of (F.holds files.old) (F.fails files.old) (F.breaks files.old) (F.kept files.old) (F.kept files.new)) text.now default budget
-        (option_map (λ word. word.now) name.entry) result
-        (O.output out.old) (O.output out.new) (E.output err.old) (E.output err.new) }
+    ensures { Takes (F.did files.old files.new) (λ steps.
+        Ends (IsWorstProduct text.now default budget (words_of name.entry)) (HasNoCircuit text.now default) (F.breaks files.old) steps result
+        (streams (O.output out.old) (E.output err.old)) (streams (O.output out.new) (E.output err.new))) }
 {
     let found = match worst(alloc, text, default, budget) {
         Ok(found) => found,
@@ -341,19 +318,32 @@ fn keep<F: Files>(
     certificate: &Certificate,
 ) -> Result<(), WriteFault>
     requires { HasSpelling certificate.now }
-    ensures written { OnOk result (IsWritten (F.kept files.old) (F.kept files.new) name.now certificate.now) }
-    ensures left { IfErr result (IsLeft (F.breaks files.old name.now) (F.kept files.old) (F.kept files.new) name.now certificate.now) }
+    ensures written { OnOk result (Takes (F.did files.old files.new) (IsWritten (record { name = name.now; text = spelling certificate.now }))) }
+    ensures left { IfErr result (λ fault. Takes (F.did files.old files.new)
+        (IsLeft (F.breaks files.old name.now) (record { name = name.now; text = spelling certificate.now }) fault)) }
 {
     let mut writer = files.create(alloc, name)?;
     let written = write(alloc, &mut writer, certificate);
-    files.close(alloc, name, writer)?;
-    written
+    match files.close(alloc, name, writer) {
+        Ok(()) => written,
+        Err((_writer, fault)) => Err(fault),
+    }
+}
+
+/// Writes a report to standard output, and tells where that fails.
+fn say<O: Sink, E: Sink>(report: &[u8], ending: Status, out: &mut O, err: &mut E) -> Status
+    ensures { Says report.now ending result (streams (O.output out.old) (E.output err.old)) (streams (O.output out.new) (E.output err.new)) }
+{
+    match out.write_all(report) {
+        Ok(()) => ending,
+        Err(_) => tell(err, b"tdelay: cannot write stdout\n", Status::Device),
+    }
 }
 
 /// Tells that a file can't be written, or want of memory.
 fn tell_unwritten<E: Sink>(alloc: Global, err: &mut E, file: &str, fault: WriteFault) -> Status
     ensures ends { result ≡ Ended.Device }
-    ensures told { IsNotWritten file.now fault (E.output err.old) (E.output err.new) }
+    ensures told { TellsUnwritten file.now fault (E.output err.old) (E.output err.new) }
 {
     let mut text = Text::new(alloc);
     let told = match fault {
@@ -388,7 +378,7 @@ fn tell<E: Sink>(err: &mut E, line: &[u8], status: Status) -> Status
 
 /// Tells why a command was not carried out. Want of memory may be told in place of any reason.
 fn tell_refusal<E: Sink>(alloc: Global, err: &mut E, refusal: &Refusal<'_>) -> Status
-    ensures { IsTold refusal.now result (E.output err.old) (E.output err.new) }
+    ensures { TellsReason refusal.now result (E.output err.old) (E.output err.new) }
 {
     let mut text = Text::new(alloc);
     match refusal.tell(&mut text) {
@@ -400,9 +390,9 @@ fn tell_refusal<E: Sink>(alloc: Global, err: &mut E, refusal: &Refusal<'_>) -> S
 /// Tells a fault of the command line on standard error, help on standard output.
 fn tell_error<O: Sink, E: Sink>(alloc: Global, error: Error, out: &mut O, err: &mut E) -> Status
     ensures memory { kind_of error ≡ Kind.OutOfMemory → IsOutOfMemory result
-        (O.output out.old) (O.output out.new) (E.output err.old) (E.output err.new) }
-    ensures told { IsOutOfMemory result (O.output out.old) (O.output out.new) (E.output err.old) (E.output err.new)
-        ⊎ TellsText (kind_of error) result (O.output out.old) (O.output out.new) (E.output err.old) (E.output err.new) }
+        (streams (O.output out.old) (E.output err.old)) (streams (O.output out.new) (E.output err.new)) }
+    ensures told { IsOutOfMemory result (streams (O.output out.old) (E.output err.old)) (streams (O.output out.new) (E.output err.new))
+        ⊎ TellsText (kind_of error) result (streams (O.output out.old) (E.output err.old)) (streams (O.output out.new) (E.output err.new)) }
 {
     if error.kind() == ErrorKind::OutOfMemory {
         return tell(err, b"tdelay: out of memory\n", Status::Device);
@@ -421,7 +411,7 @@ fn tell_error<O: Sink, E: Sink>(alloc: Global, error: Error, out: &mut O, err: &
 /// Help on standard output.
 fn tell_help<O: Sink, E: Sink>(error: &Error, out: &mut O, err: &mut E, text: &[u8]) -> Status
     requires { IsShown (kind_of error.now) }
-    ensures { TellsText (kind_of error.now) result (O.output out.old) (O.output out.new) (E.output err.old) (E.output err.new) }
+    ensures { TellsText (kind_of error.now) result (streams (O.output out.old) (E.output err.old)) (streams (O.output out.new) (E.output err.new)) }
 {
     match out.write_all(text) {
         Ok(()) => Status::Done,

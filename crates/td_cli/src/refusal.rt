@@ -3,7 +3,7 @@
 ghost use Rattle.std.specs.Prelude.{◌≡◌, ◌++◌, OnOk};
 ghost use Rattle.td_cli.specs.Refusals.{vector_word, number_and_name, fault_text, certificate_fault_text, refusal_text};
 ghost use Rattle.td_netlist.specs.Views.{name_of};
-ghost use Rattle.td_cli.specs.Commands.{status_of};
+ghost use Rattle.td_cli.specs.Ends.{status_of};
 
 use crate::status::Status;
 use crate::text::Text;
@@ -24,6 +24,8 @@ pub enum VectorWord {
 #[derive(Debug, Drop)]
 pub enum Refusal<'a> {
     OutOfMemory,
+    /// The file of this name can't be read.
+    Unreadable(&'a str),
     /// The netlist's text was refused.
     Netlist(Fault<'a>),
     /// The netlist has a loop, on which this net lies.
@@ -52,6 +54,7 @@ impl<'a> Refusal<'a> {
     {
         match self {
             Refusal::OutOfMemory => Status::Device,
+            Refusal::Unreadable(_) => Status::Device,
             Refusal::Netlist(_) => Status::Refused,
             Refusal::Loop(_) => Status::Refused,
             Refusal::Certificate(_) => Status::Refused,
@@ -65,6 +68,10 @@ impl<'a> Refusal<'a> {
     {
         match self {
             Refusal::OutOfMemory => text.push(b"tdelay: out of memory")?,
+            Refusal::Unreadable(name) => {
+                text.push(b"tdelay: cannot read ")?;
+                text.word(*name)?;
+            }
             Refusal::Netlist(fault) => {
                 text.push(b"tdelay: netlist fault ")?;
                 tell_fault(text, *fault)?;

@@ -3,7 +3,7 @@
 use std::io::Write;
 use td_gates::{DeviceFault, Sink};
 
-/// A sink over a writer of which nothing is known but how many bytes it took.
+/// A sink over a writer. What went out is what the writer holds, where that is known.
 #[derive(Drop)]
 pub struct WriterSink<W> {
     writer: W,
@@ -26,9 +26,7 @@ impl<W: Write> WriterSink<W> {
 }
 
 impl<W: Write> Sink for WriterSink<W> {
-    ghost use Rattle.std.specs.Prelude.{None};
-
-    ghost output = { λ sink. record { sent = None; failures = sink.failures } };
+    ghost output = { λ sink. record { sent = W.contents sink.writer; failures = sink.failures } };
 
     fn write(&mut self, bytes: &[u8]) -> Result<usize, DeviceFault> {
         match self.writer.write(bytes) {

@@ -4,7 +4,7 @@ use crate::runs::{Ended, FILES, INVERTER, LOST, ROOM, carried_out};
 use std::alloc::Global;
 use std::process::Abort;
 use std::test::*;
-use td_cli::MemoryFiles;
+use td_cli::{MemoryFile, MemoryFiles, MemoryStep};
 
 const INVERTER_CERTIFICATE: &[u8] = b"tdelay-cert 1\ncircuit 1 1\ntime 3\nfrom 0\nto 1\nb a 3\n";
 
@@ -14,6 +14,14 @@ const LOST_CERTIFICATE: &[u8] =
 /// Carries out a command over the circuits of the tests.
 fn run_words(alloc: Global, words: &[&str]) -> Result<Ended<'static>, Fail> {
     carried_out(alloc, words, MemoryFiles::new(alloc, &FILES), ROOM)
+}
+
+/// The file of this name, where it was made and ended and nothing else was done.
+fn one_file<'s>(steps: &'s [MemoryStep], name: &[u8]) -> Option<&'s MemoryFile> {
+    if steps.len() != 2 || steps[0].made()? != name {
+        return None;
+    }
+    steps[1].ended()
 }
 
 /// Exact answers, with a pair that has the time and the number of the tree's nodes.
@@ -87,7 +95,7 @@ fn short_searches(rt: HostRuntime) -> Result<(), Fail> {
         let ended = run_words(rt.alloc(), &words)?;
         assert_eq!(rt; ended.out.bytes(), *out);
         assert_eq!(rt; ended.status, *status);
-        assert_eq!(rt; ended.files.written().is_empty(), *status == 3);
+        assert_eq!(rt; ended.files.steps().is_empty(), *status == 3);
     }
     Ok(())
 }
@@ -123,7 +131,7 @@ fn written_certificates(rt: HostRuntime) -> Result<(), Fail> {
     for (file, netlist, certificate, accepted) in &cases {
         let ended = run_words(rt.alloc(), &["tdelay", "worst", *file, "--cert", "c"])?;
         assert_eq!(rt; ended.status, 0);
-        let written = ended.files.written().first().ok_or("a certificate")?;
+        let written = one_file(ended.files.steps(), b"c").ok_or("a certificate")?;
         assert_eq!(rt; written.name(), b"c".as_slice());
         assert_eq!(rt; written.bytes(), *certificate);
         checks(
@@ -151,7 +159,7 @@ fn failing_certificates(rt: HostRuntime) -> Result<(), Fail> {
         assert_eq!(rt; ended.out.bytes(), report.as_slice());
         assert_eq!(rt; ended.err.bytes(), b"tdelay: cannot write c\n".as_slice());
         assert_eq!(rt; ended.status, 5);
-        let left = ended.files.written().first().ok_or("a beginning")?;
+        let left = one_file(ended.files.steps(), b"c").ok_or("a beginning")?;
         assert_eq!(rt; left.bytes(), &INVERTER_CERTIFICATE[..room]);
     }
     // Where standard output fails, the certificate isn't begun.
@@ -162,7 +170,7 @@ fn failing_certificates(rt: HostRuntime) -> Result<(), Fail> {
             ended.err.bytes(),
             b"tdelay: cannot write stdout\n".as_slice()
         );
-        assert_eq!(rt; ended.files.written().is_empty(), true);
+        assert_eq!(rt; ended.files.steps().is_empty(), true);
         assert_eq!(rt; ended.status, 5);
     }
     Ok(())

@@ -1,0 +1,55 @@
+-- What is done to files, and the texts that are written to them.
+use Rattle.std.specs.Prelude.{◌≡◌, ◌⊎◌, ℕ, List, [], ◌∷◌, ◌++◌}
+use Rattle.td_gates.specs.Output.{Output, Sent, SentFront, Failed}
+use Rattle.td_certificate.specs.declared.fault.WriteFault.{WriteFault}
+use Rattle.td_certificate.specs.declared.fault.WriteFault.TheVariants as unwritten
+
+-- A file was made with a writer of its own, which empties the file that had its name. The writing of a file ended: it has what
+-- its writer took.
+pub data FileStep : Type 0 where
+  Made : (name : List ℕ) (begun : Output) → FileStep
+  Ended : (name : List ℕ) (output : Output) → FileStep
+
+-- a text, and the name of the file that it is for
+pub record FileText : Type 0 where
+  pub name : List ℕ
+  pub text : List ℕ
+
+-- the file was made and has its text
+pub record IsWritten (file : FileText) (steps : List FileStep) : Type 0 where
+  pub begun : Output
+  pub ended : Output
+  pub sent : Sent begun ended file.text
+  pub are : steps ≡ Made file.name begun ∷ Ended file.name ended ∷ []
+
+-- these files were written, one after another
+abbrev pub AreWritten : List FileText → List FileStep → Type 0
+AreWritten [] steps = steps ≡ []
+AreWritten (file ∷ files) steps =
+    (first rest : List FileStep) × (steps ≡ first ++ rest) × IsWritten file first × AreWritten files rest
+
+-- how much of its text a file has whose writer was told this fault: a beginning, behind which a failing writer failed
+abbrev pub HasBeginning : Output → Output → List ℕ → WriteFault → Type 0
+HasBeginning begun ended text unwritten.Device = Failed begun ended text
+HasBeginning begun ended text unwritten.OutOfMemory = SentFront begun ended text
+
+-- the file was made, and has a beginning of its text
+pub record IsBroken (file : FileText) (fault : WriteFault) (steps : List FileStep) : Type 0 where
+  pub begun : Output
+  pub ended : Output
+  pub has : HasBeginning begun ended file.text fault
+  pub are : steps ≡ Made file.name begun ∷ Ended file.name ended ∷ []
+
+-- a device is told as the fault only where one may fail to make or to end the file
+abbrev pub MayBreak : Type 0 → WriteFault → Type 0
+MayBreak breaks fault = fault ≡ unwritten.Device → breaks
+
+-- What is left of a file that was not written: it was not made, or it was made and its writing couldn't be ended, or it has a
+-- beginning of its text.
+abbrev pub IsLeft : Type 0 → FileText → WriteFault → List FileStep → Type 0
+IsLeft breaks file fault steps =
+    (MayBreak breaks fault × ((steps ≡ []) ⊎ ((begun : Output) × (steps ≡ Made file.name begun ∷ [])))) ⊎ IsBroken file fault steps
+
+-- some steps were taken, of which this holds
+abbrev pub Takes : (List FileStep → Type 0) → (List FileStep → Type 0) → Type 0
+Takes WereTaken Holds = (steps : List FileStep) × WereTaken steps × Holds steps

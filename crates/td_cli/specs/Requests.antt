@@ -1,0 +1,170 @@
+-- How each command and the program end.
+use Rattle.std.specs.Prelude.{◌≡◌, ℕ, List, [], ◌∷◌, ◌++◌, ◌⊎◌, Option, Some, None, option_map, codes}
+use Rattle.std.specs.Borrow.{Bor}
+use Rattle.clap.specs.Words.{IsAmong}
+use Rattle.clap.specs.declared.error.kind.ErrorKind.{ErrorKind}
+use Rattle.clap.specs.declared.error.kind.ErrorKind.TheVariants as kind
+use Rattle.td_gates.specs.declared.timing.Delay.{Delay}
+use Rattle.td_gates.specs.Output.{Output, Sent, Failed}
+use Rattle.td_certificate.specs.declared.certificate.Certificate.{Certificate}
+use Rattle.td_certificate.specs.Spelling.{spelling}
+use Rattle.td_cli.specs.declared.status.Status.{Status}
+use Rattle.td_cli.specs.declared.status.Status.TheVariants.{Done, BadCommand, Between, Device}
+use Rattle.td_cli.specs.declared.files.ReadFault.{ReadFault}
+use Rattle.td_cli.specs.declared.files.ReadFault.TheVariants as unread
+use Rattle.td_cli.specs.declared.refusal.Refusal.{Refusal}
+use Rattle.td_cli.specs.declared.refusal.Refusal.TheVariants as refusal
+use Rattle.td_cli.specs.declared.command.Request.{Request}
+use Rattle.td_cli.specs.declared.command.Request.TheVariants as request
+use Rattle.td_cli.specs.CommandLine.{delays, kinds_of, Asks}
+use Rattle.td_cli.specs.Reports.{newline, IsSimReport}
+use Rattle.td_cli.specs.BoundReports.{IsBoundReport}
+use Rattle.td_cli.specs.CheckReports.{IsCheckReport}
+use Rattle.td_cli.specs.WorstReports.{IsWorstReport}
+use Rattle.td_cli.specs.Refusals.{refusal_text, unwritten_text}
+use Rattle.td_cli.specs.Outcomes.{HasNoReport, HasNoBounds, HasNoCircuit, HasNoVerdict}
+use Rattle.td_cli.specs.Files.{FileStep, FileText}
+use Rattle.td_cli.specs.Ends.{Product, IsReportOnly, Streams, Tells, Ends}
+
+-- ---- the commands, on bytes that were read
+
+-- what `sim` says
+abbrev pub IsSimProduct : List ℕ → Delay → List ℕ → List ℕ → Product → Type 0
+IsSimProduct text default from to = IsReportOnly (IsSimReport text default from to) Done
+
+-- what `bound` says
+abbrev pub IsBoundProduct : List ℕ → Delay → Option (List ℕ) → Option (List ℕ) → Product → Type 0
+IsBoundProduct text default first second = IsReportOnly (IsBoundReport text default first second) Done
+
+-- what `check` says
+abbrev pub IsCheckProduct : List ℕ → Delay → List ℕ → Product → Type 0
+IsCheckProduct text default certificate product =
+    IsReportOnly (IsCheckReport text default certificate product.ending) product.ending product
+
+-- the files of a search: the certificate of an exact answer, where a name is given
+abbrev pub certificate_files : Option (List ℕ) → Option Certificate → List FileText
+certificate_files (Some name) (Some certificate) = record { name = name; text = spelling certificate } ∷ []
+certificate_files _ _ = []
+
+-- a search with an exact answer ends so
+abbrev pub search_ending : Option Certificate → Status
+search_ending (Some certificate) = Done
+search_ending None = Between
+
+-- what `worst` says
+pub record IsWorstProduct (text : List ℕ) (default : Delay) (budget : ℕ) (name : Option (List ℕ)) (product : Product) : Type 0 where
+  pub certificate : Option Certificate
+  pub is : IsWorstReport text default budget product.report certificate
+  pub files : product.files ≡ certificate_files name certificate
+  pub ends : product.ending ≡ search_ending certificate
+
+-- ---- the commands, on files
+
+-- what is known of files: the bytes that a read of a name may give, which names a device may fail to read, and of which it may
+-- fail to make or end a file
+pub record Disk : Type 1 where
+  pub holds : List ℕ → List ℕ → Type 0
+  pub fails : List ℕ → Type 0
+  pub breaks : List ℕ → Type 0
+
+abbrev pub disk_of : (List ℕ → List ℕ → Type 0) → (List ℕ → Type 0) → (List ℕ → Type 0) → Disk
+disk_of holds fails breaks = record { holds = holds; fails = fails; breaks = breaks }
+
+-- the file of this name was read, as bytes of which this holds
+abbrev pub Reads : Disk → List ℕ → (List ℕ → Type 0) → Type 0
+Reads disk name Holds = (text : List ℕ) × disk.holds name text × Holds text
+
+-- the reason tells a file of this name, which a device may fail to read
+abbrev pub IsUnreadable : Disk → List ℕ → Refusal → Type 0
+IsUnreadable disk name reason = (word : Bor (List ℕ)) × (reason ≡ refusal.Unreadable word) × (word.now ≡ name) × disk.fails name
+
+-- the reason tells that the file of this name can't be read, or holds of the bytes that were read
+abbrev pub HoldsOnFile : Disk → List ℕ → (List ℕ → Refusal → Type 0) → Refusal → Type 0
+HoldsOnFile disk name HoldsOn reason = IsUnreadable disk name reason ⊎ Reads disk name (λ text. HoldsOn text reason)
+
+abbrev pub words_of : Option (Bor (List ℕ)) → Option (List ℕ)
+words_of word = option_map (λ word. word.now) word
+
+-- what is said for a request
+abbrev pub IsProductOf : Disk → Request → Product → Type 0
+IsProductOf disk (request.Sim asked) product =
+    Reads disk asked.file.now (λ text. IsSimProduct text (delays asked.rise asked.fall) asked.from.now asked.to.now product)
+IsProductOf disk (request.Bound asked) product =
+    Reads disk asked.file.now (λ text. IsBoundProduct text (delays asked.rise asked.fall) (words_of asked.first) (words_of asked.second) product)
+IsProductOf disk (request.Worst asked) product =
+    Reads disk asked.file.now (λ text. IsWorstProduct text (delays asked.rise asked.fall) asked.budget (words_of asked.certificate) product)
+IsProductOf disk (request.Check asked) product =
+    Reads disk asked.file.now (λ text. Reads disk asked.certificate.now (λ certificate.
+    IsCheckProduct text (delays asked.rise asked.fall) certificate product))
+
+-- why a request is refused
+abbrev pub HoldsOf : Disk → Request → Refusal → Type 0
+HoldsOf disk (request.Sim asked) =
+    HoldsOnFile disk asked.file.now (λ text. HasNoReport text (delays asked.rise asked.fall) asked.from.now asked.to.now)
+HoldsOf disk (request.Bound asked) =
+    HoldsOnFile disk asked.file.now (λ text. HasNoBounds text (delays asked.rise asked.fall) (words_of asked.first) (words_of asked.second))
+HoldsOf disk (request.Worst asked) = HoldsOnFile disk asked.file.now (λ text. HasNoCircuit text (delays asked.rise asked.fall))
+HoldsOf disk (request.Check asked) =
+    HoldsOnFile disk asked.file.now (λ text. HoldsOnFile disk asked.certificate.now (HasNoVerdict text (delays asked.rise asked.fall)))
+
+-- how the command that is asked for ends
+abbrev pub RequestEnds : Disk → Request → List FileStep → Status → Streams → Streams → Type 0
+RequestEnds disk asked = Ends (IsProductOf disk asked) (HoldsOf disk asked) disk.breaks
+
+-- ---- the program
+
+-- a kind of text that goes to standard output
+abbrev pub IsShown : ErrorKind → Type 0
+IsShown told = (told ≡ kind.DisplayHelp) ⊎ (told ≡ kind.DisplayVersion)
+
+module _ (told_kind : ErrorKind) (text : List ℕ) (status : Status) (old new : Streams) where
+  -- help went out
+  pub record IsHelp : Type 0 where
+    pub shown : IsShown told_kind
+    pub ends : status ≡ Done
+    pub sent : Sent old.out new.out text
+    pub silent : new.err ≡ old.err
+
+  -- standard output failed behind a beginning of help, which was told
+  pub record IsLostHelp : Type 0 where
+    pub shown : IsShown told_kind
+    pub ends : status ≡ Device
+    pub broke : Failed old.out new.out text
+    pub told : Tells old.err new.err (unwritten_text (codes "stdout"))
+
+  -- a fault of the command line was told
+  pub record IsMistake : Type 0 where
+    pub mistake : ¬ IsShown told_kind
+    pub ends : status ≡ BadCommand
+    pub nothing : new.out ≡ old.out
+    pub told : Tells old.err new.err text
+
+-- the parser's text of this kind was told: help, or a fault of the command line
+abbrev pub TellsText : ErrorKind → Status → Streams → Streams → Type 0
+TellsText told_kind status old new =
+    (text : List ℕ) × (IsHelp told_kind text status old new ⊎ (IsMistake told_kind text status old new ⊎ IsLostHelp told_kind text status old new))
+
+-- nothing went out, and want of memory was told
+pub record IsOutOfMemory (status : Status) (old new : Streams) : Type 0 where
+  pub ends : status ≡ Device
+  pub nothing : new.out ≡ old.out
+  pub told : Tells old.err new.err (refusal_text refusal.OutOfMemory)
+
+-- help or a fault was told, of a kind that there is to tell of the words
+abbrev pub TellsOf : List (List ℕ) → Status → Streams → Streams → Type 0
+TellsOf words status old new = (told : ErrorKind) × IsAmong told (kinds_of words) × TellsText told status old new
+
+-- What the program wrote, by what the words ask for: where the program doesn't take them, help or their fault was told, and no
+-- file was touched. Want of memory may be told in place of any.
+abbrev pub ProgramEnds : Disk → List (List ℕ) → List FileStep → Status → Streams → Streams → Type 0
+ProgramEnds disk words steps status old new =
+    ((asked : Request) × Asks words asked × RequestEnds disk asked steps status old new)
+    ⊎ ((steps ≡ []) × (TellsOf words status old new ⊎ IsOutOfMemory status old new))
+
+abbrev pub bad_command_text : List ℕ
+bad_command_text = codes "tdelay: bad command line" ++ newline
+
+-- the words can't be read, which was told: memory ran out, or a device failed
+abbrev pub RefusesWords : ReadFault → Status → Output → Output → Type 0
+RefusesWords unread.OutOfMemory status old new = (status ≡ Device) × Tells old new (refusal_text refusal.OutOfMemory)
+RefusesWords unread.Device status old new = (status ≡ BadCommand) × Tells old new bad_command_text
