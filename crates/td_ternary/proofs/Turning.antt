@@ -3,22 +3,13 @@ use Rattle.std.proofs.Common.{◌≡◌, ℕ, suc, ◌≤◌, List, [], ◌∷�
 use Rattle.std.specs.Prelude.{if◌then◌else◌}
 use Rattle.std.proofs.lemmas.Bool.{cases_lt, le-leb, lt-leb}
 use Rattle.td_gates.specs.declared.primitives.Level.{Level}
-use Rattle.td_gates.specs.declared.primitives.Level.TheVariants.{Zero as Low, One as High}
 use Rattle.td_gates.specs.declared.timing.Change.{Change}
 use Rattle.td_gates.specs.Table.{level_eq}
 use Rattle.td_gates.specs.Wave.{level_after, IsRising}
 use Rattle.td_gates.proofs.Levels.{level_eq-same, level_eq-other, cases_level, level_after-early, IsRising-sooner}
 use Rattle.std.proofs.lemmas.List.Elements.{All-nil, All-cons, All-head, All-tail}
 use Rattle.td_run.specs.Waves.{AreWithin}
-use Rattle.td_ternary.specs.Possibles.{has, set_of}
-
--- 1 where it may be the wanted level, else 0
-abbrev pub may_be : Level → Level → Level
-may_be wanted level = if has level wanted then High else Low
-
--- the level that stands for those whose wave is at 1
-abbrev pub either : Level → Level → Level
-either low high = set_of (level_eq High low) (level_eq High high)
+use Rattle.td_ternary.specs.Turning.{may_be}
 
 -- the changes of whether it may
 abbrev pub turns : Level → Level → List Change → List Change
