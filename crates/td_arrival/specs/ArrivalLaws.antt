@@ -1,4 +1,4 @@
--- The laws of arrival windows.
+-- Internal: proofs of the laws of arrival windows; an impl block takes them from specs/ alone.
 use Rattle.std.proofs.Common.{◌≡◌, ◌≢◌, ℕ, zero, suc, ◌+◌, ◌-◌, ◌<◌, ◌≤◌, ◌^◌, min, max, Bool, true, false, List, [], ◌∷◌, length, map, refl, arith, ap, ◌∙◌, sym, Option, Some, None, ◌⊎◌, inl, inr}
 use Rattle.std.specs.Prelude.{slice_get, filter_map, nat_lt, ◌&&◌, ◌||◌, is_none, if◌then◌else◌}
 use Rattle.std.specs.List.{All, AllZip, AllByRecursion, list_any}
@@ -16,14 +16,14 @@ use Rattle.td_gates.specs.Schedule.{Obeys, target_before}
 use Rattle.td_domain.specs.declared.cubes.Trit.{Trit}
 use Rattle.td_domain.specs.declared.cubes.Trit.TheVariants.{Zero, One, Free}
 use Rattle.td_domain.specs.Waves.{IsBoolean, IsQuietAfter, IsConstant}
-use Rattle.td_domain.specs.Cubes.{Allows, IsInputWave}
+use Rattle.td_domain.specs.Cubes.{level_of_trit, Allows, IsInputWave}
 use Rattle.td_gates.proofs.Levels.{cases_level}
 use Rattle.td_gates.proofs.Scheduling.{delay_to-positive}
 use Rattle.td_gates.proofs.Delays.{IsDelayed, delayed, delayed-early, delayed-late, delayed-lost}
 use Rattle.td_gates.proofs.TableLaws.{AllAgree, Booleans, table-boolean, table_known}
 use Rattle.td_arrival.specs.declared.signals.Span.{Span}
 use Rattle.td_arrival.specs.declared.signals.Signal.{Signal}
-use Rattle.td_arrival.specs.Arrivals.{Agrees, Finishes, ChangesWithin, Covers, known_of, input_changes, input_signal, constant_signal, last_change, span_reach, around, hull, controlling, controls, is_held, earliest_change, latest_change, opens_at, closes_at, is_lost, last_delay, delayed_span, gate_changes, gate_start, gate_finish, gate_signal}
+use Rattle.td_arrival.specs.Arrivals.{Agrees, Finishes, ChangesWithin, Covers, IsEnd, HasMoment, input_changes, input_signal, constant_signal, last_change, span_reach, around, hull, controlling, controls, is_held, earliest_change, latest_change, opens_at, closes_at, is_lost, last_delay, delayed_span, gate_changes, gate_start, gate_finish, gate_signal}
 
 -- the levels of waves just before a moment
 abbrev pub levels_before : List Wave → ℕ → List Level
@@ -476,7 +476,7 @@ covers_gate kind delay signals ins out fits takes boolean covered obeys =
     covers_output kind delay signals ins out fits takes boolean covered (delayed kind delay fits ins out obeys)
 
 -- inputs
-bit_known : (trit : Trit) (bit : Bool) → Allows trit bit → Agrees (known_of trit) (level_from bit)
+bit_known : (trit : Trit) (bit : Bool) → Allows trit bit → Agrees (level_of_trit trit) (level_from bit)
 bit_known Zero false allows = λ known. refl
 bit_known Zero true allows = absurd allows
 bit_known One false allows = absurd allows
@@ -490,7 +490,7 @@ never_from : (wave : Wave) (known : Level) → known ≢ X → Agrees known wave
     → ((t : ℕ) → at wave t ≡ at wave 0) → ChangesWithin None wave
 never_from wave known clear first second stays t = stays t ∙ second clear ∙ sym (first clear)
 
-input_within : (first second : Trit) (wave : Wave) → Agrees (known_of first) wave.start → Agrees (known_of second) (at wave 0)
+input_within : (first second : Trit) (wave : Wave) → Agrees (level_of_trit first) wave.start → Agrees (level_of_trit second) (at wave 0)
     → ((t : ℕ) → at wave t ≡ at wave 0) → ChangesWithin (input_changes first second) wave
 input_within Zero Zero wave a b stays = never_from wave Low (λ e. cc) a b stays
 input_within One One wave a b stays = never_from wave High (λ e. cc) a b stays
@@ -502,8 +502,8 @@ input_within Free second wave a b stays = at_once wave stays
 
 pub covers_input : (first second : Trit) (wave : Wave) → IsInputWave first second wave → Covers (input_signal first second) wave
 covers_input first second wave is =
-    let a : Agrees (known_of first) wave.start = λ known. is.starts ∙ bit_known first is.before is.first_allows known in
-    let b : (t : ℕ) → Agrees (known_of second) (at wave t) = λ t known. is.then t ∙ bit_known second is.after is.second_allows known in
+    let a : Agrees (level_of_trit first) wave.start = λ known. is.starts ∙ bit_known first is.before is.first_allows known in
+    let b : (t : ℕ) → Agrees (level_of_trit second) (at wave t) = λ t known. is.then t ∙ bit_known second is.after is.second_allows known in
     record {
       start = a;
       finish = λ known. (0, λ t h. b t known);
@@ -603,12 +603,22 @@ reach_input Zero Free = omega arith
 reach_input One Free = omega arith
 reach_input Free second = omega arith
 
-last_reach : (changes : Option Span) → last_change changes ≤ span_reach changes
-last_reach None = omega arith
-last_reach (Some span) = omega arith
+last_is_end : (changes : Option Span) → (last_change changes ≡ 0) ⊎ IsEnd changes (last_change changes)
+last_is_end None = inl refl
+last_is_end (Some span) = inr (inr refl)
 
-pub reach_last : (signal : Signal) (moment : ℕ) → Some (last_change signal.changes) ≡ Some moment → moment ≤ span_reach signal.changes
-reach_last signal moment is = let same : last_change signal.changes ≡ moment = cc in rw same at (last_reach signal.changes)
+pub last_is_moment : (signal : Signal) (moment : ℕ) → Some (last_change signal.changes) ≡ Some moment → (moment ≡ 0) ⊎ HasMoment signal moment
+last_is_moment signal moment is = let same : last_change signal.changes ≡ moment = cc in rw same at (last_is_end signal.changes)
+
+end_reach : (changes : Option Span) (moment : ℕ) → IsEnd changes moment → moment ≤ span_reach changes
+end_reach None moment ends = absurd ends
+end_reach (Some span) moment ends = elim ends [
+  | inl first ↦ omega arith
+  | inr last ↦ omega arith
+]
+
+pub reach_each : (signal : Signal) (moment : ℕ) → HasMoment signal moment → moment ≤ span_reach signal.changes
+reach_each signal moment ends = end_reach signal.changes moment ends
 
 -- the elements at places that are there
 slice_get-some : {A : Type 0} (xs : List A) (i : ℕ) → i < length xs → (x : A) × (slice_get xs i ≡ Some x)

@@ -1,5 +1,5 @@
 -- Arrival windows: which waves they cover, and those of inputs, constants and gates.
-use Rattle.std.specs.Prelude.{◌≡◌, ◌≢◌, ℕ, ◌+◌, ◌-◌, ◌<◌, ◌≤◌, min, max, nat_lt, Bool, false, ◌&&◌, ◌||◌, List, [], ◌∷◌, map, Option, Some, None, is_none, if◌then◌else◌}
+use Rattle.std.specs.Prelude.{◌≡◌, ◌≢◌, ◌⊎◌, ℕ, ◌+◌, ◌-◌, ◌<◌, ◌≤◌, min, max, nat_lt, Bool, false, ◌&&◌, ◌||◌, List, [], ◌∷◌, map, Option, Some, None, is_none, if◌then◌else◌}
 use Rattle.std.specs.List.{list_any}
 use Rattle.td_gates.specs.declared.primitives.Level.{Level}
 use Rattle.td_gates.specs.declared.primitives.Level.TheVariants.{Zero as Low, One as High, X}
@@ -11,6 +11,8 @@ use Rattle.td_gates.specs.Wave.{Wave, at}
 use Rattle.td_domain.specs.declared.cubes.Trit.{Trit}
 use Rattle.td_domain.specs.declared.cubes.Trit.TheVariants.{Zero, One, Free}
 use Rattle.td_domain.specs.Waves.{IsQuietAfter}
+use Rattle.td_domain.specs.Cubes.{level_of_trit}
+use Rattle.td_domain.specs.Functions.{Functions}
 use Rattle.td_arrival.specs.declared.signals.Span.{Span}
 use Rattle.td_arrival.specs.declared.signals.Signal.{Signal}
 
@@ -33,11 +35,14 @@ pub record Covers (signal : Signal) (wave : Wave) : Type 0 where
   pub finish : Finishes signal.finish wave
   pub changes : ChangesWithin signal.changes wave
 
--- the level of a trit, x where it is free
-abbrev pub known_of : Trit → Level
-known_of Zero = Low
-known_of One = High
-known_of Free = X
+-- the moment is one of the ends of the span
+abbrev pub IsEnd : Option Span → ℕ → Type 0
+IsEnd None moment = ⊥
+IsEnd (Some span) moment = (moment ≡ span.earliest) ⊎ (moment ≡ span.latest)
+
+-- the moments in a signal are the ends of its span
+abbrev pub HasMoment : Signal → ℕ → Type 0
+HasMoment signal moment = IsEnd signal.changes moment
 
 abbrev pub input_changes : Trit → Trit → Option Span
 input_changes Zero Zero = None
@@ -50,7 +55,7 @@ input_changes Free second = Some (record { earliest = 0; latest = 0 })
 
 -- an input changes at moment 0 or never, and surely never where both its bits are known and equal
 abbrev pub input_signal : Trit → Trit → Signal
-input_signal first second = record { start = known_of first; finish = known_of second; changes = input_changes first second }
+input_signal first second = record { start = level_of_trit first; finish = level_of_trit second; changes = input_changes first second }
 
 abbrev pub constant_signal : Bool → Signal
 constant_signal one = record { start = level_from one; finish = level_from one; changes = None }
@@ -166,4 +171,13 @@ gate_signal kind delay signals = record {
   start = gate_start kind signals;
   finish = gate_finish kind signals;
   changes = gate_changes (controlling kind) delay (gate_start kind signals) (gate_finish kind signals) signals (hull signals);
+}
+
+-- the domain of arrival windows
+abbrev pub arrival_functions : Functions Signal
+arrival_functions = record {
+  input_of = input_signal;
+  constant_of = constant_signal;
+  gate_of = gate_signal;
+  last_of = last_of;
 }

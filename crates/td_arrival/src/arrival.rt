@@ -1,8 +1,7 @@
 //! The domain.
 
-ghost use Rattle.std.specs.Prelude.{◌≡◌};
-ghost use Rattle.td_arrival.specs.Arrivals.{Covers, known_of, input_signal, constant_signal, gate_signal, last_of, span_reach};
-ghost use Rattle.td_arrival.specs.ArrivalLaws.{covers_input, covers_constant, covers_gate, quiet_after_last, reach_input, reach_gate, reach_last};
+ghost use Rattle.td_arrival.specs.Arrivals.{Covers, HasMoment, arrival_functions, span_reach};
+ghost use Rattle.td_arrival.specs.ArrivalLaws.{covers_input, covers_constant, covers_gate, quiet_after_last, reach_input, reach_gate, last_is_moment, reach_each};
 ghost use Rattle.std.specs.Prelude.{refl};
 
 use crate::gates;
@@ -19,19 +18,15 @@ impl Domain for Arrival {
 
     ghost covers = { Covers };
 
-    ghost input_of = { input_signal };
+    ghost functions = { arrival_functions };
 
-    ghost constant_of = { constant_signal };
-
-    ghost gate_of = { gate_signal };
-
-    ghost last_of = { last_of };
+    ghost has_moment = { HasMoment };
 
     ghost reach = { λ signal. span_reach signal.changes };
 
     fn input(_alloc: Global, first: Trit, second: Trit) -> Result<Signal, AllocError> {
-        let start = level_of_trit(first);
-        let finish = level_of_trit(second);
+        let start = first.level();
+        let finish = second.level();
         let changes = if start != Level::X && start == finish {
             None
         } else {
@@ -92,16 +87,7 @@ impl Domain for Arrival {
 
     ghost reach_gate = { reach_gate };
 
-    ghost reach_last = { reach_last };
-}
+    ghost last_is_moment = { last_is_moment };
 
-/// The level of a trit, x where it is free.
-fn level_of_trit(trit: Trit) -> Level
-    ensures { result ≡ known_of trit }
-{
-    match trit {
-        Trit::Zero => Level::Zero,
-        Trit::One => Level::One,
-        Trit::Free => Level::X,
-    }
+    ghost reach_each = { reach_each };
 }

@@ -15,7 +15,7 @@ use Rattle.td_domain.specs.declared.cubes.Trit.{Trit}
 use Rattle.td_domain.specs.declared.cubes.Trit.TheVariants.{Zero, One, Free}
 use Rattle.td_domain.specs.Pairs.{Pair}
 use Rattle.td_domain.specs.Cubes.{Allows, AllowsBits, IsIn, IsPoint}
-use Rattle.td_domain.specs.Together.{both_input, both_constant, both_gate, both_last}
+use Rattle.td_domain.specs.Together.{both_functions}
 use Rattle.td_domain.specs.BothLaws.{both_covers_gate, both_quiet}
 use Rattle.td_domain.proofs.Soundness.{no_later}
 use Rattle.td_arrival.specs.Arrivals as arrival
@@ -157,24 +157,22 @@ module _ (circuit : Numbered) (numbering : IsNumbering circuit) (acyclic : IsAcy
   below_bound : (domain : BoundedBy) (cube : List Trit) → length cube ≡ 2 * length circuit.netlist.inputs → IsIn pair cube
       → (bound : ℕ) → IsBoundBy domain circuit.netlist cube (Some bound) → delay ≤ bound
   below_bound by.Arrival cube count is_in bound of_cube =
-      rw is.is_latest (no_later arrival.Covers arrival.input_signal arrival.constant_signal arrival.gate_signal
+      rw is.is_latest (no_later arrival.Covers arrival.arrival_functions
       arrival_laws.covers_input arrival_laws.covers_constant arrival_laws.covers_gate
       circuit numbering cube count of_cube.signals of_cube.are_signals pair is_in is.waves is.runs
-      arrival.last_of arrival_laws.quiet_after_last bound (sym of_cube.is_greatest))
+      arrival_laws.quiet_after_last bound (sym of_cube.is_greatest))
   below_bound by.Possible cube count is_in bound of_cube =
-      rw is.is_latest (no_later possible.Covers possible.input_signal possible.constant_signal possible.gate_signal
+      rw is.is_latest (no_later possible.Covers possible.possible_functions
       possible_laws.covers_input possible_laws.covers_constant possible_laws.covers_gate
       circuit numbering cube count of_cube.signals of_cube.are_signals pair is_in is.waves is.runs
-      possible.last_of possible_laws.quiet_after_last bound (sym of_cube.is_greatest))
+      possible_laws.quiet_after_last bound (sym of_cube.is_greatest))
   below_bound by.Both cube count is_in bound of_cube =
       rw is.is_latest (no_later (λ signal wave. arrival.Covers signal.0 wave × possible.Covers signal.1 wave)
-      (both_input arrival.input_signal possible.input_signal) (both_constant arrival.constant_signal possible.constant_signal)
-      (both_gate arrival.gate_signal possible.gate_signal)
+      (both_functions arrival.arrival_functions possible.possible_functions)
       (λ first second wave h. (arrival_laws.covers_input first second wave h, possible_laws.covers_input first second wave h))
       (λ one wave h. (arrival_laws.covers_constant one wave h, possible_laws.covers_constant one wave h))
       (both_covers_gate arrival.Covers possible.Covers arrival.gate_signal possible.gate_signal arrival_laws.covers_gate possible_laws.covers_gate)
       circuit numbering cube count of_cube.signals of_cube.are_signals pair is_in is.waves is.runs
-      (both_last arrival.last_of possible.last_of)
       (both_quiet arrival.Covers possible.Covers arrival.last_of possible.last_of arrival_laws.quiet_after_last possible_laws.quiet_after_last)
       bound (sym of_cube.is_greatest))
 

@@ -10,9 +10,9 @@ use Rattle.td_domain.specs.declared.cubes.Trit.TheVariants.{Zero, One, Free}
 use Rattle.td_domain.specs.Pairs.{Pair}
 use Rattle.td_domain.specs.Cubes.{IsIn, IsPoint}
 use Rattle.td_domain.specs.Bounds.{IsBound}
-use Rattle.td_domain.specs.Together.{both_input, both_constant, both_gate, both_last}
-use Rattle.td_arrival.specs.Arrivals as arrival
-use Rattle.td_ternary.specs.Possibles as possible
+use Rattle.td_domain.specs.Together.{both_functions}
+use Rattle.td_arrival.specs.Arrivals.{arrival_functions}
+use Rattle.td_ternary.specs.Possibles.{possible_functions}
 use Rattle.td_certificate.specs.declared.tree.BoundedBy.{BoundedBy}
 use Rattle.td_certificate.specs.declared.tree.BoundedBy.TheVariants as by
 use Rattle.td_certificate.specs.declared.tree.Node.{Node}
@@ -22,13 +22,9 @@ use Rattle.td_certificate.specs.Trees.{Tree, Split, Bound, Point, nodes_of}
 
 -- what the domain of a leaf gives of a cube: its bound, or none
 abbrev pub IsBoundBy : BoundedBy → Netlist → List Trit → Option ℕ → Type 0
-IsBoundBy by.Arrival netlist cube answer =
-    IsBound arrival.input_signal arrival.constant_signal arrival.gate_signal arrival.last_of netlist cube answer
-IsBoundBy by.Possible netlist cube answer =
-    IsBound possible.input_signal possible.constant_signal possible.gate_signal possible.last_of netlist cube answer
-IsBoundBy by.Both netlist cube answer =
-    IsBound (both_input arrival.input_signal possible.input_signal) (both_constant arrival.constant_signal possible.constant_signal)
-    (both_gate arrival.gate_signal possible.gate_signal) (both_last arrival.last_of possible.last_of) netlist cube answer
+IsBoundBy by.Arrival netlist cube answer = IsBound arrival_functions netlist cube answer
+IsBoundBy by.Possible netlist cube answer = IsBound possible_functions netlist cube answer
+IsBoundBy by.Both netlist cube answer = IsBound (both_functions arrival_functions possible_functions) netlist cube answer
 
 -- ---- the lines of a tree and their cubes
 

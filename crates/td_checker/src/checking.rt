@@ -71,7 +71,7 @@ fn told_of(bad: BadLine) -> Verdict
 fn is_of_size(circuit: &Circuit, certificate: &Certificate) -> bool
     ensures { IsTrue result ↔ IsOfSize circuit.now.netlist certificate.now }
 {
-    circuit.inputs() == certificate.inputs as usize
+    circuit.input_count() == certificate.inputs as usize
         && circuit.gates().len() == certificate.gates as usize
 }
 

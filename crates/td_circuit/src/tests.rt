@@ -76,7 +76,7 @@ fn numbers(rt: HostRuntime) -> Result<(), Fail> {
         assert!(rt; false);
         return Ok(());
     };
-    assert_eq!(rt; circuit.inputs(), 2);
+    assert_eq!(rt; circuit.input_count(), 2);
     assert_eq!(rt; circuit.net_count(), 6);
     assert_eq!(rt; circuit.module(), b"t".as_slice());
     assert_eq!(rt; circuit.defaulted(), 1);

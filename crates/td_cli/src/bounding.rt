@@ -3,7 +3,8 @@
 ghost use Rattle.std.specs.Prelude.{◌≡◌, ℕ, ◌*◌, length, Option, Some, IfOk, IfErr};
 ghost use Rattle.std.specs.Option.{option_map};
 ghost use Rattle.td_domain.specs.Bounds.{IsAboveEach};
-ghost use Rattle.td_cli.specs.BoundReports.{bounds_text, IsArrivalBound, IsPossibleBound, IsJointBound, IsBoundReport};
+ghost use Rattle.td_certificate.specs.declared.tree.BoundedBy.TheVariants as by;
+ghost use Rattle.td_cli.specs.BoundReports.{bounds_text, IsSoundBound, IsBoundReport};
 ghost use Rattle.td_cli.specs.Outcomes.{HasNoBounds};
 
 use crate::refusal::{Refusal, VectorWord};
@@ -34,10 +35,10 @@ pub fn bounds<'a>(
         HasNoBounds text.now default (option_map (λ word. word.now) first.entry) (option_map (λ word. word.now) second.entry) refusal) }
 {
     let circuit = circuit(alloc, text, default)?;
-    let Some(firsts) = trits(alloc, first, circuit.inputs())? else {
+    let Some(firsts) = trits(alloc, first, circuit.input_count())? else {
         return Err(Refusal::BadVector(VectorWord::First));
     };
-    let Some(seconds) = trits(alloc, second, circuit.inputs())? else {
+    let Some(seconds) = trits(alloc, second, circuit.input_count())? else {
         return Err(Refusal::BadVector(VectorWord::Second));
     };
     let cube = cube(alloc, &firsts, &seconds)?;
@@ -56,9 +57,9 @@ struct CubeBounds {
 
 fn bounds_of(alloc: Global, circuit: &Circuit, cube: &Cube) -> Result<CubeBounds, AllocError>
     requires { length cube.now ≡ 2 * length circuit.now.netlist.inputs }
-    ensures arrivals { IfOk result (λ bounds. IsArrivalBound circuit.now.netlist cube.now bounds.arrivals) }
-    ensures possibles { IfOk result (λ bounds. IsPossibleBound circuit.now.netlist cube.now bounds.possibles) }
-    ensures together { IfOk result (λ bounds. IsJointBound circuit.now.netlist cube.now bounds.together) }
+    ensures arrivals { IfOk result (λ bounds. IsSoundBound by.Arrival circuit.now.netlist cube.now bounds.arrivals) }
+    ensures possibles { IfOk result (λ bounds. IsSoundBound by.Possible circuit.now.netlist cube.now bounds.possibles) }
+    ensures together { IfOk result (λ bounds. IsSoundBound by.Both circuit.now.netlist cube.now bounds.together) }
 {
     let arrivals = bound::<Arrival>(alloc, circuit, cube)?;
     let possibles = bound::<Possible>(alloc, circuit, cube)?;

@@ -33,10 +33,10 @@ pub fn sim<'a>(
         HasNoReport text.now default from.now to.now refusal) }
 {
     let circuit = circuit(alloc, text, default)?;
-    let Some(first) = vector::<Level>(alloc, from, circuit.inputs())? else {
+    let Some(first) = vector::<Level>(alloc, from, circuit.input_count())? else {
         return Err(Refusal::BadVector(VectorWord::From));
     };
-    let Some(second) = vector::<Level>(alloc, to, circuit.inputs())? else {
+    let Some(second) = vector::<Level>(alloc, to, circuit.input_count())? else {
         return Err(Refusal::BadVector(VectorWord::To));
     };
     let run = waves(alloc, &circuit, &first, &second)?;

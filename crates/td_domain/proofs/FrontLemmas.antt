@@ -10,7 +10,8 @@ use Rattle.td_gates.specs.Delays.{IsInRange}
 use Rattle.td_circuit.specs.Numbering.{NumberedGate, Numbered, first_output, IsNumbering}
 use Rattle.td_circuit.proofs.Nets.{lower-at, few_gates, gate_at}
 use Rattle.td_domain.specs.declared.cubes.Trit.{Trit}
-use Rattle.td_domain.specs.Fronts.{IsFront}
+use Rattle.td_domain.specs.Functions.{Functions}
+use Rattle.td_domain.specs.FirstSignals.{AreFirstSignals}
 use Rattle.td_domain.proofs.Lists.{slice_get-before, slice_get-seam, filter_map-same, weaker}
 use Rattle.std.proofs.lemmas.List.Elements.{recursion_from_All, All-from_recursion}
 
@@ -34,8 +35,7 @@ fast circuit numbering place gate stands =
     let fits = in_range-at circuit numbering place gate stands in
     omega (arith, fits.greatest_rise, fits.greatest_fall)
 
-module _ {Sig : Type 0} (input_of : Trit → Trit → Sig) (constant_of : Bool → Sig) (gate_of : Kind → Delay → List Sig → Sig)
-    (reach : Sig → ℕ) (circuit : Numbered) (numbering : IsNumbering circuit) (cube : List Trit) where
+module _ {Sig : Type 0} (functions : Functions Sig) (reach : Sig → ℕ) (circuit : Numbered) (numbering : IsNumbering circuit) (cube : List Trit) where
   -- a read of a longer list
   read : (front : List Sig) (x : Sig) (n : ℕ) (signal : Sig) → slice_get (front ++ x ∷ []) n ≡ Some signal
       → (slice_get front n ≡ Some signal) ⊎ ((n ≡ length front) × (x ≡ signal))
@@ -51,13 +51,13 @@ module _ {Sig : Type 0} (input_of : Trit → Trit → Sig) (constant_of : Bool �
   abbrev pub IsNext : List Sig → Sig → Type 0
   IsNext front x =
       ((i : ℕ) (first second : Trit) → i < length circuit.netlist.inputs → 2 + i ≡ length front
-      → slice_get cube (2 * i) ≡ Some first → slice_get cube (2 * i + 1) ≡ Some second → x ≡ input_of first second)
+      → slice_get cube (2 * i) ≡ Some first → slice_get cube (2 * i + 1) ≡ Some second → x ≡ functions.input_of first second)
       × ((place : ℕ) (gate : NumberedGate) → slice_get circuit.gates place ≡ Some gate → first_output circuit + place ≡ length front
-      → x ≡ gate_of gate.kind gate.delay (filter_map (slice_get front) gate.inputs))
+      → x ≡ functions.gate_of gate.kind gate.delay (filter_map (slice_get front) gate.inputs))
       × (reach x ≤ (length front + 1) * 10 ^ 9)
 
-  pub grown : (front : List Sig) (x : Sig) → 2 ≤ length front → IsFront input_of constant_of gate_of reach circuit cube front
-      → IsNext front x → IsFront input_of constant_of gate_of reach circuit cube (front ++ x ∷ [])
+  pub grown : (front : List Sig) (x : Sig) → 2 ≤ length front → AreFirstSignals functions reach circuit cube front
+      → IsNext front x → AreFirstSignals functions reach circuit cube (front ++ x ∷ [])
   grown front x long is_front next = record {
     low = slice_get-before front (x ∷ []) 0 (omega arith) ∙ is_front.low;
     high = slice_get-before front (x ∷ []) 1 (omega arith) ∙ is_front.high;
@@ -100,12 +100,12 @@ module _ {Sig : Type 0} (input_of : Trit → Trit → Sig) (constant_of : Bool �
       ]
 
   -- after the signal of an input
-  pub grown_input : ((first second : Trit) → reach (input_of first second) ≤ 10 ^ 9)
+  pub grown_input : ((first second : Trit) → reach (functions.input_of first second) ≤ 10 ^ 9)
       → (front after : List Sig) (x : Sig) (i : ℕ) (first second : Trit)
-      → i < length circuit.netlist.inputs → length front ≡ 2 + i → IsFront input_of constant_of gate_of reach circuit cube front
+      → i < length circuit.netlist.inputs → length front ≡ 2 + i → AreFirstSignals functions reach circuit cube front
       → slice_get cube (2 * i) ≡ Some first → slice_get cube (2 * i + 1) ≡ Some second
-      → x ≡ input_of first second → after ≡ front ++ x ∷ []
-      → IsFront input_of constant_of gate_of reach circuit cube after
+      → x ≡ functions.input_of first second → after ≡ front ++ x ∷ []
+      → AreFirstSignals functions reach circuit cube after
   grown_input law front after x i first second few count is_front at_first at_second is is_after = rw is_after (
       grown front x (omega arith) is_front (
         (λ j one other fewer here at_one at_other.
@@ -121,14 +121,14 @@ module _ {Sig : Type 0} (input_of : Trit → Trit → Sig) (constant_of : Bool �
 
   -- the signals that a gate reads reach no further than the nets before it
   pub reads_within : (front : List Sig) (place : ℕ) (gate : NumberedGate) → slice_get circuit.gates place ≡ Some gate
-      → length front ≡ first_output circuit + place → IsFront input_of constant_of gate_of reach circuit cube front
+      → length front ≡ first_output circuit + place → AreFirstSignals functions reach circuit cube front
       → AllByRecursion (λ signal. reach signal ≤ (first_output circuit + place) * 10 ^ 9) (filter_map (slice_get front) gate.inputs)
   reads_within front place gate stands count is_front =
       picked_reach front (first_output circuit + place) gate.inputs is_front.reaches
       (recursion_from_All (λ net. net < first_output circuit + place) gate.inputs (lower-at circuit numbering place gate stands))
 
   pub reads_small : (front : List Sig) (place : ℕ) (gate : NumberedGate) → slice_get circuit.gates place ≡ Some gate
-      → length front ≡ first_output circuit + place → IsFront input_of constant_of gate_of reach circuit cube front
+      → length front ≡ first_output circuit + place → AreFirstSignals functions reach circuit cube front
       → All (λ signal. reach signal + max gate.delay.rise gate.delay.fall < 10 ^ 15) (filter_map (slice_get front) gate.inputs)
   reads_small front place gate stands count is_front =
       All-from_recursion (λ signal. reach signal + max gate.delay.rise gate.delay.fall < 10 ^ 15) _
@@ -139,12 +139,12 @@ module _ {Sig : Type 0} (input_of : Trit → Trit → Sig) (constant_of : Bool �
 
   -- after the signal of a gate's output
   pub grown_gate : ((kind : Kind) (delay : Delay) (signals : List Sig) (moment : ℕ) → All (λ signal. reach signal ≤ moment) signals
-      → reach (gate_of kind delay signals) ≤ moment + max delay.rise delay.fall)
+      → reach (functions.gate_of kind delay signals) ≤ moment + max delay.rise delay.fall)
       → (front after : List Sig) (x : Sig) (place : ℕ) (gate : NumberedGate)
       → slice_get circuit.gates place ≡ Some gate → length front ≡ first_output circuit + place
-      → IsFront input_of constant_of gate_of reach circuit cube front
-      → x ≡ gate_of gate.kind gate.delay (filter_map (slice_get front) gate.inputs) → after ≡ front ++ x ∷ []
-      → IsFront input_of constant_of gate_of reach circuit cube after
+      → AreFirstSignals functions reach circuit cube front
+      → x ≡ functions.gate_of gate.kind gate.delay (filter_map (slice_get front) gate.inputs) → after ≡ front ++ x ∷ []
+      → AreFirstSignals functions reach circuit cube after
   grown_gate law front after x place gate stands count is_front is is_after = rw is_after (
       grown front x (omega arith) is_front (
         (λ i first second few here at_first at_second. absurd (omega arith)),

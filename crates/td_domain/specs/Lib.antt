@@ -1,7 +1,8 @@
 pub mod Pairs
 pub mod Cubes
 pub mod Waves
+pub mod Functions
 pub mod Bounds
 pub mod Together
-pub mod Fronts
+pub mod FirstSignals
 pub mod BothLaws

@@ -4,7 +4,7 @@ ghost use Rattle.std.specs.Prelude.{◌≡◌, ℕ, ◌*◌, ◌<◌, ◌^◌, O
 ghost use Rattle.std.specs.List.{All};
 ghost use Rattle.td_circuit.specs.Numbering.{nets, IsNumbering};
 ghost use Rattle.td_domain.specs.Bounds.{IsBound, IsAboveEach, greatest};
-ghost use Rattle.td_domain.specs.Fronts.{IsFront};
+ghost use Rattle.td_domain.specs.FirstSignals.{AreFirstSignals};
 
 use crate::cubes::Cube;
 use crate::domain::Domain;
@@ -19,9 +19,9 @@ pub fn bound<D: Domain>(
     cube: &Cube,
 ) -> Result<Option<u64>, AllocError>
     requires { length cube.now ≡ 2 * length circuit.now.netlist.inputs }
-    ensures bound { IfOk result (IsBound D.input_of D.constant_of D.gate_of D.last_of circuit.now.netlist cube.now) }
+    ensures bound { IfOk result (IsBound D.functions circuit.now.netlist cube.now) }
     ensures only { IfOk result (λ answer. (other : Option ℕ)
-        → IsBound D.input_of D.constant_of D.gate_of D.last_of circuit.now.netlist cube.now other → other ≡ answer) }
+        → IsBound D.functions circuit.now.netlist cube.now other → other ≡ answer) }
     ensures sound { IfOk result (λ answer. (moment : ℕ) → answer ≡ Some moment → IsAboveEach circuit.now.netlist cube.now moment) }
     ensures small { IfOk result (λ answer. (moment : ℕ) → answer ≡ Some moment → moment < 10 ^ 15) }
 {
@@ -38,11 +38,11 @@ pub fn signals<D: Domain>(
 ) -> Result<Vec<D::Sig>, AllocError>
     requires { length cube.now ≡ 2 * length circuit.now.netlist.inputs }
     ensures all { IfOk result (λ signals. length signals.items ≡ length (nets circuit.now)) }
-    ensures front { IfOk result (λ signals. IsFront D.input_of D.constant_of D.gate_of D.reach circuit.now cube.now signals.items) }
+    ensures front { IfOk result (λ signals. AreFirstSignals D.functions D.reach circuit.now cube.now signals.items) }
     ensures numbering { IsNumbering circuit.now }
 {
     let gates = circuit.gates();
-    let inputs = circuit.inputs();
+    let inputs = circuit.input_count();
     let mut signals = Vec::with_capacity(alloc, circuit.net_count())?;
     signals.push(D::constant(alloc, false)?)?;
     signals.push(D::constant(alloc, true)?)?;
@@ -60,7 +60,7 @@ pub fn signals<D: Domain>(
 /// The greatest last moment of these nets.
 fn greatest_last<D: Domain>(signals: &[D::Sig], nets: &[u32]) -> Option<u64>
     requires { All (λ net. net < length signals.now) nets.now }
-    ensures { result ≡ greatest (map D.last_of (filter_map (slice_get signals.now) nets.now)) }
+    ensures { result ≡ greatest (map D.functions.last_of (filter_map (slice_get signals.now) nets.now)) }
 {
     let mut latest = 0;
     for net in nets {

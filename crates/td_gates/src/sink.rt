@@ -21,7 +21,7 @@ impl fmt::Display for DeviceFault {
 
 impl Error for DeviceFault {}
 
-/// A writer of bytes that tells what went out and counts its failures.
+/// A writer of bytes that tells what went out and counts its failures, one by one.
 pub trait Sink {
     /// What went out, and the count of failures.
     ghost output: { Self → Output };

@@ -62,7 +62,7 @@ fn compare(rt: &impl Abort, alloc: Global, circuit: &Circuit, run: &Run) -> Resu
         }
         assert!(rt; takes(gate.kind, ins.len()));
         let states = history(alloc, gate.kind, gate.delay, &ins, MOMENTS)?;
-        let net = circuit.inputs() + 2 + place;
+        let net = circuit.input_count() + 2 + place;
         assert!(rt; net < circuit.net_count());
         let wave = run.wave(net as u32);
         for (moment, state) in states.iter().enumerate() {
@@ -90,16 +90,16 @@ fn compare_all(
         Err(_) => panic!(rt; "no circuit"),
     };
     let mut codes = 1usize;
-    for _ in 0..circuit.inputs() {
+    for _ in 0..circuit.input_count() {
         codes = codes.saturating_mul(3);
     }
     let mut compared = 0usize;
     for first in 0..codes {
         for second in 0..codes {
-            let first = vector(alloc, circuit.inputs(), first)?;
-            let second = vector(alloc, circuit.inputs(), second)?;
-            assert_eq!(rt; first.len(), circuit.inputs());
-            assert_eq!(rt; second.len(), circuit.inputs());
+            let first = vector(alloc, circuit.input_count(), first)?;
+            let second = vector(alloc, circuit.input_count(), second)?;
+            assert_eq!(rt; first.len(), circuit.input_count());
+            assert_eq!(rt; second.len(), circuit.input_count());
             let run = waves(alloc, &circuit, &first, &second)?;
             compared = compared.saturating_add(compare(rt, alloc, &circuit, &run)?);
         }

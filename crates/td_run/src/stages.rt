@@ -14,16 +14,6 @@ use crate::wave::Wave;
 use std::alloc::{AllocError, Global};
 use td_gates::{Change, Delay, Kind, Level, eval_counts};
 
-/// Adds the moments of these changes.
-pub fn push_moments(moments: &mut Vec<u64>, changes: &[Change]) -> Result<(), AllocError>
-    ensures { OnOk result (moments.new.items ≡ moments.old.items ++ map (λ change. change.moment) changes.now) }
-{
-    for change in changes {
-        moments.push(change.moment)?;
-    }
-    Ok(())
-}
-
 /// The samples that differ from the level before them, from this level on.
 fn changing(alloc: Global, start: Level, samples: &[Change]) -> Result<Vec<Change>, AllocError>
     ensures { IfOk result (λ changes. changes.items ≡ changing start samples.now) }

@@ -1,7 +1,7 @@
--- The laws of possible levels.
-use Rattle.std.proofs.Common.{◌≡◌, ◌≢◌, ℕ, zero, suc, ◌+◌, ◌-◌, ◌<◌, ◌≤◌, ◌^◌, min, max, Bool, true, false, List, [], ◌∷◌, ◌++◌, length, map, refl, arith, ap, ◌∙◌, sym, Some, ◌⊎◌, inl, inr, take, drop}
+-- Internal: proofs of the laws of possible levels; an impl block takes them from specs/ alone.
+use Rattle.std.proofs.Common.{◌≡◌, ◌≢◌, ℕ, zero, suc, ◌+◌, ◌-◌, ◌<◌, ◌≤◌, ◌^◌, min, max, Bool, true, false, List, [], ◌∷◌, ◌++◌, length, map, refl, arith, ap, subst, ◌∙◌, sym, Some, ◌⊎◌, inl, inr, take, drop}
 use Rattle.std.specs.Prelude.{nat_le, not, ◌&&◌, ◌||◌}
-use Rattle.std.specs.List.{All, AllZip, AllByRecursion}
+use Rattle.std.specs.List.{All, AllZip, AllByRecursion, Contains}
 use Rattle.std.proofs.lemmas.Bool.{cases_lt, cases_eq, le-leb, lt-leb}
 use Rattle.std.proofs.lemmas.List.Elements.{recursion_from_All}
 use Rattle.td_gates.specs.declared.primitives.Level.{Level}
@@ -16,11 +16,11 @@ use Rattle.td_gates.specs.Schedule.{Obeys, target_before}
 use Rattle.td_domain.specs.declared.cubes.Trit.{Trit}
 use Rattle.td_domain.specs.declared.cubes.Trit.TheVariants.{Zero, One, Free}
 use Rattle.td_domain.specs.Waves.{IsBoolean, IsQuietAfter, IsConstant}
-use Rattle.td_domain.specs.Cubes.{Allows, IsInputWave}
+use Rattle.td_domain.specs.Cubes.{level_of_trit, Allows, IsInputWave}
 use Rattle.td_gates.proofs.Windows.{Held}
 use Rattle.td_gates.proofs.Delays.{IsDelayed, delayed, delayed-boolean}
 use Rattle.td_gates.proofs.TableLaws.{Agrees, Booleans, table-boolean, table_known}
-use Rattle.td_ternary.specs.Possibles.{has, set_of, Covers, known_of, change_at, input_signal, constant_signal, held, is_possible, possible, changes_below, last_change, last_input, last_level, widened, capped, gate_signal, last_of}
+use Rattle.td_ternary.specs.Possibles.{has, set_of, Covers, HasMoment, change_at, input_signal, constant_signal, held, is_possible, possible, changes_below, last_change, last_input, last_level, widened, capped, gate_signal, last_of}
 
 pub cases_bool : (b : Bool) → (b ≡ true) ⊎ (b ≡ false)
 cases_bool true = inl refl
@@ -381,7 +381,7 @@ covers_gate kind delay signals ins out fits takes boolean covered obeys n = go n
         (before out (suc t)) (out_boolean (suc t)) (rw (listed kind delay fits signals t) (covers_possible kind delay signals ins out takes covered is (suc t) (out_boolean (suc t))))
 
 -- inputs and constants
-allowed_has : (trit : Trit) (bit : Bool) → Allows trit bit → has (known_of trit) (level_from bit) ≡ true
+allowed_has : (trit : Trit) (bit : Bool) → Allows trit bit → has (level_of_trit trit) (level_from bit) ≡ true
 allowed_has Zero false h = refl
 allowed_has Zero true h = absurd h
 allowed_has One false h = absurd h
@@ -398,7 +398,7 @@ at_zero s new t = elim (cases_bool (level_eq s new)) [
 pub covers_input : (first second : Trit) (wave : Wave) → IsInputWave first second wave → Covers (input_signal first second) wave
 covers_input first second wave is zero = rw is.starts (allowed_has first is.before is.first_allows)
 covers_input first second wave is (suc t) =
-    rw (at_zero (known_of first) (known_of second) t, is.then t) (allowed_has second is.after is.second_allows)
+    rw (at_zero (level_of_trit first) (level_of_trit second) t, is.then t) (allowed_has second is.after is.second_allows)
 
 pub covers_constant : (one : Bool) (wave : Wave) → IsConstant (level_from one) wave → Covers (constant_signal one) wave
 covers_constant true wave is zero = rw (is 0) refl
@@ -476,8 +476,8 @@ reach_gate kind delay signals m small =
     last_change_low (m + max delay.rise delay.fall) _ (capped_low _ (possible kind delay signals 0) _
     (weaker _ _ (λ b under. omega arith) (changes_below (possible kind delay signals) H) (boundaries_low (possible kind delay signals) H)))
 
-pub reach_input : (first second : Trit) → last_change (change_at 0 (known_of first) (known_of second)) ≤ 10 ^ 9
-reach_input first second = elim (cases_bool (level_eq (known_of first) (known_of second))) [
+pub reach_input : (first second : Trit) → last_change (change_at 0 (level_of_trit first) (level_of_trit second)) ≤ 10 ^ 9
+reach_input first second = elim (cases_bool (level_eq (level_of_trit first) (level_of_trit second))) [
   | inl same ↦ rw same (omega arith)
   | inr other ↦ rw other (omega arith)
 ]
@@ -486,12 +486,32 @@ pub reach_constant : (one : Bool) → last_change (constant_signal one).changes 
 reach_constant true = refl
 reach_constant false = refl
 
-pub reach_last : (signal : Wave) (moment : ℕ) → last_of signal ≡ Some moment → moment ≤ last_change signal.changes
-reach_last signal moment is =
+last_stands : (changes : List Change) → (last_change changes ≡ 0) ⊎ Contains (map (λ change. change.moment) changes) (last_change changes)
+last_stands [] = inl refl
+last_stands (change ∷ later) = elim (cases_lt (last_change later) change.moment) [
+  | inl less ↦ inr (let e : change.moment ≡ max change.moment (last_change later) = omega arith in (0, omega arith, e))
+  | inr more ↦ elim (last_stands later) [
+    | inl none ↦ inl (omega arith)
+    | inr there ↦ inr (
+        let e : last_change later ≡ max change.moment (last_change later) = omega arith in
+        subst (λ m. Contains (map (λ change. change.moment) (change ∷ later)) m) e (suc there.0, omega (arith, there.1), there.2))
+  ]
+]
+
+pub last_is_moment : (signal : Wave) (moment : ℕ) → last_of signal ≡ Some moment → (moment ≡ 0) ⊎ HasMoment signal moment
+last_is_moment signal moment is =
     elim (cases_bool (level_eq (last_level signal.start signal.changes) X)) [
       | inl both ↦ (let none = rw both at is in cc)
       | inr single ↦
           let some = rw single at is in
           let same : last_change signal.changes ≡ moment = cc in
-          omega arith
+          rw same at (last_stands signal.changes)
     ]
+
+change_reach : (changes : List Change) (moment : ℕ) → Contains (map (λ change. change.moment) changes) moment → moment ≤ last_change changes
+change_reach [] moment has = absurd (omega (arith, has.1))
+change_reach (change ∷ later) moment (zero, below, at) = let same : change.moment ≡ moment = at in omega arith
+change_reach (change ∷ later) moment (suc k, below, at) = let rest = change_reach later moment (k, omega arith, at) in omega arith
+
+pub reach_each : (signal : Wave) (moment : ℕ) → HasMoment signal moment → moment ≤ last_change signal.changes
+reach_each signal moment has = change_reach signal.changes moment has

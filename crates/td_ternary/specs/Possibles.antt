@@ -1,6 +1,7 @@
 -- Possible levels: a signal is a wave whose level x stands for both Boolean levels. Which waves it covers, and the signals
 -- of inputs, constants and gates.
-use Rattle.std.specs.Prelude.{◌≡◌, ℕ, zero, suc, ◌+◌, ◌-◌, max, nat_le, Bool, true, false, not, ◌&&◌, ◌||◌, List, [], ◌∷◌, ◌++◌, length, take, drop, Option, Some, None, if◌then◌else◌}
+use Rattle.std.specs.Prelude.{◌≡◌, ℕ, zero, suc, ◌+◌, ◌-◌, max, nat_le, Bool, true, false, not, ◌&&◌, ◌||◌, List, [], ◌∷◌, ◌++◌, length, map, take, drop, Option, Some, None, if◌then◌else◌}
+use Rattle.std.specs.List.{Contains}
 use Rattle.td_gates.specs.declared.primitives.Level.{Level}
 use Rattle.td_gates.specs.declared.primitives.Level.TheVariants.{Zero as Low, One as High, X}
 use Rattle.td_gates.specs.declared.primitives.Kind.{Kind}
@@ -10,7 +11,8 @@ use Rattle.td_gates.specs.Table.{level_from, level_eq}
 use Rattle.td_gates.specs.Wave.{Wave, before}
 use Rattle.td_gates.specs.Schedule.{target_before}
 use Rattle.td_domain.specs.declared.cubes.Trit.{Trit}
-use Rattle.td_domain.specs.declared.cubes.Trit.TheVariants.{Zero, One, Free}
+use Rattle.td_domain.specs.Cubes.{level_of_trit}
+use Rattle.td_domain.specs.Functions.{Functions}
 
 -- the level is among those that the signal's level stands for
 abbrev pub has : Level → Level → Bool
@@ -34,11 +36,9 @@ set_of false one = High
 abbrev pub Covers : Wave → Wave → Type 0
 Covers signal wave = (n : ℕ) → has (before signal n) (before wave n) ≡ true
 
--- the level that stands for those that a trit allows
-abbrev pub known_of : Trit → Level
-known_of Zero = Low
-known_of One = High
-known_of Free = X
+-- the moments in a signal are those of its changes
+abbrev pub HasMoment : Wave → ℕ → Type 0
+HasMoment signal moment = Contains (map (λ change. change.moment) signal.changes) moment
 
 -- a change, where the level is another
 abbrev pub change_at : ℕ → Level → Level → List Change
@@ -47,8 +47,8 @@ change_at moment old new = if level_eq old new then [] else (record { moment = m
 -- an input: the first trit, from moment 0 on the second
 abbrev pub input_signal : Trit → Trit → Wave
 input_signal first second = record {
-  start = known_of first;
-  changes = change_at 0 (known_of first) (known_of second);
+  start = level_of_trit first;
+  changes = change_at 0 (level_of_trit first) (level_of_trit second);
 }
 
 abbrev pub constant_signal : Bool → Wave
@@ -117,3 +117,12 @@ gate_signal kind delay signals = record {
 -- none where the last level stands for both, else the moment of the last change, 0 where there is none
 abbrev pub last_of : Wave → Option ℕ
 last_of signal = if level_eq (last_level signal.start signal.changes) X then None else Some (last_change signal.changes)
+
+-- the domain of possible levels
+abbrev pub possible_functions : Functions Wave
+possible_functions = record {
+  input_of = input_signal;
+  constant_of = constant_signal;
+  gate_of = gate_signal;
+  last_of = last_of;
+}

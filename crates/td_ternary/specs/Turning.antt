@@ -1,15 +1,8 @@
--- Over time, whether a wave's level may be another.
-use Rattle.std.proofs.Common.{◌≡◌, ℕ, suc, ◌≤◌, List, [], ◌∷◌, refl, arith, ◌∙◌, sym, inl, inr}
+-- Internal: how possible levels are computed, as levels of waves.
 use Rattle.std.specs.Prelude.{if◌then◌else◌}
-use Rattle.std.proofs.lemmas.Bool.{cases_lt, le-leb, lt-leb}
 use Rattle.td_gates.specs.declared.primitives.Level.{Level}
 use Rattle.td_gates.specs.declared.primitives.Level.TheVariants.{Zero as Low, One as High}
-use Rattle.td_gates.specs.declared.timing.Change.{Change}
 use Rattle.td_gates.specs.Table.{level_eq}
-use Rattle.td_gates.specs.Wave.{level_after, IsRising}
-use Rattle.td_gates.proofs.Levels.{level_eq-same, level_eq-other, cases_level, level_after-early, IsRising-sooner}
-use Rattle.std.proofs.lemmas.List.Elements.{All-nil, All-cons, All-head, All-tail}
-use Rattle.td_run.specs.Waves.{AreWithin}
 use Rattle.td_ternary.specs.Possibles.{has, set_of}
 
 -- 1 where it may be the wanted level, else 0
@@ -19,53 +12,3 @@ may_be wanted level = if has level wanted then High else Low
 -- the level that stands for those whose wave is at 1
 abbrev pub either : Level → Level → Level
 either low high = set_of (level_eq High low) (level_eq High high)
-
--- the changes of whether it may
-abbrev pub turns : Level → Level → List Change → List Change
-turns wanted may [] = []
-turns wanted may (change ∷ later) =
-    if level_eq (may_be wanted change.level) may
-    then turns wanted may later
-    else (let turn : Change = record { moment = change.moment; level = may_be wanted change.level } in
-    turn ∷ turns wanted (may_be wanted change.level) later)
-
-pub turns-rising : (wanted level may : Level) (n : ℕ) (changes : List Change) → may ≡ may_be wanted level → IsRising n level changes
-    → IsRising n may (turns wanted may changes)
-turns-rising wanted level may n [] same rising = tt
-turns-rising wanted level may n (change ∷ later) same rising = elim (cases_level (may_be wanted change.level) may) [
-  | inl stays ↦ rw (stays, level_eq-same may)
-      (IsRising-sooner n (suc change.moment) may _ (omega (arith, rising.0))
-      (turns-rising wanted change.level may (suc change.moment) later (sym stays) rising.2))
-  | inr turns_to ↦ rw (level_eq-other (may_be wanted change.level) may turns_to)
-      (rising.0, (λ e. turns_to (sym e)), turns-rising wanted change.level (may_be wanted change.level) (suc change.moment) later refl rising.2)
-]
-
-pub turns-after : (wanted level may : Level) (n t : ℕ) (changes : List Change) → may ≡ may_be wanted level → IsRising n level changes
-    → level_after may (turns wanted may changes) t ≡ may_be wanted (level_after level changes t)
-turns-after wanted level may n t [] same rising = same
-turns-after wanted level may n t (change ∷ later) same rising =
-    elim (cases_level (may_be wanted change.level) may) [
-      | inl stays ↦ rw (stays, level_eq-same may) (elim (cases_lt t change.moment) [
-        | inl under ↦ rw (lt-leb change.moment t under)
-            (level_after-early (suc change.moment) t may _
-            (turns-rising wanted change.level may (suc change.moment) later (sym stays) rising.2) (omega arith) ∙ same)
-        | inr on ↦ rw (le-leb change.moment t on) (turns-after wanted change.level may (suc change.moment) t later (sym stays) rising.2)
-      ])
-      | inr turns_to ↦ rw (level_eq-other (may_be wanted change.level) may turns_to) (elim (cases_lt t change.moment) [
-        | inl under ↦ rw (lt-leb change.moment t under) same
-        | inr on ↦ rw (le-leb change.moment t on)
-            (turns-after wanted change.level (may_be wanted change.level) (suc change.moment) t later refl rising.2)
-      ])
-    ]
-
-pub turns-within : (bound : ℕ) (wanted may : Level) (changes : List Change) → AreWithin bound changes → AreWithin bound (turns wanted may changes)
-turns-within bound wanted may [] all = All-nil (λ (change : Change). change.moment ≤ bound)
-turns-within bound wanted may (change ∷ later) all =
-    let here = All-head (λ (change : Change). change.moment ≤ bound) change later all in
-    let rest = All-tail (λ (change : Change). change.moment ≤ bound) change later all in
-    elim (cases_level (may_be wanted change.level) may) [
-      | inl stays ↦ rw (stays, level_eq-same may) (turns-within bound wanted may later rest)
-      | inr turns_to ↦ rw (level_eq-other (may_be wanted change.level) may turns_to)
-          (All-cons (λ (change : Change). change.moment ≤ bound) (record { moment = change.moment; level = may_be wanted change.level }) _ here
-          (turns-within bound wanted (may_be wanted change.level) later rest))
-    ]

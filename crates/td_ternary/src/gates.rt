@@ -13,7 +13,7 @@ ghost use Rattle.td_ternary.specs.Turning.{may_be, either};
 use std::alloc::{AllocError, Global};
 use td_gates::{Change, Delay, Kind, Level};
 use td_run::Wave;
-use td_run::stages::{delayed, push_moments, target};
+use td_run::stages::{delayed, target};
 
 const MAX_CHANGES: usize = 512;
 
@@ -104,6 +104,16 @@ fn either(zero: Level, one: Level) -> Level
         (Level::One, _) => Level::Zero,
         (_, _) => Level::One,
     }
+}
+
+/// Adds the moments of these changes.
+fn push_moments(moments: &mut Vec<u64>, changes: &[Change]) -> Result<(), AllocError>
+    ensures { OnOk result (moments.new.items ≡ moments.old.items ++ map (λ change. change.moment) changes.now) }
+{
+    for change in changes {
+        moments.push(change.moment)?;
+    }
+    Ok(())
 }
 
 /// The moments at which one of two waves changes, each once, in order.

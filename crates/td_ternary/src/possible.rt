@@ -3,8 +3,8 @@
 ghost use Rattle.std.specs.Prelude.{◌≡◌, None, Some, if◌then◌else◌};
 ghost use Rattle.td_gates.specs.declared.primitives.Level.TheVariants.{X};
 ghost use Rattle.td_gates.specs.Table.{level_eq};
-ghost use Rattle.td_ternary.specs.Possibles.{Covers, known_of, input_signal, constant_signal, gate_signal, last_of, last_change};
-ghost use Rattle.td_ternary.specs.PossibleLaws.{covers_input, covers_constant, covers_gate, quiet_after_last, reach_input, reach_constant, reach_gate, reach_last};
+ghost use Rattle.td_ternary.specs.Possibles.{Covers, HasMoment, possible_functions, last_change};
+ghost use Rattle.td_ternary.specs.PossibleLaws.{covers_input, covers_constant, covers_gate, quiet_after_last, reach_input, reach_constant, reach_gate, last_is_moment, reach_each};
 
 use crate::gates;
 use std::alloc::{AllocError, Global};
@@ -20,19 +20,15 @@ impl Domain for Possible {
 
     ghost covers = { Covers };
 
-    ghost input_of = { input_signal };
+    ghost functions = { possible_functions };
 
-    ghost constant_of = { constant_signal };
-
-    ghost gate_of = { gate_signal };
-
-    ghost last_of = { last_of };
+    ghost has_moment = { HasMoment };
 
     ghost reach = { λ signal. last_change signal.changes };
 
     fn input(alloc: Global, first: Trit, second: Trit) -> Result<Wave, AllocError> {
-        let start = level_of_trit(first);
-        let level = level_of_trit(second);
+        let start = first.level();
+        let level = second.level();
         let mut changes = Vec::new(alloc);
         if start != level {
             changes.push(Change { moment: 0, level })?;
@@ -80,18 +76,9 @@ impl Domain for Possible {
 
     ghost reach_gate = { reach_gate };
 
-    ghost reach_last = { reach_last };
-}
+    ghost last_is_moment = { last_is_moment };
 
-/// The level that stands for those that a trit allows.
-fn level_of_trit(trit: Trit) -> Level
-    ensures { result ≡ known_of trit }
-{
-    match trit {
-        Trit::Zero => Level::Zero,
-        Trit::One => Level::One,
-        Trit::Free => Level::X,
-    }
+    ghost reach_each = { reach_each };
 }
 
 /// The moment, where the last level there isn't that of both.

@@ -3,7 +3,8 @@ use Rattle.std.proofs.lemmas.List.{drop_all}
 use Rattle.td_gates.specs.declared.primitives.Level.{Level}
 use Rattle.td_gates.specs.declared.timing.Change.{Change}
 use Rattle.td_gates.specs.Wave.{Wave, before, IsRising}
-use Rattle.td_ternary.specs.Turning.{may_be, turns, turns-rising, turns-after, turns-within}
+use Rattle.td_ternary.specs.Turning.{may_be}
+use Rattle.td_ternary.proofs.Turning.{turns, turns-rising, turns-after, turns-within}
 use Rattle.td_run.specs.Waves.{AreWithin}
 use Rattle.td_ternary.proofs.gates.possibility.Goals as goal
 

@@ -1,5 +1,5 @@
 use Rattle.std.proofs.Common.{◌≡◌, ◌++◌, drop}
-use Rattle.td_ternary.specs.Turning.{turns}
+use Rattle.td_ternary.proofs.Turning.{turns}
 use Rattle.td_ternary.proofs.gates.possibility.Given as goal
 
 abbrev pub invariant-loop-change : goal.invariant-loop-change
