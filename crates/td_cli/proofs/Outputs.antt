@@ -80,3 +80,7 @@ pub three_pushed : (old front name line_end first second new : List ℕ) → fir
     → new ≡ old ++ (front ++ (name ++ line_end))
 three_pushed old front name line_end first second new is_first is_second is_new =
     rw (is_new, is_second, is_first, append_assoc (old ++ front) name line_end, append_assoc old front (name ++ line_end)) refl
+
+-- a text to which two were appended in turn
+pub two_pushed : (old front name first new : List ℕ) → first ≡ old ++ front → new ≡ first ++ name → new ≡ old ++ (front ++ name)
+two_pushed old front name first new is_first is_new = rw (is_new, is_first, append_assoc old front name) refl

@@ -1,5 +1,5 @@
 -- How the program ends.
-use Rattle.std.proofs.Common.{◌≡◌, ◌≢◌, ◌⊎◌, ◌∙◌, ◌++◌, ℕ, List, [], ◌∷◌, Option, Some, None, refl, sym, ap, subst, inl, inr, append-nil, codes}
+use Rattle.std.proofs.Common.{◌≡◌, ◌≢◌, ◌⊎◌, ◌∙◌, ◌++◌, ℕ, List, [], ◌∷◌, Option, Some, None, Result, Ok, Err, OnErr, IfErr, refl, sym, ap, subst, inl, inr, append-nil, codes}
 use Rattle.std.specs.Borrow.{Bor}
 use Rattle.clap.specs.Words.{kind_of, HasKind}
 use Rattle.clap.specs.declared.error.Error.{Error}
@@ -10,19 +10,21 @@ use Rattle.td_gates.specs.declared.timing.Delay.{Delay}
 use Rattle.td_certificate.specs.declared.certificate.Certificate.{Certificate}
 use Rattle.td_certificate.specs.Spelling.{spelling}
 use Rattle.td_certificate.specs.declared.fault.WriteFault.{WriteFault}
+use Rattle.td_certificate.specs.declared.fault.WriteFault.TheVariants as unwritten
 use Rattle.td_cli.specs.declared.files.ReadFault.{ReadFault}
 use Rattle.td_cli.specs.declared.files.ReadFault.TheVariants as unread
 use Rattle.td_cli.specs.declared.status.Status.{Status}
 use Rattle.td_cli.specs.declared.status.Status.TheVariants.{Done, Between, Device}
 use Rattle.td_cli.specs.declared.refusal.Refusal.{Refusal}
 use Rattle.td_cli.specs.declared.refusal.Refusal.TheVariants as refusal
-use Rattle.td_cli.specs.Files.{FileStep, FileText, IsWritten, IsLeft, AreWritten}
+use Rattle.td_cli.specs.declared.command.Request.{Request}
+use Rattle.td_cli.specs.Files.{FileStep, Made, Ended, FileText, HasBeginning, IsWritten, IsLeft, AreWritten, Takes}
 use Rattle.td_cli.specs.Refusals.{unwritten_text}
 use Rattle.td_cli.specs.Outcomes.{HasNoCircuit}
 use Rattle.td_cli.specs.WorstReports.{IsWorstReport}
 use Rattle.td_cli.specs.CommandLine.{kinds_of}
 use Rattle.td_cli.specs.Ends.{Product, Streams, streams, Tells, TellsReason, TellsUnread, TellsUnwritten, Says, Finishes, Refuses, LosesReport, LosesFile, Ends}
-use Rattle.td_cli.specs.Requests.{Disk, Reads, HoldsOnFile, certificate_files, search_ending, IsWorstProduct, IsOutOfMemory, IsShown, TellsText, ProgramEnds}
+use Rattle.td_cli.specs.Requests.{Disk, Reads, HoldsOnFile, words_of, certificate_files, search_ending, IsWorstProduct, IsOutOfMemory, IsShown, TellsText, RequestEnds, ProgramEnds}
 
 -- a kind whose text goes to standard error isn't
 pub not_shown : (k : ErrorKind) → (k ≢ kind.DisplayHelp) × (k ≢ kind.DisplayVersion) → ¬ IsShown k
@@ -108,19 +110,20 @@ module _ (P : Product → Type 0) (H : Refusal → Type 0) (b : List ℕ → Typ
 
   -- a report was said, and no file is due
   pub said : (report : List ℕ) (ending status : Status) (old new : Streams)
-      → P (record { report = report; files = []; ending = ending }) → Says report ending status old new → Ends P H b [] status old new
-  said report ending status old new is (inl sent) = inl (record {
+      → P (record { report = report; files = []; ending = ending }) → (text : List ℕ) → text ≡ report → Says text ending status old new
+      → Ends P H b [] status old new
+  said report ending status old new is text same (inl sent) = inl (record {
     product = record { report = report; files = []; ending = ending };
     is = is;
-    sent = sent.0;
+    sent = subst (λ (it : List ℕ). Sent old.out new.out it) same sent.0;
     written = refl;
     silent = sent.1;
     ends = sent.2;
   })
-  said report ending status old new is (inr lost) = inr (inr (inl (record {
+  said report ending status old new is text same (inr lost) = inr (inr (inl (record {
     product = record { report = report; files = []; ending = ending };
     is = is;
-    broke = lost.0;
+    broke = subst (λ (it : List ℕ). Failed old.out new.out it) same lost.0;
     told = lost.1;
     no_file = refl;
     ends = lost.2;
@@ -134,6 +137,26 @@ pub on_file : (disk : Disk) (name text : List ℕ) → disk.holds name text
 on_file disk name text held P H b c breaks = lifted (P text) (H text) b _ _ c
     (λ product is. (text, held, is)) (λ reason holds. inr (text, held, holds)) breaks
 
+-- the same of a command that may take steps on files
+pub on_file_taking : (WereTaken : List FileStep → Type 0) (disk : Disk) (name text : List ℕ) → disk.holds name text
+    → (P : List ℕ → Product → Type 0) (H : List ℕ → Refusal → Type 0) (status : Status) (old new : Streams)
+    → Takes WereTaken (λ steps. Ends (P text) (H text) disk.breaks steps status old new)
+    → Takes WereTaken (λ steps. Ends (λ product. Reads disk name (λ read. P read product)) (HoldsOnFile disk name H) disk.breaks steps status old new)
+on_file_taking WereTaken disk name text held P H status old new taken = (
+  taken.0,
+  taken.1,
+  on_file disk name text held P H disk.breaks disk.breaks (λ name may. may) taken.0 status old new taken.2,
+)
+
+-- why a file can't be read was told
+pub told_memory : (file : Bor (List ℕ)) (fault : ReadFault) (status : Status) (old new : Output) → fault ≡ unread.OutOfMemory
+    → TellsReason refusal.OutOfMemory status old new → TellsUnread file fault status old new
+told_memory file fault status old new is told = subst (λ (f : ReadFault). TellsUnread file f status old new) (sym is) told
+
+pub told_device : (file : Bor (List ℕ)) (fault : ReadFault) (status : Status) (old new : Output) → fault ≡ unread.Device
+    → TellsReason (refusal.Unreadable file) status old new → TellsUnread file fault status old new
+told_device file fault status old new is told = subst (λ (f : ReadFault). TellsUnread file f status old new) (sym is) told
+
 -- a file that can't be read was told
 pub not_read : (disk : Disk) (file : Bor (List ℕ)) (P : Product → Type 0) (H : List ℕ → Refusal → Type 0) (b : List ℕ → Type 0)
     (fault : ReadFault) (status : Status) (out err_old err_new : Output)
@@ -145,7 +168,55 @@ not_read disk file P H b unread.Device status out err_old err_new fails told =
     refused P (HoldsOnFile disk file.now H) b (refusal.Unreadable file) status out err_old err_new
     (λ other. inl (file, refl, refl, fails refl)) told
 
+-- ---- files
+
+-- two facts of a refusal, taken together
+pub refused_with : {T : Type 0} {A : Type 0} {B : WriteFault → Type 0} {Goal : WriteFault → Type 0} (r : Result T WriteFault)
+    → OnErr r A → IfErr r B → ((fault : WriteFault) → A → B fault → Goal fault) → IfErr r Goal
+refused_with (Ok x) one other goal = tt
+refused_with (Err fault) one other goal = goal fault one other
+
+module _ {F : Type 0} (did : F → F → List FileStep → Type 0)
+    (both : (first then last : F) (steps more : List FileStep) → did first then steps → did then last more → did first last (steps ++ more))
+    (first then : F) (name text : List ℕ) (begun : Output) (made : did first then (Made name begun ∷ [])) where
+  -- a file was made and written
+  pub wrote : (last : F) (ended : Output) → did then last (Ended name ended ∷ []) → Sent begun ended text
+      → Takes (did first last) (IsWritten (record { name = name; text = text }))
+  wrote last ended done sent =
+      (_, both first then last _ _ made done, record { begun = begun; ended = ended; sent = sent; are = refl })
+
+  -- a file was made, and its writer failed or memory ran out
+  pub broke : (breaks : Type 0) (fault : WriteFault) (last : F) (ended : Output) → did then last (Ended name ended ∷ [])
+      → HasBeginning begun ended text fault → Takes (did first last) (IsLeft breaks (record { name = name; text = text }) fault)
+  broke breaks fault last ended done has =
+      (_, both first then last _ _ made done, inr (record { begun = begun; ended = ended; has = has; are = refl }))
+
+  -- a file was made, and its writing couldn't be ended
+  pub unended : (breaks : Type 0) (fault : WriteFault) (last : F) → last ≡ then → (fault ≡ unwritten.Device → breaks)
+      → Takes (did first last) (IsLeft breaks (record { name = name; text = text }) fault)
+  unended breaks fault last same may =
+      (_, subst (λ end. did first end (Made name begun ∷ [])) (sym same) made, inl (may, inr (begun, refl)))
+
+-- nothing was done to files that are as they were
+pub nothing_done : {F : Type 0} (did : F → F → List FileStep → Type 0) (did_nothing : (files : F) → did files files []) (first last : F) → last ≡ first
+    → did first last []
+nothing_done did did_nothing first last same = subst (λ end. did first end []) (sym same) (did_nothing first)
+
+-- how a command ends, by what was asked
+pub asked_as : (WereTaken : List FileStep → Type 0) (disk : Disk) (asked other : Request) (status : Status) (old new : Streams) → other ≡ asked
+    → Takes WereTaken (λ steps. RequestEnds disk asked steps status old new) → Takes WereTaken (λ steps. RequestEnds disk other steps status old new)
+asked_as WereTaken disk asked other status old new same taken =
+    subst (λ (it : Request). Takes WereTaken (λ steps. RequestEnds disk it steps status old new)) (sym same) taken
+
 -- ---- the search
+
+-- without a certificate, or without a name, no file is due
+pub no_certificate : (name : Option (List ℕ)) (certificate : Option Certificate) → certificate ≡ None → certificate_files name certificate ≡ []
+no_certificate None certificate none = refl
+no_certificate (Some name) certificate none = ap (certificate_files (Some name)) none
+
+pub no_name : (word : Option (Bor (List ℕ))) (certificate : Option Certificate) → word ≡ None → certificate_files (words_of word) certificate ≡ []
+no_name word certificate none = ap (λ (it : Option (Bor (List ℕ))). certificate_files (words_of it) certificate) none
 
 abbrev pub certificate_file : List ℕ → Certificate → FileText
 certificate_file name certificate = record { name = name; text = spelling certificate }
@@ -153,6 +224,12 @@ certificate_file name certificate = record { name = name; text = spelling certif
 module _ (text : List ℕ) (default : Delay) (budget : ℕ) (b : List ℕ → Type 0) where
   abbrev pub WorstEnds : Option (List ℕ) → List FileStep → Status → Streams → Streams → Type 0
   WorstEnds name = Ends (IsWorstProduct text default budget name) (HasNoCircuit text default) b
+
+  -- of the name that is given
+  pub named : (word : Option (Bor (List ℕ))) (name : Bor (List ℕ)) (steps : List FileStep) (status : Status) (old new : Streams) → word ≡ Some name
+      → WorstEnds (Some name.now) steps status old new → WorstEnds (words_of word) steps status old new
+  named word name steps status old new is ends =
+      subst (λ (it : Option (Bor (List ℕ))). WorstEnds (words_of it) steps status old new) (sym is) ends
 
   -- the report of a search was not said
   pub lost_report : (name : Option (List ℕ)) (report : List ℕ) (certificate : Option Certificate) (status : Status) (old new : Streams)

@@ -51,10 +51,14 @@ abbrev pub certificate_fault_text : CertFault → List ℕ
 certificate_fault_text fault =
     decimal (kind_number fault.kind) ++ codes " " ++ kind_name fault.kind ++ codes " at line " ++ decimal fault.line
 
+-- the line, but for its end, that tells a file that can't be read
+unfoldable pub unreadable_text : List ℕ → List ℕ
+unreadable_text name = codes "tdelay: cannot read " ++ name
+
 -- the line that tells why a command wasn't carried out
 abbrev pub refusal_text : Refusal → List ℕ
 refusal_text OutOfMemory = codes "tdelay: out of memory" ++ newline
-refusal_text (Unreadable name) = codes "tdelay: cannot read " ++ name.now ++ newline
+refusal_text (Unreadable name) = unreadable_text name.now ++ newline
 refusal_text (Netlist fault) = codes "tdelay: netlist fault " ++ fault_text fault ++ newline
 refusal_text (Loop name) = codes "tdelay: circuit fault 1 Loop on " ++ printed (name_of name) ++ newline
 refusal_text (Certificate fault) = codes "tdelay: certificate fault " ++ certificate_fault_text fault ++ newline

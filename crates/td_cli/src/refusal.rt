@@ -1,7 +1,7 @@
 //! Why a command was not carried out, and how that is told.
 
 ghost use Rattle.std.specs.Prelude.{◌≡◌, ◌++◌, OnOk};
-ghost use Rattle.td_cli.specs.Refusals.{vector_word, number_and_name, fault_text, certificate_fault_text, refusal_text};
+ghost use Rattle.td_cli.specs.Refusals.{vector_word, number_and_name, fault_text, certificate_fault_text, unreadable_text, refusal_text};
 ghost use Rattle.td_netlist.specs.Views.{name_of};
 ghost use Rattle.td_cli.specs.Ends.{status_of};
 
@@ -69,8 +69,7 @@ impl<'a> Refusal<'a> {
         match self {
             Refusal::OutOfMemory => text.push(b"tdelay: out of memory")?,
             Refusal::Unreadable(name) => {
-                text.push(b"tdelay: cannot read ")?;
-                text.word(*name)?;
+                tell_unreadable(text, name)?;
             }
             Refusal::Netlist(fault) => {
                 text.push(b"tdelay: netlist fault ")?;
@@ -128,6 +127,14 @@ fn number_and_name(kind: FaultKind<'_>) -> &'static [u8]
         FaultKind::TooMany => b"14 TooMany",
         FaultKind::PortUndeclared => b"15 PortUndeclared",
     }
+}
+
+/// Appends the line, but for its end, that tells a file that can't be read.
+fn tell_unreadable(text: &mut Text, name: &str) -> Result<(), AllocError>
+    ensures { OnOk result (text.new ≡ text.old ++ unreadable_text name.now) }
+{
+    text.push(b"tdelay: cannot read ")?;
+    text.word(name)
 }
 
 /// Appends the number, name and line of a fault, and the token that it tells.

@@ -1,0 +1,18 @@
+use Rattle.std.proofs.Common.{refl, subst}
+use Rattle.td_gates.specs.Output.{Output}
+use Rattle.td_cli.specs.declared.status.Status.TheVariants.{Done}
+use Rattle.td_cli.specs.Ends.{Says, streams}
+use Rattle.td_cli.specs.Outcomes.{HasNoReport}
+use Rattle.td_cli.specs.Requests.{IsSimProduct, words_of}
+use Rattle.td_cli.proofs.Programs.{said, refused}
+use Rattle.td_cli.proofs.program.carry_out_sim.Goals as goal
+
+pub returns-in-Ok : goal.returns-in-Ok
+returns-in-Ok g c =
+    said (IsSimProduct c.args.text.now c.args.default c.args.from.now c.args.to.now) (HasNoReport c.args.text.now c.args.default c.args.from.now c.args.to.now) _ c.in-Ok.report Done _ _ _
+    (record { is = c.in-Ok.ensures.report; no_file = refl; ends = refl })
+    _ c.bytes.ensures c.say.ensures
+
+pub returns-in-Err : goal.returns-in-Err
+returns-in-Err g c =
+    refused (IsSimProduct c.args.text.now c.args.default c.args.from.now c.args.to.now) (HasNoReport c.args.text.now c.args.default c.args.from.now c.args.to.now) _ c.in-Err.refusal _ _ _ _ (λ _. c.in-Err.ensures.refusal) c.tell_refusal.ensures
