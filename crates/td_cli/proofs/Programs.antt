@@ -192,10 +192,9 @@ module _ {F : Type 0} (did : F → F → List FileStep → Type 0)
       (_, both first then last _ _ made done, inr (record { begun = begun; ended = ended; has = has; are = refl }))
 
   -- a file was made, and its writing couldn't be ended
-  pub unended : (breaks : Type 0) (fault : WriteFault) (last : F) → last ≡ then → (fault ≡ unwritten.Device → breaks)
+  pub unended : (breaks : Type 0) (fault : WriteFault) (last : F) → did then last [] → (fault ≡ unwritten.Device → breaks)
       → Takes (did first last) (IsLeft breaks (record { name = name; text = text }) fault)
-  unended breaks fault last same may =
-      (_, subst (λ end. did first end (Made name begun ∷ [])) (sym same) made, inl (may, inr (begun, refl)))
+  unended breaks fault last stays may = (_, both first then last _ _ made stays, inl (may, inr (begun, refl)))
 
 -- nothing was done to files that are as they were
 pub nothing_done : {F : Type 0} (did : F → F → List FileStep → Type 0) (did_nothing : (files : F) → did files files []) (first last : F) → last ≡ first

@@ -35,7 +35,7 @@ impl From<io::Error> for ReadFault {
 
 /// Files by name.
 pub trait Files {
-    ghost use Rattle.std.specs.Prelude.{◌≡◌, ℕ, List, [], ◌∷◌, ◌++◌, IfOk, IfErr, OnOk};
+    ghost use Rattle.std.specs.Prelude.{◌≡◌, ℕ, List, [], ◌∷◌, ◌++◌, IfOk, IfErr, OnOk, OnErr};
     ghost use Rattle.td_cli.specs.Files.{FileStep, Made, Ended};
     ghost use Rattle.td_cli.specs.declared.files.ReadFault.TheVariants as Fault;
     ghost use Rattle.td_certificate.specs.declared.fault.WriteFault.TheVariants as Unwritten;
@@ -66,7 +66,7 @@ pub trait Files {
         ensures made { IfOk result (λ writer. did self.old self.new (Made name.now (Self.Writer.output writer) ∷ [])) }
         ensures devices { (other : List ℕ) → breaks self.new other → breaks self.old other }
         ensures fault { IfErr result (λ fault. fault ≡ Unwritten.Device → breaks self.old name.now) }
-        ensures stays { IfErr result (λ _. self.new ≡ self.old) };
+        ensures stays { OnErr result (did self.old self.new []) };
 
     /// Ends the writing of a file, also where its writer failed: what its writer took is the file of this name. Where it
     /// can't be ended, the writer comes back.
@@ -74,7 +74,7 @@ pub trait Files {
         ensures ended { OnOk result (did self.old self.new (Ended name.now (Self.Writer.output writer) ∷ [])) }
         ensures back { IfErr result (λ refused. refused.0 ≡ writer) }
         ensures fault { IfErr result (λ refused. refused.1 ≡ Unwritten.Device → breaks self.old name.now) }
-        ensures stays { IfErr result (λ _. self.new ≡ self.old) };
+        ensures stays { OnErr result (did self.old self.new []) };
 
     /// No step was taken where nothing was done.
     ghost did_nothing: { (files : Self) → did files files [] };
