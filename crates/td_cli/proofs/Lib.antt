@@ -1,13 +1,5 @@
 pub mod Vectors
-pub mod CommandLines
 pub mod Refusing
 pub mod Outputs
 pub mod Programs
 pub mod Missing
-pub mod Rows
-pub mod Uses
-pub mod Turns
-pub mod Levels
-pub mod Numbers
-pub mod Filled
-pub mod Taken

@@ -17,12 +17,12 @@ use Rattle.td_cli.specs.declared.status.Status.{Status}
 use Rattle.td_cli.specs.declared.status.Status.TheVariants.{Done, Between, Device}
 use Rattle.td_cli.specs.declared.refusal.Refusal.{Refusal}
 use Rattle.td_cli.specs.declared.refusal.Refusal.TheVariants as refusal
-use Rattle.td_cli.specs.declared.command.Request.{Request}
+use Rattle.td_command.specs.declared.command.Request.{Request}
 use Rattle.td_cli.specs.Files.{FileStep, Made, Ended, FileText, HasBeginning, IsWritten, IsLeft, AreWritten, Takes}
 use Rattle.td_cli.specs.Refusals.{unwritten_text}
 use Rattle.td_cli.specs.Outcomes.{HasNoCircuit}
 use Rattle.td_cli.specs.WorstReports.{IsWorstReport}
-use Rattle.td_cli.specs.CommandLine.{kinds_of}
+use Rattle.td_command.specs.CommandLine.{kinds_of}
 use Rattle.td_cli.specs.Ends.{Product, Streams, streams, Tells, TellsReason, TellsUnread, TellsUnwritten, Says, Finishes, Refuses, LosesReport, LosesFile, Ends}
 use Rattle.td_cli.specs.Requests.{Disk, Reads, HoldsOnFile, words_of, certificate_files, search_ending, IsWorstProduct, IsOutOfMemory, IsShown, TellsText, RequestEnds, ProgramEnds}
 

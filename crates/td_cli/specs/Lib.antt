@@ -1,5 +1,4 @@
 pub mod Statuses
-pub mod CommandLine
 pub mod Vectors
 pub mod Reports
 pub mod BoundReports

@@ -14,9 +14,9 @@ use Rattle.td_cli.specs.declared.files.ReadFault.{ReadFault}
 use Rattle.td_cli.specs.declared.files.ReadFault.TheVariants as unread
 use Rattle.td_cli.specs.declared.refusal.Refusal.{Refusal}
 use Rattle.td_cli.specs.declared.refusal.Refusal.TheVariants as refusal
-use Rattle.td_cli.specs.declared.command.Request.{Request}
-use Rattle.td_cli.specs.declared.command.Request.TheVariants as request
-use Rattle.td_cli.specs.CommandLine.{delays, kinds_of, Asks}
+use Rattle.td_command.specs.declared.command.Request.{Request}
+use Rattle.td_command.specs.declared.command.Request.TheVariants as request
+use Rattle.td_command.specs.CommandLine.{delays, kinds_of, Asks}
 use Rattle.td_cli.specs.Reports.{newline, IsSimReport}
 use Rattle.td_cli.specs.BoundReports.{IsBoundReport}
 use Rattle.td_cli.specs.CheckReports.{IsCheckReport}

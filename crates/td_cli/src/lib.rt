@@ -3,9 +3,7 @@
 
 mod bounding;
 mod checking;
-mod command;
 mod files;
-pub mod laws;
 mod memory_files;
 mod program;
 mod refusal;
@@ -19,7 +17,7 @@ mod writer;
 
 pub use bounding::bounds;
 pub use checking::{Checked, verdict_on};
-pub use command::{BoundRequest, CheckRequest, Request, SimRequest, WorstRequest, parse};
+pub use td_command::{BoundRequest, CheckRequest, Request, SimRequest, WorstRequest, laws, parse};
 pub use files::{Files, ReadFault, RealFiles};
 pub use memory_files::{MemoryFile, MemoryFiles, MemoryStep};
 pub use program::{

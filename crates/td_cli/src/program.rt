@@ -5,20 +5,20 @@ ghost use Rattle.clap.specs.Words.{kind_of};
 ghost use Rattle.clap.specs.declared.error.kind.ErrorKind.TheVariants as Kind;
 ghost use Rattle.td_gates.specs.Delays.{IsInRange};
 ghost use Rattle.td_certificate.specs.Spelling.{HasSpelling, spelling};
-ghost use Rattle.td_cli.specs.CommandLine.{delays, IsCarriedOut};
+ghost use Rattle.td_command.specs.CommandLine.{delays, IsCarriedOut};
 ghost use Rattle.td_cli.specs.Ends.{Ends, Tells, TellsReason, TellsUnread, TellsUnwritten, Says, streams};
 ghost use Rattle.td_cli.specs.Files.{IsWritten, IsLeft, Takes};
 ghost use Rattle.td_cli.specs.Outcomes.{HasNoReport, HasNoBounds, HasNoCircuit, HasNoVerdict};
 ghost use Rattle.td_cli.specs.Refusals.{unwritten_text};
 ghost use Rattle.td_cli.specs.Requests.{disk_of, words_of, IsSimProduct, IsBoundProduct, IsCheckProduct, IsWorstProduct, Reads, HoldsOnFile, RequestEnds, IsOutOfMemory, IsShown, TellsText, ProgramEnds, RefusesWords};
-ghost use Rattle.td_cli.specs.declared.command.Request.TheVariants as Asked;
+ghost use Rattle.td_command.specs.declared.command.Request.TheVariants as Asked;
 ghost use Rattle.td_cli.specs.declared.refusal.Refusal.TheVariants as Reason;
 ghost use Rattle.td_cli.specs.declared.files.ReadFault.TheVariants as Fault;
 ghost use Rattle.td_cli.specs.declared.status.Status.TheVariants as Ended;
 
 use crate::bounding::bounds;
 use crate::checking::verdict_on;
-use crate::command::{BoundRequest, CheckRequest, Request, SimRequest, WorstRequest, parse};
+
 use crate::files::{Files, ReadFault};
 use crate::refusal::Refusal;
 use crate::searching::worst;
@@ -30,6 +30,7 @@ use clap::error::ErrorKind;
 use std::alloc::{AllocError, Global};
 use std::convert::AsStr;
 use td_certificate::{Certificate, WriteFault, write};
+use td_command::{BoundRequest, CheckRequest, Request, SimRequest, WorstRequest, parse};
 use td_gates::{Delay, Sink};
 
 /// Carries out the command that the words ask for: what it answers goes to `out`, why it was refused to `err`. The first

@@ -1,5 +1,5 @@
 use Rattle.std.proofs.Common.{sym, subst}
-use Rattle.td_cli.specs.CommandLine.{delays}
+use Rattle.td_command.specs.CommandLine.{delays}
 use Rattle.td_cli.specs.Outcomes.{HasNoReport}
 use Rattle.td_cli.specs.Requests.{disk_of, words_of, HoldsOnFile, Reads, IsSimProduct}
 use Rattle.td_cli.proofs.Programs.{nothing_done, on_file, not_read}

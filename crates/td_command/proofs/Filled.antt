@@ -1,0 +1,192 @@
+-- The commands as the parser fills them in, and what their words ask for where they have no fault.
+use Rattle.std.proofs.Common.{◌≡◌, ◌≤◌, List, length, Some, codes, refl, inl, inr, arith, ℕ, true}
+use Rattle.std.specs.Prelude.{option_map, pos}
+use Rattle.std.specs.List.{list_any}
+use Rattle.clap.specs.Facts.{unwrap_or_range}
+use Rattle.clap.specs.Simple.{App, Shape, built_leaf, inherited, marked_built, with_leaf_noted}
+use Rattle.clap.specs.declared.builder.value_parser.ValueParser.TheVariants.{Signed}
+use Rattle.clap.specs.Walk.{Row, Rule, Text, action_of, arg_by_id, first_of, most_values}
+use Rattle.clap.specs.declared.builder.action.ArgAction.TheVariants.{Set, Help}
+use Rattle.td_command.specs.CommandLine.{AsksBound, AsksCheck, AsksSim, AsksWorst, bound_command, check_command, program, sim_command, worst_command}
+use Rattle.td_command.specs.declared.command.SimRequest.{SimRequest}
+use Rattle.td_command.specs.declared.command.BoundRequest.{BoundRequest}
+use Rattle.td_command.specs.declared.command.WorstRequest.{WorstRequest}
+use Rattle.td_command.specs.declared.command.CheckRequest.{CheckRequest}
+use Rattle.td_command.proofs.Rows.{IsKnown}
+use Rattle.td_command.proofs.Levels.{IsPlainLeaf, IsTaken, has_default}
+use Rattle.td_command.proofs.Numbers.{HasOption, behind, default_there, given_text, number_there, text_there}
+
+-- ---- the commands
+
+abbrev filled_in : App → Shape
+filled_in app = built_leaf (inherited (with_leaf_noted (marked_built program.top)) app.top)
+
+abbrev pub sim : Shape
+sim = filled_in sim_command
+
+abbrev pub bound : Shape
+bound = filled_in bound_command
+
+abbrev pub worst : Shape
+worst = filled_in worst_command
+
+abbrev pub check : Shape
+check = filled_in check_command
+
+known_one : {command : List Rule} {rule : Rule} → arg_by_id command rule.id ≡ Some rule → action_of rule ≡ Set
+    → (unwrap_or_range rule.range).start_inclusive ≡ 1 → most_values rule ≡ 1 → length rule.defaults ≤ 1 → IsKnown command rule
+known_one found action least most default = record {
+  found = found;
+  kind = inl (record { action = action; least = least; most = most });
+  default = default;
+}
+
+known_help : {command : List Rule} {rule : Rule} → arg_by_id command rule.id ≡ Some rule → action_of rule ≡ Help → length rule.defaults ≤ 1
+    → IsKnown command rule
+known_help found action default = record { found = found; kind = inr action; default = default }
+
+has_option : {shape : Shape} {id : Text} {least most : ℕ} (rule : Rule) → arg_by_id shape.rules id ≡ Some rule
+    → rule.parser ≡ Some (Signed (pos least) (pos most)) → list_any (has_default id) shape.rules ≡ true → HasOption shape id least most
+has_option rule named parser left_out = record { rule = rule; named = named; parser = parser; left_out = left_out }
+
+pub sim_is_plain : IsPlainLeaf sim
+sim_is_plain = record {
+  known = (
+    known_one refl refl refl refl (omega arith),
+    (
+      known_one refl refl refl refl (omega arith),
+      (
+        known_one refl refl refl refl (omega arith),
+        (
+          known_one refl refl refl refl (omega arith),
+          (
+            known_one refl refl refl refl (omega arith),
+            (known_help refl refl (omega arith), tt),
+          ),
+        ),
+      ),
+    ),
+  );
+  once = refl;
+}
+
+pub bound_is_plain : IsPlainLeaf bound
+bound_is_plain = record {
+  known = (
+    known_one refl refl refl refl (omega arith),
+    (
+      known_one refl refl refl refl (omega arith),
+      (
+        known_one refl refl refl refl (omega arith),
+        (
+          known_one refl refl refl refl (omega arith),
+          (
+            known_one refl refl refl refl (omega arith),
+            (known_help refl refl (omega arith), tt),
+          ),
+        ),
+      ),
+    ),
+  );
+  once = refl;
+}
+
+pub worst_is_plain : IsPlainLeaf worst
+worst_is_plain = record {
+  known = (
+    known_one refl refl refl refl (omega arith),
+    (
+      known_one refl refl refl refl (omega arith),
+      (
+        known_one refl refl refl refl (omega arith),
+        (
+          known_one refl refl refl refl (omega arith),
+          (
+            known_one refl refl refl refl (omega arith),
+            (
+              known_one refl refl refl refl (omega arith),
+              (known_help refl refl (omega arith), tt),
+            ),
+          ),
+        ),
+      ),
+    ),
+  );
+  once = refl;
+}
+
+pub check_is_plain : IsPlainLeaf check
+check_is_plain = record {
+  known = (
+    known_one refl refl refl refl (omega arith),
+    (
+      known_one refl refl refl refl (omega arith),
+      (
+        known_one refl refl refl refl (omega arith),
+        (
+          known_one refl refl refl refl (omega arith),
+          (known_help refl refl (omega arith), tt),
+        ),
+      ),
+    ),
+  );
+  once = refl;
+}
+
+-- ---- what the words ask for
+
+pub asks_sim : (rows : List Row) → IsTaken sim rows → (asked : SimRequest) × AsksSim rows asked
+asks_sim rows taken =
+    let file = text_there sim.rules (codes "FILE") rows (taken.given.0 refl) taken.rules in
+    let from = text_there sim.rules (codes "FROM") rows (taken.given.1.0 refl) taken.rules in
+    let to = text_there sim.rules (codes "TO") rows (taken.given.1.1.0 refl) taken.rules in
+    let default = default_there sim rows (has_option _ refl refl refl) (has_option _ refl refl refl) taken in (
+      record { file = behind file.0; from = behind from.0; to = behind to.0; rise = default.0.rise; fall = default.0.fall },
+      record { file = file.1; from = from.1; to = to.1; default = default.1 },
+    )
+
+pub asks_bound : (rows : List Row) → IsTaken bound rows → (asked : BoundRequest) × AsksBound rows asked
+asks_bound rows taken =
+    let file = text_there bound.rules (codes "FILE") rows (taken.given.0 refl) taken.rules in
+    let default = default_there bound rows (has_option _ refl refl refl) (has_option _ refl refl refl) taken in (
+      record {
+        file = behind file.0;
+        first = option_map behind (first_of (codes "first") rows);
+        second = option_map behind (first_of (codes "second") rows);
+        rise = default.0.rise;
+        fall = default.0.fall;
+      },
+      record { file = file.1; first = given_text (first_of (codes "first") rows); second = given_text (first_of (codes "second") rows); default = default.1 },
+    )
+
+pub asks_worst : (rows : List Row) → IsTaken worst rows → (asked : WorstRequest) × AsksWorst rows asked
+asks_worst rows taken =
+    let file = text_there worst.rules (codes "FILE") rows (taken.given.0 refl) taken.rules in
+    let workers = number_there worst (codes "workers") 1 1 rows (has_option _ refl refl refl) taken in
+    let budget = number_there worst (codes "budget") 0 10000000 rows (has_option _ refl refl refl) taken in
+    let default = default_there worst rows (has_option _ refl refl refl) (has_option _ refl refl refl) taken in (
+      record {
+        file = behind file.0;
+        workers = workers.0;
+        budget = budget.0;
+        certificate = option_map behind (first_of (codes "cert") rows);
+        rise = default.0.rise;
+        fall = default.0.fall;
+      },
+      record {
+        file = file.1;
+        workers = (workers.1, workers.3);
+        budget = (budget.1, budget.3);
+        certificate = given_text (first_of (codes "cert") rows);
+        default = default.1;
+      },
+    )
+
+pub asks_check : (rows : List Row) → IsTaken check rows → (asked : CheckRequest) × AsksCheck rows asked
+asks_check rows taken =
+    let file = text_there check.rules (codes "FILE") rows (taken.given.0 refl) taken.rules in
+    let certificate = text_there check.rules (codes "CERT") rows (taken.given.1.0 refl) taken.rules in
+    let default = default_there check rows (has_option _ refl refl refl) (has_option _ refl refl refl) taken in (
+      record { file = behind file.0; certificate = behind certificate.0; rise = default.0.rise; fall = default.0.fall },
+      record { file = file.1; certificate = certificate.1; default = default.1 },
+    )

@@ -1,0 +1,157 @@
+-- The command line as the parser of command lines is told it, and what the words ask for.
+use Rattle.std.specs.Prelude.{◌≡◌, ℕ, ◌≤◌, List, [], ◌∷◌, codes, pos, true, Option, Some, None, option_map}
+use Rattle.std.specs.Str.Parse.{IsNumeral, digits_value, without_leading_plus}
+use Rattle.clap.specs.Words.{App, Kinds, Row, Rule, Text, fault_of, first_of, new_app, new_rule, one_of, subcommand_of, with_rule, with_subcommand}
+use Rattle.clap.specs.declared.builder.value_parser.ValueParser.TheVariants.{Signed}
+use Rattle.td_gates.specs.Delays.{Delays, IsInRange}
+use Rattle.td_command.specs.declared.command.SimRequest.{SimRequest}
+use Rattle.td_command.specs.declared.command.BoundRequest.{BoundRequest}
+use Rattle.td_command.specs.declared.command.WorstRequest.{WorstRequest}
+use Rattle.td_command.specs.declared.command.CheckRequest.{CheckRequest}
+use Rattle.td_command.specs.declared.command.Request.{Request}
+use Rattle.td_command.specs.declared.command.Request.TheVariants as request
+
+-- ---- what the parser is told
+
+-- a word of its own, which has to be given
+abbrev pub needed : Text → Rule
+needed id = record (new_rule id) { required = true }
+
+-- an option with a text
+abbrev pub option : Text → Rule
+option id = record (new_rule id) { long = Some id; value_names = 1 }
+
+-- an option with a number in a range, and its value where it is left out
+abbrev pub number_option : Text → ℕ → ℕ → Text → Rule
+number_option id least most left_out =
+    record (option id) { parser = Some (Signed (pos least) (pos most)); defaults = left_out ∷ [] }
+
+-- the delays of gates that state none
+abbrev pub with_default : App → App
+with_default app =
+    with_rule (with_rule app (number_option (codes "default-rise") 1 1000000000 (codes "1")))
+    (number_option (codes "default-fall") 1 1000000000 (codes "1"))
+
+abbrev pub sim_command : App
+sim_command = with_default (with_rule (with_rule (with_rule (new_app (codes "sim"))
+    (needed (codes "FILE"))) (needed (codes "FROM"))) (needed (codes "TO")))
+
+abbrev pub bound_command : App
+bound_command = with_default (with_rule (with_rule (with_rule (new_app (codes "bound"))
+    (needed (codes "FILE"))) (option (codes "first"))) (option (codes "second")))
+
+abbrev pub worst_command : App
+worst_command = with_default (with_rule (with_rule (with_rule (with_rule (new_app (codes "worst"))
+    (needed (codes "FILE"))) (number_option (codes "workers") 1 1 (codes "1")))
+    (number_option (codes "budget") 0 10000000 (codes "1000000"))) (option (codes "cert")))
+
+abbrev pub check_command : App
+check_command = with_default (with_rule (with_rule (new_app (codes "check"))
+    (needed (codes "FILE"))) (needed (codes "CERT")))
+
+abbrev pub with_commands : App → App
+with_commands app =
+    with_subcommand (with_subcommand (with_subcommand (with_subcommand app sim_command.top) bound_command.top) worst_command.top)
+    check_command.top
+
+abbrev pub named : App
+named = new_app (codes "tdelay")
+
+-- the program, before it is told its commands, of which one has to be given
+abbrev pub bare : App
+bare = record named { top = record named.top { subcommand_required = true } }
+
+abbrev pub program : App
+program = with_commands bare
+
+-- ---- what the words ask for
+
+-- the text is this number in decimal digits, which a plus may lead
+abbrev pub IsNumber : Text → ℕ → Type 0
+IsNumber text number = IsNumeral 10 (without_leading_plus text) × (digits_value 10 (without_leading_plus text) ≡ number)
+
+-- the option is given as this number, or left out and has it
+abbrev pub HasNumber : Text → List Row → ℕ → Type 0
+HasNumber id rows number = (text : Text) × (one_of id rows ≡ Some text) × IsNumber text number
+
+abbrev pub delays : ℕ → ℕ → Delays
+delays rise fall = record { rise = rise; fall = fall }
+
+-- the delays of the options, which are in range
+pub record HasDefault (rows : List Row) (default : Delays) : Type 0 where
+  pub rise : HasNumber (codes "default-rise") rows default.rise
+  pub fall : HasNumber (codes "default-fall") rows default.fall
+  pub in_range : IsInRange default
+
+-- the most nodes of a search
+abbrev pub HasBudget : List Row → ℕ → Type 0
+HasBudget rows budget = HasNumber (codes "budget") rows budget × (budget ≤ 10000000)
+
+-- how many threads search
+abbrev pub HasWorkers : List Row → ℕ → Type 0
+HasWorkers rows workers = HasNumber (codes "workers") rows workers × (workers ≤ 1)
+
+-- the words of `sim` ask for this
+pub record AsksSim (rows : List Row) (asked : SimRequest) : Type 0 where
+  pub file : first_of (codes "FILE") rows ≡ Some asked.file.now
+  pub from : first_of (codes "FROM") rows ≡ Some asked.from.now
+  pub to : first_of (codes "TO") rows ≡ Some asked.to.now
+  pub default : HasDefault rows (delays asked.rise asked.fall)
+
+-- the words of `bound` ask for this
+pub record AsksBound (rows : List Row) (asked : BoundRequest) : Type 0 where
+  pub file : first_of (codes "FILE") rows ≡ Some asked.file.now
+  pub first : first_of (codes "first") rows ≡ option_map (λ word. word.now) asked.first
+  pub second : first_of (codes "second") rows ≡ option_map (λ word. word.now) asked.second
+  pub default : HasDefault rows (delays asked.rise asked.fall)
+
+-- the words of `worst` ask for this
+pub record AsksWorst (rows : List Row) (asked : WorstRequest) : Type 0 where
+  pub file : first_of (codes "FILE") rows ≡ Some asked.file.now
+  pub workers : HasWorkers rows asked.workers
+  pub budget : HasBudget rows asked.budget
+  pub certificate : first_of (codes "cert") rows ≡ option_map (λ word. word.now) asked.certificate
+  pub default : HasDefault rows (delays asked.rise asked.fall)
+
+-- the words of `check` ask for this
+pub record AsksCheck (rows : List Row) (asked : CheckRequest) : Type 0 where
+  pub file : first_of (codes "FILE") rows ≡ Some asked.file.now
+  pub certificate : first_of (codes "CERT") rows ≡ Some asked.certificate.now
+  pub default : HasDefault rows (delays asked.rise asked.fall)
+
+-- the command of this name, with these words, asks for this
+abbrev pub CommandAsks : Text → List Row → Request → Type 0
+CommandAsks name rows (request.Sim asked) = (name ≡ codes "sim") × AsksSim rows asked
+CommandAsks name rows (request.Bound asked) = (name ≡ codes "bound") × AsksBound rows asked
+CommandAsks name rows (request.Worst asked) = (name ≡ codes "worst") × AsksWorst rows asked
+CommandAsks name rows (request.Check asked) = (name ≡ codes "check") × AsksCheck rows asked
+
+-- a command was given, and asks for this
+abbrev pub EnteredAsks : Option (Text × List Row) → Request → Type 0
+EnteredAsks entered asked = (name : Text) × (rows : List Row) × (entered ≡ Some (name, rows)) × CommandAsks name rows asked
+
+-- the kinds of what there is to tell of the words in place of a command: help, or a fault of theirs; none where the program
+-- takes them
+abbrev pub kinds_of : List Text → Kinds
+kinds_of words = fault_of program words
+
+-- The program takes the words of the command line, of which the first is its name, and they ask for this.
+pub record Asks (words : List Text) (asked : Request) : Type 0 where
+  pub taken : kinds_of words ≡ []
+  pub asks : EnteredAsks (subcommand_of program words) asked
+
+-- what the program takes asks for a command
+abbrev pub TakenAsk : Type 0
+TakenAsk = (words : List Text) → kinds_of words ≡ [] → (asked : Request) × Asks words asked
+
+-- the numbers that were asked for are in range
+abbrev pub IsCarriedOut : Request → Type 0
+IsCarriedOut (request.Sim asked) = IsInRange (delays asked.rise asked.fall)
+IsCarriedOut (request.Bound asked) = IsInRange (delays asked.rise asked.fall)
+IsCarriedOut (request.Worst asked) = IsInRange (delays asked.rise asked.fall) × (asked.budget ≤ 10000000)
+IsCarriedOut (request.Check asked) = IsInRange (delays asked.rise asked.fall)
+
+-- the answer is what is asked, none where nothing is
+abbrev pub IsAnswered : {X : Type 0} → (X → Type 0) → Option X → Type 0
+IsAnswered AsksFor (Some asked) = AsksFor asked
+IsAnswered {X} AsksFor None = (asked : X) → ¬ AsksFor asked

@@ -1,0 +1,373 @@
+//! The command line.
+
+ghost use Rattle.std.specs.Prelude.{◌≡◌, ◌<◌, ℕ, codes, map, false, IfOk, IfErr, IfSome, IfNone};
+ghost use Rattle.clap.specs.Words.{app_of, rule_of, found_of, rows_of, subcommand_rows_of, HasKind};
+ghost use Rattle.td_command.specs.CommandLine.{needed, option, number_option, sim_command, bound_command, worst_command, check_command, program, with_default};
+ghost use Rattle.td_command.specs.CommandLine.{HasNumber, HasDefault, HasWorkers, HasBudget, AsksSim, AsksBound, AsksWorst, AsksCheck, EnteredAsks, kinds_of, Asks, IsAnswered};
+
+use clap::builder::ValueParser;
+use clap::{Arg, ArgMatches, Command, Error};
+use std::alloc::{AllocError, Global};
+use std::convert::AsStr;
+use td_gates::Delay;
+
+/// The run of a pair of vectors.
+#[derive(Clone, Copy, Debug)]
+pub struct SimRequest<'a> {
+    pub file: &'a str,
+    pub from: &'a str,
+    pub to: &'a str,
+    /// The delays of gates that state none.
+    pub rise: u32,
+    pub fall: u32,
+}
+
+/// The bounds of a cube of pairs.
+#[derive(Clone, Copy, Debug)]
+pub struct BoundRequest<'a> {
+    pub file: &'a str,
+    pub first: Option<&'a str>,
+    pub second: Option<&'a str>,
+    /// The delays of gates that state none.
+    pub rise: u32,
+    pub fall: u32,
+}
+
+/// The search for the worst delay.
+#[derive(Clone, Copy, Debug)]
+pub struct WorstRequest<'a> {
+    pub file: &'a str,
+    /// How many threads search, one for now.
+    pub workers: u32,
+    /// The most nodes that the search handles, at most 10,000,000.
+    pub budget: u32,
+    /// Where the certificate of an exact answer goes.
+    pub certificate: Option<&'a str>,
+    /// The delays of gates that state none.
+    pub rise: u32,
+    pub fall: u32,
+}
+
+/// The verdict on a certificate.
+#[derive(Clone, Copy, Debug)]
+pub struct CheckRequest<'a> {
+    pub file: &'a str,
+    pub certificate: &'a str,
+    /// The delays of gates that state none.
+    pub rise: u32,
+    pub fall: u32,
+}
+
+/// What the words of a command line ask for.
+#[derive(Clone, Copy, Debug)]
+pub enum Request<'a> {
+    Sim(SimRequest<'a>),
+    Bound(BoundRequest<'a>),
+    Worst(WorstRequest<'a>),
+    Check(CheckRequest<'a>),
+}
+
+/// The most threads that may search.
+const MOST_WORKERS: u32 = 1;
+
+/// The most nodes that a search may handle.
+const MOST_NODES: u32 = 10_000_000;
+
+/// A word that has to be given.
+fn needed<'a>(alloc: Global, id: &'a str, help: &'a str) -> Arg<'a>
+    ensures rule { rule_of result ≡ needed id.entry.now }
+    ensures local { result.global ≡ false }
+{
+    Arg::new(alloc, id).required(true).help(help)
+}
+
+/// An option with a text, of the name by which it is asked for.
+fn option<'a>(alloc: Global, id: &'a str, value: &'a str, help: &'a str) -> Arg<'a>
+    ensures rule { rule_of result ≡ option id.entry.now }
+    ensures local { result.global ≡ false }
+{
+    Arg::new(alloc, id).long(id).value_name(value).help(help)
+}
+
+/// An option with a number in a range, and the number where it is left out.
+fn number_option<'a>(
+    alloc: Global,
+    id: &'a str,
+    least: u32,
+    most: u32,
+    left_out: &'a str,
+    help: &'a str,
+) -> Arg<'a>
+    ensures rule { rule_of result ≡ number_option id.entry.now least most left_out.entry.now }
+    ensures local { result.global ≡ false }
+{
+    option(alloc, id, "N", help)
+        .value_parser(ValueParser::signed(i64::from(least), i64::from(most)))
+        .default_value(left_out)
+}
+
+fn file<'a>(alloc: Global) -> Arg<'a>
+    ensures rule { rule_of result ≡ needed (codes "FILE") }
+    ensures local { result.global ≡ false }
+{
+    needed(
+        alloc,
+        "FILE",
+        "The netlist, a path, or `stdin` for standard input",
+    )
+}
+
+/// The delay of gates that state none, as two options.
+fn with_default<'a>(alloc: Global, command: Command<'a>) -> Result<Command<'a>, AllocError>
+    ensures { IfOk result (λ new. app_of new ≡ with_default (app_of command.entry)) }
+{
+    let rise = number_option(
+        alloc,
+        "default-rise",
+        1,
+        Delay::MAX,
+        "1",
+        "Rise delay in steps of gates without a delay",
+    );
+    let fall = number_option(
+        alloc,
+        "default-fall",
+        1,
+        Delay::MAX,
+        "1",
+        "Fall delay in steps of gates without a delay",
+    );
+    command.arg(rise)?.arg(fall)
+}
+
+fn sim_command<'a>(alloc: Global) -> Result<Command<'a>, AllocError>
+    ensures { IfOk result (λ new. app_of new ≡ sim_command) }
+{
+    let from = needed(
+        alloc,
+        "FROM",
+        "The first vector: 0, 1 or x for each input in order, or `none`",
+    );
+    let to = needed(alloc, "TO", "The second vector, applied at moment 0");
+    let command = Command::new(alloc, "sim")
+        .about("Simulates one pair of vectors: when each output changes last")
+        .arg(file(alloc))?
+        .arg(from)?
+        .arg(to)?;
+    with_default(alloc, command)
+}
+
+fn bound_command<'a>(alloc: Global) -> Result<Command<'a>, AllocError>
+    ensures { IfOk result (λ new. app_of new ≡ bound_command) }
+{
+    let first = option(
+        alloc,
+        "first",
+        "TRITS",
+        "The first vector: 0, 1 or . (free) for each input in order; all free where left out",
+    );
+    let second = option(
+        alloc,
+        "second",
+        "TRITS",
+        "The second vector, applied at moment 0",
+    );
+    let command = Command::new(alloc, "bound")
+        .about("Bounds the delay of all pairs of vectors that two patterns allow")
+        .arg(file(alloc))?
+        .arg(first)?
+        .arg(second)?;
+    with_default(alloc, command)
+}
+
+fn worst_command<'a>(alloc: Global) -> Result<Command<'a>, AllocError>
+    ensures { IfOk result (λ new. app_of new ≡ worst_command) }
+{
+    let workers = number_option(
+        alloc,
+        "workers",
+        1,
+        MOST_WORKERS,
+        "1",
+        "How many threads search; one for now",
+    );
+    let budget = number_option(
+        alloc,
+        "budget",
+        0,
+        MOST_NODES,
+        "1000000",
+        "The most nodes of the tree of cubes that are handled",
+    );
+    let certificate = option(
+        alloc,
+        "cert",
+        "OUT",
+        "Writes the certificate of an exact answer to this file",
+    );
+    let command = Command::new(alloc, "worst")
+        .about("Searches for the worst delay of all pairs of vectors, and a pair that has it")
+        .arg(file(alloc))?
+        .arg(workers)?
+        .arg(budget)?
+        .arg(certificate)?;
+    with_default(alloc, command)
+}
+
+fn check_command<'a>(alloc: Global) -> Result<Command<'a>, AllocError>
+    ensures { IfOk result (λ new. app_of new ≡ check_command) }
+{
+    let certificate = needed(
+        alloc,
+        "CERT",
+        "The certificate, a path, or `stdin` for standard input",
+    );
+    let command = Command::new(alloc, "check")
+        .about("Checks the certificate of a worst delay, and trusts nothing else")
+        .arg(file(alloc))?
+        .arg(certificate)?;
+    with_default(alloc, command)
+}
+
+fn command<'a>(alloc: Global) -> Result<Command<'a>, AllocError>
+    ensures { IfOk result (λ new. app_of new ≡ program) }
+{
+    Command::new(alloc, "tdelay")
+        .about("Worst transition delay of a netlist of Verilog gate primitives")
+        .subcommand_required(true)
+        .subcommand(sim_command(alloc)?)?
+        .subcommand(bound_command(alloc)?)?
+        .subcommand(worst_command(alloc)?)?
+        .subcommand(check_command(alloc)?)
+}
+
+/// The number of an option.
+fn number(matches: &ArgMatches<'_>, id: &str) -> Option<u32>
+    ensures some { IfSome result (λ number. HasNumber id.now (rows_of (found_of matches.now)) number) }
+    ensures none { IfNone result ((number : ℕ) → number < 4294967296 → ¬ HasNumber id.now (rows_of (found_of matches.now)) number) }
+{
+    matches.get_one::<u32>(id)
+}
+
+/// The delay of gates that state none.
+fn default(matches: &ArgMatches<'_>) -> Option<Delay>
+    ensures { IsAnswered (HasDefault (rows_of (found_of matches.now))) result }
+{
+    let rise = number(matches, "default-rise")?;
+    let fall = number(matches, "default-fall")?;
+    Delay::new(rise, fall)
+}
+
+fn sim_of<'a>(matches: &ArgMatches<'a>) -> Option<SimRequest<'a>>
+    ensures { IsAnswered (AsksSim (rows_of (found_of matches.now))) result }
+{
+    let file = matches.get_str("FILE")?;
+    let from = matches.get_str("FROM")?;
+    let to = matches.get_str("TO")?;
+    let default = default(matches)?;
+    Some(SimRequest {
+        file,
+        from,
+        to,
+        rise: default.rise,
+        fall: default.fall,
+    })
+}
+
+fn bound_of<'a>(matches: &ArgMatches<'a>) -> Option<BoundRequest<'a>>
+    ensures { IsAnswered (AsksBound (rows_of (found_of matches.now))) result }
+{
+    let file = matches.get_str("FILE")?;
+    let default = default(matches)?;
+    Some(BoundRequest {
+        file,
+        first: matches.get_str("first"),
+        second: matches.get_str("second"),
+        rise: default.rise,
+        fall: default.fall,
+    })
+}
+
+/// How many threads search.
+fn workers(matches: &ArgMatches<'_>) -> Option<u32>
+    ensures { IsAnswered (HasWorkers (rows_of (found_of matches.now))) result }
+{
+    let workers = number(matches, "workers")?;
+    if workers <= MOST_WORKERS {
+        Some(workers)
+    } else {
+        None
+    }
+}
+
+/// The most nodes that a search may handle.
+fn budget(matches: &ArgMatches<'_>) -> Option<u32>
+    ensures { IsAnswered (HasBudget (rows_of (found_of matches.now))) result }
+{
+    let budget = number(matches, "budget")?;
+    if budget <= MOST_NODES {
+        Some(budget)
+    } else {
+        None
+    }
+}
+
+fn worst_of<'a>(matches: &ArgMatches<'a>) -> Option<WorstRequest<'a>>
+    ensures { IsAnswered (AsksWorst (rows_of (found_of matches.now))) result }
+{
+    let file = matches.get_str("FILE")?;
+    let workers = workers(matches)?;
+    let budget = budget(matches)?;
+    let default = default(matches)?;
+    Some(WorstRequest {
+        file,
+        workers,
+        budget,
+        certificate: matches.get_str("cert"),
+        rise: default.rise,
+        fall: default.fall,
+    })
+}
+
+fn check_of<'a>(matches: &ArgMatches<'a>) -> Option<CheckRequest<'a>>
+    ensures { IsAnswered (AsksCheck (rows_of (found_of matches.now))) result }
+{
+    let file = matches.get_str("FILE")?;
+    let certificate = matches.get_str("CERT")?;
+    let default = default(matches)?;
+    Some(CheckRequest {
+        file,
+        certificate,
+        rise: default.rise,
+        fall: default.fall,
+    })
+}
+
+fn request_of<'a>(matches: &ArgMatches<'a>) -> Option<Request<'a>>
+    ensures { IsAnswered (EnteredAsks (subcommand_rows_of matches.now)) result }
+{
+    let (name, matches) = matches.subcommand()?;
+    match name {
+        "sim" => Some(Request::Sim(sim_of(matches)?)),
+        "bound" => Some(Request::Bound(bound_of(matches)?)),
+        "worst" => Some(Request::Worst(worst_of(matches)?)),
+        "check" => Some(Request::Check(check_of(matches)?)),
+        _ => None,
+    }
+}
+
+/// What the words of a command line ask for. The first is the program's name.
+pub fn parse<'a, S: AsStr>(alloc: Global, words: &'a [S]) -> Result<Request<'a>, Error>
+    ensures asked { IfOk result (Asks (map S.text words.entry.now)) }
+    // Words are refused for what there is to tell of them, or for want of memory.
+    ensures fault { IfErr result (HasKind (kinds_of (map S.text words.entry.now))) }
+{
+    match command(alloc)?.try_get_matches_from(words) {
+        Ok(matches) => match request_of(&matches) {
+            Some(request) => Ok(request),
+            // The words that the program takes ask for one of its commands.
+            None => unreachable!(),
+        },
+        Err(error) => Err(error),
+    }
+}

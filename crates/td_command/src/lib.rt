@@ -1,0 +1,7 @@
+//! The command line of `tdelay`: what its words ask for.
+#![tactic(auto)]
+
+mod command;
+pub mod laws;
+
+pub use command::{BoundRequest, CheckRequest, Request, SimRequest, WorstRequest, parse};
