@@ -1,4 +1,4 @@
--- The scheduling rule as a recursion on the moments, and that it determines the output.
+-- The states of a gate from moment to moment, and that the scheduling rule determines the output.
 use Rattle.std.proofs.Common.{◌≡◌, ℕ, zero, suc, ◌+◌, ◌<◌, ◌≤◌, List, [], ◌∷◌, length, refl, arith, inl, inr, sym, ap, ◌∙◌, add-one, Some, None}
 use Rattle.std.specs.Prelude.{slice_get}
 use Rattle.std.proofs.lemmas.Bool.{cases_order, le-leb}
@@ -8,86 +8,27 @@ use Rattle.td_gates.specs.declared.timing.Delay.{Delay}
 use Rattle.td_gates.specs.declared.timing.Change.{Change}
 use Rattle.td_gates.specs.Delays.{IsInRange}
 use Rattle.td_gates.specs.Wave.{Wave, level_after, at, before, IsRising, IsWave}
-use Rattle.td_gates.specs.Schedule.{State, step, target_at, target_before, IsHistory, Obeys}
+use Rattle.td_gates.specs.Schedule.{GateState, step, target_at, target_before, state_before, Obeys}
 use Rattle.td_gates.proofs.Levels.{level_under, before-level_under, level_after-early}
 use Rattle.td_gates.proofs.Scheduling.{idle, state_from, follows, delivered}
 
--- the state before a moment
-abbrev pub state_before : Kind → Delay → List Wave → ℕ → State
-state_before kind delay ins n = state_from delay (target_at kind ins) 0 (idle (target_before kind ins 0)) n
-
-pub state_from-last : (d : Delay) (e : ℕ → Level) (j n : ℕ) (state : State)
+pub state_from-last : (d : Delay) (e : ℕ → Level) (j n : ℕ) (state : GateState)
     → state_from d e n state (suc j) ≡ step d (n + j) (e (n + j)) (state_from d e n state j)
 state_from-last d e zero n state = let now : n + 0 ≡ n = omega arith in rw now refl
 state_from-last d e (suc j) n state =
     let shift : suc n + j ≡ n + suc j = omega arith in
     rw shift at (state_from-last d e j (suc n) (step d n (e n) state))
 
--- the states of n more moments
-states_from : Delay → (ℕ → Level) → ℕ → State → ℕ → List State
-states_from d e n state zero = state ∷ []
-states_from d e n state (suc j) = state ∷ states_from d e (suc n) (step d n (e n) state) j
-
-length-states_from : (d : Delay) (e : ℕ → Level) (j n : ℕ) (state : State) → length (states_from d e n state j) ≡ j + 1
-unfolding states_from
-length-states_from d e zero n state = refl
-length-states_from d e (suc j) n state = omega (arith, length-states_from d e j (suc n) (step d n (e n) state))
-
-states_from-at : (d : Delay) (e : ℕ → Level) (j n : ℕ) (state found : State) (t : ℕ)
-    → slice_get (states_from d e n state j) t ≡ Some found → found ≡ state_from d e n state t
-unfolding states_from
-states_from-at d e zero n state found zero h = Prim.cc
-states_from-at d e zero n state found (suc t) h = Prim.cc
-states_from-at d e (suc j) n state found zero h = Prim.cc
-states_from-at d e (suc j) n state found (suc t) h = states_from-at d e j (suc n) (step d n (e n) state) found t h
-
--- a wave that shows the states' levels obeys
-pub Obeys-from_states : (kind : Kind) (delay : Delay) (ins : List Wave) (out : Wave)
-    → ((t : ℕ) → before out t ≡ (state_before kind delay ins t).level) → Obeys kind delay ins out
-unfolding states_from
-Obeys-from_states kind delay ins out shows = record {
-  history = λ moments.
-      let e : ℕ → Level = target_at kind ins in
-      let first : State = idle (target_before kind ins 0) in
-      let found = λ (t : ℕ) (state : State) (h : slice_get (states_from delay e 0 first moments) t ≡ Some state). states_from-at delay e moments 0 first state t h in (
-        states_from delay e 0 first moments,
-        length-states_from delay e moments 0 first,
-        record {
-          opening = elim moments as (λ m. slice_get (states_from delay e 0 first m) 0 ≡ Some first) [ zero ↦ refl | suc m ↦ refl ];
-          moments = λ t old new h k.
-              let next : new ≡ state_from delay e 0 first (suc t) = rw add-one at (found (t + 1) new k) in
-              let here : 0 + t ≡ t = omega arith in
-              let stepped : state_from delay e 0 first (suc t) ≡ step delay t (e t) (state_from delay e 0 first t) =
-              rw here at (state_from-last delay e t 0 first) in
-              next ∙ stepped ∙ ap (λ s. step delay t (e t) s) (sym (found t old h));
-        },
-        λ t state h. shows t ∙ ap (λ s. s.level) (sym (found t state h)),
-      );
-}
-
-slice_get-within : {A : Type 0} (xs : List A) (i : ℕ) → i < length xs → (x : A) × (slice_get xs i ≡ Some x)
-slice_get-within [] i h = absurd (omega arith)
-slice_get-within (x ∷ xs) zero h = (x, refl)
-slice_get-within (x ∷ xs) (suc i) h = slice_get-within xs i (omega arith)
-
-history_at : (kind : Kind) (delay : Delay) (ins : List Wave) (states : List State) → IsHistory kind delay ins states
-    → (t : ℕ) → t < length states → slice_get states t ≡ Some (state_before kind delay ins t)
-history_at kind delay ins states history zero h = history.opening
-history_at kind delay ins states history (suc t) h =
-    let old : slice_get states t ≡ Some (state_before kind delay ins t) = history_at kind delay ins states history t (omega arith) in
-    let new : (s : State) × (slice_get states (suc t) ≡ Some s) = slice_get-within states (suc t) h in
-    let next : slice_get states (t + 1) ≡ Some new.0 = rw add-one new.1 in
+-- the states from the first one on
+pub state_before-from : (kind : Kind) (delay : Delay) (ins : List Wave) (t : ℕ)
+    → state_before kind delay ins t ≡ state_from delay (target_at kind ins) 0 (idle (target_before kind ins 0)) t
+state_before-from kind delay ins zero = refl
+state_before-from kind delay ins (suc t) =
     let here : 0 + t ≡ t = omega arith in
-    let stepped : state_before kind delay ins (suc t) ≡ step delay t (target_at kind ins t) (state_before kind delay ins t) =
+    let stepped : state_from delay (target_at kind ins) 0 (idle (target_before kind ins 0)) (suc t)
+    ≡ step delay t (target_at kind ins t) (state_from delay (target_at kind ins) 0 (idle (target_before kind ins 0)) t) =
     rw here at (state_from-last delay (target_at kind ins) t 0 (idle (target_before kind ins 0))) in
-    new.1 ∙ ap (λ s. Some s) (history.moments t (state_before kind delay ins t) new.0 old next ∙ sym stepped)
-
--- a wave that obeys shows the states' levels
-pub states-from_Obeys : (kind : Kind) (delay : Delay) (ins : List Wave) (out : Wave) → Obeys kind delay ins out
-    → (t : ℕ) → before out t ≡ (state_before kind delay ins t).level
-states-from_Obeys kind delay ins out obeys t =
-    let found = obeys.history t in
-    found.3 t (state_before kind delay ins t) (history_at kind delay ins found.0 found.2 t (omega (arith, found.1)))
+    ap (λ s. step delay t (target_at kind ins t) s) (state_before-from kind delay ins t) ∙ sym stepped
 
 abbrev change_of : ℕ → Level → Change
 change_of moment level = record { moment = moment; level = level }
@@ -147,32 +88,34 @@ waves-equal this that rising other same =
 pub Obeys-unique : (kind : Kind) (delay : Delay) (ins : List Wave) (this that : Wave) → IsWave this → IsWave that
     → Obeys kind delay ins this → Obeys kind delay ins that → this ≡ that
 Obeys-unique kind delay ins this that rising other obeys also =
-    waves-equal this that rising other (λ t. states-from_Obeys kind delay ins this obeys t ∙ sym (states-from_Obeys kind delay ins that also t))
+    waves-equal this that rising other (λ t. obeys.levels t ∙ sym (also.levels t))
 
 -- what comes out for a wave of the target obeys
 pub Obeys-delivered : (kind : Kind) (delay : Delay) → IsInRange delay → (ins : List Wave) (target : Wave) → IsWave target
     → target.start ≡ target_before kind ins 0 → ((t : ℕ) → at target t ≡ target_at kind ins t)
     → Obeys kind delay ins (record { start = target.start; changes = delivered delay target.start None target.changes })
 Obeys-delivered kind delay fits ins target rising start levels =
-    Obeys-from_states kind delay ins _ (λ t.
+    record { levels = λ t.
     let none : 0 + t ≡ t = omega arith in
     let levels_are : (state_from delay (target_at kind ins) 0 (idle target.start) t).level
     ≡ level_under target.start (delivered delay target.start None target.changes) t =
     rw none at (follows delay fits (target_at kind ins) t 0 target.start None target.changes tt rising (λ u h. sym (levels u))) in
     before-level_under (record { start = target.start; changes = delivered delay target.start None target.changes }) t
     ∙ sym levels_are
-    ∙ ap (λ l. (state_from delay (target_at kind ins) 0 (idle l) t).level) start)
+    ∙ ap (λ l. (state_from delay (target_at kind ins) 0 (idle l) t).level) start
+    ∙ ap (λ s. s.level) (sym (state_before-from kind delay ins t)) }
 
-state_from-same : (d : Delay) (e f : ℕ → Level) → ((t : ℕ) → e t ≡ f t) → (j n : ℕ) (state : State)
-    → state_from d e n state j ≡ state_from d f n state j
-state_from-same d e f same zero n state = refl
-state_from-same d e f same (suc j) n state =
-    ap (λ v. state_from d e (suc n) (step d n v state) j) (same n) ∙ state_from-same d e f same j (suc n) (step d n (f n) state)
+state_before-same : (kind other : Kind) (delay : Delay) (ins others : List Wave)
+    → ((t : ℕ) → target_before other others t ≡ target_before kind ins t) → (t : ℕ)
+    → state_before other delay others t ≡ state_before kind delay ins t
+state_before-same kind other delay ins others same zero = ap idle (same 0)
+state_before-same kind other delay ins others same (suc t) =
+    ap (λ level. step delay t level (state_before other delay others t)) (same (suc t))
+    ∙ ap (λ s. step delay t (target_at kind ins t) s) (state_before-same kind other delay ins others same t)
 
 -- a gate obeys where another with the same delay and the same target does
 pub Obeys-by_target : (kind other : Kind) (delay : Delay) (ins others : List Wave) (out : Wave)
     → ((t : ℕ) → target_before other others t ≡ target_before kind ins t) → Obeys other delay others out → Obeys kind delay ins out
-Obeys-by_target kind other delay ins others out same obeys = Obeys-from_states kind delay ins out (λ t.
-    states-from_Obeys other delay others out obeys t
-    ∙ ap (λ l. (state_from delay (target_at other others) 0 (idle l) t).level) (same 0)
-    ∙ ap (λ s. s.level) (state_from-same delay (target_at other others) (target_at kind ins) (λ u. same (suc u)) t 0 (idle (target_before kind ins 0))))
+Obeys-by_target kind other delay ins others out same obeys = record {
+  levels = λ t. obeys.levels t ∙ ap (λ s. s.level) (state_before-same kind other delay ins others same t);
+}
