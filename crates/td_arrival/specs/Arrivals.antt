@@ -4,11 +4,11 @@ use Rattle.std.specs.List.{list_any}
 use Rattle.td_gates.specs.declared.primitives.Level.{Level}
 use Rattle.td_gates.specs.declared.primitives.Level.TheVariants.{Zero as Low, One as High, X}
 use Rattle.td_gates.specs.declared.primitives.Kind.{Kind}
-use Rattle.td_gates.specs.declared.primitives.Kind.TheVariants.{And, Nand, Or, Nor, Xor, Xnor, Buf, Not}
+use Rattle.td_gates.specs.declared.primitives.Kind.TheVariants.{And, Nand, Or, Nor}
 use Rattle.td_gates.specs.declared.timing.Delay.{Delay}
 use Rattle.td_gates.specs.Table.{level_from, level_eq, table, inverse_of, delay_to}
 use Rattle.td_domain.specs.declared.cubes.Trit.{Trit}
-use Rattle.td_domain.specs.declared.cubes.Trit.TheVariants.{Zero, One, Free}
+use Rattle.td_domain.specs.declared.cubes.Trit.TheVariants.{Zero, One}
 use Rattle.td_domain.specs.Cubes.{level_of_trit}
 use Rattle.td_domain.specs.Functions.{Functions}
 use Rattle.td_arrival.specs.declared.signals.Span.{Span}

@@ -8,7 +8,7 @@ use Rattle.td_gates.specs.declared.timing.Change.{Change}
 use Rattle.td_gates.specs.Delays.{IsInRange}
 use Rattle.td_gates.specs.Table.{level_eq, delay_to}
 use Rattle.td_gates.specs.Wave.{Wave, before}
-use Rattle.td_gates.specs.Schedule.{state_before, GateState, step, updated, evaluated, target_at, target_before, Obeys}
+use Rattle.td_gates.specs.Schedule.{state_before, GateState, step, updated, evaluated, target_before, Obeys}
 use Rattle.td_gates.specs.WindowRule.{HeldFor, MeetsWindows}
 use Rattle.td_gates.proofs.Levels.{cases_level}
 use Rattle.td_gates.proofs.Scheduling.{idle, pending, step-idle, step-start, step-wait, step-due, step-due_start, step-cancel, step-replace, delay_to-positive}
