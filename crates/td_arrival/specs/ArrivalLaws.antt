@@ -23,7 +23,8 @@ use Rattle.td_gates.proofs.Delays.{IsDelayed, delayed, delayed-early, delayed-la
 use Rattle.td_gates.proofs.TableLaws.{AllAgree, Booleans, table-boolean, table_known}
 use Rattle.td_arrival.specs.declared.signals.Span.{Span}
 use Rattle.td_arrival.specs.declared.signals.Signal.{Signal}
-use Rattle.td_arrival.specs.Arrivals.{Agrees, Finishes, ChangesWithin, Covers, IsEnd, HasMoment, input_changes, input_signal, constant_signal, last_change, span_reach, around, hull, controlling, controls, is_held, earliest_change, latest_change, opens_at, closes_at, is_lost, last_delay, delayed_span, gate_changes, gate_start, gate_finish, gate_signal}
+use Rattle.td_arrival.specs.Arrivals.{input_changes, input_signal, constant_signal, around, hull, controlling, controls, is_held, earliest_of, latest_of, opens_at, closes_at, is_lost, last_delay, delayed_span, gate_changes, gate_start, gate_finish, gate_signal}
+use Rattle.td_arrival.specs.Coverage.{Agrees, Finishes, ChangesWithin, Covers, IsEnd, HasMoment, span_reach}
 
 -- the levels of waves just before a moment
 abbrev pub levels_before : List Wave → ℕ → List Level
@@ -215,7 +216,7 @@ module _ (control : Option Level) (clear : IsClear control) where
 
   -- an input that starts at the controlling level, until its earliest change
   opens_here : (s : Signal) (w : Wave) → Covers s w → controls control s.start ≡ true → (changes : Option Span) → ChangesWithin changes w
-      → (n : ℕ) → n ≤ earliest_change changes → controls control (before w n) ≡ true
+      → (n : ℕ) → n ≤ earliest_of changes → controls control (before w n) ≡ true
   opens_here s w covered at_control None within n low =
       let same : before w n ≡ s.start = never_until n w within n (omega arith) ∙ covered.start (clear s.start at_control) in
       rw same at_control
@@ -235,7 +236,7 @@ module _ (control : Option Level) (clear : IsClear control) where
       | inl under ↦ inl (omega arith)
       | inr inputs ↦ inr (λ n low. or_right _ _ (inputs n (omega arith)))
     ])
-    | inl here ↦ rw here (elim (cases_lt (opens_at control earliest signals) (earliest_change s.changes)) [
+    | inl here ↦ rw here (elim (cases_lt (opens_at control earliest signals) (earliest_of s.changes)) [
       | inl more ↦ inr (λ n low. or_left _ _ (opens_here s w covered.0 here s.changes covered.0.changes n (omega arith)))
       | inr less ↦ elim (opens_controls earliest signals ins covered.1) [
         | inl under ↦ inl (omega arith)
@@ -255,11 +256,11 @@ module _ (control : Option Level) (clear : IsClear control) where
       rw same at_control
 
   abbrev closing : ℕ → Signal → ℕ
-  closing latest s = if controls control s.finish then latest_change latest s.changes else latest
+  closing latest s = if controls control s.finish then latest_of latest s.changes else latest
 
   closes_changes : (latest : ℕ) (s : Signal) (w : Wave) → Covers s w → controls control s.finish ≡ true → (changes : Option Span)
       → ChangesWithin changes w
-      → (latest ≤ latest_change latest changes) ⊎ ((n : ℕ) → latest_change latest changes < n → controls control (before w n) ≡ true)
+      → (latest ≤ latest_of latest changes) ⊎ ((n : ℕ) → latest_of latest changes < n → controls control (before w n) ≡ true)
   closes_changes latest s w covered here None within = inl (omega arith)
   closes_changes latest s w covered here (Some span) within = inr (closes_here s w covered here span within)
 
@@ -517,14 +518,14 @@ covers_constant one wave is = record {
   changes = λ t. is (suc t) ∙ sym (is 0);
 }
 
-quiet_by : (changes : Option Span) (wave : Wave) → ChangesWithin changes wave → IsQuietAfter (last_change changes) wave
+quiet_by : (changes : Option Span) (wave : Wave) → ChangesWithin changes wave → IsQuietAfter (latest_of 0 changes) wave
 quiet_by None wave within = λ t h. within t ∙ sym (within 0)
 quiet_by (Some span) wave within = within.1
 
-pub quiet_after_last : (signal : Signal) (moment : ℕ) (wave : Wave) → Some (last_change signal.changes) ≡ Some moment → Covers signal wave
+pub quiet_after_last : (signal : Signal) (moment : ℕ) (wave : Wave) → Some (latest_of 0 signal.changes) ≡ Some moment → Covers signal wave
     → IsQuietAfter moment wave
 quiet_after_last signal moment wave is covered =
-    let same : last_change signal.changes ≡ moment = cc in rw same at (quiet_by signal.changes wave covered.changes)
+    let same : latest_of 0 signal.changes ≡ moment = cc in rw same at (quiet_by signal.changes wave covered.changes)
 
 -- the moments of a signal
 around_reach : (m : ℕ) (a b : Option Span) → span_reach a ≤ m → span_reach b ≤ m → span_reach (around a b) ≤ m
@@ -539,7 +540,7 @@ pub hull_reach : (m : ℕ) (signals : List Signal) → AllByRecursion (Within m)
 hull_reach m [] h = omega arith
 hull_reach m (s ∷ signals) h = around_reach m s.changes (hull signals) h.0 (hull_reach m signals h.1)
 
-earliest_reach : (m : ℕ) (changes : Option Span) → span_reach changes ≤ m → earliest_change changes ≤ m
+earliest_reach : (m : ℕ) (changes : Option Span) → span_reach changes ≤ m → earliest_of changes ≤ m
 earliest_reach m None h = omega arith
 earliest_reach m (Some span) h = omega arith
 
@@ -603,12 +604,12 @@ reach_input Zero Free = omega arith
 reach_input One Free = omega arith
 reach_input Free second = omega arith
 
-last_is_end : (changes : Option Span) → (last_change changes ≡ 0) ⊎ IsEnd changes (last_change changes)
+last_is_end : (changes : Option Span) → (latest_of 0 changes ≡ 0) ⊎ IsEnd changes (latest_of 0 changes)
 last_is_end None = inl refl
 last_is_end (Some span) = inr (inr refl)
 
-pub last_is_moment : (signal : Signal) (moment : ℕ) → Some (last_change signal.changes) ≡ Some moment → (moment ≡ 0) ⊎ HasMoment signal moment
-last_is_moment signal moment is = let same : last_change signal.changes ≡ moment = cc in rw same at (last_is_end signal.changes)
+pub last_is_moment : (signal : Signal) (moment : ℕ) → Some (latest_of 0 signal.changes) ≡ Some moment → (moment ≡ 0) ⊎ HasMoment signal moment
+last_is_moment signal moment is = let same : latest_of 0 signal.changes ≡ moment = cc in rw same at (last_is_end signal.changes)
 
 end_reach : (changes : Option Span) (moment : ℕ) → IsEnd changes moment → moment ≤ span_reach changes
 end_reach None moment ends = absurd ends

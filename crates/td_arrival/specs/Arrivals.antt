@@ -1,57 +1,23 @@
--- Arrival windows: which waves they cover, and those of inputs, constants and gates.
-use Rattle.std.specs.Prelude.{◌≡◌, ◌≢◌, ◌⊎◌, ℕ, ◌+◌, ◌-◌, ◌<◌, ◌≤◌, min, max, nat_lt, Bool, false, ◌&&◌, ◌||◌, List, [], ◌∷◌, map, Option, Some, None, is_none, if◌then◌else◌}
+-- Arrival windows: those of inputs, constants and gates.
+use Rattle.std.specs.Prelude.{ℕ, ◌+◌, ◌-◌, min, max, nat_lt, Bool, false, ◌&&◌, ◌||◌, List, [], ◌∷◌, map, Option, Some, None, is_none, if◌then◌else◌}
 use Rattle.std.specs.List.{list_any}
 use Rattle.td_gates.specs.declared.primitives.Level.{Level}
 use Rattle.td_gates.specs.declared.primitives.Level.TheVariants.{Zero as Low, One as High, X}
 use Rattle.td_gates.specs.declared.primitives.Kind.{Kind}
-use Rattle.td_gates.specs.declared.primitives.Kind.TheVariants.{And, Nand, Or, Nor, Xor, Xnor, Buf, Not}
+use Rattle.td_gates.specs.declared.primitives.Kind.TheVariants.{And, Nand, Or, Nor}
 use Rattle.td_gates.specs.declared.timing.Delay.{Delay}
 use Rattle.td_gates.specs.Table.{level_from, level_eq, table, inverse_of, delay_to}
-use Rattle.td_gates.specs.Wave.{Wave, at}
 use Rattle.td_domain.specs.declared.cubes.Trit.{Trit}
-use Rattle.td_domain.specs.declared.cubes.Trit.TheVariants.{Zero, One, Free}
-use Rattle.td_domain.specs.Waves.{IsQuietAfter}
+use Rattle.td_domain.specs.declared.cubes.Trit.TheVariants.{Zero, One}
 use Rattle.td_domain.specs.Cubes.{level_of_trit}
 use Rattle.td_domain.specs.Functions.{Functions}
 use Rattle.td_arrival.specs.declared.signals.Span.{Span}
 use Rattle.td_arrival.specs.declared.signals.Signal.{Signal}
 
--- a level is as known; x knows nothing
-abbrev pub Agrees : Level → Level → Type 0
-Agrees known level = known ≢ X → level ≡ known
-
--- from some moment on the wave's level is as known
-abbrev pub Finishes : Level → Wave → Type 0
-Finishes known wave = known ≢ X → (from : ℕ) × ((t : ℕ) → from ≤ t → at wave t ≡ known)
-
--- the wave changes only within the span, never where there is none
-abbrev pub ChangesWithin : Option Span → Wave → Type 0
-ChangesWithin None wave = (t : ℕ) → at wave t ≡ wave.start
-ChangesWithin (Some span) wave = ((t : ℕ) → t < span.earliest → at wave t ≡ wave.start) × IsQuietAfter span.latest wave
-
--- the signal covers the wave
-pub record Covers (signal : Signal) (wave : Wave) : Type 0 where
-  pub start : Agrees signal.start wave.start
-  pub finish : Finishes signal.finish wave
-  pub changes : ChangesWithin signal.changes wave
-
--- the moment is one of the ends of the span
-abbrev pub IsEnd : Option Span → ℕ → Type 0
-IsEnd None moment = ⊥
-IsEnd (Some span) moment = (moment ≡ span.earliest) ⊎ (moment ≡ span.latest)
-
--- the moments in a signal are the ends of its span
-abbrev pub HasMoment : Signal → ℕ → Type 0
-HasMoment signal moment = IsEnd signal.changes moment
-
 abbrev pub input_changes : Trit → Trit → Option Span
 input_changes Zero Zero = None
 input_changes One One = None
-input_changes Zero One = Some (record { earliest = 0; latest = 0 })
-input_changes One Zero = Some (record { earliest = 0; latest = 0 })
-input_changes Zero Free = Some (record { earliest = 0; latest = 0 })
-input_changes One Free = Some (record { earliest = 0; latest = 0 })
-input_changes Free second = Some (record { earliest = 0; latest = 0 })
+input_changes first second = Some (record { earliest = 0; latest = 0 })
 
 -- an input changes at moment 0 or never, and surely never where both its bits are known and equal
 abbrev pub input_signal : Trit → Trit → Signal
@@ -60,19 +26,14 @@ input_signal first second = record { start = level_of_trit first; finish = level
 abbrev pub constant_signal : Bool → Signal
 constant_signal one = record { start = level_from one; finish = level_from one; changes = None }
 
--- the latest change
-abbrev pub last_change : Option Span → ℕ
-last_change None = 0
-last_change (Some span) = span.latest
+-- the latest change of a signal, this moment where there is none
+abbrev pub latest_of : ℕ → Option Span → ℕ
+latest_of moment None = moment
+latest_of moment (Some span) = span.latest
 
 -- the last moment of a signal
 abbrev pub last_of : Signal → Option ℕ
-last_of signal = Some (last_change signal.changes)
-
--- the greatest moment of a span
-abbrev pub span_reach : Option Span → ℕ
-span_reach None = 0
-span_reach (Some span) = max span.earliest span.latest
+last_of signal = Some (latest_of 0 signal.changes)
 
 -- the least span around both
 abbrev pub around : Option Span → Option Span → Option Span
@@ -92,10 +53,7 @@ controlling And = Some Low
 controlling Nand = Some Low
 controlling Or = Some High
 controlling Nor = Some High
-controlling Xor = None
-controlling Xnor = None
-controlling Buf = None
-controlling Not = None
+controlling kind = None
 
 -- whether this is the controlling level
 abbrev pub controls : Option Level → Level → Bool
@@ -107,36 +65,27 @@ abbrev pub is_held : Option Level → List Signal → Bool
 is_held control signals = list_any (λ signal. controls control signal.finish && is_none signal.changes) signals
 
 -- the earliest change of a signal, 0 where there is none
-abbrev pub earliest_change : Option Span → ℕ
-earliest_change None = 0
-earliest_change (Some span) = span.earliest
-
--- the latest change of a signal, this moment where there is none
-abbrev pub latest_change : ℕ → Option Span → ℕ
-latest_change moment None = moment
-latest_change moment (Some span) = span.latest
+abbrev pub earliest_of : Option Span → ℕ
+earliest_of None = 0
+earliest_of (Some span) = span.earliest
 
 -- An input that surely starts at the controlling level keeps the output until its earliest change.
 abbrev pub opens_at : Option Level → ℕ → List Signal → ℕ
 opens_at control earliest [] = earliest
 opens_at control earliest (signal ∷ signals) =
-    max (if controls control signal.start then earliest_change signal.changes else 0) (opens_at control earliest signals)
+    max (if controls control signal.start then earliest_of signal.changes else 0) (opens_at control earliest signals)
 
 -- An input that surely finishes at the controlling level keeps the output from its latest change on.
 abbrev pub closes_at : Option Level → ℕ → List Signal → ℕ
 closes_at control latest [] = latest
 closes_at control latest (signal ∷ signals) =
-    min (if controls control signal.finish then latest_change latest signal.changes else latest) (closes_at control latest signals)
+    min (if controls control signal.finish then latest_of latest signal.changes else latest) (closes_at control latest signals)
 
 -- whether a departure from the start that lasts at most so long comes back too soon to be seen
 abbrev pub is_lost : Delay → Level → Level → ℕ → Bool
 is_lost delay Low Low width = nat_lt width delay.rise
 is_lost delay High High width = nat_lt width delay.fall
-is_lost delay Low High width = false
-is_lost delay Low X width = false
-is_lost delay High Low width = false
-is_lost delay High X width = false
-is_lost delay X finish width = false
+is_lost delay start finish width = false
 
 -- the delay of the last change, to a level that may be unknown
 abbrev pub last_delay : Delay → Level → ℕ

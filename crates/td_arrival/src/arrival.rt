@@ -1,6 +1,7 @@
 //! The domain.
 
-ghost use Rattle.td_arrival.specs.Arrivals.{Covers, HasMoment, arrival_functions, span_reach};
+ghost use Rattle.td_arrival.specs.Arrivals.{arrival_functions};
+ghost use Rattle.td_arrival.specs.Coverage.{Covers, HasMoment, span_reach};
 ghost use Rattle.td_arrival.specs.ArrivalLaws.{covers_input, covers_constant, covers_gate, quiet_after_last, reach_input, reach_gate, last_is_moment, reach_each};
 ghost use Rattle.std.specs.Prelude.{refl};
 

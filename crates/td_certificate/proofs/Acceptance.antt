@@ -19,8 +19,10 @@ use Rattle.td_domain.specs.Together.{both_functions}
 use Rattle.td_domain.specs.BothLaws.{both_covers_gate, both_quiet}
 use Rattle.td_domain.proofs.Soundness.{no_later}
 use Rattle.td_arrival.specs.Arrivals as arrival
+use Rattle.td_arrival.specs.Coverage as arrival_coverage
 use Rattle.td_arrival.specs.ArrivalLaws as arrival_laws
 use Rattle.td_ternary.specs.Possibles as possible
+use Rattle.td_ternary.specs.Coverage as possible_coverage
 use Rattle.td_ternary.specs.PossibleLaws as possible_laws
 use Rattle.td_certificate.specs.declared.tree.BoundedBy.{BoundedBy}
 use Rattle.td_certificate.specs.declared.tree.BoundedBy.TheVariants as by
@@ -157,23 +159,23 @@ module _ (circuit : Numbered) (numbering : IsNumbering circuit) (acyclic : IsAcy
   below_bound : (domain : BoundedBy) (cube : List Trit) → length cube ≡ 2 * length circuit.netlist.inputs → IsIn pair cube
       → (bound : ℕ) → IsBoundBy domain circuit.netlist cube (Some bound) → delay ≤ bound
   below_bound by.Arrival cube count is_in bound of_cube =
-      rw is.is_latest (no_later arrival.Covers arrival.arrival_functions
+      rw is.is_latest (no_later arrival_coverage.Covers arrival.arrival_functions
       arrival_laws.covers_input arrival_laws.covers_constant arrival_laws.covers_gate
       circuit numbering cube count of_cube.signals of_cube.are_signals pair is_in is.waves is.runs
       arrival_laws.quiet_after_last bound (sym of_cube.is_greatest))
   below_bound by.Possible cube count is_in bound of_cube =
-      rw is.is_latest (no_later possible.Covers possible.possible_functions
+      rw is.is_latest (no_later possible_coverage.Covers possible.possible_functions
       possible_laws.covers_input possible_laws.covers_constant possible_laws.covers_gate
       circuit numbering cube count of_cube.signals of_cube.are_signals pair is_in is.waves is.runs
       possible_laws.quiet_after_last bound (sym of_cube.is_greatest))
   below_bound by.Both cube count is_in bound of_cube =
-      rw is.is_latest (no_later (λ signal wave. arrival.Covers signal.0 wave × possible.Covers signal.1 wave)
+      rw is.is_latest (no_later (λ signal wave. arrival_coverage.Covers signal.0 wave × possible_coverage.Covers signal.1 wave)
       (both_functions arrival.arrival_functions possible.possible_functions)
       (λ first second wave h. (arrival_laws.covers_input first second wave h, possible_laws.covers_input first second wave h))
       (λ one wave h. (arrival_laws.covers_constant one wave h, possible_laws.covers_constant one wave h))
-      (both_covers_gate arrival.Covers possible.Covers arrival.gate_signal possible.gate_signal arrival_laws.covers_gate possible_laws.covers_gate)
+      (both_covers_gate arrival_coverage.Covers possible_coverage.Covers arrival.gate_signal possible.gate_signal arrival_laws.covers_gate possible_laws.covers_gate)
       circuit numbering cube count of_cube.signals of_cube.are_signals pair is_in is.waves is.runs
-      (both_quiet arrival.Covers possible.Covers arrival.last_of possible.last_of arrival_laws.quiet_after_last possible_laws.quiet_after_last)
+      (both_quiet arrival_coverage.Covers possible_coverage.Covers arrival.last_of possible.last_of arrival_laws.quiet_after_last possible_laws.quiet_after_last)
       bound (sym of_cube.is_greatest))
 
   -- the delay of a point's pair

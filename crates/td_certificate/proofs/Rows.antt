@@ -9,7 +9,8 @@ use Rattle.td_gates.specs.declared.primitives.Level.TheVariants as level
 use Rattle.td_gates.specs.declared.primitives.Kind.TheVariants.{Not}
 use Rattle.td_gates.specs.declared.timing.Delay.{Delay}
 use Rattle.td_gates.specs.Wave.{Wave, at, before, IsWave}
-use Rattle.td_gates.specs.Schedule.{target_before, HeldFor, Obeys}
+use Rattle.td_gates.specs.Schedule.{target_before, Obeys}
+use Rattle.td_gates.specs.WindowRule.{HeldFor}
 use Rattle.td_gates.specs.Table.{delay_to, table}
 use Rattle.td_gates.proofs.Windows.{Obeys-from_MeetsWindows}
 use Rattle.td_netlist.specs.declared.netlist.Scale.TheVariants as scale

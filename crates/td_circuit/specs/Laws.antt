@@ -1,4 +1,4 @@
--- Laws of netlists and their numberings.
+-- Beside the model: laws of netlists and their numberings.
 use Rattle.std.specs.Prelude.{◌≡◌}
 use Rattle.td_netlist.specs.Netlist.{Netlist}
 use Rattle.td_netlist.specs.WellFormed.{IsWellFormed}

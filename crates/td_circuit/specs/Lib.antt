@@ -4,6 +4,7 @@ pub mod Names
 pub mod Loops
 pub mod Numbering
 pub mod Run
+pub mod NetValues
 pub mod Drivers
 pub mod Views
 pub mod Plan

@@ -1,13 +1,12 @@
 -- The run of a netlist under two vectors, the delay of a pair and the worst delay.
-use Rattle.std.specs.Prelude.{◌≡◌, ℕ, ◌≤◌, max, Bool, List, [], ◌∷◌, length, map, unwrap_or, if◌then◌else◌}
+use Rattle.std.specs.Prelude.{◌≡◌, ℕ, ◌≤◌, max, Bool, List, [], ◌∷◌, length, map, unwrap_or}
 use Rattle.std.specs.List.{All, Contains}
 use Rattle.td_gates.specs.declared.primitives.Level.{Level}
-use Rattle.td_gates.specs.declared.primitives.Level.TheVariants.{Zero, One, X}
+use Rattle.td_gates.specs.declared.primitives.Level.TheVariants.{Zero, One}
 use Rattle.td_gates.specs.Table.{table, level_from}
 use Rattle.td_gates.specs.Wave.{Wave, at, last, IsWave}
 use Rattle.td_gates.specs.Schedule.{Obeys}
 use Rattle.td_netlist.specs.Netlist.{Net, Low, High, Named, Netlist}
-use Rattle.td_netlist.specs.Names.{net_eq}
 use Rattle.td_netlist.specs.WellFormed.{driven}
 
 -- the nets of a netlist: the constants, its inputs and the outputs of its gates
@@ -56,8 +55,8 @@ abbrev pub IsVector : Netlist → List Bool → Type 0
 IsVector netlist vector = length vector ≡ length netlist.inputs
 
 -- no pair of Boolean vectors has a greater delay
-abbrev pub IsAboveAll : Netlist → ℕ → Type 0
-IsAboveAll netlist moment = (first second : List Bool) (delay : ℕ) → IsVector netlist first → IsVector netlist second
+abbrev pub IsUpperBound : Netlist → ℕ → Type 0
+IsUpperBound netlist moment = (first second : List Bool) (delay : ℕ) → IsVector netlist first → IsVector netlist second
     → IsDelayOfBits netlist first second delay → delay ≤ moment
 
 -- the worst delay: some pair of Boolean vectors has it, and no pair has a greater one
@@ -67,18 +66,4 @@ pub record IsWorst (netlist : Netlist) (worst : ℕ) : Type 0 where
   pub first_fits : IsVector netlist first
   pub second_fits : IsVector netlist second
   pub reached : IsDelayOfBits netlist first second worst
-  pub greatest : IsAboveAll netlist worst
-
--- the value of a net, where these nets have these values, and any other net has this one
-abbrev pub value_of : {A : Type 0} → A → List Net → List A → Net → A
-value_of other [] values net = other
-value_of other (first ∷ nets) [] net = other
-value_of other (first ∷ nets) (value ∷ values) net = if net_eq first net then value else value_of other nets values net
-
--- the wave of a net, where these nets have these waves
-abbrev pub wave_of : List Net → List Wave → Net → Wave
-wave_of nets waves net = value_of (record { start = X; changes = [] }) nets waves net
-
--- the level of a net, where these nets have these levels
-abbrev pub level_of : List Net → List Level → Net → Level
-level_of nets levels net = value_of X nets levels net
+  pub greatest : IsUpperBound netlist worst

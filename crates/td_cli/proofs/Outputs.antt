@@ -8,7 +8,7 @@ use Rattle.td_netlist.specs.Netlist.{Name, Low, High, Named}
 use Rattle.td_gates.specs.declared.primitives.Level.TheVariants.{X}
 use Rattle.td_gates.specs.Wave.{Wave, last}
 use Rattle.td_circuit.specs.Numbering.{Numbered, nets, IsNumbering}
-use Rattle.td_circuit.specs.Run.{wave_of}
+use Rattle.td_circuit.specs.NetValues.{net_wave}
 use Rattle.td_circuit.proofs.Values.{value_at}
 use Rattle.td_cli.specs.Reports.{last_line}
 
@@ -54,7 +54,7 @@ named_same a b h = Prim.cc
 
 -- the line of an output
 abbrev pub line_of : Numbered → List Wave → Name → List ℕ
-line_of circuit waves name = last_line name (last (wave_of (nets circuit) waves (Named name)))
+line_of circuit waves name = last_line name (last (net_wave (nets circuit) waves (Named name)))
 
 -- the line of one more output is appended
 pub line_added : (circuit : Numbered) → IsNumbering circuit → (waves : List Wave) → length waves ≡ length (nets circuit) → (i : ℕ)
@@ -66,7 +66,7 @@ pub line_added : (circuit : Numbered) → IsNumbering circuit → (waves : List 
 line_added circuit numbering waves long i within initial text new name wave moment at_net at_wave is before added =
     let out = output_at circuit numbering i within in
     let same : name ≡ out.name = named_same name out.name (some-same (Named name) (Named out.name) (sym at_net ∙ out.net)) in
-    let value : wave_of (nets circuit) waves (Named out.name) ≡ wave =
+    let value : net_wave (nets circuit) waves (Named out.name) ≡ wave =
     value_at (record { start = X; changes = [] }) circuit numbering waves long (get_or circuit.outputs i 0) (Named out.name) out.net
     ∙ slice_get-get waves (get_or circuit.outputs i 0) wave (record { start = X; changes = [] }) at_wave in
     let line : last_line name moment ≡ line_of circuit waves out.name =

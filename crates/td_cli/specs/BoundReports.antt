@@ -5,7 +5,7 @@ use Rattle.td_netlist.specs.Netlist.{Netlist}
 use Rattle.td_netlist.specs.Means.{Means}
 use Rattle.td_circuit.specs.Loops.{Loop}
 use Rattle.td_domain.specs.declared.cubes.Trit.{Trit}
-use Rattle.td_domain.specs.Bounds.{IsAboveEach}
+use Rattle.td_domain.specs.Bounds.{IsUpperBoundIn}
 use Rattle.td_certificate.specs.declared.tree.BoundedBy.{BoundedBy}
 use Rattle.td_certificate.specs.declared.tree.BoundedBy.TheVariants as by
 use Rattle.td_certificate.specs.Accepts.{IsBoundBy}
@@ -32,7 +32,7 @@ bounds_text netlist arrivals possibles together =
 -- the bound that a domain gives of a cube: where it is a moment, no pair of the cube has a greater delay
 pub record IsSoundBound (domain : BoundedBy) (netlist : Netlist) (cube : List Trit) (bound : Option ℕ) : Type 0 where
   pub is : IsBoundBy domain netlist cube bound
-  pub sound : (moment : ℕ) → bound ≡ Some moment → IsAboveEach netlist cube moment
+  pub sound : (moment : ℕ) → bound ≡ Some moment → IsUpperBoundIn netlist cube moment
 
 -- The text means a netlist without a loop, the options give trits for its inputs, and the report has the bounds of their
 -- cube.

@@ -2,7 +2,7 @@
 
 ghost use Rattle.std.specs.Prelude.{◌≡◌, ℕ, ◌*◌, length, Option, Some, IfOk, IfErr};
 ghost use Rattle.std.specs.Option.{option_map};
-ghost use Rattle.td_domain.specs.Bounds.{IsAboveEach};
+ghost use Rattle.td_domain.specs.Bounds.{IsUpperBoundIn};
 ghost use Rattle.td_certificate.specs.declared.tree.BoundedBy.TheVariants as by;
 ghost use Rattle.td_cli.specs.BoundReports.{bounds_text, IsSoundBound, IsBoundReport};
 ghost use Rattle.td_cli.specs.Outcomes.{HasNoBounds};

@@ -2,7 +2,8 @@
 
 ghost use Rattle.std.specs.Prelude.{◌≡◌, ◌++◌, length, map, IfOk, IfErr, OnOk};
 ghost use Rattle.td_circuit.specs.Numbering.{nets};
-ghost use Rattle.td_circuit.specs.Run.{wave_of, latest_change};
+ghost use Rattle.td_circuit.specs.Run.{latest_change};
+ghost use Rattle.td_circuit.specs.NetValues.{net_wave};
 ghost use Rattle.td_run.specs.Runs.{output_waves};
 ghost use Rattle.td_netlist.specs.Netlist.{Named};
 ghost use Rattle.td_cli.specs.Reports.{output_lines, sim_text, IsSimReport};
@@ -82,7 +83,7 @@ fn refused<'a>(fault: Fault<'a>) -> Refusal<'a>
 /// Appends a line for each output.
 fn outputs(text: &mut Text, circuit: &Circuit, run: &Run) -> Result<(), AllocError>
     requires { length run.now.waves ≡ length (nets circuit.now) }
-    ensures { OnOk result (text.new ≡ text.old ++ output_lines circuit.now.netlist (wave_of (nets circuit.now) run.now.waves)) }
+    ensures { OnOk result (text.new ≡ text.old ++ output_lines circuit.now.netlist (net_wave (nets circuit.now) run.now.waves)) }
 {
     let _gates = circuit.gates();
     for output in circuit.outputs() {
@@ -98,8 +99,8 @@ fn outputs(text: &mut Text, circuit: &Circuit, run: &Run) -> Result<(), AllocErr
 fn report_of(alloc: Global, circuit: &Circuit, run: &Run) -> Result<Text, AllocError>
     requires waves { length run.now.waves ≡ length (nets circuit.now) }
     requires time { latest_change (output_waves run.now)
-        ≡ latest_change (map (λ name. wave_of (nets circuit.now) run.now.waves (Named name)) circuit.now.netlist.outputs) }
-    ensures { IfOk result (λ text. text ≡ sim_text circuit.now.netlist (wave_of (nets circuit.now) run.now.waves)) }
+        ≡ latest_change (map (λ name. net_wave (nets circuit.now) run.now.waves (Named name)) circuit.now.netlist.outputs) }
+    ensures { IfOk result (λ text. text ≡ sim_text circuit.now.netlist (net_wave (nets circuit.now) run.now.waves)) }
 {
     let mut text = Text::new(alloc);
     report::unit(&mut text, circuit.unit())?;

@@ -14,8 +14,8 @@ both_functions these those = record {
   input_of = λ first second. (these.input_of first second, those.input_of first second);
   constant_of = λ one. (these.constant_of one, those.constant_of one);
   gate_of = λ kind delay signals. (
-      these.gate_of kind delay (map (λ signal. signal.0) signals),
-      those.gate_of kind delay (map (λ signal. signal.1) signals),
-    );
+    these.gate_of kind delay (map (λ signal. signal.0) signals),
+    those.gate_of kind delay (map (λ signal. signal.1) signals),
+  );
   last_of = λ signal. lesser (these.last_of signal.0) (those.last_of signal.1);
 }

@@ -3,7 +3,7 @@
 ghost use Rattle.std.specs.Prelude.{◌≡◌, ℕ, ◌*◌, ◌<◌, ◌^◌, Option, Some, IfOk, length, map, filter_map, slice_get};
 ghost use Rattle.std.specs.List.{All};
 ghost use Rattle.td_circuit.specs.Numbering.{nets, IsNumbering};
-ghost use Rattle.td_domain.specs.Bounds.{IsBound, IsAboveEach, greatest};
+ghost use Rattle.td_domain.specs.Bounds.{IsBound, IsUpperBoundIn, greatest_bound};
 ghost use Rattle.td_domain.specs.FirstSignals.{AreFirstSignals};
 
 use crate::cubes::Cube;
@@ -22,7 +22,7 @@ pub fn bound<D: Domain>(
     ensures bound { IfOk result (IsBound D.functions circuit.now.netlist cube.now) }
     ensures only { IfOk result (λ answer. (other : Option ℕ)
         → IsBound D.functions circuit.now.netlist cube.now other → other ≡ answer) }
-    ensures sound { IfOk result (λ answer. (moment : ℕ) → answer ≡ Some moment → IsAboveEach circuit.now.netlist cube.now moment) }
+    ensures sound { IfOk result (λ answer. (moment : ℕ) → answer ≡ Some moment → IsUpperBoundIn circuit.now.netlist cube.now moment) }
     ensures small { IfOk result (λ answer. (moment : ℕ) → answer ≡ Some moment → moment < 10 ^ 15) }
 {
     let signals = signals::<D>(alloc, circuit, cube)?;
@@ -60,7 +60,7 @@ pub fn signals<D: Domain>(
 /// The greatest last moment of these nets.
 fn greatest_last<D: Domain>(signals: &[D::Sig], nets: &[u32]) -> Option<u64>
     requires { All (λ net. net < length signals.now) nets.now }
-    ensures { result ≡ greatest (map D.functions.last_of (filter_map (slice_get signals.now) nets.now)) }
+    ensures { result ≡ greatest_bound (map D.functions.last_of (filter_map (slice_get signals.now) nets.now)) }
 {
     let mut latest = 0;
     for net in nets {

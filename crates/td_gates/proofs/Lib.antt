@@ -9,3 +9,4 @@ pub mod Windows
 pub mod Delays
 pub mod Outputs
 mod Rows
+mod Histories

@@ -6,7 +6,7 @@ use Rattle.td_gates.specs.declared.primitives.Kind.{Kind}
 use Rattle.td_gates.specs.declared.primitives.Kind.TheVariants.{And, Xor, Not}
 use Rattle.td_gates.specs.declared.timing.Delay.{Delay}
 use Rattle.td_gates.specs.Wave.{Wave}
-use Rattle.td_gates.proofs.Obedience.{state_before}
+use Rattle.td_gates.specs.Schedule.{state_before}
 
 delay_of : (rise fall : ℕ) → Delay
 delay_of rise fall = record { rise = rise; fall = fall }

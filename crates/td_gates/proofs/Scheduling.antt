@@ -9,13 +9,13 @@ use Rattle.td_gates.specs.declared.primitives.Level.TheVariants.{Zero, One, X}
 use Rattle.td_gates.specs.Delays.{IsInRange}
 use Rattle.td_gates.specs.Table.{level_eq, delay_to}
 use Rattle.td_gates.specs.Wave.{level_after, IsRising}
-use Rattle.td_gates.specs.Schedule.{State, step}
+use Rattle.td_gates.specs.Schedule.{GateState, step}
 use Rattle.td_gates.proofs.Levels.{level_eq-same, level_eq-other, cases_level, level_under, level_after-early, level_under-early, IsRising-sooner}
 
-abbrev pub idle : Level → State
+abbrev pub idle : Level → GateState
 idle level = record { level = level; scheduled = None }
 
-abbrev pub pending : Level → ℕ → Level → State
+abbrev pub pending : Level → ℕ → Level → GateState
 pending level moment next = record { level = level; scheduled = Some (record { moment = moment; level = next }) }
 
 -- nothing is scheduled and the target is the level
@@ -58,7 +58,7 @@ delay_to-bound d fits One = fits.greatest_rise
 delay_to-bound d fits X = omega (arith, fits.greatest_fall, fits.greatest_rise)
 
 -- the state after j more moments, from a state before moment n, under a target
-abbrev pub state_from : Delay → (ℕ → Level) → ℕ → State → ℕ → State
+abbrev pub state_from : Delay → (ℕ → Level) → ℕ → GateState → ℕ → GateState
 state_from d e n state zero = state
 state_from d e n state (suc j) = state_from d e (suc n) (step d n (e n) state) j
 
@@ -173,7 +173,7 @@ Follows d e j = (n : ℕ) (o : Level) (scheduled : Option Change) (changes : Lis
     ≡ level_under o (delivered d o scheduled changes) (n + j)
 
 -- one moment: the state goes on as another, whose changes give the same levels
-go_on : (d : Delay) (e : ℕ → Level) (j n : ℕ) (w o o' : Level) (state : State) (scheduled : Option Change) (out out' : List Change)
+go_on : (d : Delay) (e : ℕ → Level) (j n : ℕ) (w o o' : Level) (state : GateState) (scheduled : Option Change) (out out' : List Change)
     → e n ≡ w → step d n w state ≡ record { level = o'; scheduled = scheduled }
     → level_under o' out' (suc n + j) ≡ level_under o out (n + suc j)
     → (state_from d e (suc n) (record { level = o'; scheduled = scheduled }) j).level ≡ level_under o' out' (suc n + j)

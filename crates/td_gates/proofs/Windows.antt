@@ -8,13 +8,13 @@ use Rattle.td_gates.specs.declared.timing.Change.{Change}
 use Rattle.td_gates.specs.Delays.{IsInRange}
 use Rattle.td_gates.specs.Table.{level_eq, delay_to}
 use Rattle.td_gates.specs.Wave.{Wave, before}
-use Rattle.td_gates.specs.Schedule.{State, step, updated, evaluated, target_at, target_before, Obeys, HeldFor, MeetsWindows}
+use Rattle.td_gates.specs.Schedule.{state_before, GateState, step, updated, evaluated, target_before, Obeys}
+use Rattle.td_gates.specs.WindowRule.{HeldFor, MeetsWindows}
 use Rattle.td_gates.proofs.Levels.{cases_level}
 use Rattle.td_gates.proofs.Scheduling.{idle, pending, step-idle, step-start, step-wait, step-due, step-due_start, step-cancel, step-replace, delay_to-positive}
-use Rattle.td_gates.proofs.Obedience.{state_before, state_from-last, states-from_Obeys, Obeys-from_states}
 
 -- an evaluation leaves the level
-evaluated-level : (d : Delay) (t : ℕ) (v : Level) (state : State) → (evaluated d t v state).level ≡ state.level
+evaluated-level : (d : Delay) (t : ℕ) (v : Level) (state : GateState) → (evaluated d t v state).level ≡ state.level
 evaluated-level d t v state = elim (cases_Bool (level_eq v state.level)) [ inl e ↦ rw e | inr e ↦ rw e ]
 
 step-level-none : (d : Delay) (t : ℕ) (v o : Level) → (step d t v (idle o)).level ≡ o
@@ -79,9 +79,9 @@ IsExplained-step : (tb : ℕ → Level) (d : Delay) → IsInRange d → (n : ℕ
     → IsExplained tb d (suc n) (step d n (tb (suc n)) (record { level = o; scheduled = scheduled })).level
     (step d n (tb (suc n)) (record { level = o; scheduled = scheduled })).scheduled
 IsExplained-step tb d fits n o None ok = elim (cases_level (tb (suc n)) o) [
-  | inl same ↦ subst (λ (s : State). IsExplained tb d (suc n) s.level s.scheduled)
+  | inl same ↦ subst (λ (s : GateState). IsExplained tb d (suc n) s.level s.scheduled)
       (sym (ap (λ v. step d n v (idle o)) same ∙ step-idle d n o)) same
-  | inr differ ↦ subst (λ (s : State). IsExplained tb d (suc n) s.level s.scheduled)
+  | inr differ ↦ subst (λ (s : GateState). IsExplained tb d (suc n) s.level s.scheduled)
       (sym (step-start d n o (tb (suc n)) differ))
       (started tb d fits n o (tb (suc n)) refl (λ e. differ (sym e ∙ ok)) differ)
 ]
@@ -92,17 +92,17 @@ IsExplained-step tb d fits n o (Some event) ok =
         | inl same ↦
             let due : step d n event.level (pending o event.moment event.level) ≡ idle event.level =
             rw (← now) (step-due d event.moment o event.level) in
-            subst (λ (s : State). IsExplained tb d (suc n) s.level s.scheduled)
+            subst (λ (s : GateState). IsExplained tb d (suc n) s.level s.scheduled)
             (sym (ap (λ v. step d n v (pending o event.moment event.level)) same ∙ due)) same
         | inr differ ↦
             let due : step d n (tb (suc n)) (pending o event.moment event.level) ≡ pending event.level (n + delay_to d (tb (suc n))) (tb (suc n)) =
             rw now (step-due_start d n o event.level (tb (suc n)) differ) in
-            subst (λ (s : State). IsExplained tb d (suc n) s.level s.scheduled)
+            subst (λ (s : GateState). IsExplained tb d (suc n) s.level s.scheduled)
             (sym due)
             (started tb d fits n event.level (tb (suc n)) refl (λ e. differ (sym e ∙ before_now)) differ)
       ]
       | inr other ↦ elim (cases_level (tb (suc n)) event.level) [
-        | inl same ↦ subst (λ (s : State). IsExplained tb d (suc n) s.level s.scheduled)
+        | inl same ↦ subst (λ (s : GateState). IsExplained tb d (suc n) s.level s.scheduled)
             (sym (ap (λ v. step d n v (pending o event.moment event.level)) same ∙ step-wait d n event.moment o event.level other ok.differ))
             (record {
               since = ok.since;
@@ -117,9 +117,9 @@ IsExplained-step tb d fits n o (Some event) ok =
               ];
             })
         | inr changed ↦ elim (cases_level (tb (suc n)) o) [
-          | inl back ↦ subst (λ (s : State). IsExplained tb d (suc n) s.level s.scheduled)
+          | inl back ↦ subst (λ (s : GateState). IsExplained tb d (suc n) s.level s.scheduled)
               (sym (ap (λ v. step d n v (pending o event.moment event.level)) back ∙ step-cancel d n event.moment o event.level other ok.differ)) back
-          | inr third ↦ subst (λ (s : State). IsExplained tb d (suc n) s.level s.scheduled)
+          | inr third ↦ subst (λ (s : GateState). IsExplained tb d (suc n) s.level s.scheduled)
               (sym (step-replace d n event.moment o event.level (tb (suc n)) other (λ e. changed (sym e)) third))
               (started tb d fits n o (tb (suc n)) refl (λ e. changed (sym e ∙ before_now)) third)
         ]
@@ -155,14 +155,12 @@ kept-step tb d n o (Some event) ok never = elim (cases_eq event.moment n) [
 
 module _ (kind : Kind) (delay : Delay) (fits : IsInRange delay) (ins : List Wave) where
   next_state : (t : ℕ) → state_before kind delay ins (suc t) ≡ step delay t (target_before kind ins (suc t)) (state_before kind delay ins t)
-  next_state t =
-      let here : 0 + t ≡ t = omega arith in
-      rw here at (state_from-last delay (target_at kind ins) t 0 (idle (target_before kind ins 0)))
+  next_state t = refl
 
   explained : (t : ℕ) → IsExplained (target_before kind ins) delay t (state_before kind delay ins t).level (state_before kind delay ins t).scheduled
   explained zero = refl
   explained (suc t) =
-      subst (λ (s : State). IsExplained (target_before kind ins) delay (suc t) s.level s.scheduled) (sym (next_state t))
+      subst (λ (s : GateState). IsExplained (target_before kind ins) delay (suc t) s.level s.scheduled) (sym (next_state t))
       (IsExplained-step (target_before kind ins) delay fits t (state_before kind delay ins t).level (state_before kind delay ins t).scheduled (explained t))
 
   states-taken : (t : ℕ) (v : Level) → HeldFor kind ins v (delay_to delay v) t → (state_before kind delay ins (suc t)).level ≡ v
@@ -176,7 +174,7 @@ module _ (kind : Kind) (delay : Delay) (fits : IsInRange delay) (ins : List Wave
 
   pub MeetsWindows-from_Obeys : (out : Wave) → Obeys kind delay ins out → MeetsWindows kind delay ins out
   MeetsWindows-from_Obeys out obeys =
-      let shows : (t : ℕ) → before out t ≡ (state_before kind delay ins t).level = states-from_Obeys kind delay ins out obeys in
+      let shows : (t : ℕ) → before out t ≡ (state_before kind delay ins t).level = obeys.levels in
       record {
         opening = shows 0;
         taken = λ t v held. shows (suc t) ∙ states-taken t v held;
@@ -200,4 +198,4 @@ module _ (kind : Kind) (delay : Delay) (fits : IsInRange delay) (ins : List Wave
       ]
 
   pub Obeys-from_MeetsWindows : (out : Wave) → MeetsWindows kind delay ins out → Obeys kind delay ins out
-  Obeys-from_MeetsWindows out meets = Obeys-from_states kind delay ins out (states-from_windows out meets)
+  Obeys-from_MeetsWindows out meets = record { levels = states-from_windows out meets }

@@ -4,5 +4,6 @@ pub mod Counts
 pub mod Outcomes
 pub mod Wave
 pub mod Schedule
+pub mod WindowRule
 pub mod Output
 pub mod MemorySinks

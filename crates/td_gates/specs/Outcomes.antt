@@ -1,4 +1,4 @@
--- Levels where x stands for either Boolean level, and the outcomes of a gate's table on them.
+-- Beside the model: levels where x stands for either Boolean level, and the outcomes of a gate's table on them.
 use Rattle.std.specs.Prelude.{◌≡◌, Bool, true, false, List, [], ◌∷◌, length, map}
 use Rattle.td_gates.specs.declared.primitives.Level.{Level}
 use Rattle.td_gates.specs.declared.primitives.Level.TheVariants.{Zero, One, X}

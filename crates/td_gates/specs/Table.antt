@@ -17,12 +17,7 @@ abbrev pub level_eq : Level → Level → Bool
 level_eq Zero Zero = true
 level_eq One One = true
 level_eq X X = true
-level_eq Zero One = false
-level_eq Zero X = false
-level_eq One Zero = false
-level_eq One X = false
-level_eq X Zero = false
-level_eq X One = false
+level_eq this that = false
 
 -- 0 where any input is 0, 1 where all are 1, else x
 abbrev pub and_of : List Level → Level

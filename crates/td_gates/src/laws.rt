@@ -1,7 +1,7 @@
 //! Laws of the definitions. These functions run nothing.
 
 ghost use Rattle.td_gates.specs.Outcomes.{TablesAreOfOutcomes};
-ghost use Rattle.td_gates.specs.Schedule.{WindowsSayTheSame, OneObeys};
+ghost use Rattle.td_gates.specs.WindowRule.{WindowsSayTheSame, OneObeys};
 
 /// The scheduling rule and the window rule say the same.
 pub fn windows_say_the_same()

@@ -1,4 +1,4 @@
--- Circuits made by hand. Their nets are named by number: first the inputs, and then the gates in order.
+-- Beside the model: circuits made by hand. Their nets are named by number: first the inputs, and then the gates in order.
 use Rattle.std.specs.Prelude.{◌≡◌, ◌⊎◌, ℕ, ◌+◌, ◌-◌, ◌<◌, ◌≤◌, nat_lt, false, List, [], ◌∷◌, length, map, slice_get, Some}
 use Rattle.std.specs.List.{list_all}
 use Rattle.td_gates.specs.Delays.{IsInRange}

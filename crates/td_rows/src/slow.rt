@@ -3,8 +3,8 @@
 ghost use Rattle.std.specs.Prelude.{◌≡◌, ◌≤◌, ◌<◌, ◌^◌, ◌+◌, length, map, IfOk};
 ghost use Rattle.td_gates.specs.Table.{TakesInputs};
 ghost use Rattle.td_gates.specs.Wave.{at, before};
-ghost use Rattle.td_gates.specs.Schedule.{step, updated, IsHistory};
-ghost use Rattle.td_rows.specs.States.{state_of};
+ghost use Rattle.td_gates.specs.Schedule.{step, updated};
+ghost use Rattle.td_rows.specs.States.{state_of, AreStates};
 
 use std::alloc::{AllocError, Global};
 use td_gates::{Change, Delay, Kind, Level, eval};
@@ -93,7 +93,7 @@ pub fn history(
     moments: u32,
 ) -> Result<Vec<State>, AllocError>
     requires { TakesInputs kind (length ins.now) }
-    ensures history { IfOk result (λ states. IsHistory kind delay ins.now (map state_of states.items)) }
+    ensures states { IfOk result (λ states. AreStates kind delay ins.now (map state_of states.items)) }
     ensures count { IfOk result (λ states. length states.items ≡ moments + 1) }
 {
     let starts = starts(alloc, ins)?;

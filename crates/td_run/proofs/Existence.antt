@@ -15,13 +15,14 @@ use Rattle.td_gates.specs.declared.primitives.Level.TheVariants.{Zero, One}
 use Rattle.td_gates.specs.Table.{table}
 use Rattle.td_netlist.specs.Netlist.{Net, Named, Netlist}
 use Rattle.td_circuit.specs.Numbering.{Numbered, nets, IsNumbering}
-use Rattle.td_circuit.specs.Run.{IsNetOf, IsSettled, Runs, IsDelay, level_of, wave_of, latest_change}
+use Rattle.td_circuit.specs.Run.{IsNetOf, IsSettled, Runs, IsDelay, latest_change}
+use Rattle.td_circuit.specs.NetValues.{net_level, net_wave}
 use Rattle.td_circuit.proofs.Existence.{numbering_exists}
 use Rattle.td_run.specs.Laws.{OneSettling, OneRun, OneDelay}
 use Rattle.td_run.specs.Settled.{levels_of, IsSettledUpTo}
 use Rattle.td_run.proofs.Settled.{next_level, is_settled, only_settled}
 use Rattle.td_run.proofs.Named.{is_run, only_run, only_outputs, outputs-are}
-use Rattle.td_run.specs.Waves.{AreWithin, inputs_of, change_moments}
+use Rattle.td_run.specs.Waves.{AreWithin, waves_of, change_moments}
 use Rattle.td_run.specs.Runs.{first_waves, IsRunUpTo}
 use Rattle.td_run.proofs.Sampling.{sampled, sampled-is_wave, sampled-shows, sampled-within, change_moments-within}
 use Rattle.td_run.proofs.Delayed.{delayed_wave, delayed_wave-rising, delayed_wave-obeys, delayed_wave-within}
@@ -66,7 +67,7 @@ run_exists circuit firsts seconds numbering f s (suc place) h =
     let gate = slice_get-within circuit.gates place (omega arith) in
     let long : length before.0 ≡ _ = length-waves circuit firsts seconds numbering f s place before.0 before.1 before.2 in
     let below : All (λ n. n < length before.0) gate.0.inputs = rw long (lower-at circuit numbering place gate.0 gate.1) in
-    let wave = gate_exists gate.0.kind gate.0.delay (range-at circuit numbering place gate.0 gate.1) (inputs_of before.0 gate.0.inputs) (place * 1000000000)
+    let wave = gate_exists gate.0.kind gate.0.delay (range-at circuit numbering place gate.0 gate.1) (waves_of before.0 gate.0.inputs) (place * 1000000000)
     (inputs_of-within (place * 1000000000) before.0 gate.0.inputs before.2.within below) in (
       before.0 ++ wave.0 ∷ [],
       before.1 ++ wave.0 ∷ [],
@@ -98,7 +99,7 @@ settling : (circuit : Numbered) (vector : List Level) → IsNumbering circuit �
     × ((other : Net → Level) (net : Net) → IsSettled circuit.netlist vector other → IsNetOf circuit.netlist net → other net ≡ levels net)
 settling circuit vector numbering fits =
     let found = levels_exist circuit vector numbering fits (length circuit.gates) (omega arith) in (
-      level_of (nets circuit) found.0,
+      net_level (nets circuit) found.0,
       is_settled circuit vector numbering fits found.0 found.1 found.2,
       λ other net settled is. only_settled circuit vector numbering fits found.0 found.1 found.2 other settled net is,
     )
@@ -109,7 +110,7 @@ running : (circuit : Numbered) (first second : List Level) → IsNumbering circu
     × ((other : Net → Wave) (net : Net) → Runs circuit.netlist first second other → IsNetOf circuit.netlist net → other net ≡ waves net)
 running circuit first second numbering f s =
     let found = run_exists circuit first second numbering f s (length circuit.gates) (omega arith) in (
-      wave_of (nets circuit) found.0,
+      net_wave (nets circuit) found.0,
       is_run circuit first second numbering f s found.0 found.1 found.2,
       λ other net runs is. only_run circuit first second numbering f s found.0 found.1 found.2 other runs net is,
     )
@@ -119,7 +120,7 @@ delaying : (circuit : Numbered) (first second : List Level) → IsNumbering circ
     → (delay : ℕ) × IsDelay circuit.netlist first second delay × ((other : ℕ) → IsDelay circuit.netlist first second other → other ≡ delay)
 delaying circuit first second numbering f s =
     let found = run_exists circuit first second numbering f s (length circuit.gates) (omega arith) in
-    let waves : Net → Wave = wave_of (nets circuit) found.0 in (
+    let waves : Net → Wave = net_wave (nets circuit) found.0 in (
       latest_change (map (λ name. waves (Named name)) circuit.netlist.outputs),
       record { waves = waves; runs = is_run circuit first second numbering f s found.0 found.1 found.2; is_latest = refl },
       λ other is. is.is_latest ∙ ap latest_change

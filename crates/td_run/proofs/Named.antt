@@ -10,18 +10,20 @@ use Rattle.td_gates.specs.declared.primitives.Kind.{Kind}
 use Rattle.td_gates.specs.declared.timing.Delay.{Delay}
 use Rattle.td_gates.specs.Table.{table}
 use Rattle.td_gates.specs.Wave.{Wave, at, before, IsWave}
-use Rattle.td_gates.specs.Schedule.{Obeys, MeetsWindows}
+use Rattle.td_gates.specs.Schedule.{Obeys}
+use Rattle.td_gates.specs.WindowRule.{MeetsWindows}
 use Rattle.td_gates.proofs.Levels.{level_eq-same, level_eq-other, cases_level}
-use Rattle.td_gates.proofs.Obedience.{states-from_Obeys, Obeys-unique, waves-equal, wave-equal}
+use Rattle.td_gates.proofs.Obedience.{Obeys-unique, waves-equal, wave-equal}
 use Rattle.td_gates.proofs.Windows.{MeetsWindows-from_Obeys}
 use Rattle.td_gates.proofs.Places.{none-some, some-same, slice_get-some, slice_get-map_some, get_or-front, get_or-back, map-fuse, All-from_contains}
 use Rattle.td_netlist.specs.Netlist.{Name, Net, Low, High, Named, Gate}
 use Rattle.td_circuit.specs.Numbering.{NumberedGate, Numbered, nets, first_output, IsGateAt, IsNumbering}
-use Rattle.td_circuit.specs.Run.{IsNetOf, Runs, wave_of}
+use Rattle.td_circuit.specs.Run.{IsNetOf, Runs}
+use Rattle.td_circuit.specs.NetValues.{net_wave}
 use Rattle.td_circuit.proofs.Looping.{input_number, output_number}
 use Rattle.td_circuit.proofs.Nets.{length-nets, place_of}
 use Rattle.td_circuit.proofs.Values.{value_of-all, named-numbers, value_at, same_at, only_values}
-use Rattle.td_run.specs.Waves.{constant, inputs_of}
+use Rattle.td_run.specs.Waves.{constant, waves_of}
 use Rattle.td_run.specs.Runs.{input_wave, input_waves, first_waves, IsRunUpTo}
 use Rattle.td_run.proofs.Numbered.{length-first_waves, length-waves, length-input_waves}
 
@@ -86,7 +88,7 @@ module _ (circuit : Numbered) (firsts seconds : List Level) (numbering : IsNumbe
     (first_fits : length firsts ≡ length circuit.netlist.inputs) (second_fits : length seconds ≡ length circuit.netlist.inputs)
     (waves outs : List Wave) (run : IsRunUpTo circuit firsts seconds (length circuit.gates) waves outs) where
   m : Net → Wave
-  m net = wave_of (nets circuit) waves net
+  m net = net_wave (nets circuit) waves net
 
   pub same_length : length waves ≡ length (nets circuit)
   same_length = length-waves circuit firsts seconds numbering first_fits second_fits (length circuit.gates) waves outs run
@@ -118,15 +120,15 @@ module _ (circuit : Numbered) (firsts seconds : List Level) (numbering : IsNumbe
   gate-obeys gate found =
       let placed = place_of circuit numbering gate found in
       let is = placed.4 in
-      let inputs : map m gate.inputs ≡ inputs_of waves placed.1.inputs =
+      let inputs : map m gate.inputs ≡ waves_of waves placed.1.inputs =
       named-numbers (constant X) m (nets circuit) waves placed.1.inputs gate.inputs is.inputs (λ n net at_n. m-at n net at_n) in
       let output : m (Named gate.output) ≡ get_or outs placed.0 (constant X) =
       m-at (first_output circuit + placed.0) (Named gate.output) (output_number circuit placed.0 gate placed.3) ∙ waves-out placed.0 in
-      Obeys-as placed.1.kind gate.kind placed.1.delay gate.delay (inputs_of waves placed.1.inputs) (map m gate.inputs)
+      Obeys-as placed.1.kind gate.kind placed.1.delay gate.delay (waves_of waves placed.1.inputs) (map m gate.inputs)
       (get_or outs placed.0 (constant X)) (m (Named gate.output)) is.kind is.delay (sym inputs) (sym output)
       (run.gates placed.0 placed.1 (slice_get-some circuit.gates placed.0 placed.1 placed.2) placed.2)
 
-  pub is_run : Runs circuit.netlist firsts seconds (wave_of (nets circuit) waves)
+  pub is_run : Runs circuit.netlist firsts seconds (net_wave (nets circuit) waves)
   unfolding m
   is_run = record {
     are_waves = λ net. value_of-all IsWave (constant X) (nets circuit) waves net tt run.rising;
@@ -136,7 +138,7 @@ module _ (circuit : Numbered) (firsts seconds : List Level) (numbering : IsNumbe
       inputs = sym (map-fuse (λ name. m (Named name)) (λ (w : Wave). w.start) circuit.netlist.inputs)
           ∙ ap (λ ws. map (λ (w : Wave). w.start) ws) inputs-are ∙ input_waves-starts firsts seconds (first_fits ∙ sym second_fits);
       gates = All-from_contains _ circuit.netlist.gates (λ gate found.
-          states-from_Obeys gate.kind gate.delay (map m gate.inputs) (m (Named gate.output)) (gate-obeys gate found) 0
+          (gate-obeys gate found).levels 0
           ∙ ap (table gate.kind) (map-fuse m (λ w. before w 0) gate.inputs));
     };
     inputs = λ t. sym (map-fuse (λ name. m (Named name)) (λ (w : Wave). at w t) circuit.netlist.inputs)
@@ -173,14 +175,14 @@ module _ (circuit : Numbered) (firsts seconds : List Level) (numbering : IsNumbe
     number-same i name at_i = input-same i name at_i ∙ sym (waves-input i (slice_get-some circuit.netlist.inputs i name at_i))
 
     gate-same : (place : ℕ) (numbered : NumberedGate) (gate : Gate) → slice_get circuit.gates place ≡ Some numbered
-        → Contains circuit.netlist.gates gate → IsGateAt circuit place numbered gate → map n gate.inputs ≡ inputs_of waves numbered.inputs
+        → Contains circuit.netlist.gates gate → IsGateAt circuit place numbered gate → map n gate.inputs ≡ waves_of waves numbered.inputs
         → n (Named gate.output) ≡ get_or waves (first_output circuit + place) (constant X)
     gate-same place numbered gate at_place has is inputs =
         let inside = slice_get-some circuit.gates place numbered at_place in
         let obeys : Obeys gate.kind gate.delay (map n gate.inputs) (n (Named gate.output)) =
         All-contains (λ (g : Gate). Obeys g.kind g.delay (map n g.inputs) (n (Named g.output))) circuit.netlist.gates gate runs.gates has in
         let also : Obeys gate.kind gate.delay (map n gate.inputs) (get_or outs place (constant X)) =
-        Obeys-as numbered.kind gate.kind numbered.delay gate.delay (inputs_of waves numbered.inputs) (map n gate.inputs)
+        Obeys-as numbered.kind gate.kind numbered.delay gate.delay (waves_of waves numbered.inputs) (map n gate.inputs)
         (get_or outs place (constant X)) (get_or outs place (constant X)) is.kind is.delay (sym inputs) refl
         (run.gates place numbered inside at_place) in
         let rising : IsWave (get_or outs place (constant X)) =
@@ -189,25 +191,25 @@ module _ (circuit : Numbered) (firsts seconds : List Level) (numbering : IsNumbe
         (runs.are_waves (Named gate.output)) rising obeys also
         ∙ sym (waves-out place)
 
-    pub only_run : (net : Net) → IsNetOf circuit.netlist net → n net ≡ wave_of (nets circuit) waves net
+    pub only_run : (net : Net) → IsNetOf circuit.netlist net → n net ≡ net_wave (nets circuit) waves net
     only_run net is = only_values (constant X) circuit numbering waves same_length n low-same high-same number-same gate-same net is
 
     -- and so these output waves
-    pub only_outputs : map (λ name. n (Named name)) circuit.netlist.outputs ≡ inputs_of waves circuit.outputs
+    pub only_outputs : map (λ name. n (Named name)) circuit.netlist.outputs ≡ waves_of waves circuit.outputs
     only_outputs =
         sym (map-fuse (λ name. Named name) n circuit.netlist.outputs)
         ∙ named-numbers (constant X) n (nets circuit) waves circuit.outputs (map (λ name. Named name) circuit.netlist.outputs) numbering.outputs
         (λ i net at_i. same_at (constant X) circuit numbering waves same_length n low-same high-same number-same gate-same i net at_i)
 
-  pub windows : All (λ gate. MeetsWindows gate.kind gate.delay (map (wave_of (nets circuit) waves) gate.inputs) (wave_of (nets circuit) waves (Named gate.output)))
+  pub windows : All (λ gate. MeetsWindows gate.kind gate.delay (map (net_wave (nets circuit) waves) gate.inputs) (net_wave (nets circuit) waves (Named gate.output)))
       circuit.netlist.gates
   unfolding m
   windows = All-from_contains _ circuit.netlist.gates (λ gate found.
       MeetsWindows-from_Obeys gate.kind gate.delay ((numbering.well_formed.gates gate found).delay) (map m gate.inputs) (m (Named gate.output)) (gate-obeys gate found))
 
   -- the outputs by their numbers are the outputs by their names
-  pub outputs-are : map (λ name. wave_of (nets circuit) waves (Named name)) circuit.netlist.outputs ≡ inputs_of waves circuit.outputs
+  pub outputs-are : map (λ name. net_wave (nets circuit) waves (Named name)) circuit.netlist.outputs ≡ waves_of waves circuit.outputs
   unfolding m
   outputs-are =
-      sym (map-fuse (λ name. Named name) (wave_of (nets circuit) waves) circuit.netlist.outputs)
+      sym (map-fuse (λ name. Named name) (net_wave (nets circuit) waves) circuit.netlist.outputs)
       ∙ named-numbers (constant X) m (nets circuit) waves circuit.outputs (map (λ name. Named name) circuit.netlist.outputs) numbering.outputs (λ i net at_i. m-at i net at_i)

@@ -14,7 +14,7 @@ use Rattle.td_gates.specs.Table.{level_eq, table}
 use Rattle.td_gates.specs.Wave.{Wave, level_after, before, IsRising}
 use Rattle.td_gates.specs.Schedule.{target_at, target_before}
 use Rattle.td_gates.proofs.Levels.{level_eq-same, level_eq-other, cases_level, level_after-early, level_under, before-level_under, IsRising-sooner}
-use Rattle.td_run.specs.Waves.{AreWithin, constant, inputs_of, change_moments}
+use Rattle.td_run.specs.Waves.{AreWithin, constant, waves_of, change_moments}
 
 -- the changes of a target from this level on, where it is read at these moments
 abbrev pub sampled : (ℕ → Level) → Level → List ℕ → List Change
@@ -183,7 +183,7 @@ change_moments-push (first ∷ others) wave =
     ∙ sym (append_assoc (map (λ change. change.moment) first.changes) (change_moments others) (map (λ change. change.moment) wave.changes))
 
 pub inputs_of-more : (waves : List Wave) (inputs : List ℕ) (i d : ℕ) → i < length inputs
-    → inputs_of waves (take (i + 1) inputs) ≡ inputs_of waves (take i inputs) ++ get_or waves (get_or inputs i d) (constant X) ∷ []
+    → waves_of waves (take (i + 1) inputs) ≡ waves_of waves (take i inputs) ++ get_or waves (get_or inputs i d) (constant X) ∷ []
 inputs_of-more waves inputs i d within_it = rw (take_more inputs i d) (map-append (λ number. get_or waves number (constant X)) (take i inputs) (get_or inputs i d ∷ []))
 
 -- within the list any default reads the same
@@ -194,13 +194,13 @@ get_or-any (x ∷ xs) (suc i) d e h = get_or-any xs i d e (omega arith)
 
 pub change_moments-step : (waves : List Wave) (inputs : List ℕ) (i : ℕ) (wave : Wave) → i < length inputs → get_or inputs i 0 < length waves
     → wave ≡ get_or waves (get_or inputs i 0) wave
-    → change_moments (inputs_of waves (take i inputs)) ++ map (λ change. change.moment) wave.changes
-    ≡ change_moments (inputs_of waves (take (i + 1) inputs))
+    → change_moments (waves_of waves (take i inputs)) ++ map (λ change. change.moment) wave.changes
+    ≡ change_moments (waves_of waves (take (i + 1) inputs))
 change_moments-step waves inputs i wave within_inputs within_waves is =
     let same : wave ≡ get_or waves (get_or inputs i 0) (constant X) =
     is ∙ get_or-any waves (get_or inputs i 0) wave (constant X) within_waves in
-    sym (change_moments-push (inputs_of waves (take i inputs)) wave)
-    ∙ ap (λ (w : Wave). change_moments (inputs_of waves (take i inputs) ++ w ∷ [])) same
+    sym (change_moments-push (waves_of waves (take i inputs)) wave)
+    ∙ ap (λ (w : Wave). change_moments (waves_of waves (take i inputs) ++ w ∷ [])) same
     ∙ ap change_moments (sym (inputs_of-more waves inputs i 0 within_inputs))
 
 -- after the last moment

@@ -22,7 +22,7 @@ use Rattle.td_gates.proofs.TableLaws.{cases_bool}
 use Rattle.td_gates.proofs.CountLaws.{passing, count-passing, table-counts}
 use Rattle.td_run.specs.declared.samples.Turn.{Turn}
 use Rattle.td_run.specs.Turns.{turns_from, turns_of, moment_of, is_next, samples_from, AreSamples, changing}
-use Rattle.td_run.specs.Waves.{AreWithin, change_moments, constant, inputs_of}
+use Rattle.td_run.specs.Waves.{AreWithin, change_moments, constant, waves_of}
 use Rattle.td_run.proofs.Sampling.{IsIncreasingFrom, sampled, sampled-is_wave, sampled-shows, sampled-within, change_moments-within, inputs_of-more, get_or-any}
 
 -- 1 where the levels are the same
@@ -361,12 +361,12 @@ turns_of-push (first ∷ others) wave =
 
 pub turns_of-step : (waves : List Wave) (inputs : List ℕ) (i : ℕ) (wave : Wave) → i < length inputs → get_or inputs i 0 < length waves
     → wave ≡ get_or waves (get_or inputs i 0) wave
-    → turns_of (inputs_of waves (take i inputs)) ++ turns_from wave.start wave.changes ≡ turns_of (inputs_of waves (take (i + 1) inputs))
+    → turns_of (waves_of waves (take i inputs)) ++ turns_from wave.start wave.changes ≡ turns_of (waves_of waves (take (i + 1) inputs))
 turns_of-step waves inputs i wave within_inputs within_waves is =
     let same_wave : wave ≡ get_or waves (get_or inputs i 0) (constant X) =
     is ∙ get_or-any waves (get_or inputs i 0) wave (constant X) within_waves in
-    sym (turns_of-push (inputs_of waves (take i inputs)) wave)
-    ∙ ap (λ (w : Wave). turns_of (inputs_of waves (take i inputs) ++ w ∷ [])) same_wave
+    sym (turns_of-push (waves_of waves (take i inputs)) wave)
+    ∙ ap (λ (w : Wave). turns_of (waves_of waves (take i inputs) ++ w ∷ [])) same_wave
     ∙ ap turns_of (sym (inputs_of-more waves inputs i 0 within_inputs))
 
 -- from the order of a sort
@@ -395,11 +395,11 @@ samples-strict kind entered left turns sorted = IsStrictlyIncreasing-from 0 _ (s
 
 pub rising-step : (waves : List Wave) (inputs : List ℕ) (i : ℕ) (wave : Wave) → i < length inputs → get_or inputs i 0 < length waves
     → wave ≡ get_or waves (get_or inputs i 0) wave → IsWave wave
-    → All IsWave (inputs_of waves (take i inputs)) → All IsWave (inputs_of waves (take (i + 1) inputs))
+    → All IsWave (waves_of waves (take i inputs)) → All IsWave (waves_of waves (take (i + 1) inputs))
 rising-step waves inputs i wave within_inputs within_waves is rising all =
     let same_wave : wave ≡ get_or waves (get_or inputs i 0) (constant X) =
     is ∙ get_or-any waves (get_or inputs i 0) wave (constant X) within_waves in
-    rw (inputs_of-more waves inputs i 0 within_inputs, ← same_wave) (All-push IsWave (inputs_of waves (take i inputs)) wave all rising)
+    rw (inputs_of-more waves inputs i 0 within_inputs, ← same_wave) (All-push IsWave (waves_of waves (take i inputs)) wave all rising)
 
 -- one turn of the loop over them, the turn at a place
 abbrev pub origin : Turn
@@ -437,7 +437,7 @@ pub moments-moved : (t : ℕ) (these those : List Turn) → IsPermutation these 
 moments-moved t these those moved found =
     Contains-permutation (map turn_moment these) (map turn_moment those) t (IsPermutation-map turn_moment these those moved) found
 
-pub length-inputs_of : (waves : List Wave) (inputs : List ℕ) → length (inputs_of waves inputs) ≡ length inputs
+pub length-inputs_of : (waves : List Wave) (inputs : List ℕ) → length (waves_of waves inputs) ≡ length inputs
 length-inputs_of waves inputs = length-map inputs (λ number. get_or waves number (constant X))
 
 -- the samples that change the level are those of the target read at their moments
@@ -454,8 +454,8 @@ changing-sampled e level (sample ∷ samples) are =
           (ap (λ cs. sample ∷ cs) (changing-sampled e (e sample.moment) samples rest))
     ]
 
-pub length-starts : (waves : List Wave) (inputs : List ℕ) → length (map (λ (wave : Wave). wave.start) (inputs_of waves inputs)) ≡ length inputs
-length-starts waves inputs = length-map (inputs_of waves inputs) (λ (wave : Wave). wave.start) ∙ length-inputs_of waves inputs
+pub length-starts : (waves : List Wave) (inputs : List ℕ) → length (map (λ (wave : Wave). wave.start) (waves_of waves inputs)) ≡ length inputs
+length-starts waves inputs = length-map (waves_of waves inputs) (λ (wave : Wave). wave.start) ∙ length-inputs_of waves inputs
 
 -- one turn of the loop that keeps the changing samples
 abbrev pub change_origin : Change
@@ -481,23 +481,23 @@ changing-push level items samples whole i within differs kept =
 
 -- what the samples that change the level make
 module _ (kind : Kind) (waves : List Wave) (inputs : List ℕ) (start : Level) (samples changes : List Change)
-    (starts : start ≡ target_before kind (inputs_of waves inputs) 0)
+    (starts : start ≡ target_before kind (waves_of waves inputs) 0)
     (increasing : IsStrictlyIncreasing (map moment_of samples))
-    (keeps : (t : ℕ) → Contains (change_moments (inputs_of waves inputs)) t → Contains (map moment_of samples) t)
-    (adds_none : (t : ℕ) → Contains (map moment_of samples) t → Contains (change_moments (inputs_of waves inputs)) t)
-    (levels : AreSamples (target_at kind (inputs_of waves inputs)) samples)
+    (keeps : (t : ℕ) → Contains (change_moments (waves_of waves inputs)) t → Contains (map moment_of samples) t)
+    (adds_none : (t : ℕ) → Contains (map moment_of samples) t → Contains (change_moments (waves_of waves inputs)) t)
+    (levels : AreSamples (target_at kind (waves_of waves inputs)) samples)
     (are : changes ≡ changing start samples) where
-  changes_are : changes ≡ sampled (target_at kind (inputs_of waves inputs)) (target_before kind (inputs_of waves inputs) 0) (map moment_of samples)
+  changes_are : changes ≡ sampled (target_at kind (waves_of waves inputs)) (target_before kind (waves_of waves inputs) 0) (map moment_of samples)
   changes_are = are ∙ ap (λ l. changing l samples) starts
-      ∙ changing-sampled (target_at kind (inputs_of waves inputs)) (target_before kind (inputs_of waves inputs) 0) samples levels
+      ∙ changing-sampled (target_at kind (waves_of waves inputs)) (target_before kind (waves_of waves inputs) 0) samples levels
 
   pub target-rising : IsRising 0 start changes
-  target-rising = rw (changes_are, starts) (sampled-is_wave kind (inputs_of waves inputs) (map moment_of samples) increasing keeps)
+  target-rising = rw (changes_are, starts) (sampled-is_wave kind (waves_of waves inputs) (map moment_of samples) increasing keeps)
 
-  pub target-shows : (t : ℕ) → before (record { start = start; changes = changes }) t ≡ target_before kind (inputs_of waves inputs) t
-  target-shows t = rw (changes_are, starts) (sampled-shows kind (inputs_of waves inputs) (map moment_of samples) increasing keeps t)
+  pub target-shows : (t : ℕ) → before (record { start = start; changes = changes }) t ≡ target_before kind (waves_of waves inputs) t
+  target-shows t = rw (changes_are, starts) (sampled-shows kind (waves_of waves inputs) (map moment_of samples) increasing keeps t)
 
-  pub target-within : (bound : ℕ) → All (λ wave. AreWithin bound wave.changes) (inputs_of waves inputs) → AreWithin bound changes
+  pub target-within : (bound : ℕ) → All (λ wave. AreWithin bound wave.changes) (waves_of waves inputs) → AreWithin bound changes
   target-within bound all = rw changes_are
       (sampled-within bound _ _ (map moment_of samples) (λ k d inside.
-      change_moments-within bound (inputs_of waves inputs) _ all (adds_none _ (All-contains_itself (map moment_of samples) k d inside))))
+      change_moments-within bound (waves_of waves inputs) _ all (adds_none _ (All-contains_itself (map moment_of samples) k d inside))))

@@ -4,7 +4,7 @@ use Rattle.std.proofs.lemmas.Bool.{cases_lt}
 use Rattle.std.proofs.lemmas.List.{length-map}
 use Rattle.td_gates.specs.Table.{level_from}
 use Rattle.td_netlist.specs.Netlist.{Netlist}
-use Rattle.td_circuit.specs.Run.{IsDelayOfBits, IsVector, IsAboveAll}
+use Rattle.td_circuit.specs.Run.{IsDelayOfBits, IsVector, IsUpperBound}
 use Rattle.td_run.specs.Laws.{IsAcyclic, OneWorst}
 use Rattle.td_run.proofs.Existence.{one_delay_lem}
 
@@ -98,7 +98,7 @@ pub one_worst_lem : OneWorst
 one_worst_lem netlist is =
     let best = greatest (length netlist.inputs) (From netlist) (λ first f. from_has netlist is first f) in
     let second = best.is in
-    let above : IsAboveAll netlist best.value = λ first other_second delay f s of_pair.
+    let above : IsUpperBound netlist best.value = λ first other_second delay f s of_pair.
     (let from = from_has netlist is first f in
     let within : delay ≤ from.value = from.is.3 other_second delay s of_pair in
     let most : from.value ≤ best.value = best.most first from.value f from.is in

@@ -1,4 +1,4 @@
--- Laws of settled levels, runs, delays and worst delays.
+-- Beside the model: laws of settled levels, runs, delays and worst delays.
 use Rattle.std.specs.Prelude.{◌≡◌, ℕ, List, length}
 use Rattle.td_gates.specs.declared.primitives.Level.{Level}
 use Rattle.td_gates.specs.Wave.{Wave}

@@ -1,4 +1,4 @@
--- The turns of waves, and what a gate's target is after the last turn of each moment.
+-- Internal: the turns of waves, and what a gate's target is after the last turn of each moment.
 use Rattle.std.specs.Prelude.{◌≡◌, ℕ, ◌==◌, Bool, false, List, [], ◌∷◌, ◌++◌, if◌then◌else◌}
 use Rattle.std.specs.List.{All}
 use Rattle.td_gates.specs.declared.primitives.Level.{Level}

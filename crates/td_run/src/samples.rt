@@ -8,7 +8,7 @@ ghost use Rattle.td_gates.specs.Counts.{count_at, counts_of};
 ghost use Rattle.td_gates.specs.Table.{TakesInputs};
 ghost use Rattle.td_gates.specs.Wave.{IsWave};
 ghost use Rattle.td_gates.specs.Schedule.{target_at};
-ghost use Rattle.td_run.specs.Waves.{inputs_of, change_moments};
+ghost use Rattle.td_run.specs.Waves.{waves_of, change_moments};
 ghost use Rattle.td_run.specs.Turns.{turns_from, turns_of, moment_of, is_next, samples_from, AreSamples};
 
 use crate::wave::Wave;
@@ -43,8 +43,8 @@ fn push_turns(turns: &mut Vec<Turn>, wave: &Wave) -> Result<(), AllocError>
 /// The turns of the inputs, one input after another.
 fn turns(alloc: Global, waves: &[Wave], inputs: &[u32]) -> Result<Vec<Turn>, AllocError>
     requires { All (λ input. input < length waves.now) inputs.now }
-    ensures turns { IfOk result (λ turns. turns.items ≡ turns_of (inputs_of waves.now inputs.now)) }
-    ensures rising { OnOk result (All IsWave (inputs_of waves.now inputs.now)) }
+    ensures turns { IfOk result (λ turns. turns.items ≡ turns_of (waves_of waves.now inputs.now)) }
+    ensures rising { OnOk result (All IsWave (waves_of waves.now inputs.now)) }
 {
     let mut turns = Vec::new(alloc);
     for input in inputs {
@@ -57,7 +57,7 @@ fn turns(alloc: Global, waves: &[Wave], inputs: &[u32]) -> Result<Vec<Turn>, All
 pub fn starts(waves: &[Wave], inputs: &[u32]) -> Counts
     requires numbers { All (λ input. input < length waves.now) inputs.now }
     requires few { length inputs.now ≤ 1024 }
-    ensures counts { result ≡ counts_of (map (λ wave. wave.start) (inputs_of waves.now inputs.now)) }
+    ensures counts { result ≡ counts_of (map (λ wave. wave.start) (waves_of waves.now inputs.now)) }
     ensures few { (level : LevelModel) → count_at result level ≤ 1024 }
 {
     let mut counts = Counts::NONE;
@@ -115,11 +115,11 @@ pub fn samples(
     requires few { length inputs.now ≤ 1024 }
     requires takes { TakesInputs kind (length inputs.now) }
     ensures increasing { IfOk result (λ samples. IsStrictlyIncreasing (map moment_of samples.items)) }
-    ensures keeps { IfOk result (λ samples. (t : ℕ) → Contains (change_moments (inputs_of waves.now inputs.now)) t
+    ensures keeps { IfOk result (λ samples. (t : ℕ) → Contains (change_moments (waves_of waves.now inputs.now)) t
         → Contains (map moment_of samples.items) t) }
     ensures adds_none { IfOk result (λ samples. (t : ℕ) → Contains (map moment_of samples.items) t
-        → Contains (change_moments (inputs_of waves.now inputs.now)) t) }
-    ensures levels { IfOk result (λ samples. AreSamples (target_at kind (inputs_of waves.now inputs.now)) samples.items) }
+        → Contains (change_moments (waves_of waves.now inputs.now)) t) }
+    ensures levels { IfOk result (λ samples. AreSamples (target_at kind (waves_of waves.now inputs.now)) samples.items) }
 {
     let start = starts(waves, inputs);
     let mut turns = turns(alloc, waves, inputs)?;

@@ -6,7 +6,7 @@ ghost use Rattle.std.specs.List.Sorted.{IsStrictlyIncreasing};
 ghost use Rattle.td_gates.specs.Table.{TakesInputs};
 ghost use Rattle.td_gates.specs.Wave.{at, before, IsWave};
 ghost use Rattle.td_gates.specs.Schedule.{Obeys, target_before};
-ghost use Rattle.td_run.specs.Waves.{AreWithin, event_for, due, inputs_of};
+ghost use Rattle.td_run.specs.Waves.{AreWithin, event_for, due, waves_of};
 ghost use Rattle.td_run.specs.Turns.{changing};
 
 use crate::samples::{samples, starts};
@@ -34,9 +34,9 @@ pub fn target(alloc: Global, kind: Kind, waves: &[Wave], inputs: &[u32]) -> Resu
     requires numbers { All (λ input. input < length waves.now) inputs.now }
     requires few { length inputs.now ≤ 1024 }
     requires takes { TakesInputs kind (length inputs.now) }
-    ensures shows { IfOk result (λ wave. (t : ℕ) → before wave t ≡ target_before kind (inputs_of waves.now inputs.now) t) }
+    ensures shows { IfOk result (λ wave. (t : ℕ) → before wave t ≡ target_before kind (waves_of waves.now inputs.now) t) }
     ensures wave { IfOk result (λ wave. IsWave wave) }
-    ensures within { (bound : ℕ) → All (λ wave. AreWithin bound wave.changes) (inputs_of waves.now inputs.now)
+    ensures within { (bound : ℕ) → All (λ wave. AreWithin bound wave.changes) (waves_of waves.now inputs.now)
         → IfOk result (λ wave. AreWithin bound wave.changes) }
 {
     let start = eval_counts(kind, starts(waves, inputs));
@@ -109,10 +109,10 @@ pub(crate) fn gate_wave(
     requires numbers { All (λ input. input < length waves.now) inputs.now }
     requires few { length inputs.now ≤ 1024 }
     requires takes { TakesInputs kind (length inputs.now) }
-    requires within { All (λ wave. AreWithin (2 ^ 63) wave.changes) (inputs_of waves.now inputs.now) }
-    ensures obeys { IfOk result (λ wave. Obeys kind delay (inputs_of waves.now inputs.now) wave) }
+    requires within { All (λ wave. AreWithin (2 ^ 63) wave.changes) (waves_of waves.now inputs.now) }
+    ensures obeys { IfOk result (λ wave. Obeys kind delay (waves_of waves.now inputs.now) wave) }
     ensures wave { IfOk result (λ wave. IsWave wave) }
-    ensures within { (bound : ℕ) → All (λ wave. AreWithin bound wave.changes) (inputs_of waves.now inputs.now)
+    ensures within { (bound : ℕ) → All (λ wave. AreWithin bound wave.changes) (waves_of waves.now inputs.now)
         → IfOk result (λ wave. AreWithin (bound + 1000000000) wave.changes) }
 {
     let target = target(alloc, kind, waves, inputs)?;

@@ -18,14 +18,14 @@ use Rattle.td_gates.specs.Wave.{Wave, before, at, IsRising, IsWave}
 use Rattle.td_gates.specs.Schedule.{Obeys}
 use Rattle.td_gates.proofs.Levels.{level_eq-same, level_eq-other, cases_level}
 use Rattle.td_gates.proofs.Obedience.{waves-equal}
-use Rattle.td_run.specs.Waves.{AreWithin, constant, inputs_of, change_moments}
+use Rattle.td_run.specs.Waves.{AreWithin, constant, waves_of, change_moments}
 use Rattle.td_run.proofs.Sampling.{sampled, sampled-rising, sampled-levels, levels-stay, IsIncreasingFrom-zero}
 use Rattle.td_domain.proofs.Lists.{filter_map-all, weaker}
 use Rattle.td_gates.proofs.Windows.{Held}
 use Rattle.td_gates.proofs.Delays.{IsDelayed, delayed, taken_last}
-use Rattle.td_ternary.specs.Possibles.{has, set_of, held, is_possible, possible_after, possible, changes_below, last_level, last_change, last_input, capped, gate_signal}
+use Rattle.td_ternary.specs.Possibles.{has, set_of, held_for, is_possible, possible, changes_below, last_level, last_change, last_input, capped, gate_signal}
 use Rattle.td_ternary.specs.PossibleLaws.{cases_bool, held_true, held_gives, same_is, boundaries_low, listed}
-use Rattle.td_ternary.specs.Turning.{may_be, either}
+use Rattle.td_ternary.specs.Turning.{may_be, either, possible_after}
 
 -- 1 where the test holds, else 0
 abbrev pub level_of_test : Bool → Level
@@ -53,16 +53,16 @@ is_low false h = refl
 
 module _ (may : ℕ → Bool) (e : ℕ → Level) (delay : Delay) (fits : IsInRange delay) (o : ℕ → Level) (is : IsDelayed e delay o)
     (drives : (n : ℕ) → e n ≡ level_of_test (may n)) where
-  window_high : (t : ℕ) → Held e High delay.rise t → held may delay.rise t ≡ true
+  window_high : (t : ℕ) → Held e High delay.rise t → held_for may delay.rise t ≡ true
   window_high t window = held_true may delay.rise t (λ k low. high_means (may (t - k)) (sym (drives (t - k)) ∙ window k low))
 
-  window_low : (t : ℕ) → Held e Low delay.fall t → held (λ n. not (may n)) delay.fall t ≡ true
+  window_low : (t : ℕ) → Held e Low delay.fall t → held_for (λ n. not (may n)) delay.fall t ≡ true
   window_low t window = held_true (λ n. not (may n)) delay.fall t (λ k low. low_means (may (t - k)) (sym (drives (t - k)) ∙ window k low))
 
-  unwindow_high : (t : ℕ) → held may delay.rise t ≡ true → Held e High delay.rise t
+  unwindow_high : (t : ℕ) → held_for may delay.rise t ≡ true → Held e High delay.rise t
   unwindow_high t all = λ k low. drives (t - k) ∙ is_high (may (t - k)) (held_gives may delay.rise t all k low)
 
-  unwindow_low : (t : ℕ) → held (λ n. not (may n)) delay.fall t ≡ true → Held e Low delay.fall t
+  unwindow_low : (t : ℕ) → held_for (λ n. not (may n)) delay.fall t ≡ true → Held e Low delay.fall t
   unwindow_low t all = λ k low. drives (t - k) ∙ is_low (may (t - k)) (held_gives (λ n. not (may n)) delay.fall t all k low)
 
   comes : (a b c : Bool) → a ≡ true → level_of_test (a || (b && not c)) ≡ High
@@ -76,11 +76,11 @@ module _ (may : ℕ → Bool) (e : ℕ → Level) (delay : Delay) (fits : IsInRa
   keeps a true c h k = rw (h, k) refl
   keeps a false c h k = rw h refl
 
-  none_high : (t : ℕ) → ¬ Held e High delay.rise t → held may delay.rise t ≡ false
-  none_high t none = elim (cases_bool (held may delay.rise t)) [ inl all ↦ absurd (none (unwindow_high t all)) | inr some ↦ some ]
+  none_high : (t : ℕ) → ¬ Held e High delay.rise t → held_for may delay.rise t ≡ false
+  none_high t none = elim (cases_bool (held_for may delay.rise t)) [ inl all ↦ absurd (none (unwindow_high t all)) | inr some ↦ some ]
 
-  none_low : (t : ℕ) → ¬ Held e Low delay.fall t → held (λ n. not (may n)) delay.fall t ≡ false
-  none_low t none = elim (cases_bool (held (λ n. not (may n)) delay.fall t)) [ inl all ↦ absurd (none (unwindow_low t all)) | inr some ↦ some ]
+  none_low : (t : ℕ) → ¬ Held e Low delay.fall t → held_for (λ n. not (may n)) delay.fall t ≡ false
+  none_low t none = elim (cases_bool (held_for (λ n. not (may n)) delay.fall t)) [ inl all ↦ absurd (none (unwindow_low t all)) | inr some ↦ some ]
 
   -- the buffer's output says where the level is possible
   pub buffer_says : (n : ℕ) → o n ≡ level_of_test (is_possible may delay.rise delay.fall n)
@@ -94,7 +94,7 @@ module _ (may : ℕ → Bool) (e : ℕ → Level) (delay : Delay) (fits : IsInRa
       taken High window = sym (comes _ (is_possible may delay.rise delay.fall t) _ (window_high t window))
       taken Low window =
           let last = taken_last e delay fits o is Low t window in
-          let not_high : held may delay.rise t ≡ false = none_high t (λ high. let other = taken_last e delay fits o is High t high in cc) in
+          let not_high : held_for may delay.rise t ≡ false = none_high t (λ high. let other = taken_last e delay fits o is High t high in cc) in
           sym (goes _ (is_possible may delay.rise delay.fall t) _ not_high (window_low t window))
       taken X window = absurd (x_never (may t) (sym (drives t) ∙ taken_last e delay fits o is X t window))
 
@@ -201,7 +201,7 @@ module _ (zeros ones : Wave) (moments : List ℕ) (strict : IsStrictlyIncreasing
 
 -- the signals at places that are there
 pub picked-inputs : (waves : List Wave) (places : List ℕ) → All (λ place. place < length waves) places
-    → filter_map (slice_get waves) places ≡ inputs_of waves places
+    → filter_map (slice_get waves) places ≡ waves_of waves places
 picked-inputs waves places there = filter_map-all _ _ places
     (weaker _ _ (λ place within. slice_get-get_or waves place (constant X) within) places
     (recursion_from_All (λ place. place < length waves) places there))

@@ -20,7 +20,8 @@ use Rattle.td_domain.specs.Cubes.{level_of_trit, Allows, IsInputWave}
 use Rattle.td_gates.proofs.Windows.{Held}
 use Rattle.td_gates.proofs.Delays.{IsDelayed, delayed, delayed-boolean}
 use Rattle.td_gates.proofs.TableLaws.{Agrees, Booleans, table-boolean, table_known}
-use Rattle.td_ternary.specs.Possibles.{has, set_of, Covers, HasMoment, change_at, input_signal, constant_signal, held, is_possible, possible, changes_below, last_change, last_input, last_level, widened, capped, gate_signal, last_of}
+use Rattle.td_ternary.specs.Possibles.{has, set_of, change_at, input_signal, constant_signal, held_for, is_possible, possible, changes_below, last_change, last_input, last_level, widened, capped, gate_signal, last_of}
+use Rattle.td_ternary.specs.Coverage.{Covers, HasMoment}
 
 pub cases_bool : (b : Bool) → (b ≡ true) ⊎ (b ≡ false)
 cases_bool true = inl refl
@@ -34,14 +35,14 @@ or_right true b h = refl
 or_right false b h = h
 
 -- windows of tests
-pub held_true : (test : ℕ → Bool) (d t : ℕ) → ((k : ℕ) → k < d → test (t - k) ≡ true) → held test d t ≡ true
+pub held_true : (test : ℕ → Bool) (d t : ℕ) → ((k : ℕ) → k < d → test (t - k) ≡ true) → held_for test d t ≡ true
 held_true test zero t all = refl
 held_true test (suc d) t all = rw (all d (omega arith)) (held_true test d t (λ k low. all k (omega arith)))
 
-pub held_gives : (test : ℕ → Bool) (d t : ℕ) → held test d t ≡ true → (k : ℕ) → k < d → test (t - k) ≡ true
+pub held_gives : (test : ℕ → Bool) (d t : ℕ) → held_for test d t ≡ true → (k : ℕ) → k < d → test (t - k) ≡ true
 held_gives test zero t is k low = absurd (omega arith)
 held_gives test (suc d) t is k low =
-    let both = and_cases (test (t - d)) (held test d t) is in
+    let both = and_cases (test (t - d)) (held_for test d t) is in
     elim (cases_eq k d) [
       | inl same ↦ rw same both.0
       | inr other ↦ held_gives test d t both.1 k (omega arith)
@@ -71,7 +72,7 @@ level_possible may e delay o is level other there away (suc t) here = elim (is.n
       or_left _ _ (held_true may (delay_to delay level) t (λ k low. there (t - k) (window k low)))
   | inr it ↦
       let old = level_possible may e delay o is level other there away t (sym it.1 ∙ here) in
-      elim (cases_bool (held (λ n. not (may n)) (delay_to delay other) t)) [
+      elim (cases_bool (held_for (λ n. not (may n)) (delay_to delay other) t)) [
         | inl gone ↦ absurd (it.0 other (λ k low. away (t - k) (not_false (may (t - k)) (held_gives (λ n. not (may n)) (delay_to delay other) t gone k low))))
         | inr kept ↦ or_right _ _ (stays _ _ old kept)
       ]
@@ -254,9 +255,9 @@ targets_stay (s ∷ signals) t u one two =
     settled s.start s.changes t (omega arith) ∙ sym (settled s.start s.changes u (omega arith)) in
     rw (here, rest) refl
 
-pub held_false : (test : ℕ → Bool) (d t : ℕ) → 1 ≤ d → test t ≡ false → held test d t ≡ false
+pub held_false : (test : ℕ → Bool) (d t : ℕ) → 1 ≤ d → test t ≡ false → held_for test d t ≡ false
 held_false test zero t some fails = absurd (omega arith)
-held_false test (suc d) t some fails = elim (cases_bool (held test (suc d) t)) [
+held_false test (suc d) t some fails = elim (cases_bool (held_for test (suc d) t)) [
   | inr is ↦ is
   | inl is ↦
       let first = held_gives test (suc d) t is 0 (omega arith) in
@@ -273,8 +274,8 @@ possible_stays may coming going M D some short fast stay t late =
     elim (cases_bool (may (suc M))) [
       | inl on ↦ or_left _ _ (held_true may coming t (λ k low. at_place (t - k) (omega arith) ∙ on)) ∙ sym on
       | inr off ↦
-          let none : held may coming t ≡ false = held_false may coming t some (at_place t (omega arith) ∙ off) in
-          let gone : held (λ n. not (may n)) going t ≡ true =
+          let none : held_for may coming t ≡ false = held_false may coming t some (at_place t (omega arith) ∙ off) in
+          let gone : held_for (λ n. not (may n)) going t ≡ true =
           held_true (λ n. not (may n)) going t (λ k low. ap not (at_place (t - k) (omega arith) ∙ off)) in
           drops _ _ _ none gone ∙ sym off
     ]

@@ -1,14 +1,13 @@
--- Possible levels: a signal is a wave whose level x stands for both Boolean levels. Which waves it covers, and the signals
--- of inputs, constants and gates.
-use Rattle.std.specs.Prelude.{◌≡◌, ℕ, zero, suc, ◌+◌, ◌-◌, max, nat_le, Bool, true, false, not, ◌&&◌, ◌||◌, List, [], ◌∷◌, ◌++◌, length, map, take, drop, Option, Some, None, if◌then◌else◌}
-use Rattle.std.specs.List.{Contains}
+-- Possible levels: a signal is a wave whose level x stands for both Boolean levels. The signals of
+-- inputs, constants and gates.
+use Rattle.std.specs.Prelude.{ℕ, zero, suc, ◌+◌, ◌-◌, max, nat_le, Bool, true, false, not, ◌&&◌, ◌||◌, List, [], ◌∷◌, ◌++◌, length, take, drop, Option, Some, None, if◌then◌else◌}
 use Rattle.td_gates.specs.declared.primitives.Level.{Level}
 use Rattle.td_gates.specs.declared.primitives.Level.TheVariants.{Zero as Low, One as High, X}
 use Rattle.td_gates.specs.declared.primitives.Kind.{Kind}
 use Rattle.td_gates.specs.declared.timing.Delay.{Delay}
 use Rattle.td_gates.specs.declared.timing.Change.{Change}
 use Rattle.td_gates.specs.Table.{level_from, level_eq}
-use Rattle.td_gates.specs.Wave.{Wave, before}
+use Rattle.td_gates.specs.Wave.{Wave}
 use Rattle.td_gates.specs.Schedule.{target_before}
 use Rattle.td_domain.specs.declared.cubes.Trit.{Trit}
 use Rattle.td_domain.specs.Cubes.{level_of_trit}
@@ -17,28 +16,16 @@ use Rattle.td_domain.specs.Functions.{Functions}
 -- the level is among those that the signal's level stands for
 abbrev pub has : Level → Level → Bool
 has Low Low = true
-has Low High = false
-has Low X = false
-has High Low = false
 has High High = true
-has High X = false
 has X Low = true
 has X High = true
-has X X = false
+has set level = false
 
 -- the level that stands for those that may be, one of which may
 abbrev pub set_of : Bool → Bool → Level
 set_of true true = X
 set_of true false = Low
 set_of false one = High
-
--- before each moment the wave's level is among those that the signal's stands for
-abbrev pub Covers : Wave → Wave → Type 0
-Covers signal wave = (n : ℕ) → has (before signal n) (before wave n) ≡ true
-
--- the moments in a signal are those of its changes
-abbrev pub HasMoment : Wave → ℕ → Type 0
-HasMoment signal moment = Contains (map (λ change. change.moment) signal.changes) moment
 
 -- a change, where the level is another
 abbrev pub change_at : ℕ → Level → Level → List Change
@@ -55,9 +42,9 @@ abbrev pub constant_signal : Bool → Wave
 constant_signal one = record { start = level_from one; changes = [] }
 
 -- the test passes at each of the d places up to t (below place 0 it is place 0)
-abbrev pub held : (ℕ → Bool) → ℕ → ℕ → Bool
-held test zero t = true
-held test (suc d) t = test (t - d) && held test d t
+abbrev pub held_for : (ℕ → Bool) → ℕ → ℕ → Bool
+held_for test zero t = true
+held_for test (suc d) t = test (t - d) && held_for test d t
 
 -- Whether a level is possible, place by place, where `may` says whether the target may be that level. It comes where the
 -- target may have been that level all the while that it takes to come, and stays unless the target surely was the other
@@ -65,17 +52,13 @@ held test (suc d) t = test (t - d) && held test d t
 abbrev pub is_possible : (ℕ → Bool) → ℕ → ℕ → ℕ → Bool
 is_possible may coming going zero = may 0
 is_possible may coming going (suc t) =
-    held may coming t || (is_possible may coming going t && not (held (λ n. not (may n)) going t))
-
--- the possible levels of an output just before a moment, where the target's are these
-abbrev pub possible_after : Delay → (ℕ → Level) → ℕ → Level
-possible_after delay target n = set_of
-    (is_possible (λ m. has (target m) Low) delay.fall delay.rise n)
-    (is_possible (λ m. has (target m) High) delay.rise delay.fall n)
+    held_for may coming t || (is_possible may coming going t && not (held_for (λ n. not (may n)) going t))
 
 -- the possible levels of a gate's output just before a moment
 abbrev pub possible : Kind → Delay → List Wave → ℕ → Level
-possible kind delay signals n = possible_after delay (target_before kind signals) n
+possible kind delay signals n = set_of
+    (is_possible (λ m. has (target_before kind signals m) Low) delay.fall delay.rise n)
+    (is_possible (λ m. has (target_before kind signals m) High) delay.rise delay.fall n)
 
 -- the changes of levels given place by place, at the moments below this one
 abbrev pub changes_below : (ℕ → Level) → ℕ → List Change

@@ -7,8 +7,8 @@ ghost use Rattle.td_gates.specs.Delays.{IsInRange};
 ghost use Rattle.td_gates.specs.Table.{TakesInputs};
 ghost use Rattle.td_gates.specs.Wave.{before, IsWave};
 ghost use Rattle.td_run.specs.Waves.{AreWithin, change_moments};
-ghost use Rattle.td_ternary.specs.Possibles.{possible_after, gate_signal, last_change, last_level, change_at, capped};
-ghost use Rattle.td_ternary.specs.Turning.{may_be, either};
+ghost use Rattle.td_ternary.specs.Possibles.{gate_signal, last_change, last_level, change_at, capped};
+ghost use Rattle.td_ternary.specs.Turning.{may_be, either, possible_after};
 
 use std::alloc::{AllocError, Global};
 use td_gates::{Change, Delay, Kind, Level};

@@ -1,12 +1,11 @@
-use Rattle.std.proofs.Common.{◌≡◌, ◌+◌, map, length, Some}
-use Rattle.std.specs.Prelude.{slice_get}
-use Rattle.td_gates.specs.Schedule.{IsHistory}
-use Rattle.td_rows.specs.States.{state_of}
+use Rattle.std.proofs.Common.{◌≡◌, ◌+◌, map, length}
+use Rattle.td_gates.specs.Schedule.{state_before}
+use Rattle.td_rows.specs.States.{state_of, AreStates}
 use Rattle.td_rows.proofs.slow.history.Given as goal
 
 abbrev pub invariant-loop-moment : goal.invariant-loop-moment
 invariant-loop-moment l = record {
-  history : IsHistory l.fn.kind l.fn.delay l.ins (map state_of l.states.items);
+  states : AreStates l.fn.kind l.fn.delay l.ins (map state_of l.states.items);
   count : length l.states.items ≡ l.moment + 1;
-  last : slice_get (map state_of l.states.items) l.moment ≡ Some (state_of l.state);
+  last : state_of l.state ≡ state_before l.fn.kind l.fn.delay l.ins l.moment;
 }

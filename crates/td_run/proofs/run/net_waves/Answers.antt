@@ -7,7 +7,7 @@ use Rattle.td_circuit.specs.Views.{gate_of}
 use Rattle.td_circuit.proofs.Nets.{takes-at, few-at, lower-at, few_gates}
 use Rattle.td_run.proofs.Numbered.{length-waves, next_gate}
 use Rattle.td_run.proofs.Gates.{numbered-at, inputs_of-within, run_start, far_below}
-use Rattle.td_run.specs.Waves.{AreWithin, inputs_of}
+use Rattle.td_run.specs.Waves.{AreWithin, waves_of}
 use Rattle.td_run.proofs.run.net_waves.Goals as goal
 
 pub loop-gate-init : goal.loop-gate-init
@@ -53,7 +53,7 @@ loop-gate-preserved c =
     let lower_nets : All (λ n. n < length c.loop-gate.waves.items) c.gate-item.result.inputs.items =
     rw long (lower-at c.args.circuit.now c.gates-gates.ensures.numbering c.loop-gate.gate-index (gate_of c.gate-item.result) place) in
     let obeys = rw (c.deref-in-loop-gate.ensures.value, c.deref.ensures.value) at c.in_ok-wave.ensures.obeys in
-    let inputs_within : All (λ (w : Wave). AreWithin (c.loop-gate.gate-index * 1000000000) w.changes) (inputs_of c.deref.result.now c.deref-in-loop-gate.result.now) =
+    let inputs_within : All (λ (w : Wave). AreWithin (c.loop-gate.gate-index * 1000000000) w.changes) (waves_of c.deref.result.now c.deref-in-loop-gate.result.now) =
     rw (c.deref-in-loop-gate.ensures.value, c.deref.ensures.value)
     (inputs_of-within (c.loop-gate.gate-index * 1000000000) c.loop-gate.waves.items c.gate-item.result.inputs.items c.loop-gate.invariant.1.within lower_nets) in
     rw (add-one, c.in_ok-push.ensures.items) (

@@ -4,7 +4,7 @@ use Rattle.std.proofs.lemmas.Result.{IfOk-weaker}
 use Rattle.td_gates.specs.Delays.{IsInRange}
 use Rattle.td_gates.specs.Wave.{Wave, before}
 use Rattle.td_gates.specs.Schedule.{target_before}
-use Rattle.td_run.specs.Waves.{inputs_of}
+use Rattle.td_run.specs.Waves.{waves_of}
 use Rattle.td_ternary.specs.Possibles.{possible, capped, gate_signal}
 use Rattle.td_ternary.proofs.Computing.{picked-inputs, inputs-within, possible_after-same, computed}
 use Rattle.td_ternary.proofs.gates.output.Goals as goal
@@ -18,7 +18,7 @@ possible_after-requires c =
 pub returns : goal.returns
 returns c =
     let signals : List Wave = filter_map (slice_get c.args.all.now) c.args.ins.now in
-    let picked : signals ≡ inputs_of c.args.all.now c.args.ins.now = picked-inputs c.args.all.now c.args.ins.now c.requires.places in
+    let picked : signals ≡ waves_of c.args.all.now c.args.ins.now = picked-inputs c.args.all.now c.args.ins.now c.requires.places in
     let target : (n : ℕ) → before c.in_ok-target.target n ≡ target_before c.args.kind signals n =
     λ n. c.in_ok-target.ensures.shows n ∙ ap (λ (waves : List Wave). target_before c.args.kind waves n) (sym picked) in
     let shows : (n : ℕ) → before c.in_ok-signal.signal n ≡ possible c.args.kind c.args.delay signals n =

@@ -3,8 +3,7 @@ use Rattle.td_gates.specs.declared.primitives.Level.TheVariants.{Zero, One}
 use Rattle.std.proofs.lemmas.Result.{IfOk-weaker}
 use Rattle.td_gates.specs.Delays.{Delays, IsInRange}
 use Rattle.td_gates.specs.Wave.{Wave, before}
-use Rattle.td_ternary.specs.Possibles.{possible_after}
-use Rattle.td_ternary.specs.Turning.{either}
+use Rattle.td_ternary.specs.Turning.{either, possible_after}
 use Rattle.td_ternary.proofs.Computing.{possible-buffered, either-possible}
 use Rattle.td_ternary.proofs.gates.possible_after.Goals as goal
 
