@@ -16,7 +16,7 @@ use Rattle.td_circuit.proofs.Nets.{numbers-below, few_gates}
 use Rattle.td_run.specs.Laws.{IsAcyclic}
 use Rattle.td_run.specs.Waves.{AreWithin, waves_of}
 use Rattle.td_run.proofs.Existence.{run_exists}
-use Rattle.td_run.proofs.Gates.{inputs_of-within, all_small}
+use Rattle.td_run.proofs.Gates.{waves_of-within, all_small}
 use Rattle.td_run.proofs.Named.{only_outputs, same_length}
 use Rattle.td_domain.specs.declared.cubes.Trit.{Trit}
 use Rattle.td_domain.specs.declared.cubes.Trit.TheVariants.{Zero, One, Free}
@@ -54,7 +54,7 @@ delay_by_number circuit numbering first second delay first_fits second_fits is =
     let below : All (λ net. net < length found.0) circuit.outputs =
     rw (same_length circuit (map level_from first) (map level_from second) numbering f s found.0 found.1 found.2)
     (numbers-below (nets circuit) circuit.outputs _ numbering.outputs) in
-    let outputs = inputs_of-within 200000000000000 found.0 circuit.outputs small below in
+    let outputs = waves_of-within 200000000000000 found.0 circuit.outputs small below in
     let most = latest_within 200000000000000 (waves_of found.0 circuit.outputs)
     (recursion_from_All (λ wave. AreWithin 200000000000000 wave.changes) (waves_of found.0 circuit.outputs) outputs) in
     let same : delay ≡ latest_change (waves_of found.0 circuit.outputs) =

@@ -29,7 +29,7 @@ use Rattle.td_run.proofs.Delayed.{delayed_wave, delayed_wave-rising, delayed_wav
 use Rattle.td_circuit.proofs.Nets.{lower-at, range-at}
 use Rattle.td_run.proofs.Numbered.{length-waves, next_gate}
 use Rattle.td_gates.proofs.Places.{slice_get-within}
-use Rattle.td_run.proofs.Gates.{inputs_of-within, run_start}
+use Rattle.td_run.proofs.Gates.{waves_of-within, run_start}
 
 abbrev moments_to : ℕ → List ℕ
 moments_to bound = range_with_len 0 (suc bound)
@@ -68,7 +68,7 @@ run_exists circuit firsts seconds numbering f s (suc place) h =
     let long : length before.0 ≡ _ = length-waves circuit firsts seconds numbering f s place before.0 before.1 before.2 in
     let below : All (λ n. n < length before.0) gate.0.inputs = rw long (lower-at circuit numbering place gate.0 gate.1) in
     let wave = gate_exists gate.0.kind gate.0.delay (range-at circuit numbering place gate.0 gate.1) (waves_of before.0 gate.0.inputs) (place * 1000000000)
-    (inputs_of-within (place * 1000000000) before.0 gate.0.inputs before.2.within below) in (
+    (waves_of-within (place * 1000000000) before.0 gate.0.inputs before.2.within below) in (
       before.0 ++ wave.0 ∷ [],
       before.1 ++ wave.0 ∷ [],
       next_gate circuit firsts seconds numbering f s place before.0 before.1 gate.0 wave.0 before.2 gate.1 wave.1 wave.2 wave.3,

@@ -22,7 +22,7 @@ use Rattle.td_circuit.specs.Run.{IsNetOf, Runs}
 use Rattle.td_circuit.specs.NetValues.{net_wave}
 use Rattle.td_circuit.proofs.Looping.{input_number, output_number}
 use Rattle.td_circuit.proofs.Nets.{length-nets, place_of}
-use Rattle.td_circuit.proofs.Values.{value_of-all, named-numbers, value_at, same_at, only_values}
+use Rattle.td_circuit.proofs.Values.{net_value-all, named-numbers, value_at, same_at, only_values}
 use Rattle.td_run.specs.Waves.{constant, waves_of}
 use Rattle.td_run.specs.Runs.{input_wave, input_waves, first_waves, IsRunUpTo}
 use Rattle.td_run.proofs.Numbered.{length-first_waves, length-waves, length-input_waves}
@@ -131,7 +131,7 @@ module _ (circuit : Numbered) (firsts seconds : List Level) (numbering : IsNumbe
   pub is_run : Runs circuit.netlist firsts seconds (net_wave (nets circuit) waves)
   unfolding m
   is_run = record {
-    are_waves = λ net. value_of-all IsWave (constant X) (nets circuit) waves net tt run.rising;
+    are_waves = λ net. net_value-all IsWave (constant X) (nets circuit) waves net tt run.rising;
     settled = record {
       low = ap (λ w. w.start) (m-at 0 Low refl ∙ waves-low);
       high = ap (λ w. w.start) (m-at 1 High refl ∙ waves-high);

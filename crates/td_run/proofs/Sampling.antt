@@ -182,9 +182,9 @@ change_moments-push (first ∷ others) wave =
     ap (λ ts. map (λ change. change.moment) first.changes ++ ts) (change_moments-push others wave)
     ∙ sym (append_assoc (map (λ change. change.moment) first.changes) (change_moments others) (map (λ change. change.moment) wave.changes))
 
-pub inputs_of-more : (waves : List Wave) (inputs : List ℕ) (i d : ℕ) → i < length inputs
+pub waves_of-more : (waves : List Wave) (inputs : List ℕ) (i d : ℕ) → i < length inputs
     → waves_of waves (take (i + 1) inputs) ≡ waves_of waves (take i inputs) ++ get_or waves (get_or inputs i d) (constant X) ∷ []
-inputs_of-more waves inputs i d within_it = rw (take_more inputs i d) (map-append (λ number. get_or waves number (constant X)) (take i inputs) (get_or inputs i d ∷ []))
+waves_of-more waves inputs i d within_it = rw (take_more inputs i d) (map-append (λ number. get_or waves number (constant X)) (take i inputs) (get_or inputs i d ∷ []))
 
 -- within the list any default reads the same
 pub get_or-any : {A : Type 0} (xs : List A) (i : ℕ) (d e : A) → i < length xs → get_or xs i d ≡ get_or xs i e
@@ -201,7 +201,7 @@ change_moments-step waves inputs i wave within_inputs within_waves is =
     is ∙ get_or-any waves (get_or inputs i 0) wave (constant X) within_waves in
     sym (change_moments-push (waves_of waves (take i inputs)) wave)
     ∙ ap (λ (w : Wave). change_moments (waves_of waves (take i inputs) ++ w ∷ [])) same
-    ∙ ap change_moments (sym (inputs_of-more waves inputs i 0 within_inputs))
+    ∙ ap change_moments (sym (waves_of-more waves inputs i 0 within_inputs))
 
 -- after the last moment
 pub sampled-end : (e : ℕ → Level) (level start first : Level) (items : List Change) (slice moments : List ℕ) (i : ℕ)

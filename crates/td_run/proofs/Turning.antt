@@ -23,7 +23,7 @@ use Rattle.td_gates.proofs.CountLaws.{passing, count-passing, table-counts}
 use Rattle.td_run.specs.declared.samples.Turn.{Turn}
 use Rattle.td_run.specs.Turns.{turns_from, turns_of, moment_of, is_next, samples_from, AreSamples, changing}
 use Rattle.td_run.specs.Waves.{AreWithin, change_moments, constant, waves_of}
-use Rattle.td_run.proofs.Sampling.{IsIncreasingFrom, sampled, sampled-is_wave, sampled-shows, sampled-within, change_moments-within, inputs_of-more, get_or-any}
+use Rattle.td_run.proofs.Sampling.{IsIncreasingFrom, sampled, sampled-is_wave, sampled-shows, sampled-within, change_moments-within, waves_of-more, get_or-any}
 
 -- 1 where the levels are the same
 abbrev pub same : Level → Level → ℕ
@@ -367,7 +367,7 @@ turns_of-step waves inputs i wave within_inputs within_waves is =
     is ∙ get_or-any waves (get_or inputs i 0) wave (constant X) within_waves in
     sym (turns_of-push (waves_of waves (take i inputs)) wave)
     ∙ ap (λ (w : Wave). turns_of (waves_of waves (take i inputs) ++ w ∷ [])) same_wave
-    ∙ ap turns_of (sym (inputs_of-more waves inputs i 0 within_inputs))
+    ∙ ap turns_of (sym (waves_of-more waves inputs i 0 within_inputs))
 
 -- from the order of a sort
 pub IsSortedFrom-sorted : (turns : List Turn) → IsNonDecreasingBy turn_moment turns → IsSortedFrom 0 turns
@@ -399,7 +399,7 @@ pub rising-step : (waves : List Wave) (inputs : List ℕ) (i : ℕ) (wave : Wave
 rising-step waves inputs i wave within_inputs within_waves is rising all =
     let same_wave : wave ≡ get_or waves (get_or inputs i 0) (constant X) =
     is ∙ get_or-any waves (get_or inputs i 0) wave (constant X) within_waves in
-    rw (inputs_of-more waves inputs i 0 within_inputs, ← same_wave) (All-push IsWave (waves_of waves (take i inputs)) wave all rising)
+    rw (waves_of-more waves inputs i 0 within_inputs, ← same_wave) (All-push IsWave (waves_of waves (take i inputs)) wave all rising)
 
 -- one turn of the loop over them, the turn at a place
 abbrev pub origin : Turn
@@ -437,8 +437,8 @@ pub moments-moved : (t : ℕ) (these those : List Turn) → IsPermutation these 
 moments-moved t these those moved found =
     Contains-permutation (map turn_moment these) (map turn_moment those) t (IsPermutation-map turn_moment these those moved) found
 
-pub length-inputs_of : (waves : List Wave) (inputs : List ℕ) → length (waves_of waves inputs) ≡ length inputs
-length-inputs_of waves inputs = length-map inputs (λ number. get_or waves number (constant X))
+pub length-waves_of : (waves : List Wave) (inputs : List ℕ) → length (waves_of waves inputs) ≡ length inputs
+length-waves_of waves inputs = length-map inputs (λ number. get_or waves number (constant X))
 
 -- the samples that change the level are those of the target read at their moments
 pub changing-sampled : (e : ℕ → Level) (level : Level) (samples : List Change) → AreSamples e samples
@@ -455,7 +455,7 @@ changing-sampled e level (sample ∷ samples) are =
     ]
 
 pub length-starts : (waves : List Wave) (inputs : List ℕ) → length (map (λ (wave : Wave). wave.start) (waves_of waves inputs)) ≡ length inputs
-length-starts waves inputs = length-map (waves_of waves inputs) (λ (wave : Wave). wave.start) ∙ length-inputs_of waves inputs
+length-starts waves inputs = length-map (waves_of waves inputs) (λ (wave : Wave). wave.start) ∙ length-waves_of waves inputs
 
 -- one turn of the loop that keeps the changing samples
 abbrev pub change_origin : Change

@@ -6,7 +6,7 @@ use Rattle.td_gates.proofs.Places.{slice_get-some}
 use Rattle.td_circuit.specs.Views.{gate_of}
 use Rattle.td_circuit.proofs.Nets.{takes-at, few-at, lower-at, few_gates}
 use Rattle.td_run.proofs.Numbered.{length-waves, next_gate}
-use Rattle.td_run.proofs.Gates.{numbered-at, inputs_of-within, run_start, far_below}
+use Rattle.td_run.proofs.Gates.{numbered-at, waves_of-within, run_start, far_below}
 use Rattle.td_run.specs.Waves.{AreWithin, waves_of}
 use Rattle.td_run.proofs.run.net_waves.Goals as goal
 
@@ -55,7 +55,7 @@ loop-gate-preserved c =
     let obeys = rw (c.deref-in-loop-gate.ensures.value, c.deref.ensures.value) at c.in_ok-wave.ensures.obeys in
     let inputs_within : All (λ (w : Wave). AreWithin (c.loop-gate.gate-index * 1000000000) w.changes) (waves_of c.deref.result.now c.deref-in-loop-gate.result.now) =
     rw (c.deref-in-loop-gate.ensures.value, c.deref.ensures.value)
-    (inputs_of-within (c.loop-gate.gate-index * 1000000000) c.loop-gate.waves.items c.gate-item.result.inputs.items c.loop-gate.invariant.1.within lower_nets) in
+    (waves_of-within (c.loop-gate.gate-index * 1000000000) c.loop-gate.waves.items c.gate-item.result.inputs.items c.loop-gate.invariant.1.within lower_nets) in
     rw (add-one, c.in_ok-push.ensures.items) (
       c.loop-gate.invariant.0 ++ c.in_ok-wave.wave ∷ [],
       next_gate c.args.circuit.now c.args.first.now c.args.second.now c.gates-gates.ensures.numbering c.requires.first_fits c.requires.second_fits

@@ -3,7 +3,7 @@ use Rattle.std.specs.Prelude.{IsPermutation}
 use Rattle.std.proofs.lemmas.List.Sorted.{IsPermutation-sym, IsNonDecreasingBy-from_sort_by_key}
 use Rattle.td_run.specs.Waves.{waves_of}
 use Rattle.td_run.specs.Turns.{turns_of}
-use Rattle.td_run.proofs.Turning.{turn_moment, none, IsSortedFrom, IsSortedFrom-sorted, samples-strict, samples-keep, samples-add_none, samples-are, turn_moments-of, moments-moved, length-inputs_of}
+use Rattle.td_run.proofs.Turning.{turn_moment, none, IsSortedFrom, IsSortedFrom-sorted, samples-strict, samples-keep, samples-add_none, samples-are, turn_moments-of, moments-moved, length-waves_of}
 use Rattle.td_run.proofs.samples.samples.Goals as goal
 
 sorted : (c : goal.After-drop-turns-2) → IsSortedFrom 0 c.deref.result.now
@@ -29,4 +29,4 @@ returns-clause-adds_none c = λ t found.
 pub returns-clause-levels : goal.returns-clause-levels
 returns-clause-levels c = rw (c.in_ok-samples.ensures, c.starts-start.ensures.counts)
     (samples-are c.args.kind (waves_of c.args.waves.now c.args.inputs.now) c.deref.result.now c.in_ok-turns.ensures.rising
-    (rw (← length-inputs_of c.args.waves.now c.args.inputs.now) at c.requires.takes) (moved c) (sorted c))
+    (rw (← length-waves_of c.args.waves.now c.args.inputs.now) at c.requires.takes) (moved c) (sorted c))
