@@ -89,12 +89,15 @@ IsReached netlist c = IsDelayOfBits netlist c.pair.first c.pair.second c.time
 abbrev pub root_cube : Certificate → List Trit
 root_cube c = free_cube (2 * c.inputs)
 
+abbrev pub lines_in : Certificate → List Line
+lines_in c = lines_from (root_cube c ∷ []) c.tree
+
 -- The certificate is accepted: it is of this circuit, its pair has its time, and its lines are good.
 pub record Accepts (netlist : Netlist) (c : Certificate) : Type 0 where
   pub size : IsOfSize netlist c
   pub reached : IsReached netlist c
   pub tree : IsTree c.tree
-  pub good : AllByRecursion (IsGood netlist c.time) (lines_from (root_cube c ∷ []) c.tree)
+  pub good : AllByRecursion (IsGood netlist c.time) (lines_in c)
 
 -- the time of a certificate that is accepted of a netlist without a loop is its worst delay
 abbrev pub AcceptedIsWorst : Type 0
