@@ -1,4 +1,4 @@
--- The best pair that a search has found.
+-- Internal: the best pair that a search has found.
 use Rattle.std.specs.Prelude.{◌≡◌, ℕ, ◌*◌, List, length}
 use Rattle.td_domain.specs.declared.cubes.Trit.{Trit}
 use Rattle.td_domain.specs.Pairs.{Pair}
