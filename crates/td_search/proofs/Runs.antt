@@ -1,5 +1,5 @@
--- An honest run of one worker leads to a settled tree: its best is raised first, and then each node is claimed and split or closed, one after another in
--- the tree's order.
+-- An honest run of one worker leads to a settled tree: the best is raised first, and then each node is claimed and split or
+-- closed, in the tree's order.
 use Rattle.std.proofs.Common.{◌≡◌, ◌⊎◌, ℕ, zero, suc, ◌+◌, ◌<◌, ◌≤◌, max, List, [], ◌∷◌, ◌++◌, length, map, refl, sym, ap, subst, ◌∙◌, cond, le_refl, append_assoc, arith}
 use Rattle.std.specs.Prelude.{Contains, Some, slice_get, count_by, sum_by}
 use Rattle.std.proofs.lemmas.List.{append-nil}
