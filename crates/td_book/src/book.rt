@@ -6,13 +6,12 @@ ghost use Rattle.td_domain.specs.declared.cubes.Trit.TheVariants.{Free};
 ghost use Rattle.td_book.specs.declared.node.Node.{Node};
 ghost use Rattle.td_book.specs.declared.node.State.{State};
 ghost use Rattle.td_book.specs.Board.{node, cubes_after, opening, handled};
-ghost use Rattle.td_book.specs.Cubes.{free_cube};
 ghost use Rattle.td_book.specs.Chained.{has_number, board_with};
 ghost use Rattle.td_book.specs.Kept.{as_open, IsKept};
 ghost use Rattle.td_book.specs.Claimed.{Claimed, IsSplitFault};
 ghost use Rattle.td_book.specs.Steps.{Shows, Splits, Closes, Releases, IsStranger};
 
-use crate::chain::{Chain, free_all};
+use crate::chain::Chain;
 use crate::lease::{Claim, Lease, SplitFault, Stranger};
 use crate::node::{Mark, Node, State};
 use crate::partial::Partial;
@@ -42,9 +41,9 @@ impl Model for Book {
 
     ghost Value = { Board };
 
-    ghost view = { λ b. record { positions = b.chain.positions; workers = b.workers; budget = b.budget; nodes = b.chain.nodes; order = b.order.items } };
+    ghost view = { λ b. record { cube = b.chain.cube; workers = b.workers; budget = b.budget; nodes = b.chain.nodes; order = b.order.items } };
 
-    ghost invariant = { λ b. IsBook (record { positions = b.chain.positions; workers = b.workers; budget = b.budget; nodes = b.chain.nodes; order = b.order.items }) b.allowed (vec_capacity b.order) × (length b.cube.items ≡ b.chain.positions) };
+    ghost invariant = { λ b. IsBook (record { cube = b.chain.cube; workers = b.workers; budget = b.budget; nodes = b.chain.nodes; order = b.order.items }) b.allowed (vec_capacity b.order) × (length b.cube.items ≡ length b.chain.cube) };
 }
 
 // Whether the trits are those of the cube.
@@ -75,9 +74,9 @@ fn is_held(state: Option<State>, worker: u32, allowance: u32) -> bool
 // The cube of a node, by way of `cube`.
 fn cube_of(alloc: Global, chain: &Chain, number: u32, cube: &mut [Trit]) -> Result<Cube, AllocError>
     requires number { has_number number chain.now.nodes ≡ true }
-    requires len { length cube.old ≡ chain.now.positions }
-    ensures cube { IfOk result (λ c. (before after : List Node) (s : State) → chain.now.nodes ≡ before ++ node number s ∷ after → (rest : List (List Trit)) × (cubes_after (free_cube chain.now.positions ∷ []) before ≡ c ∷ rest)) }
-    ensures len { length cube.new ≡ chain.now.positions }
+    requires len { length cube.old ≡ length chain.now.cube }
+    ensures cube { IfOk result (λ c. (before after : List Node) (s : State) → chain.now.nodes ≡ before ++ node number s ∷ after → (rest : List (List Trit)) × (cubes_after (chain.now.cube ∷ []) before ≡ c ∷ rest)) }
+    ensures len { length cube.new ≡ length chain.now.cube }
 {
     chain.read_cube(number, cube);
     Ok(Cube::new(Vec::from_slice(alloc, cube)?))
@@ -85,12 +84,12 @@ fn cube_of(alloc: Global, chain: &Chain, number: u32, cube: &mut [Trit]) -> Resu
 
 // Whether the chain shows the lease. The node's cube is written into `cube`.
 fn shows(chain: &Chain, cube: &mut [Trit], lease: &Lease) -> bool
-    requires { length cube.old ≡ chain.now.positions }
+    requires { length cube.old ≡ length chain.now.cube }
     ensures shown { IsTrue result ↔ Shows (board_with chain.now) lease.now }
-    ensures wide { IsTrue result → length lease.now.cube ≡ chain.now.positions }
-    ensures small { IsTrue result → chain.now.positions < 2 ^ 32 }
+    ensures wide { IsTrue result → length lease.now.cube ≡ length chain.now.cube }
+    ensures small { IsTrue result → length chain.now.cube < 2 ^ 32 }
     ensures once { (before after : List Node) (s : State) → chain.now.nodes ≡ before ++ node lease.now.number s ∷ after → has_number lease.now.number before ≡ false }
-    ensures len { length cube.new ≡ chain.now.positions }
+    ensures len { length cube.new ≡ length chain.now.cube }
 {
     let state = chain.state(lease.number);
     if !is_held(state, lease.worker, lease.allowance) {
@@ -101,14 +100,15 @@ fn shows(chain: &Chain, cube: &mut [Trit], lease: &Lease) -> bool
 }
 
 impl Book {
-    /// One open root, and nothing handled. The root's cube has so many positions, all free. The budget is how many nodes may
-    /// be handled, at most 10,000,000. The error is want of memory.
-    pub fn new(alloc: Global, positions: u32, workers: u32, budget: u64) -> Result<Book, AllocError>
-        requires { budget ≤ 10000000 }
-        ensures { IfOk result (λ b. b ≡ opening positions workers budget) }
+    /// One open root with this cube, and nothing handled. The budget is how many nodes may be handled, at most 10,000,000.
+    /// The error is want of memory.
+    pub fn new(alloc: Global, root: Cube, workers: u32, budget: u64) -> Result<Book, AllocError>
+        requires positions { length root < 2 ^ 32 }
+        requires budget { budget ≤ 10000000 }
+        ensures { IfOk result (λ b. b ≡ opening root workers budget) }
     {
-        let chain = Chain::new(alloc, positions)?;
-        let cube = vec![in alloc; Trit::Free; positions as usize]?;
+        let cube = vec![in alloc; Trit::Free; root.len()]?;
+        let chain = Chain::new(alloc, root)?;
         Ok(Book {
             alloc,
             workers,
@@ -122,7 +122,7 @@ impl Book {
 
     /// The number of positions of the root's cube.
     pub fn positions(&self) -> u32
-        ensures { result ≡ self.now.positions }
+        ensures { result ≡ length self.now.cube }
     {
         self.chain.positions()
     }
@@ -233,15 +233,9 @@ impl Book {
 
     /// The root's cube and the tree, with held leaves as open. Takes no memory.
     pub fn into_tree(self) -> Partial
-        ensures cube { result.cube ≡ free_cube self.positions }
+        ensures cube { result.cube ≡ self.cube }
         ensures nodes { result.nodes ≡ as_open self.nodes }
     {
-        let Book {
-            chain,
-            mut cube,
-            ..
-        } = self;
-        free_all(&mut cube);
-        Partial::new(Cube::new(cube), chain)
+        Partial::new(self.chain)
     }
 }

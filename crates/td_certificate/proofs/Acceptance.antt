@@ -27,8 +27,11 @@ use Rattle.td_ternary.specs.PossibleLaws as possible_laws
 use Rattle.td_certificate.specs.declared.tree.BoundedBy.{BoundedBy}
 use Rattle.td_certificate.specs.declared.tree.BoundedBy.TheVariants as by
 use Rattle.td_certificate.specs.declared.certificate.Certificate.{Certificate}
-use Rattle.td_certificate.specs.Trees.{Tree, Split, Bound, Point}
-use Rattle.td_certificate.specs.Accepts.{IsBoundBy, lines_of, IsGood, HasDelay, Accepts, AcceptedIsWorst}
+use Rattle.td_certificate.specs.Trees.{Tree, Split, Bound, Point, nodes_of, lines_of}
+use Rattle.td_certificate.specs.Walks.{lines_from}
+use Rattle.td_certificate.specs.Accepts.{IsBoundBy, root_cube, IsGood, HasDelay, Accepts, AcceptedIsWorst}
+use Rattle.td_certificate.proofs.TreeLaws.{trees_are_counted}
+use Rattle.td_certificate.proofs.Walking.{lines_are_walked}
 
 -- ---- cubes
 
@@ -206,6 +209,9 @@ by_number : (circuit : Numbered) → IsNumbering circuit → IsAcyclic circuit.n
     → IsWorst circuit.netlist c.time
 by_number circuit numbering acyclic c accepts =
     let fits = vector_fits circuit.netlist c.pair.first c.pair.second c.time accepts.reached in
+    let made = trees_are_counted.has_tree c.tree accepts.tree in
+    let good : AllByRecursion (IsGood circuit.netlist c.time) (lines_of (root_cube c) made.0) =
+    subst (AllByRecursion (IsGood circuit.netlist c.time)) (ap (lines_from (root_cube c ∷ [])) (sym made.1) ∙ lines_are_walked made.0 (root_cube c)) accepts.good in
     record {
       first = c.pair.first;
       second = c.pair.second;
@@ -216,8 +222,8 @@ by_number circuit numbering acyclic c accepts =
           let pair : Pair = record { first = first; second = second } in
           let count : length (replicate (2 * c.inputs) Free) ≡ 2 * length circuit.netlist.inputs =
           length-replicate (2 * c.inputs) Free ∙ ap (λ n. 2 * n) (sym accepts.size.inputs) in
-          below circuit numbering acyclic c.time pair delay is accepts.tree (replicate (2 * c.inputs) Free) count
-          (all_free c.inputs first second (first_fits ∙ accepts.size.inputs) (second_fits ∙ accepts.size.inputs)) accepts.good;
+          below circuit numbering acyclic c.time pair delay is made.0 (replicate (2 * c.inputs) Free) count
+          (all_free c.inputs first second (first_fits ∙ accepts.size.inputs) (second_fits ∙ accepts.size.inputs)) good;
     }
 
 pub accepted_is_worst : AcceptedIsWorst

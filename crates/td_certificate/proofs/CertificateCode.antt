@@ -8,7 +8,7 @@ use Rattle.td_certificate.specs.declared.tree.Node.{Node}
 use Rattle.td_certificate.specs.declared.certificate.Certificate.{Certificate}
 use Rattle.td_certificate.specs.Spelling.{head_lines, ended, text_of, greatest, spelling, HasSpelling}
 use Rattle.td_certificate.specs.Text.{bits, node_line}
-use Rattle.td_certificate.specs.Reading.{◌>>=◌, number_at, number_behind, vector_behind, version_at, nodes_at, certificate_of, certificate_at}
+use Rattle.td_certificate.specs.Reading.{◌>>=◌, number_at, number_behind, vector_behind, version_at, nodes_at, with_fields, certificate_at}
 use Rattle.td_certificate.proofs.Codes.{IsCode, IsCode-then, IsCode-done}
 use Rattle.td_certificate.proofs.FieldCodes.{IsLimit, AtMost, number_text, number_code}
 use Rattle.td_certificate.proofs.VectorCodes.{behind_fixed, number_behind_code, HasLength}
@@ -19,17 +19,17 @@ use Rattle.td_certificate.proofs.TreeCodes.{AreNodes, nodes_text, nodes_code}
 -- ---- from the last field to the first, where those before are known
 
 abbrev IsFromTree : ℕ → ℕ → ℕ → List Bool → List Bool → Certificate → Type 0
-IsFromTree i g t f s c = AreNodes 1 c.tree × (c ≡ certificate_of i g t f s c.tree)
+IsFromTree i g t f s c = AreNodes 1 c.tree × (c ≡ with_fields i g t f s c.tree)
 
-from_tree : (i g t : ℕ) (f s : List Bool) → IsCode (IsFromTree i g t f s) (λ c. nodes_text c.tree) (λ bytes. nodes_at 1 bytes >>= λ tree. Ok (certificate_of i g t f s tree.0, tree.1))
+from_tree : (i g t : ℕ) (f s : List Bool) → IsCode (IsFromTree i g t f s) (λ c. nodes_text c.tree) (λ bytes. nodes_at 1 bytes >>= λ tree. Ok (with_fields i g t f s tree.0, tree.1))
 from_tree i g t f s =
-    IsCode-then (λ (c : Certificate). c.tree) (AreNodes 1) nodes_text (nodes_at 1) (λ n c. c ≡ certificate_of i g t f s n) (λ n c. []) (λ n bytes. Ok (certificate_of i g t f s n, bytes)) (IsFromTree i g t f s) (λ c. nodes_text c.tree) (nodes_code 1)
-    (λ n v. IsCode-done (certificate_of i g t f s n))
+    IsCode-then (λ (c : Certificate). c.tree) (AreNodes 1) nodes_text (nodes_at 1) (λ n c. c ≡ with_fields i g t f s n) (λ n c. []) (λ n bytes. Ok (with_fields i g t f s n, bytes)) (IsFromTree i g t f s) (λ c. nodes_text c.tree) (nodes_code 1)
+    (λ n v. IsCode-done (with_fields i g t f s n))
     (record {
       down = λ c v. (v.0, v.1, sym (append-nil (nodes_text c.tree)));
       up = λ n c v e.
           let p : c.tree ≡ n = ap (λ (d : Certificate). d.tree) e in
-          ((subst (AreNodes 1) (sym p) v, e ∙ ap (λ (m : List Node). certificate_of i g t f s m) (sym p)), ap nodes_text p ∙ sym (append-nil (nodes_text n)));
+          ((subst (AreNodes 1) (sym p) v, e ∙ ap (λ (m : List Node). with_fields i g t f s m) (sym p)), ap nodes_text p ∙ sym (append-nil (nodes_text n)));
     })
 
 abbrev text_from_second : Certificate → List ℕ
@@ -38,18 +38,18 @@ text_from_second c = (codes "to " ++ vector_text c.pair.second) ++ nodes_text c.
 record IsFromSecond (i g t : ℕ) (f : List Bool) (c : Certificate) : Type 0 where
   second : length c.pair.second ≡ i
   nodes : AreNodes 1 c.tree
-  is : c ≡ certificate_of i g t f c.pair.second c.tree
+  is : c ≡ with_fields i g t f c.pair.second c.tree
 
-from_second : (i g t : ℕ) (f : List Bool) → IsCode (IsFromSecond i g t f) text_from_second (λ bytes. vector_behind (codes "to ") i bytes >>= λ second. nodes_at 1 second.1 >>= λ tree. Ok (certificate_of i g t f second.0 tree.0, tree.1))
+from_second : (i g t : ℕ) (f : List Bool) → IsCode (IsFromSecond i g t f) text_from_second (λ bytes. vector_behind (codes "to ") i bytes >>= λ second. nodes_at 1 second.1 >>= λ tree. Ok (with_fields i g t f second.0 tree.0, tree.1))
 from_second i g t f =
     IsCode-then (λ (c : Certificate). c.pair.second) (HasLength i) (λ bs. codes "to " ++ vector_text bs) (vector_behind (codes "to ") i) (λ s c. IsFromTree i g t f s c) (λ s c. nodes_text c.tree)
-    (λ s bytes. nodes_at 1 bytes >>= λ tree. Ok (certificate_of i g t f s tree.0, tree.1)) (IsFromSecond i g t f) text_from_second (vector_behind_code (codes "to ") i)
+    (λ s bytes. nodes_at 1 bytes >>= λ tree. Ok (with_fields i g t f s tree.0, tree.1)) (IsFromSecond i g t f) text_from_second (vector_behind_code (codes "to ") i)
     (λ s v. from_tree i g t f s)
     (record {
       down = λ c v. (v.second, (v.nodes, v.is), refl);
       up = λ s c v w.
           let p : c.pair.second ≡ s = ap (λ (d : Certificate). d.pair.second) w.1 in
-          (record { second = ap length p ∙ v; nodes = w.0; is = w.1 ∙ ap (λ (m : List Bool). certificate_of i g t f m c.tree) (sym p) }, ap (λ (m : List Bool). (codes "to " ++ vector_text m) ++ nodes_text c.tree) p);
+          (record { second = ap length p ∙ v; nodes = w.0; is = w.1 ∙ ap (λ (m : List Bool). with_fields i g t f m c.tree) (sym p) }, ap (λ (m : List Bool). (codes "to " ++ vector_text m) ++ nodes_text c.tree) p);
     })
 
 abbrev text_from_first : Certificate → List ℕ
@@ -59,19 +59,19 @@ record IsFromFirst (i g t : ℕ) (c : Certificate) : Type 0 where
   first : length c.pair.first ≡ i
   second : length c.pair.second ≡ i
   nodes : AreNodes 1 c.tree
-  is : c ≡ certificate_of i g t c.pair.first c.pair.second c.tree
+  is : c ≡ with_fields i g t c.pair.first c.pair.second c.tree
 
 from_first : (i g t : ℕ) → IsCode (IsFromFirst i g t) text_from_first
-    (λ bytes. vector_behind (codes "from ") i bytes >>= λ first. vector_behind (codes "to ") i first.1 >>= λ second. nodes_at 1 second.1 >>= λ tree. Ok (certificate_of i g t first.0 second.0 tree.0, tree.1))
+    (λ bytes. vector_behind (codes "from ") i bytes >>= λ first. vector_behind (codes "to ") i first.1 >>= λ second. nodes_at 1 second.1 >>= λ tree. Ok (with_fields i g t first.0 second.0 tree.0, tree.1))
 from_first i g t =
     IsCode-then (λ (c : Certificate). c.pair.first) (HasLength i) (λ bs. codes "from " ++ vector_text bs) (vector_behind (codes "from ") i) (λ f c. IsFromSecond i g t f c) (λ f c. text_from_second c)
-    (λ f bytes. vector_behind (codes "to ") i bytes >>= λ second. nodes_at 1 second.1 >>= λ tree. Ok (certificate_of i g t f second.0 tree.0, tree.1)) (IsFromFirst i g t) text_from_first (vector_behind_code (codes "from ") i)
+    (λ f bytes. vector_behind (codes "to ") i bytes >>= λ second. nodes_at 1 second.1 >>= λ tree. Ok (with_fields i g t f second.0 tree.0, tree.1)) (IsFromFirst i g t) text_from_first (vector_behind_code (codes "from ") i)
     (λ f v. from_second i g t f)
     (record {
       down = λ c v. (v.first, record { second = v.second; nodes = v.nodes; is = v.is }, refl);
       up = λ f c v w.
           let p : c.pair.first ≡ f = ap (λ (d : Certificate). d.pair.first) w.is in
-          (record { first = ap length p ∙ v; second = w.second; nodes = w.nodes; is = w.is ∙ ap (λ (m : List Bool). certificate_of i g t m c.pair.second c.tree) (sym p) }, ap (λ (m : List Bool). (codes "from " ++ vector_text m) ++ text_from_second c) p);
+          (record { first = ap length p ∙ v; second = w.second; nodes = w.nodes; is = w.is ∙ ap (λ (m : List Bool). with_fields i g t m c.pair.second c.tree) (sym p) }, ap (λ (m : List Bool). (codes "from " ++ vector_text m) ++ text_from_second c) p);
     })
 
 abbrev text_from_time : Certificate → List ℕ
@@ -82,21 +82,21 @@ record IsFromTime (i g : ℕ) (c : Certificate) : Type 0 where
   first : length c.pair.first ≡ i
   second : length c.pair.second ≡ i
   nodes : AreNodes 1 c.tree
-  is : c ≡ certificate_of i g c.time c.pair.first c.pair.second c.tree
+  is : c ≡ with_fields i g c.time c.pair.first c.pair.second c.tree
 
 from_time : (i g : ℕ) → IsCode (IsFromTime i g) text_from_time
     (λ bytes. number_behind (codes "time ") greatest 10 bytes >>= λ time. vector_behind (codes "from ") i time.1 >>= λ first. vector_behind (codes "to ") i first.1 >>= λ second. nodes_at 1 second.1 >>= λ tree.
-    Ok (certificate_of i g time.0 first.0 second.0 tree.0, tree.1))
+    Ok (with_fields i g time.0 first.0 second.0 tree.0, tree.1))
 from_time i g =
     IsCode-then (λ (c : Certificate). c.time) (AtMost greatest) (λ n. codes "time " ++ number_text 10 n) (number_behind (codes "time ") greatest 10) (λ t c. IsFromFirst i g t c) (λ t c. text_from_first c)
-    (λ t bytes. vector_behind (codes "from ") i bytes >>= λ first. vector_behind (codes "to ") i first.1 >>= λ second. nodes_at 1 second.1 >>= λ tree. Ok (certificate_of i g t first.0 second.0 tree.0, tree.1))
+    (λ t bytes. vector_behind (codes "from ") i bytes >>= λ first. vector_behind (codes "to ") i first.1 >>= λ second. nodes_at 1 second.1 >>= λ tree. Ok (with_fields i g t first.0 second.0 tree.0, tree.1))
     (IsFromTime i g) text_from_time (number_behind_code (codes "time ") greatest 10 greatest_limit)
     (λ t v. from_first i g t)
     (record {
       down = λ c v. (v.time, record { first = v.first; second = v.second; nodes = v.nodes; is = v.is }, refl);
       up = λ t c v w.
           let p : c.time ≡ t = ap (λ (d : Certificate). d.time) w.is in (
-            record { time = subst (AtMost greatest) (sym p) v; first = w.first; second = w.second; nodes = w.nodes; is = w.is ∙ ap (λ (m : ℕ). certificate_of i g m c.pair.first c.pair.second c.tree) (sym p) },
+            record { time = subst (AtMost greatest) (sym p) v; first = w.first; second = w.second; nodes = w.nodes; is = w.is ∙ ap (λ (m : ℕ). with_fields i g m c.pair.first c.pair.second c.tree) (sym p) },
             ap (λ (m : ℕ). (codes "time " ++ number_text 10 m) ++ text_from_first c) p,
           );
     })
@@ -110,25 +110,25 @@ record IsFromGates (i : ℕ) (c : Certificate) : Type 0 where
   first : length c.pair.first ≡ i
   second : length c.pair.second ≡ i
   nodes : AreNodes 1 c.tree
-  is : c ≡ certificate_of i c.gates c.time c.pair.first c.pair.second c.tree
+  is : c ≡ with_fields i c.gates c.time c.pair.first c.pair.second c.tree
 
 gates_limit : IsLimit 200000 10
 gates_limit = record { high = omega arith; close_is = refl }
 
 from_gates : (i : ℕ) → IsCode (IsFromGates i) text_from_gates
     (λ bytes. number_at 200000 10 bytes >>= λ gates. number_behind (codes "time ") greatest 10 gates.1 >>= λ time. vector_behind (codes "from ") i time.1 >>= λ first. vector_behind (codes "to ") i first.1 >>= λ second. nodes_at 1 second.1 >>= λ tree.
-    Ok (certificate_of i gates.0 time.0 first.0 second.0 tree.0, tree.1))
+    Ok (with_fields i gates.0 time.0 first.0 second.0 tree.0, tree.1))
 from_gates i =
     IsCode-then (λ (c : Certificate). c.gates) (AtMost 200000) (number_text 10) (number_at 200000 10) (λ g c. IsFromTime i g c) (λ g c. text_from_time c)
     (λ g bytes. number_behind (codes "time ") greatest 10 bytes >>= λ time. vector_behind (codes "from ") i time.1 >>= λ first. vector_behind (codes "to ") i first.1 >>= λ second. nodes_at 1 second.1 >>= λ tree.
-    Ok (certificate_of i g time.0 first.0 second.0 tree.0, tree.1))
+    Ok (with_fields i g time.0 first.0 second.0 tree.0, tree.1))
     (IsFromGates i) text_from_gates (number_code 200000 10 gates_limit)
     (λ g v. from_time i g)
     (record {
       down = λ c v. (v.gates, record { time = v.time; first = v.first; second = v.second; nodes = v.nodes; is = v.is }, refl);
       up = λ g c v w.
           let p : c.gates ≡ g = ap (λ (d : Certificate). d.gates) w.is in (
-            record { gates = subst (AtMost 200000) (sym p) v; time = w.time; first = w.first; second = w.second; nodes = w.nodes; is = w.is ∙ ap (λ (m : ℕ). certificate_of i m c.time c.pair.first c.pair.second c.tree) (sym p) },
+            record { gates = subst (AtMost 200000) (sym p) v; time = w.time; first = w.first; second = w.second; nodes = w.nodes; is = w.is ∙ ap (λ (m : ℕ). with_fields i m c.time c.pair.first c.pair.second c.tree) (sym p) },
             ap (λ (m : ℕ). number_text 10 m ++ text_from_time c) p,
           );
     })
@@ -141,11 +141,11 @@ inputs_limit = record { high = omega arith; close_is = refl }
 
 from_inputs : IsCode HasSpelling text_from_inputs
     (λ bytes. number_behind (codes "circuit ") 4096 32 bytes >>= λ inputs. number_at 200000 10 inputs.1 >>= λ gates. number_behind (codes "time ") greatest 10 gates.1 >>= λ time. vector_behind (codes "from ") inputs.0 time.1 >>= λ first. vector_behind (codes "to ") inputs.0 first.1 >>= λ second. nodes_at 1 second.1 >>= λ tree.
-    Ok (certificate_of inputs.0 gates.0 time.0 first.0 second.0 tree.0, tree.1))
+    Ok (with_fields inputs.0 gates.0 time.0 first.0 second.0 tree.0, tree.1))
 from_inputs =
     IsCode-then (λ (c : Certificate). c.inputs) (AtMost 4096) (λ n. codes "circuit " ++ number_text 32 n) (number_behind (codes "circuit ") 4096 32) (λ i c. IsFromGates i c) (λ i c. text_from_gates c)
     (λ i bytes. number_at 200000 10 bytes >>= λ gates. number_behind (codes "time ") greatest 10 gates.1 >>= λ time. vector_behind (codes "from ") i time.1 >>= λ first. vector_behind (codes "to ") i first.1 >>= λ second. nodes_at 1 second.1 >>= λ tree.
-    Ok (certificate_of i gates.0 time.0 first.0 second.0 tree.0, tree.1))
+    Ok (with_fields i gates.0 time.0 first.0 second.0 tree.0, tree.1))
     HasSpelling text_from_inputs (number_behind_code (codes "circuit ") 4096 32 inputs_limit)
     (λ i v. from_gates i)
     (record {
@@ -182,5 +182,5 @@ certificate_code =
     IsCode-as HasSpelling HasSpelling (λ c. codes "tdelay-cert 1\n" ++ text_from_inputs c) spelling certificate_at (λ c v. v) (λ c v. v) (λ c v. spelling_is c)
     (behind_fixed (codes "tdelay-cert 1\n") version_at HasSpelling text_from_inputs
     (λ bytes. number_behind (codes "circuit ") 4096 32 bytes >>= λ inputs. number_at 200000 10 inputs.1 >>= λ gates. number_behind (codes "time ") greatest 10 gates.1 >>= λ time. vector_behind (codes "from ") inputs.0 time.1 >>= λ first. vector_behind (codes "to ") inputs.0 first.1 >>= λ second. nodes_at 1 second.1 >>= λ tree.
-    Ok (certificate_of inputs.0 gates.0 time.0 first.0 second.0 tree.0, tree.1))
+    Ok (with_fields inputs.0 gates.0 time.0 first.0 second.0 tree.0, tree.1))
     version_code from_inputs)

@@ -7,7 +7,7 @@ use Rattle.td_certificate.specs.declared.certificate.Certificate.{Certificate}
 use Rattle.td_certificate.specs.declared.fields.Reason.TheVariants.{Syntax, NumberTooLarge, Version}
 use Rattle.td_certificate.specs.Trees.{sides}
 use Rattle.td_certificate.specs.Spelling.{greatest}
-use Rattle.td_certificate.specs.Reading.{Wrong, Reading, ◌>>=◌, literal, digits_at, number_at, bits_at, vector_at, letter_at, number_behind, vector_behind, Tag, SplitTag, BoundTag, PointTag, tag_at, behind_tag, node_at, nodes_within, nodes_at, certificate_of}
+use Rattle.td_certificate.specs.Reading.{Wrong, Reading, ◌>>=◌, literal, digits_at, number_at, bits_at, vector_at, letter_at, number_behind, vector_behind, Tag, SplitTag, BoundTag, PointTag, tag_at, behind_tag, node_at, nodes_within, nodes_at, with_fields}
 use Rattle.td_certificate.proofs.Loops.{done}
 use Rattle.td_certificate.proofs.Codes.{bind_err}
 use Rattle.td_certificate.proofs.FieldCodes.{ends, wrong}
@@ -136,12 +136,12 @@ unfolding nodes_at
 nodes_plain pending bytes = within_plain _ pending bytes
 
 abbrev behind_second : ℕ → ℕ → ℕ → List Bool → List ℕ → Reading Certificate
-behind_second i g t f bytes = vector_behind (codes "to ") i bytes >>= λ second. nodes_at 1 second.1 >>= λ tree. Ok (certificate_of i g t f second.0 tree.0, tree.1)
+behind_second i g t f bytes = vector_behind (codes "to ") i bytes >>= λ second. nodes_at 1 second.1 >>= λ tree. Ok (with_fields i g t f second.0 tree.0, tree.1)
 
 second_plain : (i g t : ℕ) (f : List Bool) (bytes : List ℕ) → Plain (behind_second i g t f bytes)
 second_plain i g t f bytes =
-    plain_then (vector_behind (codes "to ") i bytes) (λ second. nodes_at 1 second.1 >>= λ tree. Ok (certificate_of i g t f second.0 tree.0, tree.1)) (vector_behind_plain (codes "to ") i bytes)
-    (λ second. plain_then (nodes_at 1 second.1) (λ tree. Ok (certificate_of i g t f second.0 tree.0, tree.1)) (nodes_plain 1 second.1) (λ tree. plain_ok (certificate_of i g t f second.0 tree.0, tree.1)))
+    plain_then (vector_behind (codes "to ") i bytes) (λ second. nodes_at 1 second.1 >>= λ tree. Ok (with_fields i g t f second.0 tree.0, tree.1)) (vector_behind_plain (codes "to ") i bytes)
+    (λ second. plain_then (nodes_at 1 second.1) (λ tree. Ok (with_fields i g t f second.0 tree.0, tree.1)) (nodes_plain 1 second.1) (λ tree. plain_ok (with_fields i g t f second.0 tree.0, tree.1)))
 
 abbrev behind_gates : ℕ → ℕ → List ℕ → Reading Certificate
 behind_gates i g bytes = number_behind (codes "time ") greatest 10 bytes >>= λ time. vector_behind (codes "from ") i time.1 >>= λ first. behind_second i g time.0 first.0 first.1

@@ -24,8 +24,7 @@ use Rattle.td_arrival.specs.declared.signals.Signal.{Signal}
 use Rattle.td_certificate.specs.declared.tree.BoundedBy.TheVariants as by
 use Rattle.td_certificate.specs.declared.tree.Node.TheVariants as node
 use Rattle.td_certificate.specs.declared.certificate.Certificate.{Certificate}
-use Rattle.td_certificate.specs.Trees.{Bound, nodes_of}
-use Rattle.td_certificate.specs.Accepts.{IsBounded, lines_of, IsGood, Accepts}
+use Rattle.td_certificate.specs.Accepts.{IsBounded, IsGood, Accepts}
 
 abbrev delay : Delay
 delay = record { rise = 2; fall = 3 }
@@ -194,12 +193,10 @@ certificate bound = record {
 
 -- with 3 it is accepted
 accepted : Accepts inverter (certificate 3)
-unfolding nodes_of lines_of
 accepted = record {
   size = record { inputs = refl; gates = refl };
   reached = has_delay;
-  tree = Bound by.Arrival 3;
-  nodes = refl;
+  tree = refl;
   good = (record { splits = tt; one_pair = tt; of_cube = is_bounded; within = omega arith }, tt);
 }
 

@@ -5,9 +5,8 @@ use Rattle.td_domain.specs.declared.cubes.Trit.{Trit}
 use Rattle.td_domain.specs.declared.cubes.Trit.TheVariants.{Zero, One}
 use Rattle.td_certificate.specs.declared.tree.Node.{Node}
 use Rattle.td_certificate.specs.declared.tree.Node.TheVariants as node
-use Rattle.td_certificate.specs.Trees.{Tree, Split, Bound, Point, nodes_of}
-use Rattle.td_certificate.specs.Accepts.{Line, lines_of}
-use Rattle.td_certificate.specs.Walks.{lines_from, LinesAreWalked}
+use Rattle.td_certificate.specs.Trees.{Tree, Split, Bound, Point, nodes_of, lines_of, LinesAreWalked}
+use Rattle.td_certificate.specs.Walks.{Line, lines_from}
 
 -- a walk goes over the first tree, and then on
 walked : (tree : Tree) (cube : List Trit) (cubes : List (List Trit)) (nodes : List Node)

@@ -1,12 +1,12 @@
 -- When a certificate is accepted of a netlist.
-use Rattle.std.specs.Prelude.{◌≡◌, ℕ, ◌*◌, ◌≤◌, List, [], ◌∷◌, ◌++◌, length, replicate, set, slice_get, Option, Some}
+use Rattle.std.specs.Prelude.{◌≡◌, ℕ, ◌*◌, ◌≤◌, List, [], ◌∷◌, length, slice_get, Option, Some}
 use Rattle.std.specs.List.{AllByRecursion}
 use Rattle.td_netlist.specs.Netlist.{Netlist}
 use Rattle.td_netlist.specs.WellFormed.{IsWellFormed}
 use Rattle.td_circuit.specs.Loops.{Loop}
 use Rattle.td_circuit.specs.Run.{IsDelayOfBits, IsWorst}
 use Rattle.td_domain.specs.declared.cubes.Trit.{Trit}
-use Rattle.td_domain.specs.declared.cubes.Trit.TheVariants.{Zero, One, Free}
+use Rattle.td_domain.specs.declared.cubes.Trit.TheVariants.{Free}
 use Rattle.td_domain.specs.Pairs.{Pair}
 use Rattle.td_domain.specs.Cubes.{IsIn, IsPoint}
 use Rattle.td_domain.specs.Bounds.{IsBound}
@@ -18,7 +18,9 @@ use Rattle.td_certificate.specs.declared.tree.BoundedBy.TheVariants as by
 use Rattle.td_certificate.specs.declared.tree.Node.{Node}
 use Rattle.td_certificate.specs.declared.tree.Node.TheVariants as node
 use Rattle.td_certificate.specs.declared.certificate.Certificate.{Certificate}
-use Rattle.td_certificate.specs.Trees.{Tree, Split, Bound, Point, nodes_of}
+use Rattle.td_certificate.specs.Cubes.{free_cube}
+use Rattle.td_certificate.specs.Trees.{IsTree}
+use Rattle.td_certificate.specs.Walks.{Line, lines_from}
 
 -- what the domain of a leaf gives of a cube: its bound, or none
 abbrev pub IsBoundBy : BoundedBy → Netlist → List Trit → Option ℕ → Type 0
@@ -26,34 +28,17 @@ IsBoundBy by.Arrival netlist cube answer = IsBound arrival_functions netlist cub
 IsBoundBy by.Possible netlist cube answer = IsBound possible_functions netlist cube answer
 IsBoundBy by.Both netlist cube answer = IsBound (both_functions arrival_functions possible_functions) netlist cube answer
 
--- ---- the lines of a tree and their cubes
-
-pub record Line : Type 0 where
-  pub cube : List Trit
-  pub node : Node
-
--- The lines of a tree whose root has this cube, in their order. On the zero side of a split its position is 0, on the one
--- side 1.
-unfoldable pub lines_of : List Trit → Tree → List Line
-lines_of cube (Split position zero_side one_side) =
-    record { cube = cube; node = node.Split position }
-    ∷ (lines_of (set cube position Zero) zero_side ++ lines_of (set cube position One) one_side)
-lines_of cube (Bound domain bound) = record { cube = cube; node = node.Bound domain bound } ∷ []
-lines_of cube (Point time) = record { cube = cube; node = node.Point time } ∷ []
-
 -- ---- what holds of a line
 
 -- a split is at a position that exists and is free
 abbrev pub SplitsFree : List Trit → Node → Type 0
 SplitsFree cube (node.Split position) = slice_get cube position ≡ Some Free
-SplitsFree cube (node.Bound domain bound) = Unit {0}
-SplitsFree cube (node.Point time) = Unit {0}
+SplitsFree cube _ = Unit {0}
 
 -- where a leaf is of one pair, nothing is free
 abbrev pub IsOfOnePair : List Trit → Node → Type 0
-IsOfOnePair cube (node.Split position) = Unit {0}
-IsOfOnePair cube (node.Bound domain bound) = Unit {0}
 IsOfOnePair cube (node.Point time) = IsPoint cube
+IsOfOnePair cube _ = Unit {0}
 
 -- the domain gives a bound of the cube, and it is at most this
 pub record IsBounded (domain : BoundedBy) (netlist : Netlist) (cube : List Trit) (most : ℕ) : Type 0 where
@@ -96,17 +81,19 @@ pub record IsOfSize (netlist : Netlist) (c : Certificate) : Type 0 where
 abbrev pub IsReached : Netlist → Certificate → Type 0
 IsReached netlist c = IsDelayOfBits netlist c.pair.first c.pair.second c.time
 
--- the cube of the root: everything is free
+-- the cube of the root
 abbrev pub root_cube : Certificate → List Trit
-root_cube c = replicate (2 * c.inputs) Free
+root_cube c = free_cube (2 * c.inputs)
+
+abbrev pub lines_in : Certificate → List Line
+lines_in c = lines_from (root_cube c ∷ []) c.tree
 
 -- The certificate is accepted: it is of this circuit, its pair has its time, and its lines are good.
 pub record Accepts (netlist : Netlist) (c : Certificate) : Type 0 where
   pub size : IsOfSize netlist c
   pub reached : IsReached netlist c
-  pub tree : Tree
-  pub nodes : nodes_of tree ≡ c.tree
-  pub good : AllByRecursion (IsGood netlist c.time) (lines_of (root_cube c) tree)
+  pub tree : IsTree c.tree
+  pub good : AllByRecursion (IsGood netlist c.time) (lines_in c)
 
 -- the time of a certificate that is accepted of a netlist without a loop is its worst delay
 abbrev pub AcceptedIsWorst : Type 0

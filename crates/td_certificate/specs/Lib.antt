@@ -1,3 +1,4 @@
+pub mod Cubes
 pub mod Trees
 pub mod Text
 pub mod Spelling

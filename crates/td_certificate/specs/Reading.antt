@@ -186,8 +186,8 @@ nodes_within (suc count) (suc pending) bytes = do
 unfoldable pub nodes_at : ℕ → List ℕ → Reading (List Node)
 nodes_at pending bytes = nodes_within (length bytes) pending bytes
 
-abbrev pub certificate_of : ℕ → ℕ → ℕ → List Bool → List Bool → List Node → Certificate
-certificate_of inputs gates time first second tree =
+abbrev pub with_fields : ℕ → ℕ → ℕ → List Bool → List Bool → List Node → Certificate
+with_fields inputs gates time first second tree =
     record { inputs = inputs; gates = gates; time = time; pair = record { first = first; second = second }; tree = tree }
 
 -- ---- the whole
@@ -202,4 +202,4 @@ certificate_at bytes = do
   first ← vector_behind (codes "from ") inputs.0 time.1
   second ← vector_behind (codes "to ") inputs.0 first.1
   tree ← nodes_at 1 second.1
-  Ok (certificate_of inputs.0 gates.0 time.0 first.0 second.0 tree.0, tree.1)
+  Ok (with_fields inputs.0 gates.0 time.0 first.0 second.0 tree.0, tree.1)

@@ -120,7 +120,7 @@ fn certificate(alloc: Global, text: &[u8]) -> Result<(Certificate, &[u8]), Stop<
 }
 
 /// The line of the place where this rest of the text begins.
-fn line_of(text: &[u8], rest: &[u8]) -> u32
+fn line_number(text: &[u8], rest: &[u8]) -> u32
     requires rest { length rest.now ≤ length text.now }
     requires limit { length text.now ≤ 268435456 }
     ensures { result ≡ line_behind (take (length text.now - length rest.now) text.now) }
@@ -159,7 +159,7 @@ fn read_whole(alloc: Global, text: &[u8]) -> Result<Certificate, CertFault>
             }
             Err(CertFault {
                 kind: CertFaultKind::Trailing,
-                line: line_of(text, rest),
+                line: line_number(text, rest),
             })
         }
         Err(Stop::OutOfMemory) => Err(CertFault {
@@ -168,11 +168,11 @@ fn read_whole(alloc: Global, text: &[u8]) -> Result<Certificate, CertFault>
         }),
         Err(Stop::Ends) => Err(CertFault {
             kind: CertFaultKind::UnexpectedEnd,
-            line: line_of(text, &[]),
+            line: line_number(text, &[]),
         }),
         Err(Stop::Wrong(reason, rest)) => Err(CertFault {
             kind: kind_of(reason),
-            line: line_of(text, rest),
+            line: line_number(text, rest),
         }),
     }
 }

@@ -11,12 +11,13 @@ use Rattle.td_certificate.specs.declared.tree.Node.{Node}
 use Rattle.td_certificate.specs.declared.tree.Node.TheVariants as node
 use Rattle.td_certificate.specs.declared.certificate.Certificate.{Certificate}
 use Rattle.td_certificate.specs.Trees.{IsTree, sides, pending_after}
-use Rattle.td_certificate.specs.Accepts.{Line, root_cube, IsGood}
-use Rattle.td_certificate.specs.Walks.{lines_from}
-use Rattle.td_checker.specs.Paths.{cubes_after, cubes_behind, StandsAt, AreInside}
+use Rattle.td_certificate.specs.Accepts.{root_cube, lines_in, IsGood}
+use Rattle.td_certificate.specs.Cubes.{cubes_past}
+use Rattle.td_certificate.specs.Walks.{position_of, Line, lines_from}
+use Rattle.td_checker.specs.Paths.{cubes_ahead, StandsAt, AreInside}
 use Rattle.td_checker.specs.declared.judging.Flaw as code_flaw
 use Rattle.td_checker.specs.Verdicts.{Flaw, HasFlaw}
-use Rattle.td_checker.specs.Judging.{flaw_of, line_of, lines_in, IsJudged, IsBadAt}
+use Rattle.td_checker.specs.Judging.{flaw_of, with_cube, IsJudged, IsBadAt}
 use Rattle.td_checker.proofs.OneVerdict.{some_is, none_not}
 
 -- ---- lists
@@ -79,30 +80,30 @@ started c cube path tree is none = record {
 -- the first of the lines
 first_line : (cubes : List (List Trit)) (n : Node) (rest : List Node) (cube : List Trit) (path : List ℕ)
     → pending_after (length cubes) (n ∷ rest) ≡ Some 0 → StandsAt cubes cube path
-    → lines_from cubes (n ∷ rest) ≡ line_of cube n ∷ lines_from (cubes_behind cube n (cubes_after cube path)) rest
+    → lines_from cubes (n ∷ rest) ≡ with_cube cube n ∷ lines_from (cubes_past cube (position_of n) (cubes_ahead cube path)) rest
 first_line [] n rest cube path pending stands = none_not 0 pending
 first_line (next ∷ others) (node.Split position) rest cube path pending stands = rw (stands.1, stands.0) refl
 first_line (next ∷ others) (node.Bound domain bound) rest cube path pending stands = rw (stands.1, stands.0) refl
 first_line (next ∷ others) (node.Point time) rest cube path pending stands = rw (stands.1, stands.0) refl
 
-count_behind : (cube : List Trit) (n : Node) (cubes : List (List Trit)) → length (cubes_behind cube n cubes) ≡ sides n + length cubes
+pub count_behind : (cube : List Trit) (n : Node) (cubes : List (List Trit)) → length (cubes_past cube (position_of n) cubes) ≡ sides n + length cubes
 count_behind cube (node.Split position) cubes = omega arith
 count_behind cube (node.Bound domain bound) cubes = omega arith
 count_behind cube (node.Point time) cubes = omega arith
 
 next_pending : (cubes : List (List Trit)) (n : Node) (rest : List Node) (cube : List Trit) (path : List ℕ)
     → pending_after (length cubes) (n ∷ rest) ≡ Some 0 → StandsAt cubes cube path
-    → pending_after (length (cubes_behind cube n (cubes_after cube path))) rest ≡ Some 0
+    → pending_after (length (cubes_past cube (position_of n) (cubes_ahead cube path))) rest ≡ Some 0
 next_pending [] n rest cube path pending stands = none_not 0 pending
 next_pending (next ∷ others) n rest cube path pending stands =
     ap (λ (k : ℕ). pending_after k rest)
-    (count_behind cube n (cubes_after cube path) ∙ ap (λ (cs : List (List Trit)). sides n + length cs) stands.1) ∙ pending
+    (count_behind cube n (cubes_ahead cube path) ∙ ap (λ (cs : List (List Trit)). sides n + length cs) stands.1) ∙ pending
 
 -- the line of a node
 record HasLine (c : Certificate) (place : ℕ) (cube : List Trit) (path : List ℕ) (n : Node) : Type 0 where
-  stands : slice_get (lines_in c) place ≡ Some (line_of cube n)
-  walked : lines_from (cubes_behind cube n (cubes_after cube path)) (drop (suc place) c.tree) ≡ drop (suc place) (lines_in c)
-  pending : pending_after (length (cubes_behind cube n (cubes_after cube path))) (drop (suc place) c.tree) ≡ Some 0
+  stands : slice_get (lines_in c) place ≡ Some (with_cube cube n)
+  walked : lines_from (cubes_past cube (position_of n) (cubes_ahead cube path)) (drop (suc place) c.tree) ≡ drop (suc place) (lines_in c)
+  pending : pending_after (length (cubes_past cube (position_of n) (cubes_ahead cube path))) (drop (suc place) c.tree) ≡ Some 0
 
 has_line : (c : Certificate) (place : ℕ) (cube : List Trit) (path : List ℕ) (n : Node) → IsWalked c place cube path
     → slice_get c.tree place ≡ Some n → HasLine c place cube path n
@@ -110,10 +111,10 @@ has_line c place cube path n walk at =
     let rest : drop place c.tree ≡ n ∷ drop (suc place) c.tree = rest_at c.tree place n at in
     let pending : pending_after (length walk.cubes) (n ∷ drop (suc place) c.tree) ≡ Some 0 =
     ap (pending_after (length walk.cubes)) (sym rest) ∙ walk.pending in
-    let lines : cons (line_of cube n) (lines_from (cubes_behind cube n (cubes_after cube path)) (drop (suc place) c.tree)) ≡ drop place (lines_in c) =
+    let lines : cons (with_cube cube n) (lines_from (cubes_past cube (position_of n) (cubes_ahead cube path)) (drop (suc place) c.tree)) ≡ drop place (lines_in c) =
     sym (first_line walk.cubes n (drop (suc place) c.tree) cube path pending walk.stands)
     ∙ ap (lines_from walk.cubes) (sym rest) ∙ walk.walked in
-    let found = at_rest (lines_in c) place (line_of cube n) _ lines in
+    let found = at_rest (lines_in c) place (with_cube cube n) _ lines in
     record {
       stands = found.0;
       walked = found.1;
@@ -121,13 +122,13 @@ has_line c place cube path n walk at =
     }
 
 pub passed : (c : Certificate) (place : ℕ) (cube next : List Trit) (path ahead : List ℕ) (n : Node) → IsWalked c place cube path
-    → slice_get c.tree place ≡ Some n → StandsAt (cubes_behind cube n (cubes_after cube path)) next ahead
+    → slice_get c.tree place ≡ Some n → StandsAt (cubes_past cube (position_of n) (cubes_ahead cube path)) next ahead
     → AreInside (length next) ahead → length next ≡ length cube → IsWalked c (place + 1) next ahead
 passed c place cube next path ahead n walk at stands inside same =
     let line = has_line c place cube path n walk at in
     let one : suc place ≡ place + 1 = omega arith in
     let there : IsWalked c (suc place) next ahead = record {
-      cubes = cubes_behind cube n (cubes_after cube path);
+      cubes = cubes_past cube (position_of n) (cubes_ahead cube path);
       walked = line.walked;
       pending = line.pending;
       stands = stands;
@@ -137,19 +138,19 @@ passed c place cube next path ahead n walk at stands inside same =
     subst (λ (k : ℕ). IsWalked c k next ahead) one there
 
 pub good_more : (netlist : Netlist) (c : Certificate) (place : ℕ) (cube : List Trit) (path : List ℕ) (n : Node) → IsWalked c place cube path
-    → slice_get c.tree place ≡ Some n → IsGood netlist c.time (line_of cube n)
+    → slice_get c.tree place ≡ Some n → IsGood netlist c.time (with_cube cube n)
     → AllByRecursion (IsGood netlist c.time) (take place (lines_in c)) → AllByRecursion (IsGood netlist c.time) (take (place + 1) (lines_in c))
 good_more netlist c place cube path n walk at good all =
     let line = has_line c place cube path n walk at in
     let one : suc place ≡ place + 1 = omega arith in
     subst (λ (k : ℕ). AllByRecursion (IsGood netlist c.time) (take k (lines_in c))) one
-    (all_more (IsGood netlist c.time) (lines_in c) place (line_of cube n) all line.stands good)
+    (all_more (IsGood netlist c.time) (lines_in c) place (with_cube cube n) all line.stands good)
 
 pub found_bad : (netlist : Netlist) (c : Certificate) (place : ℕ) (cube : List Trit) (path : List ℕ) (n : Node) (flaw : Flaw)
-    → IsWalked c place cube path → slice_get c.tree place ≡ Some n → HasFlaw netlist c.time flaw (line_of cube n)
+    → IsWalked c place cube path → slice_get c.tree place ≡ Some n → HasFlaw netlist c.time flaw (with_cube cube n)
     → AllByRecursion (IsGood netlist c.time) (take place (lines_in c)) → IsBadAt netlist c.time (lines_in c) flaw place
 found_bad netlist c place cube path n flaw walk at has all = record {
-  bad = line_of cube n;
+  bad = with_cube cube n;
   stands = (has_line c place cube path n walk at).stands;
   good_before = all;
   has = has;

@@ -7,8 +7,8 @@ use Rattle.std.proofs.lemmas.List.{append-nil}
 use Rattle.td_netlist.specs.Netlist.{Netlist}
 use Rattle.td_netlist.proofs.Readings.{one_netlist}
 use Rattle.td_certificate.specs.declared.certificate.Certificate.{Certificate}
-use Rattle.td_certificate.specs.Accepts.{Line, lines_of, root_cube, IsGood, IsOfSize, IsReached, Accepts}
-use Rattle.td_certificate.proofs.TreeLaws.{trees_are_counted}
+use Rattle.td_certificate.specs.Walks.{Line}
+use Rattle.td_certificate.specs.Accepts.{lines_in, IsGood, IsOfSize, IsReached, Accepts}
 use Rattle.td_certificate.proofs.Texts.{spells_once}
 use Rattle.td_checker.specs.declared.verdict.Verdict.{Verdict}
 use Rattle.td_checker.specs.declared.verdict.Verdict.TheVariants as verdict
@@ -81,19 +81,13 @@ one_place netlist most lines i j x y this that at_i at_j good_i good_j h k =
 one_bad : (netlist : Netlist) (c : Certificate) (this that : Flaw) (line other : ℕ) → IsFirstBad netlist c this line
     → IsFirstBad netlist c that other → (this ≡ that) × (line ≡ other)
 one_bad netlist c this that line other h k =
-    let tree : h.tree ≡ k.tree = trees_are_counted.one h.tree k.tree (h.nodes ∙ sym k.nodes) in
-    let lines : lines_of (root_cube c) h.tree ≡ lines_of (root_cube c) k.tree = ap (lines_of (root_cube c)) tree in
-    let found = one_place netlist c.time (lines_of (root_cube c) k.tree) h.place k.place h.bad k.bad this that
-    (ap (λ ls. slice_get ls h.place) (sym lines) ∙ h.stands) k.stands
-    (subst (λ ls. AllByRecursion (IsGood netlist c.time) (take h.place ls)) lines h.good_before) k.good_before h.has k.has in
+    let found = one_place netlist c.time (lines_in c) h.place k.place h.bad k.bad this that h.stands k.stands h.good_before k.good_before h.has k.has in
     (found.0, h.line_is ∙ omega (arith, found.1) ∙ sym k.line_is)
 
 -- where all lines are good, none is bad
 not_bad : {X : Type 0} (netlist : Netlist) (c : Certificate) (flaw : Flaw) (line : ℕ) → Accepts netlist c → IsFirstBad netlist c flaw line → X
 not_bad netlist c flaw line accepts bad =
-    let tree : accepts.tree ≡ bad.tree = trees_are_counted.one accepts.tree bad.tree (accepts.nodes ∙ sym bad.nodes) in
-    let good = subst (λ t. AllByRecursion (IsGood netlist c.time) (lines_of (root_cube c) t)) tree accepts.good in
-    flawless netlist c.time bad.bad flaw (at_place (IsGood netlist c.time) (lines_of (root_cube c) bad.tree) bad.place bad.bad good bad.stands) bad.has
+    flawless netlist c.time bad.bad flaw (at_place (IsGood netlist c.time) (lines_in c) bad.place bad.bad accepts.good bad.stands) bad.has
 
 -- ---- verdicts
 

@@ -7,33 +7,25 @@ use Rattle.td_certificate.specs.declared.certificate.Certificate.{Certificate}
 use Rattle.td_certificate.specs.Trees.{IsTree}
 use Rattle.td_circuit.specs.Run.{IsVector}
 use Rattle.td_certificate.specs.Spelling.{HasSpelling}
-use Rattle.td_certificate.specs.Accepts.{Line, lines_of, root_cube, IsGood, IsOfSize, IsReached, Accepts}
-use Rattle.td_certificate.specs.Walks.{lines_from}
-use Rattle.td_certificate.proofs.TreeLaws.{trees_are_counted}
-use Rattle.td_certificate.proofs.Walking.{lines_are_walked}
+use Rattle.td_certificate.specs.Accepts.{lines_in, IsGood, IsOfSize, IsReached, Accepts}
 use Rattle.td_checker.specs.declared.judging.Flaw as code_flaw
 use Rattle.td_checker.specs.declared.judging.Flaw.TheVariants as code
 use Rattle.td_checker.specs.Verdicts.{Flaw, Misplaced, NotOnePair, WrongNumber, AboveTime, IsFirstBad, IsVerdict}
-use Rattle.td_checker.specs.Judging.{flaw_of, lines_in, IsBadAt, told_as}
+use Rattle.td_checker.specs.Judging.{flaw_of, IsBadAt, told_as}
 
 first_bad : (netlist : Netlist) (c : Certificate) (flaw : Flaw) (place line : ℕ) → IsOfSize netlist c → IsReached netlist c → IsTree c.tree
     → line ≡ 6 + place → IsBadAt netlist c.time (lines_in c) flaw place → IsFirstBad netlist c flaw line
-first_bad netlist c flaw place line size reached is_tree at bad =
-    let t = trees_are_counted.has_tree c.tree is_tree in
-    let lines : lines_in c ≡ lines_of (root_cube c) t.0 =
-    ap (lines_from (root_cube c ∷ [])) (sym t.1) ∙ lines_are_walked t.0 (root_cube c) in
-    record {
-      size = size;
-      reached = reached;
-      tree = t.0;
-      nodes = t.1;
-      place = place;
-      bad = bad.bad;
-      stands = ap (λ (ls : List Line). slice_get ls place) (sym lines) ∙ bad.stands;
-      good_before = subst (λ (ls : List Line). AllByRecursion (IsGood netlist c.time) (take place ls)) lines bad.good_before;
-      has = bad.has;
-      line_is = at;
-    }
+first_bad netlist c flaw place line size reached is_tree at bad = record {
+  size = size;
+  reached = reached;
+  tree = is_tree;
+  place = place;
+  bad = bad.bad;
+  stands = bad.stands;
+  good_before = bad.good_before;
+  has = bad.has;
+  line_is = at;
+}
 
 pub bad_told : (netlist : Netlist) (c : Certificate) (flaw : code_flaw.Flaw) (place : ℕ) → IsOfSize netlist c → IsReached netlist c
     → IsTree c.tree → IsBadAt netlist c.time (lines_in c) (flaw_of flaw) place → IsVerdict netlist c (told_as flaw place)
@@ -44,17 +36,7 @@ bad_told netlist c code.AboveTime place size reached is_tree bad = first_bad net
 
 pub accepted_told : (netlist : Netlist) (c : Certificate) → IsOfSize netlist c → IsReached netlist c → IsTree c.tree
     → AllByRecursion (IsGood netlist c.time) (lines_in c) → Accepts netlist c
-accepted_told netlist c size reached is_tree good =
-    let t = trees_are_counted.has_tree c.tree is_tree in
-    let lines : lines_in c ≡ lines_of (root_cube c) t.0 =
-    ap (lines_from (root_cube c ∷ [])) (sym t.1) ∙ lines_are_walked t.0 (root_cube c) in
-    record {
-      size = size;
-      reached = reached;
-      tree = t.0;
-      nodes = t.1;
-      good = subst (AllByRecursion (IsGood netlist c.time)) lines good;
-    }
+accepted_told netlist c size reached is_tree good = record { size = size; reached = reached; tree = is_tree; good = good }
 
 -- the vectors of a certificate of this circuit are the circuit's
 pub first_fits : (netlist : Netlist) (c : Certificate) → IsOfSize netlist c → HasSpelling c → IsVector netlist c.pair.first

@@ -1,5 +1,5 @@
 -- A certificate that is accepted has a text within the limit.
-use Rattle.std.proofs.Common.{◌≡◌, ◌*◌, ◌<◌, ◌≤◌, ◌^◌, ℕ, Bool, List, [], ◌∷◌, ◌++◌, length, map, set, refl, ap, subst, ◌∙◌, arith}
+use Rattle.std.proofs.Common.{◌≡◌, ◌*◌, ◌<◌, ◌≤◌, ◌^◌, ℕ, Bool, List, [], ◌∷◌, length, map, Some, refl, ap, subst, ◌∙◌, arith}
 use Rattle.std.specs.Prelude.{unwrap_or}
 use Rattle.std.specs.List.{All, AllByRecursion}
 use Rattle.std.proofs.lemmas.List.{length-map, length-set, length-replicate}
@@ -21,16 +21,18 @@ use Rattle.td_run.proofs.Named.{only_outputs, same_length}
 use Rattle.td_domain.specs.declared.cubes.Trit.{Trit}
 use Rattle.td_domain.specs.declared.cubes.Trit.TheVariants.{Zero, One, Free}
 use Rattle.td_certificate.specs.declared.tree.Node.{Node}
-use Rattle.td_certificate.specs.Trees.{Tree, Split, Bound, Point, nodes_of, IsTree}
+use Rattle.td_certificate.specs.Cubes.{cubes_past}
+use Rattle.td_certificate.specs.Trees.{pending_after}
+use Rattle.td_certificate.specs.Walks.{position_of, lines_from}
 use Rattle.td_certificate.specs.Spelling.{IsNode, HasSpelling, spelling}
 use Rattle.td_certificate.specs.Lengths.{IsShort}
 use Rattle.td_certificate.specs.Faults.{IsWithinLimit}
 use Rattle.td_certificate.specs.declared.tree.Node.TheVariants as node
-use Rattle.td_certificate.specs.Accepts.{lines_of, root_cube, IsGood}
-use Rattle.td_certificate.proofs.TreeLaws.{trees_are_counted}
+use Rattle.td_certificate.specs.Accepts.{root_cube, IsGood}
 use Rattle.td_certificate.proofs.Lengths.{searched_texts_fit}
 use Rattle.td_certificate.proofs.Acceptance.{vector_fits}
 use Rattle.td_checker.specs.Written.{AcceptedIsWritten}
+use Rattle.td_checker.proofs.Lines.{count_behind}
 
 -- ---- no delay passes the limits of a circuit
 
@@ -73,27 +75,29 @@ small_delay netlist acyclic first second delay is =
 
 -- ---- numbers of a tree whose lines are good
 
-both_lists : {A : Type 0} (P : A → Type 0) (xs ys : List A) → AllByRecursion P xs → AllByRecursion P ys → AllByRecursion P (xs ++ ys)
-both_lists P [] ys h k = k
-both_lists P (x ∷ xs) ys h k = (h.0, both_lists P xs ys h.1 k)
+abbrev AllWithin : List (List Trit) → Type 0
+AllWithin cubes = AllByRecursion (λ cube. length cube ≤ 8192) cubes
 
-one_list : {A : Type 0} (P : A → Type 0) (xs ys : List A) → AllByRecursion P (xs ++ ys) → AllByRecursion P xs × AllByRecursion P ys
-one_list P [] ys h = (tt, h)
-one_list P (x ∷ xs) ys h = let rest = one_list P xs ys h.1 in ((h.0, rest.0), rest.1)
+within_past : (cube : List Trit) (n : Node) (cubes : List (List Trit)) → length cube ≤ 8192 → AllWithin cubes → AllWithin (cubes_past cube (position_of n) cubes)
+within_past cube (node.Split position) cubes few all =
+    (omega (arith, length-set cube position Zero), (omega (arith, length-set cube position One), all))
+within_past cube (node.Bound domain bound) cubes few all = all
+within_past cube (node.Point time) cubes few all = all
 
-short_nodes : (netlist : Netlist) (most : ℕ) (tree : Tree) (cube : List Trit) → most < 10 ^ 15 → length cube ≤ 8192
-    → AllByRecursion (IsGood netlist most) (lines_of cube tree) → AllByRecursion IsShort (nodes_of tree)
-unfolding lines_of nodes_of
-short_nodes netlist most (Split position zero_side one_side) cube small few good =
-    let sides = one_list (IsGood netlist most) (lines_of (set cube position Zero) zero_side) (lines_of (set cube position One) one_side) good.1 in
-    let inside = slice_get_within cube position Free good.0.splits in (
-      omega (arith, inside),
-      both_lists IsShort (nodes_of zero_side) (nodes_of one_side)
-          (short_nodes netlist most zero_side (set cube position Zero) small (omega (arith, length-set cube position Zero)) sides.0)
-          (short_nodes netlist most one_side (set cube position One) small (omega (arith, length-set cube position One)) sides.1),
-    )
-short_nodes netlist most (Bound domain bound) cube small few good = let within = good.0.within in (omega (arith, within), tt)
-short_nodes netlist most (Point time) cube small few good = let within = good.0.within in (omega (arith, within), tt)
+short_node : (netlist : Netlist) (most : ℕ) (cube : List Trit) (n : Node) → most < 10 ^ 15 → length cube ≤ 8192 → IsGood netlist most (record { cube = cube; node = n }) → IsShort n
+short_node netlist most cube (node.Split position) small few good = let inside = slice_get_within cube position Free good.splits in omega (arith, inside)
+short_node netlist most cube (node.Bound domain bound) small few good = omega (arith, good.within)
+short_node netlist most cube (node.Point time) small few good = omega (arith, good.within)
+
+short_nodes : (netlist : Netlist) (most : ℕ) (nodes : List Node) (cubes : List (List Trit)) → most < 10 ^ 15 → AllWithin cubes
+    → pending_after (length cubes) nodes ≡ Some 0 → AllByRecursion (IsGood netlist most) (lines_from cubes nodes) → AllByRecursion IsShort nodes
+short_nodes netlist most [] cubes small few tree good = tt
+short_nodes netlist most (n ∷ nodes) [] small few tree good = cc
+short_nodes netlist most (n ∷ nodes) (cube ∷ cubes) small few tree good = (
+  short_node netlist most cube n small few.0 good.0,
+  short_nodes netlist most nodes (cubes_past cube (position_of n) cubes) small (within_past cube n cubes few.0 few.1)
+      (ap (λ (k : ℕ). pending_after k nodes) (count_behind cube n cubes) ∙ tree) good.1,
+)
 
 node_of : (n : Node) → IsShort n → IsNode n
 node_of (node.Split position) short = omega (arith, short)
@@ -113,7 +117,7 @@ accepted_is_written netlist_text default netlist c means acyclic accepts few =
     let inputs : c.inputs ≤ 4096 = omega (arith, accepts.size.inputs, acyclic.well_formed.few_inputs) in
     let root : length (root_cube c) ≤ 8192 = omega (arith, length-replicate (2 * c.inputs) Free, inputs) in
     let short : AllByRecursion IsShort c.tree =
-    subst (AllByRecursion IsShort) accepts.nodes (short_nodes netlist c.time accepts.tree (root_cube c) small root accepts.good) in
+    short_nodes netlist c.time c.tree (root_cube c ∷ []) small (root, tt) accepts.tree accepts.good in
     let has : HasSpelling c = record {
       inputs = inputs;
       gates = omega (arith, accepts.size.gates, acyclic.well_formed.few_gates);
@@ -121,7 +125,7 @@ accepted_is_written netlist_text default netlist c means acyclic accepts few =
       first = fits.0 ∙ accepts.size.inputs;
       second = fits.1 ∙ accepts.size.inputs;
       nodes = nodes_are c.tree short;
-      tree = subst IsTree accepts.nodes (trees_are_counted.counted accepts.tree);
+      tree = accepts.tree;
     } in
     let within : IsWithinLimit (spelling c) = searched_texts_fit c has small short few in
     record {

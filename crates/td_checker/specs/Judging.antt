@@ -1,12 +1,11 @@
--- What is said of the lines of a tree.
+-- Internal: what is said of the lines of a tree.
 use Rattle.std.specs.Prelude.{◌≡◌, ℕ, ◌+◌, List, [], ◌∷◌, take, slice_get, Option, Some, None}
 use Rattle.std.specs.List.{AllByRecursion}
 use Rattle.td_netlist.specs.Netlist.{Netlist}
 use Rattle.td_domain.specs.declared.cubes.Trit.{Trit}
 use Rattle.td_certificate.specs.declared.tree.Node.{Node}
-use Rattle.td_certificate.specs.declared.certificate.Certificate.{Certificate}
-use Rattle.td_certificate.specs.Accepts.{Line, root_cube, IsGood}
-use Rattle.td_certificate.specs.Walks.{lines_from}
+use Rattle.td_certificate.specs.Accepts.{IsGood}
+use Rattle.td_certificate.specs.Walks.{Line}
 use Rattle.td_checker.specs.declared.judging.Flaw as code_flaw
 use Rattle.td_checker.specs.declared.judging.Flaw.TheVariants as code
 use Rattle.td_checker.specs.declared.checking.BadLine.{BadLine}
@@ -20,8 +19,8 @@ flaw_of code.NotOnePair = NotOnePair
 flaw_of code.WrongNumber = WrongNumber
 flaw_of code.AboveTime = AboveTime
 
-abbrev pub line_of : List Trit → Node → Line
-line_of cube node = record { cube = cube; node = node }
+abbrev pub with_cube : List Trit → Node → Line
+with_cube cube node = record { cube = cube; node = node }
 
 -- the line is good, or has this flaw
 abbrev pub IsJudged : Netlist → ℕ → Line → Option code_flaw.Flaw → Type 0
@@ -39,10 +38,6 @@ pub record IsBadAt (netlist : Netlist) (most : ℕ) (lines : List Line) (flaw : 
 abbrev pub AreJudged : Netlist → ℕ → List Line → Option BadLine → Type 0
 AreJudged netlist most lines None = AllByRecursion (IsGood netlist most) lines
 AreJudged netlist most lines (Some told) = IsBadAt netlist most lines (flaw_of told.flaw) told.place
-
--- the lines of the certificate's tree
-abbrev pub lines_in : Certificate → List Line
-lines_in c = lines_from (root_cube c ∷ []) c.tree
 
 -- the verdict that tells this flaw of the line at this place of a tree
 abbrev pub told_as : code_flaw.Flaw → ℕ → Verdict

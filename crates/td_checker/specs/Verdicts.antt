@@ -3,9 +3,10 @@ use Rattle.std.specs.Prelude.{◌≡◌, ℕ, ◌+◌, List, codes, length, slic
 use Rattle.std.specs.List.{AllByRecursion}
 use Rattle.td_netlist.specs.Netlist.{Netlist}
 use Rattle.td_certificate.specs.declared.certificate.Certificate.{Certificate}
-use Rattle.td_certificate.specs.Trees.{Tree, nodes_of}
+use Rattle.td_certificate.specs.Trees.{IsTree}
+use Rattle.td_certificate.specs.Walks.{Line}
 use Rattle.td_certificate.specs.Spelling.{head_lines}
-use Rattle.td_certificate.specs.Accepts.{Line, lines_of, root_cube, SplitsFree, IsOfOnePair, IsOfCube, IsWithin, IsGood, IsOfSize, IsReached, Accepts}
+use Rattle.td_certificate.specs.Accepts.{lines_in, SplitsFree, IsOfOnePair, IsOfCube, IsWithin, IsGood, IsOfSize, IsReached, Accepts}
 use Rattle.td_checker.specs.declared.verdict.Verdict.{Verdict}
 use Rattle.td_checker.specs.declared.verdict.Verdict.TheVariants as verdict
 
@@ -28,13 +29,11 @@ verdict_name (verdict.NotAPoint line) = codes "NotAPoint"
 verdict_name verdict.OtherCircuit = codes "OtherCircuit"
 
 abbrev pub verdict_line : Verdict → Option ℕ
-verdict_line verdict.Accepted = None
-verdict_line verdict.PairTime = None
 verdict_line (verdict.LeafBound line) = Some line
 verdict_line (verdict.LeafAboveTime line) = Some line
 verdict_line (verdict.BadPosition line) = Some line
 verdict_line (verdict.NotAPoint line) = Some line
-verdict_line verdict.OtherCircuit = None
+verdict_line _ = None
 
 -- ---- the first bad line
 
@@ -59,12 +58,11 @@ HasFlaw netlist most AboveTime line =
 pub record IsFirstBad (netlist : Netlist) (c : Certificate) (flaw : Flaw) (line : ℕ) : Type 0 where
   pub size : IsOfSize netlist c
   pub reached : IsReached netlist c
-  pub tree : Tree
-  pub nodes : nodes_of tree ≡ c.tree
+  pub tree : IsTree c.tree
   pub place : ℕ
   pub bad : Line
-  pub stands : slice_get (lines_of (root_cube c) tree) place ≡ Some bad
-  pub good_before : AllByRecursion (IsGood netlist c.time) (take place (lines_of (root_cube c) tree))
+  pub stands : slice_get (lines_in c) place ≡ Some bad
+  pub good_before : AllByRecursion (IsGood netlist c.time) (take place (lines_in c))
   pub has : HasFlaw netlist c.time flaw bad
   pub line_is : line ≡ 1 + length (head_lines c) + place
 

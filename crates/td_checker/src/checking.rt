@@ -4,10 +4,10 @@ ghost use Rattle.std.specs.Prelude.{◌≡◌, ◌≤◌, ◌<◌, ◌↔◌, �
 ghost use Rattle.td_netlist.specs.Means.{Means};
 ghost use Rattle.td_netlist.specs.WellFormed.{IsWellFormed};
 ghost use Rattle.td_circuit.specs.Run.{IsVector};
-ghost use Rattle.td_certificate.specs.Accepts.{IsOfSize, IsReached};
+ghost use Rattle.td_certificate.specs.Accepts.{lines_in, IsOfSize, IsReached};
 ghost use Rattle.td_certificate.specs.Faults.{IsWithinLimit};
 ghost use Rattle.td_certificate.specs.Spelling.{HasSpelling, Spells};
-ghost use Rattle.td_checker.specs.Judging.{AreJudged, lines_in, told_as};
+ghost use Rattle.td_checker.specs.Judging.{AreJudged, told_as};
 ghost use Rattle.td_checker.specs.Verdicts.{IsVerdict};
 ghost use Rattle.td_checker.specs.declared.verdict.Verdict.{Verdict as Told};
 ghost use Rattle.td_checker.specs.Checks.{HaveVerdict, HasCircuit, IsCheckFault, IsCertificateFault, IsToldAs, TellsWorst};
@@ -146,7 +146,7 @@ fn circuit_of<'a>(alloc: Global, text: &'a [u8], default: Delay) -> Result<Circu
 }
 
 /// The certificate that a text spells.
-fn certificate_of<'a>(alloc: Global, text: &[u8]) -> Result<Certificate, CheckFault<'a>>
+fn spelled_by<'a>(alloc: Global, text: &[u8]) -> Result<Certificate, CheckFault<'a>>
     ensures found { IfOk result (λ certificate. Spells certificate text.now × IsWithinLimit text.now) }
     ensures fault { IfErr result (λ fault. IsCertificateFault text.now fault) }
 {
@@ -172,7 +172,7 @@ fn verdict_of_texts<'a>(
     ensures worst { IfOk result (λ verdict. verdict ≡ Verdict.Accepted → TellsWorst netlist.now default certificate.now) }
 {
     let circuit = circuit_of(alloc, netlist, default)?;
-    let spelled = certificate_of(alloc, certificate)?;
+    let spelled = spelled_by(alloc, certificate)?;
     Ok(verdict_on(alloc, &circuit, &spelled)?)
 }
 

@@ -3,7 +3,7 @@
 ghost use Rattle.std.specs.Prelude.{◌≡◌, ◌*◌, ◌↔◌, Option, ℕ, length, slice_get, Some, IfOk, IsTrue};
 ghost use Rattle.td_domain.specs.Cubes.{IsPoint};
 ghost use Rattle.td_certificate.specs.Accepts.{IsBoundBy, SplitsFree, IsOfOnePair, IsBounded, HasDelay, IsOfCube, IsWithin};
-ghost use Rattle.td_checker.specs.Judging.{line_of, IsJudged};
+ghost use Rattle.td_checker.specs.Judging.{with_cube, IsJudged};
 
 use crate::delays::{delay_of, pair_of};
 use std::alloc::{AllocError, Global};
@@ -35,7 +35,7 @@ pub fn judge(
     node: Node,
 ) -> Result<Option<Flaw>, AllocError>
     requires { length cube.now ≡ 2 * length circuit.now.netlist.inputs }
-    ensures { IfOk result (λ found. IsJudged circuit.now.netlist time (line_of cube.now node) found) }
+    ensures { IfOk result (λ found. IsJudged circuit.now.netlist time (with_cube cube.now node) found) }
 {
     if !splits_free(cube, node) {
         return Ok(Some(Flaw::Misplaced));

@@ -171,7 +171,7 @@ fn certificates_of_searches_are_accepted(rt: HostRuntime) -> Result<(), Fail> {
 }
 
 /// The line of the text with this place of the tree.
-fn line_of(place: usize) -> usize {
+fn with_cube(place: usize) -> usize {
     place.saturating_add(6)
 }
 
@@ -191,9 +191,9 @@ fn told_of_leaf(
 /// The verdict on a leaf whose number is greater than it need be, and its line.
 fn told_above(searched: Searched, place: usize, kind: &str, number: u64) -> (&'static str, usize) {
     if kind == "p" {
-        ("LeafBound", line_of(place))
+        ("LeafBound", with_cube(place))
     } else if number > searched.time {
-        ("LeafAboveTime", line_of(place))
+        ("LeafAboveTime", with_cube(place))
     } else {
         ("Accepted", 0)
     }
@@ -214,7 +214,7 @@ fn a_leaf_has_another_number(rt: HostRuntime) -> Result<(), Fail> {
             let number = number.parse::<u64>().unwrap_or(0);
             if number > 0 {
                 let below = told_of_leaf(alloc, searched, place, kind, number - 1)?;
-                let at = line_of(place);
+                let at = with_cube(place);
                 let wanted = format!(in alloc; "LeafBound {at}")?;
                 assert_eq!(rt; below.as_str(), wanted.as_str());
             }

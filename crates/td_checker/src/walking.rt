@@ -3,7 +3,9 @@
 ghost use Rattle.std.specs.Prelude.{◌≡◌, ◌<◌, ◌*◌, [], ◌∷◌, replicate, reverse, length, set, slice_get, Some, IfOk, OnOk};
 ghost use Rattle.td_domain.specs.declared.cubes.Trit.{Trit as TritModel};
 ghost use Rattle.td_certificate.specs.Accepts.{SplitsFree};
-ghost use Rattle.td_checker.specs.Paths.{cubes_after, cubes_behind, StandsAt, AreInside};
+ghost use Rattle.td_certificate.specs.Cubes.{cubes_past};
+ghost use Rattle.td_certificate.specs.Walks.{position_of};
+ghost use Rattle.td_checker.specs.Paths.{cubes_ahead, StandsAt, AreInside};
 
 use std::alloc::{AllocError, Global};
 use td_certificate::Node;
@@ -34,7 +36,7 @@ impl Walk {
         requires free { SplitsFree self.old.cube node }
         requires inside { AreInside (length self.old.cube) (reverse self.old.path.items) }
         ensures next { OnOk result (StandsAt
-            (cubes_behind self.old.cube node (cubes_after self.old.cube (reverse self.old.path.items)))
+            (cubes_past self.old.cube (position_of node) (cubes_ahead self.old.cube (reverse self.old.path.items)))
             self.new.cube (reverse self.new.path.items)) }
         ensures inside { OnOk result (AreInside (length self.new.cube) (reverse self.new.path.items)) }
         ensures length { OnOk result (length self.new.cube ≡ length self.old.cube) }
@@ -55,7 +57,7 @@ impl Walk {
         requires inside { AreInside (length self.old.cube) (reverse self.old.path.items) }
         ensures next { OnOk result (StandsAt
             (set self.old.cube position TritModel.Zero ∷ set self.old.cube position TritModel.One
-            ∷ cubes_after self.old.cube (reverse self.old.path.items))
+            ∷ cubes_ahead self.old.cube (reverse self.old.path.items))
             self.new.cube (reverse self.new.path.items)) }
         ensures inside { OnOk result (AreInside (length self.new.cube) (reverse self.new.path.items)) }
         ensures length { OnOk result (length self.new.cube ≡ length self.old.cube) }
@@ -69,7 +71,7 @@ impl Walk {
     #[tactic(auto, using(crate::proofs::Turning::turned, crate::proofs::Turning::freed, crate::proofs::Turning::emptied, crate::proofs::Turning::inside_turned, crate::proofs::Turning::inside_freed, crate::proofs::Turning::below))]
     fn leave(&mut self)
         requires inside { AreInside (length self.old.cube) (reverse self.old.path.items) }
-        ensures next { StandsAt (cubes_after self.old.cube (reverse self.old.path.items)) self.new.cube (reverse self.new.path.items) }
+        ensures next { StandsAt (cubes_ahead self.old.cube (reverse self.old.path.items)) self.new.cube (reverse self.new.path.items) }
         ensures inside { AreInside (length self.new.cube) (reverse self.new.path.items) }
         ensures length { length self.new.cube ≡ length self.old.cube }
     {

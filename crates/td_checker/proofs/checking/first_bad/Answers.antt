@@ -2,7 +2,7 @@ use Rattle.std.proofs.Common.{◌≡◌, ◌≤◌, Some, length, get_or, revers
 use Rattle.std.specs.Prelude.{slice_get}
 use Rattle.td_certificate.specs.declared.tree.Node.{Node}
 use Rattle.td_certificate.specs.declared.tree.Node.TheVariants as node
-use Rattle.td_checker.specs.Judging.{line_of, flaw_of}
+use Rattle.td_checker.specs.Judging.{with_cube, flaw_of}
 use Rattle.td_checker.proofs.Lines.{found_bad, good_more, passed, all_good, node_at, has_flaw, is_good}
 use Rattle.td_checker.proofs.checking.first_bad.Goals as goal
 
@@ -18,7 +18,7 @@ returns-in-Some-clause-judged c =
     let at : slice_get certificate.tree place ≡ Some here =
     node_at nodes certificate.tree place (node.Split 0) c.nodes-node-items.ensures.nodes c.loop-place-test.true in
     found_bad netlist certificate place cube path here (flaw_of c.in-Some.flaw) c.loop-place.invariant.walk at
-    (has_flaw netlist certificate.time (line_of cube here) c.in_ok-flaw.field-0 c.in-Some.flaw c.in_ok-flaw.ensures c.in-Some.is)
+    (has_flaw netlist certificate.time (with_cube cube here) c.in_ok-flaw.field-0 c.in-Some.flaw c.in_ok-flaw.ensures c.in-Some.is)
     c.loop-place.invariant.good
 
 pub loop-place-preserved : goal.loop-place-preserved
@@ -36,7 +36,7 @@ loop-place-preserved c =
       walk = passed certificate place cube c.pass.new.self.cube path (reverse c.pass.new.self.path.items) here
           c.loop-place.invariant.walk at c.in_ok-pass.ensures.next c.in_ok-pass.ensures.inside c.in_ok-pass.ensures.length;
       good = good_more netlist certificate place cube path here c.loop-place.invariant.walk at
-          (is_good netlist certificate.time (line_of cube here) c.in_ok-flaw.field-0 c.in_ok-flaw.ensures c.in_default.is)
+          (is_good netlist certificate.time (with_cube cube here) c.in_ok-flaw.field-0 c.in_ok-flaw.ensures c.in_default.is)
           c.loop-place.invariant.good;
     }
 

@@ -1,7 +1,6 @@
 use Rattle.std.proofs.Common.{reverse, take}
 use Rattle.std.specs.List.{AllByRecursion}
-use Rattle.td_certificate.specs.Accepts.{IsGood}
-use Rattle.td_checker.specs.Judging.{lines_in}
+use Rattle.td_certificate.specs.Accepts.{lines_in, IsGood}
 use Rattle.td_checker.proofs.Lines.{IsWalked}
 use Rattle.td_checker.proofs.checking.first_bad.Given as goal
 

@@ -1,0 +1,67 @@
+//! The best pair that a search has found.
+
+ghost use Rattle.std.specs.Prelude.{◌≡◌, ◌*◌, ◌%◌, length, IfOk};
+ghost use Rattle.td_search.specs.Best.{HasRoomFor};
+ghost use Rattle.td_search.specs.Representatives.{representative};
+
+use crate::representatives::{representative, write_representative};
+use std::alloc::{AllocError, Global};
+use std::marker::Model;
+use td_domain::{Cube, Pair};
+
+/// A pair and its delay in steps. Its room was taken once, so that a better pair takes its place without memory.
+#[derive(Drop)]
+pub struct Best {
+    time: u64,
+    first: Vec<bool>,
+    second: Vec<bool>,
+}
+
+impl Model for Best {
+    ghost use Rattle.td_search.specs.Best.{Found};
+
+    ghost Value = { Found };
+
+    ghost view = { λ best. record { time = best.time; pair = record { first = best.first.items; second = best.second.items } } };
+}
+
+impl Best {
+    /// The representative of a cube, which has two positions for each input, and its delay. The error is want of memory.
+    pub fn new(alloc: Global, cube: &Cube, time: u64) -> Result<Self, AllocError>
+        requires { length cube.now % 2 ≡ 0 }
+        ensures { IfOk result (λ best. best ≡ record { time = time; pair = representative cube.now }) }
+    {
+        let inputs = cube.len() / 2;
+        let mut first = vec![in alloc; false; inputs]?;
+        let mut second = vec![in alloc; false; inputs]?;
+        write_representative(cube, &mut first, &mut second);
+        Ok(Best {
+            time,
+            first,
+            second,
+        })
+    }
+
+    /// The delay of the pair.
+    pub fn time(&self) -> u64
+        ensures { result ≡ self.now.time }
+    {
+        self.time
+    }
+
+    /// Puts the representative of a cube and its delay in the place of the pair. Takes no memory.
+    pub fn replace(&mut self, cube: &Cube, time: u64)
+        requires { HasRoomFor self.old cube.now }
+        ensures { self.new ≡ record { time = time; pair = representative cube.now } }
+    {
+        write_representative(cube, &mut self.first, &mut self.second);
+        self.time = time;
+    }
+
+    /// The pair.
+    pub fn into_pair(self) -> Pair
+        ensures { result ≡ self.pair }
+    {
+        Pair::new(self.first, self.second)
+    }
+}
