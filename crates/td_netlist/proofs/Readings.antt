@@ -7,7 +7,8 @@ use Rattle.td_syntax.specs.declared.fault.FaultKind.TheVariants as syntax
 use Rattle.td_syntax.specs.declared.fault.Fault as syntax_fault
 use Rattle.td_syntax.specs.Grammar as grammar
 use Rattle.td_syntax.specs.Faults as syntax_faults
-use Rattle.td_syntax.specs.Text.{Parses, syntax_of}
+use Rattle.td_syntax.specs.FirstFault.{syntax_of}
+use Rattle.td_syntax.specs.Text.{Parses}
 use Rattle.td_syntax.proofs.Whole.{is_again}
 use Rattle.td_netlist.specs.declared.fault.FaultKind.{FaultKind}
 use Rattle.td_netlist.specs.declared.fault.FaultKind.TheVariants as kind

@@ -1,7 +1,7 @@
 -- The faults of tokens and grammar among all faults.
 use Rattle.std.specs.Prelude.{◌≡◌, ℕ, List, Option, None, Some, Err}
 use Rattle.td_syntax.specs.Faults as syntax_faults
-use Rattle.td_syntax.specs.Text.{syntax_of}
+use Rattle.td_syntax.specs.FirstFault.{syntax_of}
 use Rattle.td_syntax.specs.declared.fault.FaultKind as syntax_kind
 use Rattle.td_syntax.specs.declared.fault.FaultKind.TheVariants as syntax
 use Rattle.td_netlist.specs.declared.fault.FaultKind.{FaultKind}

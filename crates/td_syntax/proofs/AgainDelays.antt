@@ -4,10 +4,10 @@ use Rattle.std.specs.Prelude.{◌==◌}
 use Rattle.std.proofs.lemmas.Bool.{le-ltb}
 use Rattle.std.proofs.Math.Dec.{eqb-suc-zero}
 use Rattle.td_syntax.specs.declared.token.Symbol.TheVariants as symbol
-use Rattle.td_syntax.specs.Lexical.{Token, Numeral, Name, Escaped, Reserved, Number, Constant, Mark, Attribute, Directs, Outside}
-use Rattle.td_syntax.specs.Tokens.{Placed, at}
+use Rattle.td_syntax.specs.Token.{Token, Numeral, Name, Escaped, Reserved, Number, Constant, Mark, Attribute, Directs, Outside}
+use Rattle.td_syntax.specs.Token.{Placed, at}
 use Rattle.td_syntax.specs.Grammar as grammar
-use Rattle.td_syntax.specs.Grammar.{plain}
+use Rattle.td_syntax.proofs.Plain.{plain}
 use Rattle.td_syntax.specs.Grammar.{IsSteps, IsDelay, is_whole, steps_of}
 use Rattle.td_syntax.specs.Parsing.{State, behind_front, is_mark, as_number, number_by, steps_at, close_at, second_at, bracketed_at, delay_at}
 use Rattle.td_syntax.proofs.AgainTokens.{Reads, Passes, Begins, in_front, mark_plain, maybe_mark_again, maybe_mark_not}

@@ -7,10 +7,11 @@ use Rattle.std.proofs.lemmas.Bool.{lt-ltb}
 use Rattle.std.proofs.Math.Dec.{eqb-suc-zero}
 use Rattle.td_gates.specs.declared.primitives.Kind.{Kind}
 use Rattle.td_syntax.specs.declared.token.Symbol.TheVariants as symbol
-use Rattle.td_syntax.specs.Lexical.{Token, Name, Escaped, Reserved, Number, Constant, Mark, Attribute, Directs, Outside}
-use Rattle.td_syntax.specs.Tokens.{Placed, Stream, at}
+use Rattle.td_syntax.specs.Token.{Token, Name, Escaped, Reserved, Number, Constant, Mark, Attribute, Directs, Outside}
+use Rattle.td_syntax.specs.Token.{Placed, at}
+use Rattle.td_syntax.specs.Tokens.{Stream}
 use Rattle.td_syntax.specs.Grammar as grammar
-use Rattle.td_syntax.specs.Grammar.{plain}
+use Rattle.td_syntax.proofs.Plain.{plain}
 use Rattle.td_syntax.specs.Grammar.{IsBetween, IsNet, IsInstance, IsStatement, has_many_outputs, output_count, instance_gates, statement_gates}
 use Rattle.td_syntax.specs.Faults.{Fault}
 use Rattle.td_syntax.specs.Parsing.{State, behind_front, is_mark, as_name, as_base, base_by, maybe_at, many, count_at, output_at, begin_terminal, more_terminals, end_terminals, terminal_end, bit_at, selected_at, terminal_step, opening_at, instance_at, instance_step, statement_at}

@@ -8,10 +8,11 @@ use Rattle.td_syntax.specs.declared.token.Stop.{Stop}
 use Rattle.td_syntax.specs.declared.token.Directive.{Directive}
 use Rattle.td_syntax.specs.declared.syntax.Front.{Front as Fronted}
 use Rattle.td_syntax.specs.declared.syntax.Front.TheVariants as fronts
-use Rattle.td_syntax.specs.Lexical.{Token, Name, Escaped, Reserved, Number, Constant, Mark, Attribute, Directs, Outside}
-use Rattle.td_syntax.specs.Tokens.{Placed, at, front_of, rest_of}
+use Rattle.td_syntax.specs.Token.{Token, Name, Escaped, Reserved, Number, Constant, Mark, Attribute, Directs, Outside}
+use Rattle.td_syntax.specs.Token.{Placed, at}
+use Rattle.td_syntax.specs.Tokens.{front_of, rest_of}
 use Rattle.td_syntax.specs.Grammar as grammar
-use Rattle.td_syntax.specs.Grammar.{plain}
+use Rattle.td_syntax.proofs.Plain.{plain}
 use Rattle.td_syntax.specs.Parsing.{State, behind_front, More, Done, as_attribute, as_directive, as_module, attribute_step, attributes_at, directive_at, front_directive, front_step, behind_step, next_at, many_from}
 use Rattle.td_syntax.proofs.Lists.{unrolled}
 use Rattle.td_syntax.proofs.SoundHeads.{module_read, attributes_classified, attributes_shorten, modules_classified, fronts_shorten, behind_shortens}

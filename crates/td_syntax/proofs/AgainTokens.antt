@@ -3,10 +3,11 @@ use Rattle.std.proofs.Common.{◌≡◌, ℕ, ◌+◌, ◌≤◌, true, false, L
 use Rattle.td_syntax.specs.declared.token.Symbol.{Symbol}
 use Rattle.td_syntax.specs.declared.token.Symbol.TheVariants as symbol
 use Rattle.td_syntax.specs.declared.token.Stop.{Stop}
-use Rattle.td_syntax.specs.Lexical.{Token, Name, Escaped, Reserved, Number, Constant, Mark, Attribute, Directs, Outside}
-use Rattle.td_syntax.specs.Tokens.{Placed, at, front_of, rest_of}
+use Rattle.td_syntax.specs.Token.{Token, Name, Escaped, Reserved, Number, Constant, Mark, Attribute, Directs, Outside}
+use Rattle.td_syntax.specs.Token.{Placed, at}
+use Rattle.td_syntax.specs.Tokens.{front_of, rest_of}
 use Rattle.td_syntax.specs.Grammar as grammar
-use Rattle.td_syntax.specs.Grammar.{plain}
+use Rattle.td_syntax.proofs.Plain.{plain}
 use Rattle.td_syntax.specs.Faults.{Fault, refused}
 use Rattle.td_syntax.specs.Parsing.{State, behind_front, Step, More, Final, is_mark, as_name, as_whole, next_at, name_at, whole_at, take_at, maybe_at, mark_at, maybe_mark_at, separator_at, behind, name_step, names_at, many_from}
 use Rattle.td_syntax.proofs.Lists.{Shortens, unrolled}

@@ -5,8 +5,11 @@ use Rattle.std.specs.List.{list_any, list_all}
 use Rattle.std.specs.Str.{bytes_eq}
 use Rattle.std.proofs.lemmas.Slice.Eq.{bytes_eq-Decides}
 use Rattle.std.specs.Prelude.{None, codes}
-use Rattle.td_syntax.specs.Lexical.{Name, keyword_of, word_of}
-use Rattle.td_syntax.specs.Words.{reserved_words, is_candidate}
+use Rattle.td_syntax.specs.Token.{Name}
+use Rattle.td_syntax.specs.Pieces.{keyword_of}
+use Rattle.td_syntax.specs.Lexical.{word_of}
+use Rattle.td_syntax.specs.Candidates.{is_candidate}
+use Rattle.td_syntax.specs.Words.{reserved_words}
 
 both : (p q : Bool) → (p && q) ≡ true → (p ≡ true) × (q ≡ true)
 both true q e = (refl, e)

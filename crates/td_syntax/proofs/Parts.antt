@@ -6,7 +6,8 @@ use Rattle.td_syntax.specs.declared.token.Directive.{Directive}
 use Rattle.td_syntax.specs.declared.token.Unread.{Unread}
 use Rattle.td_syntax.specs.declared.token.Unread.TheVariants.{Wrong, Short}
 use Rattle.td_syntax.specs.Bytes.{is_blank, is_zero}
-use Rattle.td_syntax.specs.Timescales.{◌>>=◌, unblanked, magnitude_at, tens_of, second_letter, letters_by, unit_at, span_at, slash_at, ordered, timescale_at}
+use Rattle.td_syntax.specs.Spans.{unblanked}
+use Rattle.td_syntax.specs.Timescales.{◌>>=◌, magnitude_at, tens_of, second_letter, letters_by, unit_at, span_at, slash_at, ordered, timescale_at}
 use Rattle.td_syntax.specs.TimescaleViews.{directive_view}
 use Rattle.std.specs.Borrow.{Bor}
 

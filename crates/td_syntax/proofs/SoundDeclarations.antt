@@ -7,10 +7,10 @@ use Rattle.td_syntax.specs.declared.token.Keyword.TheVariants as keyword
 use Rattle.td_syntax.specs.declared.token.Symbol.TheVariants as symbol
 use Rattle.td_syntax.specs.declared.syntax.Role.{Role}
 use Rattle.td_syntax.specs.declared.syntax.Role.TheVariants as role
-use Rattle.td_syntax.specs.Lexical.{Token, Name, Escaped, Reserved, Number, Constant, Mark, Attribute, Directs, Outside}
-use Rattle.td_syntax.specs.Tokens.{Placed, at}
+use Rattle.td_syntax.specs.Token.{Token, Name, Escaped, Reserved, Number, Constant, Mark, Attribute, Directs, Outside}
+use Rattle.td_syntax.specs.Token.{Placed, at}
 use Rattle.td_syntax.specs.Grammar as grammar
-use Rattle.td_syntax.specs.Grammar.{plain}
+use Rattle.td_syntax.proofs.Plain.{plain}
 use Rattle.td_syntax.specs.Grammar.{IsRange, IsMaybeRange, IsDeclaration, IsHeader, IsPort, BeginsHeaded, ArePorts, value_of}
 use Rattle.td_syntax.specs.Faults.{Fault, OutOfSubset, TooMany, fault, refused, ◌>>=◌}
 use Rattle.td_syntax.specs.Parsing.{State, More, Final, Done, is_mark, read_as, take_at, as_name, as_whole, as_wire, as_direction, next_at, name_at, maybe_at, mark_at, maybe_mark_at, behind, names_at, many, attributes_at, behind_wire, wired, wire_at, limited_from, limited_at, bounds_at, range_by, range_at, declaration_at, direction_at, header_at, headed_at, port_by, port_at, port_step, is_heading, listed_at, listed, ports_by, ports_at}

@@ -4,10 +4,10 @@ use Rattle.std.specs.Prelude.{◌==◌, nat_lt, codes}
 use Rattle.std.proofs.lemmas.Bool.{ltb-false}
 use Rattle.td_syntax.specs.declared.token.Symbol.{Symbol}
 use Rattle.td_syntax.specs.declared.token.Symbol.TheVariants as symbol
-use Rattle.td_syntax.specs.Lexical.{Token, Numeral, Name, Escaped, Reserved, Number, Constant, Mark, Attribute, Directs, Outside}
-use Rattle.td_syntax.specs.Tokens.{Placed, at}
+use Rattle.td_syntax.specs.Token.{Token, Numeral, Name, Escaped, Reserved, Number, Constant, Mark, Attribute, Directs, Outside}
+use Rattle.td_syntax.specs.Token.{Placed, at}
 use Rattle.td_syntax.specs.Grammar as grammar
-use Rattle.td_syntax.specs.Grammar.{plain}
+use Rattle.td_syntax.proofs.Plain.{plain}
 use Rattle.td_syntax.specs.Grammar.{IsSteps, IsDelay, is_whole, steps_of, value_of}
 use Rattle.td_syntax.specs.Faults.{Fault, OutOfSubset, ZeroDelay, DelayTooFine, DelayTooLarge, fault, refused, ◌>>=◌}
 use Rattle.td_syntax.specs.Parsing.{State, More, Final, Done, is_mark, as_number, number_by, as_whole, whole_in, next_at, name_at, whole_at, maybe_mark_at, behind, name_step, names_at, refused_name, steps_from, steps_at, close_at, second_at, pair_at, bracketed_at, value_at, delay_by, delay_at}

@@ -9,10 +9,11 @@ use Rattle.td_syntax.specs.declared.token.Unread.{Unread}
 use Rattle.td_syntax.specs.declared.token.Unread.TheVariants as unread
 use Rattle.td_syntax.specs.declared.syntax.Front.{Front as Fronted}
 use Rattle.td_syntax.specs.declared.syntax.Front.TheVariants as fronts
-use Rattle.td_syntax.specs.Lexical.{Token, Name, Escaped, Reserved, Number, Constant, Mark, Attribute, Directs, Outside}
-use Rattle.td_syntax.specs.Tokens.{Placed, at, front_of}
+use Rattle.td_syntax.specs.Token.{Token, Name, Escaped, Reserved, Number, Constant, Mark, Attribute, Directs, Outside}
+use Rattle.td_syntax.specs.Token.{Placed, at}
+use Rattle.td_syntax.specs.Tokens.{front_of}
 use Rattle.td_syntax.specs.Grammar as grammar
-use Rattle.td_syntax.specs.Grammar.{plain}
+use Rattle.td_syntax.proofs.Plain.{plain}
 use Rattle.td_syntax.specs.Faults.{Fault, refused, ◌>>=◌}
 use Rattle.td_syntax.specs.Parsing.{State, Step, More, Final, Done, as_attribute, as_directive, as_module, attribute_member, attribute_step, attributes_at, directive_at, front_directive, front_by, front_step, is_behind, behind_by, behind_step, next_at, maybe_at, many}
 use Rattle.td_syntax.proofs.Lists.{Shortens}

@@ -11,10 +11,11 @@ use Rattle.td_syntax.specs.declared.token.Stop.{Stop}
 use Rattle.td_syntax.specs.declared.token.Stop.TheVariants as stop
 use Rattle.td_syntax.specs.declared.syntax.Role.{Role}
 use Rattle.td_syntax.specs.declared.syntax.Role.TheVariants as role
-use Rattle.td_syntax.specs.Lexical.{Token, Name, Escaped, Reserved, Number, Constant, Mark, Attribute, Directs, Outside}
-use Rattle.td_syntax.specs.Tokens.{Placed, Front, Next, Behind, at, front_in, front_of}
+use Rattle.td_syntax.specs.Token.{Token, Name, Escaped, Reserved, Number, Constant, Mark, Attribute, Directs, Outside}
+use Rattle.td_syntax.specs.Token.{Placed, at}
+use Rattle.td_syntax.specs.Tokens.{Front, Next, Behind, front_in, front_of}
 use Rattle.td_syntax.specs.Grammar as grammar
-use Rattle.td_syntax.specs.Grammar.{plain}
+use Rattle.td_syntax.proofs.Plain.{plain}
 use Rattle.td_syntax.specs.Grammar.{IsItem, ArePorts, item_gates, statement_gates, tens_of}
 use Rattle.td_syntax.specs.Faults.{refused, ◌>>=◌}
 use Rattle.td_syntax.specs.Parsing.{State, Step, More, Final, Done, as_keyword, next_at, name_at, mark_at, many, attributes_at, front_step, behind_step, declaration_at, statement_at, declares, gates, item_word, item_by, item_step, ports_at, end_by, end_at, module_at}

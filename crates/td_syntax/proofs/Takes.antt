@@ -7,10 +7,11 @@ use Rattle.std.proofs.lemmas.List.Sums.{sum_by-cons}
 use Rattle.td_syntax.specs.declared.token.Symbol.{Symbol}
 use Rattle.td_syntax.specs.declared.token.Symbol.TheVariants as symbol
 use Rattle.td_syntax.specs.declared.token.Stop.{Stop}
-use Rattle.td_syntax.specs.Lexical.{Token, Name, Escaped, Reserved, Number, Constant, Mark, Attribute, Directs, Outside}
-use Rattle.td_syntax.specs.Tokens.{Placed, at, front_in, front_of, rest_of}
+use Rattle.td_syntax.specs.Token.{Token, Name, Escaped, Reserved, Number, Constant, Mark, Attribute, Directs, Outside}
+use Rattle.td_syntax.specs.Token.{Placed, at}
+use Rattle.td_syntax.specs.Tokens.{front_in, front_of, rest_of}
 use Rattle.td_syntax.specs.Grammar as grammar
-use Rattle.td_syntax.specs.Grammar.{plain}
+use Rattle.td_syntax.proofs.Plain.{plain}
 use Rattle.td_syntax.specs.Faults.{Fault, refused, ◌>>=◌}
 use Rattle.td_syntax.specs.Parsing.{State, next_by, next_at, read_as, take_at, read_if, maybe_at, code_of, is_mark, as_name, name_at, mark_at, maybe_mark_at, Step, More, Final, Done, go_on, many_within, many_from, separator_at, step_of, behind}
 use Rattle.td_syntax.proofs.Lists.{left, Shortens}

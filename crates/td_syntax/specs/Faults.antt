@@ -7,8 +7,8 @@ use Rattle.td_syntax.specs.declared.token.Stop.TheVariants as stop
 use Rattle.td_syntax.specs.declared.token.Stop.{Stop}
 use Rattle.td_syntax.specs.declared.token.Symbol.TheVariants as symbol
 use Rattle.td_syntax.specs.declared.token.Symbol.{Symbol}
-use Rattle.td_syntax.specs.Lexical.{Token, Name, Escaped, Reserved, Number, Constant, Mark, Attribute, Directs, Outside}
-use Rattle.td_syntax.specs.Tokens.{Placed}
+use Rattle.td_syntax.specs.Token.{Token, Name, Escaped, Reserved, Number, Constant, Mark, Attribute, Directs, Outside}
+use Rattle.td_syntax.specs.Token.{Placed}
 
 pub data FaultKind : Type 0 where
   BadByte : FaultKind

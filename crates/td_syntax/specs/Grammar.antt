@@ -14,9 +14,8 @@ use Rattle.td_syntax.specs.declared.syntax.Role.TheVariants as role
 use Rattle.td_syntax.specs.declared.syntax.Front.{Front}
 use Rattle.td_syntax.specs.declared.syntax.Front.TheVariants as fronts
 use Rattle.td_syntax.specs.Bytes.{is_zero}
-use Rattle.td_syntax.specs.Lexical as lexical
-use Rattle.td_syntax.specs.Lexical.{Numeral}
-use Rattle.td_syntax.specs.Tokens.{Placed, at}
+use Rattle.td_syntax.specs.Token as lexical
+use Rattle.td_syntax.specs.Token.{Numeral, Placed, at}
 
 -- ---- the tree
 
@@ -90,9 +89,6 @@ pub record Module : Type 0 where
   pub behind : List Directive
 
 -- ---- its tokens, with the lines of names alone
-
-abbrev pub one : lexical.Token → List Placed
-one t = at 0 t ∷ []
 
 abbrev pub name : Name → List Placed
 name n = at n.line (lexical.Name n.name) ∷ []
@@ -340,27 +336,8 @@ abbrev pub IsItem : ℕ → Item → Type 0
 IsItem tens (Declares d) = IsDeclaration d
 IsItem tens (Gates s) = IsStatement tens s
 
--- ---- the derivation
-
--- A token without what the grammar doesn't look at: lines, but those of names, the backslash of a name, and texts that are
--- told alone.
-abbrev pub plain_as : ℕ → lexical.Token → Placed
-plain_as line (lexical.Name w) = at line (lexical.Name w)
-plain_as line (lexical.Escaped w) = at line (lexical.Name (drop 1 w))
-plain_as line (lexical.Reserved k) = at 0 (lexical.Reserved k)
-plain_as line (lexical.Number n) = at 0 (lexical.Number n)
-plain_as line (lexical.Constant b w) = at 0 (lexical.Constant b [])
-plain_as line (lexical.Mark m) = at 0 (lexical.Mark m)
-plain_as line lexical.Attribute = at 0 lexical.Attribute
-plain_as line (lexical.Directs d w) = at 0 (lexical.Directs d [])
-plain_as line (lexical.Outside w) = at 0 (lexical.Outside w)
-
-abbrev pub plain : Placed → Placed
-plain p = plain_as p.line p.token
-
--- The tokens are those of the module, in the grammar's order.
-pub record Derives (tokens : List Placed) (m : Module) : Type 0 where
-  pub spelled : map plain tokens ≡ module_tokens m
+-- what a module keeps beside its order of tokens
+pub record IsModule (m : Module) : Type 0 where
   pub ports : ArePorts m.ports
   pub items : AllByRecursion (IsItem (tens_of m.fronts)) m.items
   pub gates : sum_by item_gates m.items ≤ 200000

@@ -13,8 +13,9 @@ use Rattle.td_syntax.specs.declared.syntax.Role.{Role}
 use Rattle.td_syntax.specs.declared.syntax.Role.TheVariants as role
 use Rattle.td_syntax.specs.declared.syntax.Front.TheVariants as fronts
 use Rattle.td_syntax.specs.declared.syntax.Front.{Front as Fronted}
-use Rattle.td_syntax.specs.Lexical.{Numeral, Token, Name, Escaped, Reserved, Number, Constant, Mark, Attribute, Directs, Outside}
-use Rattle.td_syntax.specs.Tokens.{Placed, Stream, Front, Next, Behind, front_of, rest_of}
+use Rattle.td_syntax.specs.Token.{Numeral, Token, Name, Escaped, Reserved, Number, Constant, Mark, Attribute, Directs, Outside}
+use Rattle.td_syntax.specs.Token.{Placed}
+use Rattle.td_syntax.specs.Tokens.{Stream, Front, Next, Behind, front_of, rest_of}
 use Rattle.td_syntax.specs.Grammar as grammar
 use Rattle.td_syntax.specs.Grammar.{has_many_outputs, tens_of, steps_of, is_whole, value_of}
 use Rattle.td_syntax.specs.Faults.{Fault, Syntax, OutOfSubset, ZeroDelay, DelayTooFine, DelayTooLarge, TooMany, fault, refused, stopped, ◌>>=◌}

@@ -1,20 +1,17 @@
--- The parts of a `timescale: two spans of time with a slash between them, white space free between the parts.
+-- Which fault of a `timescale is told: its parts, two spans of time with a slash between them, white space free between the parts.
 use Rattle.std.specs.Prelude.{ℕ, ◌+◌, List, [], ◌∷◌, drop, Option, None, Some, ◌==◌, nat_le, min, if◌then◌else◌, Result, Ok, Err}
 use Rattle.std.specs.List.{prefix_len}
 use Rattle.td_syntax.specs.declared.token.Directive.{Directive}
 use Rattle.td_syntax.specs.declared.token.Directive.TheVariants as directive
 use Rattle.td_syntax.specs.declared.token.Unread.{Unread}
 use Rattle.td_syntax.specs.declared.token.Unread.TheVariants.{Wrong, Short}
-use Rattle.td_syntax.specs.Bytes.{is_blank, is_zero}
+use Rattle.td_syntax.specs.Bytes.{is_zero}
+use Rattle.td_syntax.specs.Spans.{unblanked}
 
 infixl 10 ◌>>=◌
 abbrev pub ◌>>=◌ : {A B : Type 0} → Result A Unread → (A → Result B Unread) → Result B Unread
 (Ok x) >>= f = f x
 (Err e) >>= f = Err e
-
--- behind the white space in front
-unfoldable pub unblanked : List ℕ → List ℕ
-unblanked bytes = drop (prefix_len is_blank bytes) bytes
 
 -- Each part gives its number and the bytes behind it.
 

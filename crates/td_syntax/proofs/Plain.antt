@@ -1,0 +1,20 @@
+-- Tokens as the grammar names them.
+use Rattle.std.proofs.Common.{ℕ, drop, []}
+use Rattle.td_syntax.specs.Token as lexical
+use Rattle.td_syntax.specs.Token.{Placed, at}
+
+-- A token without what the grammar doesn't look at: lines, but those of names, the backslash of a name, and texts that are
+-- told alone.
+abbrev pub plain_as : ℕ → lexical.Token → Placed
+plain_as line (lexical.Name w) = at line (lexical.Name w)
+plain_as line (lexical.Escaped w) = at line (lexical.Name (drop 1 w))
+plain_as line (lexical.Reserved k) = at 0 (lexical.Reserved k)
+plain_as line (lexical.Number n) = at 0 (lexical.Number n)
+plain_as line (lexical.Constant b w) = at 0 (lexical.Constant b [])
+plain_as line (lexical.Mark m) = at 0 (lexical.Mark m)
+plain_as line lexical.Attribute = at 0 lexical.Attribute
+plain_as line (lexical.Directs d w) = at 0 (lexical.Directs d [])
+plain_as line (lexical.Outside w) = at 0 (lexical.Outside w)
+
+abbrev pub plain : Placed → Placed
+plain p = plain_as p.line p.token
