@@ -17,7 +17,7 @@ use Rattle.td_syntax.specs.Token.{Numeral, Token, Name, Escaped, Reserved, Numbe
 use Rattle.td_syntax.specs.Timescales.{timescale_at}
 use Rattle.td_syntax.specs.Spans.{timescale_in}
 use Rattle.td_syntax.specs.Pieces as pieces
-use Rattle.td_syntax.specs.Pieces.{Gap, Stands, stands, keyword_of, word_in, escaped_in, ends_name, comment_end, comment_in, numeral_at, constant_in, open_in, attribute_end, directive_by, directive_in, mark_in, piece_in}
+use Rattle.td_syntax.specs.Pieces.{Gap, Stands, stands, keyword_of, word_in, escaped_in, ends_name, comment_end, comment_in, numeral_at, constant_in, open_in, attribute_end, directive_by, directive_in, beside, marks, piece_in}
 use Rattle.td_syntax.specs.Lexical.{Piece, Space, Found, Last, word_as, comment_of, slash_at, constant_of, number_by, number_at, escaped_at, timescale_piece, directive_of, directive_at, end_behind, attribute_of, mark_of, char_at, open_at, piece_at}
 use Rattle.td_syntax.proofs.Attributing.{same_end}
 use Rattle.td_syntax.proofs.SameSpans.{told, same_timescale}
@@ -101,7 +101,11 @@ quoted_seen : (bs : List ℕ) → seen (directive_at bs) ≡ directive_in bs
 unfolding directive_at directive_in
 quoted_seen bs = chosen (begins is_letter bs) _ _ _ _ (λ _. directive_seen _ _) (λ _. refl)
 
+abbrev mark_in : ℕ → Option Token
+mark_in b = beside (λ (c : ℕ). b == c) marks
+
 mark_seen : (b : ℕ) → seen_as (mark_of b) 1 ≡ stands 1 (mark_in b)
+unfolding beside
 mark_seen b =
     chosen_token 1 (b == 41) _ _ _ _ refl
     (chosen_token 1 (b == 44) _ _ _ _ refl
@@ -124,6 +128,7 @@ isnt b k no_b yes_k = by (b == k) refl
     by false e = refl
 
 unprintable : (b : ℕ) (bs : List ℕ) → is_printable b ≡ false → None ≡ cond (b == 92) (escaped_in bs) (cond (b == 96) (directive_in bs) (stands 1 (mark_in b)))
+unfolding beside
 unprintable b bs h = rw (isnt b 92 h refl, isnt b 96 h refl, isnt b 41 h refl, isnt b 44 h refl, isnt b 59 h refl, isnt b 35 h refl, isnt b 91 h refl, isnt b 93 h refl, isnt b 58 h refl) refl
 
 printable_seen : (b : ℕ) (bs : List ℕ) (t : Bool) → is_printable b ≡ t → seen (cond t (char_at b bs) (Last Bad)) ≡ cond (b == 92) (escaped_in bs) (cond (b == 96) (directive_in bs) (stands 1 (mark_in b)))

@@ -245,9 +245,8 @@ IsDelay tens (Some (Pair n m)) = IsSteps tens n × IsSteps tens m
 
 -- How many tens of a step a unit is, by the last directive: without one, a unit is a step.
 abbrev pub tens_behind : ℕ → Front → ℕ
-tens_behind tens fronts.Attributed = tens
-tens_behind tens (fronts.Directed directive.Cells) = tens
 tens_behind tens (fronts.Directed (directive.Timescale t)) = t.unit - t.step
+tens_behind tens front = tens
 
 abbrev pub tens_of : List Front → ℕ
 tens_of fs = fold tens_behind 0 fs
@@ -279,9 +278,8 @@ IsPort (Headed h) = IsHeader h
 
 -- the first port is declared
 abbrev pub BeginsHeaded : List Port → Type 0
-BeginsHeaded [] = ⊥
-BeginsHeaded (Bare n ∷ ps) = ⊥
 BeginsHeaded (Headed h ∷ ps) = Unit {0}
+BeginsHeaded ps = ⊥
 
 abbrev pub ArePorts : Option Ports → Type 0
 ArePorts None = Unit {0}
@@ -294,12 +292,7 @@ ArePorts (Some (Declared ps)) = BeginsHeaded ps × AllByRecursion IsPort ps
 abbrev pub has_many_outputs : Kind → Bool
 has_many_outputs kinds.Buf = true
 has_many_outputs kinds.Not = true
-has_many_outputs kinds.And = false
-has_many_outputs kinds.Nand = false
-has_many_outputs kinds.Or = false
-has_many_outputs kinds.Nor = false
-has_many_outputs kinds.Xor = false
-has_many_outputs kinds.Xnor = false
+has_many_outputs k = false
 
 -- how many of so many terminals are outputs; each makes a gate
 abbrev pub output_count : Kind → ℕ → ℕ
@@ -318,9 +311,8 @@ item_gates (Gates s) = statement_gates s
 -- ---- gates
 
 abbrev pub IsNet : Terminal → Type 0
-IsNet (Whole n) = Unit {0}
-IsNet (Select n digits) = Unit {0}
 IsNet (Level b) = ⊥
+IsNet t = Unit {0}
 
 -- an output and an input, or more; no output is a constant
 pub record IsInstance (k : Kind) (i : Instance) : Type 0 where

@@ -26,22 +26,21 @@ stands n t = option_map (λ t. Stands t n) t
 
 -- ---- words
 
+-- the value beside the first key that passes, if one does
+unfoldable pub beside : {K V : Type 0} → (K → Bool) → List (K × V) → Option V
+beside passes [] = None
+beside passes (e ∷ es) = if passes e.0 then Some e.1 else beside passes es
+
+abbrev pub keywords : List (List ℕ × Keyword)
+keywords =
+    (codes "module", keyword.Module) ∷ (codes "endmodule", keyword.EndModule) ∷ (codes "input", keyword.Input) ∷
+    (codes "output", keyword.Output) ∷ (codes "wire", keyword.Wire) ∷ (codes "and", keyword.Gate kind.And) ∷
+    (codes "nand", keyword.Gate kind.Nand) ∷ (codes "or", keyword.Gate kind.Or) ∷ (codes "nor", keyword.Gate kind.Nor) ∷
+    (codes "xor", keyword.Gate kind.Xor) ∷ (codes "xnor", keyword.Gate kind.Xnor) ∷ (codes "buf", keyword.Gate kind.Buf) ∷
+    (codes "not", keyword.Gate kind.Not) ∷ []
+
 unfoldable pub keyword_of : List ℕ → Option Keyword
-keyword_of w =
-    if bytes_eq w (codes "module") then Some keyword.Module
-    else (if bytes_eq w (codes "endmodule") then Some keyword.EndModule
-    else (if bytes_eq w (codes "input") then Some keyword.Input
-    else (if bytes_eq w (codes "output") then Some keyword.Output
-    else (if bytes_eq w (codes "wire") then Some keyword.Wire
-    else (if bytes_eq w (codes "and") then Some (keyword.Gate kind.And)
-    else (if bytes_eq w (codes "nand") then Some (keyword.Gate kind.Nand)
-    else (if bytes_eq w (codes "or") then Some (keyword.Gate kind.Or)
-    else (if bytes_eq w (codes "nor") then Some (keyword.Gate kind.Nor)
-    else (if bytes_eq w (codes "xor") then Some (keyword.Gate kind.Xor)
-    else (if bytes_eq w (codes "xnor") then Some (keyword.Gate kind.Xnor)
-    else (if bytes_eq w (codes "buf") then Some (keyword.Gate kind.Buf)
-    else (if bytes_eq w (codes "not") then Some (keyword.Gate kind.Not)
-    else None))))))))))))
+keyword_of w = beside (bytes_eq w) keywords
 
 -- a word of the grammar, or a name where it isn't reserved
 abbrev pub word_by : Option Keyword → List ℕ → Option Token
@@ -129,16 +128,11 @@ directive_in bs = let n = prefix_len is_name_byte bs in if begins is_letter bs t
 
 -- ---- all of them
 
-abbrev pub mark_in : ℕ → Option Token
-mark_in b =
-    if b == 41 then Some (Mark symbol.Close)
-    else (if b == 44 then Some (Mark symbol.Comma)
-    else (if b == 59 then Some (Mark symbol.Semicolon)
-    else (if b == 35 then Some (Mark symbol.Hash)
-    else (if b == 91 then Some (Mark symbol.LeftBracket)
-    else (if b == 93 then Some (Mark symbol.RightBracket)
-    else (if b == 58 then Some (Mark symbol.Colon)
-    else None))))))
+-- ) , ; # [ ] and :
+abbrev pub marks : List (ℕ × Token)
+marks =
+    (41, Mark symbol.Close) ∷ (44, Mark symbol.Comma) ∷ (59, Mark symbol.Semicolon) ∷ (35, Mark symbol.Hash) ∷
+    (91, Mark symbol.LeftBracket) ∷ (93, Mark symbol.RightBracket) ∷ (58, Mark symbol.Colon) ∷ []
 
 unfoldable pub piece_in : List ℕ → Option Piece
 piece_in [] = None
@@ -150,4 +144,4 @@ piece_in (b ∷ bs) =
     else (if b == 40 then open_in bs
     else (if b == 92 then escaped_in bs
     else (if b == 96 then directive_in bs
-    else stands 1 (mark_in b)))))))
+    else stands 1 (beside (λ c. b == c) marks)))))))

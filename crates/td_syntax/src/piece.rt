@@ -28,7 +28,7 @@ pub enum Piece<'a> {
 }
 
 /// The reserved word of the subset that this is, if it is one.
-#[tactic(auto, unfolding(crate::specs::Pieces::keyword_of))]
+#[tactic(auto, unfolding(crate::specs::Pieces::keyword_of, crate::specs::Pieces::beside))]
 pub fn keyword_of(word: &[u8]) -> Option<Keyword>
     ensures { result ≡ keyword_of word.now }
 {
