@@ -11,8 +11,11 @@ use Rattle.td_netlist.specs.Netlist.{Name}
 use Rattle.td_netlist.specs.WellFormed.{IsDistinct}
 use Rattle.td_netlist.specs.Faults.{◌>>=◌, UnlessMemory}
 use Rattle.td_netlist.specs.Ranges.{nets_of}
-use Rattle.td_netlist.specs.Module.{scalar, names_of, Declared, is_input, is_output, is_wire, is_direction, different, ports, ports_as, declarations, declared, declared_names, range_in, nets_named, source_of, Placed, nets_at, terminals_in, outputs_in, inputs_in, inputs_of, output_bits, driven_in, Primitive, primitives, net_count, names_in, input_count}
-use Rattle.td_netlist.specs.Means.{AreDeclared, IsJoined, IsConsistent, RepeatedOn, MissingOn, AgainOn, LeftOutOn, Breaks}
+use Rattle.td_netlist.specs.PlacedNets.{different, Placed, nets_at, outputs_in, inputs_in, output_bits, driven_in, net_count, names_in, input_count}
+use Rattle.td_netlist.specs.Module.{scalar, names_of, Declared, is_input, is_output, is_wire, is_direction, ports, ports_as, declarations, declared, declared_names, range_in, nets_named, source_of, terminals_in, inputs_of, Primitive, primitives}
+use Rattle.td_netlist.specs.Conditions.{IsConsistent}
+use Rattle.td_netlist.specs.NameFaults.{RepeatedOn, MissingOn, AgainOn, LeftOutOn, Breaks}
+use Rattle.td_netlist.specs.Means.{AreDeclared, IsJoined}
 use Rattle.td_netlist.specs.Checks.{Known, nets_known, each, Lists, declare_ports, declare_item, Sides, sideless, take_side, Drivers, drive_all, read_all, read_placed, sides_at, declared_at, driven_at}
 use Rattle.td_netlist.proofs.Members.{in_front, behind, mapped, of_mapped, filtered, of_filtered, gathered, of_gathered, either_side}
 use Rattle.td_netlist.proofs.Distinct.{not_distinct}

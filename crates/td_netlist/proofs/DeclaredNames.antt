@@ -17,8 +17,9 @@ use Rattle.td_netlist.specs.WellFormed.{IsDistinct}
 use Rattle.td_netlist.specs.Names.{is_in, with_name}
 use Rattle.td_netlist.specs.Faults.{unless}
 use Rattle.td_netlist.specs.Ranges.{width_of}
-use Rattle.td_netlist.specs.Module.{scalar, names_of, Declared, is_input, is_wire, is_direction, different, ports, declarations, declared_names, range_in, plain_name, terminals_in, names_in, net_count, input_count}
-use Rattle.td_netlist.specs.Means.{RepeatedOn, RangedOn, Breaks}
+use Rattle.td_netlist.specs.PlacedNets.{different, plain_name, names_in, net_count, input_count}
+use Rattle.td_netlist.specs.Module.{scalar, names_of, Declared, is_input, is_wire, is_direction, ports, declarations, declared_names, range_in, terminals_in}
+use Rattle.td_netlist.specs.NameFaults.{RepeatedOn, RangedOn, Breaks}
 use Rattle.td_netlist.specs.Checks.{Known, known, same_number, is_other, nets_known, know, direction_of, direction_fault, wire_fault, input_bits, Lists, nothing, declare, declare_wire, declare_direction}
 use Rattle.td_netlist.proofs.Members.{either_side, one_of, nowhere, between, mapped}
 use Rattle.td_netlist.proofs.Distinct.{distinct_nil, distinct_push}

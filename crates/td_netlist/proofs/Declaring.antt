@@ -17,7 +17,7 @@ use Rattle.td_netlist.specs.Names.{is_in}
 use Rattle.td_netlist.specs.declared.ranges.Range.{Range}
 use Rattle.td_netlist.specs.Ranges.{width_of}
 use Rattle.td_netlist.specs.Module.{scalar, names_of, Declared, is_input, is_direction, is_of, range_found}
-use Rattle.td_netlist.specs.Means.{RepeatedOn}
+use Rattle.td_netlist.specs.NameFaults.{RepeatedOn}
 use Rattle.td_netlist.specs.Checks.{list_port, direction_of}
 use Rattle.td_netlist.proofs.Members.{first, later, one_of, nowhere, mapped, of_mapped}
 use Rattle.td_netlist.proofs.Finding.{find_front, find_behind, found_there, found_none}

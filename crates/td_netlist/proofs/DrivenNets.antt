@@ -15,8 +15,10 @@ use Rattle.td_netlist.specs.Netlist.{Name, Net, Low, High, Named}
 use Rattle.td_netlist.specs.WellFormed.{IsDistinct}
 use Rattle.td_netlist.specs.Names.{is_in, with_name}
 use Rattle.td_netlist.specs.Faults.{◌>>=◌}
-use Rattle.td_netlist.specs.Module.{scalar, names_of, is_input, different, ports_as, declarations, range_in, Source, Joins, source_of, line_of, net_of, net_from, Placed, placed_net, placed_in, nets_at, terminals_in, outputs_in, outputs_of, inputs_of, plain_name, names_in, net_count, Primitive, primitives}
-use Rattle.td_netlist.specs.Means.{IsJoined, LeftOutOn, Breaks}
+use Rattle.td_netlist.specs.PlacedNets.{different, line_of, Placed, placed_net, placed_in, nets_at, outputs_in, plain_name, names_in, net_count}
+use Rattle.td_netlist.specs.Module.{scalar, names_of, is_input, ports_as, declarations, range_in, Source, Joins, source_of, net_of, net_from, terminals_in, outputs_of, inputs_of, Primitive, primitives}
+use Rattle.td_netlist.specs.NameFaults.{LeftOutOn, Breaks}
+use Rattle.td_netlist.specs.Means.{IsJoined}
 use Rattle.td_netlist.specs.Checks.{each, Known, nets_known, know, meet, resolve, line_at, Drivers, second_driver, drive_fault, drive_net, seen, see, drives, drive, drive_all, read_from, read_net, read_all, read_placed}
 use Rattle.td_netlist.proofs.Members.{either_side, one_of, nowhere, first, later, in_front, behind, between, gathered}
 use Rattle.td_netlist.proofs.Distinct.{distinct_nil, distinct_push, distinct_head, distinct_tail}

@@ -10,7 +10,8 @@ use Rattle.td_netlist.specs.declared.fault.FaultKind.TheVariants as kind
 use Rattle.td_netlist.specs.declared.fault.Fault.{Fault}
 use Rattle.td_netlist.specs.Netlist.{Name, Net}
 use Rattle.td_netlist.specs.Faults.{fault}
-use Rattle.td_netlist.specs.Module.{scalar, names_of, declarations, range_in, whole_source, bit_source, Source, Joins, NoBit, NotOne, source_of, line_of, net_from, net_of, plain_name}
+use Rattle.td_netlist.specs.PlacedNets.{line_of, plain_name}
+use Rattle.td_netlist.specs.Module.{scalar, names_of, declarations, range_in, whole_source, bit_source, Source, Joins, NoBit, NotOne, source_of, net_from, net_of}
 use Rattle.td_netlist.specs.Means.{IsJoined}
 use Rattle.td_netlist.specs.Checks.{Known, joined, resolve, meet, line_at, Drivers, seen}
 use Rattle.td_netlist.proofs.Members.{in_front}

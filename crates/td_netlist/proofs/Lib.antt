@@ -22,6 +22,8 @@ pub mod DrivenNets
 pub mod Apart
 pub mod Consistent
 pub mod Formed
+pub mod FewNets
+pub mod FormedBack
 pub mod Gathering
 pub mod Readings
 pub mod Netlists

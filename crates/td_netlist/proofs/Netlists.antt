@@ -10,7 +10,7 @@ use Rattle.td_netlist.specs.Netlist.{Gate}
 use Rattle.td_netlist.specs.declared.fault.FaultKind.{FaultKind}
 use Rattle.td_netlist.specs.Faults.{Fails, told, UnlessMemory, ◌>>=◌}
 use Rattle.td_netlist.specs.Module.{terminals_in, Primitive, primitives, gates_of}
-use Rattle.td_netlist.specs.Means.{Breaks}
+use Rattle.td_netlist.specs.NameFaults.{Breaks}
 use Rattle.td_netlist.specs.Checks.{each, Known, Sides, Drivers, with_gates, declared_at, driven_at, checked_at}
 use Rattle.td_netlist.proofs.Consistent.{Passes, passes, declared_breaks, drivers_refused}
 use Rattle.td_netlist.proofs.Formed.{output_named}
@@ -65,7 +65,7 @@ module _ (m : grammar.Module) (ports : ArePorts m.ports) where
             ap (λ (js : List Known). each (with_gates js tens default) [] qs) names_are
             ∙ ap (λ (n : ℕ). each (with_gates d.names n default) [] qs) tens_are
             ∙ ap (λ (rs : List Primitive). each (with_gates d.names (tens_of m.fronts) default) [] rs) same_too
-            ∙ gates_are m d.names (plain_names (terminals_in m)) passed.knows passed.consistent.joined.each default (output_named m passed.consistent items)
+            ∙ gates_are m d.names (plain_names (terminals_in m)) passed.knows passed.consistent.joined.each default (output_named m passed.consistent.joined items)
 
         pub gates_listed : (gates : List Gate) → each (with_gates names tens default) [] qs ≡ Ok gates → gates ≡ gates_of default m
         gates_listed gates e = same_ok (each (with_gates names tens default) [] qs) (each (with_gates names tens default) [] qs) gates (gates_of default m) refl e all_gates

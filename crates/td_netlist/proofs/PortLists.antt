@@ -14,7 +14,7 @@ use Rattle.td_netlist.specs.Names.{is_in}
 use Rattle.td_netlist.specs.Faults.{◌>>=◌}
 use Rattle.td_netlist.specs.Ranges.{range_of}
 use Rattle.td_netlist.specs.Module.{scalar, names_of, Declared, is_direction, item_declared, ports_from, ports_declared, declarations, port_name, port_names, ports}
-use Rattle.td_netlist.specs.Means.{Breaks}
+use Rattle.td_netlist.specs.NameFaults.{Breaks}
 use Rattle.td_netlist.specs.Checks.{each, list_port, Lists, nothing, with_port, declare_direction, declare_item, declare_port, declare_ports}
 use Rattle.td_netlist.proofs.Members.{in_front, behind, first}
 use Rattle.td_netlist.proofs.Sets.{is_contained}

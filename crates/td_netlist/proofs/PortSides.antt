@@ -18,8 +18,9 @@ use Rattle.td_netlist.specs.WellFormed.{IsDistinct}
 use Rattle.td_netlist.specs.Names.{name_eq, is_in}
 use Rattle.td_netlist.specs.Faults.{fault}
 use Rattle.td_netlist.specs.Ranges.{nets_of}
-use Rattle.td_netlist.specs.Module.{scalar, names_of, Declared, is_input, is_output, is_direction, ports, declarations, declared_names, range_in, nets_named, Placed, nets_at, output_bits}
-use Rattle.td_netlist.specs.Means.{Breaks}
+use Rattle.td_netlist.specs.PlacedNets.{Placed, nets_at, output_bits}
+use Rattle.td_netlist.specs.Module.{scalar, names_of, Declared, is_input, is_output, is_direction, ports, declarations, declared_names, range_in, nets_named}
+use Rattle.td_netlist.specs.NameFaults.{Breaks}
 use Rattle.td_netlist.specs.Checks.{each, direction_of, Sides, sideless, placed_at, on_side, take_side}
 use Rattle.td_netlist.proofs.Members.{either_side, one_of, nowhere, between, mapped, of_mapped, filtered, of_filtered, gathered}
 use Rattle.td_netlist.proofs.Distinct.{distinct_head, distinct_tail}

@@ -20,10 +20,16 @@ use Rattle.td_netlist.specs.Views.{name_of, gate_of, netlist_from}
 use Rattle.td_netlist.specs.FirstPass.{kind_from}
 use Rattle.td_netlist.specs.Faults.{Fails, told, UnlessMemory, IsUnlessMemory}
 use Rattle.td_netlist.specs.declared.netlist.Unit.{Unit as Step}
-use Rattle.td_netlist.specs.Module.{is_input, is_output, ports_as, nets_at, gates_of, primitives, defaulted_of, unit_of, netlist_in}
-use Rattle.td_netlist.specs.Means.{Means, IsConsistent, Breaks, IsFaultIn}
+use Rattle.td_netlist.specs.PlacedNets.{nets_at}
+use Rattle.td_netlist.specs.Module.{is_input, is_output, ports_as, gates_of, primitives, defaulted_of, unit_of, netlist_in}
+use Rattle.td_netlist.specs.Conditions.{IsConsistent}
+use Rattle.td_netlist.specs.NameFaults.{Breaks, IsFaultIn}
+use Rattle.td_netlist.specs.Means.{Means}
 use Rattle.td_netlist.specs.Checks.{Sides, checked_at}
+use Rattle.td_netlist.specs.WellFormed.{IsWellFormed}
 use Rattle.td_netlist.proofs.Consistent.{memory_alone, AreSides}
+use Rattle.td_netlist.proofs.FewNets.{few_nets}
+use Rattle.td_netlist.proofs.FormedBack.{consistent}
 
 abbrev parsed_as : {Y : Type 0} → Y → Result Y syntax_faults.Fault
 parsed_as y = Ok y
@@ -97,19 +103,25 @@ broken_in text m (Ok y) p at first = tt
 broken_in text m (Err e) p at first = broken_by text m e.kind e.line p at first
 
 module _ (text : List ℕ) (m : grammar.Module) (default : Delay) (p : Parses text m) where
-  pub found_by : (netlist : Netlist) → IsConsistent m → netlist ≡ netlist_in default m → Means text default netlist
-  found_by netlist keeps is = record { tree = m; parses = p; consistent = keeps; lists = is }
+  pub found_by : (netlist : Netlist) → IsConsistent m → netlist ≡ netlist_in default m → IsWellFormed netlist → Means text default netlist
+  found_by netlist keeps is formed = record { tree = m; parses = p; declared = keeps.declared; joined = keeps.joined; few_nets = few_nets m keeps.within.few_nets; lists = is; formed = formed }
 
-  pub only_by : (netlist n : Netlist) → IsConsistent m → netlist ≡ netlist_in default m → Means text default n → netlist ≡ n
-  only_by netlist n keeps is means = one_netlist text default netlist n (found_by netlist keeps is) means
+  pub found_as : (r : Result Netlist Fault) → IfOk r (λ netlist. IsConsistent m) → IfOk r (λ netlist. netlist ≡ netlist_in default m) → IfOk r (λ netlist. IsWellFormed netlist) → IfOk r (λ netlist. Means text default netlist)
+  found_as (Ok netlist) keeps is formed = found_by netlist keeps is formed
+  found_as (Err e) keeps is formed = tt
 
-  pub only_memory : (k : FaultKind) (line : ℕ) (n : Netlist) → UnlessMemory k (Breaks k line m) → Means text default n → k ≡ kind.OutOfMemory
-  only_memory k line n at means = memory_alone m line (subst IsConsistent (one_tree text means.tree m means.parses p) means.consistent) k at
+  only_by : (netlist n : Netlist) → netlist ≡ netlist_in default m → Means text default n → netlist ≡ n
+  only_by netlist n is means = is ∙ ap (λ (t : grammar.Module). netlist_in default t) (one_tree text m means.tree p means.parses) ∙ sym means.lists
 
-  pub only_as : (r : Result Netlist Fault) → IfOk r (λ netlist. IsConsistent m) → IfOk r (λ netlist. netlist ≡ netlist_in default m) → IfErr r (λ e. UnlessMemory e.kind (Breaks e.kind e.line m))
+  only_memory : (k : FaultKind) (line : ℕ) (n : Netlist) → UnlessMemory k (Breaks k line m) → Means text default n → k ≡ kind.OutOfMemory
+  only_memory k line n at means =
+      let keeps = consistent means.tree means.declared means.joined means.parses.kept.items default (subst IsWellFormed means.lists means.formed) means.few_nets in
+      memory_alone m line (subst IsConsistent (one_tree text means.tree m means.parses p) keeps) k at
+
+  pub only_as : (r : Result Netlist Fault) → IfOk r (λ netlist. netlist ≡ netlist_in default m) → IfErr r (λ e. UnlessMemory e.kind (Breaks e.kind e.line m))
       → (n : Netlist) → Means text default n → IsUnlessMemory r n
-  only_as (Ok netlist) keeps is breaks n means = only_by netlist n keeps is means
-  only_as (Err e) keeps is breaks n means = only_memory e.kind e.line n breaks means
+  only_as (Ok netlist) is breaks n means = only_by netlist n is means
+  only_as (Err e) is breaks n means = only_memory e.kind e.line n breaks means
 
 untold_by : {Y : Type 0} (k : syntax_kind.FaultKind) (line : ℕ) (y : Y) → MatchOption (syntax_faults.told k) (Unit {0}) (λ j. parsed_as y ≡ Err (syntax_faults.fault j line)) → kind_from k ≡ kind.OutOfMemory
 untold_by syntax.OutOfMemory line y e = refl

@@ -3,7 +3,8 @@
 ghost use Rattle.std.specs.Prelude.{◌≡◌, [], map, Ok, IfOk};
 ghost use Rattle.td_syntax.specs.Views.{terminal_view};
 ghost use Rattle.td_netlist.specs.Faults.{Gives};
-ghost use Rattle.td_netlist.specs.Module.{different, whole_source, bit_source};
+ghost use Rattle.td_netlist.specs.PlacedNets.{different};
+ghost use Rattle.td_netlist.specs.Module.{whole_source, bit_source};
 ghost use Rattle.td_netlist.specs.Netlist.{Named};
 ghost use Rattle.td_netlist.specs.Ranges.{bit_name, IsLimited};
 ghost use Rattle.td_syntax.specs.Grammar.{value_of};

@@ -8,10 +8,14 @@ ghost use Rattle.td_syntax.specs.Views.{module_view};
 ghost use Rattle.td_netlist.specs.Netlist as netlist;
 ghost use Rattle.td_netlist.specs.Faults.{IsUnlessMemory, UnlessMemory, Fails};
 ghost use Rattle.td_netlist.specs.Checks.{checked_at};
-ghost use Rattle.td_netlist.specs.Means.{Means, IsConsistent, Breaks, IsFaultIn};
-ghost use Rattle.td_netlist.specs.Module.{nets_at, netlist_in, step_of, unit_of};
+ghost use Rattle.td_netlist.specs.Conditions.{IsConsistent};
+ghost use Rattle.td_netlist.specs.NameFaults.{Breaks, IsFaultIn};
+ghost use Rattle.td_netlist.specs.Means.{Means};
+ghost use Rattle.td_netlist.specs.PlacedNets.{nets_at};
+ghost use Rattle.td_netlist.specs.Module.{netlist_in, step_of, unit_of};
 ghost use Rattle.td_netlist.specs.NameViews.{name_ref_of, placed_ref_of};
 ghost use Rattle.td_netlist.specs.Views.{name_of};
+ghost use Rattle.td_netlist.specs.WellFormed.{IsWellFormed};
 
 use crate::declarations::declared;
 use crate::drivers::all_driven;
@@ -88,6 +92,7 @@ fn netlist<'a>(alloc: Global, source: &Module<'a>, default: Delay) -> Result<Net
     requires gates { sum_by item_gates (module_view source.now).items ≤ 200000 }
     ensures consistent { IfOk result (λ _. IsConsistent (module_view source.now)) }
     ensures lists { IfOk result (λ n. n ≡ netlist_in default (module_view source.now)) }
+    ensures formed { IfOk result (λ n. IsWellFormed n) }
     ensures breaks { IfErr result (λ e. UnlessMemory e.kind (Breaks e.kind e.line (module_view source.now))) }
     ensures first { IfErr result (λ e. Fails e (checked_at (module_view source.now))) }
 {

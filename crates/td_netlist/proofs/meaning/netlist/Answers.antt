@@ -10,7 +10,8 @@ use Rattle.td_netlist.specs.declared.primitive.Primitive as code_primitive
 use Rattle.td_netlist.specs.WellFormed.{IsWellFormed}
 use Rattle.td_netlist.specs.NameViews.{name_ref_of, placed_ref_of}
 use Rattle.td_netlist.specs.Views.{gate_of}
-use Rattle.td_netlist.specs.Module.{Primitive, nets_at, outputs_of, primitives, unit_of, defaulted_of}
+use Rattle.td_netlist.specs.PlacedNets.{nets_at}
+use Rattle.td_netlist.specs.Module.{Primitive, outputs_of, primitives, unit_of, defaulted_of}
 use Rattle.td_netlist.specs.CheckViews.{primitive_of, sides_of, drivers_of}
 use Rattle.td_netlist.proofs.Keeps.{keeps_items, kept_by_code}
 use Rattle.td_netlist.proofs.Formed.{well_formed, gates_below}
