@@ -19,7 +19,7 @@ use Rattle.td_netlist.specs.PlacedNets.{different, line_of, Placed, placed_net, 
 use Rattle.td_netlist.specs.Module.{scalar, names_of, is_input, ports_as, declarations, range_in, Source, Joins, source_of, net_of, net_from, terminals_in, outputs_of, inputs_of, Primitive, primitives}
 use Rattle.td_netlist.specs.NameFaults.{LeftOutOn, Breaks}
 use Rattle.td_netlist.specs.Means.{IsJoined}
-use Rattle.td_netlist.specs.Checks.{each, Known, nets_known, know, meet, resolve, line_at, Drivers, second_driver, drive_fault, drive_net, seen, see, drives, drive, drive_all, read_from, read_net, read_all, read_placed}
+use Rattle.td_netlist.specs.Checks.{each, Known, nets_known, know, meet, resolve, Drivers, second_driver, drive_fault, drive_net, seen, see, drives, drive, drive_all, read_from, read_net, read_all, read_placed}
 use Rattle.td_netlist.proofs.Members.{either_side, one_of, nowhere, first, later, in_front, behind, between, gathered}
 use Rattle.td_netlist.proofs.Distinct.{distinct_nil, distinct_push, distinct_head, distinct_tail}
 use Rattle.td_netlist.proofs.Sets.{contains_is, not_contained, is_absent}
@@ -233,7 +233,7 @@ module _ (m : grammar.Module) where
       let sees = seen_ok s t.at a.0 a.1 in
       let net = a.0.0 in
       let is = source_is m s.names (plain_names (all_of ts)) keeps.names t.at net sees.resolves in
-      let b = ok_both (drive_net inputs a.0.1.driven (line_at t.at) net) _ u a.2 in
+      let b = ok_both (drive_net inputs a.0.1.driven (line_of t.at) net) _ u a.2 in
       let more = drive_net_ok inputs s.driven b.0 (line_of t.at) net (ap (λ (driven : List Name). drive_net inputs driven (line_of t.at) net) (sym sees.same_driven) ∙ ap (λ (line : ℕ). drive_net inputs a.0.1.driven line net) (sym (same_line t.at)) ∙ b.1) in
       let names = bits_more ts t net this is in
       let new : (name : Name) → Contains (bits_at (line_of t.at) net) name → ¬ Contains (inputs ++ nets_at (driven_by ts)) name =
@@ -414,7 +414,7 @@ module _ (m : grammar.Module) where
       | inl here ↦ seen_breaks f here
       | inr past ↦ (let sees = seen_ok s t.at past.0 past.1 in
           let net = source_is m s.names (plain_names (all_of before)) keeps.names t.at past.0.0 sees.resolves in
-          elim (err_either (drive_net (ports_as is_input m) past.0.1.driven (line_at t.at) past.0.0) _ f past.2) [
+          elim (err_either (drive_net (ports_as is_input m) past.0.1.driven (line_of t.at) past.0.0) _ f past.2) [
             | inl here ↦ (let again = drive_net_err (ports_as is_input m) s.driven (line_of t.at) past.0.0 f (ap (λ (driven : List Name). drive_net (ports_as is_input m) driven (line_of t.at) past.0.0) (sym sees.same_driven) ∙ ap (λ (line : ℕ). drive_net (ports_as is_input m) past.0.1.driven line past.0.0) (sym (same_line t.at)) ∙ here) in
                 second_breaks (is_in again.this (ports_as is_input m)) f again.this this (ap net_from net ∙ again.is) refl again.again again.there again.kind_is)
             | inr done ↦ absurd cc
@@ -492,7 +492,7 @@ module _ (m : grammar.Module) where
     read_is : (u : Unit {0}) (t : grammar.Terminal) → Joined t → read_net d u t ≡ read_from d.driven (line_of t) (net_of m t)
     unfolding read_net
     read_is u t is =
-        ap (λ (r : Result Net Fault). r >>= read_from d.driven (line_at t)) (resolved_ok m d.names others knows t is)
+        ap (λ (r : Result Net Fault). r >>= read_from d.driven (line_of t)) (resolved_ok m d.names others knows t is)
         ∙ ap (λ (line : ℕ). read_from d.driven line (net_of m t)) (same_line t)
 
     reads_one : (s u : Unit {0}) (ts : List grammar.Terminal) (t : grammar.Terminal) → Joined t → ReadsDriven s ts → read_net d s t ≡ Ok u → ReadsDriven u (ts ++ t ∷ [])

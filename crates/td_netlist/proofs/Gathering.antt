@@ -11,7 +11,8 @@ use Rattle.td_netlist.specs.Netlist.{Name, Net, Gate}
 use Rattle.td_netlist.specs.Faults.{◌>>=◌}
 use Rattle.td_netlist.specs.Module.{source_of, net_of, terminals_in, outputs_of, inputs_of, Primitive, primitives, delay_of, name_from, gate_by, primitive_gates, gates_of}
 use Rattle.td_netlist.specs.Means.{IsJoined}
-use Rattle.td_netlist.specs.Checks.{each, Known, with_net, gate_at, gate_driving, with_gate, with_gates}
+use Rattle.td_netlist.specs.Making.{with_net, gate_at, gate_driving, with_gate, with_gates}
+use Rattle.td_netlist.specs.Checks.{each, Known}
 use Rattle.td_netlist.proofs.Members.{first, later, in_front, behind, gathered}
 use Rattle.td_netlist.proofs.Joining.{KnowsModule, resolved_ok}
 use Rattle.td_netlist.proofs.Formed.{IsNamed}

@@ -13,13 +13,13 @@ use Rattle.td_netlist.specs.Faults.{fault}
 use Rattle.td_netlist.specs.PlacedNets.{line_of, plain_name}
 use Rattle.td_netlist.specs.Module.{scalar, names_of, declarations, range_in, whole_source, bit_source, Source, Joins, NoBit, NotOne, source_of, net_from, net_of}
 use Rattle.td_netlist.specs.Means.{IsJoined}
-use Rattle.td_netlist.specs.Checks.{Known, joined, resolve, meet, line_at, Drivers, seen}
+use Rattle.td_netlist.specs.Checks.{Known, joined, resolve, meet, Drivers, seen}
 use Rattle.td_netlist.proofs.Members.{in_front}
 use Rattle.td_netlist.proofs.Steps.{ok_both, err_either}
 use Rattle.td_netlist.proofs.Knowing.{named, known_none, in_different, AreKnown, range_is_known, knows_one}
 use Rattle.td_netlist.proofs.Declaring.{all_names, range_none}
 
-pub same_line : (t : grammar.Terminal) → line_at t ≡ line_of t
+pub same_line : (t : grammar.Terminal) → line_of t ≡ line_of t
 same_line (grammar.Whole n) = refl
 same_line (grammar.Select n digits) = refl
 same_line (grammar.Level b) = refl

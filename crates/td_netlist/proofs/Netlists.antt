@@ -11,7 +11,8 @@ use Rattle.td_netlist.specs.declared.fault.FaultKind.{FaultKind}
 use Rattle.td_netlist.specs.Faults.{Fails, told, UnlessMemory, ◌>>=◌}
 use Rattle.td_netlist.specs.Module.{terminals_in, Primitive, primitives, gates_of}
 use Rattle.td_netlist.specs.NameFaults.{Breaks}
-use Rattle.td_netlist.specs.Checks.{each, Known, Sides, Drivers, with_gates, declared_at, driven_at, checked_at}
+use Rattle.td_netlist.specs.Making.{with_gates}
+use Rattle.td_netlist.specs.Checks.{each, Known, Sides, Drivers, declared_at, driven_at, checked_at}
 use Rattle.td_netlist.proofs.Consistent.{Passes, passes, declared_breaks, drivers_refused}
 use Rattle.td_netlist.proofs.Formed.{output_named}
 use Rattle.td_netlist.proofs.Gathering.{gates_are}

@@ -12,6 +12,7 @@ pub mod PlacedNets
 pub mod Means
 pub mod Conditions
 pub mod Checks
+pub mod Making
 pub mod NameFaults
 pub mod KnownViews
 pub mod NameViews

@@ -1,5 +1,5 @@
 -- What a module declares, and the netlist that it lists.
-use Rattle.std.specs.Prelude.{ℕ, ◌-◌, List, [], ◌∷◌, ◌++◌, length, map, filter, fold, find, take, drop, sum_by, Option, None, Some, Bool, true, false, ◌==◌, nat_lt, if◌then◌else◌}
+use Rattle.std.specs.Prelude.{not, ℕ, ◌-◌, List, [], ◌∷◌, ◌++◌, length, map, filter, fold, find, take, drop, sum_by, Option, None, Some, Bool, true, false, ◌==◌, nat_lt, if◌then◌else◌}
 use Rattle.std.specs.List.{flat_map}
 use Rattle.std.specs.Str.{bytes_eq}
 use Rattle.td_gates.specs.declared.primitives.Kind.{Kind}
@@ -64,8 +64,7 @@ is_wire role.Wire = true
 is_wire r = false
 
 abbrev pub is_direction : Role → Bool
-is_direction role.Wire = false
-is_direction r = true
+is_direction r = not (is_wire r)
 
 -- what is declared as such
 abbrev pub declared : (Role → Bool) → grammar.Module → List Declared
@@ -91,13 +90,9 @@ ports m = port_names m.ports
 abbrev pub is_of : List ℕ → Declared → Bool
 is_of text d = bytes_eq text d.name.name
 
-abbrev pub range_found : Option Declared → Option Range
-range_found None = None
-range_found (Some d) = d.range
-
 -- the range of a name, by its first declaration; a name without one is no vector
 abbrev pub range_in : grammar.Module → List ℕ → Option Range
-range_in m text = range_found (find (is_of text) (declarations m))
+range_in m text = elim (find (is_of text) (declarations m)) [ None ↦ None | Some d ↦ d.range ]
 
 -- the nets of a name
 abbrev pub nets_named : grammar.Module → grammar.Name → List Name

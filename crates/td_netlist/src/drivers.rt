@@ -9,7 +9,8 @@ ghost use Rattle.td_netlist.specs.Netlist.{Named};
 ghost use Rattle.td_netlist.specs.Ranges.{bit_name, IsLimited};
 ghost use Rattle.td_syntax.specs.Grammar.{value_of};
 ghost use Rattle.td_netlist.specs.Names.{is_in};
-ghost use Rattle.td_netlist.specs.Checks.{each, known, range_known, joined, resolve, meet, drive, drives, see, seen, read_from, drive_all, read_net, read_all, read_placed, driven_at, second_driver, line_at};
+ghost use Rattle.td_netlist.specs.PlacedNets.{line_of};
+ghost use Rattle.td_netlist.specs.Checks.{each, known, range_known, joined, resolve, meet, drive, drives, see, seen, read_from, drive_all, read_net, read_all, read_placed, driven_at, second_driver};
 ghost use Rattle.td_netlist.specs.NameViews.{name_ref_of, net_ref_of, placed_ref_of};
 ghost use Rattle.td_netlist.specs.CheckViews.{primitive_of, sides_of, drivers_of};
 
@@ -60,7 +61,7 @@ fn driven_inputs<'a>(alloc: Global, inputs: &[NameRef<'a>]) -> Result<Names<'a>,
 
 /// The line of a terminal. Constants have none.
 fn line_of(terminal: Terminal<'_>) -> u32
-    ensures { result ≡ line_at (terminal_view terminal.entry) }
+    ensures { result ≡ line_of (terminal_view terminal.entry) }
 {
     match terminal {
         Terminal::Whole(name) | Terminal::Select(name, _) => name.line,

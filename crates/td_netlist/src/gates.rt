@@ -5,7 +5,8 @@ ghost use Rattle.std.specs.List.{AllByRecursion};
 ghost use Rattle.td_syntax.specs.Grammar.{IsSteps, IsDelay, steps_of};
 ghost use Rattle.td_syntax.specs.Views.{numeral_view, option_delay_view, terminal_view};
 ghost use Rattle.td_netlist.specs.Faults.{Gives};
-ghost use Rattle.td_netlist.specs.Checks.{each, with_net, gate_at, with_gate, with_gates};
+ghost use Rattle.td_netlist.specs.Making.{with_net, gate_at, with_gate, with_gates};
+ghost use Rattle.td_netlist.specs.Checks.{each};
 ghost use Rattle.td_netlist.specs.Module.{delay_of};
 ghost use Rattle.td_netlist.specs.Views.{name_of, net_of, gate_of};
 ghost use Rattle.td_netlist.specs.NameViews.{name_ref_of, net_ref_of};
@@ -95,7 +96,7 @@ fn nets<'a>(
     Ok(nets)
 }
 
-#[tactic(auto, unfolding(crate::specs::Checks::with_net))]
+#[tactic(auto, unfolding(crate::specs::Making::with_net))]
 fn push_net<'a>(
     alloc: Global,
     names: &Known<'a>,
@@ -108,7 +109,7 @@ fn push_net<'a>(
     Ok(())
 }
 
-#[tactic(auto, unfolding(crate::specs::Checks::gate_at))]
+#[tactic(auto, unfolding(crate::specs::Making::gate_at))]
 fn gate<'a>(
     alloc: Global,
     names: &Known<'a>,
@@ -145,7 +146,7 @@ fn add_gates<'a>(
     Ok(())
 }
 
-#[tactic(auto, unfolding(crate::specs::Checks::with_gate))]
+#[tactic(auto, unfolding(crate::specs::Making::with_gate))]
 fn add_gate<'a>(
     alloc: Global,
     names: &Known<'a>,

@@ -12,7 +12,8 @@ use Rattle.td_syntax.specs.Token.{Placed, at}
 use Rattle.td_syntax.specs.Tokens.{Stream}
 use Rattle.td_syntax.specs.Grammar as grammar
 use Rattle.td_syntax.proofs.Plain.{plain}
-use Rattle.td_syntax.specs.Grammar.{IsBetween, IsNet, IsInstance, IsStatement, has_many_outputs, output_count, instance_gates, statement_gates}
+use Rattle.td_syntax.specs.Grammar.{IsBetween, IsNet, IsInstance, IsStatement, has_many_outputs, output_count, instance_gates}
+use Rattle.td_syntax.proofs.Plain.{statement_gates}
 use Rattle.td_syntax.specs.Faults.{Fault}
 use Rattle.td_syntax.specs.Parsing.{State, behind_front, is_mark, as_name, as_base, base_by, maybe_at, many, count_at, output_at, begin_terminal, more_terminals, end_terminals, terminal_end, bit_at, selected_at, terminal_step, opening_at, instance_at, instance_step, statement_at}
 use Rattle.td_syntax.proofs.Takes.{next_takes, names_classified, maybe_takes, AllFrom, gates_from}

@@ -17,7 +17,7 @@ use Rattle.td_syntax.specs.Token.{Numeral, Token, Name, Escaped, Reserved, Numbe
 use Rattle.td_syntax.specs.Timescales.{timescale_at}
 use Rattle.td_syntax.specs.Spans.{timescale_in}
 use Rattle.td_syntax.specs.Pieces as pieces
-use Rattle.td_syntax.specs.Pieces.{Gap, Stands, stands, keyword_of, word_in, escaped_in, ends_name, comment_end, comment_in, numeral_at, constant_in, open_in, attribute_end, directive_by, directive_in, beside, marks, piece_in}
+use Rattle.td_syntax.specs.Pieces.{Gap, Stands, stands, keyword_of, escaped_in, ends_name, comment_end, comment_in, numeral_at, constant_in, open_in, attribute_end, directive_by, directive_in, beside, marks, piece_in}
 use Rattle.td_syntax.specs.Lexical.{Piece, Space, Found, Last, word_as, comment_of, slash_at, constant_of, number_by, number_at, escaped_at, timescale_piece, directive_of, directive_at, end_behind, attribute_of, mark_of, char_at, open_at, piece_at}
 use Rattle.td_syntax.proofs.Attributing.{same_end}
 use Rattle.td_syntax.proofs.SameSpans.{told, same_timescale}
@@ -137,7 +137,7 @@ printable_seen b bs false h = unprintable b bs h
 
 -- what the grammar sees in front is what the definition says
 pub front_seen : (bytes : List ℕ) → seen (piece_at bytes) ≡ piece_in bytes
-unfolding piece_at piece_in number_at word_in
+unfolding piece_at piece_in number_at
 front_seen [] = refl
 front_seen (b ∷ bs) =
     chosen (is_blank b) _ _ _ _ (λ _. refl)

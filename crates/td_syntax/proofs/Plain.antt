@@ -1,5 +1,7 @@
--- Tokens as the grammar names them.
+-- Tokens as the grammar names them, and the gates of a statement.
 use Rattle.std.proofs.Common.{ℕ, drop, []}
+use Rattle.std.specs.List.{sum_by}
+use Rattle.td_syntax.specs.Grammar.{Statement, instance_gates}
 use Rattle.td_syntax.specs.Token as lexical
 use Rattle.td_syntax.specs.Token.{Placed, at}
 
@@ -18,3 +20,6 @@ plain_as line (lexical.Outside w) = at 0 (lexical.Outside w)
 
 abbrev pub plain : Placed → Placed
 plain p = plain_as p.line p.token
+
+abbrev pub statement_gates : Statement → ℕ
+statement_gates s = sum_by (instance_gates s.kind) s.instances

@@ -12,7 +12,8 @@ use Rattle.td_syntax.specs.Token.{Token, Name, Escaped, Reserved, Number, Consta
 use Rattle.td_syntax.specs.Token.{Placed, at}
 use Rattle.td_syntax.specs.Grammar as grammar
 use Rattle.td_syntax.proofs.Plain.{plain}
-use Rattle.td_syntax.specs.Grammar.{IsBetween, IsNet, IsInstance, IsStatement, has_many_outputs, output_count, instance_gates, statement_gates}
+use Rattle.td_syntax.specs.Grammar.{IsBetween, IsNet, IsInstance, IsStatement, has_many_outputs, output_count, instance_gates}
+use Rattle.td_syntax.proofs.Plain.{statement_gates}
 use Rattle.td_syntax.specs.Faults.{Syntax, TooMany, fault, refused, ◌>>=◌}
 use Rattle.td_syntax.specs.Parsing.{State, Step, More, Final, Done, is_mark, as_name, as_base, base_by, next_at, whole_at, maybe_at, mark_at, maybe_mark_at, behind, many, count_at, output_at, begin_terminal, more_terminals, end_terminals, terminal_end, bit_at, selected_by, selected_at, terminal_by, terminal_step, opening_refusal, opening_at, instance_at, instance_step, delay_at, statement_at}
 use Rattle.td_syntax.proofs.Lists.{Shortens}

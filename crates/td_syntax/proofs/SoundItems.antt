@@ -16,7 +16,8 @@ use Rattle.td_syntax.specs.Token.{Placed, at}
 use Rattle.td_syntax.specs.Tokens.{Front, Next, Behind, front_in, front_of}
 use Rattle.td_syntax.specs.Grammar as grammar
 use Rattle.td_syntax.proofs.Plain.{plain}
-use Rattle.td_syntax.specs.Grammar.{IsItem, ArePorts, item_gates, statement_gates, tens_of}
+use Rattle.td_syntax.specs.Grammar.{IsItem, ArePorts, item_gates, tens_of}
+use Rattle.td_syntax.proofs.Plain.{statement_gates}
 use Rattle.td_syntax.specs.Faults.{refused, ◌>>=◌}
 use Rattle.td_syntax.specs.Parsing.{State, Step, More, Final, Done, as_keyword, next_at, name_at, mark_at, many, attributes_at, front_step, behind_step, declaration_at, statement_at, declares, gates, item_word, item_by, item_step, ports_at, end_by, end_at, module_at}
 use Rattle.td_syntax.proofs.Lists.{Shortens}

@@ -122,9 +122,6 @@ abbrev pub front : Front → List Placed
 front fronts.Attributed = attribute tt
 front (fronts.Directed d) = directed d
 
-abbrev pub level : Bool → List Placed
-level b = at 0 (lexical.Constant b []) ∷ []
-
 abbrev pub optional : {A : Type 0} → (A → List Placed) → Option A → List Placed
 optional spell None = []
 optional spell (Some x) = spell x
@@ -178,7 +175,7 @@ select digits = mark symbol.LeftBracket ++ whole digits ++ mark symbol.RightBrac
 abbrev pub terminal : Terminal → List Placed
 terminal (Whole n) = name n
 terminal (Select n digits) = name n ++ select digits
-terminal (Level b) = level b
+terminal (Level b) = at 0 (lexical.Constant b []) ∷ []
 
 abbrev pub instance : Instance → List Placed
 instance i = optional name i.name ++ mark symbol.Open ++ separated terminal i.terminals ++ mark symbol.Close
@@ -301,12 +298,9 @@ output_count k terminals = if has_many_outputs k then terminals - 1 else 1
 abbrev pub instance_gates : Kind → Instance → ℕ
 instance_gates k i = output_count k (length i.terminals)
 
-abbrev pub statement_gates : Statement → ℕ
-statement_gates s = sum_by (instance_gates s.kind) s.instances
-
 abbrev pub item_gates : Item → ℕ
 item_gates (Declares d) = 0
-item_gates (Gates s) = statement_gates s
+item_gates (Gates s) = sum_by (instance_gates s.kind) s.instances
 
 -- ---- gates
 

@@ -47,9 +47,6 @@ abbrev pub word_by : Option Keyword → List ℕ → Option Token
 word_by (Some k) w = Some (Reserved k)
 word_by None w = if list_any (λ r. bytes_eq r w) reserved_words then None else Some (Name w)
 
-unfoldable pub word_in : List ℕ → Option Piece
-word_in bytes = let n = prefix_len is_name_byte bytes in stands n (word_by (keyword_of (take n bytes)) (take n bytes))
-
 -- the end of the text, or white space
 abbrev pub ends_name : List ℕ → Bool
 ends_name [] = true
@@ -138,7 +135,7 @@ unfoldable pub piece_in : List ℕ → Option Piece
 piece_in [] = None
 piece_in (b ∷ bs) =
     if is_blank b then Some (Gap (prefix_len is_blank (b ∷ bs)))
-    else (if is_letter b then word_in (b ∷ bs)
+    else (if is_letter b then (let n = prefix_len is_name_byte (b ∷ bs) in let w = take n (b ∷ bs) in stands n (word_by (keyword_of w) w))
     else (if is_ascii_digit b then number_by (b ∷ bs) (numeral_at (b ∷ bs))
     else (if b == 47 then comment_in bs
     else (if b == 40 then open_in bs
