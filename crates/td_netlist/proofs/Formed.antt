@@ -15,7 +15,7 @@ use Rattle.td_gates.proofs.Places.{map-fuse}
 use Rattle.td_syntax.specs.declared.syntax.Role.{Role}
 use Rattle.td_syntax.specs.declared.syntax.Role.TheVariants as role
 use Rattle.td_syntax.specs.Grammar as grammar
-use Rattle.td_syntax.specs.Grammar.{IsItem, IsNet, IsInstance, IsBetween, IsDelay, output_count, item_gates, instance_gates, tens_of, value_of}
+use Rattle.td_syntax.specs.Grammar.{IsItem, IsNet, IsInstance, IsBetween, IsStatedDelay, output_count, item_gates, instance_gates, unit_exponent, decimal_value}
 use Rattle.td_netlist.specs.declared.ranges.Range.{Range}
 use Rattle.td_netlist.specs.Netlist.{Name, Net, Named, Gate}
 use Rattle.td_netlist.specs.WellFormed.{IsDistinct, IsWellFormed, IsGate, driven, gate_outputs}
@@ -42,7 +42,7 @@ one_item P x (y ∷ xs) all has = elim (one_of x y xs has) [
 ]
 
 pub record IsPrimitive (tens : ℕ) (p : Primitive) : Type 0 where
-  pub delay : IsDelay tens p.delay
+  pub delay : IsStatedDelay tens p.delay
   pub terminals : IsBetween 2 1024 (length p.terminals)
   pub outputs : AllByRecursion IsNet (outputs_of p)
 
@@ -104,7 +104,7 @@ takes_inputs gate.Nor n inputs within is = (omega (arith, within.0, within.1), o
 takes_inputs gate.Xor n inputs within is = (omega (arith, within.0, within.1), omega (arith, within.0, within.1))
 takes_inputs gate.Xnor n inputs within is = (omega (arith, within.0, within.1), omega (arith, within.0, within.1))
 
-delay_in_range : (tens : ℕ) (default : Delay) (stated : Option grammar.Delay) → IsInRange default → IsDelay tens stated → IsInRange (delay_of tens default stated)
+delay_in_range : (tens : ℕ) (default : Delay) (stated : Option grammar.Delay) → IsInRange default → IsStatedDelay tens stated → IsInRange (delay_of tens default stated)
 delay_in_range tens default None range keeps = range
 delay_in_range tens default (Some (grammar.Plain n)) range keeps = record { least_rise = keeps.within.0; greatest_rise = keeps.within.1; least_fall = keeps.within.0; greatest_fall = keeps.within.1 }
 delay_in_range tens default (Some (grammar.Single n)) range keeps = record { least_rise = keeps.within.0; greatest_rise = keeps.within.1; least_fall = keeps.within.0; greatest_fall = keeps.within.1 }
@@ -134,7 +134,7 @@ bit_named text bit (Some r) joined = by (holds r bit) joined
 
 is_named : (m : grammar.Module) (t : grammar.Terminal) → IsNet t → IsJoined (source_of m t) → IsNamed m t
 is_named m (grammar.Whole n) net joined = whole_named n.name (range_in m n.name) joined
-is_named m (grammar.Select n digits) net joined = bit_named n.name (value_of digits) (range_in m n.name) joined
+is_named m (grammar.Select n digits) net joined = bit_named n.name (decimal_value digits) (range_in m n.name) joined
 is_named m (grammar.Level b) net joined = absurd net
 
 all_named : (m : grammar.Module) (ts : List grammar.Terminal) → AllByRecursion IsNet ts → ((t : grammar.Terminal) → Contains ts t → IsJoined (source_of m t)) → AllByRecursion (IsNamed m) ts
@@ -222,18 +222,18 @@ record SideOf (is : Role → Bool) (m : grammar.Module) (name : Name) : Type 0 w
   is_bit : Contains (nets_of declares.name.name declares.range) name
 
 module _ (m : grammar.Module) (joined : AreJoined m) where
-  pub outputs_named : AllByRecursion (IsItem (tens_of m.fronts)) m.items → (p : Primitive) → Contains (primitives m) p → AllByRecursion (IsNamed m) (outputs_of p)
+  pub outputs_named : AllByRecursion (IsItem (unit_exponent m.fronts)) m.items → (p : Primitive) → Contains (primitives m) p → AllByRecursion (IsNamed m) (outputs_of p)
   outputs_named items p has =
-      let kept = in_module (tens_of m.fronts) m p items has in
+      let kept = in_module (unit_exponent m.fronts) m p items has in
       all_named m (outputs_of p) kept.outputs
       (λ t in_it. joined.each t
       (gathered (λ (q : Primitive). q.terminals) p t (primitives m) has
       (subst (λ (ts : List grammar.Terminal). Contains ts t) (take-append-drop (output_count p.kind (length p.terminals)) p.terminals) (in_front t (outputs_of p) (inputs_of p) in_it))))
 
-  pub output_named : AllByRecursion (IsItem (tens_of m.fronts)) m.items → (p : Primitive) → Contains (primitives m) p → (t : grammar.Terminal) → Contains (outputs_of p) t → IsNamed m t
+  pub output_named : AllByRecursion (IsItem (unit_exponent m.fronts)) m.items → (p : Primitive) → Contains (primitives m) p → (t : grammar.Terminal) → Contains (outputs_of p) t → IsNamed m t
   output_named items p has t in_it = one_item (IsNamed m) t (outputs_of p) (outputs_named items p has) in_it
 
-  pub gate_names : (default : Delay) → AllByRecursion (IsItem (tens_of m.fronts)) m.items → gate_outputs (netlist_in default m) ≡ nets_at (outputs_in m)
+  pub gate_names : (default : Delay) → AllByRecursion (IsItem (unit_exponent m.fronts)) m.items → gate_outputs (netlist_in default m) ≡ nets_at (outputs_in m)
   gate_names default items = outputs_are m default (primitives m) (outputs_named items)
 
 module _ (m : grammar.Module) (keeps : IsConsistent m) where
@@ -296,7 +296,7 @@ module _ (m : grammar.Module) (keeps : IsConsistent m) where
         | inr gate ↦ gate
       ]
 
-  module _ (default : Delay) (range : IsInRange default) (items : AllByRecursion (IsItem (tens_of m.fronts)) m.items) (gates : sum_by item_gates m.items ≤ 200000) where
+  module _ (default : Delay) (range : IsInRange default) (items : AllByRecursion (IsItem (unit_exponent m.fronts)) m.items) (gates : sum_by item_gates m.items ≤ 200000) where
     named : gate_outputs (netlist_in default m) ≡ nets_at (outputs_in m)
     named = gate_names m keeps.joined default items
 
@@ -307,14 +307,14 @@ module _ (m : grammar.Module) (keeps : IsConsistent m) where
     gate_kept g has =
         let one = of_gathered (primitive_gates m default) g (primitives m) has in
         let made = of_mapped (gate_by m default one.0) g (outputs_of one.0) one.2 in
-        let p = in_module (tens_of m.fronts) m one.0 items one.1 in
+        let p = in_module (unit_exponent m.fronts) m one.0 items one.1 in
         let long : length (gate_by m default one.0 made.0).inputs ≡ length one.0.terminals - output_count one.0.kind (length one.0.terminals) =
         length-map (inputs_of one.0) (net_of m) ∙ length-drop (output_count one.0.kind (length one.0.terminals)) one.0.terminals in
         let takes = takes_inputs one.0.kind (length one.0.terminals) (length (gate_by m default one.0 made.0).inputs) p.terminals long in
         subst (λ (x : Gate). IsGate (netlist_in default m) x) made.2 (record {
           takes = takes.0;
           few = takes.1;
-          delay = delay_in_range (tens_of m.fronts) default one.0.delay range p.delay;
+          delay = delay_in_range (unit_exponent m.fronts) default one.0.delay range p.delay;
           reads = λ name read.
               (let at = of_mapped (net_of m) (Named name) (inputs_of one.0) read in
               let bit : Placed = record { net = name; line = line_of at.0 } in

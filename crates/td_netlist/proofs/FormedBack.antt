@@ -9,7 +9,7 @@ use Rattle.td_gates.specs.declared.timing.Delay.{Delay}
 use Rattle.td_syntax.specs.declared.syntax.Role.{Role}
 use Rattle.td_syntax.specs.declared.syntax.Role.TheVariants as role
 use Rattle.td_syntax.specs.Grammar as grammar
-use Rattle.td_syntax.specs.Grammar.{IsItem, IsBetween, output_count, tens_of}
+use Rattle.td_syntax.specs.Grammar.{IsItem, IsBetween, output_count, unit_exponent}
 use Rattle.td_netlist.specs.Netlist.{Name, Net, Low, High, Named, Gate}
 use Rattle.td_netlist.specs.WellFormed.{IsDistinct, IsWellFormed, gate_outputs, driven}
 use Rattle.td_netlist.specs.Ranges.{nets_of}
@@ -111,7 +111,7 @@ module _ (m : grammar.Module) (keeps : AreDeclared m) (is : Role → Bool) (dire
 
 -- ---- the whole
 
-module _ (m : grammar.Module) (keeps : AreDeclared m) (joined : AreJoined m) (items : AllByRecursion (IsItem (tens_of m.fronts)) m.items) (default : Delay) (formed : IsWellFormed (netlist_in default m)) where
+module _ (m : grammar.Module) (keeps : AreDeclared m) (joined : AreJoined m) (items : AllByRecursion (IsItem (unit_exponent m.fronts)) m.items) (default : Delay) (formed : IsWellFormed (netlist_in default m)) where
   outputs_are : gate_outputs (netlist_in default m) ≡ nets_at (outputs_in m)
   outputs_are = gate_names m joined default items
 
@@ -126,7 +126,7 @@ module _ (m : grammar.Module) (keeps : AreDeclared m) (joined : AreJoined m) (it
       let placed = of_mapped (λ (p : Placed). p.net) name (inputs_in m) has in
       let at = of_gathered (λ (t : grammar.Terminal). placed_net (line_of t) (net_of m t)) placed.0 (flat_map inputs_of (primitives m)) placed.1 in
       let p = of_gathered inputs_of at.0 (primitives m) at.1 in
-      let kept = in_module (tens_of m.fronts) m p.0 items p.1 in
+      let kept = in_module (unit_exponent m.fronts) m p.0 items p.1 in
       let count = output_count p.0.kind (length p.0.terminals) in
       let least = counts p.0.kind (length p.0.terminals) kept.terminals in
       let out = some_first (outputs_of p.0) (omega (arith, length-take count p.0.terminals, least, kept.terminals.0)) in

@@ -5,7 +5,7 @@ use Rattle.std.proofs.lemmas.List.{append-nil, map-append}
 use Rattle.std.proofs.lemmas.Grind.{flat_map-append}
 use Rattle.std.proofs.lemmas.List.Concat.{flat_map-cons}
 use Rattle.td_syntax.specs.Grammar as grammar
-use Rattle.td_syntax.specs.Grammar.{value_of}
+use Rattle.td_syntax.specs.Grammar.{decimal_value}
 use Rattle.td_netlist.specs.declared.fault.FaultKind.TheVariants as kind
 use Rattle.td_netlist.specs.declared.fault.Fault.{Fault}
 use Rattle.td_netlist.specs.Netlist.{Name, Net}
@@ -38,7 +38,7 @@ unfolding resolve
 resolved m ks others keeps (grammar.Whole n) =
     ap (λ (range : _). joined n.line (whole_source n.name range)) (range_is_known ks (all_names (declarations m) ++ others) (range_in m) keeps (undeclared_scalar m others) n.name)
 resolved m ks others keeps (grammar.Select n digits) =
-    ap (λ (range : _). joined n.line (bit_source n.name (value_of digits) range)) (range_is_known ks (all_names (declarations m) ++ others) (range_in m) keeps (undeclared_scalar m others) n.name)
+    ap (λ (range : _). joined n.line (bit_source n.name (decimal_value digits) range)) (range_is_known ks (all_names (declarations m) ++ others) (range_in m) keeps (undeclared_scalar m others) n.name)
 resolved m ks others keeps (grammar.Level false) = refl
 resolved m ks others keeps (grammar.Level true) = refl
 

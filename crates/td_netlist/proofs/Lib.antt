@@ -8,7 +8,7 @@ pub mod Seeing
 pub mod Sets
 pub mod Found
 pub mod Terminals
-pub mod Keeps
+pub mod StatedDelays
 pub mod Counts
 pub mod Steps
 pub mod Finding

@@ -23,7 +23,7 @@ use Rattle.td_netlist.specs.declared.netlist.Unit.{Unit as Step}
 use Rattle.td_netlist.specs.PlacedNets.{nets_at}
 use Rattle.td_netlist.specs.Module.{is_input, is_output, ports_as, gates_of, primitives, defaulted_of, unit_of, netlist_in}
 use Rattle.td_netlist.specs.Conditions.{IsConsistent}
-use Rattle.td_netlist.specs.NameFaults.{Breaks, IsFaultIn}
+use Rattle.td_netlist.specs.NameFaults.{IsNameFault, IsFaultIn}
 use Rattle.td_netlist.specs.Means.{Means}
 use Rattle.td_netlist.specs.Checks.{Sides, checked_at}
 use Rattle.td_netlist.specs.WellFormed.{IsWellFormed}
@@ -43,23 +43,23 @@ one_netlist text default n k p q = p.lists ∙ ap (λ (m : grammar.Module). netl
 
 -- ---- what a fault of the checks says
 
-breaks_by : (m : grammar.Module) (k : FaultKind) (line : ℕ) → MatchOption (told k) (Unit {0}) (λ j. Breaks j line m) → UnlessMemory k (Breaks k line m)
+breaks_by : (m : grammar.Module) (k : FaultKind) (line : ℕ) → MatchOption (told k) (Unit {0}) (λ j. IsNameFault j line m) → UnlessMemory k (IsNameFault k line m)
 breaks_by m kind.OutOfMemory line at = tt
 breaks_by m k line at = at
 
-refused_by : {Y : Type 0} (m : grammar.Module) (checked : Result Y Fault) → ((f : Fault) → checked ≡ Err f → Breaks f.kind f.line m)
-    → (o : Option FaultKind) (line : ℕ) → MatchOption o (Unit {0}) (λ k. checked ≡ Err (record { kind = k; line = line })) → MatchOption o (Unit {0}) (λ k. Breaks k line m)
+refused_by : {Y : Type 0} (m : grammar.Module) (checked : Result Y Fault) → ((f : Fault) → checked ≡ Err f → IsNameFault f.kind f.line m)
+    → (o : Option FaultKind) (line : ℕ) → MatchOption o (Unit {0}) (λ k. checked ≡ Err (record { kind = k; line = line })) → MatchOption o (Unit {0}) (λ k. IsNameFault k line m)
 refused_by m checked breaks None line e = tt
 refused_by m checked breaks (Some k) line e = breaks (record { kind = k; line = line }) e
 
-pub fault_breaks : {Y : Type 0} (m : grammar.Module) (checked : Result Y Fault) → ((f : Fault) → checked ≡ Err f → Breaks f.kind f.line m) → (f : Fault) → Fails f checked → UnlessMemory f.kind (Breaks f.kind f.line m)
+pub fault_breaks : {Y : Type 0} (m : grammar.Module) (checked : Result Y Fault) → ((f : Fault) → checked ≡ Err f → IsNameFault f.kind f.line m) → (f : Fault) → Fails f checked → UnlessMemory f.kind (IsNameFault f.kind f.line m)
 fault_breaks m checked breaks f e = breaks_by m f.kind f.line (refused_by m checked breaks (told f.kind) f.line e)
 
 ok_no_err : {Y : Type 0} (checked : Result Y Fault) (y : Y) (f : Fault) → checked ≡ Ok y → checked ≡ Err f → ⊥
 ok_no_err checked y f is e = cc
 
 -- where the check passes, the function fails for want of memory alone
-pub memory_breaks : {Y : Type 0} (m : grammar.Module) (checked : Result Y Fault) (y : Y) → checked ≡ Ok y → (f : Fault) → Fails f checked → UnlessMemory f.kind (Breaks f.kind f.line m)
+pub memory_breaks : {Y : Type 0} (m : grammar.Module) (checked : Result Y Fault) (y : Y) → checked ≡ Ok y → (f : Fault) → Fails f checked → UnlessMemory f.kind (IsNameFault f.kind f.line m)
 memory_breaks m checked y is f e = fault_breaks m checked (λ g other. absurd (ok_no_err checked y g is other)) f e
 
 -- ---- what the text means
@@ -77,7 +77,7 @@ first_by text syntax.DelayTooFine line e = inl (record { first = syntax_faults.f
 first_by text syntax.DelayTooLarge line e = inl (record { first = syntax_faults.fault syntax_faults.DelayTooLarge line; stands = e; of_kind = refl; there = refl })
 first_by text syntax.TooMany line e = inl (record { first = syntax_faults.fault syntax_faults.TooMany line; stands = e; of_kind = refl; there = refl })
 
-broken_by : (text : List ℕ) (m : grammar.Module) (k : FaultKind) (line : ℕ) → Parses text m → UnlessMemory k (Breaks k line m)
+broken_by : (text : List ℕ) (m : grammar.Module) (k : FaultKind) (line : ℕ) → Parses text m → UnlessMemory k (IsNameFault k line m)
     → MatchOption (told k) (Unit {0}) (λ j. checked_at m ≡ Err (record { kind = j; line = line })) → IsFaultIn text k line
 broken_by text m kind.OutOfMemory line p at e = tt
 broken_by text m kind.BadByte line p at e = inr (record { tree = m; parses = p; breaks = at; first = e })
@@ -97,7 +97,7 @@ broken_by text m kind.TooMany line p at e = inr (record { tree = m; parses = p; 
 broken_by text m kind.PortUndeclared line p at e = inr (record { tree = m; parses = p; breaks = at; first = e })
 
 -- a fault of the names of the text's tree is one of the text
-pub broken_in : {Y : Type 0} (text : List ℕ) (m : grammar.Module) (r : Result Y Fault) → Parses text m → IfErr r (λ e. UnlessMemory e.kind (Breaks e.kind e.line m))
+pub broken_in : {Y : Type 0} (text : List ℕ) (m : grammar.Module) (r : Result Y Fault) → Parses text m → IfErr r (λ e. UnlessMemory e.kind (IsNameFault e.kind e.line m))
     → IfErr r (λ e. Fails e (checked_at m)) → IfErr r (λ e. IsFaultIn text e.kind e.line)
 broken_in text m (Ok y) p at first = tt
 broken_in text m (Err e) p at first = broken_by text m e.kind e.line p at first
@@ -113,12 +113,12 @@ module _ (text : List ℕ) (m : grammar.Module) (default : Delay) (p : Parses te
   only_by : (netlist n : Netlist) → netlist ≡ netlist_in default m → Means text default n → netlist ≡ n
   only_by netlist n is means = is ∙ ap (λ (t : grammar.Module). netlist_in default t) (one_tree text m means.tree p means.parses) ∙ sym means.lists
 
-  only_memory : (k : FaultKind) (line : ℕ) (n : Netlist) → UnlessMemory k (Breaks k line m) → Means text default n → k ≡ kind.OutOfMemory
+  only_memory : (k : FaultKind) (line : ℕ) (n : Netlist) → UnlessMemory k (IsNameFault k line m) → Means text default n → k ≡ kind.OutOfMemory
   only_memory k line n at means =
       let keeps = consistent means.tree means.declared means.joined means.parses.kept.items default (subst IsWellFormed means.lists means.formed) means.few_nets in
       memory_alone m line (subst IsConsistent (one_tree text means.tree m means.parses p) keeps) k at
 
-  pub only_as : (r : Result Netlist Fault) → IfOk r (λ netlist. netlist ≡ netlist_in default m) → IfErr r (λ e. UnlessMemory e.kind (Breaks e.kind e.line m))
+  pub only_as : (r : Result Netlist Fault) → IfOk r (λ netlist. netlist ≡ netlist_in default m) → IfErr r (λ e. UnlessMemory e.kind (IsNameFault e.kind e.line m))
       → (n : Netlist) → Means text default n → IsUnlessMemory r n
   only_as (Ok netlist) is breaks n means = only_by netlist n is means
   only_as (Err e) is breaks n means = only_memory e.kind e.line n breaks means

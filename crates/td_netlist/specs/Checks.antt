@@ -6,7 +6,7 @@ use Rattle.std.specs.Str.{bytes_eq}
 use Rattle.td_syntax.specs.declared.syntax.Role.{Role}
 use Rattle.td_syntax.specs.declared.syntax.Role.TheVariants as role
 use Rattle.td_syntax.specs.Grammar as grammar
-use Rattle.td_syntax.specs.Grammar.{value_of, IsMaybeRange}
+use Rattle.td_syntax.specs.Grammar.{decimal_value, IsMaybeRange}
 use Rattle.td_netlist.specs.declared.fault.FaultKind.{FaultKind}
 use Rattle.td_netlist.specs.declared.fault.FaultKind.TheVariants.{Redeclared, PortUndeclared, UnknownBit, WidthNotOne, DrivenInput, TwoDrivers, Undriven, TooMany}
 use Rattle.td_netlist.specs.declared.fault.Fault.{Fault}
@@ -186,7 +186,7 @@ joined line NotOne = Err (fault WidthNotOne line)
 -- the net of a terminal, by what is known of its name
 unfoldable pub resolve : List Known → grammar.Terminal → Result Net Fault
 resolve ks (grammar.Whole n) = joined n.line (whole_source n.name (range_known (known ks n.name)))
-resolve ks (grammar.Select n digits) = joined n.line (bit_source n.name (value_of digits) (range_known (known ks n.name)))
+resolve ks (grammar.Select n digits) = joined n.line (bit_source n.name (decimal_value digits) (range_known (known ks n.name)))
 resolve ks (grammar.Level false) = Ok Low
 resolve ks (grammar.Level true) = Ok High
 

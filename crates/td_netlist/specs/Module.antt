@@ -10,7 +10,7 @@ use Rattle.td_syntax.specs.declared.syntax.Front.TheVariants as fronts
 use Rattle.td_syntax.specs.declared.syntax.Role.{Role}
 use Rattle.td_syntax.specs.declared.syntax.Role.TheVariants as role
 use Rattle.td_syntax.specs.Grammar as grammar
-use Rattle.td_syntax.specs.Grammar.{value_of, output_count, tens_of, steps_of}
+use Rattle.td_syntax.specs.Grammar.{decimal_value, output_count, unit_exponent, steps_of}
 use Rattle.td_netlist.specs.declared.netlist.Unit.{Unit as Step}
 use Rattle.td_netlist.specs.declared.netlist.Scale.{Scale}
 use Rattle.td_netlist.specs.declared.netlist.Scale.TheVariants as scale
@@ -122,7 +122,7 @@ bit_source text bit (Some r) = if holds r bit then Joins (Named (bit_name text b
 
 abbrev pub source_of : grammar.Module → grammar.Terminal → Source
 source_of m (grammar.Whole n) = whole_source n.name (range_in m n.name)
-source_of m (grammar.Select n digits) = bit_source n.name (value_of digits) (range_in m n.name)
+source_of m (grammar.Select n digits) = bit_source n.name (decimal_value digits) (range_in m n.name)
 source_of m (grammar.Level false) = Joins Low
 source_of m (grammar.Level true) = Joins High
 
@@ -180,7 +180,7 @@ name_from constant = record { text = []; bit = None }
 abbrev pub gate_by : grammar.Module → Delay → Primitive → grammar.Terminal → Gate
 gate_by m default p output = record {
   kind = p.kind;
-  delay = delay_of (tens_of m.fronts) default p.delay;
+  delay = delay_of (unit_exponent m.fronts) default p.delay;
   output = name_from (net_of m output);
   inputs = map (net_of m) (inputs_of p);
 }

@@ -82,26 +82,26 @@ abbrev pub IsTooLarge : grammar.Module → Type 0
 IsTooLarge m = (4096 < input_count m) ⊎ (1000000 < net_count m)
 
 -- What a fault says of the names of a module. The other kinds say nothing of names.
-abbrev pub Breaks : FaultKind → ℕ → grammar.Module → Type 0
-Breaks kind.Redeclared line m = IsRedeclaredOn line m
-Breaks kind.PortUndeclared line m = IsUndeclaredOn line m
-Breaks kind.DrivenInput line m = TakenOn line (outputs_in m) (ports_as is_input m)
-Breaks kind.TwoDrivers line m = AgainOn line (outputs_in m)
-Breaks kind.Undriven line m = IsUndrivenOn line m
-Breaks kind.TooMany line m = IsTooLarge m
-Breaks kind.UnknownBit line m = UnjoinedOn line m NoBit
-Breaks kind.WidthNotOne line m = UnjoinedOn line m NotOne
-Breaks k line m = ⊥
+abbrev pub IsNameFault : FaultKind → ℕ → grammar.Module → Type 0
+IsNameFault kind.Redeclared line m = IsRedeclaredOn line m
+IsNameFault kind.PortUndeclared line m = IsUndeclaredOn line m
+IsNameFault kind.DrivenInput line m = TakenOn line (outputs_in m) (ports_as is_input m)
+IsNameFault kind.TwoDrivers line m = AgainOn line (outputs_in m)
+IsNameFault kind.Undriven line m = IsUndrivenOn line m
+IsNameFault kind.TooMany line m = IsTooLarge m
+IsNameFault kind.UnknownBit line m = UnjoinedOn line m NoBit
+IsNameFault kind.WidthNotOne line m = UnjoinedOn line m NotOne
+IsNameFault k line m = ⊥
 
 -- The grammar derives the text, and a name or terminal on that line breaks the condition, as the first one in the order of the
 -- checks.
-pub record BreaksIn (text : List ℕ) (k : FaultKind) (line : ℕ) : Type 0 where
+pub record IsNameFaultIn (text : List ℕ) (k : FaultKind) (line : ℕ) : Type 0 where
   pub tree : grammar.Module
   pub parses : Parses text tree
-  pub breaks : Breaks k line tree
+  pub breaks : IsNameFault k line tree
   pub first : checked_at tree ≡ Err (fault k line)
 
 -- What a fault says of a text: it is the text's first fault of tokens and grammar, or the text has none of these and it is the
 -- first of names. Nothing is said of want of memory.
 abbrev pub IsFaultIn : List ℕ → FaultKind → ℕ → Type 0
-IsFaultIn text k line = UnlessMemory k (IsFirstIn text k line ⊎ BreaksIn text k line)
+IsFaultIn text k line = UnlessMemory k (IsFirstIn text k line ⊎ IsNameFaultIn text k line)

@@ -1,6 +1,6 @@
 -- The parts of a `timescale, as texts and byte by byte.
 use Rattle.std.proofs.Common.{◌≡◌, ℕ, suc, ◌+◌, Bool, true, false, cond, List, [], ◌∷◌, Option, Some, None, Result, Ok, Err, drop, refl, sym, ap, subst, ◌∙◌, arith}
-use Rattle.std.specs.Prelude.{◌==◌, nat_le, min}
+use Rattle.std.specs.Prelude.{◌==◌, nat_le, min, codes}
 use Rattle.std.specs.List.{prefix_len}
 use Rattle.std.specs.Option.{option_and_then, option_map}
 use Rattle.std.proofs.lemmas.Bool.{eqb-true}
@@ -9,8 +9,8 @@ use Rattle.td_syntax.specs.declared.token.Directive.TheVariants as directive
 use Rattle.td_syntax.specs.declared.token.Unread.{Unread}
 use Rattle.td_syntax.specs.declared.token.Unread.TheVariants.{Wrong}
 use Rattle.td_syntax.specs.Bytes.{is_zero}
-use Rattle.td_syntax.specs.Spans.{part_in, unblanked, magnitudes, units, slashes, span_in, pair_in, timescale_in}
-use Rattle.td_syntax.specs.Timescales.{◌>>=◌, magnitude_at, tens_of, second_letter, letters_by, unit_at, span_at, slash_at, ordered, timescale_at}
+use Rattle.td_syntax.specs.Spans.{part_in, unblanked, magnitudes, units, span_in, pair_in, timescale_in}
+use Rattle.td_syntax.specs.Timescales.{◌>>=◌, magnitude_at, letter_exponent, second_letter, letters_by, unit_at, span_at, slash_at, ordered, timescale_at}
 
 abbrev pub told : {A : Type 0} → Result A Unread → Option A
 told (Ok x) = Some x
@@ -119,6 +119,9 @@ same_unit [] = refl
 same_unit (b ∷ bs) = unit_begins b bs
 
 -- ---- the whole
+
+abbrev slashes : List (List ℕ × ℕ)
+slashes = (codes "/", 0) ∷ []
 
 same_slash : (bytes : List ℕ) → part_in slashes bytes ≡ rest_told (slash_at bytes)
 unfolding part_in slash_at

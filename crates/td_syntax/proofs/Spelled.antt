@@ -4,7 +4,7 @@ use Rattle.std.specs.Prelude.{◌&&◌}
 use Rattle.std.specs.List.{list_all}
 use Rattle.td_syntax.specs.declared.token.Stop.TheVariants.{End}
 use Rattle.td_syntax.specs.Bytes.{newlines}
-use Rattle.td_syntax.specs.Token.{Token, Name, Escaped, Reserved, Number, Constant, Mark, Attribute, Directs, Outside, Placed, at}
+use Rattle.td_syntax.specs.Token.{Token, Name, Escaped, Reserved, Number, Constant, Mark, Attribute, Directs, Outside, Placed, placed_on}
 use Rattle.td_syntax.specs.Pieces as pieces
 use Rattle.td_syntax.specs.Pieces.{Gap, Stands, piece_in}
 use Rattle.td_syntax.specs.Lexical.{Piece, Space, Found, Last, Takes, piece_at}
@@ -36,9 +36,9 @@ is_gap (Found (Outside w) k) n e = absurd cc
 record IsFound (p : Piece) (t : Token) (n : ℕ) : Type 0 where
   found : Token
   is : p ≡ Found found n
-  same : (line : ℕ) → plain (at line found) ≡ token_on line t
+  same : (line : ℕ) → plain (placed_on line found) ≡ token_on line t
 
-found_as : (u : Token) (k : ℕ) (s t : Token) (n : ℕ) → Some (Stands s k) ≡ Some (Stands t n) → ((line : ℕ) → plain (at line u) ≡ token_on line s) → IsFound (Found u k) t n
+found_as : (u : Token) (k : ℕ) (s t : Token) (n : ℕ) → Some (Stands s k) ≡ Some (Stands t n) → ((line : ℕ) → plain (placed_on line u) ≡ token_on line s) → IsFound (Found u k) t n
 found_as u k s t n e same =
     let here : s ≡ t = cc in
     let size : k ≡ n = cc in
@@ -86,9 +86,9 @@ are_tokens {line} {bytes} (token {n = n} {t = t} {tokens = ts} e rest) =
 record IsSeen (u : Token) (n line : ℕ) : Type 0 where
   as_token : Token
   is : seen_as u n ≡ Some (Stands as_token n)
-  same : token_on line as_token ≡ plain (at line u)
+  same : token_on line as_token ≡ plain (placed_on line u)
 
-is_seen : (u : Token) (n line : ℕ) → is_inside (plain (at line u)).token ≡ true → IsSeen u n line
+is_seen : (u : Token) (n line : ℕ) → is_inside (plain (placed_on line u)).token ≡ true → IsSeen u n line
 is_seen (Name w) n line h = record { as_token = Name w; is = refl; same = refl }
 is_seen (Escaped w) n line h = record { as_token = Name (drop 1 w); is = refl; same = refl }
 is_seen (Reserved k) n line h = record { as_token = Reserved k; is = refl; same = refl }
@@ -112,7 +112,7 @@ spelled_by : (line : ℕ) (bytes : List ℕ) (p : Piece) → piece_at bytes ≡ 
     → Spelled line bytes (tokens_by line bytes p)
 spelled_by line bytes (Space n) e fits rest stop inside = gap (sym (front_seen bytes) ∙ ap seen e) (rest _ n fits.0 fits.1 stop inside)
 spelled_by line bytes (Found u n) e fits rest stop inside =
-    let h = parts (is_inside (plain (at line u)).token) _ inside.all in
+    let h = parts (is_inside (plain (placed_on line u)).token) _ inside.all in
     let s = is_seen u n line h.0 in
     let after = line + newlines (take n bytes) in
     let more : List Placed = map plain (tokens_of after (drop n bytes)).tokens in

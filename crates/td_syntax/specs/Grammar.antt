@@ -15,7 +15,7 @@ use Rattle.td_syntax.specs.declared.syntax.Front.{Front}
 use Rattle.td_syntax.specs.declared.syntax.Front.TheVariants as fronts
 use Rattle.td_syntax.specs.Bytes.{is_zero}
 use Rattle.td_syntax.specs.Token as lexical
-use Rattle.td_syntax.specs.Token.{Numeral, Placed, at}
+use Rattle.td_syntax.specs.Token.{Numeral, Placed, placed_on}
 
 -- ---- the tree
 
@@ -91,13 +91,13 @@ pub record Module : Type 0 where
 -- ---- its tokens, with the lines of names alone
 
 abbrev pub name : Name → List Placed
-name n = at n.line (lexical.Name n.name) ∷ []
+name n = placed_on n.line (lexical.Name n.name) ∷ []
 
 abbrev pub mark : Symbol → List Placed
-mark m = at 0 (lexical.Mark m) ∷ []
+mark m = placed_on 0 (lexical.Mark m) ∷ []
 
 abbrev pub number : Numeral → List Placed
-number n = at 0 (lexical.Number n) ∷ []
+number n = placed_on 0 (lexical.Number n) ∷ []
 
 abbrev pub whole_number : List ℕ → Numeral
 whole_number digits = record { whole = digits; fraction = None }
@@ -107,16 +107,16 @@ abbrev pub whole : List ℕ → List Placed
 whole digits = number (whole_number digits)
 
 abbrev pub word : Keyword → List Placed
-word k = at 0 (lexical.Reserved k) ∷ []
+word k = placed_on 0 (lexical.Reserved k) ∷ []
 
 abbrev pub attribute : Unit {0} → List Placed
-attribute u = at 0 lexical.Attribute ∷ []
+attribute u = placed_on 0 lexical.Attribute ∷ []
 
 abbrev pub attributes : ℕ → List Placed
 attributes n = flat_map attribute (replicate n tt)
 
 abbrev pub directed : Directive → List Placed
-directed d = at 0 (lexical.Directs (Ok d) []) ∷ []
+directed d = placed_on 0 (lexical.Directs (Ok d) []) ∷ []
 
 abbrev pub front : Front → List Placed
 front fronts.Attributed = attribute tt
@@ -138,8 +138,7 @@ role_word role.Output = word keyword.Output
 role_word role.Wire = word keyword.Wire
 
 abbrev pub wire_word : Bool → List Placed
-wire_word true = word keyword.Wire
-wire_word false = []
+wire_word wire = if wire then word keyword.Wire else []
 
 abbrev pub range : Range → List Placed
 range r = mark symbol.LeftBracket ++ whole r.left ++ mark symbol.Colon ++ whole r.right ++ mark symbol.RightBracket
@@ -175,7 +174,7 @@ select digits = mark symbol.LeftBracket ++ whole digits ++ mark symbol.RightBrac
 abbrev pub terminal : Terminal → List Placed
 terminal (Whole n) = name n
 terminal (Select n digits) = name n ++ select digits
-terminal (Level b) = at 0 (lexical.Constant b []) ∷ []
+terminal (Level b) = placed_on 0 (lexical.Constant b []) ∷ []
 
 abbrev pub instance : Instance → List Placed
 instance i = optional name i.name ++ mark symbol.Open ++ separated terminal i.terminals ++ mark symbol.Close
@@ -202,8 +201,8 @@ abbrev pub with_digit : ℕ → ℕ → ℕ
 with_digit n d = if d == 95 then n else 10 * n + (d - 48)
 
 -- the number that digits write, with _ between them
-abbrev pub value_of : List ℕ → ℕ
-value_of digits = fold with_digit 0 digits
+abbrev pub decimal_value : List ℕ → ℕ
+decimal_value digits = fold with_digit 0 digits
 
 abbrev pub is_digit : ℕ → Bool
 is_digit d = not (d == 95)
@@ -223,7 +222,7 @@ steps_behind n (suc tens) (d ∷ ds) = steps_behind (with_digit n d) tens ds
 
 -- A number of units, where a unit has 10 to the power of tens steps: its point moves so many places to the right.
 abbrev pub steps_of : ℕ → Numeral → ℕ
-steps_of tens n = steps_behind (value_of n.whole) tens (fraction_digits n.fraction)
+steps_of tens n = steps_behind (decimal_value n.whole) tens (fraction_digits n.fraction)
 
 -- whether nothing but zeros stands behind the point then
 abbrev pub is_whole : ℕ → Numeral → Bool
@@ -234,25 +233,25 @@ pub record IsSteps (tens : ℕ) (n : Numeral) : Type 0 where
   pub whole : is_whole tens n ≡ true
   pub within : IsBetween 1 1000000000 (steps_of tens n)
 
-abbrev pub IsDelay : ℕ → Option Delay → Type 0
-IsDelay tens None = Unit {0}
-IsDelay tens (Some (Plain n)) = IsSteps tens n
-IsDelay tens (Some (Single n)) = IsSteps tens n
-IsDelay tens (Some (Pair n m)) = IsSteps tens n × IsSteps tens m
+abbrev pub IsStatedDelay : ℕ → Option Delay → Type 0
+IsStatedDelay tens None = Unit {0}
+IsStatedDelay tens (Some (Plain n)) = IsSteps tens n
+IsStatedDelay tens (Some (Single n)) = IsSteps tens n
+IsStatedDelay tens (Some (Pair n m)) = IsSteps tens n × IsSteps tens m
 
 -- How many tens of a step a unit is, by the last directive: without one, a unit is a step.
-abbrev pub tens_behind : ℕ → Front → ℕ
-tens_behind tens (fronts.Directed (directive.Timescale t)) = t.unit - t.step
-tens_behind tens front = tens
+abbrev pub exponent_behind : ℕ → Front → ℕ
+exponent_behind tens (fronts.Directed (directive.Timescale t)) = t.unit - t.step
+exponent_behind tens front = tens
 
-abbrev pub tens_of : List Front → ℕ
-tens_of fs = fold tens_behind 0 fs
+abbrev pub unit_exponent : List Front → ℕ
+unit_exponent fs = fold exponent_behind 0 fs
 
 -- ---- what a tree keeps
 
 pub record IsRange (r : Range) : Type 0 where
-  pub left : value_of r.left ≤ 1000000000
-  pub right : value_of r.right ≤ 1000000000
+  pub left : decimal_value r.left ≤ 1000000000
+  pub right : decimal_value r.right ≤ 1000000000
 
 abbrev pub IsMaybeRange : Option Range → Type 0
 IsMaybeRange None = Unit {0}
@@ -314,7 +313,7 @@ pub record IsInstance (k : Kind) (i : Instance) : Type 0 where
   pub outputs : AllByRecursion IsNet (take (instance_gates k i) i.terminals)
 
 pub record IsStatement (tens : ℕ) (s : Statement) : Type 0 where
-  pub delay : IsDelay tens s.delay
+  pub delay : IsStatedDelay tens s.delay
   pub instances : 1 ≤ length s.instances
   pub each : AllByRecursion (IsInstance s.kind) s.instances
 
@@ -325,5 +324,5 @@ IsItem tens (Gates s) = IsStatement tens s
 -- what a module keeps beside its order of tokens
 pub record IsModule (m : Module) : Type 0 where
   pub ports : ArePorts m.ports
-  pub items : AllByRecursion (IsItem (tens_of m.fronts)) m.items
+  pub items : AllByRecursion (IsItem (unit_exponent m.fronts)) m.items
   pub gates : sum_by item_gates m.items ≤ 200000

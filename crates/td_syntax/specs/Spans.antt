@@ -23,9 +23,6 @@ magnitudes = (codes "100", 2) ∷ (codes "10", 1) ∷ (codes "1", 0) ∷ []
 abbrev pub units : List (List ℕ × ℕ)
 units = (codes "s", 15) ∷ (codes "ms", 12) ∷ (codes "us", 9) ∷ (codes "ns", 6) ∷ (codes "ps", 3) ∷ (codes "fs", 0) ∷ []
 
-abbrev pub slashes : List (List ℕ × ℕ)
-slashes = (codes "/", 0) ∷ []
-
 -- a magnitude and a unit: so many tens of a femtosecond, multiplied
 unfoldable pub span_in : List ℕ → Option (ℕ × List ℕ)
 span_in bytes = option_and_then (λ m. option_map (λ u. (m.0 + u.0, u.1)) (part_in units (unblanked m.1))) (part_in magnitudes (unblanked bytes))
@@ -36,4 +33,4 @@ pair_in unit step = if nat_le step.0 unit then Some (directive.Timescale (record
 
 unfoldable pub timescale_in : List ℕ → Option (Directive × List ℕ)
 timescale_in bytes =
-    option_and_then (λ unit. option_and_then (λ slash. option_and_then (pair_in unit.0) (span_in slash.1)) (part_in slashes (unblanked unit.1))) (span_in bytes)
+    option_and_then (λ unit. option_and_then (λ slash. option_and_then (pair_in unit.0) (span_in slash.1)) (part_in ((codes "/", 0) ∷ []) (unblanked unit.1))) (span_in bytes)

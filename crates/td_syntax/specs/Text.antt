@@ -1,14 +1,14 @@
 -- What a text is as a module.
 use Rattle.std.specs.Prelude.{◌≡◌, ℕ, ◌+◌, ◌≤◌, List, [], ◌∷◌, length, take, drop, Some}
 use Rattle.td_syntax.specs.Bytes.{newlines}
-use Rattle.td_syntax.specs.Token.{Token, Name, Placed, at}
+use Rattle.td_syntax.specs.Token.{Token, Name, Placed, placed_on}
 use Rattle.td_syntax.specs.Pieces.{Gap, Stands, piece_in}
 use Rattle.td_syntax.specs.Grammar.{Module, IsModule, module_tokens}
 
 -- a token as the grammar names it, with the line of a name alone
 abbrev pub token_on : ℕ → Token → Placed
-token_on line (Name w) = at line (Name w)
-token_on line t = at 0 t
+token_on line (Name w) = placed_on line (Name w)
+token_on line t = placed_on 0 t
 
 -- The bytes, which begin on this line, have these tokens: white space and comments stand between them.
 pub data Lexes : ℕ → List ℕ → List Placed → Type 0 where

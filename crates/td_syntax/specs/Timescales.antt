@@ -21,8 +21,8 @@ magnitude_at [] = Err Short
 magnitude_at (b ∷ bs) = let n = min (prefix_len is_zero bs) 2 in if b == 49 then Ok (n, drop n bs) else Err Wrong
 
 -- the units with two letters, by the first one, as the number of zeros that they have in femtoseconds
-abbrev pub tens_of : ℕ → Option ℕ
-tens_of b =
+abbrev pub letter_exponent : ℕ → Option ℕ
+letter_exponent b =
     if b == 109 then Some 12
     else (if b == 117 then Some 9
     else (if b == 110 then Some 6
@@ -42,7 +42,7 @@ letters_by (Some tens) bs = second_letter tens bs
 -- s, ms, us, ns, ps or fs
 unfoldable pub unit_at : List ℕ → Result (ℕ × List ℕ) Unread
 unit_at [] = Err Short
-unit_at (b ∷ bs) = if b == 115 then Ok (15, bs) else letters_by (tens_of b) bs
+unit_at (b ∷ bs) = if b == 115 then Ok (15, bs) else letters_by (letter_exponent b) bs
 
 -- a magnitude and a unit: so many tens of a femtosecond, multiplied
 unfoldable pub span_at : List ℕ → Result (ℕ × List ℕ) Unread

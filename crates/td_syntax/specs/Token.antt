@@ -28,5 +28,5 @@ pub record Placed : Type 0 where
   pub token : Token
   pub line : ℕ
 
-abbrev pub at : ℕ → Token → Placed
-at line token = record { token = token; line = line }
+abbrev pub placed_on : ℕ → Token → Placed
+placed_on line token = record { token = token; line = line }

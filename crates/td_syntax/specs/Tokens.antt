@@ -3,7 +3,7 @@ use Rattle.std.specs.Prelude.{ℕ, zero, suc, ◌+◌, List, [], ◌∷◌, leng
 use Rattle.td_syntax.specs.declared.token.Stop.{Stop}
 use Rattle.td_syntax.specs.declared.token.Stop.TheVariants.{Cut, Bad, Malformed, End}
 use Rattle.td_syntax.specs.Bytes.{newlines}
-use Rattle.td_syntax.specs.Token.{Placed, at}
+use Rattle.td_syntax.specs.Token.{Placed, placed_on}
 use Rattle.td_syntax.specs.Lexical.{Space, Found, Last, piece_at}
 
 -- The tokens of a text, and what stands behind them, on which line.
@@ -15,8 +15,8 @@ pub record Stream : Type 0 where
 abbrev pub ends : ℕ → Stop → Stream
 ends line stop = record { tokens = []; stop = stop; line = line }
 
-abbrev pub before : Placed → Stream → Stream
-before t s = record { tokens = t ∷ s.tokens; stop = s.stop; line = s.line }
+abbrev pub with_token : Placed → Stream → Stream
+with_token t s = record { tokens = t ∷ s.tokens; stop = s.stop; line = s.line }
 
 -- A comment or an attribute that is cut short is told at the line of the end, another stop where it stands.
 abbrev pub stop_line : ℕ → List ℕ → Stop → ℕ
@@ -32,7 +32,7 @@ tokens_within zero line bytes = ends line End
 tokens_within (suc pieces) line bytes =
     elim (piece_at bytes) [
       | Space n ↦ tokens_within pieces (line + newlines (take n bytes)) (drop n bytes)
-      | Found t n ↦ before (at line t) (tokens_within pieces (line + newlines (take n bytes)) (drop n bytes))
+      | Found t n ↦ with_token (placed_on line t) (tokens_within pieces (line + newlines (take n bytes)) (drop n bytes))
       | Last stop ↦ ends (stop_line line bytes stop) stop
     ]
 

@@ -66,7 +66,7 @@ piece_view (piece.Found t n) = pieces.Found (view t) n
 piece_view (piece.Last s) = pieces.Last s
 
 abbrev pub placed_view : placed.Placed → lexical.Placed
-placed_view p = lexical.at p.line (view p.token)
+placed_view p = lexical.placed_on p.line (view p.token)
 
 abbrev pub front_view : fronts.Front → tokens.Front
 front_view (front.Next p) = tokens.Next (placed_view p)
