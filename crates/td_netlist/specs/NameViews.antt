@@ -1,4 +1,4 @@
--- Borrowed names and directions, without where they lie in memory.
+-- Internal: borrowed names and directions, without where they lie in memory.
 use Rattle.std.specs.Prelude.{ℕ, List, Option, None, Some}
 use Rattle.std.specs.Borrow.{Bor}
 use Rattle.td_netlist.specs.declared.name_ref.NameRef as code_name_ref

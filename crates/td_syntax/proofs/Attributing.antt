@@ -1,9 +1,8 @@
 -- The end of an attribute, as the sentence says it and byte by byte.
-use Rattle.std.proofs.Common.{◌≡◌, ℕ, suc, ◌+◌, Bool, true, false, cond, List, [], ◌∷◌, Option, Some, None, refl, sym, ap, ◌∙◌, arith}
-use Rattle.std.specs.Prelude.{◌==◌, ◌&&◌, not}
+use Rattle.std.proofs.Common.{◌≡◌, ℕ, suc, ◌+◌, Bool, true, false, List, [], ◌∷◌, Option, Some, None, refl, sym, ap, ◌∙◌, arith}
+use Rattle.std.specs.Prelude.{◌==◌}
 use Rattle.std.specs.Option.{option_map}
 use Rattle.std.proofs.lemmas.Bool.{eqb-true}
-use Rattle.td_syntax.specs.declared.attribute.Place.{Place}
 use Rattle.td_syntax.specs.declared.attribute.Place.TheVariants as place
 use Rattle.td_syntax.specs.Lexical.{end_behind}
 use Rattle.td_syntax.specs.Pieces.{attribute_end}

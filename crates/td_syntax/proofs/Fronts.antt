@@ -1,5 +1,5 @@
 -- What stands at the front of a text, as the grammar sees it and as faults are told.
-use Rattle.std.proofs.Common.{◌≡◌, ℕ, suc, ◌+◌, Bool, true, false, cond, List, [], ◌∷◌, length, take, drop, Option, Some, None, Result, Ok, Err, refl, sym, ap, subst, ◌∙◌}
+use Rattle.std.proofs.Common.{◌≡◌, ℕ, ◌+◌, Bool, true, false, cond, List, [], ◌∷◌, length, take, drop, Option, Some, None, Result, Ok, Err, refl, sym, ap, ◌∙◌}
 use Rattle.std.specs.Prelude.{◌==◌, ◌||◌, ◌-◌, codes}
 use Rattle.std.specs.List.{prefix_len, list_any}
 use Rattle.std.specs.Option.{option_map}
@@ -15,7 +15,6 @@ use Rattle.td_syntax.specs.Bytes.{is_blank, is_letter, is_name_byte, is_printabl
 use Rattle.td_syntax.specs.Words.{reserved_words}
 use Rattle.td_syntax.specs.Token.{Numeral, Token, Name, Escaped, Reserved, Number, Constant, Mark, Attribute, Directs, Outside}
 use Rattle.td_syntax.specs.Timescales.{timescale_at}
-use Rattle.td_syntax.specs.Spans.{timescale_in}
 use Rattle.td_syntax.specs.Pieces as pieces
 use Rattle.td_syntax.specs.Pieces.{Gap, Stands, stands, keyword_of, escaped_in, ends_name, comment_end, comment_in, numeral_at, constant_in, open_in, attribute_end, directive_by, directive_in, beside, marks, piece_in}
 use Rattle.td_syntax.specs.Lexical.{Piece, Space, Found, Last, word_as, comment_of, slash_at, constant_of, number_by, number_at, escaped_at, timescale_piece, directive_of, directive_at, end_behind, attribute_of, mark_of, char_at, open_at, piece_at}

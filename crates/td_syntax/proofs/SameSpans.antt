@@ -1,5 +1,5 @@
 -- The parts of a `timescale, as texts and byte by byte.
-use Rattle.std.proofs.Common.{◌≡◌, ℕ, suc, ◌+◌, Bool, true, false, cond, List, [], ◌∷◌, Option, Some, None, Result, Ok, Err, drop, refl, sym, ap, subst, ◌∙◌, arith}
+use Rattle.std.proofs.Common.{◌≡◌, ℕ, ◌+◌, Bool, true, false, cond, List, [], ◌∷◌, Option, Some, None, Result, Ok, Err, drop, refl, sym, ap, subst, arith}
 use Rattle.std.specs.Prelude.{◌==◌, nat_le, min, codes}
 use Rattle.std.specs.List.{prefix_len}
 use Rattle.std.specs.Option.{option_and_then, option_map}
@@ -10,7 +10,7 @@ use Rattle.td_syntax.specs.declared.token.Unread.{Unread}
 use Rattle.td_syntax.specs.declared.token.Unread.TheVariants.{Wrong}
 use Rattle.td_syntax.specs.Bytes.{is_zero}
 use Rattle.td_syntax.specs.Spans.{part_in, unblanked, magnitudes, units, span_in, pair_in, timescale_in}
-use Rattle.td_syntax.specs.Timescales.{◌>>=◌, magnitude_at, letter_exponent, second_letter, letters_by, unit_at, span_at, slash_at, ordered, timescale_at}
+use Rattle.td_syntax.specs.Timescales.{◌>>=◌, magnitude_at, unit_at, span_at, slash_at, ordered, timescale_at}
 
 abbrev pub told : {A : Type 0} → Result A Unread → Option A
 told (Ok x) = Some x

@@ -1,11 +1,9 @@
 -- The tokens of a text as the definition says them and as faults are told.
-use Rattle.std.proofs.Common.{◌≡◌, ℕ, zero, suc, ◌+◌, ◌≤◌, ◌<◌, Bool, true, false, List, [], ◌∷◌, length, map, take, drop, Option, Some, None, Ok, Err, refl, sym, ap, subst, ◌∙◌, arith, length-drop}
+use Rattle.std.proofs.Common.{◌≡◌, ℕ, zero, suc, ◌+◌, ◌≤◌, ◌<◌, Bool, true, false, List, [], ◌∷◌, length, map, take, drop, Some, Ok, Err, refl, sym, ap, subst, ◌∙◌, arith, length-drop}
 use Rattle.std.specs.Prelude.{◌&&◌}
-use Rattle.std.specs.List.{list_all}
 use Rattle.td_syntax.specs.declared.token.Stop.TheVariants.{End}
 use Rattle.td_syntax.specs.Bytes.{newlines}
 use Rattle.td_syntax.specs.Token.{Token, Name, Escaped, Reserved, Number, Constant, Mark, Attribute, Directs, Outside, Placed, placed_on}
-use Rattle.td_syntax.specs.Pieces as pieces
 use Rattle.td_syntax.specs.Pieces.{Gap, Stands, piece_in}
 use Rattle.td_syntax.specs.Lexical.{Piece, Space, Found, Last, Takes, piece_at}
 use Rattle.td_syntax.specs.Tokens.{Stream, tokens_of}

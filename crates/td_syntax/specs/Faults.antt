@@ -1,4 +1,4 @@
--- Why a text is refused, and where.
+-- Which fault of tokens and grammar is told: why a text is refused, and where.
 use Rattle.std.specs.Prelude.{◌≡◌, ℕ, List, Option, None, Some, Result, Ok, Err, MatchOption, codes}
 use Rattle.td_syntax.specs.declared.fault.FaultKind as code_kind
 use Rattle.td_syntax.specs.declared.fault.FaultKind.TheVariants as code

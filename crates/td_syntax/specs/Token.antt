@@ -1,4 +1,4 @@
--- Tokens, and where they stand.
+-- Tokens, and the lines where they stand.
 use Rattle.std.specs.Prelude.{ℕ, List, Option, Bool, Result}
 use Rattle.td_syntax.specs.declared.token.Keyword.{Keyword}
 use Rattle.td_syntax.specs.declared.token.Symbol.{Symbol}

@@ -1,4 +1,4 @@
--- Tokens as the definitions name them, without where they lie in memory.
+-- Internal: tokens and trees as the definitions name them, without where they lie in memory.
 use Rattle.std.specs.Prelude.{ℕ, List, map, Option, None, Some}
 use Rattle.std.specs.Borrow.{Bor}
 use Rattle.td_syntax.specs.declared.syntax.Name as syntax_name

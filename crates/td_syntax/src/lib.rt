@@ -20,7 +20,7 @@ mod syntax;
 mod timescale;
 mod token;
 
-pub use delay::{steps_of, decimal_value};
+pub use delay::{decimal_value, steps_of};
 pub use directives::unit_exponent;
 pub use fault::{Fault, FaultKind};
 pub use identifier::is_simple_identifier;
