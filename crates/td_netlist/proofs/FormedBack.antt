@@ -1,5 +1,5 @@
 -- From a well-formed netlist to the conditions on the drivers of its module.
-use Rattle.std.proofs.Common.{◌≡◌, ℕ, ◌≤◌, Bool, true, false, cond, None, List, [], ◌∷◌, ◌++◌, length, map, filter, take, refl, sym, ap, subst, ◌∙◌, arith, inl, inr}
+use Rattle.std.proofs.Common.{◌≡◌, ℕ, ◌≤◌, Bool, true, false, cond, None, List, [], ◌∷◌, ◌++◌, length, map, filter, refl, sym, ap, subst, ◌∙◌, arith, inl, inr}
 use Rattle.std.specs.List.{Contains, flat_map, AllByRecursion}
 use Rattle.std.proofs.lemmas.List.{length-take}
 use Rattle.std.proofs.lemmas.List.Concat.{flat_map-cons}
@@ -7,17 +7,16 @@ use Rattle.td_gates.specs.declared.primitives.Kind.{Kind}
 use Rattle.td_gates.specs.declared.primitives.Kind.TheVariants as kinds
 use Rattle.td_gates.specs.declared.timing.Delay.{Delay}
 use Rattle.td_syntax.specs.declared.syntax.Role.{Role}
-use Rattle.td_syntax.specs.declared.syntax.Role.TheVariants as role
 use Rattle.td_syntax.specs.Grammar as grammar
 use Rattle.td_syntax.specs.Grammar.{IsItem, IsBetween, output_count, unit_exponent}
 use Rattle.td_netlist.specs.Netlist.{Name, Net, Low, High, Named, Gate}
 use Rattle.td_netlist.specs.WellFormed.{IsDistinct, IsWellFormed, gate_outputs, driven}
 use Rattle.td_netlist.specs.Ranges.{nets_of}
-use Rattle.td_netlist.specs.Module.{scalar, names_of, Declared, is_input, is_output, is_direction, ports, ports_as, declarations, declared, declared_names, range_in, nets_named, net_of, Primitive, primitives, outputs_of, inputs_of, gate_by, primitive_gates, gates_of, netlist_in}
+use Rattle.td_netlist.specs.Module.{scalar, names_of, Declared, is_input, is_output, is_direction, ports, ports_as, declarations, declared, declared_names, range_in, nets_named, net_of, primitives, outputs_of, inputs_of, gate_by, primitive_gates, gates_of, netlist_in}
 use Rattle.td_netlist.specs.PlacedNets.{line_of, Placed, placed_net, nets_at, outputs_in, inputs_in, output_bits, driven_in, input_count}
 use Rattle.td_netlist.specs.Means.{AreDeclared, AreJoined, HasFewNets}
 use Rattle.td_netlist.specs.Conditions.{IsConsistent}
-use Rattle.td_netlist.proofs.Members.{first, later, one_of, nowhere, in_front, behind, mapped, of_mapped, filtered, of_filtered, gathered, of_gathered}
+use Rattle.td_netlist.proofs.Members.{first, one_of, nowhere, behind, mapped, of_mapped, filtered, of_filtered, gathered, of_gathered}
 use Rattle.td_netlist.proofs.Distinct.{Distinct, distinct_nil, distinct_cons, distinct_head, distinct_tail, distinct_append, no_more}
 use Rattle.td_netlist.proofs.Sets.{is_contained}
 use Rattle.td_netlist.proofs.Declaring.{with_direction}

@@ -16,8 +16,8 @@ use Rattle.td_netlist.specs.declared.netlist.Scale.{Scale}
 use Rattle.td_netlist.specs.declared.netlist.Scale.TheVariants as scale
 use Rattle.td_netlist.specs.declared.ranges.Range.{Range}
 use Rattle.td_netlist.specs.Netlist.{Name, Net, Low, High, Named, Gate, Netlist}
-use Rattle.td_netlist.specs.Names.{is_in, with_name}
-use Rattle.td_netlist.specs.Ranges.{range_of, width_of, holds, bit_name, nets_of}
+use Rattle.td_netlist.specs.Names.{is_in}
+use Rattle.td_netlist.specs.Ranges.{range_of, holds, bit_name, nets_of}
 
 -- the net of a name that is no vector
 abbrev pub scalar : grammar.Name → Name

@@ -1,6 +1,5 @@
 use Rattle.std.proofs.Common.{◌≡◌, drop, map}
 use Rattle.td_syntax.specs.Views.{terminal_view}
-use Rattle.td_netlist.specs.Checks as checks
 use Rattle.td_netlist.specs.Making as making
 use Rattle.td_netlist.specs.Checks.{each}
 use Rattle.td_netlist.specs.Views.{gate_of}

@@ -1,6 +1,5 @@
 use Rattle.std.proofs.Common.{map}
 use Rattle.std.proofs.lemmas.Result.{err_from_is_err_and}
-use Rattle.td_netlist.specs.Checks as checks
 use Rattle.td_netlist.specs.Making as making
 use Rattle.td_netlist.specs.Checks.{each}
 use Rattle.td_netlist.specs.Views.{gate_of}

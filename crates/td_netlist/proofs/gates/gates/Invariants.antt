@@ -1,5 +1,4 @@
 use Rattle.std.proofs.Common.{◌≡◌, drop, map}
-use Rattle.td_netlist.specs.Checks as checks
 use Rattle.td_netlist.specs.Making as making
 use Rattle.td_netlist.specs.Checks.{each}
 use Rattle.td_netlist.specs.Views.{gate_of}

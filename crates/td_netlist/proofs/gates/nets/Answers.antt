@@ -1,7 +1,6 @@
 use Rattle.std.proofs.Common.{map}
 use Rattle.std.proofs.lemmas.Result.{err_from_is_err_and}
 use Rattle.td_syntax.specs.Views.{terminal_view}
-use Rattle.td_netlist.specs.Checks as checks
 use Rattle.td_netlist.specs.Making as making
 use Rattle.td_netlist.specs.Checks.{each}
 use Rattle.td_netlist.specs.Views.{net_of}
