@@ -9,7 +9,8 @@ use Rattle.td_netlist.specs.Netlist.{Netlist}
 use Rattle.td_netlist.specs.declared.fault.Fault.{Fault}
 use Rattle.td_netlist.specs.declared.fault.FaultKind.TheVariants as netlist_kind
 use Rattle.td_netlist.specs.Faults.{IsUnlessMemory}
-use Rattle.td_netlist.specs.Means.{Means, IsFaultIn}
+use Rattle.td_netlist.specs.NameFaults.{IsFaultIn}
+use Rattle.td_netlist.specs.Means.{Means}
 use Rattle.td_netlist.specs.WellFormed.{IsWellFormed}
 use Rattle.td_netlist.specs.Views.{name_of}
 use Rattle.td_netlist.proofs.Readings.{one_netlist}

@@ -3,7 +3,8 @@ use Rattle.std.specs.Prelude.{◌≡◌, ◌≢◌, ℕ, List, Result, Ok, Err}
 use Rattle.td_gates.specs.declared.timing.Delay.{Delay}
 use Rattle.td_netlist.specs.declared.fault.FaultKind.TheVariants as netlist_kind
 use Rattle.td_netlist.specs.Netlist.{Netlist}
-use Rattle.td_netlist.specs.Means.{Means, IsFaultIn}
+use Rattle.td_netlist.specs.NameFaults.{IsFaultIn}
+use Rattle.td_netlist.specs.Means.{Means}
 use Rattle.td_netlist.specs.Views.{name_of}
 use Rattle.td_circuit.specs.Loops.{Loop, LiesOnLoop}
 use Rattle.td_circuit.specs.Run.{IsWorst}

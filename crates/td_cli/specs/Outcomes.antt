@@ -8,7 +8,8 @@ use Rattle.td_circuit.specs.declared.building.BuildFault.{BuildFault}
 use Rattle.td_circuit.specs.declared.building.BuildFault.TheVariants as build
 use Rattle.td_netlist.specs.Netlist.{Netlist}
 use Rattle.td_netlist.specs.Views.{name_of}
-use Rattle.td_netlist.specs.Means.{Means, IsFaultIn}
+use Rattle.td_netlist.specs.NameFaults.{IsFaultIn}
+use Rattle.td_netlist.specs.Means.{Means}
 use Rattle.td_circuit.specs.Loops.{Loop, LiesOnLoop}
 use Rattle.td_circuit.specs.Numbering.{Numbered}
 use Rattle.td_cli.specs.declared.refusal.VectorWord.{VectorWord}

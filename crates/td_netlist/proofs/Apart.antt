@@ -51,7 +51,7 @@ bits_apart text r place (suc n) within =
     other_bit r place at.at (omega (arith, at.least)) (omega (arith, at.below, within)) (same_bit text (bit_at r place) (bit_at r at.at) at.is)))
     (bits_apart text r (place + 1) n (omega (arith, within)))
 
-nets_apart : (text : List ℕ) (range : Option Range) → IsDistinct (nets_of text range)
+pub nets_apart : (text : List ℕ) (range : Option Range) → IsDistinct (nets_of text range)
 nets_apart text None = distinct_cons (record { text = text; bit = None }) [] (λ has. nowhere (record { text = text; bit = None }) has) distinct_nil
 nets_apart text (Some r) = bits_apart text r 0 (width_of (Some r)) (omega arith)
 

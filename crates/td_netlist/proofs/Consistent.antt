@@ -11,8 +11,11 @@ use Rattle.td_netlist.specs.Netlist.{Name}
 use Rattle.td_netlist.specs.WellFormed.{IsDistinct}
 use Rattle.td_netlist.specs.Faults.{◌>>=◌, UnlessMemory}
 use Rattle.td_netlist.specs.Ranges.{nets_of}
-use Rattle.td_netlist.specs.Module.{scalar, names_of, Declared, is_input, is_output, is_wire, is_direction, different, ports, ports_as, declarations, declared, declared_names, range_in, nets_named, source_of, Placed, nets_at, terminals_in, outputs_in, inputs_in, inputs_of, output_bits, driven_in, Primitive, primitives, net_count, names_in, input_count}
-use Rattle.td_netlist.specs.Means.{AreDeclared, IsJoined, IsConsistent, RepeatedOn, MissingOn, AgainOn, LeftOutOn, Breaks}
+use Rattle.td_netlist.specs.PlacedNets.{different, Placed, nets_at, outputs_in, inputs_in, output_bits, driven_in, net_count, names_in, input_count}
+use Rattle.td_netlist.specs.Module.{scalar, names_of, Declared, is_input, is_output, is_wire, is_direction, ports, ports_as, declarations, declared, declared_names, range_in, nets_named, source_of, terminals_in, inputs_of, Primitive, primitives}
+use Rattle.td_netlist.specs.Conditions.{IsConsistent}
+use Rattle.td_netlist.specs.NameFaults.{RepeatedOn, MissingOn, AgainOn, LeftOutOn, IsNameFault}
+use Rattle.td_netlist.specs.Means.{AreDeclared, IsJoined}
 use Rattle.td_netlist.specs.Checks.{Known, nets_known, each, Lists, declare_ports, declare_item, Sides, sideless, take_side, Drivers, drive_all, read_all, read_placed, sides_at, declared_at, driven_at}
 use Rattle.td_netlist.proofs.Members.{in_front, behind, mapped, of_mapped, filtered, of_filtered, gathered, of_gathered, either_side}
 use Rattle.td_netlist.proofs.Distinct.{not_distinct}
@@ -88,7 +91,7 @@ module _ (m : grammar.Module) (are : ArePorts m.ports) where
         few_nets = subst (λ (js : List Known). nets_known js ≤ 1000000) same.1 all.few_nets;
       }
 
-  pub declared_breaks : (f : Fault) → declared_at m ≡ Err f → Breaks f.kind f.line m
+  pub declared_breaks : (f : Fault) → declared_at m ≡ Err f → IsNameFault f.kind f.line m
   unfolding after_ports after_items
   declared_breaks f e = elim (err_either (declare_ports m.ports) after_ports f (sym at_ports ∙ e)) [
     | inl here ↦ port_breaks m f are here
@@ -192,7 +195,7 @@ module _ (m : grammar.Module) where
           subst (λ (x : Drivers). KnowsModule m x.names (plain_names (terminals_in m))) same drives.names,
         )
 
-    driven_breaks : (f : Fault) → driven_at s ks (primitives m) ≡ Err f → Breaks f.kind f.line m
+    driven_breaks : (f : Fault) → driven_at s ks (primitives m) ≡ Err f → IsNameFault f.kind f.line m
     unfolding after_drivers after_reads walk_of
     driven_breaks f e = elim (err_either (walk_of s.inputs (different s.inputs) ks) (after_drivers s) f (sym (at_drivers s ks) ∙ e)) [
       | inl here ↦ drivers_break m ks f well.knows well.few_nets (sym same_walk ∙ here)
@@ -233,7 +236,7 @@ module _ (m : grammar.Module) (are : ArePorts m.ports) (s : Sides) (ks : List Kn
       let all = driven_well m s ks well d e in
       record { consistent = all.0; sides = well.sides; knows = all.1 }
 
-  pub drivers_refused : (f : Fault) → driven_at s ks (primitives m) ≡ Err f → Breaks f.kind f.line m
+  pub drivers_refused : (f : Fault) → driven_at s ks (primitives m) ≡ Err f → IsNameFault f.kind f.line m
   drivers_refused f e = driven_breaks m s ks (declared_well m are s ks declared_so) f e
 
 -- ---- a fault of names, and the conditions
@@ -255,7 +258,7 @@ module _ (m : grammar.Module) (line : ℕ) (keeps : IsConsistent m) where
   not_left_out : (ps : List Placed) (names : List Name) → ((name : Name) → Contains (nets_at ps) name → Contains names name) → ¬ LeftOutOn line ps names
   not_left_out ps names are at = at.missing (are at.placed.net (mapped (λ (p : Placed). p.net) at.placed ps at.stands))
 
-  pub refuted : (k : FaultKind) → ¬ Breaks k line m
+  pub refuted : (k : FaultKind) → ¬ IsNameFault k line m
   refuted kind.Redeclared at = elim at [
     | inl port ↦ not_repeated (ports m) keeps.declared.listed_once port
     | inr others ↦ elim others [
@@ -293,6 +296,6 @@ module _ (m : grammar.Module) (line : ℕ) (keeps : IsConsistent m) where
   refuted kind.DelayTooFine at = at
   refuted kind.DelayTooLarge at = at
 
-  pub memory_alone : (k : FaultKind) → UnlessMemory k (Breaks k line m) → k ≡ kind.OutOfMemory
+  pub memory_alone : (k : FaultKind) → UnlessMemory k (IsNameFault k line m) → k ≡ kind.OutOfMemory
   memory_alone kind.OutOfMemory at = refl
   memory_alone k at = absurd (refuted k at)

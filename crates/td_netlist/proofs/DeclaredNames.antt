@@ -17,8 +17,9 @@ use Rattle.td_netlist.specs.WellFormed.{IsDistinct}
 use Rattle.td_netlist.specs.Names.{is_in, with_name}
 use Rattle.td_netlist.specs.Faults.{unless}
 use Rattle.td_netlist.specs.Ranges.{width_of}
-use Rattle.td_netlist.specs.Module.{scalar, names_of, Declared, is_input, is_wire, is_direction, different, ports, declarations, declared_names, range_in, plain_name, terminals_in, names_in, net_count, input_count}
-use Rattle.td_netlist.specs.Means.{RepeatedOn, RangedOn, Breaks}
+use Rattle.td_netlist.specs.PlacedNets.{different, plain_name, names_in, net_count, input_count}
+use Rattle.td_netlist.specs.Module.{scalar, names_of, Declared, is_input, is_wire, is_direction, ports, declarations, declared_names, range_in, terminals_in}
+use Rattle.td_netlist.specs.NameFaults.{RepeatedOn, RangedOn, IsNameFault}
 use Rattle.td_netlist.specs.Checks.{Known, known, same_number, is_other, nets_known, know, direction_of, direction_fault, wire_fault, input_bits, Lists, nothing, declare, declare_wire, declare_direction}
 use Rattle.td_netlist.proofs.Members.{either_side, one_of, nowhere, between, mapped}
 use Rattle.td_netlist.proofs.Distinct.{distinct_nil, distinct_push}
@@ -39,8 +40,8 @@ no_wire role.Input e = refl
 no_wire role.Output e = refl
 no_wire role.Wire e = absurd cc
 
-pub breaks_as : (m : grammar.Module) (line : ℕ) (k j : FaultKind) → j ≡ k → Breaks k line m → Breaks j line m
-breaks_as m line k j same breaks = subst (λ (i : FaultKind). Breaks i line m) (sym same) breaks
+pub breaks_as : (m : grammar.Module) (line : ℕ) (k j : FaultKind) → j ≡ k → IsNameFault k line m → IsNameFault j line m
+breaks_as m line k j same breaks = subst (λ (i : FaultKind). IsNameFault i line m) (sym same) breaks
 
 -- ---- the faults of a declaration
 
@@ -344,7 +345,7 @@ module _ (m : grammar.Module) (listed : List grammar.Name) (before : List Declar
       (λ k has. kept_in k.text (known_declared s.names before keeps.known k has)) new is many in
       subst (λ (ns : List Name). 1000000 < sum_by (width_by (range_in m)) ns) (sym names_parts) more
 
-  know_breaks : (f : Fault) → know s.names d.name d.range ≡ Err f → Breaks f.kind f.line m
+  know_breaks : (f : Fault) → know s.names d.name d.range ≡ Err f → IsNameFault f.kind f.line m
   know_breaks f e = let at = know_err s.names d.name d.range f e in breaks_as m f.line kind.TooMany f.kind at.is (inr (too_many_nets at.new at.many))
 
   too_many_inputs : nat_lt 4096 (s.inputs + input_bits d.role d.range) ≡ true → 4096 < input_count m
@@ -356,7 +357,7 @@ module _ (m : grammar.Module) (listed : List grammar.Name) (before : List Declar
       omega (arith, more, here, all, whole, keeps.inputs)
 
   pub direction_breaks : (f : Fault) → is_direction d.role ≡ true → (is_in (scalar d.name) s.listed ≡ false → ¬ Contains (names_of (ports m)) (scalar d.name))
-      → declare_direction d.role d.range s d.name ≡ Err f → Breaks f.kind f.line m
+      → declare_direction d.role d.range s d.name ≡ Err f → IsNameFault f.kind f.line m
   unfolding declare_direction
   direction_breaks f this no_port e = elim (err_either (unless {A = Unit {0}} (direction_fault s d.role d.range d.name) d.name.line tt) _ f e) [
     | inl here ↦ (let at = unless_err (direction_fault s d.role d.range d.name) d.name.line tt f here in
@@ -379,7 +380,7 @@ module _ (m : grammar.Module) (listed : List grammar.Name) (before : List Declar
     ]
   ]
 
-  wire_breaks : (f : Fault) → is_wire d.role ≡ true → declare_wire d.range s d.name ≡ Err f → Breaks f.kind f.line m
+  wire_breaks : (f : Fault) → is_wire d.role ≡ true → declare_wire d.range s d.name ≡ Err f → IsNameFault f.kind f.line m
   unfolding declare_wire
   wire_breaks f this e = elim (err_either (unless {A = Unit {0}} (wire_fault s d.range d.name) d.name.line tt) _ f e) [
     | inl here ↦ (let at = unless_err (wire_fault s d.range d.name) d.name.line tt f here in
@@ -395,7 +396,7 @@ module _ (m : grammar.Module) (listed : List grammar.Name) (before : List Declar
     ]
   ]
 
-  pub declared_breaks : (f : Fault) → s.listed ≡ names_of (ports m) → declares s d ≡ Err f → Breaks f.kind f.line m
+  pub declared_breaks : (f : Fault) → s.listed ≡ names_of (ports m) → declares s d ≡ Err f → IsNameFault f.kind f.line m
   unfolding declare
   declared_breaks f are e = elim (direction_or_wire d.role) [
     | inl this ↦ wire_breaks f this.0 (sym (ap (λ (b : Bool). cond b (declare_wire d.range s d.name) (declare_direction d.role d.range s d.name)) this.0) ∙ e)

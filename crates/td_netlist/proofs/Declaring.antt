@@ -16,8 +16,8 @@ use Rattle.td_netlist.specs.WellFormed.{IsDistinct}
 use Rattle.td_netlist.specs.Names.{is_in}
 use Rattle.td_netlist.specs.declared.ranges.Range.{Range}
 use Rattle.td_netlist.specs.Ranges.{width_of}
-use Rattle.td_netlist.specs.Module.{scalar, names_of, Declared, is_input, is_direction, is_of, range_found}
-use Rattle.td_netlist.specs.Means.{RepeatedOn}
+use Rattle.td_netlist.specs.Module.{scalar, names_of, Declared, is_input, is_direction, is_of}
+use Rattle.td_netlist.specs.NameFaults.{RepeatedOn}
 use Rattle.td_netlist.specs.Checks.{list_port, direction_of}
 use Rattle.td_netlist.proofs.Members.{first, later, one_of, nowhere, mapped, of_mapped}
 use Rattle.td_netlist.proofs.Finding.{find_front, find_behind, found_there, found_none}
@@ -130,6 +130,10 @@ abbrev pub input_width : List Declared → ℕ
 input_width ds = sum_by (λ (d : Declared). width_of d.range) (filter (λ (d : Declared). is_input d.role) ds)
 
 -- ---- the range of a name
+
+abbrev range_found : Option Declared → Option Range
+range_found None = None
+range_found (Some d) = d.range
 
 abbrev pub range_by : List Declared → List ℕ → Option Range
 range_by ds text = range_found (find (is_of text) ds)

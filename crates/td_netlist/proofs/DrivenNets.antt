@@ -15,9 +15,11 @@ use Rattle.td_netlist.specs.Netlist.{Name, Net, Low, High, Named}
 use Rattle.td_netlist.specs.WellFormed.{IsDistinct}
 use Rattle.td_netlist.specs.Names.{is_in, with_name}
 use Rattle.td_netlist.specs.Faults.{◌>>=◌}
-use Rattle.td_netlist.specs.Module.{scalar, names_of, is_input, different, ports_as, declarations, range_in, Source, Joins, source_of, line_of, net_of, net_from, Placed, placed_net, placed_in, nets_at, terminals_in, outputs_in, outputs_of, inputs_of, plain_name, names_in, net_count, Primitive, primitives}
-use Rattle.td_netlist.specs.Means.{IsJoined, LeftOutOn, Breaks}
-use Rattle.td_netlist.specs.Checks.{each, Known, nets_known, know, meet, resolve, line_at, Drivers, second_driver, drive_fault, drive_net, seen, see, drives, drive, drive_all, read_from, read_net, read_all, read_placed}
+use Rattle.td_netlist.specs.PlacedNets.{different, line_of, Placed, placed_net, placed_in, nets_at, outputs_in, plain_name, names_in, net_count}
+use Rattle.td_netlist.specs.Module.{scalar, names_of, is_input, ports_as, declarations, range_in, Source, Joins, source_of, net_of, net_from, terminals_in, outputs_of, inputs_of, Primitive, primitives}
+use Rattle.td_netlist.specs.NameFaults.{LeftOutOn, IsNameFault}
+use Rattle.td_netlist.specs.Means.{IsJoined}
+use Rattle.td_netlist.specs.Checks.{each, Known, nets_known, know, meet, resolve, Drivers, second_driver, drive_fault, drive_net, seen, see, drives, drive, drive_all, read_from, read_net, read_all, read_placed}
 use Rattle.td_netlist.proofs.Members.{either_side, one_of, nowhere, first, later, in_front, behind, between, gathered}
 use Rattle.td_netlist.proofs.Distinct.{distinct_nil, distinct_push, distinct_head, distinct_tail}
 use Rattle.td_netlist.proofs.Sets.{contains_is, not_contained, is_absent}
@@ -231,7 +233,7 @@ module _ (m : grammar.Module) where
       let sees = seen_ok s t.at a.0 a.1 in
       let net = a.0.0 in
       let is = source_is m s.names (plain_names (all_of ts)) keeps.names t.at net sees.resolves in
-      let b = ok_both (drive_net inputs a.0.1.driven (line_at t.at) net) _ u a.2 in
+      let b = ok_both (drive_net inputs a.0.1.driven (line_of t.at) net) _ u a.2 in
       let more = drive_net_ok inputs s.driven b.0 (line_of t.at) net (ap (λ (driven : List Name). drive_net inputs driven (line_of t.at) net) (sym sees.same_driven) ∙ ap (λ (line : ℕ). drive_net inputs a.0.1.driven line net) (sym (same_line t.at)) ∙ b.1) in
       let names = bits_more ts t net this is in
       let new : (name : Name) → Contains (bits_at (line_of t.at) net) name → ¬ Contains (inputs ++ nets_at (driven_by ts)) name =
@@ -337,7 +339,7 @@ module _ (m : grammar.Module) where
     stands_there : Contains (terminals_in m) t.at
     stands_there = subst (λ (xs : List grammar.Terminal). Contains xs t.at) (sym terminals_parts) (between (all_of before) t.at (all_of after))
 
-    resolve_breaks : (f : Fault) → resolve s.names t.at ≡ Err f → Breaks f.kind f.line m
+    resolve_breaks : (f : Fault) → resolve s.names t.at ≡ Err f → IsNameFault f.kind f.line m
     resolve_breaks f e = elim (unjoined m s.names (plain_names (all_of before)) keeps.names t.at f e) [
       | HasNoBit why is there ↦ breaks_as m f.line kind.UnknownBit f.kind is (record { terminal = t.at; stands = stands_there; there = there; is = why })
       | IsNotOne why is there ↦ breaks_as m f.line kind.WidthNotOne f.kind is (record { terminal = t.at; stands = stands_there; there = there; is = why })
@@ -359,7 +361,7 @@ module _ (m : grammar.Module) where
         ∙ sym (append_assoc (declared ++ plain_names (all_of before)) (scalar n ∷ []) (plain_names (all_of after))))
         ∙ fold-append with_name [] ((declared ++ plain_names (all_of before)) ++ scalar n ∷ []) (plain_names (all_of after))
 
-    know_breaks : (n : grammar.Name) (f : Fault) → plain_name t.at ≡ n ∷ [] → know s.names n None ≡ Err f → Breaks f.kind f.line m
+    know_breaks : (n : grammar.Name) (f : Fault) → plain_name t.at ≡ n ∷ [] → know s.names n None ≡ Err f → IsNameFault f.kind f.line m
     know_breaks n f is e =
         let at = know_err s.names n None f e in
         let names = all_names (declarations m) ++ plain_names (all_of before) in
@@ -371,19 +373,19 @@ module _ (m : grammar.Module) where
         let many : 1000000 < net_count m = subst (λ (ns : List Name). 1000000 < sum_by (width_by (range_in m)) ns) (sym (names_parts n is)) more in
         breaks_as m f.line kind.TooMany f.kind at.is (inr many)
 
-    meet_breaks : (x : grammar.Terminal) (f : Fault) → t.at ≡ x → meet s.names x ≡ Err f → Breaks f.kind f.line m
+    meet_breaks : (x : grammar.Terminal) (f : Fault) → t.at ≡ x → meet s.names x ≡ Err f → IsNameFault f.kind f.line m
     meet_breaks (grammar.Whole n) f is e = know_breaks n f (ap plain_name is) e
     meet_breaks (grammar.Select n digits) f is e = absurd cc
     meet_breaks (grammar.Level b) f is e = absurd cc
 
-    seen_breaks : (f : Fault) → seen s t.at ≡ Err f → Breaks f.kind f.line m
+    seen_breaks : (f : Fault) → seen s t.at ≡ Err f → IsNameFault f.kind f.line m
     seen_breaks f e = elim (seen_err s t.at f e) [
       | inl here ↦ resolve_breaks f here
       | inr here ↦ meet_breaks t.at f refl here
     ]
 
     second_breaks : (b : Bool) (f : Fault) (this : Name) → t.drives ≡ true → net_of m t.at ≡ Named this → is_in this (ports_as is_input m) ≡ b → is_in this s.driven ≡ true → line_of t.at ≡ f.line
-        → f.kind ≡ cond b kind.DrivenInput kind.TwoDrivers → Breaks f.kind f.line m
+        → f.kind ≡ cond b kind.DrivenInput kind.TwoDrivers → IsNameFault f.kind f.line m
     unfolding inputs
     second_breaks true f this drives net input driven there is = breaks_as m f.line kind.DrivenInput f.kind is (record {
       placed = record { net = this; line = line_of t.at };
@@ -406,32 +408,32 @@ module _ (m : grammar.Module) where
           ]);
     })
 
-    drive_breaks : (f : Fault) → t.drives ≡ true → drive (ports_as is_input m) s t.at ≡ Err f → Breaks f.kind f.line m
+    drive_breaks : (f : Fault) → t.drives ≡ true → drive (ports_as is_input m) s t.at ≡ Err f → IsNameFault f.kind f.line m
     unfolding drive drives
     drive_breaks f this e = elim (err_either (seen s t.at) _ f e) [
       | inl here ↦ seen_breaks f here
       | inr past ↦ (let sees = seen_ok s t.at past.0 past.1 in
           let net = source_is m s.names (plain_names (all_of before)) keeps.names t.at past.0.0 sees.resolves in
-          elim (err_either (drive_net (ports_as is_input m) past.0.1.driven (line_at t.at) past.0.0) _ f past.2) [
+          elim (err_either (drive_net (ports_as is_input m) past.0.1.driven (line_of t.at) past.0.0) _ f past.2) [
             | inl here ↦ (let again = drive_net_err (ports_as is_input m) s.driven (line_of t.at) past.0.0 f (ap (λ (driven : List Name). drive_net (ports_as is_input m) driven (line_of t.at) past.0.0) (sym sees.same_driven) ∙ ap (λ (line : ℕ). drive_net (ports_as is_input m) past.0.1.driven line past.0.0) (sym (same_line t.at)) ∙ here) in
                 second_breaks (is_in again.this (ports_as is_input m)) f again.this this (ap net_from net ∙ again.is) refl again.again again.there again.kind_is)
             | inr done ↦ absurd cc
           ])
     ]
 
-    see_breaks : (f : Fault) → see s t.at ≡ Err f → Breaks f.kind f.line m
+    see_breaks : (f : Fault) → see s t.at ≡ Err f → IsNameFault f.kind f.line m
     unfolding see
     see_breaks f e = elim (err_either (seen s t.at) _ f e) [
       | inl here ↦ seen_breaks f here
       | inr past ↦ absurd cc
     ]
 
-    terminal_breaks : (b : Bool) (f : Fault) → t.drives ≡ b → cond b (drive (ports_as is_input m) s t.at) (see s t.at) ≡ Err f → Breaks f.kind f.line m
+    terminal_breaks : (b : Bool) (f : Fault) → t.drives ≡ b → cond b (drive (ports_as is_input m) s t.at) (see s t.at) ≡ Err f → IsNameFault f.kind f.line m
     terminal_breaks true f this e = drive_breaks f this e
     terminal_breaks false f this e = see_breaks f e
 
   pub drivers_break : (ks : List Known) (f : Fault) → KnowsModule m ks [] → nets_known ks ≤ 1000000
-      → each (drive_all (ports_as is_input m)) (record { driven = ports_as is_input m; names = ks }) (primitives m) ≡ Err f → Breaks f.kind f.line m
+      → each (drive_all (ports_as is_input m)) (record { driven = ports_as is_input m; names = ks }) (primitives m) ≡ Err f → IsNameFault f.kind f.line m
   unfolding start inputs
   drivers_break ks f keeps few e =
       let at = stops (terminal_step inputs) Drives terminals_one (start ks) [] (flat_map terminals_of (primitives m)) f (starts ks keeps few) (sym (primitives_walk (primitives m) (start ks)) ∙ e) in
@@ -490,7 +492,7 @@ module _ (m : grammar.Module) where
     read_is : (u : Unit {0}) (t : grammar.Terminal) → Joined t → read_net d u t ≡ read_from d.driven (line_of t) (net_of m t)
     unfolding read_net
     read_is u t is =
-        ap (λ (r : Result Net Fault). r >>= read_from d.driven (line_at t)) (resolved_ok m d.names others knows t is)
+        ap (λ (r : Result Net Fault). r >>= read_from d.driven (line_of t)) (resolved_ok m d.names others knows t is)
         ∙ ap (λ (line : ℕ). read_from d.driven line (net_of m t)) (same_line t)
 
     reads_one : (s u : Unit {0}) (ts : List grammar.Terminal) (t : grammar.Terminal) → Joined t → ReadsDriven s ts → read_net d s t ≡ Ok u → ReadsDriven u (ts ++ t ∷ [])

@@ -15,13 +15,15 @@ use Rattle.td_gates.proofs.Places.{map-fuse}
 use Rattle.td_syntax.specs.declared.syntax.Role.{Role}
 use Rattle.td_syntax.specs.declared.syntax.Role.TheVariants as role
 use Rattle.td_syntax.specs.Grammar as grammar
-use Rattle.td_syntax.specs.Grammar.{IsItem, IsNet, IsInstance, IsBetween, IsDelay, output_count, item_gates, instance_gates, tens_of, value_of}
+use Rattle.td_syntax.specs.Grammar.{IsItem, IsNet, IsInstance, IsBetween, IsStatedDelay, output_count, item_gates, instance_gates, unit_exponent, decimal_value}
 use Rattle.td_netlist.specs.declared.ranges.Range.{Range}
 use Rattle.td_netlist.specs.Netlist.{Name, Net, Named, Gate}
 use Rattle.td_netlist.specs.WellFormed.{IsDistinct, IsWellFormed, IsGate, driven, gate_outputs}
 use Rattle.td_netlist.specs.Ranges.{width_of, holds, bits_from, bit_name, nets_of}
-use Rattle.td_netlist.specs.Module.{scalar, names_of, Declared, is_input, is_output, is_direction, ports, ports_as, declarations, declared, declared_names, range_in, nets_named, whole_source, bit_source, Joins, NotOne, NoBit, source_of, line_of, net_from, net_of, Placed, placed_net, placed_in, nets_at, outputs_in, inputs_in, output_bits, driven_in, outputs_of, inputs_of, Primitive, primitives, item_primitives, as_primitive, delay_of, name_from, gate_by, primitive_gates, gates_of, netlist_in}
-use Rattle.td_netlist.specs.Means.{IsJoined, IsConsistent}
+use Rattle.td_netlist.specs.PlacedNets.{line_of, Placed, placed_net, placed_in, nets_at, outputs_in, inputs_in, output_bits, driven_in}
+use Rattle.td_netlist.specs.Module.{scalar, names_of, Declared, is_input, is_output, is_direction, ports, ports_as, declarations, declared, declared_names, range_in, nets_named, whole_source, bit_source, Joins, NotOne, NoBit, source_of, net_from, net_of, outputs_of, inputs_of, Primitive, primitives, item_primitives, as_primitive, delay_of, name_from, gate_by, primitive_gates, gates_of, netlist_in}
+use Rattle.td_netlist.specs.Conditions.{IsConsistent}
+use Rattle.td_netlist.specs.Means.{IsJoined, AreJoined}
 use Rattle.td_netlist.specs.Checks.{direction_of}
 use Rattle.td_netlist.proofs.Members.{first, later, one_of, nowhere, in_front, mapped, of_mapped, filtered, of_filtered, gathered, of_gathered, either_side}
 use Rattle.td_netlist.proofs.Distinct.{distinct_append, no_more}
@@ -40,7 +42,7 @@ one_item P x (y ∷ xs) all has = elim (one_of x y xs has) [
 ]
 
 pub record IsPrimitive (tens : ℕ) (p : Primitive) : Type 0 where
-  pub delay : IsDelay tens p.delay
+  pub delay : IsStatedDelay tens p.delay
   pub terminals : IsBetween 2 1024 (length p.terminals)
   pub outputs : AllByRecursion IsNet (outputs_of p)
 
@@ -102,7 +104,7 @@ takes_inputs gate.Nor n inputs within is = (omega (arith, within.0, within.1), o
 takes_inputs gate.Xor n inputs within is = (omega (arith, within.0, within.1), omega (arith, within.0, within.1))
 takes_inputs gate.Xnor n inputs within is = (omega (arith, within.0, within.1), omega (arith, within.0, within.1))
 
-delay_in_range : (tens : ℕ) (default : Delay) (stated : Option grammar.Delay) → IsInRange default → IsDelay tens stated → IsInRange (delay_of tens default stated)
+delay_in_range : (tens : ℕ) (default : Delay) (stated : Option grammar.Delay) → IsInRange default → IsStatedDelay tens stated → IsInRange (delay_of tens default stated)
 delay_in_range tens default None range keeps = range
 delay_in_range tens default (Some (grammar.Plain n)) range keeps = record { least_rise = keeps.within.0; greatest_rise = keeps.within.1; least_fall = keeps.within.0; greatest_fall = keeps.within.1 }
 delay_in_range tens default (Some (grammar.Single n)) range keeps = record { least_rise = keeps.within.0; greatest_rise = keeps.within.1; least_fall = keeps.within.0; greatest_fall = keeps.within.1 }
@@ -132,7 +134,7 @@ bit_named text bit (Some r) joined = by (holds r bit) joined
 
 is_named : (m : grammar.Module) (t : grammar.Terminal) → IsNet t → IsJoined (source_of m t) → IsNamed m t
 is_named m (grammar.Whole n) net joined = whole_named n.name (range_in m n.name) joined
-is_named m (grammar.Select n digits) net joined = bit_named n.name (value_of digits) (range_in m n.name) joined
+is_named m (grammar.Select n digits) net joined = bit_named n.name (decimal_value digits) (range_in m n.name) joined
 is_named m (grammar.Level b) net joined = absurd net
 
 all_named : (m : grammar.Module) (ts : List grammar.Terminal) → AllByRecursion IsNet ts → ((t : grammar.Terminal) → Contains ts t → IsJoined (source_of m t)) → AllByRecursion (IsNamed m) ts
@@ -183,14 +185,14 @@ unfolding bits_from
 bits_long r place zero = refl
 bits_long r place (suc n) = ap suc (bits_long r (place + 1) n)
 
-nets_long : (text : List ℕ) (range : Option Range) → length (nets_of text range) ≡ width_of range
+pub nets_long : (text : List ℕ) (range : Option Range) → length (nets_of text range) ≡ width_of range
 nets_long text None = refl
 nets_long text (Some r) = length-map (bits_from r 0 (width_of (Some r))) (bit_name text) ∙ bits_long r 0 (width_of (Some r))
 
-abbrev declared_nets : List Declared → List Name
+abbrev pub declared_nets : List Declared → List Name
 declared_nets ds = flat_map (λ (d : Declared). nets_of d.name.name d.range) ds
 
-declared_long : (ds : List Declared) → length (declared_nets ds) ≡ sum_by (λ (d : Declared). width_of d.range) ds
+pub declared_long : (ds : List Declared) → length (declared_nets ds) ≡ sum_by (λ (d : Declared). width_of d.range) ds
 declared_long [] = refl
 declared_long (d ∷ ds) =
     omega (
@@ -218,6 +220,21 @@ record SideOf (is : Role → Bool) (m : grammar.Module) (name : Name) : Type 0 w
   same : scalar declares.name ≡ scalar port
   text : name.text ≡ port.name
   is_bit : Contains (nets_of declares.name.name declares.range) name
+
+module _ (m : grammar.Module) (joined : AreJoined m) where
+  pub outputs_named : AllByRecursion (IsItem (unit_exponent m.fronts)) m.items → (p : Primitive) → Contains (primitives m) p → AllByRecursion (IsNamed m) (outputs_of p)
+  outputs_named items p has =
+      let kept = in_module (unit_exponent m.fronts) m p items has in
+      all_named m (outputs_of p) kept.outputs
+      (λ t in_it. joined.each t
+      (gathered (λ (q : Primitive). q.terminals) p t (primitives m) has
+      (subst (λ (ts : List grammar.Terminal). Contains ts t) (take-append-drop (output_count p.kind (length p.terminals)) p.terminals) (in_front t (outputs_of p) (inputs_of p) in_it))))
+
+  pub output_named : AllByRecursion (IsItem (unit_exponent m.fronts)) m.items → (p : Primitive) → Contains (primitives m) p → (t : grammar.Terminal) → Contains (outputs_of p) t → IsNamed m t
+  output_named items p has t in_it = one_item (IsNamed m) t (outputs_of p) (outputs_named items p has) in_it
+
+  pub gate_names : (default : Delay) → AllByRecursion (IsItem (unit_exponent m.fronts)) m.items → gate_outputs (netlist_in default m) ≡ nets_at (outputs_in m)
+  gate_names default items = outputs_are m default (primitives m) (outputs_named items)
 
 module _ (m : grammar.Module) (keeps : IsConsistent m) where
   -- no port is an input and an output
@@ -279,36 +296,25 @@ module _ (m : grammar.Module) (keeps : IsConsistent m) where
         | inr gate ↦ gate
       ]
 
-  pub outputs_named : AllByRecursion (IsItem (tens_of m.fronts)) m.items → (p : Primitive) → Contains (primitives m) p → AllByRecursion (IsNamed m) (outputs_of p)
-  outputs_named items p has =
-      let kept = in_module (tens_of m.fronts) m p items has in
-      all_named m (outputs_of p) kept.outputs
-      (λ t in_it. keeps.joined.each t
-      (gathered (λ (q : Primitive). q.terminals) p t (primitives m) has
-      (subst (λ (ts : List grammar.Terminal). Contains ts t) (take-append-drop (output_count p.kind (length p.terminals)) p.terminals) (in_front t (outputs_of p) (inputs_of p) in_it))))
-
-  pub output_named : AllByRecursion (IsItem (tens_of m.fronts)) m.items → (p : Primitive) → Contains (primitives m) p → (t : grammar.Terminal) → Contains (outputs_of p) t → IsNamed m t
-  output_named items p has t in_it = one_item (IsNamed m) t (outputs_of p) (outputs_named items p has) in_it
-
-  module _ (default : Delay) (range : IsInRange default) (items : AllByRecursion (IsItem (tens_of m.fronts)) m.items) (gates : sum_by item_gates m.items ≤ 200000) where
-    gate_names : gate_outputs (netlist_in default m) ≡ nets_at (outputs_in m)
-    gate_names = outputs_are m default (primitives m) (outputs_named items)
+  module _ (default : Delay) (range : IsInRange default) (items : AllByRecursion (IsItem (unit_exponent m.fronts)) m.items) (gates : sum_by item_gates m.items ≤ 200000) where
+    named : gate_outputs (netlist_in default m) ≡ nets_at (outputs_in m)
+    named = gate_names m keeps.joined default items
 
     netlist_driven : driven (netlist_in default m) ≡ driven_in m
-    netlist_driven = ap (λ (ns : List Name). ports_as is_input m ++ ns) gate_names
+    netlist_driven = ap (λ (ns : List Name). ports_as is_input m ++ ns) named
 
     gate_kept : (g : Gate) → Contains (gates_of default m) g → IsGate (netlist_in default m) g
     gate_kept g has =
         let one = of_gathered (primitive_gates m default) g (primitives m) has in
         let made = of_mapped (gate_by m default one.0) g (outputs_of one.0) one.2 in
-        let p = in_module (tens_of m.fronts) m one.0 items one.1 in
+        let p = in_module (unit_exponent m.fronts) m one.0 items one.1 in
         let long : length (gate_by m default one.0 made.0).inputs ≡ length one.0.terminals - output_count one.0.kind (length one.0.terminals) =
         length-map (inputs_of one.0) (net_of m) ∙ length-drop (output_count one.0.kind (length one.0.terminals)) one.0.terminals in
         let takes = takes_inputs one.0.kind (length one.0.terminals) (length (gate_by m default one.0 made.0).inputs) p.terminals long in
         subst (λ (x : Gate). IsGate (netlist_in default m) x) made.2 (record {
           takes = takes.0;
           few = takes.1;
-          delay = delay_in_range (tens_of m.fronts) default one.0.delay range p.delay;
+          delay = delay_in_range (unit_exponent m.fronts) default one.0.delay range p.delay;
           reads = λ name read.
               (let at = of_mapped (net_of m) (Named name) (inputs_of one.0) read in
               let bit : Placed = record { net = name; line = line_of at.0 } in
@@ -331,7 +337,7 @@ module _ (m : grammar.Module) (keeps : IsConsistent m) where
         record {
           one_driver = subst IsDistinct (sym netlist_driven) (distinct_append (ports_as is_input m) (nets_at (outputs_in m)) inputs_once keeps.driven.driven_once keeps.driven.inputs_free);
           gates = gate_kept;
-          outputs = λ name has. subst (λ (ns : List Name). Contains ns name) (sym gate_names) (output_driven_by_gate name has);
+          outputs = λ name has. subst (λ (ns : List Name). Contains ns name) (sym named) (output_driven_by_gate name has);
           distinct_outputs = sides_apart m is_output ports_once;
           few_inputs = omega (arith, fewer, long, keeps.within.few_inputs);
           few_gates = omega (arith, gates_long m default (primitives m), gates_below m.items, gates);

@@ -5,13 +5,14 @@ use Rattle.std.proofs.lemmas.List.{append-nil, take-append-drop}
 use Rattle.std.proofs.lemmas.List.Concat.{flat_map-cons}
 use Rattle.td_gates.specs.declared.timing.Delay.{Delay}
 use Rattle.td_syntax.specs.Grammar as grammar
-use Rattle.td_syntax.specs.Grammar.{tens_of, output_count}
+use Rattle.td_syntax.specs.Grammar.{unit_exponent, output_count}
 use Rattle.td_netlist.specs.declared.fault.Fault.{Fault}
 use Rattle.td_netlist.specs.Netlist.{Name, Net, Gate}
 use Rattle.td_netlist.specs.Faults.{◌>>=◌}
 use Rattle.td_netlist.specs.Module.{source_of, net_of, terminals_in, outputs_of, inputs_of, Primitive, primitives, delay_of, name_from, gate_by, primitive_gates, gates_of}
 use Rattle.td_netlist.specs.Means.{IsJoined}
-use Rattle.td_netlist.specs.Checks.{each, Known, with_net, gate_at, gate_driving, with_gate, with_gates}
+use Rattle.td_netlist.specs.Making.{with_net, gate_at, gate_driving, with_gate, with_gates}
+use Rattle.td_netlist.specs.Checks.{each, Known}
 use Rattle.td_netlist.proofs.Members.{first, later, in_front, behind, gathered}
 use Rattle.td_netlist.proofs.Joining.{KnowsModule, resolved_ok}
 use Rattle.td_netlist.proofs.Formed.{IsNamed}
@@ -46,24 +47,24 @@ module _ (m : grammar.Module) (ks : List Known) (others : List Name) (knows : Kn
     terminal_joined t in_it = joined t (gathered (λ (q : Primitive). q.terminals) p t (primitives m) has
         (subst (λ (ts : List grammar.Terminal). Contains ts t) (take-append-drop (output_count p.kind (length p.terminals)) p.terminals) in_it))
 
-    gate_is : (output : Name) → gate_at ks (tens_of m.fronts) default p output ≡ Ok (record { kind = p.kind; delay = delay_of (tens_of m.fronts) default p.delay; output = output; inputs = map (net_of m) (inputs_of p) })
+    gate_is : (output : Name) → gate_at ks (unit_exponent m.fronts) default p output ≡ Ok (record { kind = p.kind; delay = delay_of (unit_exponent m.fronts) default p.delay; output = output; inputs = map (net_of m) (inputs_of p) })
     unfolding gate_at
     gate_is output =
-        ap (λ (r : Result (List Net) Fault). r >>= λ inputs. Ok (record { kind = p.kind; delay = delay_of (tens_of m.fronts) default p.delay; output = output; inputs = inputs }))
+        ap (λ (r : Result (List Net) Fault). r >>= λ inputs. Ok (record { kind = p.kind; delay = delay_of (unit_exponent m.fronts) default p.delay; output = output; inputs = inputs }))
         (nets_are (inputs_of p) (λ t in_it. terminal_joined t (behind t (outputs_of p) (inputs_of p) in_it)))
 
-    gate_more : (gates : List Gate) (t : grammar.Terminal) → Contains (outputs_of p) t → IsNamed m t → with_gate ks (tens_of m.fronts) default p gates t ≡ Ok (gates ++ gate_by m default p t ∷ [])
+    gate_more : (gates : List Gate) (t : grammar.Terminal) → Contains (outputs_of p) t → IsNamed m t → with_gate ks (unit_exponent m.fronts) default p gates t ≡ Ok (gates ++ gate_by m default p t ∷ [])
     unfolding with_gate
     gate_more gates t in_it named =
-        ap (λ (r : Result Net Fault). r >>= gate_driving ks (tens_of m.fronts) default p gates) (resolved_ok m ks others knows t (terminal_joined t (in_front t (outputs_of p) (inputs_of p) in_it)))
-        ∙ ap (λ (net : Net). gate_driving ks (tens_of m.fronts) default p gates net) named.1
+        ap (λ (r : Result Net Fault). r >>= gate_driving ks (unit_exponent m.fronts) default p gates) (resolved_ok m ks others knows t (terminal_joined t (in_front t (outputs_of p) (inputs_of p) in_it)))
+        ∙ ap (λ (net : Net). gate_driving ks (unit_exponent m.fronts) default p gates net) named.1
         ∙ ap (λ (r : Result Gate Fault). r >>= λ gate. Ok (gates ++ gate ∷ [])) (gate_is named.0)
-        ∙ ap (λ (net : Net). Ok (gates ++ record { kind = p.kind; delay = delay_of (tens_of m.fronts) default p.delay; output = name_from net; inputs = map (net_of m) (inputs_of p) } ∷ [])) (sym named.1)
+        ∙ ap (λ (net : Net). Ok (gates ++ record { kind = p.kind; delay = delay_of (unit_exponent m.fronts) default p.delay; output = name_from net; inputs = map (net_of m) (inputs_of p) } ∷ [])) (sym named.1)
 
-    gates_more : (gates : List Gate) → ((t : grammar.Terminal) → Contains (outputs_of p) t → IsNamed m t) → with_gates ks (tens_of m.fronts) default gates p ≡ Ok (gates ++ primitive_gates m default p)
+    gates_more : (gates : List Gate) → ((t : grammar.Terminal) → Contains (outputs_of p) t → IsNamed m t) → with_gates ks (unit_exponent m.fronts) default gates p ≡ Ok (gates ++ primitive_gates m default p)
     unfolding with_gates
-    gates_more gates named = each_maps (with_gate ks (tens_of m.fronts) default p) (gate_by m default p) gates (outputs_of p) (λ s t in_it. gate_more s t in_it (named t in_it))
+    gates_more gates named = each_maps (with_gate ks (unit_exponent m.fronts) default p) (gate_by m default p) gates (outputs_of p) (λ s t in_it. gate_more s t in_it (named t in_it))
 
   pub gates_are : (default : Delay) → ((p : Primitive) → Contains (primitives m) p → (t : grammar.Terminal) → Contains (outputs_of p) t → IsNamed m t)
-      → each (with_gates ks (tens_of m.fronts) default) [] (primitives m) ≡ Ok (gates_of default m)
-  gates_are default named = each_gathers (with_gates ks (tens_of m.fronts) default) (primitive_gates m default) [] (primitives m) (λ s p has. gates_more default p has s (named p has))
+      → each (with_gates ks (unit_exponent m.fronts) default) [] (primitives m) ≡ Ok (gates_of default m)
+  gates_are default named = each_gathers (with_gates ks (unit_exponent m.fronts) default) (primitive_gates m default) [] (primitives m) (λ s p has. gates_more default p has s (named p has))

@@ -5,20 +5,21 @@ use Rattle.std.proofs.lemmas.List.{append-nil, map-append}
 use Rattle.std.proofs.lemmas.Grind.{flat_map-append}
 use Rattle.std.proofs.lemmas.List.Concat.{flat_map-cons}
 use Rattle.td_syntax.specs.Grammar as grammar
-use Rattle.td_syntax.specs.Grammar.{value_of}
+use Rattle.td_syntax.specs.Grammar.{decimal_value}
 use Rattle.td_netlist.specs.declared.fault.FaultKind.TheVariants as kind
 use Rattle.td_netlist.specs.declared.fault.Fault.{Fault}
 use Rattle.td_netlist.specs.Netlist.{Name, Net}
 use Rattle.td_netlist.specs.Faults.{fault}
-use Rattle.td_netlist.specs.Module.{scalar, names_of, declarations, range_in, whole_source, bit_source, Source, Joins, NoBit, NotOne, source_of, line_of, net_from, net_of, plain_name}
+use Rattle.td_netlist.specs.PlacedNets.{line_of, plain_name}
+use Rattle.td_netlist.specs.Module.{scalar, names_of, declarations, range_in, whole_source, bit_source, Source, Joins, NoBit, NotOne, source_of, net_from, net_of}
 use Rattle.td_netlist.specs.Means.{IsJoined}
-use Rattle.td_netlist.specs.Checks.{Known, joined, resolve, meet, line_at, Drivers, seen}
+use Rattle.td_netlist.specs.Checks.{Known, joined, resolve, meet, Drivers, seen}
 use Rattle.td_netlist.proofs.Members.{in_front}
 use Rattle.td_netlist.proofs.Steps.{ok_both, err_either}
 use Rattle.td_netlist.proofs.Knowing.{named, known_none, in_different, AreKnown, range_is_known, knows_one}
 use Rattle.td_netlist.proofs.Declaring.{all_names, range_none}
 
-pub same_line : (t : grammar.Terminal) → line_at t ≡ line_of t
+pub same_line : (t : grammar.Terminal) → line_of t ≡ line_of t
 same_line (grammar.Whole n) = refl
 same_line (grammar.Select n digits) = refl
 same_line (grammar.Level b) = refl
@@ -37,7 +38,7 @@ unfolding resolve
 resolved m ks others keeps (grammar.Whole n) =
     ap (λ (range : _). joined n.line (whole_source n.name range)) (range_is_known ks (all_names (declarations m) ++ others) (range_in m) keeps (undeclared_scalar m others) n.name)
 resolved m ks others keeps (grammar.Select n digits) =
-    ap (λ (range : _). joined n.line (bit_source n.name (value_of digits) range)) (range_is_known ks (all_names (declarations m) ++ others) (range_in m) keeps (undeclared_scalar m others) n.name)
+    ap (λ (range : _). joined n.line (bit_source n.name (decimal_value digits) range)) (range_is_known ks (all_names (declarations m) ++ others) (range_in m) keeps (undeclared_scalar m others) n.name)
 resolved m ks others keeps (grammar.Level false) = refl
 resolved m ks others keeps (grammar.Level true) = refl
 

@@ -15,7 +15,8 @@ use Rattle.td_netlist.specs.declared.fault.Fault.{Fault}
 use Rattle.td_netlist.specs.Netlist.{Name}
 use Rattle.td_netlist.specs.Ranges.{width_of}
 use Rattle.td_netlist.specs.Names.{is_in, with_name}
-use Rattle.td_netlist.specs.Module.{scalar, different}
+use Rattle.td_netlist.specs.PlacedNets.{different}
+use Rattle.td_netlist.specs.Module.{scalar}
 use Rattle.td_netlist.specs.Checks.{Known, known, range_known, nets_known, with_range, know}
 use Rattle.td_netlist.proofs.Members.{first, later, one_of, nowhere, in_front, behind, either_side, mapped, of_mapped}
 use Rattle.td_netlist.proofs.Finding.{found_there, found_none}

@@ -8,7 +8,7 @@ pub mod Seeing
 pub mod Sets
 pub mod Found
 pub mod Terminals
-pub mod Keeps
+pub mod StatedDelays
 pub mod Counts
 pub mod Steps
 pub mod Finding
@@ -22,6 +22,8 @@ pub mod DrivenNets
 pub mod Apart
 pub mod Consistent
 pub mod Formed
+pub mod FewNets
+pub mod FormedBack
 pub mod Gathering
 pub mod Readings
 pub mod Netlists

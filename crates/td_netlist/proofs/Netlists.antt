@@ -4,14 +4,15 @@ use Rattle.std.specs.Prelude.{MatchOption}
 use Rattle.std.specs.List.{AllByRecursion}
 use Rattle.td_gates.specs.declared.timing.Delay.{Delay}
 use Rattle.td_syntax.specs.Grammar as grammar
-use Rattle.td_syntax.specs.Grammar.{ArePorts, IsItem, item_gates, tens_of}
+use Rattle.td_syntax.specs.Grammar.{ArePorts, IsItem, item_gates, unit_exponent}
 use Rattle.td_netlist.specs.declared.fault.Fault.{Fault}
 use Rattle.td_netlist.specs.Netlist.{Gate}
 use Rattle.td_netlist.specs.declared.fault.FaultKind.{FaultKind}
 use Rattle.td_netlist.specs.Faults.{Fails, told, UnlessMemory, ◌>>=◌}
 use Rattle.td_netlist.specs.Module.{terminals_in, Primitive, primitives, gates_of}
-use Rattle.td_netlist.specs.Means.{Breaks}
-use Rattle.td_netlist.specs.Checks.{each, Known, Sides, Drivers, with_gates, declared_at, driven_at, checked_at}
+use Rattle.td_netlist.specs.NameFaults.{IsNameFault}
+use Rattle.td_netlist.specs.Making.{with_gates}
+use Rattle.td_netlist.specs.Checks.{each, Known, Sides, Drivers, declared_at, driven_at, checked_at}
 use Rattle.td_netlist.proofs.Consistent.{Passes, passes, declared_breaks, drivers_refused}
 use Rattle.td_netlist.proofs.Formed.{output_named}
 use Rattle.td_netlist.proofs.Gathering.{gates_are}
@@ -35,7 +36,7 @@ same_ok : {A : Type 0} (r s : Result A Fault) (x y : A) → r ≡ s → r ≡ Ok
 same_ok r s x y same e f = cc
 
 module _ (m : grammar.Module) (ports : ArePorts m.ports) where
-  pub declared_fault : (f : Fault) → Fails f (declared_at m) → UnlessMemory f.kind (Breaks f.kind f.line m)
+  pub declared_fault : (f : Fault) → Fails f (declared_at m) → UnlessMemory f.kind (IsNameFault f.kind f.line m)
   declared_fault f fails = fault_breaks m (declared_at m) (declared_breaks m ports) f fails
 
   pub declared_first : (f : Fault) → Fails f (declared_at m) → Fails f (checked_at m)
@@ -43,7 +44,7 @@ module _ (m : grammar.Module) (ports : ArePorts m.ports) where
   declared_first f fails = fails_behind f (declared_at m) (λ declared. driven_at declared.0 declared.1 (primitives m)) fails
 
   module _ (s : Sides) (ks : List Known) (declared_so : declared_at m ≡ Ok (s, ks)) (ps : List Primitive) (same : ps ≡ primitives m) where
-    pub driven_fault : (f : Fault) → Fails f (driven_at s ks ps) → UnlessMemory f.kind (Breaks f.kind f.line m)
+    pub driven_fault : (f : Fault) → Fails f (driven_at s ks ps) → UnlessMemory f.kind (IsNameFault f.kind f.line m)
     driven_fault f fails = fault_breaks m (driven_at s ks (primitives m)) (drivers_refused m ports s ks declared_so) f (subst (λ (qs : List Primitive). Fails f (driven_at s ks qs)) same fails)
 
     checked_so : checked_at m ≡ driven_at s ks ps
@@ -59,18 +60,18 @@ module _ (m : grammar.Module) (ports : ArePorts m.ports) where
       pub passed : Passes m s d
       passed = passes m ports s ks declared_so d (ap (λ (qs : List Primitive). driven_at s ks qs) (sym same) ∙ driven_so)
 
-      module _ (items : AllByRecursion (IsItem (tens_of m.fronts)) m.items) (default : Delay) (names : List Known) (tens : ℕ) (qs : List Primitive) (names_are : names ≡ d.names) (tens_are : tens ≡ tens_of m.fronts) (same_too : qs ≡ primitives m) where
+      module _ (items : AllByRecursion (IsItem (unit_exponent m.fronts)) m.items) (default : Delay) (names : List Known) (tens : ℕ) (qs : List Primitive) (names_are : names ≡ d.names) (tens_are : tens ≡ unit_exponent m.fronts) (same_too : qs ≡ primitives m) where
         all_gates : each (with_gates names tens default) [] qs ≡ Ok (gates_of default m)
         all_gates =
             ap (λ (js : List Known). each (with_gates js tens default) [] qs) names_are
             ∙ ap (λ (n : ℕ). each (with_gates d.names n default) [] qs) tens_are
-            ∙ ap (λ (rs : List Primitive). each (with_gates d.names (tens_of m.fronts) default) [] rs) same_too
-            ∙ gates_are m d.names (plain_names (terminals_in m)) passed.knows passed.consistent.joined.each default (output_named m passed.consistent items)
+            ∙ ap (λ (rs : List Primitive). each (with_gates d.names (unit_exponent m.fronts) default) [] rs) same_too
+            ∙ gates_are m d.names (plain_names (terminals_in m)) passed.knows passed.consistent.joined.each default (output_named m passed.consistent.joined items)
 
         pub gates_listed : (gates : List Gate) → each (with_gates names tens default) [] qs ≡ Ok gates → gates ≡ gates_of default m
         gates_listed gates e = same_ok (each (with_gates names tens default) [] qs) (each (with_gates names tens default) [] qs) gates (gates_of default m) refl e all_gates
 
-        pub gates_fault : (f : Fault) → Fails f (each (with_gates names tens default) [] qs) → UnlessMemory f.kind (Breaks f.kind f.line m)
+        pub gates_fault : (f : Fault) → Fails f (each (with_gates names tens default) [] qs) → UnlessMemory f.kind (IsNameFault f.kind f.line m)
         gates_fault f fails = memory_breaks m (each (with_gates names tens default) [] qs) (gates_of default m) all_gates f fails
 
         pub gates_first : (f : Fault) → Fails f (each (with_gates names tens default) [] qs) → Fails f (checked_at m)

@@ -14,7 +14,7 @@ use Rattle.td_netlist.specs.Names.{is_in}
 use Rattle.td_netlist.specs.Faults.{◌>>=◌}
 use Rattle.td_netlist.specs.Ranges.{range_of}
 use Rattle.td_netlist.specs.Module.{scalar, names_of, Declared, is_direction, item_declared, ports_from, ports_declared, declarations, port_name, port_names, ports}
-use Rattle.td_netlist.specs.Means.{Breaks}
+use Rattle.td_netlist.specs.NameFaults.{IsNameFault}
 use Rattle.td_netlist.specs.Checks.{each, list_port, Lists, nothing, with_port, declare_direction, declare_item, declare_port, declare_ports}
 use Rattle.td_netlist.proofs.Members.{in_front, behind, first}
 use Rattle.td_netlist.proofs.Sets.{is_contained}
@@ -149,7 +149,7 @@ items_declare m s t keeps e =
 
 -- ---- where they stop
 
-pub item_breaks : (m : grammar.Module) (s : Lists) (f : Fault) → Declares (ports m) s (ports_declared m.ports) → each declare_item s m.items ≡ Err f → Breaks f.kind f.line m
+pub item_breaks : (m : grammar.Module) (s : Lists) (f : Fault) → Declares (ports m) s (ports_declared m.ports) → each declare_item s m.items ≡ Err f → IsNameFault f.kind f.line m
 item_breaks m s f keeps e =
     let at = stops declares (Declares (ports m)) (declares_one (ports m)) s (ports_declared m.ports) (flat_map item_declared m.items) f keeps (sym (items_walk s m.items) ∙ e) in
     let splits : declarations m ≡ (ports_declared m.ports ++ at.before) ++ at.member ∷ at.after =
@@ -158,19 +158,19 @@ item_breaks m s f keeps e =
 
 -- a port that is listed again
 port_again : (m : grammar.Module) (names : List grammar.Name) (s : Lists) (ds : List Declared) (n : grammar.Name) (after : List grammar.Name) (f : Fault)
-    → ports m ≡ names ++ n ∷ after → Declares names s ds → with_port s n ≡ Err f → Breaks f.kind f.line m
+    → ports m ≡ names ++ n ∷ after → Declares names s ds → with_port s n ≡ Err f → IsNameFault f.kind f.line m
 port_again m names s ds n after f splits keeps e = elim (err_either (list_port s.listed n) _ f e) [
   | inl here ↦ (let at = listed_again s.listed names n after (ports m) f keeps.listed splits here in breaks_as m f.line kind.Redeclared f.kind at.0 (inl at.1))
   | inr past ↦ absurd cc
 ]
 
-name_breaks : (m : grammar.Module) (f : Fault) → each with_port nothing (ports m) ≡ Err f → Breaks f.kind f.line m
+name_breaks : (m : grammar.Module) (f : Fault) → each with_port nothing (ports m) ≡ Err f → IsNameFault f.kind f.line m
 name_breaks m f e =
     let at = stops with_port NamesListed names_one nothing [] (ports m) f declares_nothing e in
     port_again m at.before at.state [] at.member at.after f at.splits at.so_far at.refused
 
 head_breaks : (m : grammar.Module) (ds rest : List Declared) (f : Fault) → ports m ≡ names_declared ds → declarations m ≡ ds ++ rest → AllByRecursion IsDirected ds
-    → each port_step nothing ds ≡ Err f → Breaks f.kind f.line m
+    → each port_step nothing ds ≡ Err f → IsNameFault f.kind f.line m
 head_breaks m ds rest f heads are all e =
     let at = stops_fitting port_step PortsDeclare IsDirected port_one nothing [] ds f all declares_nothing e in
     let names : ports m ≡ names_declared at.before ++ at.member.name ∷ names_declared at.after = heads ∙ ap names_declared at.splits ∙ names_both at.before (at.member ∷ at.after) in
@@ -187,11 +187,11 @@ head_breaks m ds rest f heads are all e =
     names_both [] ys = refl
     names_both (x ∷ xs) ys = ap (λ (ns : List grammar.Name). x.name ∷ ns) (names_both xs ys)
 
-pub port_breaks : (m : grammar.Module) (f : Fault) → ArePorts m.ports → declare_ports m.ports ≡ Err f → Breaks f.kind f.line m
+pub port_breaks : (m : grammar.Module) (f : Fault) → ArePorts m.ports → declare_ports m.ports ≡ Err f → IsNameFault f.kind f.line m
 unfolding declare_ports
 port_breaks m f are e = by m.ports refl are e
   where
-    by : (o : Option grammar.Ports) → m.ports ≡ o → ArePorts o → declare_ports o ≡ Err f → Breaks f.kind f.line m
+    by : (o : Option grammar.Ports) → m.ports ≡ o → ArePorts o → declare_ports o ≡ Err f → IsNameFault f.kind f.line m
     by None is are e = absurd cc
     by (Some (grammar.Names ns)) is are e = name_breaks m f (ap (λ (names : List grammar.Name). each with_port nothing names) (ap port_names is) ∙ e)
     by (Some (grammar.Declared ps)) is are e =

@@ -18,8 +18,9 @@ use Rattle.td_netlist.specs.WellFormed.{IsDistinct}
 use Rattle.td_netlist.specs.Names.{name_eq, is_in}
 use Rattle.td_netlist.specs.Faults.{fault}
 use Rattle.td_netlist.specs.Ranges.{nets_of}
-use Rattle.td_netlist.specs.Module.{scalar, names_of, Declared, is_input, is_output, is_direction, ports, declarations, declared_names, range_in, nets_named, Placed, nets_at, output_bits}
-use Rattle.td_netlist.specs.Means.{Breaks}
+use Rattle.td_netlist.specs.PlacedNets.{Placed, nets_at, output_bits}
+use Rattle.td_netlist.specs.Module.{scalar, names_of, Declared, is_input, is_output, is_direction, ports, declarations, declared_names, range_in, nets_named}
+use Rattle.td_netlist.specs.NameFaults.{IsNameFault}
 use Rattle.td_netlist.specs.Checks.{each, direction_of, Sides, sideless, placed_at, on_side, take_side}
 use Rattle.td_netlist.proofs.Members.{either_side, one_of, nowhere, between, mapped, of_mapped, filtered, of_filtered, gathered}
 use Rattle.td_netlist.proofs.Distinct.{distinct_head, distinct_tail}
@@ -229,14 +230,14 @@ module _ (m : grammar.Module) (once : IsDistinct (names_of (declared_names is_di
     pub are_sides : (t : Sides) → each (take_side directions) sideless (ports m) ≡ Ok t → HasSides m t (ports m)
     are_sides t e = kept (take_side directions) (HasSides m) sides_one sideless t [] (ports m) (no_sides m) e
 
-    pub side_breaks : (f : Fault) → each (take_side directions) sideless (ports m) ≡ Err f → Breaks f.kind f.line m
+    pub side_breaks : (f : Fault) → each (take_side directions) sideless (ports m) ≡ Err f → IsNameFault f.kind f.line m
     unfolding take_side
     side_breaks f e =
         let at = stops (take_side directions) (HasSides m) sides_one sideless [] (ports m) f (no_sides m) e in
         let stands : Contains (ports m) at.member = subst (λ (ns : List grammar.Name). Contains ns at.member) (sym at.splits) (between at.before at.member at.after) in
         by at.member stands at.state (direction_of directions at.member) refl at.refused
       where
-        by : (n : grammar.Name) → Contains (ports m) n → (s : Sides) (o : Option Declared) → direction_of directions n ≡ o → on_side s n o ≡ Err f → Breaks f.kind f.line m
+        by : (n : grammar.Name) → Contains (ports m) n → (s : Sides) (o : Option Declared) → direction_of directions n ≡ o → on_side s n o ≡ Err f → IsNameFault f.kind f.line m
         by n stands s None found e =
             let same : fault kind.PortUndeclared n.line ≡ f = cc in
             let absent = undirected directions n (ap (λ (o : Option Declared). is_some o) found) in

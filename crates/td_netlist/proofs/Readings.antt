@@ -7,7 +7,8 @@ use Rattle.td_syntax.specs.declared.fault.FaultKind.TheVariants as syntax
 use Rattle.td_syntax.specs.declared.fault.Fault as syntax_fault
 use Rattle.td_syntax.specs.Grammar as grammar
 use Rattle.td_syntax.specs.Faults as syntax_faults
-use Rattle.td_syntax.specs.Text.{Parses, syntax_of}
+use Rattle.td_syntax.specs.FirstFault.{syntax_of}
+use Rattle.td_syntax.specs.Text.{Parses}
 use Rattle.td_syntax.proofs.Whole.{is_again}
 use Rattle.td_netlist.specs.declared.fault.FaultKind.{FaultKind}
 use Rattle.td_netlist.specs.declared.fault.FaultKind.TheVariants as kind
@@ -19,10 +20,16 @@ use Rattle.td_netlist.specs.Views.{name_of, gate_of, netlist_from}
 use Rattle.td_netlist.specs.FirstPass.{kind_from}
 use Rattle.td_netlist.specs.Faults.{Fails, told, UnlessMemory, IsUnlessMemory}
 use Rattle.td_netlist.specs.declared.netlist.Unit.{Unit as Step}
-use Rattle.td_netlist.specs.Module.{is_input, is_output, ports_as, nets_at, gates_of, primitives, defaulted_of, unit_of, netlist_in}
-use Rattle.td_netlist.specs.Means.{Means, IsConsistent, Breaks, IsFaultIn}
+use Rattle.td_netlist.specs.PlacedNets.{nets_at}
+use Rattle.td_netlist.specs.Module.{is_input, is_output, ports_as, gates_of, primitives, defaulted_of, unit_of, netlist_in}
+use Rattle.td_netlist.specs.Conditions.{IsConsistent}
+use Rattle.td_netlist.specs.NameFaults.{IsNameFault, IsFaultIn}
+use Rattle.td_netlist.specs.Means.{Means}
 use Rattle.td_netlist.specs.Checks.{Sides, checked_at}
+use Rattle.td_netlist.specs.WellFormed.{IsWellFormed}
 use Rattle.td_netlist.proofs.Consistent.{memory_alone, AreSides}
+use Rattle.td_netlist.proofs.FewNets.{few_nets}
+use Rattle.td_netlist.proofs.FormedBack.{consistent}
 
 abbrev parsed_as : {Y : Type 0} → Y → Result Y syntax_faults.Fault
 parsed_as y = Ok y
@@ -36,23 +43,23 @@ one_netlist text default n k p q = p.lists ∙ ap (λ (m : grammar.Module). netl
 
 -- ---- what a fault of the checks says
 
-breaks_by : (m : grammar.Module) (k : FaultKind) (line : ℕ) → MatchOption (told k) (Unit {0}) (λ j. Breaks j line m) → UnlessMemory k (Breaks k line m)
+breaks_by : (m : grammar.Module) (k : FaultKind) (line : ℕ) → MatchOption (told k) (Unit {0}) (λ j. IsNameFault j line m) → UnlessMemory k (IsNameFault k line m)
 breaks_by m kind.OutOfMemory line at = tt
 breaks_by m k line at = at
 
-refused_by : {Y : Type 0} (m : grammar.Module) (checked : Result Y Fault) → ((f : Fault) → checked ≡ Err f → Breaks f.kind f.line m)
-    → (o : Option FaultKind) (line : ℕ) → MatchOption o (Unit {0}) (λ k. checked ≡ Err (record { kind = k; line = line })) → MatchOption o (Unit {0}) (λ k. Breaks k line m)
+refused_by : {Y : Type 0} (m : grammar.Module) (checked : Result Y Fault) → ((f : Fault) → checked ≡ Err f → IsNameFault f.kind f.line m)
+    → (o : Option FaultKind) (line : ℕ) → MatchOption o (Unit {0}) (λ k. checked ≡ Err (record { kind = k; line = line })) → MatchOption o (Unit {0}) (λ k. IsNameFault k line m)
 refused_by m checked breaks None line e = tt
 refused_by m checked breaks (Some k) line e = breaks (record { kind = k; line = line }) e
 
-pub fault_breaks : {Y : Type 0} (m : grammar.Module) (checked : Result Y Fault) → ((f : Fault) → checked ≡ Err f → Breaks f.kind f.line m) → (f : Fault) → Fails f checked → UnlessMemory f.kind (Breaks f.kind f.line m)
+pub fault_breaks : {Y : Type 0} (m : grammar.Module) (checked : Result Y Fault) → ((f : Fault) → checked ≡ Err f → IsNameFault f.kind f.line m) → (f : Fault) → Fails f checked → UnlessMemory f.kind (IsNameFault f.kind f.line m)
 fault_breaks m checked breaks f e = breaks_by m f.kind f.line (refused_by m checked breaks (told f.kind) f.line e)
 
 ok_no_err : {Y : Type 0} (checked : Result Y Fault) (y : Y) (f : Fault) → checked ≡ Ok y → checked ≡ Err f → ⊥
 ok_no_err checked y f is e = cc
 
 -- where the check passes, the function fails for want of memory alone
-pub memory_breaks : {Y : Type 0} (m : grammar.Module) (checked : Result Y Fault) (y : Y) → checked ≡ Ok y → (f : Fault) → Fails f checked → UnlessMemory f.kind (Breaks f.kind f.line m)
+pub memory_breaks : {Y : Type 0} (m : grammar.Module) (checked : Result Y Fault) (y : Y) → checked ≡ Ok y → (f : Fault) → Fails f checked → UnlessMemory f.kind (IsNameFault f.kind f.line m)
 memory_breaks m checked y is f e = fault_breaks m checked (λ g other. absurd (ok_no_err checked y g is other)) f e
 
 -- ---- what the text means
@@ -70,7 +77,7 @@ first_by text syntax.DelayTooFine line e = inl (record { first = syntax_faults.f
 first_by text syntax.DelayTooLarge line e = inl (record { first = syntax_faults.fault syntax_faults.DelayTooLarge line; stands = e; of_kind = refl; there = refl })
 first_by text syntax.TooMany line e = inl (record { first = syntax_faults.fault syntax_faults.TooMany line; stands = e; of_kind = refl; there = refl })
 
-broken_by : (text : List ℕ) (m : grammar.Module) (k : FaultKind) (line : ℕ) → Parses text m → UnlessMemory k (Breaks k line m)
+broken_by : (text : List ℕ) (m : grammar.Module) (k : FaultKind) (line : ℕ) → Parses text m → UnlessMemory k (IsNameFault k line m)
     → MatchOption (told k) (Unit {0}) (λ j. checked_at m ≡ Err (record { kind = j; line = line })) → IsFaultIn text k line
 broken_by text m kind.OutOfMemory line p at e = tt
 broken_by text m kind.BadByte line p at e = inr (record { tree = m; parses = p; breaks = at; first = e })
@@ -90,25 +97,31 @@ broken_by text m kind.TooMany line p at e = inr (record { tree = m; parses = p; 
 broken_by text m kind.PortUndeclared line p at e = inr (record { tree = m; parses = p; breaks = at; first = e })
 
 -- a fault of the names of the text's tree is one of the text
-pub broken_in : {Y : Type 0} (text : List ℕ) (m : grammar.Module) (r : Result Y Fault) → Parses text m → IfErr r (λ e. UnlessMemory e.kind (Breaks e.kind e.line m))
+pub broken_in : {Y : Type 0} (text : List ℕ) (m : grammar.Module) (r : Result Y Fault) → Parses text m → IfErr r (λ e. UnlessMemory e.kind (IsNameFault e.kind e.line m))
     → IfErr r (λ e. Fails e (checked_at m)) → IfErr r (λ e. IsFaultIn text e.kind e.line)
 broken_in text m (Ok y) p at first = tt
 broken_in text m (Err e) p at first = broken_by text m e.kind e.line p at first
 
 module _ (text : List ℕ) (m : grammar.Module) (default : Delay) (p : Parses text m) where
-  pub found_by : (netlist : Netlist) → IsConsistent m → netlist ≡ netlist_in default m → Means text default netlist
-  found_by netlist keeps is = record { tree = m; parses = p; consistent = keeps; lists = is }
+  pub found_by : (netlist : Netlist) → IsConsistent m → netlist ≡ netlist_in default m → IsWellFormed netlist → Means text default netlist
+  found_by netlist keeps is formed = record { tree = m; parses = p; declared = keeps.declared; joined = keeps.joined; few_nets = few_nets m keeps.within.few_nets; lists = is; formed = formed }
 
-  pub only_by : (netlist n : Netlist) → IsConsistent m → netlist ≡ netlist_in default m → Means text default n → netlist ≡ n
-  only_by netlist n keeps is means = one_netlist text default netlist n (found_by netlist keeps is) means
+  pub found_as : (r : Result Netlist Fault) → IfOk r (λ netlist. IsConsistent m) → IfOk r (λ netlist. netlist ≡ netlist_in default m) → IfOk r (λ netlist. IsWellFormed netlist) → IfOk r (λ netlist. Means text default netlist)
+  found_as (Ok netlist) keeps is formed = found_by netlist keeps is formed
+  found_as (Err e) keeps is formed = tt
 
-  pub only_memory : (k : FaultKind) (line : ℕ) (n : Netlist) → UnlessMemory k (Breaks k line m) → Means text default n → k ≡ kind.OutOfMemory
-  only_memory k line n at means = memory_alone m line (subst IsConsistent (one_tree text means.tree m means.parses p) means.consistent) k at
+  only_by : (netlist n : Netlist) → netlist ≡ netlist_in default m → Means text default n → netlist ≡ n
+  only_by netlist n is means = is ∙ ap (λ (t : grammar.Module). netlist_in default t) (one_tree text m means.tree p means.parses) ∙ sym means.lists
 
-  pub only_as : (r : Result Netlist Fault) → IfOk r (λ netlist. IsConsistent m) → IfOk r (λ netlist. netlist ≡ netlist_in default m) → IfErr r (λ e. UnlessMemory e.kind (Breaks e.kind e.line m))
+  only_memory : (k : FaultKind) (line : ℕ) (n : Netlist) → UnlessMemory k (IsNameFault k line m) → Means text default n → k ≡ kind.OutOfMemory
+  only_memory k line n at means =
+      let keeps = consistent means.tree means.declared means.joined means.parses.kept.items default (subst IsWellFormed means.lists means.formed) means.few_nets in
+      memory_alone m line (subst IsConsistent (one_tree text means.tree m means.parses p) keeps) k at
+
+  pub only_as : (r : Result Netlist Fault) → IfOk r (λ netlist. netlist ≡ netlist_in default m) → IfErr r (λ e. UnlessMemory e.kind (IsNameFault e.kind e.line m))
       → (n : Netlist) → Means text default n → IsUnlessMemory r n
-  only_as (Ok netlist) keeps is breaks n means = only_by netlist n keeps is means
-  only_as (Err e) keeps is breaks n means = only_memory e.kind e.line n breaks means
+  only_as (Ok netlist) is breaks n means = only_by netlist n is means
+  only_as (Err e) is breaks n means = only_memory e.kind e.line n breaks means
 
 untold_by : {Y : Type 0} (k : syntax_kind.FaultKind) (line : ℕ) (y : Y) → MatchOption (syntax_faults.told k) (Unit {0}) (λ j. parsed_as y ≡ Err (syntax_faults.fault j line)) → kind_from k ≡ kind.OutOfMemory
 untold_by syntax.OutOfMemory line y e = refl

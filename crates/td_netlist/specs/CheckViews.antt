@@ -1,4 +1,4 @@
--- What the checks keep, without where it lies in memory.
+-- Internal: what the checks keep, without where it lies in memory.
 use Rattle.std.specs.Prelude.{map}
 use Rattle.td_syntax.specs.Views.{terminal_view, option_delay_view}
 use Rattle.td_netlist.specs.declared.primitive.Primitive as code_primitive

@@ -1,22 +1,22 @@
--- The checks of a module in the order of its text, with the first fault. What a text means doesn't rest on them; which of
--- several faults of names is told does.
+-- Which fault of names is told: the checks of a module in the order of its text, with the first fault. What a text means
+-- doesn't rest on them.
 use Rattle.std.specs.Prelude.{ℕ, ◌+◌, List, [], ◌∷◌, ◌++◌, map, find, Option, None, Some, is_some, Bool, true, false, not, ◌&&◌, ◌==◌, nat_lt, Result, Ok, Err, if◌then◌else◌}
 use Rattle.std.specs.List.{sum_by}
 use Rattle.std.specs.Str.{bytes_eq}
 use Rattle.td_syntax.specs.declared.syntax.Role.{Role}
 use Rattle.td_syntax.specs.declared.syntax.Role.TheVariants as role
 use Rattle.td_syntax.specs.Grammar as grammar
-use Rattle.td_syntax.specs.Grammar.{value_of, IsMaybeRange}
+use Rattle.td_syntax.specs.Grammar.{decimal_value, IsMaybeRange}
 use Rattle.td_netlist.specs.declared.fault.FaultKind.{FaultKind}
 use Rattle.td_netlist.specs.declared.fault.FaultKind.TheVariants.{Redeclared, PortUndeclared, UnknownBit, WidthNotOne, DrivenInput, TwoDrivers, Undriven, TooMany}
 use Rattle.td_netlist.specs.declared.fault.Fault.{Fault}
 use Rattle.td_netlist.specs.Faults.{fault, unless, ◌>>=◌}
 use Rattle.td_netlist.specs.declared.ranges.Range.{Range}
-use Rattle.td_gates.specs.declared.timing.Delay.{Delay}
-use Rattle.td_netlist.specs.Netlist.{Name, Net, Low, High, Named, Gate}
+use Rattle.td_netlist.specs.Netlist.{Name, Net, Low, High, Named}
 use Rattle.td_netlist.specs.Names.{is_in}
 use Rattle.td_netlist.specs.Ranges.{range_of, width_of, nets_of}
-use Rattle.td_netlist.specs.Module.{scalar, is_input, is_wire, different, port_names, whole_source, bit_source, Source, Joins, NoBit, NotOne, Placed, outputs_of, inputs_of, Declared, Primitive, primitives, delay_of}
+use Rattle.td_netlist.specs.PlacedNets.{different, line_of, Placed}
+use Rattle.td_netlist.specs.Module.{scalar, is_input, is_wire, port_names, whole_source, bit_source, Source, Joins, NoBit, NotOne, outputs_of, inputs_of, Declared, Primitive, primitives}
 
 -- the members one after another, up to the first fault
 unfoldable pub each : {S A : Type 0} → (S → A → Result S Fault) → S → List A → Result S Fault
@@ -185,7 +185,7 @@ joined line NotOne = Err (fault WidthNotOne line)
 -- the net of a terminal, by what is known of its name
 unfoldable pub resolve : List Known → grammar.Terminal → Result Net Fault
 resolve ks (grammar.Whole n) = joined n.line (whole_source n.name (range_known (known ks n.name)))
-resolve ks (grammar.Select n digits) = joined n.line (bit_source n.name (value_of digits) (range_known (known ks n.name)))
+resolve ks (grammar.Select n digits) = joined n.line (bit_source n.name (decimal_value digits) (range_known (known ks n.name)))
 resolve ks (grammar.Level false) = Ok Low
 resolve ks (grammar.Level true) = Ok High
 
@@ -214,11 +214,6 @@ drive_net inputs driven line Low = Ok driven
 drive_net inputs driven line High = Ok driven
 drive_net inputs driven line (Named name) = unless (drive_fault inputs driven name) line (driven ++ name ∷ [])
 
-abbrev pub line_at : grammar.Terminal → ℕ
-line_at (grammar.Whole n) = n.line
-line_at (grammar.Select n digits) = n.line
-line_at (grammar.Level b) = 0
-
 -- the net of a terminal, and its name known from now on
 unfoldable pub seen : Drivers → grammar.Terminal → Result (Net × Drivers) Fault
 seen s t = do
@@ -238,7 +233,7 @@ drives inputs s line net = drive_net inputs s.driven line net >>= λ driven. Ok 
 
 -- one driver more
 unfoldable pub drive : List Name → Drivers → grammar.Terminal → Result Drivers Fault
-drive inputs s t = seen s t >>= λ x. drives inputs x.1 (line_at t) x.0
+drive inputs s t = seen s t >>= λ x. drives inputs x.1 (line_of t) x.0
 
 unfoldable pub drive_all : List Name → Drivers → Primitive → Result Drivers Fault
 drive_all inputs s p = do
@@ -251,41 +246,13 @@ read_from driven line High = Ok tt
 read_from driven line (Named name) = unless (if is_in name driven then None else Some Undriven) line tt
 
 unfoldable pub read_net : Drivers → Unit {0} → grammar.Terminal → Result (Unit {0}) Fault
-read_net s u t = resolve s.names t >>= read_from s.driven (line_at t)
+read_net s u t = resolve s.names t >>= read_from s.driven (line_of t)
 
 unfoldable pub read_all : Drivers → Unit {0} → Primitive → Result (Unit {0}) Fault
 read_all s u p = each (read_net s) u (inputs_of p)
 
 unfoldable pub read_placed : List Name → Unit {0} → Placed → Result (Unit {0}) Fault
 read_placed driven u p = read_from driven p.line (Named p.net)
-
--- ---- gates
-
--- one net more
-unfoldable pub with_net : List Known → List Net → grammar.Terminal → Result (List Net) Fault
-with_net ks nets t = resolve ks t >>= λ net. Ok (nets ++ net ∷ [])
-
--- the gate of an instance that drives this net
-unfoldable pub gate_at : List Known → ℕ → Delay → Primitive → Name → Result Gate Fault
-gate_at ks tens default p output = each (with_net ks) [] (inputs_of p) >>= λ inputs. Ok (record {
-  kind = p.kind;
-  delay = delay_of tens default p.delay;
-  output = output;
-  inputs = inputs;
-})
-
-abbrev pub gate_driving : List Known → ℕ → Delay → Primitive → List Gate → Net → Result (List Gate) Fault
-gate_driving ks tens default p gates Low = Ok gates
-gate_driving ks tens default p gates High = Ok gates
-gate_driving ks tens default p gates (Named output) = gate_at ks tens default p output >>= λ gate. Ok (gates ++ gate ∷ [])
-
--- one gate more
-unfoldable pub with_gate : List Known → ℕ → Delay → Primitive → List Gate → grammar.Terminal → Result (List Gate) Fault
-with_gate ks tens default p gates t = resolve ks t >>= gate_driving ks tens default p gates
-
--- the gates of one instance more
-unfoldable pub with_gates : List Known → ℕ → Delay → List Gate → Primitive → Result (List Gate) Fault
-with_gates ks tens default gates p = each (with_gate ks tens default p) gates (outputs_of p)
 
 -- ---- the whole
 

@@ -1,7 +1,7 @@
--- The faults of tokens and grammar among all faults.
+-- Which fault is told: the faults of tokens and grammar among all faults.
 use Rattle.std.specs.Prelude.{◌≡◌, ℕ, List, Option, None, Some, Err}
 use Rattle.td_syntax.specs.Faults as syntax_faults
-use Rattle.td_syntax.specs.Text.{syntax_of}
+use Rattle.td_syntax.specs.FirstFault.{syntax_of}
 use Rattle.td_syntax.specs.declared.fault.FaultKind as syntax_kind
 use Rattle.td_syntax.specs.declared.fault.FaultKind.TheVariants as syntax
 use Rattle.td_netlist.specs.declared.fault.FaultKind.{FaultKind}
@@ -20,7 +20,6 @@ kind_from syntax.TooMany = kind.TooMany
 
 -- the kind as one of tokens and grammar, where it is one
 abbrev pub syntax_kind_of : FaultKind → Option syntax_faults.FaultKind
-syntax_kind_of kind.OutOfMemory = None
 syntax_kind_of kind.BadByte = Some syntax_faults.BadByte
 syntax_kind_of kind.UnexpectedEnd = Some syntax_faults.UnexpectedEnd
 syntax_kind_of kind.Syntax = Some syntax_faults.Syntax
@@ -28,14 +27,8 @@ syntax_kind_of (kind.OutOfSubset w) = Some (syntax_faults.OutOfSubset w.now)
 syntax_kind_of kind.ZeroDelay = Some syntax_faults.ZeroDelay
 syntax_kind_of kind.DelayTooFine = Some syntax_faults.DelayTooFine
 syntax_kind_of kind.DelayTooLarge = Some syntax_faults.DelayTooLarge
-syntax_kind_of kind.Redeclared = None
-syntax_kind_of kind.UnknownBit = None
-syntax_kind_of kind.WidthNotOne = None
-syntax_kind_of kind.TwoDrivers = None
-syntax_kind_of kind.DrivenInput = None
-syntax_kind_of kind.Undriven = None
 syntax_kind_of kind.TooMany = Some syntax_faults.TooMany
-syntax_kind_of kind.PortUndeclared = None
+syntax_kind_of k = None
 
 -- the first fault of tokens and grammar in the text is of this kind and on this line
 pub record IsFirstIn (text : List ℕ) (k : FaultKind) (line : ℕ) : Type 0 where

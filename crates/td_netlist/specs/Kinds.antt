@@ -1,4 +1,4 @@
--- The numbers and names of the kinds of faults.
+-- Which fault is told: the numbers and names of the kinds of faults.
 use Rattle.std.specs.Prelude.{ℕ, List, codes}
 use Rattle.td_netlist.specs.declared.fault.FaultKind.{FaultKind}
 use Rattle.td_netlist.specs.declared.fault.FaultKind.TheVariants as kind

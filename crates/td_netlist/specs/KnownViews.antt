@@ -1,4 +1,4 @@
--- Known names, without where they lie in memory.
+-- Internal: known names, without where they lie in memory.
 use Rattle.std.specs.Prelude.{ℕ, List, Option, None, Some}
 use Rattle.std.specs.Borrow.{Bor}
 use Rattle.std.specs.List.{AllByRecursion}

@@ -8,8 +8,12 @@ pub mod Faults
 pub mod FirstPass
 pub mod Ranges
 pub mod Module
+pub mod PlacedNets
 pub mod Means
+pub mod Conditions
 pub mod Checks
+pub mod Making
+pub mod NameFaults
 pub mod KnownViews
 pub mod NameViews
 pub mod CheckViews

@@ -1,17 +1,12 @@
--- When a text means a netlist, and what a fault says of it.
-use Rattle.std.specs.Prelude.{◌≡◌, ℕ, ◌<◌, ◌≤◌, ◌⊎◌, List, ◌∷◌, ◌++◌, Err}
+-- When a text means a netlist.
+use Rattle.std.specs.Prelude.{◌≡◌, ℕ, ◌≤◌, List, length}
 use Rattle.std.specs.List.{Contains}
 use Rattle.td_gates.specs.declared.timing.Delay.{Delay}
 use Rattle.td_syntax.specs.Grammar as grammar
 use Rattle.td_syntax.specs.Text.{Parses}
-use Rattle.td_netlist.specs.declared.fault.FaultKind.{FaultKind}
-use Rattle.td_netlist.specs.declared.fault.FaultKind.TheVariants as kind
 use Rattle.td_netlist.specs.Netlist.{Name, Netlist}
-use Rattle.td_netlist.specs.Faults.{UnlessMemory, fault}
-use Rattle.td_netlist.specs.Checks.{checked_at}
-use Rattle.td_netlist.specs.FirstPass.{IsFirstIn}
-use Rattle.td_netlist.specs.WellFormed.{IsDistinct}
-use Rattle.td_netlist.specs.Module.{scalar, names_of, Declared, declarations, declared_names, is_direction, is_input, is_wire, ports, range_in, ports_as, Source, Joins, NoBit, NotOne, source_of, line_of, Placed, nets_at, terminals_in, outputs_in, inputs_in, output_bits, net_count, input_count, driven_in, netlist_in}
+use Rattle.td_netlist.specs.WellFormed.{IsDistinct, IsWellFormed}
+use Rattle.td_netlist.specs.Module.{names_of, Declared, declarations, declared_names, is_direction, is_wire, ports, range_in, nets_named, Source, Joins, source_of, terminals_in, netlist_in}
 
 -- Each port is listed once and has one direction, no other name has one, no name is a wire twice, and what is declared
 -- twice has one range.
@@ -26,142 +21,29 @@ pub record AreDeclared (m : grammar.Module) : Type 0 where
 -- a terminal is joined to a net
 abbrev pub IsJoined : Source → Type 0
 IsJoined (Joins net) = Unit {0}
-IsJoined NoBit = ⊥
-IsJoined NotOne = ⊥
+IsJoined none = ⊥
 
 -- each terminal is a constant, a scalar, a vector of one bit or a bit that its vector has
 pub record AreJoined (m : grammar.Module) : Type 0 where
   pub each : (t : grammar.Terminal) → Contains (terminals_in m) t → IsJoined (source_of m t)
 
--- No net has two drivers, no gate drives an input, and what is read or is an output is driven.
-pub record AreDriven (m : grammar.Module) : Type 0 where
-  pub driven_once : IsDistinct (nets_at (outputs_in m))
-  pub inputs_free : (name : Name) → Contains (nets_at (outputs_in m)) name → ¬ Contains (ports_as is_input m) name
-  pub reads_driven : (name : Name) → Contains (nets_at (inputs_in m)) name → Contains (driven_in m) name
-  pub outputs_driven : (name : Name) → Contains (nets_at (output_bits m)) name → Contains (driven_in m) name
-
--- the limits on inputs and nets; those on gates and their terminals are kept by the syntax tree
-pub record IsWithin (m : grammar.Module) : Type 0 where
-  pub few_inputs : input_count m ≤ 4096
-  pub few_nets : net_count m ≤ 1000000
-
--- the conditions on the names of a module
-pub record IsConsistent (m : grammar.Module) : Type 0 where
-  pub declared : AreDeclared m
-  pub joined : AreJoined m
-  pub driven : AreDriven m
-  pub within : IsWithin m
+-- So many nets at most are those of the declared names and of the plain names of terminals.
+pub record HasFewNets (m : grammar.Module) : Type 0 where
+  pub nets : List Name
+  pub few : length nets ≤ 1000000
+  pub declared : (d : Declared) → Contains (declarations m) d → (net : Name) → Contains (nets_named m d.name) net → Contains nets net
+  pub plain : (n : grammar.Name) → Contains (terminals_in m) (grammar.Whole n) → (net : Name) → Contains (nets_named m n) net → Contains nets net
 
 -- The text, with this delay for gates that state none, means the netlist: a syntax tree spells the text's tokens, its
--- names keep the conditions, and the netlist lists what it names.
+-- names are declared and joined to nets, and the netlist that it lists is well-formed.
 pub record Means (text : List ℕ) (default : Delay) (netlist : Netlist) : Type 0 where
   pub tree : grammar.Module
   pub parses : Parses text tree
-  pub consistent : IsConsistent tree
+  pub declared : AreDeclared tree
+  pub joined : AreJoined tree
+  pub few_nets : HasFewNets tree
   pub lists : netlist ≡ netlist_in default tree
-
--- ---- a name or terminal on that line breaks the condition
-
--- a name on this line stands before it in the list too
-pub record RepeatedOn (line : ℕ) (ns : List grammar.Name) : Type 0 where
-  pub before : List grammar.Name
-  pub name : grammar.Name
-  pub after : List grammar.Name
-  pub splits : ns ≡ before ++ name ∷ after
-  pub there : name.line ≡ line
-  pub repeats : Contains (names_of before) (scalar name)
-
--- a name of this list on this line isn't among those
-pub record MissingOn (line : ℕ) (ns : List grammar.Name) (names : List Name) : Type 0 where
-  pub name : grammar.Name
-  pub stands : Contains ns name
-  pub there : name.line ≡ line
-  pub missing : ¬ Contains names (scalar name)
-
--- a declaration on this line has another range than the first one of its name
-pub record RangedOn (line : ℕ) (m : grammar.Module) : Type 0 where
-  pub declared : Declared
-  pub stands : Contains (declarations m) declared
-  pub there : declared.name.line ≡ line
-  pub other : ¬ (declared.range ≡ range_in m declared.name.name)
-
--- a net of this list on this line stands before it in the list too
-pub record AgainOn (line : ℕ) (ps : List Placed) : Type 0 where
-  pub before : List Placed
-  pub placed : Placed
-  pub after : List Placed
-  pub splits : ps ≡ before ++ placed ∷ after
-  pub there : placed.line ≡ line
-  pub repeats : Contains (nets_at before) placed.net
-
--- a net of this list on this line is among those
-pub record TakenOn (line : ℕ) (ps : List Placed) (names : List Name) : Type 0 where
-  pub placed : Placed
-  pub stands : Contains ps placed
-  pub there : placed.line ≡ line
-  pub taken : Contains names placed.net
-
--- a net of this list on this line isn't among those
-pub record LeftOutOn (line : ℕ) (ps : List Placed) (names : List Name) : Type 0 where
-  pub placed : Placed
-  pub stands : Contains ps placed
-  pub there : placed.line ≡ line
-  pub missing : ¬ Contains names placed.net
-
--- a terminal on this line is no net, for this reason
-pub record UnjoinedOn (line : ℕ) (m : grammar.Module) (why : Source) : Type 0 where
-  pub terminal : grammar.Terminal
-  pub stands : Contains (terminals_in m) terminal
-  pub there : line_of terminal ≡ line
-  pub is : source_of m terminal ≡ why
-
--- Redeclared: a name is declared again, or with another range, or a port is listed twice.
-abbrev pub IsRedeclaredOn : ℕ → grammar.Module → Type 0
-IsRedeclaredOn line m = RepeatedOn line (ports m) ⊎ (RepeatedOn line (declared_names is_direction m) ⊎ (RepeatedOn line (declared_names is_wire m) ⊎ RangedOn line m))
-
--- PortUndeclared: a direction for a name that is no port, or a port without direction.
-abbrev pub IsUndeclaredOn : ℕ → grammar.Module → Type 0
-IsUndeclaredOn line m = MissingOn line (declared_names is_direction m) (names_of (ports m)) ⊎ MissingOn line (ports m) (names_of (declared_names is_direction m))
-
--- Undriven: a net that is read or is an output, and has no driver.
-abbrev pub IsUndrivenOn : ℕ → grammar.Module → Type 0
-IsUndrivenOn line m = LeftOutOn line (inputs_in m ++ output_bits m) (driven_in m)
-
--- TooMany: a limit is passed.
-abbrev pub IsTooLarge : grammar.Module → Type 0
-IsTooLarge m = (4096 < input_count m) ⊎ (1000000 < net_count m)
-
--- What a fault says of the names of a module. The other kinds say nothing of names.
-abbrev pub Breaks : FaultKind → ℕ → grammar.Module → Type 0
-Breaks kind.Redeclared line m = IsRedeclaredOn line m
-Breaks kind.PortUndeclared line m = IsUndeclaredOn line m
-Breaks kind.DrivenInput line m = TakenOn line (outputs_in m) (ports_as is_input m)
-Breaks kind.TwoDrivers line m = AgainOn line (outputs_in m)
-Breaks kind.Undriven line m = IsUndrivenOn line m
-Breaks kind.TooMany line m = IsTooLarge m
-Breaks kind.UnknownBit line m = UnjoinedOn line m NoBit
-Breaks kind.WidthNotOne line m = UnjoinedOn line m NotOne
-Breaks kind.OutOfMemory line m = ⊥
-Breaks kind.BadByte line m = ⊥
-Breaks kind.UnexpectedEnd line m = ⊥
-Breaks kind.Syntax line m = ⊥
-Breaks (kind.OutOfSubset w) line m = ⊥
-Breaks kind.ZeroDelay line m = ⊥
-Breaks kind.DelayTooFine line m = ⊥
-Breaks kind.DelayTooLarge line m = ⊥
-
--- The grammar derives the text, and a name or terminal on that line breaks the condition, as the first one in the order of the
--- checks.
-pub record BreaksIn (text : List ℕ) (k : FaultKind) (line : ℕ) : Type 0 where
-  pub tree : grammar.Module
-  pub parses : Parses text tree
-  pub breaks : Breaks k line tree
-  pub first : checked_at tree ≡ Err (fault k line)
-
--- What a fault says of a text: it is the text's first fault of tokens and grammar, or the text has none of these and it is the
--- first of names. Nothing is said of want of memory.
-abbrev pub IsFaultIn : List ℕ → FaultKind → ℕ → Type 0
-IsFaultIn text k line = UnlessMemory k (IsFirstIn text k line ⊎ BreaksIn text k line)
+  pub formed : IsWellFormed netlist
 
 -- a text means at most one netlist
 abbrev pub MeansOne : Type 0

@@ -1,5 +1,5 @@
 -- What a module declares, and the netlist that it lists.
-use Rattle.std.specs.Prelude.{ℕ, ◌-◌, List, [], ◌∷◌, ◌++◌, length, map, filter, fold, find, take, drop, sum_by, Option, None, Some, Bool, true, false, ◌==◌, nat_lt, if◌then◌else◌}
+use Rattle.std.specs.Prelude.{not, ℕ, ◌-◌, List, [], ◌∷◌, ◌++◌, length, map, filter, fold, find, take, drop, sum_by, Option, None, Some, Bool, true, false, ◌==◌, nat_lt, if◌then◌else◌}
 use Rattle.std.specs.List.{flat_map}
 use Rattle.std.specs.Str.{bytes_eq}
 use Rattle.td_gates.specs.declared.primitives.Kind.{Kind}
@@ -10,14 +10,14 @@ use Rattle.td_syntax.specs.declared.syntax.Front.TheVariants as fronts
 use Rattle.td_syntax.specs.declared.syntax.Role.{Role}
 use Rattle.td_syntax.specs.declared.syntax.Role.TheVariants as role
 use Rattle.td_syntax.specs.Grammar as grammar
-use Rattle.td_syntax.specs.Grammar.{value_of, output_count, tens_of, steps_of}
+use Rattle.td_syntax.specs.Grammar.{decimal_value, output_count, unit_exponent, steps_of}
 use Rattle.td_netlist.specs.declared.netlist.Unit.{Unit as Step}
 use Rattle.td_netlist.specs.declared.netlist.Scale.{Scale}
 use Rattle.td_netlist.specs.declared.netlist.Scale.TheVariants as scale
 use Rattle.td_netlist.specs.declared.ranges.Range.{Range}
 use Rattle.td_netlist.specs.Netlist.{Name, Net, Low, High, Named, Gate, Netlist}
-use Rattle.td_netlist.specs.Names.{is_in, with_name}
-use Rattle.td_netlist.specs.Ranges.{range_of, width_of, holds, bit_name, nets_of}
+use Rattle.td_netlist.specs.Names.{is_in}
+use Rattle.td_netlist.specs.Ranges.{range_of, holds, bit_name, nets_of}
 
 -- the net of a name that is no vector
 abbrev pub scalar : grammar.Name → Name
@@ -53,23 +53,18 @@ declarations m = ports_declared m.ports ++ flat_map item_declared m.items
 
 abbrev pub is_input : Role → Bool
 is_input role.Input = true
-is_input role.Output = false
-is_input role.Wire = false
+is_input r = false
 
 abbrev pub is_output : Role → Bool
-is_output role.Input = false
 is_output role.Output = true
-is_output role.Wire = false
+is_output r = false
 
 abbrev pub is_wire : Role → Bool
-is_wire role.Input = false
-is_wire role.Output = false
 is_wire role.Wire = true
+is_wire r = false
 
 abbrev pub is_direction : Role → Bool
-is_direction role.Input = true
-is_direction role.Output = true
-is_direction role.Wire = false
+is_direction r = not (is_wire r)
 
 -- what is declared as such
 abbrev pub declared : (Role → Bool) → grammar.Module → List Declared
@@ -95,13 +90,9 @@ ports m = port_names m.ports
 abbrev pub is_of : List ℕ → Declared → Bool
 is_of text d = bytes_eq text d.name.name
 
-abbrev pub range_found : Option Declared → Option Range
-range_found None = None
-range_found (Some d) = d.range
-
 -- the range of a name, by its first declaration; a name without one is no vector
 abbrev pub range_in : grammar.Module → List ℕ → Option Range
-range_in m text = range_found (find (is_of text) (declarations m))
+range_in m text = elim (find (is_of text) (declarations m)) [ None ↦ None | Some d ↦ d.range ]
 
 -- the nets of a name
 abbrev pub nets_named : grammar.Module → grammar.Name → List Name
@@ -131,41 +122,17 @@ bit_source text bit (Some r) = if holds r bit then Joins (Named (bit_name text b
 
 abbrev pub source_of : grammar.Module → grammar.Terminal → Source
 source_of m (grammar.Whole n) = whole_source n.name (range_in m n.name)
-source_of m (grammar.Select n digits) = bit_source n.name (value_of digits) (range_in m n.name)
+source_of m (grammar.Select n digits) = bit_source n.name (decimal_value digits) (range_in m n.name)
 source_of m (grammar.Level false) = Joins Low
 source_of m (grammar.Level true) = Joins High
-
--- the line of a terminal; constants have none
-abbrev pub line_of : grammar.Terminal → ℕ
-line_of (grammar.Whole n) = n.line
-line_of (grammar.Select n digits) = n.line
-line_of (grammar.Level b) = 0
 
 -- the net, where the terminal is joined to one
 abbrev pub net_from : Source → Net
 net_from (Joins net) = net
-net_from NoBit = Low
-net_from NotOne = Low
+net_from none = Low
 
 abbrev pub net_of : grammar.Module → grammar.Terminal → Net
 net_of m t = net_from (source_of m t)
-
--- a named net, and the line of the terminal or name that names it
-pub record Placed : Type 0 where
-  pub net : Name
-  pub line : ℕ
-
-abbrev pub placed_net : ℕ → Net → List Placed
-placed_net line Low = []
-placed_net line High = []
-placed_net line (Named name) = record { net = name; line = line } ∷ []
-
--- constants are left out
-abbrev pub placed_in : grammar.Module → List grammar.Terminal → List Placed
-placed_in m ts = flat_map (λ t. placed_net (line_of t) (net_of m t)) ts
-
-abbrev pub nets_at : List Placed → List Name
-nets_at ps = map (λ p. p.net) ps
 
 -- ---- gates, in the order of the text
 
@@ -192,19 +159,9 @@ outputs_of p = take (output_count p.kind (length p.terminals)) p.terminals
 abbrev pub inputs_of : Primitive → List grammar.Terminal
 inputs_of p = drop (output_count p.kind (length p.terminals)) p.terminals
 
--- the terminals, the nets that they drive, and those that they read
+-- all terminals
 abbrev pub terminals_in : grammar.Module → List grammar.Terminal
 terminals_in m = flat_map (λ p. p.terminals) (primitives m)
-
-abbrev pub outputs_in : grammar.Module → List Placed
-outputs_in m = placed_in m (flat_map outputs_of (primitives m))
-
-abbrev pub inputs_in : grammar.Module → List Placed
-inputs_in m = placed_in m (flat_map inputs_of (primitives m))
-
--- the output bits, at the line of their declaration, in the order of the declarations
-abbrev pub output_bits : grammar.Module → List Placed
-output_bits m = flat_map (λ d. map (λ net. record { net = net; line = d.name.line }) (nets_of d.name.name d.range)) (declared is_output m)
 
 -- The delay in steps that is stated, or the default. One value serves for both changes, and of two the first is the rise
 -- delay.
@@ -216,15 +173,14 @@ delay_of tens default (Some (grammar.Pair n m)) = record { rise = steps_of tens 
 
 -- the name of a net that an output drives
 abbrev pub name_from : Net → Name
-name_from Low = record { text = []; bit = None }
-name_from High = record { text = []; bit = None }
 name_from (Named name) = name
+name_from constant = record { text = []; bit = None }
 
 -- a gate for each output
 abbrev pub gate_by : grammar.Module → Delay → Primitive → grammar.Terminal → Gate
 gate_by m default p output = record {
   kind = p.kind;
-  delay = delay_of (tens_of m.fronts) default p.delay;
+  delay = delay_of (unit_exponent m.fronts) default p.delay;
   output = name_from (net_of m output);
   inputs = map (net_of m) (inputs_of p);
 }
@@ -260,9 +216,8 @@ step_of tens =
     else scaled scale.Seconds (tens - 15)))))
 
 abbrev pub step_behind : Step → Front → Step
-step_behind step fronts.Attributed = step
-step_behind step (fronts.Directed directive.Cells) = step
 step_behind step (fronts.Directed (directive.Timescale t)) = step_of t.step
+step_behind step front = step
 
 -- By the last directive. Without one a step is a nanosecond.
 abbrev pub unit_of : List Front → Step
@@ -279,29 +234,3 @@ netlist_in default m = record {
   unit = unit_of m.fronts;
   defaulted = sum_by defaulted_of (primitives m);
 }
-
--- ---- nets
-
--- the different names, in the order in which they are first seen
-abbrev pub different : List Name → List Name
-different names = fold with_name [] names
-
--- the names of the module: those that are declared, and the plain names of terminals
-abbrev pub plain_name : grammar.Terminal → List grammar.Name
-plain_name (grammar.Whole n) = n ∷ []
-plain_name (grammar.Select n digits) = []
-plain_name (grammar.Level b) = []
-
-abbrev pub names_in : grammar.Module → List Name
-names_in m = different (names_of (map (λ d. d.name) (declarations m) ++ flat_map plain_name (terminals_in m)))
-
--- how many nets there are: a name has as many as its range holds
-abbrev pub net_count : grammar.Module → ℕ
-net_count m = sum_by (λ (name : Name). width_of (range_in m name.text)) (names_in m)
-
-abbrev pub input_count : grammar.Module → ℕ
-input_count m = sum_by (λ (d : Declared). width_of d.range) (declared is_input m)
-
--- the nets with a driver: the inputs, and the outputs of gates
-abbrev pub driven_in : grammar.Module → List Name
-driven_in m = ports_as is_input m ++ nets_at (outputs_in m)

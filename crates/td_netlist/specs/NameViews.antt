@@ -1,4 +1,4 @@
--- Borrowed names and directions, without where they lie in memory.
+-- Internal: borrowed names and directions, without where they lie in memory.
 use Rattle.std.specs.Prelude.{ℕ, List, Option, None, Some}
 use Rattle.std.specs.Borrow.{Bor}
 use Rattle.td_netlist.specs.declared.name_ref.NameRef as code_name_ref
@@ -7,7 +7,8 @@ use Rattle.td_netlist.specs.declared.name_ref.NetRef as code_name_ref_net
 use Rattle.td_netlist.specs.declared.name_ref.NetRef.TheVariants as net
 use Rattle.td_netlist.specs.declared.name_ref.PlacedRef as code_placed
 use Rattle.td_netlist.specs.Netlist.{Name, Net, Low, High, Named}
-use Rattle.td_netlist.specs.Module.{Declared, Placed}
+use Rattle.td_netlist.specs.PlacedNets.{Placed}
+use Rattle.td_netlist.specs.Module.{Declared}
 
 abbrev pub name_ref_of : code_name_ref.NameRef → Name
 name_ref_of name = record { text = name.text.now; bit = name.bit }

@@ -1,14 +1,14 @@
 -- The bits of a declared name.
 use Rattle.std.specs.Prelude.{ℕ, zero, suc, ◌+◌, ◌-◌, ◌≤◌, List, [], ◌∷◌, map, Option, None, Some, Bool, ◌&&◌, ◌||◌, nat_le, if◌then◌else◌}
 use Rattle.td_syntax.specs.Grammar as grammar
-use Rattle.td_syntax.specs.Grammar.{value_of}
+use Rattle.td_syntax.specs.Grammar.{decimal_value}
 use Rattle.td_netlist.specs.declared.ranges.Range.{Range}
 use Rattle.td_netlist.specs.Netlist.{Name}
 
 -- the range of a vector, and none for a scalar
 abbrev pub range_of : Option grammar.Range → Option Range
 range_of None = None
-range_of (Some r) = Some (record { left = value_of r.left; right = value_of r.right })
+range_of (Some r) = Some (record { left = decimal_value r.left; right = decimal_value r.right })
 
 -- numbers of at most the greatest that a range may be written with
 abbrev pub IsLimited : Option Range → Type 0

@@ -2,7 +2,7 @@
 
 ghost use Rattle.std.specs.Prelude.{◌≡◌, ◌++◌, map, OnOk};
 ghost use Rattle.std.specs.List.{AllByRecursion};
-ghost use Rattle.td_syntax.specs.Grammar.{IsItem, IsPort, ArePorts, tens_of};
+ghost use Rattle.td_syntax.specs.Grammar.{IsItem, IsPort, ArePorts, unit_exponent};
 ghost use Rattle.td_netlist.specs.Ranges.{IsLimited, nets_of};
 ghost use Rattle.td_syntax.specs.Views.{name_view, names_view, port_view, ports_view, module_view, item_view};
 ghost use Rattle.td_netlist.specs.Faults.{Gives};
@@ -407,7 +407,7 @@ fn by_side<'a>(
 #[tactic(auto, unfolding(crate::specs::Checks::declared_at))]
 pub fn declared<'a>(alloc: Global, source: &Module<'a>) -> Result<(Sides<'a>, Known<'a>), Fault<'a>>
     requires ports { ArePorts (module_view source.now).ports }
-    requires items { AllByRecursion (IsItem (tens_of (module_view source.now).fronts)) (module_view source.now).items }
+    requires items { AllByRecursion (IsItem (unit_exponent (module_view source.now).fronts)) (module_view source.now).items }
     ensures { Gives (λ x. (sides_of x.0, x.1)) result (declared_at (module_view source.now)) }
 {
     let mut lists = declared_ports(alloc, &source.ports)?;

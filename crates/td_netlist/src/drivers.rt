@@ -3,12 +3,14 @@
 ghost use Rattle.std.specs.Prelude.{◌≡◌, [], map, Ok, IfOk};
 ghost use Rattle.td_syntax.specs.Views.{terminal_view};
 ghost use Rattle.td_netlist.specs.Faults.{Gives};
-ghost use Rattle.td_netlist.specs.Module.{different, whole_source, bit_source};
+ghost use Rattle.td_netlist.specs.PlacedNets.{different};
+ghost use Rattle.td_netlist.specs.Module.{whole_source, bit_source};
 ghost use Rattle.td_netlist.specs.Netlist.{Named};
 ghost use Rattle.td_netlist.specs.Ranges.{bit_name, IsLimited};
-ghost use Rattle.td_syntax.specs.Grammar.{value_of};
+ghost use Rattle.td_syntax.specs.Grammar.{decimal_value};
 ghost use Rattle.td_netlist.specs.Names.{is_in};
-ghost use Rattle.td_netlist.specs.Checks.{each, known, range_known, joined, resolve, meet, drive, drives, see, seen, read_from, drive_all, read_net, read_all, read_placed, driven_at, second_driver, line_at};
+ghost use Rattle.td_netlist.specs.PlacedNets.{line_of};
+ghost use Rattle.td_netlist.specs.Checks.{each, known, range_known, joined, resolve, meet, drive, drives, see, seen, read_from, drive_all, read_net, read_all, read_placed, driven_at, second_driver};
 ghost use Rattle.td_netlist.specs.NameViews.{name_ref_of, net_ref_of, placed_ref_of};
 ghost use Rattle.td_netlist.specs.CheckViews.{primitive_of, sides_of, drivers_of};
 
@@ -20,7 +22,7 @@ use crate::names::Names;
 use crate::primitive::Primitive;
 use crate::ranges::{Range, holds};
 use std::alloc::{AllocError, Global};
-use td_syntax::{Name as Placed, Terminal, value_of};
+use td_syntax::{Name as Placed, Terminal, decimal_value};
 
 /// The driven nets and the names so far.
 #[derive(Drop)]
@@ -59,7 +61,7 @@ fn driven_inputs<'a>(alloc: Global, inputs: &[NameRef<'a>]) -> Result<Names<'a>,
 
 /// The line of a terminal. Constants have none.
 fn line_of(terminal: Terminal<'_>) -> u32
-    ensures { result ≡ line_at (terminal_view terminal.entry) }
+    ensures { result ≡ line_of (terminal_view terminal.entry) }
 {
     match terminal {
         Terminal::Whole(name) | Terminal::Select(name, _) => name.line,
@@ -102,9 +104,9 @@ fn select<'a>(
     range: Option<Range>,
 ) -> Result<NetRef<'a>, Fault<'a>>
     requires { IsLimited range }
-    ensures { Gives net_ref_of result (joined name.entry.line (bit_source name.entry.name.now (value_of digits.now) range)) }
+    ensures { Gives net_ref_of result (joined name.entry.line (bit_source name.entry.name.now (decimal_value digits.now) range)) }
 {
-    let bit = value_of(digits);
+    let bit = decimal_value(digits);
     match range {
         Some(range) => {
             if holds(range, bit) {

@@ -2,10 +2,11 @@
 
 ghost use Rattle.std.specs.Prelude.{◌≡◌, ◌≤◌, [], map, IfOk};
 ghost use Rattle.std.specs.List.{AllByRecursion};
-ghost use Rattle.td_syntax.specs.Grammar.{IsSteps, IsDelay, steps_of};
+ghost use Rattle.td_syntax.specs.Grammar.{IsSteps, IsStatedDelay, steps_of};
 ghost use Rattle.td_syntax.specs.Views.{numeral_view, option_delay_view, terminal_view};
 ghost use Rattle.td_netlist.specs.Faults.{Gives};
-ghost use Rattle.td_netlist.specs.Checks.{each, with_net, gate_at, with_gate, with_gates};
+ghost use Rattle.td_netlist.specs.Making.{with_net, gate_at, with_gate, with_gates};
+ghost use Rattle.td_netlist.specs.Checks.{each};
 ghost use Rattle.td_netlist.specs.Module.{delay_of};
 ghost use Rattle.td_netlist.specs.Views.{name_of, net_of, gate_of};
 ghost use Rattle.td_netlist.specs.NameViews.{name_ref_of, net_ref_of};
@@ -44,7 +45,7 @@ fn steps(tens: u8, number: Number<'_>) -> u32
 
 /// The delay that is stated, or the default.
 fn delay(tens: u8, default: Delay, stated: Option<Stated<'_>>) -> Delay
-    requires { IsDelay tens (option_delay_view stated) }
+    requires { IsStatedDelay tens (option_delay_view stated) }
     ensures { result ≡ delay_of tens default (option_delay_view stated.entry) }
 {
     match stated {
@@ -95,7 +96,7 @@ fn nets<'a>(
     Ok(nets)
 }
 
-#[tactic(auto, unfolding(crate::specs::Checks::with_net))]
+#[tactic(auto, unfolding(crate::specs::Making::with_net))]
 fn push_net<'a>(
     alloc: Global,
     names: &Known<'a>,
@@ -108,7 +109,7 @@ fn push_net<'a>(
     Ok(())
 }
 
-#[tactic(auto, unfolding(crate::specs::Checks::gate_at))]
+#[tactic(auto, unfolding(crate::specs::Making::gate_at))]
 fn gate<'a>(
     alloc: Global,
     names: &Known<'a>,
@@ -116,7 +117,7 @@ fn gate<'a>(
     primitive: Primitive<'_, 'a>,
     output: NameRef<'a>,
 ) -> Result<Gate, Fault<'a>>
-    requires { IsDelay timing.now.tens (option_delay_view primitive.delay) }
+    requires { IsStatedDelay timing.now.tens (option_delay_view primitive.delay) }
     ensures { Gives gate_of result (gate_at names.now timing.now.tens timing.now.default (primitive_of primitive.entry) (name_ref_of output.entry)) }
 {
     let output = owned(alloc, output)?;
@@ -136,7 +137,7 @@ fn add_gates<'a>(
     primitive: Primitive<'_, 'a>,
     gates: &mut Vec<Gate>,
 ) -> Result<(), Fault<'a>>
-    requires { IsDelay timing.now.tens (option_delay_view primitive.delay) }
+    requires { IsStatedDelay timing.now.tens (option_delay_view primitive.delay) }
     ensures { Gives (λ _. map gate_of gates.new.items) result (with_gates names.now timing.now.tens timing.now.default (map gate_of gates.old.items) (primitive_of primitive.entry)) }
 {
     for terminal in primitive.outputs() {
@@ -145,7 +146,7 @@ fn add_gates<'a>(
     Ok(())
 }
 
-#[tactic(auto, unfolding(crate::specs::Checks::with_gate))]
+#[tactic(auto, unfolding(crate::specs::Making::with_gate))]
 fn add_gate<'a>(
     alloc: Global,
     names: &Known<'a>,
@@ -154,7 +155,7 @@ fn add_gate<'a>(
     terminal: Terminal<'a>,
     gates: &mut Vec<Gate>,
 ) -> Result<(), Fault<'a>>
-    requires { IsDelay timing.now.tens (option_delay_view primitive.delay) }
+    requires { IsStatedDelay timing.now.tens (option_delay_view primitive.delay) }
     ensures { Gives (λ _. map gate_of gates.new.items) result (with_gate names.now timing.now.tens timing.now.default (primitive_of primitive.entry) (map gate_of gates.old.items) (terminal_view terminal.entry)) }
 {
     match resolve(names, terminal)? {
@@ -173,7 +174,7 @@ pub fn gates<'a>(
     timing: &Timing,
     primitives: &[Primitive<'_, 'a>],
 ) -> Result<Vec<Gate>, Fault<'a>>
-    requires { AllByRecursion (λ p. IsDelay timing.now.tens (option_delay_view p.delay)) primitives.now }
+    requires { AllByRecursion (λ p. IsStatedDelay timing.now.tens (option_delay_view p.delay)) primitives.now }
     ensures { Gives (λ gates. map gate_of gates.items) result (each (with_gates names.now timing.now.tens timing.now.default) [] (map primitive_of primitives.now)) }
 {
     let mut gates = Vec::new(alloc);

@@ -2,16 +2,20 @@
 
 ghost use Rattle.std.specs.Prelude.{◌≡◌, ◌≤◌, map, sum_by, Ok, IfOk, IfErr};
 ghost use Rattle.std.specs.List.{AllByRecursion};
-ghost use Rattle.td_syntax.specs.Grammar.{IsItem, ArePorts, item_gates, tens_of};
+ghost use Rattle.td_syntax.specs.Grammar.{IsItem, ArePorts, item_gates, unit_exponent};
 ghost use Rattle.td_syntax.specs.Text.{Parses};
 ghost use Rattle.td_syntax.specs.Views.{module_view};
 ghost use Rattle.td_netlist.specs.Netlist as netlist;
 ghost use Rattle.td_netlist.specs.Faults.{IsUnlessMemory, UnlessMemory, Fails};
 ghost use Rattle.td_netlist.specs.Checks.{checked_at};
-ghost use Rattle.td_netlist.specs.Means.{Means, IsConsistent, Breaks, IsFaultIn};
-ghost use Rattle.td_netlist.specs.Module.{nets_at, netlist_in, step_of, unit_of};
+ghost use Rattle.td_netlist.specs.Conditions.{IsConsistent};
+ghost use Rattle.td_netlist.specs.NameFaults.{IsNameFault, IsFaultIn};
+ghost use Rattle.td_netlist.specs.Means.{Means};
+ghost use Rattle.td_netlist.specs.PlacedNets.{nets_at};
+ghost use Rattle.td_netlist.specs.Module.{netlist_in, step_of, unit_of};
 ghost use Rattle.td_netlist.specs.NameViews.{name_ref_of, placed_ref_of};
 ghost use Rattle.td_netlist.specs.Views.{name_of};
+ghost use Rattle.td_netlist.specs.WellFormed.{IsWellFormed};
 
 use crate::declarations::declared;
 use crate::drivers::all_driven;
@@ -23,7 +27,7 @@ use crate::netlist::{Netlist, Scale, Unit};
 use crate::primitive::{defaulted_count, primitives};
 use std::alloc::{AllocError, Global};
 use td_gates::Delay;
-use td_syntax::{Directive, Front, Module, parse, tens_of};
+use td_syntax::{Directive, Front, Module, parse, unit_exponent};
 
 fn owned_names(alloc: Global, names: &[NameRef<'_>]) -> Result<Vec<Name>, AllocError>
     ensures { IfOk result (λ owned. map name_of owned.items ≡ map name_ref_of names.now) }
@@ -84,11 +88,12 @@ fn unit(fronts: &[Front]) -> Unit
 /// The netlist of a module.
 fn netlist<'a>(alloc: Global, source: &Module<'a>, default: Delay) -> Result<Netlist, Fault<'a>>
     requires ports { ArePorts (module_view source.now).ports }
-    requires items { AllByRecursion (IsItem (tens_of (module_view source.now).fronts)) (module_view source.now).items }
+    requires items { AllByRecursion (IsItem (unit_exponent (module_view source.now).fronts)) (module_view source.now).items }
     requires gates { sum_by item_gates (module_view source.now).items ≤ 200000 }
     ensures consistent { IfOk result (λ _. IsConsistent (module_view source.now)) }
     ensures lists { IfOk result (λ n. n ≡ netlist_in default (module_view source.now)) }
-    ensures breaks { IfErr result (λ e. UnlessMemory e.kind (Breaks e.kind e.line (module_view source.now))) }
+    ensures formed { IfOk result (λ n. IsWellFormed n) }
+    ensures breaks { IfErr result (λ e. UnlessMemory e.kind (IsNameFault e.kind e.line (module_view source.now))) }
     ensures first { IfErr result (λ e. Fails e (checked_at (module_view source.now))) }
 {
     let instances = primitives(alloc, source)?;
@@ -97,7 +102,7 @@ fn netlist<'a>(alloc: Global, source: &Module<'a>, default: Delay) -> Result<Net
     let inputs = owned_names(alloc, &sides.inputs)?;
     let outputs = owned_outputs(alloc, &sides.outputs)?;
     let timing = Timing {
-        tens: tens_of(&source.fronts),
+        tens: unit_exponent(&source.fronts),
         default,
     };
     let gates = gates(alloc, drivers.names(), &timing, &instances)?;

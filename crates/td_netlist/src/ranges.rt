@@ -8,7 +8,7 @@ ghost use Rattle.td_netlist.specs.NameViews.{name_ref_of};
 
 use crate::name_ref::NameRef;
 use std::alloc::AllocError;
-use td_syntax::{Range as Written, value_of};
+use td_syntax::{Range as Written, decimal_value};
 
 /// The numbers of a range, as written: the bits go from the left number to the right.
 #[derive(Clone, Copy, Debug, PartialEq, Eq)]
@@ -26,8 +26,8 @@ pub fn range_of(written: Option<Written<'_>>) -> Option<Range>
     match written {
         None => None,
         Some(range) => Some(Range {
-            left: value_of(range.left),
-            right: value_of(range.right),
+            left: decimal_value(range.left),
+            right: decimal_value(range.right),
         }),
     }
 }

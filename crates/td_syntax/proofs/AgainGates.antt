@@ -7,13 +7,15 @@ use Rattle.std.proofs.lemmas.Bool.{lt-ltb}
 use Rattle.std.proofs.Math.Dec.{eqb-suc-zero}
 use Rattle.td_gates.specs.declared.primitives.Kind.{Kind}
 use Rattle.td_syntax.specs.declared.token.Symbol.TheVariants as symbol
-use Rattle.td_syntax.specs.Lexical.{Token, Name, Escaped, Reserved, Number, Constant, Mark, Attribute, Directs, Outside}
-use Rattle.td_syntax.specs.Tokens.{Placed, Stream, at}
+use Rattle.td_syntax.specs.Token.{Token, Name, Escaped, Reserved, Number, Constant, Mark, Attribute, Directs, Outside}
+use Rattle.td_syntax.specs.Token.{Placed, placed_on}
+use Rattle.td_syntax.specs.Tokens.{Stream}
 use Rattle.td_syntax.specs.Grammar as grammar
-use Rattle.td_syntax.specs.Grammar.{plain}
-use Rattle.td_syntax.specs.Grammar.{IsBetween, IsNet, IsInstance, IsStatement, has_many_outputs, output_count, instance_gates, statement_gates}
+use Rattle.td_syntax.proofs.Plain.{plain}
+use Rattle.td_syntax.specs.Grammar.{IsBetween, IsNet, IsInstance, IsStatement, has_many_outputs, output_count, instance_gates}
+use Rattle.td_syntax.proofs.Plain.{statement_gates}
 use Rattle.td_syntax.specs.Faults.{Fault}
-use Rattle.td_syntax.specs.Parsing.{State, behind_front, is_mark, as_name, as_base, base_by, maybe_at, many, count_at, output_at, begin_terminal, more_terminals, end_terminals, terminal_end, bit_at, selected_at, terminal_step, opening_at, instance_at, instance_step, statement_at}
+use Rattle.td_syntax.specs.Parsing.{Remainder, behind_front, is_mark, as_name, as_base, base_by, maybe_at, many, count_at, output_at, begin_terminal, more_terminals, end_terminals, terminal_end, bit_at, selected_at, terminal_step, opening_at, instance_at, instance_step, statement_at}
 use Rattle.td_syntax.proofs.Takes.{next_takes, names_classified, maybe_takes, AllFrom, gates_from}
 use Rattle.td_syntax.proofs.SoundDelays.{delay_takes}
 use Rattle.td_syntax.proofs.SoundGates.{first_gates, later_gates, OutputIf, selected_takes, opening_takes, MoreTerminal, LastTerminal, more_gates, last_gates, terminal_member, terminals_shorten, terminal_count, AnInstance, its_gates, instance_member, instances_shorten, statement_rest}
@@ -22,38 +24,38 @@ use Rattle.td_syntax.proofs.AgainDelays.{delay_again}
 
 -- ---- terminals
 
-count_again : (line : ℕ) (s : State) → s.gates + 1 ≤ 200000 → count_at line s ≡ Ok (record { stream = s.stream; gates = s.gates + 1 })
+count_again : (line : ℕ) (s : Remainder) → s.gates + 1 ≤ 200000 → count_at line s ≡ Ok (record { stream = s.stream; gates = s.gates + 1 })
 unfolding count_at
 count_again line s le = let lt : s.gates < 200000 = omega (arith, le) in rw (lt-ltb s.gates 200000 lt) refl
 
 -- the same tokens, with the gates counted
-record Counts (read : Result State Fault) (s : State) (n : ℕ) : Type 0 where
-  pub rest : State
+record Counts (read : Result Remainder Fault) (s : Remainder) (n : ℕ) : Type 0 where
+  pub rest : Remainder
   pub gives : read ≡ Ok rest
   pub stream : rest.stream ≡ s.stream
   pub gates : rest.gates ≡ s.gates + n
 
-output_again : (line : ℕ) (t : grammar.Terminal) (s : State) → IsNet t → s.gates + 1 ≤ 200000 → output_at line t s ≡ Ok (record { stream = s.stream; gates = s.gates + 1 })
+output_again : (line : ℕ) (t : grammar.Terminal) (s : Remainder) → IsNet t → s.gates + 1 ≤ 200000 → output_at line t s ≡ Ok (record { stream = s.stream; gates = s.gates + 1 })
 unfolding output_at
 output_again line (grammar.Whole n) s h le = count_again line s le
 output_again line (grammar.Select n digits) s h le = count_again line s le
 output_again line (grammar.Level b) s h le = absurd h
 
-counts_by : (line : ℕ) (t : grammar.Terminal) (s : State) (b : Bool) → OutputIf b t → s.gates + cond b 1 0 ≤ 200000 → Counts (cond b (output_at line t s) (Ok s)) s (cond b 1 0)
+counts_by : (line : ℕ) (t : grammar.Terminal) (s : Remainder) (b : Bool) → OutputIf b t → s.gates + cond b 1 0 ≤ 200000 → Counts (cond b (output_at line t s) (Ok s)) s (cond b 1 0)
 counts_by line t s true h le = record { rest = record { stream = s.stream; gates = s.gates + 1 }; gives = output_again line t s h le; stream = refl; gates = refl }
 counts_by line t s false h le = record { rest = s; gives = refl; stream = refl; gates = omega arith }
 
-begin_again : (k line : ℕ) (t : grammar.Terminal) (s : State) → k < 1024 → OutputIf (k == 0) t → s.gates + first_gates k ≤ 200000 → Counts (begin_terminal k line t s) s (first_gates k)
+begin_again : (k line : ℕ) (t : grammar.Terminal) (s : Remainder) → k < 1024 → OutputIf (k == 0) t → s.gates + first_gates k ≤ 200000 → Counts (begin_terminal k line t s) s (first_gates k)
 unfolding begin_terminal
 begin_again k line t s lt h le =
     let c = counts_by line t s (k == 0) h le in
     record { rest = c.rest; gives = rw (lt-ltb k 1024 lt) c.gives; stream = c.stream; gates = c.gates }
 
-later_again : (kind : Kind) (k line : ℕ) (t : grammar.Terminal) (s : State) → OutputIf (has_many_outputs kind && nat_lt 0 k) t → s.gates + later_gates kind k ≤ 200000 → Counts (more_terminals kind k line t s) s (later_gates kind k)
+later_again : (kind : Kind) (k line : ℕ) (t : grammar.Terminal) (s : Remainder) → OutputIf (has_many_outputs kind && nat_lt 0 k) t → s.gates + later_gates kind k ≤ 200000 → Counts (more_terminals kind k line t s) s (later_gates kind k)
 unfolding more_terminals
 later_again kind k line t s h le = counts_by line t s (has_many_outputs kind && nat_lt 0 k) h le
 
-ends_again : (k line : ℕ) (s : State) → 1 ≤ k → end_terminals k line s ≡ Ok s
+ends_again : (k line : ℕ) (s : Remainder) → 1 ≤ k → end_terminals k line s ≡ Ok s
 unfolding end_terminals
 ends_again zero line s le = absurd (omega arith)
 ends_again (suc k) line s le = rw (eqb-suc-zero k) refl
@@ -65,9 +67,9 @@ base_of (grammar.Select n digits) = grammar.Whole n
 base_of (grammar.Level b) = grammar.Level b
 
 base_token : grammar.Terminal → Placed
-base_token (grammar.Whole n) = at n.line (Name n.name)
-base_token (grammar.Select n digits) = at n.line (Name n.name)
-base_token (grammar.Level b) = at 0 (Constant b [])
+base_token (grammar.Whole n) = placed_on n.line (Name n.name)
+base_token (grammar.Select n digits) = placed_on n.line (Name n.name)
+base_token (grammar.Level b) = placed_on 0 (Constant b [])
 
 behind_base : grammar.Terminal → List Placed
 behind_base (grammar.Whole n) = []
@@ -93,7 +95,7 @@ base_output true (grammar.Select n digits) h = tt
 base_output true (grammar.Level b) h = h
 base_output false t h = tt
 
-base_plain : (l : ℕ) (t : Token) → base_by l t ≡ as_base (plain (at l t))
+base_plain : (l : ℕ) (t : Token) → base_by l t ≡ as_base (plain (placed_on l t))
 base_plain l (Name w) = refl
 base_plain l (Escaped w) = refl
 base_plain l (Reserved k) = refl
@@ -104,7 +106,7 @@ base_plain l Attribute = refl
 base_plain l (Directs d w) = refl
 base_plain l (Outside w) = refl
 
-bit_again : (s : State) (digits : List ℕ) (more : List Placed) → Begins s (grammar.whole digits ++ (grammar.mark symbol.RightBracket ++ more)) → Reads (bit_at s) digits more
+bit_again : (s : Remainder) (digits : List ℕ) (more : List Placed) → Begins s (grammar.whole digits ++ (grammar.mark symbol.RightBracket ++ more)) → Reads (bit_at s) digits more
 unfolding bit_at
 bit_again s digits more e =
     let a = whole_again s digits (grammar.mark symbol.RightBracket ++ more) e in
@@ -112,7 +114,7 @@ bit_again s digits more e =
     record { rest = b.rest; gives = rw (a.gives, b.gives) refl; tokens = b.tokens }
 
 -- what stands behind a terminal is no [
-selected_again : (t : grammar.Terminal) (s : State) (u : Placed) (more : List Placed) → is_mark symbol.LeftBracket u.token ≡ false → Begins s (behind_base t ++ (u ∷ more)) → Reads (selected_at (base_of t) s) t (u ∷ more)
+selected_again : (t : grammar.Terminal) (s : Remainder) (u : Placed) (more : List Placed) → is_mark symbol.LeftBracket u.token ≡ false → Begins s (behind_base t ++ (u ∷ more)) → Reads (selected_at (base_of t) s) t (u ∷ more)
 unfolding selected_at base_of behind_base
 selected_again (grammar.Whole n) s u more other e =
     let a = maybe_mark_not symbol.LeftBracket s u more other e in
@@ -124,14 +126,14 @@ selected_again (grammar.Select n digits) s u more other e =
 selected_again (grammar.Level b) s u more other e = record { rest = s; gives = refl; tokens = e }
 
 -- a terminal up to the mark behind it
-record Reached (kind : Kind) (k : ℕ) (s : State) (t : grammar.Terminal) (more : List Placed) : Type 0 where
+record Reached (kind : Kind) (k : ℕ) (s : Remainder) (t : grammar.Terminal) (more : List Placed) : Type 0 where
   line : ℕ
-  rest : State
+  rest : Remainder
   gives : terminal_step kind k s ≡ terminal_end kind k line t rest
   tokens : Begins rest more
   gates : rest.gates ≡ s.gates + first_gates k
 
-reached : (kind : Kind) (k : ℕ) (s : State) (t : grammar.Terminal) (u : Placed) (more : List Placed) → k < 1024 → OutputIf (k == 0) t → s.gates + first_gates k ≤ 200000 → is_mark symbol.LeftBracket u.token ≡ false
+reached : (kind : Kind) (k : ℕ) (s : Remainder) (t : grammar.Terminal) (u : Placed) (more : List Placed) → k < 1024 → OutputIf (k == 0) t → s.gates + first_gates k ≤ 200000 → is_mark symbol.LeftBracket u.token ≡ false
     → Begins s (grammar.terminal t ++ (u ∷ more)) → Reached kind k s t (u ∷ more)
 unfolding terminal_step
 reached kind k s t u more lt h le other e =
@@ -154,13 +156,13 @@ terminal_again_member : (kind : Kind) → MemberAgain (terminal_step kind) gramm
 unfolding terminal_end
 terminal_again_member kind = record {
   more = λ k s a tail p le e.
-      let r = reached kind k s a (at 0 (Mark symbol.Comma)) tail p.0 p.1 (omega (arith, le)) refl e in
-      let f = in_front r.rest (at 0 (Mark symbol.Comma)) tail r.tokens in
+      let r = reached kind k s a (placed_on 0 (Mark symbol.Comma)) tail p.0 p.1 (omega (arith, le)) refl e in
+      let f = in_front r.rest (placed_on 0 (Mark symbol.Comma)) tail r.tokens in
       let c = later_again kind k r.line a (behind_front r.rest) p.2 (omega (arith, le, r.gates)) in
       record { rest = c.rest; gives = rw (r.gives, f.gives, mark_plain symbol.Comma f.placed _ f.same, c.gives) refl; tokens = ap (λ (t : Stream). map plain t.tokens) c.stream ∙ f.tokens };
   final = λ k s a tail p le e.
-      let r = reached kind k s a (at 0 (Mark symbol.Close)) tail p.0 (late_output k a p.1) (omega (arith, le)) refl e in
-      let f = in_front r.rest (at 0 (Mark symbol.Close)) tail r.tokens in
+      let r = reached kind k s a (placed_on 0 (Mark symbol.Close)) tail p.0 (late_output k a p.1) (omega (arith, le)) refl e in
+      let f = in_front r.rest (placed_on 0 (Mark symbol.Close)) tail r.tokens in
       record { rest = behind_front r.rest; gives = rw (r.gives, f.gives, mark_plain symbol.Comma f.placed _ f.same, mark_plain symbol.Close f.placed _ f.same, ends_again k f.placed.line (behind_front r.rest) p.1) refl; tokens = f.tokens };
 }
   where
@@ -200,7 +202,7 @@ terminals_all kind false (x ∷ []) is within h = absurd (omega (arith, within.0
 terminals_all kind false (x ∷ y ∷ ys) is within h =
     ((omega arith, h.0, no_output kind 0 x is), one_rest kind 0 (y ∷ ys) is (omega arith) (omega (arith, within.1)))
 
-terminals_again : (kind : Kind) (xs : List grammar.Terminal) (s : State) (tail : List Placed) → IsBetween 2 1024 (length xs) → AllByRecursion IsNet (take (output_count kind (length xs)) xs) → s.gates + output_count kind (length xs) ≤ 200000
+terminals_again : (kind : Kind) (xs : List grammar.Terminal) (s : Remainder) (tail : List Placed) → IsBetween 2 1024 (length xs) → AllByRecursion IsNet (take (output_count kind (length xs)) xs) → s.gates + output_count kind (length xs) ≤ 200000
     → Begins s (grammar.separated grammar.terminal xs ++ (grammar.mark symbol.Close ++ tail)) → Reads (many (terminal_step kind) s) xs tail
 terminals_again kind xs s tail within nets le e =
     let all = terminals_all kind (has_many_outputs kind) xs refl within nets in
@@ -209,17 +211,17 @@ terminals_again kind xs s tail within nets le e =
 
 -- ---- instances
 
-opening_again : (named : Bool) (s : State) (more : List Placed) → Begins s (grammar.mark symbol.Open ++ more) → Passes (opening_at named s) more
+opening_again : (named : Bool) (s : Remainder) (more : List Placed) → Begins s (grammar.mark symbol.Open ++ more) → Passes (opening_at named s) more
 unfolding opening_at
 opening_again named s more e =
-    let f = in_front s (at 0 (Mark symbol.Open)) more e in
-    record { rest = behind_front s; gives = rw (f.gives, mark_plain symbol.Open f.placed (at 0 (Mark symbol.Open)) f.same) refl; tokens = f.tokens }
+    let f = in_front s (placed_on 0 (Mark symbol.Open)) more e in
+    record { rest = behind_front s; gives = rw (f.gives, mark_plain symbol.Open f.placed (placed_on 0 (Mark symbol.Open)) f.same) refl; tokens = f.tokens }
 
-optional_again : (s : State) (o : Option grammar.Name) (more : List Placed) → Begins s (grammar.optional grammar.name o ++ (grammar.mark symbol.Open ++ more)) → Reads (maybe_at as_name s) o (grammar.mark symbol.Open ++ more)
-optional_again s None more e = maybe_not as_name grammar.name names_classified s (at 0 (Mark symbol.Open)) more refl e
-optional_again s (Some n) more e = maybe_again as_name grammar.name names_classified s (at n.line (Name n.name)) n (grammar.mark symbol.Open ++ more) refl e
+optional_again : (s : Remainder) (o : Option grammar.Name) (more : List Placed) → Begins s (grammar.optional grammar.name o ++ (grammar.mark symbol.Open ++ more)) → Reads (maybe_at as_name s) o (grammar.mark symbol.Open ++ more)
+optional_again s None more e = maybe_not as_name grammar.name names_classified s (placed_on 0 (Mark symbol.Open)) more refl e
+optional_again s (Some n) more e = maybe_again as_name grammar.name names_classified s (placed_on n.line (Name n.name)) n (grammar.mark symbol.Open ++ more) refl e
 
-instance_again : (kind : Kind) (s : State) (i : grammar.Instance) (tail : List Placed) → IsInstance kind i → s.gates + instance_gates kind i ≤ 200000 → Begins s (grammar.instance i ++ tail) → Reads (instance_at kind s) i tail
+instance_again : (kind : Kind) (s : Remainder) (i : grammar.Instance) (tail : List Placed) → IsInstance kind i → s.gates + instance_gates kind i ≤ 200000 → Begins s (grammar.instance i ++ tail) → Reads (instance_at kind s) i tail
 unfolding instance_at
 instance_again kind s i tail within le e =
     let terminals = grammar.separated grammar.terminal i.terminals in
@@ -254,7 +256,7 @@ instances_count kind k [] = refl
 instances_count kind k (a ∷ []) = omega (arith, sum_by-cons (instance_gates kind) a [])
 instances_count kind k (a ∷ b ∷ bs) = omega (arith, sum_by-cons (instance_gates kind) a (b ∷ bs), instances_count kind (k + 1) (b ∷ bs))
 
-instances_again : (kind : Kind) (xs : List grammar.Instance) (s : State) (tail : List Placed) → 1 ≤ length xs → AllByRecursion (IsInstance kind) xs → s.gates + sum_by (instance_gates kind) xs ≤ 200000 → Begins s (grammar.separated grammar.instance xs ++ (grammar.mark symbol.Semicolon ++ tail)) → Reads (many (instance_step kind) s) xs tail
+instances_again : (kind : Kind) (xs : List grammar.Instance) (s : Remainder) (tail : List Placed) → 1 ≤ length xs → AllByRecursion (IsInstance kind) xs → s.gates + sum_by (instance_gates kind) xs ≤ 200000 → Begins s (grammar.separated grammar.instance xs ++ (grammar.mark symbol.Semicolon ++ tail)) → Reads (many (instance_step kind) s) xs tail
 instances_again kind xs s tail some each le e =
     let room : s.gates + gates_from (its_gates kind) (its_gates kind) 0 xs ≤ 200000 = rw (instances_count kind 0 xs) le in
     list_again (instance_step kind) (instances_shorten kind) grammar.instance (AnInstance kind) (AnInstance kind) (its_gates kind) (its_gates kind) (grammar.mark symbol.Semicolon) (instance_member kind) (instance_again_member kind) 0 xs s tail (instances_all kind 0 xs some each) room e
@@ -267,8 +269,8 @@ instance_front : (i : grammar.Instance) (tail : List Placed) → NoHash (grammar
 instance_front i tail = by i.name
   where
     by : (o : Option grammar.Name) → NoHash (grammar.optional grammar.name o ++ grammar.mark symbol.Open ++ grammar.separated grammar.terminal i.terminals ++ grammar.mark symbol.Close ++ tail)
-    by None = (at 0 (Mark symbol.Open), grammar.separated grammar.terminal i.terminals ++ grammar.mark symbol.Close ++ tail, refl, refl)
-    by (Some n) = (at n.line (Name n.name), grammar.mark symbol.Open ++ grammar.separated grammar.terminal i.terminals ++ grammar.mark symbol.Close ++ tail, refl, refl)
+    by None = (placed_on 0 (Mark symbol.Open), grammar.separated grammar.terminal i.terminals ++ grammar.mark symbol.Close ++ tail, refl, refl)
+    by (Some n) = (placed_on n.line (Name n.name), grammar.mark symbol.Open ++ grammar.separated grammar.terminal i.terminals ++ grammar.mark symbol.Close ++ tail, refl, refl)
 
 instances_front : (xs : List grammar.Instance) (tail : List Placed) → 1 ≤ length xs → NoHash (grammar.separated grammar.instance xs ++ tail)
 unfolding grammar.separated
@@ -278,7 +280,7 @@ instances_front (i ∷ j ∷ js) tail some =
     let f = instance_front i (grammar.mark symbol.Comma ++ (grammar.separated grammar.instance (j ∷ js) ++ tail)) in
     (f.0, f.1, group4 (grammar.instance i) (grammar.mark symbol.Comma) (grammar.separated grammar.instance (j ∷ js)) tail ∙ f.2, f.3)
 
-pub statement_again : (tens : ℕ) (g : grammar.Statement) (s : State) (tail : List Placed) → IsStatement tens g → s.gates + statement_gates g ≤ 200000 → Begins s (statement_rest g ++ tail) → Reads (statement_at tens g.attributes g.kind s) g tail
+pub statement_again : (tens : ℕ) (g : grammar.Statement) (s : Remainder) (tail : List Placed) → IsStatement tens g → s.gates + statement_gates g ≤ 200000 → Begins s (statement_rest g ++ tail) → Reads (statement_at tens g.attributes g.kind s) g tail
 unfolding statement_at
 statement_again tens g s tail keeps le e =
     let list = grammar.separated grammar.instance g.instances in

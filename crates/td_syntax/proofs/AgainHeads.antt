@@ -8,11 +8,12 @@ use Rattle.td_syntax.specs.declared.token.Stop.{Stop}
 use Rattle.td_syntax.specs.declared.token.Directive.{Directive}
 use Rattle.td_syntax.specs.declared.syntax.Front.{Front as Fronted}
 use Rattle.td_syntax.specs.declared.syntax.Front.TheVariants as fronts
-use Rattle.td_syntax.specs.Lexical.{Token, Name, Escaped, Reserved, Number, Constant, Mark, Attribute, Directs, Outside}
-use Rattle.td_syntax.specs.Tokens.{Placed, at, front_of, rest_of}
+use Rattle.td_syntax.specs.Token.{Token, Name, Escaped, Reserved, Number, Constant, Mark, Attribute, Directs, Outside}
+use Rattle.td_syntax.specs.Token.{Placed, placed_on}
+use Rattle.td_syntax.specs.Tokens.{front_of, rest_of}
 use Rattle.td_syntax.specs.Grammar as grammar
-use Rattle.td_syntax.specs.Grammar.{plain}
-use Rattle.td_syntax.specs.Parsing.{State, behind_front, More, Done, as_attribute, as_directive, as_module, attribute_step, attributes_at, directive_at, front_directive, front_step, behind_step, next_at, many_from}
+use Rattle.td_syntax.proofs.Plain.{plain}
+use Rattle.td_syntax.specs.Parsing.{Remainder, behind_front, More, Done, as_attribute, as_directive, as_module, attribute_step, attributes_at, directive_at, front_directive, front_step, behind_step, next_at, many_from}
 use Rattle.td_syntax.proofs.Lists.{unrolled}
 use Rattle.td_syntax.proofs.SoundHeads.{module_read, attributes_classified, attributes_shorten, modules_classified, fronts_shorten, behind_shortens}
 use Rattle.td_syntax.proofs.AgainTokens.{Reads, Begins, in_front, maybe_again, maybe_not}
@@ -21,7 +22,7 @@ abbrev ones : ℕ → List (Unit {0})
 ones n = replicate n tt
 
 -- as many attributes as there are, and then another token
-attributes_from : (k n : ℕ) (s : State) (t : Placed) (more : List Placed) → as_attribute t ≡ None → Begins s (flat_map grammar.attribute (ones n) ++ (t ∷ more)) → Reads (many_from attribute_step k s) (ones n) (t ∷ more)
+attributes_from : (k n : ℕ) (s : Remainder) (t : Placed) (more : List Placed) → as_attribute t ≡ None → Begins s (flat_map grammar.attribute (ones n) ++ (t ∷ more)) → Reads (many_from attribute_step k s) (ones n) (t ∷ more)
 unfolding attribute_step
 attributes_from k zero s t more other e =
     let a = maybe_not as_attribute grammar.attribute attributes_classified s t more other e in
@@ -30,11 +31,11 @@ attributes_from k (suc n) s t more other e =
     let others = flat_map grammar.attribute (ones n) ++ (t ∷ more) in
     let split : Begins s (grammar.attribute tt ++ others) =
     e ∙ ap (λ (text : List Placed). text ++ (t ∷ more)) (flat_map-cons grammar.attribute tt (ones n)) ∙ append_assoc (grammar.attribute tt) (flat_map grammar.attribute (ones n)) (t ∷ more) in
-    let a = maybe_again as_attribute grammar.attribute attributes_classified s (at 0 Attribute) tt others refl split in
+    let a = maybe_again as_attribute grammar.attribute attributes_classified s (placed_on 0 Attribute) tt others refl split in
     let b = attributes_from (k + 1) n a.rest t more other a.tokens in
     record { rest = b.rest; gives = rw (unrolled attribute_step attributes_shorten k s, a.gives, b.gives) refl; tokens = b.tokens }
 
-pub attributes_again : (n : ℕ) (s : State) (t : Placed) (more : List Placed) → as_attribute t ≡ None → Begins s (grammar.attributes n ++ (t ∷ more)) → Reads (attributes_at s) n (t ∷ more)
+pub attributes_again : (n : ℕ) (s : Remainder) (t : Placed) (more : List Placed) → as_attribute t ≡ None → Begins s (grammar.attributes n ++ (t ∷ more)) → Reads (attributes_at s) n (t ∷ more)
 unfolding attributes_at
 attributes_again n s t more other e =
     let a = attributes_from 0 n s t more other e in
@@ -42,7 +43,7 @@ attributes_again n s t more other e =
 
 -- ---- directives
 
-stable_directive : (l : ℕ) (t : Token) → as_directive (at l t) ≡ as_directive (plain (at l t))
+stable_directive : (l : ℕ) (t : Token) → as_directive (placed_on l t) ≡ as_directive (plain (placed_on l t))
 stable_directive l (Name w) = refl
 stable_directive l (Escaped w) = refl
 stable_directive l (Reserved k) = refl
@@ -62,20 +63,20 @@ told_attribute p t e = attributes_classified.stable p ∙ ap as_attribute e
 told_module : (p t : Placed) → plain p ≡ t → as_module p ≡ as_module t
 told_module p t e = modules_classified.stable p ∙ ap as_module e
 
-front_again : (k : ℕ) (s : State) (f : Fronted) (tail : List Placed) → Begins s (grammar.front f ++ tail) → Reads (front_step k s) (More f) tail
+front_again : (k : ℕ) (s : Remainder) (f : Fronted) (tail : List Placed) → Begins s (grammar.front f ++ tail) → Reads (front_step k s) (More f) tail
 unfolding front_step directive_at
 front_again k s fronts.Attributed tail e =
-    let f = in_front s (at 0 Attribute) tail e in
-    record { rest = behind_front s; gives = rw (f.gives, told_attribute f.placed (at 0 Attribute) f.same) refl; tokens = f.tokens }
+    let f = in_front s (placed_on 0 Attribute) tail e in
+    record { rest = behind_front s; gives = rw (f.gives, told_attribute f.placed (placed_on 0 Attribute) f.same) refl; tokens = f.tokens }
 front_again k s (fronts.Directed d) tail e =
-    let t = at 0 (Directs (Ok d) []) in
+    let t = placed_on 0 (Directs (Ok d) []) in
     let f = in_front s t tail e in
     record { rest = behind_front s; gives = rw (f.gives, told_attribute f.placed t f.same, told_directive f.placed t f.same) refl; tokens = f.tokens }
 
-front_ends : (k : ℕ) (s : State) (tail : List Placed) → Begins s (grammar.word keyword.Module ++ tail) → Reads (front_step k s) Done tail
+front_ends : (k : ℕ) (s : Remainder) (tail : List Placed) → Begins s (grammar.word keyword.Module ++ tail) → Reads (front_step k s) Done tail
 unfolding front_step
 front_ends k s tail e =
-    let t = at 0 (Reserved keyword.Module) in
+    let t = placed_on 0 (Reserved keyword.Module) in
     let f = in_front s t tail e in
     let attribute : as_attribute f.placed ≡ None = told_attribute f.placed t f.same in
     let directive : as_directive f.placed ≡ None = told_directive f.placed t f.same in
@@ -83,7 +84,7 @@ front_ends k s tail e =
     let last : front_directive f.placed (behind_front s) None ≡ Ok (Done, behind_front s) = ap (module_read f.placed (behind_front s)) word in
     record { rest = behind_front s; gives = rw (f.gives, attribute, directive) last; tokens = f.tokens }
 
-pub fronts_again : (k : ℕ) (fs : List Fronted) (s : State) (tail : List Placed) → Begins s (flat_map grammar.front fs ++ (grammar.word keyword.Module ++ tail)) → Reads (many_from front_step k s) fs tail
+pub fronts_again : (k : ℕ) (fs : List Fronted) (s : Remainder) (tail : List Placed) → Begins s (flat_map grammar.front fs ++ (grammar.word keyword.Module ++ tail)) → Reads (many_from front_step k s) fs tail
 fronts_again k [] s tail e =
     let a = front_ends k s tail e in
     record { rest = a.rest; gives = rw (unrolled front_step fronts_shorten k s, a.gives) refl; tokens = a.tokens }
@@ -97,22 +98,22 @@ fronts_again k (f ∷ fs) s tail e =
 
 -- ---- what stands behind the module
 
-abbrev Behinds : List Placed → Stop → ℕ → ℕ → State
+abbrev Behinds : List Placed → Stop → ℕ → ℕ → Remainder
 Behinds ts stop line gates = record { stream = record { tokens = ts; stop = stop; line = line }; gates = gates }
 
 behind_one : (k : ℕ) (ts : List Placed) (stop : Stop) (line gates : ℕ) (d : Directive) (tail : List Placed) → map plain ts ≡ grammar.directed d ++ tail → Reads (behind_step k (Behinds ts stop line gates)) (More d) tail
 unfolding behind_step next_at front_of rest_of directive_at
 behind_one k [] stop line gates d tail e = absurd cc
 behind_one k (t ∷ ts) stop line gates d tail e =
-    let same : plain t ≡ at 0 (Directs (Ok d) []) = cc in
-    record { rest = Behinds ts stop line gates; gives = rw (told_directive t (at 0 (Directs (Ok d) [])) same) refl; tokens = cc }
+    let same : plain t ≡ placed_on 0 (Directs (Ok d) []) = cc in
+    record { rest = Behinds ts stop line gates; gives = rw (told_directive t (placed_on 0 (Directs (Ok d) [])) same) refl; tokens = cc }
 
 behind_none : (k : ℕ) (ts : List Placed) (stop : Stop) (line gates : ℕ) → map plain ts ≡ [] → Reads (behind_step k (Behinds ts stop line gates)) Done []
 unfolding behind_step front_of
 behind_none k [] stop line gates e = record { rest = Behinds [] stop line gates; gives = refl; tokens = refl }
 behind_none k (t ∷ ts) stop line gates e = absurd cc
 
-pub behind_again : (k : ℕ) (ds : List Directive) (s : State) → Begins s (flat_map grammar.directed ds) → Reads (many_from behind_step k s) ds []
+pub behind_again : (k : ℕ) (ds : List Directive) (s : Remainder) → Begins s (flat_map grammar.directed ds) → Reads (many_from behind_step k s) ds []
 behind_again k [] s e =
     let a = behind_none k s.stream.tokens s.stream.stop s.stream.line s.gates e in
     record { rest = a.rest; gives = rw (unrolled behind_step behind_shortens k s, a.gives) refl; tokens = a.tokens }

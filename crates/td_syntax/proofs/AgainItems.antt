@@ -12,13 +12,14 @@ use Rattle.td_syntax.specs.declared.token.Directive.{Directive}
 use Rattle.td_syntax.specs.declared.syntax.Role.{Role}
 use Rattle.td_syntax.specs.declared.syntax.Role.TheVariants as role
 use Rattle.td_syntax.specs.declared.syntax.Front.{Front as Fronted}
-use Rattle.td_syntax.specs.Lexical.{Token, Name, Escaped, Reserved, Number, Constant, Mark, Attribute, Directs, Outside}
-use Rattle.td_syntax.specs.Tokens.{Placed, at, front_of}
+use Rattle.td_syntax.specs.Token.{Token, Name, Escaped, Reserved, Number, Constant, Mark, Attribute, Directs, Outside}
+use Rattle.td_syntax.specs.Token.{Placed, placed_on}
+use Rattle.td_syntax.specs.Tokens.{front_of}
 use Rattle.td_syntax.specs.Grammar as grammar
-use Rattle.td_syntax.specs.Grammar.{plain}
-use Rattle.td_syntax.specs.Grammar.{IsItem, ArePorts, item_gates, tens_of}
+use Rattle.td_syntax.proofs.Plain.{plain}
+use Rattle.td_syntax.specs.Grammar.{IsItem, ArePorts, item_gates, unit_exponent}
 use Rattle.td_syntax.specs.Faults.{◌>>=◌}
-use Rattle.td_syntax.specs.Parsing.{State, behind_front, More, as_keyword, name_at, mark_at, many, many_from, front_step, behind_step, declaration_at, declares, gates, item_word, item_step, ports_at, end_at, module_at}
+use Rattle.td_syntax.specs.Parsing.{Remainder, behind_front, More, as_keyword, name_at, mark_at, many, many_from, front_step, behind_step, declaration_at, declares, gates, item_word, item_step, ports_at, end_at, module_at}
 use Rattle.td_syntax.proofs.Lists.{unrolled}
 use Rattle.td_syntax.proofs.Takes.{next_takes, name_takes, mark_takes}
 use Rattle.td_syntax.proofs.SoundHeads.{attributes_take, fronts_take, behind_takes}
@@ -32,7 +33,7 @@ use Rattle.td_syntax.proofs.AgainGates.{statement_again}
 
 -- ---- items
 
-reserved_plain : (l : ℕ) (t : Token) (k : Keyword) → plain (at l t) ≡ at 0 (Reserved k) → as_keyword (at l t) ≡ Some k
+reserved_plain : (l : ℕ) (t : Token) (k : Keyword) → plain (placed_on l t) ≡ placed_on 0 (Reserved k) → as_keyword (placed_on l t) ≡ Some k
 reserved_plain l (Reserved j) k e = let same : Reserved j ≡ Reserved k = ap (λ (p : Placed). p.token) e in let is : j ≡ k = cc in ap (λ (q : Keyword). Some q) is
 reserved_plain l (Name w) k e = let h : Name w ≡ Reserved k = ap (λ (p : Placed). p.token) e in absurd cc
 reserved_plain l (Escaped w) k e = let h : Name (drop 1 w) ≡ Reserved k = ap (λ (p : Placed). p.token) e in absurd cc
@@ -44,19 +45,19 @@ reserved_plain l (Directs d w) k e = let h : Directs d [] ≡ Reserved k = ap (�
 reserved_plain l (Outside w) k e = let h : Outside w ≡ Reserved k = ap (λ (p : Placed). p.token) e in absurd cc
 
 -- the keyword in front, behind its attributes, as a step sees it
-record Worded (tens k attributes : ℕ) (s : State) (w : Keyword) (more : List Placed) : Type 0 where
+record Worded (tens k attributes : ℕ) (s : Remainder) (w : Keyword) (more : List Placed) : Type 0 where
   placed : Placed
-  rest : State
+  rest : Remainder
   gives : item_step tens k s ≡ item_word tens attributes placed rest w
   tokens : Begins rest more
   gates : rest.gates ≡ s.gates
 
-word_step : (tens k attributes : ℕ) (s : State) (w : Keyword) (more : List Placed) → Begins s (grammar.attributes attributes ++ (grammar.word w ++ more)) → Worded tens k attributes s w more
+word_step : (tens k attributes : ℕ) (s : Remainder) (w : Keyword) (more : List Placed) → Begins s (grammar.attributes attributes ++ (grammar.word w ++ more)) → Worded tens k attributes s w more
 unfolding item_step
 word_step tens k attributes s w more e =
-    let a = attributes_again attributes s (at 0 (Reserved w)) more refl e in
+    let a = attributes_again attributes s (placed_on 0 (Reserved w)) more refl e in
     let at_ = attributes_take s (attributes, a.rest) a.gives in
-    let f = in_front a.rest (at 0 (Reserved w)) more a.tokens in
+    let f = in_front a.rest (placed_on 0 (Reserved w)) more a.tokens in
     let ft = next_takes a.rest (f.placed, behind_front a.rest) f.gives in
     record {
       placed = f.placed;
@@ -71,7 +72,7 @@ role_keyword role.Input = keyword.Input
 role_keyword role.Output = keyword.Output
 role_keyword role.Wire = keyword.Wire
 
-role_step : (r : Role) (tens attributes : ℕ) (p : Placed) (s : State) → item_word tens attributes p s (role_keyword r) ≡ (declaration_at attributes r s >>= declares)
+role_step : (r : Role) (tens attributes : ℕ) (p : Placed) (s : Remainder) → item_word tens attributes p s (role_keyword r) ≡ (declaration_at attributes r s >>= declares)
 unfolding role_keyword
 role_step role.Input tens attributes p s = refl
 role_step role.Output tens attributes p s = refl
@@ -83,7 +84,7 @@ role_text role.Input = refl
 role_text role.Output = refl
 role_text role.Wire = refl
 
-item_again : (tens k : ℕ) (s : State) (i : grammar.Item) (tail : List Placed) → IsItem tens i → s.gates + item_gates i ≤ 200000 → Begins s (grammar.item i ++ tail) → Reads (item_step tens k s) (More i) tail
+item_again : (tens k : ℕ) (s : Remainder) (i : grammar.Item) (tail : List Placed) → IsItem tens i → s.gates + item_gates i ≤ 200000 → Begins s (grammar.item i ++ tail) → Reads (item_step tens k s) (More i) tail
 item_again tens k s (grammar.Declares d) tail keeps le e =
     let text : grammar.declaration d ++ tail ≡ grammar.attributes d.attributes ++ (grammar.word (role_keyword d.role) ++ (declaration_rest d ++ tail)) =
     ap (λ (ys : List Placed). ys ++ tail) (sym (declared_text d))
@@ -100,7 +101,7 @@ item_again tens k s (grammar.Gates g) tail keeps le e =
     let r = statement_again tens g w.rest tail keeps (omega (arith, le, w.gates)) w.tokens in
     record { rest = r.rest; gives = rw (w.gives, r.gives) refl; tokens = r.tokens }
 
-items_again : (tens k : ℕ) (is : List grammar.Item) (s : State) (tail : List Placed) → AllByRecursion (IsItem tens) is → s.gates + sum_by item_gates is ≤ 200000 → Begins s (flat_map grammar.item is ++ (grammar.word keyword.EndModule ++ tail)) → Reads (many_from (item_step tens) k s) is tail
+items_again : (tens k : ℕ) (is : List grammar.Item) (s : Remainder) (tail : List Placed) → AllByRecursion (IsItem tens) is → s.gates + sum_by item_gates is ≤ 200000 → Begins s (flat_map grammar.item is ++ (grammar.word keyword.EndModule ++ tail)) → Reads (many_from (item_step tens) k s) is tail
 items_again tens k [] s tail keeps le e =
     let w = word_step tens k 0 s keyword.EndModule tail e in
     record { rest = w.rest; gives = rw (unrolled (item_step tens) (items_shorten tens) k s, w.gives) refl; tokens = w.tokens }
@@ -122,7 +123,7 @@ unfolding end_at front_of
 ended_by gates [] k line e is = subst (λ (other : Stop). end_at (record { stream = record { tokens = []; stop = other; line = line }; gates = gates }) ≡ Ok (record { stream = record { tokens = []; stop = other; line = line }; gates = gates })) (sym is) refl
 ended_by gates (t ∷ ts) k line e is = absurd cc
 
-ended : (s : State) → map plain s.stream.tokens ≡ [] → s.stream.stop ≡ stop.End → end_at s ≡ Ok s
+ended : (s : Remainder) → map plain s.stream.tokens ≡ [] → s.stream.stop ≡ stop.End → end_at s ≡ Ok s
 ended s e is = ended_by s.gates s.stream.tokens s.stream.stop s.stream.line e is
 
 module_text : (fronts_ name_ ports_ semicolon_ items_ end_ behind_ : List Placed) → fronts_ ++ (grammar.word keyword.Module) ++ name_ ++ ports_ ++ semicolon_ ++ items_ ++ end_ ++ behind_
@@ -130,15 +131,15 @@ module_text : (fronts_ name_ ports_ semicolon_ items_ end_ behind_ : List Placed
 module_text fronts_ name_ ports_ semicolon_ items_ end_ behind_ = simp append_assoc
 
 -- the readers of a module one after another
-module_steps : (s : State) (first : List Fronted × State) (name : grammar.Name × State) (ports : Option grammar.Ports × State) (semicolon : State) (items : List grammar.Item × State) (behind : List Directive × State) (rest : State)
-    → many front_step s ≡ Ok first → name_at first.1 ≡ Ok name → ports_at name.1 ≡ Ok ports → mark_at symbol.Semicolon ports.1 ≡ Ok semicolon → many (item_step (tens_of first.0)) semicolon ≡ Ok items → many behind_step items.1 ≡ Ok behind → end_at behind.1 ≡ Ok rest
+module_steps : (s : Remainder) (first : List Fronted × Remainder) (name : grammar.Name × Remainder) (ports : Option grammar.Ports × Remainder) (semicolon : Remainder) (items : List grammar.Item × Remainder) (behind : List Directive × Remainder) (rest : Remainder)
+    → many front_step s ≡ Ok first → name_at first.1 ≡ Ok name → ports_at name.1 ≡ Ok ports → mark_at symbol.Semicolon ports.1 ≡ Ok semicolon → many (item_step (unit_exponent first.0)) semicolon ≡ Ok items → many behind_step items.1 ≡ Ok behind → end_at behind.1 ≡ Ok rest
     → module_at s ≡ Ok (record { fronts = first.0; name = name.0; ports = ports.0; items = items.0; behind = behind.0 }, rest)
 unfolding module_at
 module_steps s first name ports semicolon items behind rest a b c d e f g = rw (a, b, c, d, e, f, g) refl
 
-pub module_again : (s : State) (m : grammar.Module) → s.gates ≡ 0 → ArePorts m.ports → AllByRecursion (IsItem (tens_of m.fronts)) m.items → sum_by item_gates m.items ≤ 200000 → map plain s.stream.tokens ≡ grammar.module_tokens m → s.stream.stop ≡ stop.End → Reads (module_at s) m []
+pub module_again : (s : Remainder) (m : grammar.Module) → s.gates ≡ 0 → ArePorts m.ports → AllByRecursion (IsItem (unit_exponent m.fronts)) m.items → sum_by item_gates m.items ≤ 200000 → map plain s.stream.tokens ≡ grammar.module_tokens m → s.stream.stop ≡ stop.End → Reads (module_at s) m []
 module_again s m none ports keeps room e is =
-    let tens = tens_of m.fronts in
+    let tens = unit_exponent m.fronts in
     let behind = flat_map grammar.directed m.behind in
     let close = grammar.word keyword.EndModule ++ behind in
     let items = flat_map grammar.item m.items ++ close in

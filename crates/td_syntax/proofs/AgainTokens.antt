@@ -3,35 +3,36 @@ use Rattle.std.proofs.Common.{◌≡◌, ℕ, ◌+◌, ◌≤◌, true, false, L
 use Rattle.td_syntax.specs.declared.token.Symbol.{Symbol}
 use Rattle.td_syntax.specs.declared.token.Symbol.TheVariants as symbol
 use Rattle.td_syntax.specs.declared.token.Stop.{Stop}
-use Rattle.td_syntax.specs.Lexical.{Token, Name, Escaped, Reserved, Number, Constant, Mark, Attribute, Directs, Outside}
-use Rattle.td_syntax.specs.Tokens.{Placed, at, front_of, rest_of}
+use Rattle.td_syntax.specs.Token.{Token, Name, Escaped, Reserved, Number, Constant, Mark, Attribute, Directs, Outside}
+use Rattle.td_syntax.specs.Token.{Placed, placed_on}
+use Rattle.td_syntax.specs.Tokens.{front_of, rest_of}
 use Rattle.td_syntax.specs.Grammar as grammar
-use Rattle.td_syntax.specs.Grammar.{plain}
+use Rattle.td_syntax.proofs.Plain.{plain}
 use Rattle.td_syntax.specs.Faults.{Fault, refused}
-use Rattle.td_syntax.specs.Parsing.{State, behind_front, Step, More, Final, is_mark, as_name, as_whole, next_at, name_at, whole_at, take_at, maybe_at, mark_at, maybe_mark_at, separator_at, behind, name_step, names_at, many_from}
+use Rattle.td_syntax.specs.Parsing.{Remainder, behind_front, Step, More, Final, is_mark, as_name, as_whole, next_at, name_at, whole_at, take_at, maybe_at, mark_at, maybe_mark_at, separator_at, behind, name_step, names_at, many_from}
 use Rattle.td_syntax.proofs.Lists.{Shortens, unrolled}
 use Rattle.td_syntax.proofs.Takes.{Classifies, names_classified, MemberTakes, AllFrom, gates_from}
 use Rattle.td_syntax.proofs.SoundDelays.{Any, no_gates, any_gates, name_member, names_shorten, wholes_classified}
 
 -- what reading gives x and leaves these tokens
-pub record Reads {A : Type 0} (read : Result (A × State) Fault) (x : A) (more : List Placed) : Type 0 where
-  pub rest : State
+pub record Reads {A : Type 0} (read : Result (A × Remainder) Fault) (x : A) (more : List Placed) : Type 0 where
+  pub rest : Remainder
   pub gives : read ≡ Ok (x, rest)
   pub tokens : map plain rest.stream.tokens ≡ more
 
 -- the same where nothing is kept
-pub record Passes (read : Result State Fault) (more : List Placed) : Type 0 where
-  pub rest : State
+pub record Passes (read : Result Remainder Fault) (more : List Placed) : Type 0 where
+  pub rest : Remainder
   pub gives : read ≡ Ok rest
   pub tokens : map plain rest.stream.tokens ≡ more
 
-abbrev pub Begins : State → List Placed → Type 0
+abbrev pub Begins : Remainder → List Placed → Type 0
 Begins s text = map plain s.stream.tokens ≡ text
 
 -- ---- one token
 
 -- t is the token in front
-pub record Fronts (s : State) (t : Placed) (more : List Placed) : Type 0 where
+pub record Fronts (s : Remainder) (t : Placed) (more : List Placed) : Type 0 where
   pub placed : Placed
   pub gives : next_at s ≡ Ok (placed, behind_front s)
   pub same : plain placed ≡ t
@@ -43,11 +44,11 @@ unfolding next_at front_of rest_of
 fronts_in [] stop line gates t more e = absurd cc
 fronts_in (u ∷ us) stop line gates t more e = record { placed = u; gives = refl; same = cc; tokens = cc }
 
-pub in_front : (s : State) (t : Placed) (more : List Placed) → Begins s (t ∷ more) → Fronts s t more
+pub in_front : (s : Remainder) (t : Placed) (more : List Placed) → Begins s (t ∷ more) → Fronts s t more
 in_front s t more e = fronts_in s.stream.tokens s.stream.stop s.stream.line s.gates t more e
 
 pub take_again : {A : Type 0} (find : Placed → Option A) (spell : A → List Placed) (refuse : Placed → Fault) → Classifies find spell
-    → (s : State) (t : Placed) (a : A) (more : List Placed) → find t ≡ Some a → Begins s (t ∷ more) → Reads (take_at find refuse s) a more
+    → (s : Remainder) (t : Placed) (a : A) (more : List Placed) → find t ≡ Some a → Begins s (t ∷ more) → Reads (take_at find refuse s) a more
 unfolding take_at
 take_again find spell refuse c s t a more is e =
     let f = in_front s t more e in
@@ -55,7 +56,7 @@ take_again find spell refuse c s t a more is e =
     record { rest = behind_front s; gives = rw (f.gives, found) refl; tokens = f.tokens }
 
 pub maybe_again : {A : Type 0} (find : Placed → Option A) (spell : A → List Placed) → Classifies find spell
-    → (s : State) (t : Placed) (a : A) (more : List Placed) → find t ≡ Some a → Begins s (t ∷ more) → Reads (maybe_at find s) (Some a) more
+    → (s : Remainder) (t : Placed) (a : A) (more : List Placed) → find t ≡ Some a → Begins s (t ∷ more) → Reads (maybe_at find s) (Some a) more
 unfolding maybe_at
 maybe_again find spell c s t a more is e =
     let f = in_front s t more e in
@@ -63,22 +64,22 @@ maybe_again find spell c s t a more is e =
     record { rest = behind_front s; gives = rw (f.gives, found) refl; tokens = f.tokens }
 
 pub maybe_not : {A : Type 0} (find : Placed → Option A) (spell : A → List Placed) → Classifies find spell
-    → (s : State) (t : Placed) (more : List Placed) → find t ≡ None → Begins s (t ∷ more) → Reads (maybe_at find s) None (t ∷ more)
+    → (s : Remainder) (t : Placed) (more : List Placed) → find t ≡ None → Begins s (t ∷ more) → Reads (maybe_at find s) None (t ∷ more)
 unfolding maybe_at
 maybe_not find spell c s t more is e =
     let f = in_front s t more e in
     let found : find f.placed ≡ None = c.stable f.placed ∙ ap find f.same ∙ is in
     record { rest = s; gives = rw (f.gives, found) refl; tokens = e }
 
-pub name_again : (s : State) (n : grammar.Name) (more : List Placed) → Begins s (grammar.name n ++ more) → Reads (name_at s) n more
+pub name_again : (s : Remainder) (n : grammar.Name) (more : List Placed) → Begins s (grammar.name n ++ more) → Reads (name_at s) n more
 unfolding name_at
-name_again s n more e = take_again as_name grammar.name refused names_classified s (at n.line (Name n.name)) n more refl e
+name_again s n more e = take_again as_name grammar.name refused names_classified s (placed_on n.line (Name n.name)) n more refl e
 
-pub whole_again : (s : State) (digits : List ℕ) (more : List Placed) → Begins s (grammar.whole digits ++ more) → Reads (whole_at s) digits more
+pub whole_again : (s : Remainder) (digits : List ℕ) (more : List Placed) → Begins s (grammar.whole digits ++ more) → Reads (whole_at s) digits more
 unfolding whole_at
-whole_again s digits more e = take_again as_whole grammar.whole refused wholes_classified s (at 0 (Number (grammar.whole_number digits))) digits more refl e
+whole_again s digits more e = take_again as_whole grammar.whole refused wholes_classified s (placed_on 0 (Number (grammar.whole_number digits))) digits more refl e
 
-mark_plain_by : (m : Symbol) (l : ℕ) (t : Token) → is_mark m t ≡ is_mark m (plain (at l t)).token
+mark_plain_by : (m : Symbol) (l : ℕ) (t : Token) → is_mark m t ≡ is_mark m (plain (placed_on l t)).token
 mark_plain_by m l (Name w) = refl
 mark_plain_by m l (Escaped w) = refl
 mark_plain_by m l (Reserved k) = refl
@@ -102,19 +103,19 @@ same_code symbol.LeftBracket = refl
 same_code symbol.RightBracket = refl
 same_code symbol.Colon = refl
 
-pub mark_again : (m : Symbol) (s : State) (more : List Placed) → Begins s (grammar.mark m ++ more) → Passes (mark_at m s) more
+pub mark_again : (m : Symbol) (s : Remainder) (more : List Placed) → Begins s (grammar.mark m ++ more) → Passes (mark_at m s) more
 unfolding mark_at
 mark_again m s more e =
-    let f = in_front s (at 0 (Mark m)) more e in
-    record { rest = behind_front s; gives = rw (f.gives, mark_plain m f.placed (at 0 (Mark m)) f.same, same_code m) refl; tokens = f.tokens }
+    let f = in_front s (placed_on 0 (Mark m)) more e in
+    record { rest = behind_front s; gives = rw (f.gives, mark_plain m f.placed (placed_on 0 (Mark m)) f.same, same_code m) refl; tokens = f.tokens }
 
-pub maybe_mark_again : (m : Symbol) (s : State) (more : List Placed) → Begins s (grammar.mark m ++ more) → Reads (maybe_mark_at m s) true more
+pub maybe_mark_again : (m : Symbol) (s : Remainder) (more : List Placed) → Begins s (grammar.mark m ++ more) → Reads (maybe_mark_at m s) true more
 unfolding maybe_mark_at
 maybe_mark_again m s more e =
-    let f = in_front s (at 0 (Mark m)) more e in
-    record { rest = behind_front s; gives = rw (f.gives, mark_plain m f.placed (at 0 (Mark m)) f.same, same_code m) refl; tokens = f.tokens }
+    let f = in_front s (placed_on 0 (Mark m)) more e in
+    record { rest = behind_front s; gives = rw (f.gives, mark_plain m f.placed (placed_on 0 (Mark m)) f.same, same_code m) refl; tokens = f.tokens }
 
-pub maybe_mark_not : (m : Symbol) (s : State) (t : Placed) (more : List Placed) → is_mark m t.token ≡ false → Begins s (t ∷ more) → Reads (maybe_mark_at m s) false (t ∷ more)
+pub maybe_mark_not : (m : Symbol) (s : Remainder) (t : Placed) (more : List Placed) → is_mark m t.token ≡ false → Begins s (t ∷ more) → Reads (maybe_mark_at m s) false (t ∷ more)
 unfolding maybe_mark_at
 maybe_mark_not m s t more other e =
     let f = in_front s t more e in
@@ -122,22 +123,22 @@ maybe_mark_not m s t more other e =
 
 -- ---- lists
 
-pub comma_again : {A : Type 0} (end : Symbol) (a : A) (s : State) (more : List Placed) → Begins s (grammar.mark symbol.Comma ++ more) → Reads (behind end a s) (More a) more
+pub comma_again : {A : Type 0} (end : Symbol) (a : A) (s : Remainder) (more : List Placed) → Begins s (grammar.mark symbol.Comma ++ more) → Reads (behind end a s) (More a) more
 unfolding separator_at
 comma_again end a s more e =
-    let f = in_front s (at 0 (Mark symbol.Comma)) more e in
+    let f = in_front s (placed_on 0 (Mark symbol.Comma)) more e in
     record { rest = behind_front s; gives = rw (f.gives, mark_plain symbol.Comma f.placed _ f.same) refl; tokens = f.tokens }
 
-pub end_again : {A : Type 0} (end : Symbol) (a : A) (s : State) (more : List Placed) → is_mark symbol.Comma (Mark end) ≡ false → Begins s (grammar.mark end ++ more) → Reads (behind end a s) (Final a) more
+pub end_again : {A : Type 0} (end : Symbol) (a : A) (s : Remainder) (more : List Placed) → is_mark symbol.Comma (Mark end) ≡ false → Begins s (grammar.mark end ++ more) → Reads (behind end a s) (Final a) more
 unfolding separator_at
 end_again end a s more other e =
-    let f = in_front s (at 0 (Mark end)) more e in
+    let f = in_front s (placed_on 0 (Mark end)) more e in
     record { rest = behind_front s; gives = rw (f.gives, mark_plain symbol.Comma f.placed _ f.same, other, mark_plain end f.placed _ f.same, same_code end) refl; tokens = f.tokens }
 
 -- a step that reads what a member is spelled by
-pub record MemberAgain {A : Type 0} (step : ℕ → State → Result (Step A × State) Fault) (spell : A → List Placed) (P Q : ℕ → A → Type 0) (g h : ℕ → A → ℕ) (closing : List Placed) : Type 0 where
-  pub more : (k : ℕ) (s : State) (a : A) (tail : List Placed) → P k a → s.gates + g k a ≤ 200000 → Begins s (spell a ++ (grammar.mark symbol.Comma ++ tail)) → Reads (step k s) (More a) tail
-  pub final : (k : ℕ) (s : State) (a : A) (tail : List Placed) → Q k a → s.gates + h k a ≤ 200000 → Begins s (spell a ++ (closing ++ tail)) → Reads (step k s) (Final a) tail
+pub record MemberAgain {A : Type 0} (step : ℕ → Remainder → Result (Step A × Remainder) Fault) (spell : A → List Placed) (P Q : ℕ → A → Type 0) (g h : ℕ → A → ℕ) (closing : List Placed) : Type 0 where
+  pub more : (k : ℕ) (s : Remainder) (a : A) (tail : List Placed) → P k a → s.gates + g k a ≤ 200000 → Begins s (spell a ++ (grammar.mark symbol.Comma ++ tail)) → Reads (step k s) (More a) tail
+  pub final : (k : ℕ) (s : Remainder) (a : A) (tail : List Placed) → Q k a → s.gates + h k a ≤ 200000 → Begins s (spell a ++ (closing ++ tail)) → Reads (step k s) (Final a) tail
 
 name_again_member : (end : Symbol) → is_mark symbol.Comma (Mark end) ≡ false → MemberAgain (name_step end) grammar.name Any Any no_gates no_gates (grammar.mark end)
 unfolding name_step
@@ -161,9 +162,9 @@ group4 a b c d = simp append_assoc
 pub group5 : (a b c d e : List Placed) → a ++ b ++ c ++ d ++ e ≡ a ++ (b ++ (c ++ (d ++ e)))
 group5 a b c d e = simp append_assoc
 
-module _ {A : Type 0} (step : ℕ → State → Result (Step A × State) Fault) (shortens : Shortens step) (spell : A → List Placed) (P Q : ℕ → A → Type 0) (g h : ℕ → A → ℕ) (closing : List Placed)
+module _ {A : Type 0} (step : ℕ → Remainder → Result (Step A × Remainder) Fault) (shortens : Shortens step) (spell : A → List Placed) (P Q : ℕ → A → Type 0) (g h : ℕ → A → ℕ) (closing : List Placed)
     (takes : MemberTakes step spell P Q g h closing) (again : MemberAgain step spell P Q g h closing) where
-  pub list_again : (k : ℕ) (xs : List A) (s : State) (tail : List Placed) → AllFrom P Q k xs → s.gates + gates_from g h k xs ≤ 200000 → Begins s (grammar.separated spell xs ++ (closing ++ tail)) → Reads (many_from step k s) xs tail
+  pub list_again : (k : ℕ) (xs : List A) (s : Remainder) (tail : List Placed) → AllFrom P Q k xs → s.gates + gates_from g h k xs ≤ 200000 → Begins s (grammar.separated spell xs ++ (closing ++ tail)) → Reads (many_from step k s) xs tail
   unfolding grammar.separated
   list_again k [] s tail holds le e = absurd holds
   list_again k (a ∷ []) s tail holds le e =
@@ -181,7 +182,7 @@ any_all k [] some = absurd (omega arith)
 any_all k (x ∷ []) some = tt
 any_all k (x ∷ y ∷ ys) some = (tt, any_all (k + 1) (y ∷ ys) (omega arith))
 
-pub names_again : (end : Symbol) → is_mark symbol.Comma (Mark end) ≡ false → (ns : List grammar.Name) (s : State) (tail : List Placed) → s.gates ≤ 200000 → 1 ≤ length ns → Begins s (grammar.separated grammar.name ns ++ (grammar.mark end ++ tail)) → Reads (names_at end s) ns tail
+pub names_again : (end : Symbol) → is_mark symbol.Comma (Mark end) ≡ false → (ns : List grammar.Name) (s : Remainder) (tail : List Placed) → s.gates ≤ 200000 → 1 ≤ length ns → Begins s (grammar.separated grammar.name ns ++ (grammar.mark end ++ tail)) → Reads (names_at end s) ns tail
 unfolding names_at
 names_again end other ns s tail le some e =
     list_again (name_step end) (names_shorten end) grammar.name Any Any no_gates no_gates (grammar.mark end) (name_member end) (name_again_member end other) 0 ns s tail (any_all 0 ns some) (omega (arith, le, any_gates 0 ns)) e

@@ -5,8 +5,11 @@ use Rattle.std.specs.List.{list_any, list_all}
 use Rattle.std.specs.Str.{bytes_eq}
 use Rattle.std.proofs.lemmas.Slice.Eq.{bytes_eq-Decides}
 use Rattle.std.specs.Prelude.{None, codes}
-use Rattle.td_syntax.specs.Lexical.{Name, keyword_of, word_of}
-use Rattle.td_syntax.specs.Words.{reserved_words, is_candidate}
+use Rattle.td_syntax.specs.Token.{Name}
+use Rattle.td_syntax.specs.Pieces.{keyword_of, beside}
+use Rattle.td_syntax.specs.Lexical.{word_of}
+use Rattle.td_syntax.specs.Candidates.{is_candidate}
+use Rattle.td_syntax.specs.Words.{reserved_words}
 
 both : (p q : Bool) → (p && q) ≡ true → (p ≡ true) × (q ≡ true)
 both true q e = (refl, e)
@@ -36,7 +39,7 @@ other w r yes_r no_w = by (bytes_eq w r) refl
     by false e = refl
 
 no_keyword : (w : List ℕ) → is_candidate w ≡ false → keyword_of w ≡ None
-unfolding keyword_of
+unfolding keyword_of beside
 no_keyword w h =
     rw (
       other w (codes "module") refl h,

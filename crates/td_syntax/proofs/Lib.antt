@@ -1,3 +1,9 @@
+pub mod Plain
+pub mod Attributing
+pub mod SameSpans
+pub mod Fronts
+pub mod Inside
+pub mod Spelled
 pub mod Pieces
 pub mod Attributes
 pub mod Parts

@@ -6,7 +6,8 @@ use Rattle.td_syntax.specs.declared.token.Directive.{Directive}
 use Rattle.td_syntax.specs.declared.token.Unread.{Unread}
 use Rattle.td_syntax.specs.declared.token.Unread.TheVariants.{Wrong, Short}
 use Rattle.td_syntax.specs.Bytes.{is_blank, is_zero}
-use Rattle.td_syntax.specs.Timescales.{◌>>=◌, unblanked, magnitude_at, tens_of, second_letter, letters_by, unit_at, span_at, slash_at, ordered, timescale_at}
+use Rattle.td_syntax.specs.Spans.{unblanked}
+use Rattle.td_syntax.specs.Timescales.{◌>>=◌, magnitude_at, letter_exponent, second_letter, letters_by, unit_at, span_at, slash_at, ordered, timescale_at}
 use Rattle.td_syntax.specs.TimescaleViews.{directive_view}
 use Rattle.std.specs.Borrow.{Bor}
 
@@ -53,7 +54,7 @@ unit_by false o bs x e = omega (arith, letters_within o bs x e)
 unit_within : (bs : List ℕ) (x : ℕ × List ℕ) → unit_at bs ≡ Ok x → length x.1 ≤ length bs
 unfolding unit_at
 unit_within [] x e = absurd (never Short x e)
-unit_within (b ∷ bs) x e = unit_by (b == 115) (tens_of b) bs x e
+unit_within (b ∷ bs) x e = unit_by (b == 115) (letter_exponent b) bs x e
 
 span_within : (bs : List ℕ) (x : ℕ × List ℕ) → span_at bs ≡ Ok x → length x.1 ≤ length bs
 unfolding span_at

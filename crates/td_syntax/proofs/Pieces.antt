@@ -16,7 +16,9 @@ use Rattle.td_syntax.specs.declared.token.Directive.{Directive}
 use Rattle.td_syntax.specs.declared.token.Unread.{Unread}
 use Rattle.td_syntax.specs.Bytes.{is_blank, is_letter, is_name_byte, is_run_byte, is_number_byte, is_printable, is_newline, is_point, is_quote, begins}
 use Rattle.td_syntax.specs.Timescales.{timescale_at}
-use Rattle.td_syntax.specs.Lexical.{Piece, Takes, Numeral, piece_at, slash_at, open_at, numeral_at, numeral_or, number_by, number_at, constant_at, ends_name, escaped_at, timescale_piece, directive_of, directive_at, char_at, comment_of, comment_end, closes, behind_byte, attribute_end, attribute_of}
+use Rattle.td_syntax.specs.Token.{Numeral}
+use Rattle.td_syntax.specs.Pieces.{numeral_at, ends_name, comment_end}
+use Rattle.td_syntax.specs.Lexical.{Piece, Takes, piece_at, slash_at, open_at, numeral_or, number_by, number_at, constant_at, escaped_at, timescale_piece, directive_of, directive_at, char_at, comment_of, closes, behind_byte, end_behind, attribute_of}
 use Rattle.td_syntax.proofs.Searches.{close_within, first_close}
 
 either : (len : ℕ) (b : Bool) (x y : Piece) → (b ≡ true → Takes x len) → (b ≡ false → Takes y len) → Takes (cond b x y) len
@@ -60,10 +62,10 @@ one_more : (n : ℕ) (r : Option ℕ) → IfSome r (λ k. k ≤ n) → IfSome (o
 one_more n None h = tt
 one_more n (Some k) h = omega (arith, h)
 
-pub attribute_within : (p : Place) (bs : List ℕ) → IfSome (attribute_end p bs) (λ n. n ≤ length bs)
-unfolding attribute_end
+pub attribute_within : (p : Place) (bs : List ℕ) → IfSome (end_behind p bs) (λ n. n ≤ length bs)
+unfolding end_behind
 attribute_within p [] = tt
-attribute_within p (b ∷ bs) = either_within (suc (length bs)) (closes p b) _ _ (omega arith) (one_more (length bs) (attribute_end (behind_byte p b) bs) (attribute_within (behind_byte p b) bs))
+attribute_within p (b ∷ bs) = either_within (suc (length bs)) (closes p b) _ _ (omega arith) (one_more (length bs) (end_behind (behind_byte p b) bs) (attribute_within (behind_byte p b) bs))
 
 attribute_takes : (bs : List ℕ) (r : Option ℕ) → IfSome r (λ n. n ≤ length bs) → Takes (attribute_of r) (suc (suc (length bs)))
 attribute_takes bs None h = tt
@@ -71,7 +73,7 @@ attribute_takes bs (Some n) h = (omega arith, omega (arith, h))
 
 open_takes : (bs : List ℕ) → Takes (open_at bs) (suc (length bs))
 open_takes [] = (omega arith, omega arith)
-open_takes (c ∷ bs) = either _ (c == 42) _ _ (λ _. attribute_takes bs (attribute_end place.Plain bs) (attribute_within place.Plain bs)) (λ _. (omega arith, omega arith))
+open_takes (c ∷ bs) = either _ (c == 42) _ _ (λ _. attribute_takes bs (end_behind place.Plain bs) (attribute_within place.Plain bs)) (λ _. (omega arith, omega arith))
 
 -- ---- numbers
 

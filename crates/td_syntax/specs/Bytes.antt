@@ -1,5 +1,6 @@
 -- Kinds of bytes.
 use Rattle.std.specs.Prelude.{ℕ, List, [], ◌∷◌, Bool, ◌||◌, ◌&&◌, ◌==◌, nat_le, false}
+use Rattle.std.specs.List.{count_by}
 use Rattle.std.specs.Char.{is_ascii_digit, is_ascii_alphabetic, is_ascii_alphanumeric}
 
 -- tab, newline, form feed, carriage return, space
@@ -30,6 +31,9 @@ is_printable b = nat_le 33 b && nat_le b 126
 
 abbrev pub is_newline : ℕ → Bool
 is_newline b = b == 10
+
+abbrev pub newlines : List ℕ → ℕ
+newlines bytes = count_by is_newline bytes
 
 abbrev pub is_zero : ℕ → Bool
 is_zero b = b == 48

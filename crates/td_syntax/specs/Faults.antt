@@ -1,4 +1,4 @@
--- Why a text is refused, and where.
+-- Which fault of tokens and grammar is told: why a text is refused, and where.
 use Rattle.std.specs.Prelude.{◌≡◌, ℕ, List, Option, None, Some, Result, Ok, Err, MatchOption, codes}
 use Rattle.td_syntax.specs.declared.fault.FaultKind as code_kind
 use Rattle.td_syntax.specs.declared.fault.FaultKind.TheVariants as code
@@ -7,8 +7,8 @@ use Rattle.td_syntax.specs.declared.token.Stop.TheVariants as stop
 use Rattle.td_syntax.specs.declared.token.Stop.{Stop}
 use Rattle.td_syntax.specs.declared.token.Symbol.TheVariants as symbol
 use Rattle.td_syntax.specs.declared.token.Symbol.{Symbol}
-use Rattle.td_syntax.specs.Lexical.{Token, Name, Escaped, Reserved, Number, Constant, Mark, Attribute, Directs, Outside}
-use Rattle.td_syntax.specs.Tokens.{Placed}
+use Rattle.td_syntax.specs.Token.{Token, Name, Escaped, Reserved, Number, Constant, Mark, Attribute, Directs, Outside}
+use Rattle.td_syntax.specs.Token.{Placed}
 
 pub data FaultKind : Type 0 where
   BadByte : FaultKind

@@ -1,5 +1,5 @@
 -- The syntax tree of a text, and the tokens that spell it.
-use Rattle.std.specs.Prelude.{◌≡◌, ℕ, zero, suc, ◌+◌, ◌*◌, ◌-◌, ◌≤◌, ◌==◌, not, if◌then◌else◌, List, [], ◌∷◌, ◌++◌, length, map, take, drop, filter, replicate, Option, None, Some, Bool, true, false, Ok}
+use Rattle.std.specs.Prelude.{◌≡◌, ℕ, zero, suc, ◌+◌, ◌*◌, ◌-◌, ◌≤◌, ◌==◌, not, if◌then◌else◌, List, [], ◌∷◌, ◌++◌, length, take, drop, filter, replicate, Option, None, Some, Bool, true, false, Ok}
 use Rattle.std.specs.List.{flat_map, fold, sum_by, list_all, AllByRecursion}
 use Rattle.td_gates.specs.declared.primitives.Kind.{Kind}
 use Rattle.td_gates.specs.declared.primitives.Kind.TheVariants as kinds
@@ -14,9 +14,8 @@ use Rattle.td_syntax.specs.declared.syntax.Role.TheVariants as role
 use Rattle.td_syntax.specs.declared.syntax.Front.{Front}
 use Rattle.td_syntax.specs.declared.syntax.Front.TheVariants as fronts
 use Rattle.td_syntax.specs.Bytes.{is_zero}
-use Rattle.td_syntax.specs.Lexical as lexical
-use Rattle.td_syntax.specs.Lexical.{Numeral}
-use Rattle.td_syntax.specs.Tokens.{Placed, at}
+use Rattle.td_syntax.specs.Token as lexical
+use Rattle.td_syntax.specs.Token.{Numeral, Placed, placed_on}
 
 -- ---- the tree
 
@@ -91,17 +90,14 @@ pub record Module : Type 0 where
 
 -- ---- its tokens, with the lines of names alone
 
-abbrev pub one : lexical.Token → List Placed
-one t = at 0 t ∷ []
-
 abbrev pub name : Name → List Placed
-name n = at n.line (lexical.Name n.name) ∷ []
+name n = placed_on n.line (lexical.Name n.name) ∷ []
 
 abbrev pub mark : Symbol → List Placed
-mark m = at 0 (lexical.Mark m) ∷ []
+mark m = placed_on 0 (lexical.Mark m) ∷ []
 
 abbrev pub number : Numeral → List Placed
-number n = at 0 (lexical.Number n) ∷ []
+number n = placed_on 0 (lexical.Number n) ∷ []
 
 abbrev pub whole_number : List ℕ → Numeral
 whole_number digits = record { whole = digits; fraction = None }
@@ -111,23 +107,20 @@ abbrev pub whole : List ℕ → List Placed
 whole digits = number (whole_number digits)
 
 abbrev pub word : Keyword → List Placed
-word k = at 0 (lexical.Reserved k) ∷ []
+word k = placed_on 0 (lexical.Reserved k) ∷ []
 
 abbrev pub attribute : Unit {0} → List Placed
-attribute u = at 0 lexical.Attribute ∷ []
+attribute u = placed_on 0 lexical.Attribute ∷ []
 
 abbrev pub attributes : ℕ → List Placed
 attributes n = flat_map attribute (replicate n tt)
 
 abbrev pub directed : Directive → List Placed
-directed d = at 0 (lexical.Directs (Ok d) []) ∷ []
+directed d = placed_on 0 (lexical.Directs (Ok d) []) ∷ []
 
 abbrev pub front : Front → List Placed
 front fronts.Attributed = attribute tt
 front (fronts.Directed d) = directed d
-
-abbrev pub level : Bool → List Placed
-level b = at 0 (lexical.Constant b []) ∷ []
 
 abbrev pub optional : {A : Type 0} → (A → List Placed) → Option A → List Placed
 optional spell None = []
@@ -145,8 +138,7 @@ role_word role.Output = word keyword.Output
 role_word role.Wire = word keyword.Wire
 
 abbrev pub wire_word : Bool → List Placed
-wire_word true = word keyword.Wire
-wire_word false = []
+wire_word wire = if wire then word keyword.Wire else []
 
 abbrev pub range : Range → List Placed
 range r = mark symbol.LeftBracket ++ whole r.left ++ mark symbol.Colon ++ whole r.right ++ mark symbol.RightBracket
@@ -182,7 +174,7 @@ select digits = mark symbol.LeftBracket ++ whole digits ++ mark symbol.RightBrac
 abbrev pub terminal : Terminal → List Placed
 terminal (Whole n) = name n
 terminal (Select n digits) = name n ++ select digits
-terminal (Level b) = level b
+terminal (Level b) = placed_on 0 (lexical.Constant b []) ∷ []
 
 abbrev pub instance : Instance → List Placed
 instance i = optional name i.name ++ mark symbol.Open ++ separated terminal i.terminals ++ mark symbol.Close
@@ -209,8 +201,8 @@ abbrev pub with_digit : ℕ → ℕ → ℕ
 with_digit n d = if d == 95 then n else 10 * n + (d - 48)
 
 -- the number that digits write, with _ between them
-abbrev pub value_of : List ℕ → ℕ
-value_of digits = fold with_digit 0 digits
+abbrev pub decimal_value : List ℕ → ℕ
+decimal_value digits = fold with_digit 0 digits
 
 abbrev pub is_digit : ℕ → Bool
 is_digit d = not (d == 95)
@@ -230,7 +222,7 @@ steps_behind n (suc tens) (d ∷ ds) = steps_behind (with_digit n d) tens ds
 
 -- A number of units, where a unit has 10 to the power of tens steps: its point moves so many places to the right.
 abbrev pub steps_of : ℕ → Numeral → ℕ
-steps_of tens n = steps_behind (value_of n.whole) tens (fraction_digits n.fraction)
+steps_of tens n = steps_behind (decimal_value n.whole) tens (fraction_digits n.fraction)
 
 -- whether nothing but zeros stands behind the point then
 abbrev pub is_whole : ℕ → Numeral → Bool
@@ -241,26 +233,25 @@ pub record IsSteps (tens : ℕ) (n : Numeral) : Type 0 where
   pub whole : is_whole tens n ≡ true
   pub within : IsBetween 1 1000000000 (steps_of tens n)
 
-abbrev pub IsDelay : ℕ → Option Delay → Type 0
-IsDelay tens None = Unit {0}
-IsDelay tens (Some (Plain n)) = IsSteps tens n
-IsDelay tens (Some (Single n)) = IsSteps tens n
-IsDelay tens (Some (Pair n m)) = IsSteps tens n × IsSteps tens m
+abbrev pub IsStatedDelay : ℕ → Option Delay → Type 0
+IsStatedDelay tens None = Unit {0}
+IsStatedDelay tens (Some (Plain n)) = IsSteps tens n
+IsStatedDelay tens (Some (Single n)) = IsSteps tens n
+IsStatedDelay tens (Some (Pair n m)) = IsSteps tens n × IsSteps tens m
 
 -- How many tens of a step a unit is, by the last directive: without one, a unit is a step.
-abbrev pub tens_behind : ℕ → Front → ℕ
-tens_behind tens fronts.Attributed = tens
-tens_behind tens (fronts.Directed directive.Cells) = tens
-tens_behind tens (fronts.Directed (directive.Timescale t)) = t.unit - t.step
+abbrev pub exponent_behind : ℕ → Front → ℕ
+exponent_behind tens (fronts.Directed (directive.Timescale t)) = t.unit - t.step
+exponent_behind tens front = tens
 
-abbrev pub tens_of : List Front → ℕ
-tens_of fs = fold tens_behind 0 fs
+abbrev pub unit_exponent : List Front → ℕ
+unit_exponent fs = fold exponent_behind 0 fs
 
 -- ---- what a tree keeps
 
 pub record IsRange (r : Range) : Type 0 where
-  pub left : value_of r.left ≤ 1000000000
-  pub right : value_of r.right ≤ 1000000000
+  pub left : decimal_value r.left ≤ 1000000000
+  pub right : decimal_value r.right ≤ 1000000000
 
 abbrev pub IsMaybeRange : Option Range → Type 0
 IsMaybeRange None = Unit {0}
@@ -283,9 +274,8 @@ IsPort (Headed h) = IsHeader h
 
 -- the first port is declared
 abbrev pub BeginsHeaded : List Port → Type 0
-BeginsHeaded [] = ⊥
-BeginsHeaded (Bare n ∷ ps) = ⊥
 BeginsHeaded (Headed h ∷ ps) = Unit {0}
+BeginsHeaded ps = ⊥
 
 abbrev pub ArePorts : Option Ports → Type 0
 ArePorts None = Unit {0}
@@ -298,12 +288,7 @@ ArePorts (Some (Declared ps)) = BeginsHeaded ps × AllByRecursion IsPort ps
 abbrev pub has_many_outputs : Kind → Bool
 has_many_outputs kinds.Buf = true
 has_many_outputs kinds.Not = true
-has_many_outputs kinds.And = false
-has_many_outputs kinds.Nand = false
-has_many_outputs kinds.Or = false
-has_many_outputs kinds.Nor = false
-has_many_outputs kinds.Xor = false
-has_many_outputs kinds.Xnor = false
+has_many_outputs k = false
 
 -- how many of so many terminals are outputs; each makes a gate
 abbrev pub output_count : Kind → ℕ → ℕ
@@ -312,19 +297,15 @@ output_count k terminals = if has_many_outputs k then terminals - 1 else 1
 abbrev pub instance_gates : Kind → Instance → ℕ
 instance_gates k i = output_count k (length i.terminals)
 
-abbrev pub statement_gates : Statement → ℕ
-statement_gates s = sum_by (instance_gates s.kind) s.instances
-
 abbrev pub item_gates : Item → ℕ
 item_gates (Declares d) = 0
-item_gates (Gates s) = statement_gates s
+item_gates (Gates s) = sum_by (instance_gates s.kind) s.instances
 
 -- ---- gates
 
 abbrev pub IsNet : Terminal → Type 0
-IsNet (Whole n) = Unit {0}
-IsNet (Select n digits) = Unit {0}
 IsNet (Level b) = ⊥
+IsNet t = Unit {0}
 
 -- an output and an input, or more; no output is a constant
 pub record IsInstance (k : Kind) (i : Instance) : Type 0 where
@@ -332,7 +313,7 @@ pub record IsInstance (k : Kind) (i : Instance) : Type 0 where
   pub outputs : AllByRecursion IsNet (take (instance_gates k i) i.terminals)
 
 pub record IsStatement (tens : ℕ) (s : Statement) : Type 0 where
-  pub delay : IsDelay tens s.delay
+  pub delay : IsStatedDelay tens s.delay
   pub instances : 1 ≤ length s.instances
   pub each : AllByRecursion (IsInstance s.kind) s.instances
 
@@ -340,27 +321,8 @@ abbrev pub IsItem : ℕ → Item → Type 0
 IsItem tens (Declares d) = IsDeclaration d
 IsItem tens (Gates s) = IsStatement tens s
 
--- ---- the derivation
-
--- A token without what the grammar doesn't look at: lines, but those of names, the backslash of a name, and texts that are
--- told alone.
-abbrev pub plain_as : ℕ → lexical.Token → Placed
-plain_as line (lexical.Name w) = at line (lexical.Name w)
-plain_as line (lexical.Escaped w) = at line (lexical.Name (drop 1 w))
-plain_as line (lexical.Reserved k) = at 0 (lexical.Reserved k)
-plain_as line (lexical.Number n) = at 0 (lexical.Number n)
-plain_as line (lexical.Constant b w) = at 0 (lexical.Constant b [])
-plain_as line (lexical.Mark m) = at 0 (lexical.Mark m)
-plain_as line lexical.Attribute = at 0 lexical.Attribute
-plain_as line (lexical.Directs d w) = at 0 (lexical.Directs d [])
-plain_as line (lexical.Outside w) = at 0 (lexical.Outside w)
-
-abbrev pub plain : Placed → Placed
-plain p = plain_as p.line p.token
-
--- The tokens are those of the module, in the grammar's order.
-pub record Derives (tokens : List Placed) (m : Module) : Type 0 where
-  pub spelled : map plain tokens ≡ module_tokens m
+-- what a module keeps beside its order of tokens
+pub record IsModule (m : Module) : Type 0 where
   pub ports : ArePorts m.ports
-  pub items : AllByRecursion (IsItem (tens_of m.fronts)) m.items
+  pub items : AllByRecursion (IsItem (unit_exponent m.fronts)) m.items
   pub gates : sum_by item_gates m.items ≤ 200000

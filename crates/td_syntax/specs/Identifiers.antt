@@ -3,7 +3,7 @@ use Rattle.std.specs.Prelude.{List, [], ◌∷◌, Bool, false, ◌&&◌, not, i
 use Rattle.std.specs.List.{list_all, list_any}
 use Rattle.std.specs.Str.{bytes_eq}
 use Rattle.td_syntax.specs.Bytes.{is_letter, is_name_byte}
-use Rattle.td_syntax.specs.Lexical.{keyword_of}
+use Rattle.td_syntax.specs.Pieces.{keyword_of}
 use Rattle.td_syntax.specs.Words.{reserved_words}
 
 abbrev pub begins_with_letter : List ℕ → Bool

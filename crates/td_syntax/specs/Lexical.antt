@@ -1,70 +1,23 @@
--- What stands at the front of a text: white space, a comment or a token, each the longest that begins there.
-use Rattle.std.specs.Prelude.{ℕ, suc, ◌+◌, ◌-◌, ◌<◌, ◌≤◌, List, [], ◌∷◌, length, take, drop, Option, None, Some, Bool, ◌||◌, ◌&&◌, ◌==◌, if◌then◌else◌, codes, true, false, Result, Ok, Err}
+-- Which fault of tokens is told: what stands at the front of any text, also where it is no token of the grammar or none at all.
+use Rattle.std.specs.Prelude.{ℕ, suc, ◌+◌, ◌-◌, ◌<◌, ◌≤◌, List, [], ◌∷◌, length, take, drop, Option, None, Some, Bool, ◌||◌, ◌==◌, if◌then◌else◌, codes, true, false, Result, Ok, Err}
 use Rattle.std.specs.List.{prefix_len, position_or_len, list_any}
 use Rattle.std.specs.Option.{option_map}
 use Rattle.std.specs.Char.{is_ascii_digit, is_ascii_alphanumeric}
 use Rattle.std.specs.Str.{bytes_eq}
 use Rattle.td_syntax.specs.Words.{reserved_words}
-use Rattle.td_gates.specs.declared.primitives.Kind.TheVariants as kind
 use Rattle.td_syntax.specs.declared.token.Keyword.{Keyword}
-use Rattle.td_syntax.specs.declared.token.Keyword.TheVariants as keyword
 use Rattle.td_syntax.specs.declared.token.Stop.{Stop}
 use Rattle.td_syntax.specs.declared.token.Stop.TheVariants as stop
-use Rattle.td_syntax.specs.declared.token.Symbol.{Symbol}
 use Rattle.td_syntax.specs.declared.token.Symbol.TheVariants as symbol
 use Rattle.td_syntax.specs.declared.token.Directive.{Directive}
 use Rattle.td_syntax.specs.declared.token.Directive.TheVariants as directive
 use Rattle.td_syntax.specs.declared.token.Unread.{Unread}
 use Rattle.td_syntax.specs.declared.attribute.Place.{Place}
 use Rattle.td_syntax.specs.declared.attribute.Place.TheVariants as place
+use Rattle.td_syntax.specs.Token.{Numeral, Token, Name, Escaped, Reserved, Number, Constant, Mark, Attribute, Directs, Outside}
+use Rattle.td_syntax.specs.Pieces.{keyword_of, comment_end, numeral_at, ends_name}
 use Rattle.td_syntax.specs.Timescales.{timescale_at}
-use Rattle.td_syntax.specs.Bytes.{is_blank, is_letter, is_name_byte, is_number_byte, is_run_byte, is_printable, is_newline, is_point, is_quote, begins}
-
--- a number as written: digits with _ between them, and those behind its point
-pub record Numeral : Type 0 where
-  pub whole : List ℕ
-  pub fraction : Option (List ℕ)
-
--- A token without where it lies in memory. An escaped name has its backslash, and what is told has its text.
-pub data Token : Type 0 where
-  Name : List ℕ → Token
-  Escaped : List ℕ → Token
-  Reserved : Keyword → Token
-  Number : Numeral → Token
-  Constant : Bool → List ℕ → Token
-  Mark : Symbol → Token
-  Attribute : Token
-  Directs : Result Directive Unread → List ℕ → Token
-  Outside : List ℕ → Token
-
--- ---- words
-
-unfoldable pub keyword_of : List ℕ → Option Keyword
-keyword_of w =
-    if bytes_eq w (codes "module") then Some keyword.Module
-    else (if bytes_eq w (codes "endmodule") then Some keyword.EndModule
-    else (if bytes_eq w (codes "input") then Some keyword.Input
-    else (if bytes_eq w (codes "output") then Some keyword.Output
-    else (if bytes_eq w (codes "wire") then Some keyword.Wire
-    else (if bytes_eq w (codes "and") then Some (keyword.Gate kind.And)
-    else (if bytes_eq w (codes "nand") then Some (keyword.Gate kind.Nand)
-    else (if bytes_eq w (codes "or") then Some (keyword.Gate kind.Or)
-    else (if bytes_eq w (codes "nor") then Some (keyword.Gate kind.Nor)
-    else (if bytes_eq w (codes "xor") then Some (keyword.Gate kind.Xor)
-    else (if bytes_eq w (codes "xnor") then Some (keyword.Gate kind.Xnor)
-    else (if bytes_eq w (codes "buf") then Some (keyword.Gate kind.Buf)
-    else (if bytes_eq w (codes "not") then Some (keyword.Gate kind.Not)
-    else None))))))))))))
-
--- ---- comments
-
--- the place of the first */, if there is one
-unfoldable pub comment_end : List ℕ → Option ℕ
-comment_end [] = None
-comment_end (b ∷ []) = None
-comment_end (b ∷ c ∷ bs) = if b == 42 && c == 47 then Some 0 else option_map suc (comment_end (c ∷ bs))
-
--- ---- pieces
+use Rattle.td_syntax.specs.Bytes.{is_blank, is_letter, is_name_byte, is_run_byte, is_printable, is_newline, is_quote, begins}
 
 -- A piece of a text and how many bytes it takes: white space or a comment, a token, or what nothing comes after.
 pub data Piece : Type 0 where
@@ -94,15 +47,6 @@ slash_at (c ∷ bs) =
 
 -- ---- numbers
 
--- a number and how many bytes it takes, unless no digit stands behind its point
-unfoldable pub numeral_at : List ℕ → Option (Numeral × ℕ)
-numeral_at bytes =
-    let n = prefix_len is_number_byte bytes in
-    let behind = drop n bytes in
-    let k = prefix_len is_number_byte (drop 1 behind) in
-    if begins is_point behind then (if begins is_ascii_digit (drop 1 behind) then Some (record { whole = take n bytes; fraction = Some (take k (drop 1 behind)) }, n + 1 + k) else None)
-    else Some (record { whole = take n bytes; fraction = None }, n)
-
 -- the two constants of the subset
 unfoldable pub constant_of : List ℕ → Token
 constant_of text =
@@ -131,11 +75,6 @@ unfoldable pub number_at : List ℕ → Piece
 number_at bytes = number_by bytes (numeral_at bytes)
 
 -- ---- escaped names
-
--- the end of the text, or white space
-abbrev pub ends_name : List ℕ → Bool
-ends_name [] = true
-ends_name (b ∷ bs) = is_blank b
 
 -- The bytes are those behind the backslash.
 unfoldable pub escaped_at : List ℕ → Piece
@@ -182,9 +121,9 @@ behind_byte place.Quoted b = if b == 34 then place.Plain else (if b == 92 then p
 behind_byte place.Escaped b = place.Quoted
 
 -- how many bytes stand up to the end of the attribute, if it ends
-unfoldable pub attribute_end : Place → List ℕ → Option ℕ
-attribute_end p [] = None
-attribute_end p (b ∷ bs) = if closes p b then Some 1 else option_map suc (attribute_end (behind_byte p b) bs)
+unfoldable pub end_behind : Place → List ℕ → Option ℕ
+end_behind p [] = None
+end_behind p (b ∷ bs) = if closes p b then Some 1 else option_map suc (end_behind (behind_byte p b) bs)
 
 abbrev pub attribute_of : Option ℕ → Piece
 attribute_of None = Last stop.Cut
@@ -214,7 +153,7 @@ char_at b bs =
 -- A `(` begins an attribute where a `*` stands behind it. The bytes are those behind the `(`.
 abbrev pub open_at : List ℕ → Piece
 open_at [] = Found (Mark symbol.Open) 1
-open_at (c ∷ bs) = if c == 42 then attribute_of (attribute_end place.Plain bs) else Found (Mark symbol.Open) 1
+open_at (c ∷ bs) = if c == 42 then attribute_of (end_behind place.Plain bs) else Found (Mark symbol.Open) 1
 
 unfoldable pub piece_at : List ℕ → Piece
 piece_at [] = Last stop.End

@@ -1,4 +1,5 @@
--- Reading a module from the tokens in front, with the first fault that is met. Each reader gives what it read and what is left.
+-- Which fault of tokens and grammar is told: reading a module from the tokens in front, up to the first fault. Each reader gives
+-- what it read and what is left.
 use Rattle.std.specs.Prelude.{ℕ, zero, suc, ◌+◌, List, [], ◌∷◌, drop, length, Option, None, Some, is_some, Bool, true, false, not, Result, Ok, Err, ◌==◌, ◌&&◌, ◌||◌, nat_lt, if◌then◌else◌, codes}
 use Rattle.td_gates.specs.declared.primitives.Kind.{Kind}
 use Rattle.td_syntax.specs.declared.token.Keyword.{Keyword}
@@ -13,48 +14,49 @@ use Rattle.td_syntax.specs.declared.syntax.Role.{Role}
 use Rattle.td_syntax.specs.declared.syntax.Role.TheVariants as role
 use Rattle.td_syntax.specs.declared.syntax.Front.TheVariants as fronts
 use Rattle.td_syntax.specs.declared.syntax.Front.{Front as Fronted}
-use Rattle.td_syntax.specs.Lexical.{Numeral, Token, Name, Escaped, Reserved, Number, Constant, Mark, Attribute, Directs, Outside}
-use Rattle.td_syntax.specs.Tokens.{Placed, Stream, Front, Next, Behind, front_of, rest_of}
+use Rattle.td_syntax.specs.Token.{Numeral, Token, Name, Escaped, Reserved, Number, Constant, Mark, Attribute, Directs, Outside}
+use Rattle.td_syntax.specs.Token.{Placed}
+use Rattle.td_syntax.specs.Tokens.{Stream, Front, Next, Behind, front_of, rest_of}
 use Rattle.td_syntax.specs.Grammar as grammar
-use Rattle.td_syntax.specs.Grammar.{has_many_outputs, tens_of, steps_of, is_whole, value_of}
+use Rattle.td_syntax.specs.Grammar.{has_many_outputs, unit_exponent, steps_of, is_whole, decimal_value}
 use Rattle.td_syntax.specs.Faults.{Fault, Syntax, OutOfSubset, ZeroDelay, DelayTooFine, DelayTooLarge, TooMany, fault, refused, stopped, ◌>>=◌}
 
 -- what is left, and how many gates there are so far
-pub record State : Type 0 where
+pub record Remainder : Type 0 where
   pub stream : Stream
   pub gates : ℕ
 
-abbrev pub start : Stream → State
+abbrev pub start : Stream → Remainder
 start s = record { stream = s; gates = 0 }
 
 -- behind the token in front
-abbrev pub behind_front : State → State
+abbrev pub behind_front : Remainder → Remainder
 behind_front s = record { stream = rest_of s.stream; gates = s.gates }
 
 -- ---- one token
 
-abbrev pub next_by : State → Front → Result (Placed × State) Fault
+abbrev pub next_by : Remainder → Front → Result (Placed × Remainder) Fault
 next_by s (Next p) = Ok (p, behind_front s)
 next_by s (Behind stop line) = Err (stopped stop line)
 
 -- the token in front
-unfoldable pub next_at : State → Result (Placed × State) Fault
+unfoldable pub next_at : Remainder → Result (Placed × Remainder) Fault
 next_at s = next_by s (front_of s.stream)
 
-abbrev pub read_as : {A : Type 0} → Fault → State → Option A → Result (A × State) Fault
+abbrev pub read_as : {A : Type 0} → Fault → Remainder → Option A → Result (A × Remainder) Fault
 read_as f rest None = Err f
 read_as f rest (Some a) = Ok (a, rest)
 
 -- the token in front, which must be one of these
-unfoldable pub take_at : {A : Type 0} → (Placed → Option A) → (Placed → Fault) → State → Result (A × State) Fault
+unfoldable pub take_at : {A : Type 0} → (Placed → Option A) → (Placed → Fault) → Remainder → Result (A × Remainder) Fault
 take_at find refuse s = next_at s >>= λ p. read_as (refuse p.0) p.1 (find p.0)
 
-abbrev pub read_if : {A : Type 0} → State → State → Option A → Option A × State
+abbrev pub read_if : {A : Type 0} → Remainder → Remainder → Option A → Option A × Remainder
 read_if s rest None = (None, s)
 read_if s rest (Some a) = (Some a, rest)
 
 -- the token in front, where it is one of these
-unfoldable pub maybe_at : {A : Type 0} → (Placed → Option A) → State → Result (Option A × State) Fault
+unfoldable pub maybe_at : {A : Type 0} → (Placed → Option A) → Remainder → Result (Option A × Remainder) Fault
 maybe_at find s = next_at s >>= λ p. Ok (read_if s p.1 (find p.0))
 
 abbrev pub code_of : Symbol → ℕ
@@ -181,18 +183,18 @@ named_refusal p (Some w) = fault (OutOfSubset w) p.line
 abbrev pub refused_name : Placed → Fault
 refused_name p = named_refusal p (name_text p.token)
 
-unfoldable pub name_at : State → Result (grammar.Name × State) Fault
+unfoldable pub name_at : Remainder → Result (grammar.Name × Remainder) Fault
 name_at s = take_at as_name refused s
 
 -- a number without a point
-unfoldable pub whole_at : State → Result (List ℕ × State) Fault
+unfoldable pub whole_at : Remainder → Result (List ℕ × Remainder) Fault
 whole_at s = take_at as_whole refused s
 
-unfoldable pub mark_at : Symbol → State → Result State Fault
+unfoldable pub mark_at : Symbol → Remainder → Result Remainder Fault
 mark_at m s = next_at s >>= λ p. if is_mark m p.0.token then Ok p.1 else Err (refused p.0)
 
 -- whether the mark is in front, which is taken then
-unfoldable pub maybe_mark_at : Symbol → State → Result (Bool × State) Fault
+unfoldable pub maybe_mark_at : Symbol → Remainder → Result (Bool × Remainder) Fault
 maybe_mark_at m s = next_at s >>= λ p. if is_mark m p.0.token then Ok (true, p.1) else Ok (false, s)
 
 -- ---- lists
@@ -203,7 +205,7 @@ pub data Step (A : Type 0) : Type 0 where
   Final : A → Step A
   Done : Step A
 
-abbrev pub go_on : {A : Type 0} → (State → Result (List A × State) Fault) → Step A × State → Result (List A × State) Fault
+abbrev pub go_on : {A : Type 0} → (Remainder → Result (List A × Remainder) Fault) → Step A × Remainder → Result (List A × Remainder) Fault
 go_on rest x = elim x.0 [
   | More a ↦ rest x.1 >>= λ y. Ok (a ∷ y.0, y.1)
   | Final a ↦ Ok (a ∷ [], x.1)
@@ -211,31 +213,31 @@ go_on rest x = elim x.0 [
 ]
 
 -- the members from the one with this number on
-unfoldable pub many_within : {A : Type 0} → (ℕ → State → Result (Step A × State) Fault) → ℕ → ℕ → State → Result (List A × State) Fault
+unfoldable pub many_within : {A : Type 0} → (ℕ → Remainder → Result (Step A × Remainder) Fault) → ℕ → ℕ → Remainder → Result (List A × Remainder) Fault
 many_within step k zero s = Err (fault Syntax 0)
 many_within step k (suc n) s = step k s >>= go_on (many_within step (k + 1) n)
 
-unfoldable pub many_from : {A : Type 0} → (ℕ → State → Result (Step A × State) Fault) → ℕ → State → Result (List A × State) Fault
+unfoldable pub many_from : {A : Type 0} → (ℕ → Remainder → Result (Step A × Remainder) Fault) → ℕ → Remainder → Result (List A × Remainder) Fault
 many_from step k s = many_within step k (suc (length s.stream.tokens)) s
 
-abbrev pub many : {A : Type 0} → (ℕ → State → Result (Step A × State) Fault) → State → Result (List A × State) Fault
+abbrev pub many : {A : Type 0} → (ℕ → Remainder → Result (Step A × Remainder) Fault) → Remainder → Result (List A × Remainder) Fault
 many step s = many_from step 0 s
 
 -- whether a comma is in front, and not the mark that ends the list; either is taken
-unfoldable pub separator_at : Symbol → State → Result (Bool × State) Fault
+unfoldable pub separator_at : Symbol → Remainder → Result (Bool × Remainder) Fault
 separator_at end s = next_at s >>= λ p. if is_mark symbol.Comma p.0.token then Ok (true, p.1) else (if is_mark end p.0.token then Ok (false, p.1) else Err (refused p.0))
 
 abbrev pub step_of : {A : Type 0} → A → Bool → Step A
 step_of a true = More a
 step_of a false = Final a
 
-abbrev pub behind : {A : Type 0} → Symbol → A → State → Result (Step A × State) Fault
+abbrev pub behind : {A : Type 0} → Symbol → A → Remainder → Result (Step A × Remainder) Fault
 behind end a s = separator_at end s >>= λ x. Ok (step_of a x.0, x.1)
 
-unfoldable pub name_step : Symbol → ℕ → State → Result (Step grammar.Name × State) Fault
+unfoldable pub name_step : Symbol → ℕ → Remainder → Result (Step grammar.Name × Remainder) Fault
 name_step end k s = name_at s >>= λ n. behind end n.0 n.1
 
-unfoldable pub names_at : Symbol → State → Result (List grammar.Name × State) Fault
+unfoldable pub names_at : Symbol → Remainder → Result (List grammar.Name × Remainder) Fault
 names_at end s = many (name_step end) s
 
 -- ---- attributes and directives
@@ -244,15 +246,15 @@ abbrev pub attribute_member : Option (Unit {0}) → Step (Unit {0})
 attribute_member None = Done
 attribute_member (Some u) = More u
 
-unfoldable pub attribute_step : ℕ → State → Result (Step (Unit {0}) × State) Fault
+unfoldable pub attribute_step : ℕ → Remainder → Result (Step (Unit {0}) × Remainder) Fault
 attribute_step k s = maybe_at as_attribute s >>= λ x. Ok (attribute_member x.0, x.1)
 
 -- how many attributes stand in front
-unfoldable pub attributes_at : State → Result (ℕ × State) Fault
+unfoldable pub attributes_at : Remainder → Result (ℕ × Remainder) Fault
 attributes_at s = many attribute_step s >>= λ x. Ok (length x.0, x.1)
 
 -- A directive that was in front on this line. Where its parts are cut, the text ends behind it.
-unfoldable pub directive_at : ℕ → Result Directive Unread → State → Result (Directive × State) Fault
+unfoldable pub directive_at : ℕ → Result Directive Unread → Remainder → Result (Directive × Remainder) Fault
 directive_at line (Ok d) s = Ok (d, s)
 directive_at line (Err unread.Wrong) s = Err (fault Syntax line)
 directive_at line (Err unread.Short) s = next_at s >>= λ p. Err (refused p.0)
@@ -268,16 +270,16 @@ module_by (keyword.Gate k) = None
 abbrev pub as_module : Placed → Option (Unit {0})
 as_module p = elim (as_keyword p) [ None ↦ None | Some k ↦ module_by k ]
 
-abbrev pub front_directive : Placed → State → Option (Result Directive Unread) → Result (Step Fronted × State) Fault
+abbrev pub front_directive : Placed → Remainder → Option (Result Directive Unread) → Result (Step Fronted × Remainder) Fault
 front_directive p s (Some d) = directive_at p.line d s >>= λ x. Ok (More (fronts.Directed x.0), x.1)
 front_directive p s None = elim (as_module p) [ None ↦ Err (refused p) | Some u ↦ Ok (Done, s) ]
 
-abbrev pub front_by : Placed → State → Option (Unit {0}) → Result (Step Fronted × State) Fault
+abbrev pub front_by : Placed → Remainder → Option (Unit {0}) → Result (Step Fronted × Remainder) Fault
 front_by p s (Some u) = Ok (More fronts.Attributed, s)
 front_by p s None = front_directive p s (as_directive p)
 
 -- an attribute, a directive or the word `module`
-unfoldable pub front_step : ℕ → State → Result (Step Fronted × State) Fault
+unfoldable pub front_step : ℕ → Remainder → Result (Step Fronted × Remainder) Fault
 front_step k s = next_at s >>= λ p. front_by p.0 p.1 (as_attribute p.0)
 
 -- whether no token stands in front
@@ -285,98 +287,98 @@ abbrev pub is_behind : Front → Bool
 is_behind (Behind stop line) = true
 is_behind (Next p) = false
 
-abbrev pub behind_by : ℕ → State → State → Option (Result Directive Unread) → Result (Step Directive × State) Fault
+abbrev pub behind_by : ℕ → Remainder → Remainder → Option (Result Directive Unread) → Result (Step Directive × Remainder) Fault
 behind_by line s rest None = Ok (Done, s)
 behind_by line s rest (Some d) = directive_at line d rest >>= λ x. Ok (More x.0, x.1)
 
 -- a directive behind the module, if one is in front
-unfoldable pub behind_step : ℕ → State → Result (Step Directive × State) Fault
+unfoldable pub behind_step : ℕ → Remainder → Result (Step Directive × Remainder) Fault
 behind_step k s = if is_behind (front_of s.stream) then Ok (Done, s) else (next_at s >>= λ p. behind_by p.0.line s p.1 (as_directive p.0))
 
 -- ---- delays
 
 -- Checked in this order: no whole number of steps, zero, too large.
-abbrev pub steps_by : ℕ → ℕ → Numeral → State → Result (Numeral × State) Fault
+abbrev pub steps_by : ℕ → ℕ → Numeral → Remainder → Result (Numeral × Remainder) Fault
 steps_by tens line n rest =
     if not (is_whole tens n) then Err (fault DelayTooFine line)
     else (if steps_of tens n == 0 then Err (fault ZeroDelay line)
     else (if nat_lt 1000000000 (steps_of tens n) then Err (fault DelayTooLarge line)
     else Ok (n, rest)))
 
-abbrev pub steps_from : ℕ → Placed → State → Option Numeral → Result (Numeral × State) Fault
+abbrev pub steps_from : ℕ → Placed → Remainder → Option Numeral → Result (Numeral × Remainder) Fault
 steps_from tens p rest None = Err (refused_name p)
 steps_from tens p rest (Some n) = steps_by tens p.line n rest
 
 -- a delay where a unit has 10 to the power of tens steps
-unfoldable pub steps_at : ℕ → State → Result (Numeral × State) Fault
+unfoldable pub steps_at : ℕ → Remainder → Result (Numeral × Remainder) Fault
 steps_at tens s = next_at s >>= λ p. steps_from tens p.0 p.1 (as_number p.0)
 
 -- the end of a delay in brackets; a third value is outside the subset
-unfoldable pub close_at : State → Result State Fault
+unfoldable pub close_at : Remainder → Result Remainder Fault
 close_at s = next_at s >>= λ p.
     if is_mark symbol.Close p.0.token then Ok p.1
     else (if is_mark symbol.Comma p.0.token then Err (fault (OutOfSubset (codes ",")) p.0.line)
     else Err (refused_name p.0))
 
 -- whether a second value follows
-unfoldable pub second_at : State → Result (Bool × State) Fault
+unfoldable pub second_at : Remainder → Result (Bool × Remainder) Fault
 second_at s = next_at s >>= λ p.
     if is_mark symbol.Comma p.0.token then Ok (true, p.1)
     else (if is_mark symbol.Close p.0.token then Ok (false, p.1)
     else Err (refused_name p.0))
 
-abbrev pub pair_at : ℕ → Numeral → Bool × State → Result (grammar.Delay × State) Fault
+abbrev pub pair_at : ℕ → Numeral → Bool × Remainder → Result (grammar.Delay × Remainder) Fault
 pair_at tens first x = elim x.0 [
   | true ↦ steps_at tens x.1 >>= λ second. close_at second.1 >>= λ rest. Ok (grammar.Pair first second.0, rest)
   | false ↦ Ok (grammar.Single first, x.1)
 ]
 
 -- behind #( stand one number or two
-unfoldable pub bracketed_at : ℕ → State → Result (grammar.Delay × State) Fault
+unfoldable pub bracketed_at : ℕ → Remainder → Result (grammar.Delay × Remainder) Fault
 bracketed_at tens s = steps_at tens s >>= λ first. second_at first.1 >>= pair_at tens first.0
 
-abbrev pub value_at : ℕ → Bool × State → Result (grammar.Delay × State) Fault
+abbrev pub value_at : ℕ → Bool × Remainder → Result (grammar.Delay × Remainder) Fault
 value_at tens x = elim x.0 [
   | true ↦ bracketed_at tens x.1
   | false ↦ steps_at tens x.1 >>= λ n. Ok (grammar.Plain n.0, n.1)
 ]
 
-abbrev pub delay_by : ℕ → Bool × State → Result (Option grammar.Delay × State) Fault
+abbrev pub delay_by : ℕ → Bool × Remainder → Result (Option grammar.Delay × Remainder) Fault
 delay_by tens x = elim x.0 [
   | true ↦ maybe_mark_at symbol.Open x.1 >>= value_at tens >>= λ d. Ok (Some d.0, d.1)
   | false ↦ Ok (None, x.1)
 ]
 
-unfoldable pub delay_at : ℕ → State → Result (Option grammar.Delay × State) Fault
+unfoldable pub delay_at : ℕ → Remainder → Result (Option grammar.Delay × Remainder) Fault
 delay_at tens s = maybe_mark_at symbol.Hash s >>= delay_by tens
 
 -- ---- terminals
 
 -- one gate more
-unfoldable pub count_at : ℕ → State → Result State Fault
+unfoldable pub count_at : ℕ → Remainder → Result Remainder Fault
 count_at line s = if nat_lt s.gates 200000 then Ok (record { stream = s.stream; gates = s.gates + 1 }) else Err (fault TooMany line)
 
 -- a terminal that drives; no constant does
-unfoldable pub output_at : ℕ → grammar.Terminal → State → Result State Fault
+unfoldable pub output_at : ℕ → grammar.Terminal → Remainder → Result Remainder Fault
 output_at line (grammar.Whole n) s = count_at line s
 output_at line (grammar.Select n digits) s = count_at line s
 output_at line (grammar.Level b) s = Err (fault Syntax line)
 
 -- The terminal with this number begins on this line. The first is an output.
-unfoldable pub begin_terminal : ℕ → ℕ → grammar.Terminal → State → Result State Fault
+unfoldable pub begin_terminal : ℕ → ℕ → grammar.Terminal → Remainder → Result Remainder Fault
 begin_terminal k line t s =
     if nat_lt k 1024 then (if k == 0 then output_at line t s else Ok s)
     else Err (fault TooMany line)
 
 -- Behind a comma the terminal was no last one.
-unfoldable pub more_terminals : Kind → ℕ → ℕ → grammar.Terminal → State → Result State Fault
+unfoldable pub more_terminals : Kind → ℕ → ℕ → grammar.Terminal → Remainder → Result Remainder Fault
 more_terminals kind k line t s = if has_many_outputs kind && nat_lt 0 k then output_at line t s else Ok s
 
 -- The terminal before a `)` is the last one.
-unfoldable pub end_terminals : ℕ → ℕ → State → Result State Fault
+unfoldable pub end_terminals : ℕ → ℕ → Remainder → Result Remainder Fault
 end_terminals k line s = if k == 0 then Err (fault Syntax line) else Ok s
 
-unfoldable pub terminal_end : Kind → ℕ → ℕ → grammar.Terminal → State → Result (Step grammar.Terminal × State) Fault
+unfoldable pub terminal_end : Kind → ℕ → ℕ → grammar.Terminal → Remainder → Result (Step grammar.Terminal × Remainder) Fault
 terminal_end kind k line t s = next_at s >>= λ p.
     if is_mark symbol.Comma p.0.token then (more_terminals kind k line t p.1 >>= λ rest. Ok (More t, rest))
     else (if is_mark symbol.Close p.0.token then (end_terminals k p.0.line p.1 >>= λ rest. Ok (Final t, rest))
@@ -398,26 +400,26 @@ abbrev pub as_base : Placed → Option grammar.Terminal
 as_base p = base_by p.line p.token
 
 -- the number of a bit, behind its [
-unfoldable pub bit_at : State → Result (List ℕ × State) Fault
+unfoldable pub bit_at : Remainder → Result (List ℕ × Remainder) Fault
 bit_at s = whole_at s >>= λ digits. mark_at symbol.RightBracket digits.1 >>= λ rest. Ok (digits.0, rest)
 
-abbrev pub selected_by : grammar.Name → Bool × State → Result (grammar.Terminal × State) Fault
+abbrev pub selected_by : grammar.Name → Bool × Remainder → Result (grammar.Terminal × Remainder) Fault
 selected_by n x = elim x.0 [
   | true ↦ bit_at x.1 >>= λ digits. Ok (grammar.Select n digits.0, digits.1)
   | false ↦ Ok (grammar.Whole n, x.1)
 ]
 
 -- a name may have a bit behind it
-unfoldable pub selected_at : grammar.Terminal → State → Result (grammar.Terminal × State) Fault
+unfoldable pub selected_at : grammar.Terminal → Remainder → Result (grammar.Terminal × Remainder) Fault
 selected_at (grammar.Whole n) s = maybe_mark_at symbol.LeftBracket s >>= selected_by n
 selected_at (grammar.Select n digits) s = Ok (grammar.Select n digits, s)
 selected_at (grammar.Level b) s = Ok (grammar.Level b, s)
 
-abbrev pub terminal_by : Kind → ℕ → Placed → State → Option grammar.Terminal → Result (Step grammar.Terminal × State) Fault
+abbrev pub terminal_by : Kind → ℕ → Placed → Remainder → Option grammar.Terminal → Result (Step grammar.Terminal × Remainder) Fault
 terminal_by kind k p s None = Err (refused p)
 terminal_by kind k p s (Some base) = begin_terminal k p.line base s >>= selected_at base >>= λ t. terminal_end kind k p.line t.0 t.1
 
-unfoldable pub terminal_step : Kind → ℕ → State → Result (Step grammar.Terminal × State) Fault
+unfoldable pub terminal_step : Kind → ℕ → Remainder → Result (Step grammar.Terminal × Remainder) Fault
 terminal_step kind k s = next_at s >>= λ p. terminal_by kind k p.0 p.1 (as_base p.0)
 
 -- ---- gates
@@ -427,21 +429,21 @@ abbrev pub opening_refusal : Bool → Placed → Fault
 opening_refusal named p = if named && is_mark symbol.LeftBracket p.token then fault (OutOfSubset (codes "[")) p.line else refused p
 
 -- the ( of an instance, which may have a name before it
-unfoldable pub opening_at : Bool → State → Result State Fault
+unfoldable pub opening_at : Bool → Remainder → Result Remainder Fault
 opening_at named s = next_at s >>= λ p. if is_mark symbol.Open p.0.token then Ok p.1 else Err (opening_refusal named p.0)
 
-unfoldable pub instance_at : Kind → State → Result (grammar.Instance × State) Fault
+unfoldable pub instance_at : Kind → Remainder → Result (grammar.Instance × Remainder) Fault
 instance_at kind s = do
   name ← maybe_at as_name s
   bracket ← opening_at (is_some name.0) name.1
   terminals ← many (terminal_step kind) bracket
   Ok (record { name = name.0; terminals = terminals.0 }, terminals.1)
 
-unfoldable pub instance_step : Kind → ℕ → State → Result (Step grammar.Instance × State) Fault
+unfoldable pub instance_step : Kind → ℕ → Remainder → Result (Step grammar.Instance × Remainder) Fault
 instance_step kind k s = instance_at kind s >>= λ i. behind symbol.Semicolon i.0 i.1
 
 -- behind the word of the kind
-unfoldable pub statement_at : ℕ → ℕ → Kind → State → Result (grammar.Statement × State) Fault
+unfoldable pub statement_at : ℕ → ℕ → Kind → Remainder → Result (grammar.Statement × Remainder) Fault
 statement_at tens attributes kind s = do
   delay ← delay_at tens s
   instances ← many (instance_step kind) delay.1
@@ -450,7 +452,7 @@ statement_at tens attributes kind s = do
 -- ---- declarations
 
 -- a strength or a delay of nets is outside the subset
-unfoldable pub behind_wire : State → Result State Fault
+unfoldable pub behind_wire : Remainder → Result Remainder Fault
 behind_wire s = next_at s >>= λ p.
     if is_mark symbol.Open p.0.token then Err (fault (OutOfSubset (codes "(")) p.0.line)
     else (if is_mark symbol.Hash p.0.token then Err (fault (OutOfSubset (codes "#")) p.0.line)
@@ -467,28 +469,28 @@ wire_by (keyword.Gate k) = None
 abbrev pub as_wire : Placed → Option (Unit {0})
 as_wire p = elim (as_keyword p) [ None ↦ None | Some k ↦ wire_by k ]
 
-abbrev pub wired : Option (Unit {0}) × State → Result (Bool × State) Fault
+abbrev pub wired : Option (Unit {0}) × Remainder → Result (Bool × Remainder) Fault
 wired x = elim x.0 [
   | Some u ↦ behind_wire x.1 >>= λ rest. Ok (true, rest)
   | None ↦ Ok (false, x.1)
 ]
 
 -- `wire` may stand behind `input` and `output`
-unfoldable pub wire_at : Role → State → Result (Bool × State) Fault
+unfoldable pub wire_at : Role → Remainder → Result (Bool × Remainder) Fault
 wire_at role.Input s = maybe_at as_wire s >>= wired
 wire_at role.Output s = maybe_at as_wire s >>= wired
 wire_at role.Wire s = behind_wire s >>= λ rest. Ok (false, rest)
 
-abbrev pub limited_from : Placed → State → Option (List ℕ) → Result (List ℕ × State) Fault
+abbrev pub limited_from : Placed → Remainder → Option (List ℕ) → Result (List ℕ × Remainder) Fault
 limited_from p rest None = Err (refused p)
-limited_from p rest (Some digits) = if nat_lt 1000000000 (value_of digits) then Err (fault TooMany p.line) else Ok (digits, rest)
+limited_from p rest (Some digits) = if nat_lt 1000000000 (decimal_value digits) then Err (fault TooMany p.line) else Ok (digits, rest)
 
 -- a number of a range, within its limit
-unfoldable pub limited_at : State → Result (List ℕ × State) Fault
+unfoldable pub limited_at : Remainder → Result (List ℕ × Remainder) Fault
 limited_at s = next_at s >>= λ p. limited_from p.0 p.1 (as_whole p.0)
 
 -- behind the [ of a range
-unfoldable pub bounds_at : State → Result (grammar.Range × State) Fault
+unfoldable pub bounds_at : Remainder → Result (grammar.Range × Remainder) Fault
 bounds_at s = do
   left ← limited_at s
   colon ← mark_at symbol.Colon left.1
@@ -496,17 +498,17 @@ bounds_at s = do
   rest ← mark_at symbol.RightBracket right.1
   Ok (record { left = left.0; right = right.0 }, rest)
 
-abbrev pub range_by : Bool × State → Result (Option grammar.Range × State) Fault
+abbrev pub range_by : Bool × Remainder → Result (Option grammar.Range × Remainder) Fault
 range_by x = elim x.0 [
   | true ↦ bounds_at x.1 >>= λ r. Ok (Some r.0, r.1)
   | false ↦ Ok (None, x.1)
 ]
 
-unfoldable pub range_at : State → Result (Option grammar.Range × State) Fault
+unfoldable pub range_at : Remainder → Result (Option grammar.Range × Remainder) Fault
 range_at s = maybe_mark_at symbol.LeftBracket s >>= range_by
 
 -- behind the word of the role
-unfoldable pub declaration_at : ℕ → Role → State → Result (grammar.Declaration × State) Fault
+unfoldable pub declaration_at : ℕ → Role → Remainder → Result (grammar.Declaration × Remainder) Fault
 declaration_at attributes r s = do
   wire ← wire_at r s
   range ← range_at wire.1
@@ -526,10 +528,10 @@ direction_by (keyword.Gate k) = None
 abbrev pub as_direction : Placed → Option Role
 as_direction p = elim (as_keyword p) [ None ↦ None | Some k ↦ direction_by k ]
 
-unfoldable pub direction_at : State → Result (Role × State) Fault
+unfoldable pub direction_at : Remainder → Result (Role × Remainder) Fault
 direction_at s = take_at as_direction refused s
 
-unfoldable pub header_at : State → Result (grammar.Header × State) Fault
+unfoldable pub header_at : Remainder → Result (grammar.Header × Remainder) Fault
 header_at s = do
   attributes ← attributes_at s
   role ← direction_at attributes.1
@@ -538,20 +540,20 @@ header_at s = do
   name ← name_at range.1
   Ok (record { attributes = attributes.0; role = role.0; wire = wire.0; range = range.0; name = name.0 }, name.1)
 
-unfoldable pub headed_at : State → Result (grammar.Port × State) Fault
+unfoldable pub headed_at : Remainder → Result (grammar.Port × Remainder) Fault
 headed_at s = header_at s >>= λ h. Ok (grammar.Headed h.0, h.1)
 
-abbrev pub port_by : Option grammar.Name × State → Result (grammar.Port × State) Fault
+abbrev pub port_by : Option grammar.Name × Remainder → Result (grammar.Port × Remainder) Fault
 port_by x = elim x.0 [
   | Some n ↦ Ok (grammar.Bare n, x.1)
   | None ↦ headed_at x.1
 ]
 
 -- The first port is no bare name.
-unfoldable pub port_at : ℕ → State → Result (grammar.Port × State) Fault
+unfoldable pub port_at : ℕ → Remainder → Result (grammar.Port × Remainder) Fault
 port_at k s = if k == 0 then headed_at s else (maybe_at as_name s >>= port_by)
 
-unfoldable pub port_step : ℕ → State → Result (Step grammar.Port × State) Fault
+unfoldable pub port_step : ℕ → Remainder → Result (Step grammar.Port × Remainder) Fault
 port_step k s = port_at k s >>= λ p. behind symbol.Close p.0 p.1
 
 -- whether a declared port begins so
@@ -559,35 +561,35 @@ abbrev pub is_heading : Placed → Bool
 is_heading p = is_some (as_attribute p) || is_some (as_direction p)
 
 -- the ports, of which there is one at least
-unfoldable pub listed_at : State → Result (grammar.Ports × State) Fault
+unfoldable pub listed_at : Remainder → Result (grammar.Ports × Remainder) Fault
 listed_at s = next_at s >>= λ p.
     if is_heading p.0 then (many port_step s >>= λ ports. Ok (grammar.Declared ports.0, ports.1))
     else (names_at symbol.Close s >>= λ names. Ok (grammar.Names names.0, names.1))
 
-abbrev pub listed : Bool × State → Result (grammar.Ports × State) Fault
+abbrev pub listed : Bool × Remainder → Result (grammar.Ports × Remainder) Fault
 listed x = elim x.0 [
   | true ↦ Ok (grammar.Names [], x.1)
   | false ↦ listed_at x.1
 ]
 
-abbrev pub ports_by : Bool × State → Result (Option grammar.Ports × State) Fault
+abbrev pub ports_by : Bool × Remainder → Result (Option grammar.Ports × Remainder) Fault
 ports_by x = elim x.0 [
   | true ↦ maybe_mark_at symbol.Close x.1 >>= listed >>= λ ports. Ok (Some ports.0, ports.1)
   | false ↦ Ok (None, x.1)
 ]
 
-unfoldable pub ports_at : State → Result (Option grammar.Ports × State) Fault
+unfoldable pub ports_at : Remainder → Result (Option grammar.Ports × Remainder) Fault
 ports_at s = maybe_mark_at symbol.Open s >>= ports_by
 
 -- ---- items
 
-abbrev pub declares : grammar.Declaration × State → Result (Step grammar.Item × State) Fault
+abbrev pub declares : grammar.Declaration × Remainder → Result (Step grammar.Item × Remainder) Fault
 declares d = Ok (More (grammar.Declares d.0), d.1)
 
-abbrev pub gates : grammar.Statement × State → Result (Step grammar.Item × State) Fault
+abbrev pub gates : grammar.Statement × Remainder → Result (Step grammar.Item × Remainder) Fault
 gates g = Ok (More (grammar.Gates g.0), g.1)
 
-abbrev pub item_word : ℕ → ℕ → Placed → State → Keyword → Result (Step grammar.Item × State) Fault
+abbrev pub item_word : ℕ → ℕ → Placed → Remainder → Keyword → Result (Step grammar.Item × Remainder) Fault
 item_word tens attributes p s keyword.Input = declaration_at attributes role.Input s >>= declares
 item_word tens attributes p s keyword.Output = declaration_at attributes role.Output s >>= declares
 item_word tens attributes p s keyword.Wire = declaration_at attributes role.Wire s >>= declares
@@ -597,11 +599,11 @@ item_word tens attributes p s keyword.EndModule = if attributes == 0 then Ok (Do
 item_word tens attributes p s keyword.Module = Err (refused p)
 
 -- a name begins an instance of a module
-abbrev pub item_by : ℕ → ℕ → Placed → State → Option Keyword → Result (Step grammar.Item × State) Fault
+abbrev pub item_by : ℕ → ℕ → Placed → Remainder → Option Keyword → Result (Step grammar.Item × Remainder) Fault
 item_by tens attributes p s None = Err (refused_name p)
 item_by tens attributes p s (Some k) = item_word tens attributes p s k
 
-unfoldable pub item_step : ℕ → ℕ → State → Result (Step grammar.Item × State) Fault
+unfoldable pub item_step : ℕ → ℕ → Remainder → Result (Step grammar.Item × Remainder) Fault
 item_step tens k s = attributes_at s >>= λ a. next_at a.1 >>= λ p. item_by tens a.0 p.0 p.1 (as_keyword p.0)
 
 -- ---- the module
@@ -610,7 +612,7 @@ item_step tens k s = attributes_at s >>= λ a. next_at a.1 >>= λ p. item_by ten
 abbrev pub second_refusal : Placed → Fault
 second_refusal p = elim (as_module p) [ Some u ↦ fault (OutOfSubset (codes "module")) p.line | None ↦ refused p ]
 
-abbrev pub end_by : State → Front → Result State Fault
+abbrev pub end_by : Remainder → Front → Result Remainder Fault
 end_by s (Behind stop.End line) = Ok s
 end_by s (Behind stop.Cut line) = Err (stopped stop.Cut line)
 end_by s (Behind stop.Bad line) = Err (stopped stop.Bad line)
@@ -618,16 +620,16 @@ end_by s (Behind stop.Malformed line) = Err (stopped stop.Malformed line)
 end_by s (Next p) = Err (second_refusal p)
 
 -- nothing stands behind the module
-unfoldable pub end_at : State → Result State Fault
+unfoldable pub end_at : Remainder → Result Remainder Fault
 end_at s = end_by s (front_of s.stream)
 
-unfoldable pub module_at : State → Result (grammar.Module × State) Fault
+unfoldable pub module_at : Remainder → Result (grammar.Module × Remainder) Fault
 module_at s = do
   fronts ← many front_step s
   name ← name_at fronts.1
   ports ← ports_at name.1
   semicolon ← mark_at symbol.Semicolon ports.1
-  items ← many (item_step (tens_of fronts.0)) semicolon
+  items ← many (item_step (unit_exponent fronts.0)) semicolon
   behind ← many behind_step items.1
   rest ← end_at behind.1
   Ok (record { fronts = fronts.0; name = name.0; ports = ports.0; items = items.0; behind = behind.0 }, rest)

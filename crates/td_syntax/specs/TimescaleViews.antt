@@ -1,4 +1,4 @@
--- The parts of a directive, without where they lie in memory.
+-- Internal: the parts of a directive, without where they lie in memory.
 use Rattle.std.specs.Prelude.{ℕ, List, Result, Ok, Err}
 use Rattle.std.specs.Borrow.{Bor}
 use Rattle.td_syntax.specs.declared.token.Directive.{Directive}

@@ -1,20 +1,17 @@
--- The parts of a `timescale: two spans of time with a slash between them, white space free between the parts.
+-- Which fault of a `timescale is told: its parts one after another, up to the first that can't be read.
 use Rattle.std.specs.Prelude.{ℕ, ◌+◌, List, [], ◌∷◌, drop, Option, None, Some, ◌==◌, nat_le, min, if◌then◌else◌, Result, Ok, Err}
 use Rattle.std.specs.List.{prefix_len}
 use Rattle.td_syntax.specs.declared.token.Directive.{Directive}
 use Rattle.td_syntax.specs.declared.token.Directive.TheVariants as directive
 use Rattle.td_syntax.specs.declared.token.Unread.{Unread}
 use Rattle.td_syntax.specs.declared.token.Unread.TheVariants.{Wrong, Short}
-use Rattle.td_syntax.specs.Bytes.{is_blank, is_zero}
+use Rattle.td_syntax.specs.Bytes.{is_zero}
+use Rattle.td_syntax.specs.Spans.{unblanked}
 
 infixl 10 ◌>>=◌
 abbrev pub ◌>>=◌ : {A B : Type 0} → Result A Unread → (A → Result B Unread) → Result B Unread
 (Ok x) >>= f = f x
 (Err e) >>= f = Err e
-
--- behind the white space in front
-unfoldable pub unblanked : List ℕ → List ℕ
-unblanked bytes = drop (prefix_len is_blank bytes) bytes
 
 -- Each part gives its number and the bytes behind it.
 
@@ -24,8 +21,8 @@ magnitude_at [] = Err Short
 magnitude_at (b ∷ bs) = let n = min (prefix_len is_zero bs) 2 in if b == 49 then Ok (n, drop n bs) else Err Wrong
 
 -- the units with two letters, by the first one, as the number of zeros that they have in femtoseconds
-abbrev pub tens_of : ℕ → Option ℕ
-tens_of b =
+abbrev pub letter_exponent : ℕ → Option ℕ
+letter_exponent b =
     if b == 109 then Some 12
     else (if b == 117 then Some 9
     else (if b == 110 then Some 6
@@ -45,7 +42,7 @@ letters_by (Some tens) bs = second_letter tens bs
 -- s, ms, us, ns, ps or fs
 unfoldable pub unit_at : List ℕ → Result (ℕ × List ℕ) Unread
 unit_at [] = Err Short
-unit_at (b ∷ bs) = if b == 115 then Ok (15, bs) else letters_by (tens_of b) bs
+unit_at (b ∷ bs) = if b == 115 then Ok (15, bs) else letters_by (letter_exponent b) bs
 
 -- a magnitude and a unit: so many tens of a femtosecond, multiplied
 unfoldable pub span_at : List ℕ → Result (ℕ × List ℕ) Unread

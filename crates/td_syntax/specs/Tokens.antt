@@ -1,21 +1,10 @@
--- The tokens of a text, with their lines.
-use Rattle.std.specs.Prelude.{◌≡◌, ℕ, zero, suc, ◌+◌, List, [], ◌∷◌, length, take, drop}
-use Rattle.std.specs.List.{count_by}
+-- Which fault of tokens is told: the tokens of any text, with their lines, and where they stop.
+use Rattle.std.specs.Prelude.{ℕ, zero, suc, ◌+◌, List, [], ◌∷◌, length, take, drop}
 use Rattle.td_syntax.specs.declared.token.Stop.{Stop}
 use Rattle.td_syntax.specs.declared.token.Stop.TheVariants.{Cut, Bad, Malformed, End}
-use Rattle.td_syntax.specs.Bytes.{is_newline}
-use Rattle.td_syntax.specs.Lexical.{Token, Space, Found, Last, piece_at}
-
--- a token, and the line of its first byte
-pub record Placed : Type 0 where
-  pub token : Token
-  pub line : ℕ
-
-abbrev pub at : ℕ → Token → Placed
-at line token = record { token = token; line = line }
-
-abbrev pub newlines : List ℕ → ℕ
-newlines bytes = count_by is_newline bytes
+use Rattle.td_syntax.specs.Bytes.{newlines}
+use Rattle.td_syntax.specs.Token.{Placed, placed_on}
+use Rattle.td_syntax.specs.Lexical.{Space, Found, Last, piece_at}
 
 -- The tokens of a text, and what stands behind them, on which line.
 pub record Stream : Type 0 where
@@ -26,8 +15,8 @@ pub record Stream : Type 0 where
 abbrev pub ends : ℕ → Stop → Stream
 ends line stop = record { tokens = []; stop = stop; line = line }
 
-abbrev pub before : Placed → Stream → Stream
-before t s = record { tokens = t ∷ s.tokens; stop = s.stop; line = s.line }
+abbrev pub with_token : Placed → Stream → Stream
+with_token t s = record { tokens = t ∷ s.tokens; stop = s.stop; line = s.line }
 
 -- A comment or an attribute that is cut short is told at the line of the end, another stop where it stands.
 abbrev pub stop_line : ℕ → List ℕ → Stop → ℕ
@@ -36,19 +25,14 @@ stop_line line bytes Bad = line
 stop_line line bytes Malformed = line
 stop_line line bytes End = line
 
--- The bytes, which begin on this line, have these tokens: white space and comments stand between them.
-pub data Lexes : ℕ → List ℕ → Stream → Type 0 where
-  last : {line : ℕ} {bytes : List ℕ} {stop : Stop} → piece_at bytes ≡ Last stop → Lexes line bytes (ends (stop_line line bytes stop) stop)
-  space : {line : ℕ} {bytes : List ℕ} {n : ℕ} {s : Stream} → piece_at bytes ≡ Space n → Lexes (line + newlines (take n bytes)) (drop n bytes) s → Lexes line bytes s
-  found : {line : ℕ} {bytes : List ℕ} {t : Token} {n : ℕ} {s : Stream} → piece_at bytes ≡ Found t n → Lexes (line + newlines (take n bytes)) (drop n bytes) s → Lexes line bytes (before (at line t) s)
-
--- The same as a function, which looks at no more than that many pieces.
+-- The tokens of the bytes, which begin on this line: white space and comments stand between them. No more than that many pieces are
+-- looked at.
 unfoldable pub tokens_within : ℕ → ℕ → List ℕ → Stream
 tokens_within zero line bytes = ends line End
 tokens_within (suc pieces) line bytes =
     elim (piece_at bytes) [
       | Space n ↦ tokens_within pieces (line + newlines (take n bytes)) (drop n bytes)
-      | Found t n ↦ before (at line t) (tokens_within pieces (line + newlines (take n bytes)) (drop n bytes))
+      | Found t n ↦ with_token (placed_on line t) (tokens_within pieces (line + newlines (take n bytes)) (drop n bytes))
       | Last stop ↦ ends (stop_line line bytes stop) stop
     ]
 

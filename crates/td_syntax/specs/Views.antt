@@ -1,4 +1,4 @@
--- Tokens as the definitions name them, without where they lie in memory.
+-- Internal: tokens and trees as the definitions name them, without where they lie in memory.
 use Rattle.std.specs.Prelude.{ℕ, List, map, Option, None, Some}
 use Rattle.std.specs.Borrow.{Bor}
 use Rattle.td_syntax.specs.declared.syntax.Name as syntax_name
@@ -30,7 +30,8 @@ use Rattle.td_syntax.specs.declared.token.Number as number
 use Rattle.td_syntax.specs.declared.token.Placed as placed
 use Rattle.td_syntax.specs.declared.token.Front as fronts
 use Rattle.td_syntax.specs.declared.token.Front.TheVariants as front
-use Rattle.td_syntax.specs.Lexical as lexical
+use Rattle.td_syntax.specs.Token as lexical
+use Rattle.td_syntax.specs.Lexical as pieces
 use Rattle.td_syntax.specs.Tokens as tokens
 
 abbrev pub option_bytes : Option (Bor (List ℕ)) → Option (List ℕ)
@@ -59,13 +60,13 @@ view token.Attribute = lexical.Attribute
 view (token.Directive d w) = lexical.Directs d w.now
 view (token.Outside w) = lexical.Outside w.now
 
-abbrev pub piece_view : Piece → lexical.Piece
-piece_view (piece.Space n) = lexical.Space n
-piece_view (piece.Found t n) = lexical.Found (view t) n
-piece_view (piece.Last s) = lexical.Last s
+abbrev pub piece_view : Piece → pieces.Piece
+piece_view (piece.Space n) = pieces.Space n
+piece_view (piece.Found t n) = pieces.Found (view t) n
+piece_view (piece.Last s) = pieces.Last s
 
-abbrev pub placed_view : placed.Placed → tokens.Placed
-placed_view p = tokens.at p.line (view p.token)
+abbrev pub placed_view : placed.Placed → lexical.Placed
+placed_view p = lexical.placed_on p.line (view p.token)
 
 abbrev pub front_view : fronts.Front → tokens.Front
 front_view (front.Next p) = tokens.Next (placed_view p)

@@ -1,7 +1,7 @@
 //! Where an attribute ends.
 
 ghost use Rattle.std.specs.Prelude.{◌≡◌, ◌≤◌, length, IfSome};
-ghost use Rattle.td_syntax.specs.Lexical.{closes, behind_byte, attribute_end};
+ghost use Rattle.td_syntax.specs.Lexical.{closes, behind_byte, end_behind};
 ghost use Rattle.td_syntax.specs.declared.attribute.Place.TheVariants.{Plain};
 
 /// What stands before a byte of an attribute.
@@ -42,7 +42,7 @@ fn behind(place: Place, byte: u8) -> Place
 
 /// How many bytes of the text stand up to the end of the attribute, if it ends. The text is what stands behind the `(*`.
 pub fn attribute_len(text: &[u8]) -> Option<usize>
-    ensures place { result ≡ attribute_end Plain text.now }
+    ensures place { result ≡ end_behind Plain text.now }
     ensures within { IfSome result (λ n. n ≤ length text.now) }
 {
     let mut place = Place::Plain;

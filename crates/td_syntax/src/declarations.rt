@@ -5,7 +5,7 @@ ghost use Rattle.td_syntax.specs.Faults.{Gives};
 ghost use Rattle.td_syntax.specs.Views.{placed_view, name_view, range_view, option_range_view, declaration_view, header_view, port_view, port_list_view, ports_view, step_view};
 ghost use Rattle.td_syntax.specs.Parsing.{many, behind_wire, wire_at, limited_at, bounds_at, range_at, declaration_at, direction_at, header_at, headed_at, port_at, port_step, is_heading, listed_at, ports_at};
 
-use crate::delay::value_of;
+use crate::delay::decimal_value;
 use crate::fault::{Fault, FaultKind};
 use crate::parser::{Parser, direction_of, fault, is_attribute, is_mark, refused, whole_of};
 use crate::step::Step;
@@ -70,7 +70,7 @@ impl<'a> Parser<'a> {
         let Some(digits) = whole_of(placed) else {
             return Err(refused(placed));
         };
-        if MAX_BOUND < value_of(digits) {
+        if MAX_BOUND < decimal_value(digits) {
             Err(fault(FaultKind::TooMany, placed.line))
         } else {
             Ok(digits)

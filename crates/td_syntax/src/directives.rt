@@ -3,7 +3,7 @@
 ghost use Rattle.std.specs.Prelude.{◌≡◌, ◌≤◌};
 ghost use Rattle.td_syntax.specs.Faults.{Gives};
 ghost use Rattle.td_syntax.specs.Views.{placed_view, step_view};
-ghost use Rattle.td_syntax.specs.Grammar.{tens_of};
+ghost use Rattle.td_syntax.specs.Grammar.{unit_exponent};
 ghost use Rattle.td_syntax.specs.Parsing.{many, attributes_at, directive_at, front_step, behind_step};
 
 use crate::fault::{Fault, FaultKind};
@@ -14,8 +14,8 @@ use crate::token::{Directive, Placed, Token, Unread};
 use std::alloc::Global;
 
 /// How many tens of a step a unit is, by the last `timescale: without one, a unit is a step.
-pub fn tens_of(fronts: &[Front]) -> u8
-    ensures { result ≡ tens_of fronts.now }
+pub fn unit_exponent(fronts: &[Front]) -> u8
+    ensures { result ≡ unit_exponent fronts.now }
 {
     let mut tens = 0;
     for front in fronts {

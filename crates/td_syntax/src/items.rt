@@ -5,7 +5,7 @@ ghost use Rattle.td_syntax.specs.Faults.{Gives};
 ghost use Rattle.td_syntax.specs.Views.{placed_view, step_view, item_view, module_view};
 ghost use Rattle.td_syntax.specs.Parsing.{many, item_word, item_step, module_at};
 
-use crate::directives::tens_of;
+use crate::directives::unit_exponent;
 use crate::fault::Fault;
 use crate::parser::{Parser, keyword_of, refused, refused_name};
 use crate::step::Step;
@@ -98,7 +98,7 @@ impl<'a> Parser<'a> {
         let name = self.name()?;
         let ports = self.ports(alloc)?;
         self.mark(Symbol::Semicolon)?;
-        let items = self.items(alloc, tens_of(&fronts))?;
+        let items = self.items(alloc, unit_exponent(&fronts))?;
         let behind = self.directives(alloc)?;
         self.end()?;
         Ok(Module {

@@ -1,7 +1,8 @@
 //! The tokens of a text, one after another.
 
 ghost use Rattle.std.specs.Prelude.{◌≡◌, ◌≤◌, ◌+◌, List, length};
-ghost use Rattle.td_syntax.specs.Tokens.{tokens_of, front_of, rest_of, newlines, stop_line};
+ghost use Rattle.td_syntax.specs.Bytes.{newlines};
+ghost use Rattle.td_syntax.specs.Tokens.{tokens_of, front_of, rest_of, stop_line};
 ghost use Rattle.td_syntax.specs.Tokens as tokens;
 ghost use Rattle.td_syntax.specs.Views.{front_view};
 

@@ -20,8 +20,8 @@ mod syntax;
 mod timescale;
 mod token;
 
-pub use delay::{steps_of, value_of};
-pub use directives::tens_of;
+pub use delay::{decimal_value, steps_of};
+pub use directives::unit_exponent;
 pub use fault::{Fault, FaultKind};
 pub use identifier::is_simple_identifier;
 pub use read::parse;

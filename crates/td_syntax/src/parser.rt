@@ -26,7 +26,7 @@ pub struct Parser<'a> {
 }
 
 impl<'a> Model for Parser<'a> {
-    ghost Value = { parsing.State };
+    ghost Value = { parsing.Remainder };
 
     ghost view = { λ p. record { stream = p.lexer; gates = p.gates } };
 }

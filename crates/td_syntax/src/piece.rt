@@ -4,7 +4,8 @@ ghost use Rattle.std.specs.Prelude.{◌≡◌, ◌≤◌, ◌<◌, ◌∷◌, �
 ghost use Rattle.std.specs.List.{prefix_len, position_or_len};
 ghost use Rattle.std.specs.Char.{is_ascii_digit, is_ascii_alphanumeric};
 ghost use Rattle.td_syntax.specs.Bytes.{is_letter, is_name_byte, is_number_byte, is_run_byte, is_printable, is_newline, is_quote, begins};
-ghost use Rattle.td_syntax.specs.Lexical.{Takes, piece_at, slash_at, numeral_at, number_at, constant_of, comment_of, comment_end, keyword_of, word_of, mark_of, open_at, ends_name, escaped_at, directive_of, directive_at, char_at, attribute_of, attribute_end};
+ghost use Rattle.td_syntax.specs.Pieces.{numeral_at, comment_end, keyword_of, ends_name};
+ghost use Rattle.td_syntax.specs.Lexical.{Takes, piece_at, slash_at, number_at, constant_of, comment_of, word_of, mark_of, open_at, escaped_at, directive_of, directive_at, char_at, attribute_of, end_behind};
 ghost use Rattle.td_syntax.specs.declared.attribute.Place.TheVariants.{Plain};
 ghost use Rattle.td_syntax.specs.Views.{view, piece_view, option_numeral_view};
 
@@ -27,7 +28,7 @@ pub enum Piece<'a> {
 }
 
 /// The reserved word of the subset that this is, if it is one.
-#[tactic(auto, unfolding(crate::specs::Lexical::keyword_of))]
+#[tactic(auto, unfolding(crate::specs::Pieces::keyword_of, crate::specs::Pieces::beside))]
 pub fn keyword_of(word: &[u8]) -> Option<Keyword>
     ensures { result ≡ keyword_of word.now }
 {
@@ -186,7 +187,7 @@ fn begins_quote(text: &[u8]) -> bool
 }
 
 /// The number in front and how many bytes it takes, unless no digit stands behind its point.
-#[tactic(auto, unfolding(crate::specs::Lexical::numeral_at))]
+#[tactic(auto, unfolding(crate::specs::Pieces::numeral_at))]
 fn numeral(text: &[u8]) -> Option<(Number<'_>, usize)>
     ensures number { option_numeral_view result ≡ numeral_at text.now }
     ensures within { IfSome result (λ x. x.1 ≤ length text.now) }
@@ -358,7 +359,7 @@ fn slash_piece<'a>(slash: &'a [u8], text: &'a [u8]) -> Piece<'a>
 /// An attribute. The text is what stands behind the `(*`.
 fn attribute_piece(text: &[u8]) -> Piece<'_>
     requires { length text.now ≤ 67108865 }
-    ensures { piece_view result ≡ attribute_of (attribute_end Plain text.now) }
+    ensures { piece_view result ≡ attribute_of (end_behind Plain text.now) }
 {
     match attribute_len(text) {
         None => Piece::Last(Stop::Cut),

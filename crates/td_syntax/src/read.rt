@@ -3,7 +3,8 @@
 ghost use Rattle.std.specs.Prelude.{◌≡◌, IfOk, Ok};
 ghost use Rattle.td_syntax.specs.Grammar as grammar;
 ghost use Rattle.td_syntax.specs.Faults.{Gives};
-ghost use Rattle.td_syntax.specs.Text.{Parses, syntax_of};
+ghost use Rattle.td_syntax.specs.FirstFault.{syntax_of};
+ghost use Rattle.td_syntax.specs.Text.{Parses};
 ghost use Rattle.td_syntax.specs.Views.{module_view};
 
 use crate::fault::{Fault, FaultKind};
@@ -12,7 +13,7 @@ use crate::parser::Parser;
 use crate::syntax::Module;
 use std::alloc::Global;
 
-#[tactic(auto, unfolding(crate::specs::Text::syntax_of))]
+#[tactic(auto, unfolding(crate::specs::FirstFault::syntax_of))]
 fn parsed<'a>(alloc: Global, text: &'a [u8]) -> Result<Module<'a>, Fault<'a>>
     ensures { Gives module_view result (syntax_of text.now) }
 {

@@ -3,7 +3,8 @@
 ghost use Rattle.std.specs.Prelude.{◌≡◌, ◌≤◌, length, IfOk, IfSome};
 ghost use Rattle.std.specs.List.{prefix_len};
 ghost use Rattle.td_syntax.specs.Bytes.{is_blank, is_zero};
-ghost use Rattle.td_syntax.specs.Timescales.{unblanked, magnitude_at, tens_of, second_letter, unit_at, span_at, slash_at, timescale_at};
+ghost use Rattle.td_syntax.specs.Spans.{unblanked};
+ghost use Rattle.td_syntax.specs.Timescales.{magnitude_at, letter_exponent, second_letter, unit_at, span_at, slash_at, timescale_at};
 ghost use Rattle.td_syntax.specs.TimescaleViews.{part_view, rest_view, directive_view};
 
 use crate::bytes::is_blank;
@@ -24,7 +25,7 @@ fn zero_len(text: &[u8]) -> usize
 }
 
 /// The text behind the white space in front.
-#[tactic(auto, unfolding(crate::specs::Timescales::unblanked))]
+#[tactic(auto, unfolding(crate::specs::Spans::unblanked))]
 fn unblanked(text: &[u8]) -> &[u8]
     ensures { result.now ≡ unblanked text.now }
 {
@@ -48,8 +49,8 @@ fn magnitude(text: &[u8]) -> Result<(u8, &[u8]), Unread>
 }
 
 /// The units with two letters, by the first one, as the power of ten of a femtosecond.
-fn tens_of(letter: u8) -> Option<u8>
-    ensures tens { result ≡ tens_of letter }
+fn letter_exponent(letter: u8) -> Option<u8>
+    ensures tens { result ≡ letter_exponent letter }
     ensures few { IfSome result (λ n. n ≤ 12) }
 {
     match letter {
@@ -83,7 +84,7 @@ fn unit(text: &[u8]) -> Result<(u8, &[u8]), Unread>
     match text {
         [] => Err(Unread::Short),
         [b's', rest @ ..] => Ok((15, rest)),
-        [letter, rest @ ..] => match tens_of(*letter) {
+        [letter, rest @ ..] => match letter_exponent(*letter) {
             Some(tens) => second_letter(tens, rest),
             None => Err(Unread::Wrong),
         },

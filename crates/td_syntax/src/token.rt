@@ -13,7 +13,7 @@ pub enum Keyword {
     Gate(Kind),
 }
 
-/// The characters that the grammar names.
+/// The characters that the grammar names, a colon inside a range alone.
 #[derive(Clone, Copy, Debug, PartialEq, Eq)]
 pub enum Symbol {
     Open,
@@ -23,7 +23,6 @@ pub enum Symbol {
     Hash,
     LeftBracket,
     RightBracket,
-    /// Allowed inside a range alone.
     Colon,
 }
 

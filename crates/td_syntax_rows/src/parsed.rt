@@ -2,7 +2,7 @@ use std::alloc::{AllocError, Global};
 use std::test::*;
 use td_syntax::{
     Declaration, Delay, Directive, FaultKind, Front, Header, Item, Port, Ports, Range, Role,
-    Statement, Terminal, Timescale, parse, steps_of, tens_of,
+    Statement, Terminal, Timescale, parse, steps_of, unit_exponent,
 };
 
 const INVERTER: &[u8] = b"module t (a, y);\ninput a;\noutput y;\nnot #(2,3) g(y,a);\nendmodule\n";
@@ -317,7 +317,7 @@ fn tree(rt: HostRuntime) -> Result<(), Fail> {
         return Ok(());
     };
     assert!(rt; has_fronts(&module.fronts));
-    assert_eq!(rt; tens_of(&module.fronts), 4);
+    assert_eq!(rt; unit_exponent(&module.fronts), 4);
     assert!(rt; is(module.name.name, b"t+"));
     let Some(Ports::Declared(ports)) = &module.ports else {
         assert!(rt; false, "no ports");

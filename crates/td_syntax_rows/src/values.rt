@@ -1,5 +1,5 @@
 use std::test::*;
-use td_syntax::{Directive, Front, Number, Timescale, steps_of, tens_of, value_of};
+use td_syntax::{Directive, Front, Number, Timescale, steps_of, unit_exponent, decimal_value};
 
 #[test]
 fn values(rt: HostRuntime) -> Result<(), Fail> {
@@ -16,7 +16,7 @@ fn values(rt: HostRuntime) -> Result<(), Fail> {
         (b"18446744073709551616", 1_000_000_001),
     ];
     for (digits, value) in &cases {
-        assert_eq!(rt; value_of(digits), *value);
+        assert_eq!(rt; decimal_value(digits), *value);
     }
     Ok(())
 }
@@ -65,12 +65,12 @@ fn directed(unit: u8, step: u8) -> Front {
 #[test]
 fn the_last_timescale(rt: HostRuntime) -> Result<(), Fail> {
     let cells = Front::Directed(Directive::Cells);
-    assert_eq!(rt; tens_of(&[]), 0);
-    assert_eq!(rt; tens_of(&[Front::Attributed, cells]), 0);
-    assert_eq!(rt; tens_of(&[directed(17, 0)]), 17);
-    assert_eq!(rt; tens_of(&[directed(6, 3), directed(9, 8)]), 1);
-    assert_eq!(rt; tens_of(&[directed(6, 3), directed(6, 6)]), 0);
-    assert_eq!(rt; tens_of(&[directed(6, 6), directed(6, 3)]), 3);
-    assert_eq!(rt; tens_of(&[directed(6, 3), cells, Front::Attributed]), 3);
+    assert_eq!(rt; unit_exponent(&[]), 0);
+    assert_eq!(rt; unit_exponent(&[Front::Attributed, cells]), 0);
+    assert_eq!(rt; unit_exponent(&[directed(17, 0)]), 17);
+    assert_eq!(rt; unit_exponent(&[directed(6, 3), directed(9, 8)]), 1);
+    assert_eq!(rt; unit_exponent(&[directed(6, 3), directed(6, 6)]), 0);
+    assert_eq!(rt; unit_exponent(&[directed(6, 6), directed(6, 3)]), 3);
+    assert_eq!(rt; unit_exponent(&[directed(6, 3), cells, Front::Attributed]), 3);
     Ok(())
 }

@@ -1,5 +1,5 @@
 use Rattle.std.proofs.Common.{◌≡◌, map, take}
-use Rattle.td_netlist.specs.Module.{different}
+use Rattle.td_netlist.specs.PlacedNets.{different}
 use Rattle.td_netlist.specs.NameViews.{name_ref_of}
 use Rattle.td_netlist.proofs.drivers.driven_inputs.Given as goal
 

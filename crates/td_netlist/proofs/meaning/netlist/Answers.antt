@@ -4,15 +4,16 @@ use Rattle.std.specs.Prelude.{sum_by}
 use Rattle.std.proofs.lemmas.Result.{err_from_is_err_and}
 use Rattle.td_gates.specs.Delays.{IsInRange}
 use Rattle.td_syntax.specs.declared.syntax.Front.{Front}
-use Rattle.td_syntax.specs.Grammar.{IsDelay, tens_of}
+use Rattle.td_syntax.specs.Grammar.{IsStatedDelay, unit_exponent}
 use Rattle.td_syntax.specs.Views.{module_view, option_delay_view}
 use Rattle.td_netlist.specs.declared.primitive.Primitive as code_primitive
 use Rattle.td_netlist.specs.WellFormed.{IsWellFormed}
 use Rattle.td_netlist.specs.NameViews.{name_ref_of, placed_ref_of}
 use Rattle.td_netlist.specs.Views.{gate_of}
-use Rattle.td_netlist.specs.Module.{Primitive, nets_at, outputs_of, primitives, unit_of, defaulted_of}
+use Rattle.td_netlist.specs.PlacedNets.{nets_at}
+use Rattle.td_netlist.specs.Module.{Primitive, outputs_of, primitives, unit_of, defaulted_of}
 use Rattle.td_netlist.specs.CheckViews.{primitive_of, sides_of, drivers_of}
-use Rattle.td_netlist.proofs.Keeps.{keeps_items, kept_by_code}
+use Rattle.td_netlist.proofs.StatedDelays.{keeps_items, kept_by_code}
 use Rattle.td_netlist.proofs.Formed.{well_formed, gates_below}
 use Rattle.td_netlist.proofs.Readings.{parts_are}
 use Rattle.td_netlist.proofs.Netlists.{declared_fault, driven_fault, passed, gates_listed, gates_fault, declared_first, driven_first, gates_first}
@@ -45,29 +46,29 @@ returns-in_err-drivers-clause-first c =
 pub gates-requires : goal.gates-requires
 gates-requires c =
     let m = module_view c.args.source.now in
-    let tens : c.tens_of.result ≡ tens_of m.fronts = c.tens_of.ensures ∙ ap (λ (fs : List Front). tens_of fs) c.deref-4.ensures.value in
-    let kept = kept_by_code (tens_of m.fronts) c.in_ok-instances.instances.items (subst (λ (ps : List Primitive). AllByRecursion (λ (p : Primitive). IsDelay (tens_of m.fronts) p.delay) ps) (sym c.in_ok-instances.ensures) (keeps_items (tens_of m.fronts) m.items c.requires.items)) in
-    rw c.deref-5.ensures.value (subst (λ (n : ℕ). AllByRecursion (λ (p : code_primitive.Primitive). IsDelay n (option_delay_view p.delay)) c.in_ok-instances.instances.items) (sym tens) kept)
+    let tens : c.unit_exponent.result ≡ unit_exponent m.fronts = c.unit_exponent.ensures ∙ ap (λ (fs : List Front). unit_exponent fs) c.deref-4.ensures.value in
+    let kept = kept_by_code (unit_exponent m.fronts) c.in_ok-instances.instances.items (subst (λ (ps : List Primitive). AllByRecursion (λ (p : Primitive). IsStatedDelay (unit_exponent m.fronts) p.delay) ps) (sym c.in_ok-instances.ensures) (keeps_items (unit_exponent m.fronts) m.items c.requires.items)) in
+    rw c.deref-5.ensures.value (subst (λ (n : ℕ). AllByRecursion (λ (p : code_primitive.Primitive). IsStatedDelay n (option_delay_view p.delay)) c.in_ok-instances.instances.items) (sym tens) kept)
 
 pub returns-in_err-gates-clause-breaks : goal.returns-in_err-gates-clause-breaks
 returns-in_err-gates-clause-breaks c =
     let m = module_view c.args.source.now in
     let same = ap (λ (ps : List code_primitive.Primitive). map primitive_of ps) c.deref.ensures.value ∙ c.in_ok-instances.ensures in
     let again = ap (λ (ps : List code_primitive.Primitive). map primitive_of ps) c.deref-5.ensures.value ∙ c.in_ok-instances.ensures in
-    let tens : c.tens_of.result ≡ tens_of m.fronts = c.tens_of.ensures ∙ ap (λ (fs : List Front). tens_of fs) c.deref-4.ensures.value in
+    let tens : c.unit_exponent.result ≡ unit_exponent m.fronts = c.unit_exponent.ensures ∙ ap (λ (fs : List Front). unit_exponent fs) c.deref-4.ensures.value in
     let p = err_from_is_err_and c.from_residual-in_err-gates.result c.from_residual-in_err-gates.ensures.1 in
     rw (p.1, p.2) (gates_fault m c.requires.ports (sides_of c.in_ok-sides.sides) c.in_ok-sides.names c.in_ok-sides.ensures (map primitive_of c.deref.result.now) same (drivers_of c.in_ok-drivers.drivers) c.in_ok-drivers.ensures
-    c.requires.items c.args.default c.names.result.now c.tens_of.result (map primitive_of c.deref-5.result.now) c.names.ensures tens again c.in_err-gates.field-0.0 c.in_err-gates.ensures)
+    c.requires.items c.args.default c.names.result.now c.unit_exponent.result (map primitive_of c.deref-5.result.now) c.names.ensures tens again c.in_err-gates.field-0.0 c.in_err-gates.ensures)
 
 pub returns-in_err-gates-clause-first : goal.returns-in_err-gates-clause-first
 returns-in_err-gates-clause-first c =
     let m = module_view c.args.source.now in
     let same = ap (λ (ps : List code_primitive.Primitive). map primitive_of ps) c.deref.ensures.value ∙ c.in_ok-instances.ensures in
     let again = ap (λ (ps : List code_primitive.Primitive). map primitive_of ps) c.deref-5.ensures.value ∙ c.in_ok-instances.ensures in
-    let tens : c.tens_of.result ≡ tens_of m.fronts = c.tens_of.ensures ∙ ap (λ (fs : List Front). tens_of fs) c.deref-4.ensures.value in
+    let tens : c.unit_exponent.result ≡ unit_exponent m.fronts = c.unit_exponent.ensures ∙ ap (λ (fs : List Front). unit_exponent fs) c.deref-4.ensures.value in
     let p = err_from_is_err_and c.from_residual-in_err-gates.result c.from_residual-in_err-gates.ensures.1 in
     rw (p.1, p.2) (gates_first m c.requires.ports (sides_of c.in_ok-sides.sides) c.in_ok-sides.names c.in_ok-sides.ensures (map primitive_of c.deref.result.now) same (drivers_of c.in_ok-drivers.drivers) c.in_ok-drivers.ensures
-    c.requires.items c.args.default c.names.result.now c.tens_of.result (map primitive_of c.deref-5.result.now) c.names.ensures tens again c.in_err-gates.field-0.0 c.in_err-gates.ensures)
+    c.requires.items c.args.default c.names.result.now c.unit_exponent.result (map primitive_of c.deref-5.result.now) c.names.ensures tens again c.in_err-gates.field-0.0 c.in_err-gates.ensures)
 
 pub defaulted_count-defaulted-requires : goal.defaulted_count-defaulted-requires
 defaulted_count-defaulted-requires c =
@@ -79,12 +80,12 @@ new-requires c =
     let m = module_view c.args.source.now in
     let same = ap (λ (ps : List code_primitive.Primitive). map primitive_of ps) c.deref.ensures.value ∙ c.in_ok-instances.ensures in
     let again = ap (λ (ps : List code_primitive.Primitive). map primitive_of ps) c.deref-5.ensures.value ∙ c.in_ok-instances.ensures in
-    let tens : c.tens_of.result ≡ tens_of m.fronts = c.tens_of.ensures ∙ ap (λ (fs : List Front). tens_of fs) c.deref-4.ensures.value in
+    let tens : c.unit_exponent.result ≡ unit_exponent m.fronts = c.unit_exponent.ensures ∙ ap (λ (fs : List Front). unit_exponent fs) c.deref-4.ensures.value in
     let all =
     passed m c.requires.ports (sides_of c.in_ok-sides.sides) c.in_ok-sides.names c.in_ok-sides.ensures (map primitive_of c.deref.result.now) same (drivers_of c.in_ok-drivers.drivers) c.in_ok-drivers.ensures in
     let gates =
     gates_listed m c.requires.ports (sides_of c.in_ok-sides.sides) c.in_ok-sides.names c.in_ok-sides.ensures (map primitive_of c.deref.result.now) same (drivers_of c.in_ok-drivers.drivers) c.in_ok-drivers.ensures
-    c.requires.items c.args.default c.names.result.now c.tens_of.result (map primitive_of c.deref-5.result.now) c.names.ensures tens again (map gate_of c.in_ok-gates.gates.items) c.in_ok-gates.ensures in
+    c.requires.items c.args.default c.names.result.now c.unit_exponent.result (map primitive_of c.deref-5.result.now) c.names.ensures tens again (map gate_of c.in_ok-gates.gates.items) c.in_ok-gates.ensures in
     let is =
     parts_are m c.args.default (sides_of c.in_ok-sides.sides) all.sides
     c.in_ok-name.name.items c.in_ok-inputs.inputs.items c.in_ok-outputs.outputs.items c.in_ok-gates.gates.items c.unit-unit.result c.defaulted_count-defaulted.result
@@ -106,12 +107,12 @@ returns-clause-lists c =
     let m = module_view c.args.source.now in
     let same = ap (λ (ps : List code_primitive.Primitive). map primitive_of ps) c.deref.ensures.value ∙ c.in_ok-instances.ensures in
     let again = ap (λ (ps : List code_primitive.Primitive). map primitive_of ps) c.deref-5.ensures.value ∙ c.in_ok-instances.ensures in
-    let tens : c.tens_of.result ≡ tens_of m.fronts = c.tens_of.ensures ∙ ap (λ (fs : List Front). tens_of fs) c.deref-4.ensures.value in
+    let tens : c.unit_exponent.result ≡ unit_exponent m.fronts = c.unit_exponent.ensures ∙ ap (λ (fs : List Front). unit_exponent fs) c.deref-4.ensures.value in
     let all =
     passed m c.requires.ports (sides_of c.in_ok-sides.sides) c.in_ok-sides.names c.in_ok-sides.ensures (map primitive_of c.deref.result.now) same (drivers_of c.in_ok-drivers.drivers) c.in_ok-drivers.ensures in
     let gates =
     gates_listed m c.requires.ports (sides_of c.in_ok-sides.sides) c.in_ok-sides.names c.in_ok-sides.ensures (map primitive_of c.deref.result.now) same (drivers_of c.in_ok-drivers.drivers) c.in_ok-drivers.ensures
-    c.requires.items c.args.default c.names.result.now c.tens_of.result (map primitive_of c.deref-5.result.now) c.names.ensures tens again (map gate_of c.in_ok-gates.gates.items) c.in_ok-gates.ensures in
+    c.requires.items c.args.default c.names.result.now c.unit_exponent.result (map primitive_of c.deref-5.result.now) c.names.ensures tens again (map gate_of c.in_ok-gates.gates.items) c.in_ok-gates.ensures in
     let is =
     parts_are m c.args.default (sides_of c.in_ok-sides.sides) all.sides
     c.in_ok-name.name.items c.in_ok-inputs.inputs.items c.in_ok-outputs.outputs.items c.in_ok-gates.gates.items c.unit-unit.result c.defaulted_count-defaulted.result
