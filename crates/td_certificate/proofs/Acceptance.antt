@@ -27,7 +27,7 @@ use Rattle.td_ternary.specs.PossibleLaws as possible_laws
 use Rattle.td_certificate.specs.declared.tree.BoundedBy.{BoundedBy}
 use Rattle.td_certificate.specs.declared.tree.BoundedBy.TheVariants as by
 use Rattle.td_certificate.specs.declared.certificate.Certificate.{Certificate}
-use Rattle.td_certificate.specs.Trees.{Tree, Split, Bound, Point, nodes_of, lines_of}
+use Rattle.td_certificate.specs.Trees.{Tree, Split, Bound, Point, lines_of}
 use Rattle.td_certificate.specs.Walks.{lines_from}
 use Rattle.td_certificate.specs.Accepts.{IsBoundBy, root_cube, IsGood, HasDelay, Accepts, AcceptedIsWorst}
 use Rattle.td_certificate.proofs.TreeLaws.{trees_are_counted}

@@ -1,6 +1,5 @@
 -- From what is said of a tree's lines to the verdict.
-use Rattle.std.proofs.Common.{◌≡◌, ◌+◌, ℕ, List, [], ◌∷◌, length, take, refl, sym, ap, subst, ◌∙◌}
-use Rattle.std.specs.Prelude.{slice_get}
+use Rattle.std.proofs.Common.{◌≡◌, ◌+◌, ℕ, length, refl, sym, ◌∙◌}
 use Rattle.std.specs.List.{AllByRecursion}
 use Rattle.td_netlist.specs.Netlist.{Netlist}
 use Rattle.td_certificate.specs.declared.certificate.Certificate.{Certificate}

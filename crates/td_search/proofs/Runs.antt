@@ -1,6 +1,6 @@
 -- An honest run of one worker leads to a settled tree: the best is raised first, and then each node is claimed and split or
 -- closed, in the tree's order.
-use Rattle.std.proofs.Common.{◌≡◌, ◌⊎◌, ℕ, zero, suc, ◌+◌, ◌<◌, ◌≤◌, max, List, [], ◌∷◌, ◌++◌, length, map, refl, sym, ap, subst, ◌∙◌, cond, le_refl, append_assoc, arith}
+use Rattle.std.proofs.Common.{◌≡◌, ℕ, zero, suc, ◌+◌, ◌<◌, ◌≤◌, max, List, [], ◌∷◌, ◌++◌, length, map, refl, sym, ap, subst, ◌∙◌, cond, append_assoc, arith}
 use Rattle.std.specs.Prelude.{Contains, Some, slice_get, count_by, sum_by}
 use Rattle.std.proofs.lemmas.List.{append-nil}
 use Rattle.std.proofs.lemmas.List.Sums.{sum_by-append, sum_by-cons}
@@ -15,9 +15,9 @@ use Rattle.td_book.specs.declared.node.Node.{Node}
 use Rattle.td_book.specs.declared.node.State.{State}
 use Rattle.td_book.specs.declared.node.State.TheVariants.{Split, Open, Held, Closed}
 use Rattle.td_book.specs.Board.{Board, node, root, position_of, cubes_after, is_handled, allowance_of, handled, allowed}
-use Rattle.td_book.specs.Steps.{World, Event, Reply, Claiming, Splitting, Closing, Raising, Leased, Did, Saw, sees, HonestRun, starting}
-use Rattle.td_search.specs.CutShort.{Place, root_place, places_past, HadToSplit, AreSettled}
-use Rattle.td_search.specs.CutShortLaws.{shape, IsLedTo, TreesAreLedTo}
+use Rattle.td_book.specs.Steps.{World, Event, Reply, Claiming, Splitting, Closing, Raising, Leased, Did, Saw, sees, HonestRun}
+use Rattle.td_search.specs.CutShort.{Place, root_place, HadToSplit, AreSettled}
+use Rattle.td_search.specs.CutShortLaws.{shape, TreesAreLedTo}
 use Rattle.td_search.proofs.Wells.{cubes_of}
 
 -- ---- lists of nodes

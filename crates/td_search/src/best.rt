@@ -1,10 +1,10 @@
 //! The best pair that a search has found.
 
-ghost use Rattle.std.specs.Prelude.{◌≡◌, ◌*◌, ◌%◌, length, IfOk};
+ghost use Rattle.std.specs.Prelude.{◌≡◌, length, IfOk};
 ghost use Rattle.td_search.specs.Best.{HasRoomFor};
 ghost use Rattle.td_search.specs.Representatives.{representative};
 
-use crate::representatives::{representative, write_representative};
+use crate::representatives::write_representative;
 use std::alloc::{AllocError, Global};
 use std::marker::Model;
 use td_domain::{Cube, Pair};
@@ -26,19 +26,15 @@ impl Model for Best {
 }
 
 impl Best {
-    /// The representative of a cube, which has two positions for each input, and its delay. The error is want of memory.
-    pub fn new(alloc: Global, cube: &Cube, time: u64) -> Result<Self, AllocError>
-        requires { length cube.now % 2 ≡ 0 }
-        ensures { IfOk result (λ best. best ≡ record { time = time; pair = representative cube.now }) }
+    /// Room for pairs with so many bits in each vector. The error is want of memory.
+    pub fn new(alloc: Global, inputs: usize) -> Result<Self, AllocError>
+        ensures first { IfOk result (λ best. length best.pair.first ≡ inputs) }
+        ensures second { IfOk result (λ best. length best.pair.second ≡ inputs) }
     {
-        let inputs = cube.len() / 2;
-        let mut first = vec![in alloc; false; inputs]?;
-        let mut second = vec![in alloc; false; inputs]?;
-        write_representative(cube, &mut first, &mut second);
         Ok(Best {
-            time,
-            first,
-            second,
+            time: 0,
+            first: vec![in alloc; false; inputs]?,
+            second: vec![in alloc; false; inputs]?,
         })
     }
 

@@ -1,4 +1,4 @@
-use Rattle.std.proofs.Common.{ℕ, ◌≡◌, ◌+◌, ◌≤◌, List, [], ◌∷◌, ◌++◌, length, arith, refl, sym, ap, subst, ◌∙◌, rules, true, false}
+use Rattle.std.proofs.Common.{◌≡◌, ◌+◌, ◌≤◌, List, [], ◌∷◌, ◌++◌, length, arith, refl, sym, ap, subst, ◌∙◌, rules, true, false}
 use Rattle.std.specs.Prelude.{vec_capacity}
 use Rattle.td_domain.specs.declared.cubes.Trit.{Trit}
 use Rattle.td_book.specs.declared.node.State.TheVariants.{Open, Held}
