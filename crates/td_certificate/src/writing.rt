@@ -1,7 +1,7 @@
 //! Writing a certificate's text.
 
-ghost use Rattle.std.specs.Prelude.{◌≡◌, ◌≢◌, ◌++◌, OnOk, OnErr, IfOk, IfErr, string_bytes};
-ghost use Rattle.td_gates.specs.Output.{Sent, SentTo, SentFront, Failed};
+ghost use Rattle.std.specs.Prelude.{◌≡◌, ◌++◌, OnOk, OnErr, IfOk, IfErr, string_bytes};
+ghost use Rattle.td_gates.specs.Output.{Sent, SentTo, SentFront, Failed, one_more};
 ghost use Rattle.td_certificate.specs.Spelling.{head_lines, text_of, HasSpelling, spelling};
 ghost use Rattle.td_certificate.specs.Text.{bits};
 
@@ -67,8 +67,8 @@ pub fn write<W: Sink>(
     ensures written { OnOk result (Sent (W.output out.old) (W.output out.new) (spelling certificate.now)) }
     // What went out is a beginning of the text.
     ensures front { OnErr result (SentFront (W.output out.old) (W.output out.new) (spelling certificate.now)) }
-    // The writer failed in this call.
-    ensures device { IfErr result (λ fault. fault ≡ WriteFault.Device → (W.output out.new).failures ≢ (W.output out.old).failures) }
+    // The writer failed once in this call.
+    ensures device { IfErr result (λ fault. fault ≡ WriteFault.Device → (W.output out.new).failures ≡ one_more (W.output out.old).failures) }
     // Where memory ran out, it did not.
     ensures memory { IfErr result (λ fault. fault ≡ WriteFault.OutOfMemory → (W.output out.new).failures ≡ (W.output out.old).failures) }
 {

@@ -8,17 +8,15 @@ use Rattle.td_gates.specs.Table.{level_from, table, TakesInputs}
 -- the level may be this bit: x may be either
 abbrev pub MayBe : Level → Bool → Type 0
 MayBe Zero false = Unit {0}
-MayBe Zero true = ⊥
-MayBe One false = ⊥
 MayBe One true = Unit {0}
 MayBe X bit = Unit {0}
+MayBe level bit = ⊥
 
 -- each level may be the bit at its place, by itself
 abbrev pub AllMayBe : List Level → List Bool → Type 0
 AllMayBe [] [] = Unit {0}
 AllMayBe (level ∷ levels) (bit ∷ bits) = MayBe level bit × AllMayBe levels bits
-AllMayBe [] (bit ∷ bits) = ⊥
-AllMayBe (level ∷ levels) [] = ⊥
+AllMayBe levels bits = ⊥
 
 -- the table has this bit as its result for some bits that the inputs' levels may be
 pub record IsOutcome (kind : Kind) (levels : List Level) (bit : Bool) : Type 0 where

@@ -62,11 +62,6 @@ delay_to delay X = min delay.rise delay.fall
 
 -- a buf and a not have one input, the others at least one
 abbrev pub TakesInputs : Kind → ℕ → Type 0
-TakesInputs And n = 1 ≤ n
-TakesInputs Nand n = 1 ≤ n
-TakesInputs Or n = 1 ≤ n
-TakesInputs Nor n = 1 ≤ n
-TakesInputs Xor n = 1 ≤ n
-TakesInputs Xnor n = 1 ≤ n
 TakesInputs Buf n = n ≡ 1
 TakesInputs Not n = n ≡ 1
+TakesInputs kind n = 1 ≤ n
