@@ -1,6 +1,6 @@
 -- What is done to files, and the texts that are written to them.
-use Rattle.std.specs.Prelude.{◌≡◌, ◌≢◌, ◌⊎◌, ℕ, List, [], ◌∷◌, ◌++◌}
-use Rattle.td_gates.specs.Output.{Output, Sent, SentFront}
+use Rattle.std.specs.Prelude.{◌≡◌, ◌⊎◌, ℕ, List, [], ◌∷◌, ◌++◌}
+use Rattle.td_gates.specs.Output.{Output, Sent, SentFront, one_more}
 use Rattle.td_certificate.specs.declared.fault.WriteFault.{WriteFault}
 use Rattle.td_certificate.specs.declared.fault.WriteFault.TheVariants as unwritten
 
@@ -28,10 +28,10 @@ AreWritten [] steps = steps ≡ []
 AreWritten (file ∷ files) steps =
     (first rest : List FileStep) × (steps ≡ first ++ rest) × IsWritten file first × AreWritten files rest
 
--- a file has a beginning of its text, and where a device's failure is told its writer failed
+-- a file has a beginning of its text, and where a device's failure is told its writer failed once
 pub record HasBeginning (begun ended : Output) (text : List ℕ) (fault : WriteFault) : Type 0 where
   pub front : SentFront begun ended text
-  pub failed : fault ≡ unwritten.Device → ended.failures ≢ begun.failures
+  pub failed : fault ≡ unwritten.Device → ended.failures ≡ one_more begun.failures
 
 -- the file was made, and has a beginning of its text
 pub record IsBroken (file : FileText) (fault : WriteFault) (steps : List FileStep) : Type 0 where
