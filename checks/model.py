@@ -18,9 +18,12 @@ import sys
 
 # The figures that docs/MODEL.md gives: what it calls them, and what they are of.
 FIGURES = {
-    "the answer of a search, without the meaning of a text": (["td_search::alone"], ["Means"]),
+    "the worst delay of a netlist": (["td_circuit::Run::IsWorst"], []),
+    "an answer of a search, without the meaning of a text": (["td_search::Answers::IsExact", "td_search::Answers::IsBetween"], ["Means"]),
     "the meaning of a text": (["td_netlist::Means::Means"], []),
-    "the verdict of the checker, with the meaning of a text": (["td_checker::check"], []),
+    "an accepted certificate": (["td_certificate::Accepts::Accepts"], []),
+    "what the checker tells, faults included": (["td_checker::check"], []),
+    "what the program writes, faults included": (["td_cli::run"], []),
 }
 
 TOKEN = re.compile(r"[^\s(){}\[\],;λ]+")

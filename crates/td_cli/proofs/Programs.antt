@@ -14,7 +14,7 @@ use Rattle.td_certificate.specs.declared.fault.WriteFault.TheVariants as unwritt
 use Rattle.td_cli.specs.declared.files.ReadFault.{ReadFault}
 use Rattle.td_cli.specs.declared.files.ReadFault.TheVariants as unread
 use Rattle.td_cli.specs.declared.status.Status.{Status}
-use Rattle.td_cli.specs.declared.status.Status.TheVariants.{Done, Between, Device}
+use Rattle.td_cli.specs.declared.status.Status.TheVariants.{Done, Device}
 use Rattle.td_cli.specs.declared.refusal.Refusal.{Refusal}
 use Rattle.td_cli.specs.declared.refusal.Refusal.TheVariants as refusal
 use Rattle.td_command.specs.declared.command.Request.{Request}
@@ -23,7 +23,7 @@ use Rattle.td_cli.specs.Refusals.{unwritten_text}
 use Rattle.td_cli.specs.Outcomes.{HasNoCircuit}
 use Rattle.td_cli.specs.WorstReports.{IsWorstReport}
 use Rattle.td_command.specs.CommandLine.{kinds_of}
-use Rattle.td_cli.specs.Ends.{Product, Streams, streams, Tells, TellsReason, TellsUnread, TellsUnwritten, Says, Finishes, Refuses, LosesReport, LosesFile, Ends}
+use Rattle.td_cli.specs.Ends.{Product, Streams, streams, Tells, TellsReason, TellsUnread, TellsUnwritten, Says, Ends}
 use Rattle.td_cli.specs.Requests.{Disk, Reads, HoldsOnFile, words_of, certificate_files, search_ending, IsWorstProduct, IsOutOfMemory, IsShown, TellsText, RequestEnds, ProgramEnds}
 
 -- a kind whose text goes to standard error isn't

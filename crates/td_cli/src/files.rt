@@ -70,7 +70,12 @@ pub trait Files {
 
     /// Ends the writing of a file, also where its writer failed: what its writer took is the file of this name. Where it
     /// can't be ended, the writer comes back.
-    fn close(&mut self, alloc: Global, name: &str, writer: Self::Writer) -> Result<(), (Self::Writer, WriteFault)>
+    fn close(
+        &mut self,
+        alloc: Global,
+        name: &str,
+        writer: Self::Writer,
+    ) -> Result<(), (Self::Writer, WriteFault)>
         ensures ended { OnOk result (did self.old self.new (Ended name.now (Self.Writer.output writer) ∷ [])) }
         ensures back { IfErr result (λ refused. refused.0 ≡ writer) }
         ensures fault { IfErr result (λ refused. refused.1 ≡ Unwritten.Device → breaks self.old name.now) }

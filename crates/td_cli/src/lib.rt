@@ -17,7 +17,6 @@ mod writer;
 
 pub use bounding::bounds;
 pub use checking::{Checked, verdict_on};
-pub use td_command::{BoundRequest, CheckRequest, Request, SimRequest, WorstRequest, laws, parse};
 pub use files::{Files, ReadFault, RealFiles};
 pub use memory_files::{MemoryFile, MemoryFiles, MemoryStep};
 pub use program::{
@@ -27,6 +26,7 @@ pub use refusal::Refusal;
 pub use searching::{Found, worst};
 pub use simulate::sim;
 pub use status::Status;
+pub use td_command::{BoundRequest, CheckRequest, Request, SimRequest, WorstRequest, laws, parse};
 pub use text::Text;
 pub use vector::Symbol;
 pub use writer::WriterSink;

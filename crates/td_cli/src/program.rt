@@ -18,7 +18,6 @@ ghost use Rattle.td_cli.specs.declared.status.Status.TheVariants as Ended;
 
 use crate::bounding::bounds;
 use crate::checking::verdict_on;
-
 use crate::files::{Files, ReadFault};
 use crate::refusal::Refusal;
 use crate::searching::worst;

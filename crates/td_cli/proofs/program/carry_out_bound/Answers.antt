@@ -1,7 +1,5 @@
-use Rattle.std.proofs.Common.{refl, subst}
-use Rattle.td_gates.specs.Output.{Output}
+use Rattle.std.proofs.Common.{refl}
 use Rattle.td_cli.specs.declared.status.Status.TheVariants.{Done}
-use Rattle.td_cli.specs.Ends.{Says, streams}
 use Rattle.td_cli.specs.Outcomes.{HasNoBounds}
 use Rattle.td_cli.specs.Requests.{IsBoundProduct, words_of}
 use Rattle.td_cli.proofs.Programs.{said, refused}

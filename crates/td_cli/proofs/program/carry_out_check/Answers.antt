@@ -1,9 +1,6 @@
-use Rattle.std.proofs.Common.{refl, subst}
-use Rattle.td_gates.specs.Output.{Output}
-use Rattle.td_cli.specs.declared.status.Status.TheVariants.{Done}
-use Rattle.td_cli.specs.Ends.{Says, streams}
+use Rattle.std.proofs.Common.{refl}
 use Rattle.td_cli.specs.Outcomes.{HasNoVerdict}
-use Rattle.td_cli.specs.Requests.{IsCheckProduct, words_of}
+use Rattle.td_cli.specs.Requests.{IsCheckProduct}
 use Rattle.td_cli.proofs.Programs.{said, refused}
 use Rattle.td_cli.proofs.program.carry_out_check.Goals as goal
 

@@ -1,9 +1,7 @@
-use Rattle.std.proofs.Common.{refl, subst}
-use Rattle.td_gates.specs.Output.{Output}
+use Rattle.std.proofs.Common.{refl}
 use Rattle.td_cli.specs.declared.status.Status.TheVariants.{Done}
-use Rattle.td_cli.specs.Ends.{Says, streams}
 use Rattle.td_cli.specs.Outcomes.{HasNoReport}
-use Rattle.td_cli.specs.Requests.{IsSimProduct, words_of}
+use Rattle.td_cli.specs.Requests.{IsSimProduct}
 use Rattle.td_cli.proofs.Programs.{said, refused}
 use Rattle.td_cli.proofs.program.carry_out_sim.Goals as goal
 

@@ -1,7 +1,7 @@
 use Rattle.std.proofs.Common.{sym, subst}
 use Rattle.td_command.specs.CommandLine.{delays}
 use Rattle.td_cli.specs.Outcomes.{HasNoCircuit}
-use Rattle.td_cli.specs.Requests.{disk_of, words_of, HoldsOnFile, Reads, IsWorstProduct}
+use Rattle.td_cli.specs.Requests.{disk_of, words_of, IsWorstProduct}
 use Rattle.td_cli.proofs.Programs.{nothing_done, not_read, on_file_taking}
 use Rattle.td_cli.proofs.program.run_worst.Goals as goal
 
