@@ -1,5 +1,5 @@
 use std::test::*;
-use td_syntax::{Directive, Front, Number, Timescale, steps_of, unit_exponent, decimal_value};
+use td_syntax::{Directive, Front, Number, Timescale, decimal_value, steps_of, unit_exponent};
 
 #[test]
 fn values(rt: HostRuntime) -> Result<(), Fail> {
@@ -71,6 +71,9 @@ fn the_last_timescale(rt: HostRuntime) -> Result<(), Fail> {
     assert_eq!(rt; unit_exponent(&[directed(6, 3), directed(9, 8)]), 1);
     assert_eq!(rt; unit_exponent(&[directed(6, 3), directed(6, 6)]), 0);
     assert_eq!(rt; unit_exponent(&[directed(6, 6), directed(6, 3)]), 3);
-    assert_eq!(rt; unit_exponent(&[directed(6, 3), cells, Front::Attributed]), 3);
+    assert_eq!(rt;
+        unit_exponent(&[directed(6, 3), cells, Front::Attributed]),
+        3
+    );
     Ok(())
 }
