@@ -15,12 +15,11 @@ ghost use Rattle.td_netlist.specs.CheckViews.{primitive_of};
 use crate::drivers::resolve;
 use crate::fault::Fault;
 use crate::known::Known;
-use td_nets::{Name, Net};
 use crate::name_ref::{NameRef, NetRef};
-use td_nets::Gate;
 use crate::primitive::Primitive;
 use std::alloc::{AllocError, Global};
 use td_gates::Delay;
+use td_nets::{Gate, Name, Net};
 use td_syntax::{Delay as Stated, Number, Terminal, steps_of};
 
 /// A name of its own, with the bytes of the borrowed one.

@@ -21,12 +21,11 @@ use crate::declarations::declared;
 use crate::drivers::all_driven;
 use crate::fault::Fault;
 use crate::gates::{Timing, gates, owned};
-use td_nets::Name;
 use crate::name_ref::{NameRef, PlacedRef};
-use td_nets::{Netlist, Scale, Unit};
 use crate::primitive::{defaulted_count, primitives};
 use std::alloc::{AllocError, Global};
 use td_gates::Delay;
+use td_nets::{Name, Netlist, Scale, Unit};
 use td_syntax::{Directive, Front, Module, parse, unit_exponent};
 
 fn owned_names(alloc: Global, names: &[NameRef<'_>]) -> Result<Vec<Name>, AllocError>
