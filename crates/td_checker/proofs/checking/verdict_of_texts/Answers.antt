@@ -1,5 +1,5 @@
 use Rattle.std.proofs.lemmas.Result.{err_from_is_err_and}
-use Rattle.td_checker.proofs.Texts.{tells_worst, certificate_fault}
+use Rattle.td_checker.proofs.Texts.{tells_worst, certificate_fault, have_verdict}
 use Rattle.td_checker.proofs.checking.verdict_of_texts.Goals as goal
 
 pub returns-in_err-circuit-clause-fault : goal.returns-in_err-circuit-clause-fault
@@ -18,3 +18,8 @@ returns-clause-worst c = λ accepted.
     tells_worst c.args.netlist.now c.args.default c.args.certificate.now c.in_ok-circuit.circuit.netlist c.in_ok-spelled.spelled
     c.in_ok-verdict_on.field-0 c.in_ok-circuit.ensures.found c.in_ok-circuit.ensures.formed c.in_ok-spelled.ensures.found
     c.in_ok-verdict_on.ensures accepted
+
+pub returns-clause-told : goal.returns-clause-told
+returns-clause-told c =
+    have_verdict c.args.netlist.now c.args.default c.args.certificate.now c.in_ok-circuit.circuit.netlist c.in_ok-spelled.spelled
+    c.in_ok-verdict_on.field-0 c.in_ok-circuit.ensures.found c.in_ok-spelled.ensures.found c.in_ok-verdict_on.ensures
