@@ -1,11 +1,11 @@
 //! Names of nets.
 
 ghost use Rattle.std.specs.Prelude.{◌≡◌, ◌++◌, length, take, OnOk, OnErr};
-ghost use Rattle.td_netlist.specs.Printed.{bit_text};
+ghost use Rattle.td_nets.specs.Printed.{bit_text};
 
+use crate::identifier::is_simple_identifier;
 use itoa::Buffer;
 use std::alloc::AllocError;
-use td_syntax::is_simple_identifier;
 
 /// The name of a net: a scalar name, or a name with a bit.
 #[derive(Clone, Debug, PartialEq, Eq, Hash, Drop)]
@@ -30,8 +30,8 @@ fn append_bit(before: &[u8], bit: Option<u32>, out: &mut Vec<u8>) -> Result<(), 
 
 impl Name {
     ghost use Rattle.std.specs.Prelude.{◌≡◌, ◌++◌, length, take, IfOk, OnOk, OnErr};
-    ghost use Rattle.td_netlist.specs.Printed.{printed};
-    ghost use Rattle.td_netlist.specs.Views.{name_of};
+    ghost use Rattle.td_nets.specs.Printed.{printed};
+    ghost use Rattle.td_nets.specs.Views.{name_of};
 
     /// The same name again.
     pub fn copied(&self) -> Result<Name, AllocError>

@@ -2,11 +2,11 @@
 
 ghost use Rattle.std.specs.Prelude.{◌≡◌};
 ghost use Rattle.std.specs.List.{list_all};
-ghost use Rattle.td_syntax.specs.Identifiers.{begins_with_letter, is_simple_identifier};
-ghost use Rattle.td_syntax.specs.Bytes.{is_name_byte};
+ghost use Rattle.td_nets.specs.Identifiers.{begins_with_letter, is_simple_identifier};
+ghost use Rattle.td_nets.specs.Letters.{is_name_byte};
 
-use crate::bytes::{is_letter, is_name_byte};
-use crate::piece::keyword_of;
+use crate::keyword::keyword_of;
+use crate::letters::{is_letter, is_name_byte};
 use crate::reserved::is_reserved;
 
 fn begins_with_letter(name: &[u8]) -> bool

@@ -3,7 +3,7 @@ use Rattle.std.specs.Prelude.{Bool, true, false, ◌&&◌, nat_eq, List, [], ◌
 use Rattle.std.specs.List.{list_any}
 use Rattle.std.specs.Option.{option_eq}
 use Rattle.std.specs.Str.{bytes_eq}
-use Rattle.td_netlist.specs.Netlist.{Name, Net, Low, High, Named}
+use Rattle.td_nets.specs.Netlist.{Name, Net, Low, High, Named}
 
 abbrev pub name_eq : Name → Name → Bool
 name_eq a b = bytes_eq a.text b.text && option_eq nat_eq a.bit b.bit

@@ -3,8 +3,8 @@
 ghost use Rattle.std.specs.Prelude.{◌≡◌};
 ghost use Rattle.std.specs.List.{list_any, list_all};
 ghost use Rattle.std.specs.Str.{bytes_eq};
-ghost use Rattle.td_syntax.specs.Candidates.{is_word_byte, is_candidate};
-ghost use Rattle.td_syntax.specs.Words.{reserved_words};
+ghost use Rattle.td_nets.specs.Candidates.{is_word_byte, is_candidate};
+ghost use Rattle.td_nets.specs.Words.{reserved_words};
 
 static WORDS: [&'static str; 111] = [
     "always",

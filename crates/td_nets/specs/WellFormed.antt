@@ -3,7 +3,7 @@ use Rattle.std.specs.Prelude.{◌≡◌, ℕ, ◌≤◌, List, ◌++◌, length,
 use Rattle.std.specs.List.{Contains}
 use Rattle.td_gates.specs.Delays.{IsInRange}
 use Rattle.td_gates.specs.Table.{TakesInputs}
-use Rattle.td_netlist.specs.Netlist.{Name, Named, Gate, Netlist}
+use Rattle.td_nets.specs.Netlist.{Name, Named, Gate, Netlist}
 
 -- the outputs of the gates
 abbrev pub gate_outputs : Netlist → List Name

@@ -1,7 +1,7 @@
 -- How a name is printed.
 use Rattle.std.specs.Prelude.{ℕ, List, [], ◌++◌, Option, None, Some, codes, decimal, if◌then◌else◌}
-use Rattle.td_syntax.specs.Identifiers.{is_simple_identifier}
-use Rattle.td_netlist.specs.Netlist.{Name}
+use Rattle.td_nets.specs.Identifiers.{is_simple_identifier}
+use Rattle.td_nets.specs.Netlist.{Name}
 
 -- `[i]` behind this, for the bit i
 abbrev pub bit_text : List ℕ → Option ℕ → List ℕ
