@@ -5,7 +5,7 @@ use Rattle.std.specs.List.{AllByRecursion}
 use Rattle.std.proofs.lemmas.List.{length-map, length-set, length-replicate}
 use Rattle.std.proofs.lemmas.List.Elements.{recursion_from_All}
 use Rattle.td_gates.specs.Table.{level_from}
-use Rattle.td_netlist.specs.Netlist.{Netlist}
+use Rattle.td_nets.specs.Netlist.{Netlist}
 use Rattle.td_circuit.specs.Numbering.{Numbered, IsNumbering}
 use Rattle.td_circuit.specs.Run.{IsDelayOfBits, IsVector, IsWorst}
 use Rattle.td_circuit.proofs.Existence.{numbering_exists}

@@ -13,9 +13,9 @@ use Rattle.td_gates.specs.Schedule.{target_before, Obeys}
 use Rattle.td_gates.specs.WindowRule.{HeldFor}
 use Rattle.td_gates.specs.Table.{delay_to, table}
 use Rattle.td_gates.proofs.Windows.{Obeys-from_MeetsWindows}
-use Rattle.td_netlist.specs.declared.netlist.Scale.TheVariants as scale
-use Rattle.td_netlist.specs.Names.{name_eq}
-use Rattle.td_netlist.specs.Netlist.{Name, Net, Low, High, Named, Gate, Netlist}
+use Rattle.td_nets.specs.declared.netlist.Scale.TheVariants as scale
+use Rattle.td_nets.specs.Names.{name_eq}
+use Rattle.td_nets.specs.Netlist.{Name, Net, Low, High, Named, Gate, Netlist}
 use Rattle.td_circuit.specs.Run.{IsDelayOfBits}
 use Rattle.td_domain.specs.declared.cubes.Trit.{Trit}
 use Rattle.td_domain.specs.declared.cubes.Trit.TheVariants.{Free}

@@ -1,8 +1,8 @@
 -- When a certificate is accepted of a netlist.
 use Rattle.std.specs.Prelude.{◌≡◌, ℕ, ◌*◌, ◌≤◌, List, [], ◌∷◌, length, slice_get, Option, Some}
 use Rattle.std.specs.List.{AllByRecursion}
-use Rattle.td_netlist.specs.Netlist.{Netlist}
-use Rattle.td_netlist.specs.WellFormed.{IsWellFormed}
+use Rattle.td_nets.specs.Netlist.{Netlist}
+use Rattle.td_nets.specs.WellFormed.{IsWellFormed}
 use Rattle.td_circuit.specs.Loops.{Loop}
 use Rattle.td_circuit.specs.Run.{IsDelayOfBits, IsWorst}
 use Rattle.td_domain.specs.declared.cubes.Trit.{Trit}

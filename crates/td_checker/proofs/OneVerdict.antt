@@ -4,7 +4,7 @@ use Rattle.std.specs.Prelude.{slice_get}
 use Rattle.std.specs.List.{AllByRecursion}
 use Rattle.std.proofs.lemmas.Bool.{cases_lt}
 use Rattle.std.proofs.lemmas.List.{append-nil}
-use Rattle.td_netlist.specs.Netlist.{Netlist}
+use Rattle.td_nets.specs.Netlist.{Netlist}
 use Rattle.td_netlist.proofs.Readings.{one_netlist}
 use Rattle.td_certificate.specs.declared.certificate.Certificate.{Certificate}
 use Rattle.td_certificate.specs.Walks.{Line}

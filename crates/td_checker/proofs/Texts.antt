@@ -5,14 +5,14 @@ use Rattle.std.specs.List.{flat_map}
 use Rattle.std.proofs.lemmas.List.{length-map, append-nil}
 use Rattle.std.proofs.lemmas.List.Concat.{flat_map-cons}
 use Rattle.td_gates.specs.declared.timing.Delay.{Delay}
-use Rattle.td_netlist.specs.Netlist.{Netlist}
+use Rattle.td_nets.specs.Netlist.{Netlist}
 use Rattle.td_netlist.specs.declared.fault.Fault.{Fault}
 use Rattle.td_netlist.specs.declared.fault.FaultKind.TheVariants as netlist_kind
 use Rattle.td_netlist.specs.Faults.{IsUnlessMemory}
 use Rattle.td_netlist.specs.NameFaults.{IsFaultIn}
 use Rattle.td_netlist.specs.Means.{Means}
-use Rattle.td_netlist.specs.WellFormed.{IsWellFormed}
-use Rattle.td_netlist.specs.Views.{name_of}
+use Rattle.td_nets.specs.WellFormed.{IsWellFormed}
+use Rattle.td_nets.specs.Views.{name_of}
 use Rattle.td_netlist.proofs.Readings.{one_netlist}
 use Rattle.td_circuit.specs.Loops.{LiesOnLoop}
 use Rattle.td_certificate.specs.declared.certificate.Certificate.{Certificate}

@@ -8,7 +8,7 @@ use Rattle.std.proofs.lemmas.Option.{slice_get_within}
 use Rattle.td_gates.specs.declared.timing.Change.{Change}
 use Rattle.td_gates.specs.Table.{level_from}
 use Rattle.td_gates.specs.Wave.{Wave, last_of}
-use Rattle.td_netlist.specs.Netlist.{Netlist}
+use Rattle.td_nets.specs.Netlist.{Netlist}
 use Rattle.td_circuit.specs.Numbering.{Numbered, nets, IsNumbering}
 use Rattle.td_circuit.specs.Run.{IsDelayOfBits, IsVector, latest_change}
 use Rattle.td_circuit.proofs.Existence.{numbering_exists}

@@ -2,10 +2,10 @@
 use Rattle.std.specs.Prelude.{◌≡◌, ◌≢◌, ℕ, List, Result, Ok, Err}
 use Rattle.td_gates.specs.declared.timing.Delay.{Delay}
 use Rattle.td_netlist.specs.declared.fault.FaultKind.TheVariants as netlist_kind
-use Rattle.td_netlist.specs.Netlist.{Netlist}
+use Rattle.td_nets.specs.Netlist.{Netlist}
 use Rattle.td_netlist.specs.NameFaults.{IsFaultIn}
 use Rattle.td_netlist.specs.Means.{Means}
-use Rattle.td_netlist.specs.Views.{name_of}
+use Rattle.td_nets.specs.Views.{name_of}
 use Rattle.td_circuit.specs.Loops.{Loop, LiesOnLoop}
 use Rattle.td_circuit.specs.Run.{IsWorst}
 use Rattle.td_certificate.specs.declared.certificate.Certificate.{Certificate}

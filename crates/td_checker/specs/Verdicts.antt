@@ -1,7 +1,7 @@
 -- Verdicts on certificates.
 use Rattle.std.specs.Prelude.{◌≡◌, ℕ, ◌+◌, List, codes, length, slice_get, take, Option, Some, None}
 use Rattle.std.specs.List.{AllByRecursion}
-use Rattle.td_netlist.specs.Netlist.{Netlist}
+use Rattle.td_nets.specs.Netlist.{Netlist}
 use Rattle.td_certificate.specs.declared.certificate.Certificate.{Certificate}
 use Rattle.td_certificate.specs.Trees.{IsTree}
 use Rattle.td_certificate.specs.Walks.{Line}

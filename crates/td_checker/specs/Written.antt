@@ -1,7 +1,7 @@
 -- Certificates that are accepted, and their texts.
 use Rattle.std.specs.Prelude.{ℕ, ◌≤◌, List, length}
 use Rattle.td_gates.specs.declared.timing.Delay.{Delay}
-use Rattle.td_netlist.specs.Netlist.{Netlist}
+use Rattle.td_nets.specs.Netlist.{Netlist}
 use Rattle.td_netlist.specs.Means.{Means}
 use Rattle.td_run.specs.Laws.{IsAcyclic}
 use Rattle.td_certificate.specs.declared.certificate.Certificate.{Certificate}

@@ -2,7 +2,7 @@
 
 ghost use Rattle.std.specs.Prelude.{◌≡◌, ◌≤◌, ◌<◌, ◌↔◌, ℕ, List, length, IfOk, IfErr, IfSome, IsTrue};
 ghost use Rattle.td_netlist.specs.Means.{Means};
-ghost use Rattle.td_netlist.specs.WellFormed.{IsWellFormed};
+ghost use Rattle.td_nets.specs.WellFormed.{IsWellFormed};
 ghost use Rattle.td_circuit.specs.Run.{IsVector};
 ghost use Rattle.td_certificate.specs.Accepts.{lines_in, IsOfSize, IsReached};
 ghost use Rattle.td_certificate.specs.Faults.{IsWithinLimit};
@@ -20,7 +20,8 @@ use std::alloc::{AllocError, Global};
 use td_certificate::{CertFaultKind, Certificate};
 use td_circuit::{BuildFault, Circuit, build};
 use td_gates::Delay;
-use td_netlist::{FaultKind, Netlist};
+use td_netlist::FaultKind;
+use td_nets::Netlist;
 
 /// The line of a text on which its tree begins.
 const FIRST_LINE: u32 = 6;

@@ -6,7 +6,8 @@ ghost use Rattle.td_checker.specs.Verdicts.{verdict_number, verdict_name, verdic
 
 use std::alloc::AllocError;
 use td_certificate::CertFault;
-use td_netlist::{Fault, Name};
+use td_netlist::Fault;
+use td_nets::Name;
 use thiserror::Error;
 
 /// The verdict on a certificate: the first that applies of another circuit, a pair without the time, and, line by line in

@@ -4,8 +4,8 @@ use Rattle.std.specs.Prelude.{slice_get}
 use Rattle.std.specs.List.{Contains}
 use Rattle.std.proofs.lemmas.List.{length-map}
 use Rattle.td_gates.proofs.Places.{some-same, slice_get-some, slice_get-within, slice_get-append_left, slice_get-append_right, slice_get-append_cases, slice_get-map_some, slice_get-Contains, Contains-slice_get}
-use Rattle.td_netlist.specs.Netlist.{Name, Net, Low, High, Named, Gate, Netlist}
-use Rattle.td_netlist.specs.WellFormed.{gate_outputs, driven, IsDistinct, IsWellFormed}
+use Rattle.td_nets.specs.Netlist.{Name, Net, Low, High, Named, Gate, Netlist}
+use Rattle.td_nets.specs.WellFormed.{gate_outputs, driven, IsDistinct, IsWellFormed}
 use Rattle.td_circuit.specs.Loops.{Reads, Loop}
 use Rattle.td_circuit.specs.Numbering.{NumberedGate, Numbered, nets_by, AreNumbersOf, IsNumbering}
 use Rattle.td_circuit.proofs.Sorting.{here, there, either, none, IsOrdered, AreApart, Sorted, sort}

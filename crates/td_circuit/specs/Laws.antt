@@ -1,7 +1,7 @@
 -- Beside the model: laws of netlists and their numberings.
 use Rattle.std.specs.Prelude.{◌≡◌}
-use Rattle.td_netlist.specs.Netlist.{Netlist}
-use Rattle.td_netlist.specs.WellFormed.{IsWellFormed}
+use Rattle.td_nets.specs.Netlist.{Netlist}
+use Rattle.td_nets.specs.WellFormed.{IsWellFormed}
 use Rattle.td_circuit.specs.Loops.{Loop}
 use Rattle.td_circuit.specs.Numbering.{Numbered, IsNumbering}
 

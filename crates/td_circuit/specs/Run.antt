@@ -6,8 +6,8 @@ use Rattle.td_gates.specs.declared.primitives.Level.TheVariants.{Zero, One}
 use Rattle.td_gates.specs.Table.{table, level_from}
 use Rattle.td_gates.specs.Wave.{Wave, at, last, IsWave}
 use Rattle.td_gates.specs.Schedule.{Obeys}
-use Rattle.td_netlist.specs.Netlist.{Net, Low, High, Named, Netlist}
-use Rattle.td_netlist.specs.WellFormed.{driven}
+use Rattle.td_nets.specs.Netlist.{Net, Low, High, Named, Netlist}
+use Rattle.td_nets.specs.WellFormed.{driven}
 
 -- the nets of a netlist: the constants, its inputs and the outputs of its gates
 abbrev pub IsNetOf : Netlist → Net → Type 0

@@ -2,7 +2,7 @@
 
 ghost use Rattle.std.specs.Prelude.{◌≡◌, IfOk, OnOk, IfErr};
 ghost use Rattle.td_circuit.specs.Loops.{Loop};
-ghost use Rattle.td_netlist.specs.WellFormed.{driven};
+ghost use Rattle.td_nets.specs.WellFormed.{driven};
 ghost use Rattle.td_circuit.specs.Names.{names_in};
 ghost use Rattle.td_circuit.specs.Order.{IsOrder, FitsFault};
 ghost use Rattle.td_circuit.specs.Drivers.{AreFanIns};
@@ -15,7 +15,7 @@ use crate::order::{Driver, OrderFault, order_of};
 use crate::plan::{gate_drivers, gates_of, numbers_of, output_drivers, places_of};
 use crate::resolve::{fan_ins_of, names_of};
 use std::alloc::{AllocError, Global};
-use td_netlist::{Name, Netlist};
+use td_nets::{Name, Netlist};
 use thiserror::Error;
 
 /// Why a netlist has no circuit.

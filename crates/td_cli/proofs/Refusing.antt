@@ -3,7 +3,7 @@ use Rattle.std.proofs.Common.{◌≡◌, ℕ, List, sym, subst, inl, inr}
 use Rattle.td_gates.specs.declared.timing.Delay.{Delay}
 use Rattle.td_netlist.specs.declared.fault.Fault.{Fault}
 use Rattle.td_netlist.specs.declared.fault.FaultKind.TheVariants as kind
-use Rattle.td_netlist.specs.Netlist.{Netlist}
+use Rattle.td_nets.specs.Netlist.{Netlist}
 use Rattle.td_netlist.specs.NameFaults.{IsFaultIn}
 use Rattle.td_netlist.specs.Means.{Means}
 use Rattle.td_circuit.specs.declared.building.BuildFault.{BuildFault}

@@ -1,7 +1,7 @@
 -- What `bound` prints.
 use Rattle.std.specs.Prelude.{◌≡◌, ℕ, List, ◌++◌, length, codes, decimal, Option, Some, None}
 use Rattle.td_gates.specs.declared.timing.Delay.{Delay}
-use Rattle.td_netlist.specs.Netlist.{Netlist}
+use Rattle.td_nets.specs.Netlist.{Netlist}
 use Rattle.td_netlist.specs.Means.{Means}
 use Rattle.td_circuit.specs.Loops.{Loop}
 use Rattle.td_domain.specs.declared.cubes.Trit.{Trit}

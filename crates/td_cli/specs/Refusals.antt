@@ -3,8 +3,8 @@ use Rattle.std.specs.Prelude.{ℕ, List, [], ◌++◌, codes, decimal}
 use Rattle.td_netlist.specs.declared.fault.FaultKind.{FaultKind}
 use Rattle.td_netlist.specs.declared.fault.FaultKind.TheVariants as kind
 use Rattle.td_netlist.specs.declared.fault.Fault.{Fault}
-use Rattle.td_netlist.specs.Views.{name_of}
-use Rattle.td_netlist.specs.Printed.{printed}
+use Rattle.td_nets.specs.Views.{name_of}
+use Rattle.td_nets.specs.Printed.{printed}
 use Rattle.td_certificate.specs.declared.fault.CertFault.{CertFault}
 use Rattle.td_certificate.specs.Kinds.{kind_number, kind_name}
 use Rattle.td_cli.specs.declared.refusal.VectorWord.{VectorWord}

@@ -4,11 +4,11 @@ use Rattle.std.specs.List.{flat_map}
 use Rattle.td_gates.specs.declared.primitives.Level.{Level}
 use Rattle.td_gates.specs.declared.timing.Delay.{Delay}
 use Rattle.td_gates.specs.Wave.{Wave, last}
-use Rattle.td_netlist.specs.declared.netlist.Unit.{Unit as Step}
-use Rattle.td_netlist.specs.declared.netlist.Scale.{Scale}
-use Rattle.td_netlist.specs.declared.netlist.Scale.TheVariants as scale
-use Rattle.td_netlist.specs.Netlist.{Name, Net, Named, Netlist}
-use Rattle.td_netlist.specs.Printed.{printed}
+use Rattle.td_nets.specs.declared.netlist.Unit.{Unit as Step}
+use Rattle.td_nets.specs.declared.netlist.Scale.{Scale}
+use Rattle.td_nets.specs.declared.netlist.Scale.TheVariants as scale
+use Rattle.td_nets.specs.Netlist.{Name, Net, Named, Netlist}
+use Rattle.td_nets.specs.Printed.{printed}
 use Rattle.td_netlist.specs.Means.{Means}
 use Rattle.td_circuit.specs.Loops.{Loop}
 use Rattle.td_circuit.specs.Run.{Runs, latest_change}

@@ -2,7 +2,7 @@
 
 ghost use Rattle.std.specs.Prelude.{◌≡◌, ◌++◌, OnOk};
 ghost use Rattle.td_cli.specs.Refusals.{vector_word, number_and_name, fault_text, certificate_fault_text, unreadable_text, refusal_text};
-ghost use Rattle.td_netlist.specs.Views.{name_of};
+ghost use Rattle.td_nets.specs.Views.{name_of};
 ghost use Rattle.td_cli.specs.Ends.{status_of};
 
 use crate::status::Status;

@@ -5,7 +5,7 @@ ghost use Rattle.td_circuit.specs.Numbering.{nets};
 ghost use Rattle.td_circuit.specs.Run.{latest_change};
 ghost use Rattle.td_circuit.specs.NetValues.{net_wave};
 ghost use Rattle.td_run.specs.Runs.{output_waves};
-ghost use Rattle.td_netlist.specs.Netlist.{Named};
+ghost use Rattle.td_nets.specs.Netlist.{Named};
 ghost use Rattle.td_cli.specs.Reports.{output_lines, sim_text, IsSimReport};
 ghost use Rattle.td_cli.specs.Outcomes.{IsOfLoop, IsOfFault, IsCircuitOf, HasNoCircuit, HasNoReport};
 

@@ -4,8 +4,8 @@
 ghost use Rattle.std.specs.Prelude.{◌≡◌, ◌≤◌, ◌<◌, ◌+◌, ◌↔◌, ◌⊎◌, length, map, nat_lt, IfOk, IfErr, IsTrue};
 ghost use Rattle.std.specs.List.{list_all};
 ghost use Rattle.td_gates.specs.Table.{TakesInputs};
-ghost use Rattle.td_netlist.specs.Views.{name_of, net_of, gate_of};
-ghost use Rattle.td_netlist.specs.Netlist.{Netlist};
+ghost use Rattle.td_nets.specs.Views.{name_of, net_of, gate_of};
+ghost use Rattle.td_nets.specs.Netlist.{Netlist};
 ghost use Rattle.td_circuit.specs.Loops.{Loop};
 ghost use Rattle.td_rows.specs.Cells.{w, named, gate_at, IsCell, AreCells, AreInputs, AreMade, IsMade};
 ghost use Rattle.td_rows.specs.Cells.{IsBadCell, HasBadCell, IsMalformed, IsRefused};
@@ -15,7 +15,7 @@ pub mod slow;
 use std::alloc::{AllocError, AllocFailed, Global};
 use td_circuit::{BuildFault, Circuit, build};
 use td_gates::{Delay, Kind};
-use td_netlist::{Gate, Name, Net, Netlist, Scale, Unit};
+use td_nets::{Gate, Name, Net, Netlist, Scale, Unit};
 
 /// A gate that reads nets by number: first come the inputs, and then the gates in order.
 #[derive(Clone, Copy)]

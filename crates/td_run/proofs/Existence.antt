@@ -13,7 +13,7 @@ use Rattle.td_gates.specs.Schedule.{Obeys, target_at, target_before}
 use Rattle.td_gates.proofs.Obedience.{Obeys-by_target}
 use Rattle.td_gates.specs.declared.primitives.Level.TheVariants.{Zero, One}
 use Rattle.td_gates.specs.Table.{table}
-use Rattle.td_netlist.specs.Netlist.{Net, Named, Netlist}
+use Rattle.td_nets.specs.Netlist.{Net, Named, Netlist}
 use Rattle.td_circuit.specs.Numbering.{Numbered, nets, IsNumbering}
 use Rattle.td_circuit.specs.Run.{IsNetOf, IsSettled, Runs, IsDelay, latest_change}
 use Rattle.td_circuit.specs.NetValues.{net_level, net_wave}

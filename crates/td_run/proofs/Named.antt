@@ -16,7 +16,7 @@ use Rattle.td_gates.proofs.Levels.{level_eq-same, level_eq-other, cases_level}
 use Rattle.td_gates.proofs.Obedience.{Obeys-unique, waves-equal, wave-equal}
 use Rattle.td_gates.proofs.Windows.{MeetsWindows-from_Obeys}
 use Rattle.td_gates.proofs.Places.{none-some, some-same, slice_get-some, slice_get-map_some, get_or-front, get_or-back, map-fuse, All-from_contains}
-use Rattle.td_netlist.specs.Netlist.{Name, Net, Low, High, Named, Gate}
+use Rattle.td_nets.specs.Netlist.{Name, Net, Low, High, Named, Gate}
 use Rattle.td_circuit.specs.Numbering.{NumberedGate, Numbered, nets, first_output, IsGateAt, IsNumbering}
 use Rattle.td_circuit.specs.Run.{IsNetOf, Runs}
 use Rattle.td_circuit.specs.NetValues.{net_wave}

@@ -3,7 +3,7 @@ use Rattle.std.proofs.Common.{◌≡◌, ℕ, zero, suc, ◌≤◌, Bool, true, 
 use Rattle.std.proofs.lemmas.Bool.{cases_lt}
 use Rattle.std.proofs.lemmas.List.{length-map}
 use Rattle.td_gates.specs.Table.{level_from}
-use Rattle.td_netlist.specs.Netlist.{Netlist}
+use Rattle.td_nets.specs.Netlist.{Netlist}
 use Rattle.td_circuit.specs.Run.{IsDelayOfBits, IsVector, IsUpperBound}
 use Rattle.td_run.specs.Laws.{IsAcyclic, OneWorst}
 use Rattle.td_run.proofs.Existence.{one_delay_lem}

@@ -2,8 +2,8 @@
 use Rattle.std.specs.Prelude.{◌≡◌, ℕ, List, length}
 use Rattle.td_gates.specs.declared.primitives.Level.{Level}
 use Rattle.td_gates.specs.Wave.{Wave}
-use Rattle.td_netlist.specs.Netlist.{Net, Netlist}
-use Rattle.td_netlist.specs.WellFormed.{IsWellFormed}
+use Rattle.td_nets.specs.Netlist.{Net, Netlist}
+use Rattle.td_nets.specs.WellFormed.{IsWellFormed}
 use Rattle.td_circuit.specs.Loops.{Loop}
 use Rattle.td_circuit.specs.Run.{IsNetOf, IsSettled, Runs, IsDelay, IsWorst}
 

@@ -1,7 +1,7 @@
-use super::*;
 use itoa::Buffer;
 use std::alloc::Global;
 use std::test::*;
+use td_circuit::{BuildFault, Circuit, build};
 use td_gates::Delay;
 use td_netlist::read;
 

@@ -1,0 +1,5 @@
+//! Searches of worked circuits. There are tests here, and nothing else.
+#![tactic(auto)]
+
+#[cfg(test)]
+mod circuits;
