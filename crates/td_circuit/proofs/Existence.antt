@@ -7,7 +7,8 @@ use Rattle.td_gates.proofs.Places.{some-same, slice_get-some, slice_get-within, 
 use Rattle.td_netlist.specs.Netlist.{Name, Net, Low, High, Named, Gate, Netlist}
 use Rattle.td_netlist.specs.WellFormed.{gate_outputs, driven, IsDistinct, IsWellFormed}
 use Rattle.td_circuit.specs.Loops.{Reads, Loop}
-use Rattle.td_circuit.specs.Numbering.{NumberedGate, Numbered, nets_by, AreNumbersOf, IsNumbering}
+use Rattle.td_circuit.specs.Settings.{Setting}
+use Rattle.td_circuit.specs.Numbering.{NumberedGate, Numbered, setting, nets_by, AreNumbersOf, IsNumbering}
 use Rattle.td_circuit.proofs.Sorting.{here, there, either, none, IsOrdered, AreApart, Sorted, sort}
 
 module _ (netlist : Netlist) (well_formed : IsWellFormed netlist) (acyclic : ¬ Loop netlist) where
@@ -298,17 +299,18 @@ module _ (netlist : Netlist) (well_formed : IsWellFormed netlist) (acyclic : ¬ 
   all_gates : Gates 0 ordered
   all_gates = gates_of 0 ordered (λ place gate at. let e : 0 + place ≡ place = omega arith in rw e at)
 
-  abbrev numbering : Numbered
-  numbering = record {
+  abbrev numbering : List ℕ → Numbered
+  numbering moments = record {
     netlist = netlist;
     ordered = ordered;
     gates = all_gates.numbered;
     outputs = outputs_of.numbers;
     gate_outputs = gate_outputs_of.numbers;
+    moments = moments;
   }
 
-  is_numbering : IsNumbering numbering
-  is_numbering = record {
+  is_numbering : (moments : List ℕ) → IsNumbering (numbering moments)
+  is_numbering moments = record {
     well_formed = well_formed;
     no_others = sorted.no_others;
     each_gate = sorted.each;
@@ -321,7 +323,8 @@ module _ (netlist : Netlist) (well_formed : IsWellFormed netlist) (acyclic : ¬ 
     gate_outputs = gate_outputs_of.are;
   }
 
--- a netlist without a loop has a numbering
-pub numbering_exists : (netlist : Netlist) → IsWellFormed netlist → (¬ Loop netlist)
-    → (circuit : Numbered) × IsNumbering circuit × (circuit.netlist ≡ netlist)
-numbering_exists netlist well_formed acyclic = (numbering netlist well_formed acyclic, is_numbering netlist well_formed acyclic, refl)
+-- a netlist without a loop has a numbering, whatever the moments of its inputs
+pub numbering_exists : (given : Setting) → IsWellFormed given.netlist → (¬ Loop given.netlist)
+    → (circuit : Numbered) × IsNumbering circuit × (setting circuit ≡ given)
+numbering_exists given well_formed acyclic =
+    (numbering given.netlist well_formed acyclic given.moments, is_numbering given.netlist well_formed acyclic given.moments, refl)
