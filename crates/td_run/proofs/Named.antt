@@ -42,7 +42,7 @@ input_waves-at (a ∷ firsts) (b ∷ seconds) (m ∷ moments) (suc i) first seco
     input_waves-at firsts seconds moments i first second moment p q r
 
 -- the levels of the inputs at a moment
-inputs_at-at : (t : ℕ) (firsts seconds : List Level) (moments : List ℕ) (i : ℕ) (first second : Level) (moment : ℕ)
+pub inputs_at-at : (t : ℕ) (firsts seconds : List Level) (moments : List ℕ) (i : ℕ) (first second : Level) (moment : ℕ)
     → slice_get firsts i ≡ Some first → slice_get seconds i ≡ Some second → slice_get moments i ≡ Some moment
     → slice_get (inputs_at t moments firsts seconds) i ≡ Some (if nat_lt t moment then first else second)
 inputs_at-at t [] seconds moments i first second moment p q r = absurd (none-some first p)
