@@ -1,5 +1,5 @@
 -- Internal: the fewest flips of the pairs that lie in two cubes at once, input by input.
-use Rattle.std.specs.Prelude.{ℕ, ◌+◌, Bool, List, [], ◌∷◌, Option, Some, None, option_map, option_and_then, if◌then◌else◌}
+use Rattle.std.specs.Prelude.{ℕ, ◌+◌, Bool, List, [], ◌∷◌, Option, Some, None, option_and_then, if◌then◌else◌}
 use Rattle.td_domain.specs.declared.cubes.Trit.{Trit}
 use Rattle.td_domain.specs.declared.cubes.Trit.TheVariants.{Zero, One, Free}
 
@@ -23,13 +23,13 @@ abbrev pub common_flips : Bool → Trit → Trit → Trit → Trit → Option �
 common_flips held u v p q =
     option_and_then (λ first. option_and_then (λ second. input_flips first second held) (common v q)) (common u p)
 
--- so many more, where there are some
-abbrev pub more_flips : ℕ → Option ℕ → Option ℕ
-more_flips flips others = option_map (λ more. flips + more) others
+-- the sum of two, where both are there
+abbrev pub sum_of : Option ℕ → Option ℕ → Option ℕ
+sum_of (Some a) (Some b) = Some (a + b)
+sum_of a b = None
 
 -- the fewest flips of a pair in both cubes that keeps the held inputs, none where there is no such pair
 abbrev pub fewest_flips : List Bool → List Trit → List Trit → Option ℕ
 fewest_flips [] [] [] = Some 0
-fewest_flips (held ∷ others) (u ∷ v ∷ pins) (p ∷ q ∷ cube) =
-    option_and_then (λ flips. more_flips flips (fewest_flips others pins cube)) (common_flips held u v p q)
+fewest_flips (held ∷ others) (u ∷ v ∷ pins) (p ∷ q ∷ cube) = sum_of (common_flips held u v p q) (fewest_flips others pins cube)
 fewest_flips held pins cube = None

@@ -1,8 +1,8 @@
 //! Admitted pairs.
 
-ghost use Rattle.std.specs.Prelude.{◌≡◌, ◌<◌, ◌*◌, ◌^◌, ◌↔◌, length, IfOk, IsTrue};
+ghost use Rattle.std.specs.Prelude.{◌≡◌, ◌<◌, ◌≤◌, ◌*◌, ◌^◌, ◌↔◌, length, IfOk, IfSome, IsTrue};
 ghost use Rattle.td_domain.specs.Admits.{all_pairs, HasAdmitted};
-ghost use Rattle.td_domain.specs.FewestFlips as flips;
+ghost use Rattle.td_domain.specs.FewestFlips.{common, input_flips, common_flips, fewest_flips};
 
 use crate::cubes::{Cube, Trit};
 use std::alloc::{AllocError, Global};
@@ -101,21 +101,33 @@ impl Admit {
 fn fewest_flips(held: &[bool], pins: &Cube, cube: &Cube) -> Option<usize>
     requires pins { length pins.now ≡ 2 * length held.now }
     requires cube { length cube.now ≡ 2 * length held.now }
-    ensures { result ≡ flips.fewest_flips held.now pins.now cube.now }
+    ensures { result ≡ fewest_flips held.now pins.now cube.now }
 {
     let mut fewest = 0;
-    for (input, held) in held.iter().enumerate() {
-        let first = common(pins.trit(2 * input), cube.trit(2 * input))?;
-        let second = common(pins.trit(2 * input + 1), cube.trit(2 * input + 1))?;
-        let flips = input_flips(first, second, *held)?;
+    for (input, is_held) in held.iter().enumerate() {
+        let pin = pins.trit(2 * input);
+        let next_pin = pins.trit(2 * input + 1);
+        let bit = cube.trit(2 * input);
+        let next_bit = cube.trit(2 * input + 1);
+        let flips = common_flips(*is_held, pin, next_pin, bit, next_bit)?;
         fewest += flips as usize;
     }
     Some(fewest)
 }
 
+/// The fewest flips of an input that has two trits in one cube and two in another.
+fn common_flips(held: bool, pin: Trit, next_pin: Trit, bit: Trit, next_bit: Trit) -> Option<u32>
+    ensures flips { result ≡ common_flips held pin next_pin bit next_bit }
+    ensures few { IfSome result (λ flips. flips ≤ 1) }
+{
+    let first = common(pin, bit)?;
+    let second = common(next_pin, next_bit)?;
+    input_flips(first, second, held)
+}
+
 /// The trit that allows what both allow, where they allow a bit in common.
 fn common(this: Trit, that: Trit) -> Option<Trit>
-    ensures { result ≡ flips.common this that }
+    ensures { result ≡ common this that }
 {
     match (this, that) {
         (Trit::Free, _) => Some(that),
@@ -128,7 +140,8 @@ fn common(this: Trit, that: Trit) -> Option<Trit>
 
 /// The fewest flips of an input with bits that these trits allow.
 fn input_flips(first: Trit, second: Trit, held: bool) -> Option<u32>
-    ensures { result ≡ flips.input_flips first second held }
+    ensures flips { result ≡ input_flips first second held }
+    ensures few { IfSome result (λ flips. flips ≤ 1) }
 {
     match (first, second) {
         (Trit::Zero, Trit::One) | (Trit::One, Trit::Zero) => {
