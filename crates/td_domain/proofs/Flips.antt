@@ -1,6 +1,7 @@
 -- The fewest flips of the pairs in two cubes: some pair has them, and none has fewer.
 use Rattle.std.proofs.Common.{◌≡◌, ℕ, zero, suc, ◌+◌, ◌*◌, ◌<◌, ◌≤◌, Bool, true, false, List, [], ◌∷◌, length, drop, get_or, refl, arith, sym, ap, ◌∙◌, subst, Option, Some, None, inl, inr}
-use Rattle.std.specs.Prelude.{option_and_then, replicate, slice_get}
+use Rattle.std.specs.Prelude.{option_and_then, replicate, slice_get, nat_le, IsTrue, ◌↔◌}
+use Rattle.std.proofs.lemmas.Bool.{leb-true, le-leb}
 use Rattle.std.proofs.lemmas.List.{drop_all}
 use Rattle.td_gates.proofs.Places.{none-some, some-same}
 use Rattle.td_domain.specs.declared.cubes.Trit.{Trit}
@@ -272,3 +273,27 @@ all_are_admitted inputs pair f s = record {
   held = none_held inputs pair.first pair.second;
   few = (let most = no_flips_above pair.first pair.second in omega (arith, most, f));
 }
+
+-- ---- what the code's test says, where the struct's inside is seen as the admitted pairs
+
+pub told_some : (inside now : Admitted) (cube : List Trit) (held : List Bool) (found : Option ℕ) (n : ℕ) → inside ≡ now
+    → length inside.pins ≡ 2 * length inside.held → held ≡ inside.held → found ≡ fewest_flips held inside.pins cube → found ≡ Some n
+    → IsTrue (nat_le n inside.flips) ↔ HasAdmitted now cube
+told_some inside now cube held found n view size same is some =
+    let fewest : fewest_flips inside.held inside.pins cube ≡ Some n =
+    ap (λ xs. fewest_flips xs inside.pins cube) (sym same) ∙ sym is ∙ some in
+    subst (λ (a : Admitted). IsTrue (nat_le n inside.flips) ↔ HasAdmitted a cube) view (
+      (λ few. some_admitted inside cube size n fewest (leb-true n inside.flips few)),
+      (λ has. le-leb n inside.flips (few_enough inside cube size n fewest has)),
+    )
+
+pub told_none : (inside now : Admitted) (cube : List Trit) (held : List Bool) (found : Option ℕ) → inside ≡ now
+    → length inside.pins ≡ 2 * length inside.held → held ≡ inside.held → found ≡ fewest_flips held inside.pins cube → found ≡ None
+    → IsTrue false ↔ HasAdmitted now cube
+told_none inside now cube held found view size same is none =
+    let fewest : fewest_flips inside.held inside.pins cube ≡ None =
+    ap (λ xs. fewest_flips xs inside.pins cube) (sym same) ∙ sym is ∙ none in
+    subst (λ (a : Admitted). IsTrue false ↔ HasAdmitted a cube) view (
+      (λ (e : false ≡ true). absurd cc),
+      (λ has. absurd (none_admitted inside cube size fewest has)),
+    )

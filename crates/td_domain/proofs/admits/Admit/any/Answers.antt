@@ -1,12 +1,14 @@
-use Rattle.std.proofs.Common.{◌≡◌, ◌∙◌, sym}
-use Rattle.std.proofs.lemmas.Bool.{leb-true, le-leb, false≢true}
-use Rattle.td_domain.proofs.Flips.{some_admitted, few_enough, none_admitted}
+use Rattle.td_domain.proofs.Flips.{told_some, told_none}
 use Rattle.td_domain.proofs.admits.Admit.any.Goals as goal
 
--- Not checked yet: the names of the goals and of the steps are guesses, and the facts of the struct's inside have to be led to
--- `c.args.self.now` by `c.self.view_is`.
 pub returns-in-Some : goal.returns-in-Some
-returns-in-Some c = ?
+returns-in-Some c =
+    told_some (record { pins = c.self.inside.pins; held = c.self.inside.held.items; flips = c.self.inside.flips }) c.args.self.now c.args.cube.now
+    c.deref.result.now c.fewest_flips.result c.in-Some.flips c.self.view_is c.self.invariant c.deref.ensures.value
+    c.fewest_flips.ensures c.in-Some.is
 
 pub returns-in-None : goal.returns-in-None
-returns-in-None c = ?
+returns-in-None c =
+    told_none (record { pins = c.self.inside.pins; held = c.self.inside.held.items; flips = c.self.inside.flips }) c.args.self.now c.args.cube.now
+    c.deref.result.now c.fewest_flips.result c.self.view_is c.self.invariant c.deref.ensures.value
+    c.fewest_flips.ensures c.in-None.is
