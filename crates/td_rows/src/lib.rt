@@ -2,7 +2,7 @@
 #![tactic(auto)]
 
 ghost use Rattle.std.specs.Prelude.{◌≡◌, ◌≤◌, ◌<◌, ◌+◌, ◌↔◌, ◌⊎◌, length, map, nat_lt, IfOk, IfErr, IsTrue};
-ghost use Rattle.std.specs.List.{list_all};
+ghost use Rattle.std.specs.List.{All, list_all};
 ghost use Rattle.td_gates.specs.Table.{TakesInputs};
 ghost use Rattle.td_netlist.specs.Views.{name_of, net_of, gate_of};
 ghost use Rattle.td_netlist.specs.Netlist.{Netlist};
@@ -172,6 +172,18 @@ pub fn circuit_of(alloc: Global, inputs: u32, cells: &[Cell<'_>]) -> Result<Circ
         Err((_, BuildFault::OutOfMemory)) => Err(Refused::OutOfMemory),
         Err((_, BuildFault::Loop(_))) => Err(Refused::Malformed),
     }
+}
+
+/// These moments, none of them later than an input may change.
+pub fn moments_of(alloc: Global, moments: &[u64]) -> Result<Vec<u64>, AllocError>
+    ensures count { IfOk result (λ own. length own.items ≡ length moments.now) }
+    ensures within { IfOk result (λ own. All (λ moment. moment ≤ 1000000000) own.items) }
+{
+    let mut own = Vec::new(alloc);
+    for moment in moments {
+        own.push((*moment).min(1_000_000_000))?;
+    }
+    Ok(own)
 }
 
 #[cfg(test)]
