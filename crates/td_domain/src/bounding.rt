@@ -30,8 +30,8 @@ pub fn bound<D: Domain>(
     Ok(greatest_last::<D>(&signals, circuit.outputs()))
 }
 
-/// The signals of all nets, by number: those of the constants, those of the inputs by their trits and moments, and those of the
-/// gates' outputs in topological order.
+/// The signals of all nets, by number: those of the constants, those of the inputs by their trits and moments, and
+/// those of the gates' outputs in topological order.
 pub fn signals<D: Domain>(
     alloc: Global,
     circuit: &Circuit,
