@@ -106,28 +106,51 @@ abbrev gate_state : List Wave → Option NumberedGate → ℕ → GateState
 gate_state waves None t = state_of X None
 gate_state waves (Some gate) t = gate_before waves gate t
 
+-- whether it is a constant, else whether it is an input
+abbrev choose : Bool → Bool → GateState → GateState → GateState → GateState
+choose true input constant_is input_is gate_is = constant_is
+choose false true constant_is input_is gate_is = input_is
+choose false false constant_is input_is gate_is = gate_is
+
+abbrev constant_of : List Wave → ℕ → ℕ → GateState
+constant_of waves net t = state_of (before (wave_at waves net) t) None
+
+abbrev input_of : List ℕ → List Bool → List Bool → ℕ → ℕ → GateState
+input_of moments first second net t = input_state (bit_at first (net - 2)) (bit_at second (net - 2)) (get_or moments (net - 2) 0) t
+
+abbrev output_of : Numbered → List Wave → ℕ → ℕ → GateState
+output_of circuit waves net t = gate_state waves (slice_get circuit.gates (net - first_output circuit)) t
+
 -- the state of a net before a moment: a constant keeps its level, an input has its event, and a gate obeys the scheduling rule
 abbrev pub net_state : Numbered → List ℕ → List Bool → List Bool → List Wave → ℕ → ℕ → GateState
 net_state circuit moments first second waves net t =
-    if nat_lt net 2
-    then state_of (before (wave_at waves net) t) None
-    else (if nat_lt net (first_output circuit)
-    then input_state (bit_at first (net - 2)) (bit_at second (net - 2)) (get_or moments (net - 2) 0) t
-    else gate_state waves (slice_get circuit.gates (net - first_output circuit)) t)
+    choose (nat_lt net 2) (nat_lt net (first_output circuit)) (constant_of waves net t) (input_of moments first second net t) (output_of circuit waves net t)
 
 module _ (circuit : Numbered) (moments : List ℕ) (first second : List Bool) (waves : List Wave) where
   pub constant-state : (net t : ℕ) → net < 2 → net_state circuit moments first second waves net t ≡ state_of (before (wave_at waves net) t) None
-  constant-state net t h = rw (lt-ltb net 2 h) refl
+  constant-state net t h =
+      ap (λ (b : Bool). choose b (nat_lt net (first_output circuit)) (constant_of waves net t) (input_of moments first second net t) (output_of circuit waves net t)) (lt-ltb net 2 h)
+
+  above-state : (net t : ℕ) → 2 ≤ net → net_state circuit moments first second waves net t
+      ≡ choose false (nat_lt net (first_output circuit)) (constant_of waves net t) (input_of moments first second net t) (output_of circuit waves net t)
+  above-state net t h =
+      ap (λ (b : Bool). choose b (nat_lt net (first_output circuit)) (constant_of waves net t) (input_of moments first second net t) (output_of circuit waves net t)) (le-ltb net 2 h)
 
   pub input-state : (net t : ℕ) → 2 ≤ net → net < first_output circuit
       → net_state circuit moments first second waves net t ≡ input_state (bit_at first (net - 2)) (bit_at second (net - 2)) (get_or moments (net - 2) 0) t
-  input-state net t low high = rw (le-ltb net 2 low, lt-ltb net (first_output circuit) high) refl
+  input-state net t low high =
+      above-state net t low
+      ∙ ap (λ (b : Bool). choose false b (constant_of waves net t) (input_of moments first second net t) (output_of circuit waves net t)) (lt-ltb net (first_output circuit) high)
 
   pub output-state : (place t : ℕ) (gate : NumberedGate) → slice_get circuit.gates place ≡ Some gate
       → net_state circuit moments first second waves (first_output circuit + place) t ≡ gate_before waves gate t
   output-state place t gate at_place =
+      let net : ℕ = first_output circuit + place in
       let here : first_output circuit + place - first_output circuit ≡ place = omega arith in
-      rw (le-ltb (first_output circuit + place) 2 (omega arith), le-ltb (first_output circuit + place) (first_output circuit) (omega arith), here, at_place) refl
+      above-state net t (omega arith)
+      ∙ ap (λ (b : Bool). choose false b (constant_of waves net t) (input_of moments first second net t) (output_of circuit waves net t)) (le-ltb net (first_output circuit) (omega arith))
+      ∙ ap (λ (k : ℕ). gate_state waves (slice_get circuit.gates k) t) here
+      ∙ ap (λ (g : Option NumberedGate). gate_state waves g t) at_place
 
 -- a run by numbers, as the simulator needs it
 pub is_run_by : (circuit : Numbered) (moments : List ℕ) (first second : List Bool) (numbering : IsNumbering circuit)
