@@ -4,6 +4,7 @@ use Rattle.std.proofs.lemmas.Bool.{cases_lt}
 use Rattle.std.proofs.lemmas.List.{length-map}
 use Rattle.td_gates.specs.Table.{level_from}
 use Rattle.td_gates.specs.Wave.{Wave}
+use Rattle.td_gates.specs.Schedule.{GateState}
 use Rattle.td_circuit.specs.Numbering.{Numbered, nets, IsNumbering}
 use Rattle.td_circuit.specs.Run.{IsDelay, latest_change}
 use Rattle.td_circuit.specs.NetValues.{net_wave}
@@ -19,22 +20,22 @@ use Rattle.td_event_sim.specs.Latest.{greatest_at}
 use Rattle.td_event_sim.specs.State.{IsRunBy, IsStateBefore}
 use Rattle.td_event_sim.specs.Reached.{HasReached}
 use Rattle.td_event_sim.proofs.Moments.{quiet-moments}
-use Rattle.td_event_sim.proofs.Runs.{is_run_by, at-end, greatest-is}
+use Rattle.td_event_sim.proofs.Runs.{at-end, greatest-is}
 
--- no gate has an event before this moment
+-- no net has an event before this moment
 pub none-before : (queue : Waiting) (whens : List ℕ) (moment : ℕ) → AreWaiting queue whens → ((gate when : ℕ) → Waits queue gate when → moment ≤ when)
     → (gate : ℕ) → gate < length whens → get_or whens gate 0 < 2 ^ 64 - 1 → moment ≤ get_or whens gate 0
 none-before queue whens moment waiting earliest gate inside waits = earliest gate (get_or whens gate 0) (waiting gate inside waits)
 
 -- so the state is that before the moment
-pub come-to : (circuit : Numbered) (waves : List Wave) (queue : Waiting) (t moment : ℕ) (levels : List Bool) (whens latest : List ℕ) → IsRunBy circuit waves
-    → 1 ≤ t → t ≤ moment → AreWaiting queue whens → ((gate when : ℕ) → Waits queue gate when → moment ≤ when)
-    → IsStateBefore circuit waves t levels whens latest → IsStateBefore circuit waves moment levels whens latest
-come-to circuit waves queue t moment levels whens latest run positive early waiting earliest state =
+pub come-to : (circuit : Numbered) (waves : List Wave) (states : ℕ → ℕ → GateState) (queue : Waiting) (t moment : ℕ) (levels : List Bool) (whens latest : List ℕ)
+    → IsRunBy circuit waves states → t ≤ moment → AreWaiting queue whens → ((net when : ℕ) → Waits queue net when → moment ≤ when)
+    → IsStateBefore circuit waves states t levels whens latest → IsStateBefore circuit waves states moment levels whens latest
+come-to circuit waves states queue t moment levels whens latest run early waiting earliest state =
     let count : ℕ = moment - t in
     let split : moment ≡ t + count = omega arith in
-    rw split (quiet-moments circuit waves t count levels whens latest run positive
-    (λ gate inside waits. (let after = none-before queue whens moment waiting earliest gate inside waits in omega arith)) state)
+    rw split (quiet-moments circuit waves states run t count levels whens latest
+    (λ net inside waits. (let after = none-before queue whens moment waiting earliest net inside waits in omega arith)) state)
 
 module _ (circuit : Numbered) (pair : Pair) (numbering : IsNumbering circuit)
     (f : length pair.first ≡ length circuit.netlist.inputs) (s : length pair.second ≡ length circuit.netlist.inputs) where
@@ -44,23 +45,19 @@ module _ (circuit : Numbered) (pair : Pair) (numbering : IsNumbering circuit)
   pub fits-second : length (map level_from pair.second) ≡ length circuit.netlist.inputs
   fits-second = length-map pair.second level_from ∙ s
 
-  pub run-by : (waves outs : List Wave) → IsRunUpTo circuit (map level_from pair.first) (map level_from pair.second) (length circuit.gates) waves outs
-      → IsRunBy circuit waves
-  run-by waves outs run = is_run_by circuit (map level_from pair.first) (map level_from pair.second) numbering fits-first fits-second waves outs run
-
   module _ (queue : Waiting) (moment : ℕ) (levels : List Bool) (whens latest : List ℕ) (past : 2 ^ 64 - 1 ≤ moment) (waiting : AreWaiting queue whens)
-      (earliest : (gate when : ℕ) → Waits queue gate when → moment ≤ when) (reached : HasReached circuit pair moment levels whens latest)
+      (earliest : (net when : ℕ) → Waits queue net when → moment ≤ when) (reached : HasReached circuit pair moment levels whens latest)
       (delay : ℕ) (is : delay ≡ greatest_at latest circuit.outputs) where
     delay-by : (waves outs : List Wave) → IsRunUpTo circuit (map level_from pair.first) (map level_from pair.second) (length circuit.gates) waves outs
         → delay ≡ latest_change (waves_of waves circuit.outputs)
     delay-by waves outs run =
         let state = reached waves outs run in
         is ∙ greatest-is latest waves circuit.outputs (length (nets circuit)) (numbers-below (nets circuit) circuit.outputs _ numbering.outputs)
-        (at-end circuit (map level_from pair.first) (map level_from pair.second) numbering fits-first fits-second waves outs run state.0 levels whens latest state.1
-        (λ gate inside. elim (cases_lt (get_or whens gate 0) (2 ^ 64 - 1)) [
-          | inl waits ↦ (let after = none-before queue whens moment waiting earliest gate inside waits in absurd (omega arith))
+        (at-end circuit pair.first pair.second numbering fits-first fits-second waves outs run state.0 state.1 state.2 levels whens latest
+        (λ net inside. elim (cases_lt (get_or whens net 0) (2 ^ 64 - 1)) [
+          | inl waits ↦ (let after = none-before queue whens moment waiting earliest net inside waits in absurd (omega arith))
           | inr none ↦ none
-        ]) state.3)
+        ]) state.4)
 
     pub delay-is : IsDelay circuit.netlist (map level_from pair.first) (map level_from pair.second) delay
     delay-is =

@@ -1,23 +1,29 @@
 -- A run of a circuit is one as the simulator needs it.
-use Rattle.std.proofs.Common.{◌≡◌, ◌≢◌, ℕ, zero, suc, ◌+◌, ◌-◌, ◌*◌, ◌^◌, ◌<◌, ◌≤◌, Bool, List, [], ◌∷◌, length, get_or, refl, arith, sym, ap, ◌∙◌, Option, Some, None, max, unwrap_or}
+use Rattle.std.proofs.Common.{◌≡◌, ◌≢◌, ℕ, zero, suc, true, false, inl, inr, map, subst, replicate, ◌+◌, ◌-◌, ◌*◌, ◌^◌, ◌<◌, ◌≤◌, Bool, List, [], ◌∷◌, length, get_or, refl, arith, sym, ap, ◌∙◌, Option, Some, None, max, unwrap_or}
 use Rattle.std.specs.List.{All}
-use Rattle.std.proofs.lemmas.Bool.{le-leb, lt-ltb, le-ltb}
+use Rattle.std.specs.Prelude.{slice_get, nat_le, nat_lt, if◌then◌else◌}
+use Rattle.std.proofs.lemmas.Bool.{cases_lt, cases_order, le-leb, lt-leb, lt-ltb, le-ltb, eq-eqb, ne_eqb}
+use Rattle.std.proofs.lemmas.List.{get_or-replicate}
 use Rattle.std.proofs.lemmas.List.Elements.{All-head, All-tail}
 use Rattle.td_gates.specs.declared.primitives.Level.{Level}
 use Rattle.td_gates.specs.declared.primitives.Level.TheVariants.{X}
 use Rattle.td_gates.specs.declared.timing.Change.{Change}
+use Rattle.td_gates.specs.Table.{level_eq, level_from}
+use Rattle.td_gates.specs.Schedule.{GateState, updated}
 use Rattle.td_gates.specs.Wave.{Wave, level_after, at, before, IsRising, IsWave, last_of, last}
 use Rattle.td_gates.proofs.Levels.{level_under, before-level_under, level_eq-other}
-use Rattle.td_gates.proofs.Places.{none-some, some-same, slice_get-some, get_or-front, get_or-back}
-use Rattle.td_circuit.specs.Numbering.{Numbered, nets, first_output, IsNumbering}
+use Rattle.td_gates.proofs.Places.{none-some, some-same, slice_get-some, slice_get-within, get_or-back}
+use Rattle.td_circuit.specs.Numbering.{NumberedGate, Numbered, nets, first_output, IsNumbering}
 use Rattle.td_circuit.specs.Run.{latest_change}
 use Rattle.td_circuit.proofs.Nets.{length-nets, lower-at, takes-at, range-at, few_gates}
-use Rattle.td_run.specs.Waves.{AreWithin, constant, waves_of}
 use Rattle.td_run.specs.Runs.{first_waves, IsRunUpTo}
 use Rattle.td_run.proofs.Numbered.{length-first_waves, length-waves}
-use Rattle.td_run.proofs.Gates.{run_start}
-use Rattle.td_event_sim.specs.State.{wave_at, IsRunBy, latest_before, IsStateBefore}
+use Rattle.td_run.specs.Waves.{AreWithin, constant, waves_of}
+use Rattle.td_event_sim.specs.State.{wave_at, gate_before, IsRunBy, latest_before, IsStateBefore}
 use Rattle.td_event_sim.specs.Latest.{greatest_at}
+use Rattle.td_event_sim.specs.Bits.{bit_at}
+use Rattle.td_event_sim.proofs.Steps.{state_of}
+use Rattle.td_event_sim.proofs.Settles.{input-start, input-at, constant-still}
 use Rattle.td_event_sim.proofs.Moments.{latest-stays, quiet-moments}
 
 -- after all changes a wave stays
@@ -32,33 +38,180 @@ past-all bound level (change ∷ later) t within h =
 stays-past : (bound : ℕ) (wave : Wave) (t : ℕ) → AreWithin bound wave.changes → bound < t → at wave t ≡ before wave t
 stays-past bound wave t within h = past-all bound wave.start wave.changes t within h ∙ sym (before-level_under wave t)
 
-pub is_run_by : (circuit : Numbered) (firsts seconds : List Level) → IsNumbering circuit → length firsts ≡ length circuit.netlist.inputs
-    → length seconds ≡ length circuit.netlist.inputs → (waves outs : List Wave) → IsRunUpTo circuit firsts seconds (length circuit.gates) waves outs
-    → IsRunBy circuit waves
-is_run_by circuit firsts seconds numbering f s waves outs run =
+-- ---- the states of the inputs
+abbrev pub event_to : Bool → Bool → ℕ → Option Change
+event_to first second moment =
+    if level_eq (level_from first) (level_from second) then None else Some (record { moment = moment; level = level_from second })
+
+-- until its moment an input has its first level, and where the second is another, an event to it
+abbrev pub input_state : Bool → Bool → ℕ → ℕ → GateState
+input_state first second moment t =
+    if nat_le t moment then state_of (level_from first) (event_to first second moment) else state_of (level_from second) None
+
+pub early-input : (first second : Bool) (moment t : ℕ) → t ≤ moment → input_state first second moment t ≡ state_of (level_from first) (event_to first second moment)
+early-input first second moment t h =
+    ap (λ (b : Bool). if b then state_of (level_from first) (event_to first second moment) else state_of (level_from second) None) (le-leb t moment h)
+
+past-input : (first second : Bool) (moment t : ℕ) → moment < t → input_state first second moment t ≡ state_of (level_from second) None
+past-input first second moment t h =
+    ap (λ (b : Bool). if b then state_of (level_from first) (event_to first second moment) else state_of (level_from second) None) (lt-leb t moment h)
+
+due-input : (first second : Bool) (moment t : ℕ) → moment ≡ t → updated t (level_from first) (event_to first second moment) ≡ state_of (level_from second) None
+due-input true true moment t same = refl
+due-input true false moment t same = rw (eq-eqb moment t same) refl
+due-input false true moment t same = rw (eq-eqb moment t same) refl
+due-input false false moment t same = refl
+
+waiting-input : (first second : Bool) (moment t : ℕ) → moment ≢ t
+    → updated t (level_from first) (event_to first second moment) ≡ state_of (level_from first) (event_to first second moment)
+waiting-input true true moment t apart = refl
+waiting-input true false moment t apart = rw (ne_eqb moment t apart) refl
+waiting-input false true moment t apart = rw (ne_eqb moment t apart) refl
+waiting-input false false moment t apart = refl
+
+-- an input does what its event says
+input-next : (first second : Bool) (moment t : ℕ)
+    → input_state first second moment (suc t) ≡ updated t (input_state first second moment t).level (input_state first second moment t).scheduled
+input-next first second moment t = elim (cases_order t moment) [
+  | inl now ↦
+      past-input first second moment (suc t) (omega arith) ∙ sym (due-input first second moment t (sym now))
+      ∙ sym (ap (λ (s : GateState). updated t s.level s.scheduled) (early-input first second moment t (omega arith)))
+  | inr apart ↦ elim apart [
+    | inl sooner ↦
+        early-input first second moment (suc t) (omega arith) ∙ sym (waiting-input first second moment t (λ e. omega arith))
+        ∙ sym (ap (λ (s : GateState). updated t s.level s.scheduled) (early-input first second moment t (omega arith)))
+    | inr later ↦
+        past-input first second moment (suc t) (omega arith)
+        ∙ sym (ap (λ (s : GateState). updated t s.level s.scheduled) (past-input first second moment t later))
+  ]
+]
+
+-- an input's wave has the levels of its states
+input-level : (wave : Wave) (first second : Bool) (moment : ℕ) → wave.start ≡ level_from first
+    → ((t : ℕ) → at wave t ≡ (if nat_lt t moment then level_from first else level_from second))
+    → (t : ℕ) → before wave t ≡ (input_state first second moment t).level
+input-level wave first second moment start levels zero =
+    start ∙ sym (ap (λ (s : GateState). s.level) (early-input first second moment 0 (omega arith)))
+input-level wave first second moment start levels (suc t) = elim (cases_lt t moment) [
+  | inl early ↦
+      levels t ∙ ap (λ (b : Bool). if b then level_from first else level_from second) (lt-ltb t moment early)
+      ∙ sym (ap (λ (s : GateState). s.level) (early-input first second moment (suc t) (omega arith)))
+  | inr past ↦
+      levels t ∙ ap (λ (b : Bool). if b then level_from first else level_from second) (le-ltb t moment past)
+      ∙ sym (ap (λ (s : GateState). s.level) (past-input first second moment (suc t) (omega arith)))
+]
+
+-- ---- the states of all nets
+abbrev gate_state : List Wave → Option NumberedGate → ℕ → GateState
+gate_state waves None t = state_of X None
+gate_state waves (Some gate) t = gate_before waves gate t
+
+-- whether it is a constant, else whether it is an input
+abbrev choose : Bool → Bool → GateState → GateState → GateState → GateState
+choose true input constant_is input_is gate_is = constant_is
+choose false true constant_is input_is gate_is = input_is
+choose false false constant_is input_is gate_is = gate_is
+
+abbrev constant_of : List Wave → ℕ → ℕ → GateState
+constant_of waves net t = state_of (before (wave_at waves net) t) None
+
+abbrev input_of : List ℕ → List Bool → List Bool → ℕ → ℕ → GateState
+input_of moments first second net t = input_state (bit_at first (net - 2)) (bit_at second (net - 2)) (get_or moments (net - 2) 0) t
+
+abbrev output_of : Numbered → List Wave → ℕ → ℕ → GateState
+output_of circuit waves net t = gate_state waves (slice_get circuit.gates (net - first_output circuit)) t
+
+-- the state of a net before a moment: a constant keeps its level, an input has its event, and a gate obeys the scheduling rule
+abbrev pub net_state : Numbered → List ℕ → List Bool → List Bool → List Wave → ℕ → ℕ → GateState
+net_state circuit moments first second waves net t =
+    choose (nat_lt net 2) (nat_lt net (first_output circuit)) (constant_of waves net t) (input_of moments first second net t) (output_of circuit waves net t)
+
+module _ (circuit : Numbered) (moments : List ℕ) (first second : List Bool) (waves : List Wave) where
+  pub constant-state : (net t : ℕ) → net < 2 → net_state circuit moments first second waves net t ≡ state_of (before (wave_at waves net) t) None
+  constant-state net t h =
+      ap (λ (b : Bool). choose b (nat_lt net (first_output circuit)) (constant_of waves net t) (input_of moments first second net t) (output_of circuit waves net t)) (lt-ltb net 2 h)
+
+  above-state : (net t : ℕ) → 2 ≤ net → net_state circuit moments first second waves net t
+      ≡ choose false (nat_lt net (first_output circuit)) (constant_of waves net t) (input_of moments first second net t) (output_of circuit waves net t)
+  above-state net t h =
+      ap (λ (b : Bool). choose b (nat_lt net (first_output circuit)) (constant_of waves net t) (input_of moments first second net t) (output_of circuit waves net t)) (le-ltb net 2 h)
+
+  pub input-state : (net t : ℕ) → 2 ≤ net → net < first_output circuit
+      → net_state circuit moments first second waves net t ≡ input_state (bit_at first (net - 2)) (bit_at second (net - 2)) (get_or moments (net - 2) 0) t
+  input-state net t low high =
+      above-state net t low
+      ∙ ap (λ (b : Bool). choose false b (constant_of waves net t) (input_of moments first second net t) (output_of circuit waves net t)) (lt-ltb net (first_output circuit) high)
+
+  pub output-state : (place t : ℕ) (gate : NumberedGate) → slice_get circuit.gates place ≡ Some gate
+      → net_state circuit moments first second waves (first_output circuit + place) t ≡ gate_before waves gate t
+  output-state place t gate at_place =
+      let net : ℕ = first_output circuit + place in
+      let here : first_output circuit + place - first_output circuit ≡ place = omega arith in
+      above-state net t (omega arith)
+      ∙ ap (λ (b : Bool). choose false b (constant_of waves net t) (input_of moments first second net t) (output_of circuit waves net t)) (le-ltb net (first_output circuit) (omega arith))
+      ∙ ap (λ (k : ℕ). gate_state waves (slice_get circuit.gates k) t) here
+      ∙ ap (λ (g : Option NumberedGate). gate_state waves g t) at_place
+
+-- a run by numbers, as the simulator needs it
+pub is_run_by : (circuit : Numbered) (moments : List ℕ) (first second : List Bool) (numbering : IsNumbering circuit)
+    (f : length (map level_from first) ≡ length circuit.netlist.inputs) (s : length (map level_from second) ≡ length circuit.netlist.inputs)
+    (waves outs : List Wave) (run : IsRunUpTo circuit (map level_from first) (map level_from second) (length circuit.gates) waves outs)
+    → moments ≡ replicate (length circuit.netlist.inputs) 0
+    → IsRunBy circuit waves (net_state circuit moments first second waves)
+is_run_by circuit moments first second numbering f s waves outs run at_zero =
     let count : length (nets circuit) ≡ first_output circuit + length circuit.gates = length-nets circuit numbering in
-    let first : length (first_waves firsts seconds) ≡ first_output circuit = length-first_waves circuit firsts seconds numbering f s in
+    let firsts : List Level = map level_from first in
+    let seconds : List Level = map level_from second in
+    let firsts_long : length (first_waves firsts seconds) ≡ first_output circuit = length-first_waves circuit firsts seconds numbering f s in
     let long : length waves ≡ first_output circuit + length circuit.gates = length-waves circuit firsts seconds numbering f s (length circuit.gates) waves outs run in
     let small = few_gates circuit numbering in
+    let gate_level : (place : ℕ) (gate : NumberedGate) → slice_get circuit.gates place ≡ Some gate
+    → (t : ℕ) → before (wave_at waves (first_output circuit + place)) t ≡ (gate_before waves gate t).level =
+    λ place gate at_place t.
+    (let inside = slice_get-some circuit.gates place gate at_place in
+    let here : wave_at waves (first_output circuit + place) ≡ get_or outs place (constant X) =
+    rw (run.begins, ← firsts_long) (get_or-back (first_waves firsts seconds) outs place (constant X)) in
+    ap (λ (w : Wave). before w t) here ∙ (run.gates place gate inside at_place).levels t) in
     record {
       count = count;
-      gates = λ place gate at_place t.
-          let inside = slice_get-some circuit.gates place gate at_place in
-          let here : wave_at waves (first_output circuit + place) ≡ get_or outs place (constant X) =
-          rw (run.begins, ← first) (get_or-back (first_waves firsts seconds) outs place (constant X)) in
-          ap (λ (w : Wave). before w t) here
-          ∙ (run.gates place gate inside at_place).levels t;
+      levels = λ net t inside. elim (cases_lt net 2) [
+        | inl low ↦ sym (ap (λ (state : GateState). state.level) (constant-state circuit moments first second waves net t low))
+        | inr high ↦ elim (cases_lt net (first_output circuit)) [
+          | inl input ↦
+              let i : ℕ = net - 2 in
+              let is : net ≡ i + 2 = omega arith in
+              let zero_at : get_or moments i 0 ≡ 0 = rw at_zero (get_or-replicate (length circuit.netlist.inputs) i 0 0 (omega arith)) in
+              input-level (wave_at waves net) (bit_at first i) (bit_at second i) (get_or moments i 0)
+              (subst (λ (n : ℕ). before (wave_at waves n) 0 ≡ level_from (bit_at first i)) (sym is) (input-start circuit first second numbering f s waves outs run i (omega arith)))
+              (λ u. subst (λ (n : ℕ). at (wave_at waves n) u ≡ level_from (bit_at second i)) (sym is) (input-at circuit first second numbering f s waves outs run i u (omega arith))
+              ∙ sym (ap (λ (m : ℕ). if nat_lt u m then level_from (bit_at first i) else level_from (bit_at second i)) zero_at
+              ∙ ap (λ (b : Bool). if b then level_from (bit_at first i) else level_from (bit_at second i)) (le-ltb u 0 (omega arith)))) t
+              ∙ sym (ap (λ (state : GateState). state.level) (input-state circuit moments first second waves net t high input))
+          | inr output ↦
+              let place : ℕ = net - first_output circuit in
+              let found = slice_get-within circuit.gates place (omega arith) in
+              let is : net ≡ first_output circuit + place = omega arith in
+              subst (λ (n : ℕ). before (wave_at waves n) t ≡ (net_state circuit moments first second waves n t).level) (sym is)
+              (gate_level place found.0 found.1 t ∙ sym (ap (λ (state : GateState). state.level) (output-state circuit moments first second waves place t found.0 found.1)))
+        ]
+      ];
+      low = λ net t h. elim (cases_lt net 2) [
+        | inl low ↦
+            constant-state circuit moments first second waves net (suc t) low
+            ∙ ap (λ (l : Level). state_of l None) (constant-still circuit first second numbering f s waves outs run net t low)
+            ∙ sym (ap (λ (state : GateState). updated t state.level state.scheduled) (constant-state circuit moments first second waves net t low))
+        | inr high ↦
+            input-state circuit moments first second waves net (suc t) high h
+            ∙ input-next (bit_at first (net - 2)) (bit_at second (net - 2)) (get_or moments (net - 2) 0) t
+            ∙ sym (ap (λ (state : GateState). updated t state.level state.scheduled) (input-state circuit moments first second waves net t high h))
+      ];
+      gates = λ place gate at_place t. output-state circuit moments first second waves place t gate at_place;
       lower = λ place gate at_place k d h.
           let inside = slice_get-some circuit.gates place gate at_place in
           let low = lower-at circuit numbering place gate at_place k d h in
           omega (arith, count);
       takes = λ place gate at_place. takes-at circuit numbering place gate at_place;
       range = λ place gate at_place. range-at circuit numbering place gate at_place;
-      early = λ net low t.
-          let here : wave_at waves net ≡ get_or (first_waves firsts seconds) net (constant X) =
-          rw run.begins (get_or-front (first_waves firsts seconds) outs net (constant X) (omega arith)) in
-          let within = (run_start circuit firsts seconds (first_waves firsts seconds) refl).within net (constant X) (omega arith) in
-          rw here (stays-past 0 (get_or (first_waves firsts seconds) net (constant X)) (suc t) within (omega arith));
       late = λ net t inside past. stays-past (length circuit.gates * 1000000000) (wave_at waves net) t (run.within net (constant X) (omega arith)) (omega arith);
     }
 
@@ -146,18 +299,20 @@ greatest-is latest waves (net ∷ others) count all each =
     ap (λ (m : ℕ). max m (greatest_at latest others)) (each net (All-head (λ n. n < count) net others all))
     ∙ ap (λ (m : ℕ). max (unwrap_or (last (wave_at waves net)) 0) m) (greatest-is latest waves others count (All-tail (λ n. n < count) net others all) each)
 
--- where no gate has an event any more, the latest changes are the last ones
-pub at-end : (circuit : Numbered) (firsts seconds : List Level) → IsNumbering circuit → length firsts ≡ length circuit.netlist.inputs
-    → length seconds ≡ length circuit.netlist.inputs → (waves outs : List Wave) → IsRunUpTo circuit firsts seconds (length circuit.gates) waves outs
-    → (t : ℕ) (levels : List Bool) (whens latest : List ℕ) → 1 ≤ t → ((gate : ℕ) → gate < length whens → 2 ^ 64 - 1 ≤ get_or whens gate 0)
-    → IsStateBefore circuit waves t levels whens latest
+-- where no net has an event any more, the latest changes are the last ones
+pub at-end : (circuit : Numbered) (first second : List Bool) (numbering : IsNumbering circuit)
+    (f : length (map level_from first) ≡ length circuit.netlist.inputs) (s : length (map level_from second) ≡ length circuit.netlist.inputs)
+    (waves outs : List Wave) (run : IsRunUpTo circuit (map level_from first) (map level_from second) (length circuit.gates) waves outs)
+    → (states : ℕ → ℕ → GateState) → IsRunBy circuit waves states
+    → (t : ℕ) (levels : List Bool) (whens latest : List ℕ) → ((net : ℕ) → net < length whens → 2 ^ 64 - 1 ≤ get_or whens net 0)
+    → IsStateBefore circuit waves states t levels whens latest
     → (net : ℕ) → net < length (nets circuit) → get_or latest net 0 ≡ unwrap_or (last (wave_at waves net)) 0
-at-end circuit firsts seconds numbering f s waves outs run t levels whens latest h none state net inside =
-    let by : IsRunBy circuit waves = is_run_by circuit firsts seconds numbering f s waves outs run in
-    let long : length waves ≡ first_output circuit + length circuit.gates = length-waves circuit firsts seconds numbering f s (length circuit.gates) waves outs run in
+at-end circuit first second numbering f s waves outs run states by t levels whens latest none state net inside =
+    let long : length waves ≡ first_output circuit + length circuit.gates =
+    length-waves circuit (map level_from first) (map level_from second) numbering f s (length circuit.gates) waves outs run in
     let small = few_gates circuit numbering in
-    let end : IsStateBefore circuit waves (t + 2 ^ 63) levels whens latest =
-    quiet-moments circuit waves t (2 ^ 63) levels whens latest by h (λ gate within waits. absurd (let past = none gate within in omega arith)) state in
+    let end : IsStateBefore circuit waves states (t + 2 ^ 63) levels whens latest =
+    quiet-moments circuit waves states by t (2 ^ 63) levels whens latest (λ n within waits. absurd (let past = none n within in omega arith)) state in
     end.latest_are net inside
     ∙ latest-last (length circuit.gates * 1000000000) (wave_at waves net) (t + 2 ^ 63) (run.rising net (constant X) (omega (arith, by.count)))
     (run.within net (constant X) (omega (arith, by.count))) (omega arith)

@@ -1,5 +1,5 @@
--- Settled levels by bits are the starts of the run's waves, and moment 0.
-use Rattle.std.proofs.Common.{◌≡◌, ◌≢◌, ℕ, suc, ◌+◌, ◌-◌, ◌^◌, ◌<◌, Bool, false, List, [], ◌∷◌, length, map, get_or, set, refl, arith, inl, inr, sym, ap, ◌∙◌, Some, get_or-set_same, get_or-set_other}
+-- Settled levels by bits are the starts of the run's waves, and what the run's inputs and constants do.
+use Rattle.std.proofs.Common.{◌≡◌, ◌≢◌, ℕ, zero, suc, ◌+◌, ◌-◌, ◌^◌, ◌<◌, Bool, false, List, [], ◌∷◌, length, map, get_or, set, refl, arith, inl, inr, sym, ap, ◌∙◌, Some, get_or-set_same, get_or-set_other}
 use Rattle.std.specs.Prelude.{slice_get, ◌%◌, ◌==◌, cond, count_by, not}
 use Rattle.std.specs.List.{All, Contains, list_all, list_any}
 use Rattle.std.proofs.lemmas.Bool.{cases_eq, cases_lt, cases_Bool}
@@ -26,12 +26,8 @@ use Rattle.td_run.specs.Runs.{IsRunUpTo}
 use Rattle.td_run.proofs.Named.{is_run, same_length}
 use Rattle.td_event_sim.specs.Bits.{bit_at, target_of}
 use Rattle.td_event_sim.specs.Settling.{AreSettled}
-use Rattle.td_event_sim.specs.Moment.{AreApplied, AreEvaluated}
-use Rattle.td_event_sim.specs.State.{wave_at, IsRunBy, latest_before, IsStateBefore}
+use Rattle.td_event_sim.specs.State.{wave_at}
 use Rattle.td_event_sim.proofs.Tables.{level-at, target-is}
-use Rattle.td_event_sim.proofs.Steps.{no-event}
-use Rattle.td_event_sim.proofs.Moments.{IsMiddle, AreReaders, next-events, net-cases, gate-level}
-use Rattle.td_event_sim.proofs.Runs.{is_run_by}
 
 -- ---- a target depends on its inputs alone
 abbrev AreAlike : (ℕ → Bool) → (ℕ → Bool) → List ℕ → Type 0
@@ -167,95 +163,36 @@ module _ (circuit : Numbered) (first second : List Bool) (numbering : IsNumberin
         ∙ sym (same_at X circuit numbering (map level_from levels) long_map start_of low high at-input at-gate net found.0 found.1)
         ∙ ap (λ (w : Wave). w.start) (wave-is net found.0 found.1)
 
-    -- before moment 0
-    pub at-start : (whens latest : List ℕ) → length whens ≡ length circuit.gates → length latest ≡ length (nets circuit)
-        → ((gate : ℕ) → gate < length whens → get_or whens gate 0 ≡ 2 ^ 64 - 1) → ((net : ℕ) → net < length latest → get_or latest net 0 ≡ 0)
-        → IsStateBefore circuit waves 0 levels whens latest
-    at-start whens latest whens_fit latest_fit none zeros = record {
-      same_levels = long;
-      same_whens = whens_fit;
-      same_latest = latest_fit;
-      levels_are = starts-are;
-      events_are = λ place gate at_place. no-event (bit_at levels (first_output circuit + place)) (get_or whens place 0)
-          (let never = none place (omega (arith, slice_get-some circuit.gates place gate at_place)) in omega arith);
-      latest_are = λ net inside. zeros net (omega arith);
-    }
+  -- ---- the inputs and the constants
+  input_net : (i : ℕ) (name : Name) → slice_get circuit.netlist.inputs i ≡ Some name → slice_get (nets circuit) (i + 2) ≡ Some (Named name)
+  input_net i name at_i = (let number : suc (suc i) ≡ i + 2 = omega arith in rw (← number) (input_number circuit i name at_i))
 
-  -- ---- moment 0
-  input-at : (i : ℕ) → i < length circuit.netlist.inputs → at (wave_at waves (i + 2)) 0 ≡ level_from (bit_at second i)
-  input-at i h =
+  pub input-start : (i : ℕ) → i < length circuit.netlist.inputs → before (wave_at waves (i + 2)) 0 ≡ level_from (bit_at first i)
+  input-start i h =
       let name = slice_get-within circuit.netlist.inputs i h in
-      let number : suc (suc i) ≡ i + 2 = omega arith in
-      let net : slice_get (nets circuit) (i + 2) ≡ Some (Named name.0) = rw (← number) (input_number circuit i name.0 name.1) in
-      let level : get_or (map level_from second) i X ≡ at (net_wave (nets circuit) waves (Named name.0)) 0 =
+      let level : get_or (map level_from first) i X ≡ (net_wave (nets circuit) waves (Named name.0)).start =
+      slice_get-get (map level_from first) i _ X
+      (rw (← runs.settled.inputs) (slice_get-map_some (λ n. (net_wave (nets circuit) waves (Named n)).start) circuit.netlist.inputs i name.0 name.1)) in
+      ap (λ (w : Wave). w.start) (sym (wave-is (i + 2) (Named name.0) (input_net i name.0 name.1))) ∙ sym level
+      ∙ level-at first i (omega (arith, length-map first level_from, f))
+
+  pub input-at : (i t : ℕ) → i < length circuit.netlist.inputs → at (wave_at waves (i + 2)) t ≡ level_from (bit_at second i)
+  input-at i t h =
+      let name = slice_get-within circuit.netlist.inputs i h in
+      let level : get_or (map level_from second) i X ≡ at (net_wave (nets circuit) waves (Named name.0)) t =
       slice_get-get (map level_from second) i _ X
-      (rw (← runs.inputs 0) (slice_get-map_some (λ n. at (net_wave (nets circuit) waves (Named n)) 0) circuit.netlist.inputs i name.0 name.1)) in
-      ap (λ (w : Wave). at w 0) (sym (wave-is (i + 2) (Named name.0) net)) ∙ sym level ∙ level-at second i (omega (arith, length-map second level_from, s))
+      (rw (← runs.inputs t) (slice_get-map_some (λ n. at (net_wave (nets circuit) waves (Named n)) t) circuit.netlist.inputs i name.0 name.1)) in
+      ap (λ (w : Wave). at w t) (sym (wave-is (i + 2) (Named name.0) (input_net i name.0 name.1))) ∙ sym level
+      ∙ level-at second i (omega (arith, length-map second level_from, s))
 
-  quiet_net : (wave : Wave) (t : ℕ) → wave.changes ≡ [] → at wave t ≡ wave.start
-  quiet_net wave t none = rw none refl
+  still : (wave : Wave) (t : ℕ) → wave.changes ≡ [] → at wave t ≡ before wave t
+  still wave zero none = rw none refl
+  still wave (suc t) none = rw none refl
 
-  low-at : at (wave_at waves 0) 0 ≡ before (wave_at waves 0) 0
-  low-at = quiet_net (wave_at waves 0) 0 (ap (λ (w : Wave). w.changes) (sym (wave-is 0 Low refl)) ∙ runs.low)
-
-  high-at : at (wave_at waves 1) 0 ≡ before (wave_at waves 1) 0
-  high-at = quiet_net (wave_at waves 1) 0 (ap (λ (w : Wave). w.changes) (sym (wave-is 1 High refl)) ∙ runs.high)
-
-  -- before moment 1
-  pub first-moment : (readers : List (List ℕ)) (changed : List ℕ) (levels new_levels : List Bool) (whens new_whens latest : List ℕ)
-      → AreReaders circuit.gates readers → ((gate : ℕ) → gate < length whens → get_or whens gate 0 ≡ 2 ^ 64 - 1) → ((net : ℕ) → net < length latest → get_or latest net 0 ≡ 0)
-      → AreApplied (length second) second levels new_levels changed
-      → AreEvaluated circuit.gates (first_output circuit) 0 readers changed new_levels whens new_whens
-      → IsStateBefore circuit waves 0 levels whens latest → IsStateBefore circuit waves 1 new_levels new_whens latest
-  first-moment readers changed levels new_levels whens new_whens latest all_readers none zeros applied evaluation state =
-      let by : IsRunBy circuit waves = is_run_by circuit (map level_from first) (map level_from second) numbering f s waves outs run in
-      let count : length second ≡ length circuit.netlist.inputs = sym (length-map second level_from) ∙ s in
-      let outputs : (place : ℕ) (gate : NumberedGate) → slice_get circuit.gates place ≡ Some gate
-      → level_from (bit_at new_levels (first_output circuit + place)) ≡ before (wave_at waves (first_output circuit + place)) 0 =
-      λ place gate at_place.
-      (let inside = slice_get-some circuit.gates place gate at_place in
-      ap level_from (applied.others (first_output circuit + place) (inr (omega arith)))
-      ∙ state.levels_are (first_output circuit + place) (omega (arith, by.count))) in
-      let gate_at : (place : ℕ) (gate : NumberedGate) → slice_get circuit.gates place ≡ Some gate
-      → at (wave_at waves (first_output circuit + place)) 0 ≡ before (wave_at waves (first_output circuit + place)) 0 =
-      λ place gate at_place. by.gates place gate at_place 1 ∙ gate-level waves gate 0 ∙ sym (by.gates place gate at_place 0) in
-      let low_nets : (net : ℕ) → net < first_output circuit → level_from (bit_at new_levels net) ≡ at (wave_at waves net) 0 =
-      λ net low. elim (cases_lt net 2) [
-        | inl constants ↦
-            ap level_from (applied.others net (inl constants)) ∙ state.levels_are net (omega (arith, by.count)) ∙ sym (elim (cases_eq net 0) [
-              | inl zeroth ↦ rw zeroth low-at
-              | inr more ↦ (let one : net ≡ 1 = omega arith in rw one high-at)
-            ])
-        | inr input ↦
-            let i : ℕ = net - 2 in
-            let is : net ≡ i + 2 = omega arith in
-            rw is (ap level_from (applied.inputs i (omega arith)) ∙ sym (input-at i (omega arith)))
-      ] in
-      let levels_are : (net : ℕ) → net < length (nets circuit) → level_from (bit_at new_levels net) ≡ at (wave_at waves net) 0 =
-      λ net inside. elim (net-cases circuit waves by net inside) [
-        | inl low ↦ low_nets net low
-        | inr found ↦ rw found.3 (outputs found.0 found.1 found.2 ∙ sym (gate_at found.0 found.1 found.2))
-      ] in
-      let is_middle : IsMiddle circuit waves 0 changed new_levels whens = record {
-        same_levels = applied.same_levels ∙ state.same_levels;
-        same_whens = state.same_whens;
-        levels_are = levels_are;
-        events_are = λ place gate at_place. no-event (bit_at new_levels (first_output circuit + place)) (get_or whens place 0)
-            (let never = none place (omega (arith, slice_get-some circuit.gates place gate at_place, state.same_whens)) in omega arith);
-        told = λ net inside. elim (applied.told net) [
-          | inl told ↦ inl told
-          | inr same ↦ inr (sym (levels_are net inside) ∙ ap level_from same ∙ state.levels_are net inside)
-        ];
-        outputs = λ place gate at_place. outputs place gate at_place ∙ by.gates place gate at_place 0;
-      } in
-      record {
-        same_levels = applied.same_levels ∙ state.same_levels;
-        same_whens = evaluation.same_whens ∙ state.same_whens;
-        same_latest = state.same_latest;
-        levels_are = levels_are;
-        events_are = next-events circuit waves 0 readers changed new_levels whens new_whens by all_readers is_middle evaluation;
-        latest_are = λ net inside. zeros net (omega (arith, state.same_latest)) ∙ sym (either (wave_at waves net));
-      }
-    where
-      either : (wave : Wave) → latest_before wave 1 ≡ 0
-      either wave = elim (cases_Bool (level_eq (at wave 0) (before wave 0))) [ inl same ↦ rw same refl | inr apart ↦ rw apart refl ]
+  pub constant-still : (net t : ℕ) → net < 2 → at (wave_at waves net) t ≡ before (wave_at waves net) t
+  constant-still net t low = elim (cases_eq net 0) [
+    | inl zeroth ↦ rw zeroth (still (wave_at waves 0) t (ap (λ (w : Wave). w.changes) (sym (wave-is 0 Low refl)) ∙ runs.low))
+    | inr more ↦
+        let one : net ≡ 1 = omega arith in
+        rw one (still (wave_at waves 1) t (ap (λ (w : Wave). w.changes) (sym (wave-is 1 High refl)) ∙ runs.high))
+  ]

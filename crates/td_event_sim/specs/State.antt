@@ -5,7 +5,7 @@ use Rattle.td_gates.specs.declared.primitives.Level.TheVariants.{X}
 use Rattle.td_gates.specs.Delays.{IsInRange}
 use Rattle.td_gates.specs.Table.{level_eq, level_from, TakesInputs}
 use Rattle.td_gates.specs.Wave.{Wave, at, before}
-use Rattle.td_gates.specs.Schedule.{GateState, state_before}
+use Rattle.td_gates.specs.Schedule.{GateState, updated, state_before}
 use Rattle.td_circuit.specs.Numbering.{NumberedGate, Numbered, nets, first_output}
 use Rattle.td_run.specs.Waves.{constant, waves_of}
 use Rattle.td_event_sim.specs.Bits.{bit_at}
@@ -19,16 +19,19 @@ wave_at waves net = slice_index_or waves net (constant X)
 abbrev pub gate_before : List Wave → NumberedGate → ℕ → GateState
 gate_before waves gate t = state_before gate.kind gate.delay (waves_of waves gate.inputs) t
 
--- a run of a circuit by the numbers of its nets, as far as the simulator needs it
-pub record IsRunBy (circuit : Numbered) (waves : List Wave) : Type 0 where
+-- A run of a circuit by the numbers of its nets, with a level and an event of each net before each moment, as far as the simulator
+-- needs it.
+pub record IsRunBy (circuit : Numbered) (waves : List Wave) (states : ℕ → ℕ → GateState) : Type 0 where
   pub count : length (nets circuit) ≡ first_output circuit + length circuit.gates
+  pub levels : (net t : ℕ) → net < length (nets circuit) → before (wave_at waves net) t ≡ (states net t).level
+  -- a constant and an input do what their event says, and nothing else
+  pub low : (net t : ℕ) → net < first_output circuit → states net (suc t) ≡ updated t (states net t).level (states net t).scheduled
+  -- a gate obeys the scheduling rule
   pub gates : (place : ℕ) (gate : NumberedGate) → slice_get circuit.gates place ≡ Some gate
-      → (t : ℕ) → before (wave_at waves (first_output circuit + place)) t ≡ (gate_before waves gate t).level
+      → (t : ℕ) → states (first_output circuit + place) t ≡ gate_before waves gate t
   pub lower : (place : ℕ) (gate : NumberedGate) → slice_get circuit.gates place ≡ Some gate → All (λ net. net < length (nets circuit)) gate.inputs
   pub takes : (place : ℕ) (gate : NumberedGate) → slice_get circuit.gates place ≡ Some gate → TakesInputs gate.kind (length gate.inputs)
   pub range : (place : ℕ) (gate : NumberedGate) → slice_get circuit.gates place ≡ Some gate → IsInRange gate.delay
-  -- the constants and the inputs change at moment 0 at most
-  pub early : (net : ℕ) → net < first_output circuit → (t : ℕ) → at (wave_at waves net) (suc t) ≡ at (wave_at waves net) t
   -- nothing changes from 2^63 on
   pub late : (net t : ℕ) → net < length (nets circuit) → 2 ^ 63 ≤ t → at (wave_at waves net) t ≡ before (wave_at waves net) t
 
@@ -38,11 +41,10 @@ latest_before wave zero = 0
 latest_before wave (suc t) = if level_eq (at wave t) (before wave t) then latest_before wave t else t
 
 -- the simulator has come to a moment of a run
-pub record IsStateBefore (circuit : Numbered) (waves : List Wave) (t : ℕ) (levels : List Bool) (whens latest : List ℕ) : Type 0 where
+pub record IsStateBefore (circuit : Numbered) (waves : List Wave) (states : ℕ → ℕ → GateState) (t : ℕ) (levels : List Bool) (whens latest : List ℕ) : Type 0 where
   pub same_levels : length levels ≡ length (nets circuit)
-  pub same_whens : length whens ≡ length circuit.gates
+  pub same_whens : length whens ≡ length (nets circuit)
   pub same_latest : length latest ≡ length (nets circuit)
   pub levels_are : (net : ℕ) → net < length (nets circuit) → level_from (bit_at levels net) ≡ before (wave_at waves net) t
-  pub events_are : (place : ℕ) (gate : NumberedGate) → slice_get circuit.gates place ≡ Some gate
-      → event_of (bit_at levels (first_output circuit + place)) (slice_index whens place) ≡ (gate_before waves gate t).scheduled
+  pub events_are : (net : ℕ) → net < length (nets circuit) → event_of (bit_at levels net) (slice_index whens net) ≡ (states net t).scheduled
   pub latest_are : (net : ℕ) → net < length (nets circuit) → slice_index latest net ≡ latest_before (wave_at waves net) t

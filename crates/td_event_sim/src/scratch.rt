@@ -1,21 +1,21 @@
 //! The delay of a pair of vectors.
 
-ghost use Rattle.std.specs.Prelude.{◌≡◌, ℕ, ◌+◌, ◌-◌, ◌^◌, ◌<◌, ◌≤◌, List, length, map, slice_index, IfOk, OnOk};
+ghost use Rattle.std.specs.Prelude.{◌≡◌, ℕ, ◌+◌, ◌-◌, ◌^◌, ◌<◌, ◌≤◌, List, length, map, replicate, slice_index, IfOk, OnOk};
 ghost use Rattle.std.specs.List.{All};
-ghost use Rattle.td_gates.specs.Table.{level_from};
 ghost use Rattle.td_gates.specs.Wave.{Wave};
-ghost use Rattle.td_circuit.specs.Numbering.{nets, IsNumbering};
+ghost use Rattle.td_gates.specs.Schedule.{GateState};
+ghost use Rattle.td_circuit.specs.Numbering.{nets, first_output as first_output_of, IsNumbering};
 ghost use Rattle.td_circuit.specs.Run.{IsDelayOfBits};
-ghost use Rattle.td_run.specs.Runs.{IsRunUpTo};
 ghost use Rattle.td_event_sim.specs.Earliest.{IsFrom};
 ghost use Rattle.td_event_sim.specs.Queue.{Waits, AreBelow};
 ghost use Rattle.td_event_sim.specs.Moment.{AreWaiting};
 ghost use Rattle.td_event_sim.specs.State.{IsRunBy, IsStateBefore};
+ghost use Rattle.td_event_sim.specs.Reached.{HasReached};
 ghost use Rattle.td_event_sim.specs.Scratch.{AreReadersOf, IsFor};
 ghost use Rattle.td_event_sim.specs.Latest.{greatest_at};
 
 use crate::earliest::NEVER;
-use crate::phases::{apply, evaluate, settle, update};
+use crate::phases::{evaluate, schedule_inputs, settle, update};
 use crate::queue::Queue;
 use crate::readers::readers;
 use std::alloc::{AllocError, Global};
@@ -23,45 +23,32 @@ use std::marker::Model;
 use td_circuit::Circuit;
 use td_domain::Pair;
 
-/// The circuit settles under the first vector, and the inputs take the second one.
+/// The circuit settles under the first vector, and the inputs get their events.
 fn start(
     levels: &mut [bool],
     latest: &mut [u64],
     whens: &mut [u64],
     queue: &mut Queue,
-    changed: &mut Vec<usize>,
-    readers: &[Vec<u32>],
     circuit: &Circuit,
     pair: &Pair,
+    moments: &[u64],
 ) -> Result<(), AllocError>
     requires first_fits { length pair.now.first ≡ length circuit.now.netlist.inputs }
     requires second_fits { length pair.now.second ≡ length circuit.now.netlist.inputs }
     requires levels_fit { length levels.old ≡ length (nets circuit.now) }
     requires latest_fit { length latest.old ≡ length (nets circuit.now) }
-    requires whens_fit { length whens.old ≡ length circuit.now.gates }
-    requires readers { AreReadersOf (length (nets circuit.now)) circuit.now.gates (map (λ places. places.items) readers.now) }
-    ensures state { (waves outs : List Wave)
-        → IsRunUpTo circuit.now (map level_from pair.now.first) (map level_from pair.now.second) (length circuit.now.gates) waves outs
-        → OnOk result (IsStateBefore circuit.now waves 1 levels.new whens.new latest.new) }
+    requires whens_fit { length whens.old ≡ length (nets circuit.now) }
+    requires moments { moments.now ≡ replicate (length circuit.now.netlist.inputs) 0 }
+    ensures reached { OnOk result (HasReached circuit.now pair.now 0 levels.new whens.new latest.new) }
     ensures waiting { OnOk result (AreWaiting queue.new whens.new) }
-    ensures below { (limit : ℕ) → length circuit.now.gates ≤ limit → AreBelow limit queue.old → AreBelow limit queue.new }
+    ensures below { (limit : ℕ) → length (nets circuit.now) ≤ limit → AreBelow limit queue.old → AreBelow limit queue.new }
 {
-    let gates = circuit.gates();
-    let first_output = circuit.input_count() + 2;
-    settle(levels, circuit, pair.first());
+    let _gates = circuit.gates();
+    let first = pair.first();
+    let second = pair.second();
+    settle(levels, circuit, first);
     latest.fill(0);
-    whens.fill(NEVER);
-    apply(levels, changed, pair.second())?;
-    evaluate(
-        whens,
-        queue,
-        levels,
-        gates,
-        readers,
-        changed,
-        first_output,
-        0,
-    )?;
+    schedule_inputs(whens, queue, first, second, moments)?;
     Ok(())
 }
 
@@ -79,34 +66,24 @@ fn advance(
 ) -> Result<(), AllocError>
     requires levels_fit { length levels.old ≡ length (nets circuit.now) }
     requires latest_fit { length latest.old ≡ length (nets circuit.now) }
-    requires whens_fit { length whens.old ≡ length circuit.now.gates }
-    requires readers { AreReadersOf (length (nets circuit.now)) circuit.now.gates (map (λ places. places.items) readers.now) }
-    requires below { AreBelow (length circuit.now.gates) queue.old }
-    requires moment { 1 ≤ moment }
+    requires whens_fit { length whens.old ≡ length (nets circuit.now) }
+    requires readers { AreReadersOf (first_output_of circuit.now) (length (nets circuit.now)) circuit.now.gates (map (λ outputs. outputs.items) readers.now) }
+    requires below { AreBelow (length (nets circuit.now)) queue.old }
     requires in_time { moment < 2 ^ 64 - 1 }
     requires first { IsFrom moment queue.old.firsts }
-    requires earliest { (gate when : ℕ) → Waits queue.old gate when → moment ≤ when }
+    requires earliest { (net when : ℕ) → Waits queue.old net when → moment ≤ when }
     requires waiting { AreWaiting queue.old whens.old }
-    ensures state { (waves : List Wave) → IsRunBy circuit.now waves
-        → IsStateBefore circuit.now waves moment levels.old whens.old latest.old
-        → OnOk result (IsStateBefore circuit.now waves (moment + 1) levels.new whens.new latest.new) }
+    ensures state { (waves : List Wave) (states : ℕ → ℕ → GateState) → IsRunBy circuit.now waves states
+        → IsStateBefore circuit.now waves states moment levels.old whens.old latest.old
+        → OnOk result (IsStateBefore circuit.now waves states (moment + 1) levels.new whens.new latest.new) }
     ensures waiting { OnOk result (AreWaiting queue.new whens.new) }
     ensures from { OnOk result (IsFrom (moment + 1) queue.new.firsts) }
-    ensures below { AreBelow (length circuit.now.gates) queue.new }
+    ensures below { AreBelow (length (nets circuit.now)) queue.new }
 {
     let gates = circuit.gates();
     let first_output = circuit.input_count() + 2;
     queue.take(moment, taken)?;
-    update(
-        levels,
-        latest,
-        whens,
-        queue,
-        changed,
-        first_output,
-        taken,
-        moment,
-    )?;
+    update(levels, latest, whens, queue, changed, taken, moment)?;
     evaluate(
         whens,
         queue,
@@ -143,22 +120,22 @@ fn simulate(
     readers: &[Vec<u32>],
     circuit: &Circuit,
     pair: &Pair,
+    moments: &[u64],
 ) -> Result<u64, AllocError>
     requires first_fits { length pair.now.first ≡ length circuit.now.netlist.inputs }
     requires second_fits { length pair.now.second ≡ length circuit.now.netlist.inputs }
     requires levels_fit { length levels.old ≡ length (nets circuit.now) }
     requires latest_fit { length latest.old ≡ length (nets circuit.now) }
-    requires whens_fit { length whens.old ≡ length circuit.now.gates }
-    requires readers { AreReadersOf (length (nets circuit.now)) circuit.now.gates (map (λ places. places.items) readers.now) }
-    requires below { AreBelow (length circuit.now.gates) queue.old }
+    requires whens_fit { length whens.old ≡ length (nets circuit.now) }
+    requires readers { AreReadersOf (first_output_of circuit.now) (length (nets circuit.now)) circuit.now.gates (map (λ outputs. outputs.items) readers.now) }
+    requires below { AreBelow (length (nets circuit.now)) queue.old }
+    requires moments { moments.now ≡ replicate (length circuit.now.netlist.inputs) 0 }
     ensures delay { IfOk result (IsDelayOfBits circuit.now.netlist pair.now.first pair.now.second) }
     ensures only { IfOk result (λ delay. (other : ℕ) → IsDelayOfBits circuit.now.netlist pair.now.first pair.now.second other → other ≡ delay) }
-    ensures below { AreBelow (length circuit.now.gates) queue.new }
+    ensures below { AreBelow (length (nets circuit.now)) queue.new }
 {
     let _gates = circuit.gates();
-    start(
-        levels, latest, whens, queue, changed, readers, circuit, pair,
-    )?;
+    start(levels, latest, whens, queue, circuit, pair, moments)?;
     let mut moment = queue.first();
     while moment < NEVER {
         advance(
@@ -173,20 +150,22 @@ fn simulate(
 /// Room for the simulation of a circuit, used again for each pair.
 #[derive(Drop)]
 pub struct Scratch {
-    /// The gates that read each net, by their places.
+    /// The outputs of the gates that read each net.
     readers: Vec<Vec<u32>>,
     /// Whether each net is at 1.
     levels: Vec<bool>,
     /// The moment of the latest change of each net, 0 where there was none.
     latest: Vec<u64>,
-    /// The moment of the scheduled event of each gate.
+    /// The moment of the event of each net.
     whens: Vec<u64>,
-    /// The gates that wait for the moments of their events.
+    /// The nets that wait for the moments of their events.
     queue: Queue,
-    /// The gates that waited for a moment.
+    /// The nets that waited for a moment.
     taken: Vec<u32>,
     /// The nets that changed at a moment.
     changed: Vec<usize>,
+    /// The moments at which the inputs take their second levels.
+    input_moments: Vec<u64>,
 }
 
 impl Model for Scratch {
@@ -196,17 +175,18 @@ impl Model for Scratch {
     ghost Value = { Room };
 
     ghost view = { λ inside. record {
-      readers = map (λ places. places.items) inside.readers.items;
+      readers = map (λ outputs. outputs.items) inside.readers.items;
       levels = inside.levels.items;
       latest = inside.latest.items;
       whens = inside.whens.items;
       queue = inside.queue;
+      moments = inside.input_moments.items;
     } };
 }
 
 /// So many times the same moment.
 fn moments(alloc: Global, count: usize, moment: u64) -> Result<Vec<u64>, AllocError>
-    ensures { IfOk result (λ moments. length moments.items ≡ count) }
+    ensures { IfOk result (λ moments. moments.items ≡ replicate count moment) }
 {
     let mut moments = Vec::new(alloc);
     for _ in 0..count {
@@ -233,11 +213,13 @@ impl Scratch {
     {
         let gates = circuit.gates();
         let nets = circuit.net_count();
-        let readers = readers(alloc, gates, nets)?;
+        let first_output = circuit.input_count() + 2;
+        let readers = readers(alloc, gates, first_output, nets)?;
         let levels = zeros(alloc, nets)?;
         let latest = moments(alloc, nets, 0)?;
-        let whens = moments(alloc, gates.len(), NEVER)?;
+        let whens = moments(alloc, nets, NEVER)?;
         let queue = Queue::new(alloc)?;
+        let input_moments = moments(alloc, circuit.input_count(), 0)?;
         Ok(Scratch {
             readers,
             levels,
@@ -246,6 +228,7 @@ impl Scratch {
             queue,
             taken: Vec::new(alloc),
             changed: Vec::new(alloc),
+            input_moments,
         })
     }
 }
@@ -270,5 +253,6 @@ pub fn delay_of(scratch: &mut Scratch, circuit: &Circuit, pair: &Pair) -> Result
         &scratch.readers,
         circuit,
         pair,
+        &scratch.input_moments,
     )
 }
