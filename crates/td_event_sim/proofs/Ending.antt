@@ -5,7 +5,8 @@ use Rattle.std.proofs.lemmas.List.{length-map}
 use Rattle.td_gates.specs.Table.{level_from}
 use Rattle.td_gates.specs.Wave.{Wave}
 use Rattle.td_gates.specs.Schedule.{GateState}
-use Rattle.td_circuit.specs.Numbering.{Numbered, nets, IsNumbering}
+use Rattle.td_circuit.specs.Numbering.{Numbered, setting, nets, IsNumbering}
+use Rattle.td_circuit.specs.Settings.{AreMoments}
 use Rattle.td_circuit.specs.Run.{IsDelay, latest_change}
 use Rattle.td_circuit.specs.NetValues.{net_wave}
 use Rattle.td_circuit.proofs.Nets.{numbers-below}
@@ -37,7 +38,7 @@ come-to circuit waves states queue t moment levels whens latest run early waitin
     rw split (quiet-moments circuit waves states run t count levels whens latest
     (λ net inside waits. (let after = none-before queue whens moment waiting earliest net inside waits in omega arith)) state)
 
-module _ (circuit : Numbered) (pair : Pair) (numbering : IsNumbering circuit)
+module _ (circuit : Numbered) (pair : Pair) (numbering : IsNumbering circuit) (fit : AreMoments circuit.netlist circuit.moments)
     (f : length pair.first ≡ length circuit.netlist.inputs) (s : length pair.second ≡ length circuit.netlist.inputs) where
   pub fits-first : length (map level_from pair.first) ≡ length circuit.netlist.inputs
   fits-first = length-map pair.first level_from ∙ f
@@ -53,25 +54,25 @@ module _ (circuit : Numbered) (pair : Pair) (numbering : IsNumbering circuit)
     delay-by waves outs run =
         let state = reached waves outs run in
         is ∙ greatest-is latest waves circuit.outputs (length (nets circuit)) (numbers-below (nets circuit) circuit.outputs _ numbering.outputs)
-        (at-end circuit pair.first pair.second numbering fits-first fits-second waves outs run state.0 state.1 state.2 levels whens latest
+        (at-end circuit pair.first pair.second numbering fit fits-first fits-second waves outs run state.0 state.1 state.2 levels whens latest
         (λ net inside. elim (cases_lt (get_or whens net 0) (2 ^ 64 - 1)) [
           | inl waits ↦ (let after = none-before queue whens moment waiting earliest net inside waits in absurd (omega arith))
           | inr none ↦ none
         ]) state.4)
 
-    pub delay-is : IsDelay circuit.netlist (map level_from pair.first) (map level_from pair.second) delay
+    pub delay-is : IsDelay (setting circuit) (map level_from pair.first) (map level_from pair.second) delay
     delay-is =
-        let made = run_exists circuit (map level_from pair.first) (map level_from pair.second) numbering fits-first fits-second (length circuit.gates) (omega arith) in
+        let made = run_exists circuit (map level_from pair.first) (map level_from pair.second) numbering fit fits-first fits-second (length circuit.gates) (omega arith) in
         record {
           waves = net_wave (nets circuit) made.0;
-          runs = is_run circuit (map level_from pair.first) (map level_from pair.second) numbering fits-first fits-second made.0 made.1 made.2;
+          runs = is_run circuit (map level_from pair.first) (map level_from pair.second) numbering fit fits-first fits-second made.0 made.1 made.2;
           is_latest = delay-by made.0 made.1 made.2
-              ∙ ap latest_change (sym (outputs-are circuit (map level_from pair.first) (map level_from pair.second) numbering fits-first fits-second made.0 made.1 made.2));
+              ∙ ap latest_change (sym (outputs-are circuit (map level_from pair.first) (map level_from pair.second) numbering fit fits-first fits-second made.0 made.1 made.2));
         }
 
-    pub only-delay : (other : ℕ) → IsDelay circuit.netlist (map level_from pair.first) (map level_from pair.second) other → other ≡ delay
+    pub only-delay : (other : ℕ) → IsDelay (setting circuit) (map level_from pair.first) (map level_from pair.second) other → other ≡ delay
     only-delay other has =
-        let made = run_exists circuit (map level_from pair.first) (map level_from pair.second) numbering fits-first fits-second (length circuit.gates) (omega arith) in
+        let made = run_exists circuit (map level_from pair.first) (map level_from pair.second) numbering fit fits-first fits-second (length circuit.gates) (omega arith) in
         has.is_latest
-        ∙ ap latest_change (only_outputs circuit (map level_from pair.first) (map level_from pair.second) numbering fits-first fits-second made.0 made.1 made.2 has.waves has.runs)
+        ∙ ap latest_change (only_outputs circuit (map level_from pair.first) (map level_from pair.second) numbering fit fits-first fits-second made.0 made.1 made.2 has.waves has.runs)
         ∙ sym (delay-by made.0 made.1 made.2)

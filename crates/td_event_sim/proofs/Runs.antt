@@ -3,7 +3,6 @@ use Rattle.std.proofs.Common.{◌≡◌, ◌≢◌, ℕ, zero, suc, true, false,
 use Rattle.std.specs.List.{All}
 use Rattle.std.specs.Prelude.{slice_get, nat_le, nat_lt, if◌then◌else◌}
 use Rattle.std.proofs.lemmas.Bool.{cases_lt, cases_order, le-leb, lt-leb, lt-ltb, le-ltb, eq-eqb, ne_eqb}
-use Rattle.std.proofs.lemmas.List.{get_or-replicate}
 use Rattle.std.proofs.lemmas.List.Elements.{All-head, All-tail}
 use Rattle.td_gates.specs.declared.primitives.Level.{Level}
 use Rattle.td_gates.specs.declared.primitives.Level.TheVariants.{X}
@@ -14,6 +13,7 @@ use Rattle.td_gates.specs.Wave.{Wave, level_after, at, before, IsRising, IsWave,
 use Rattle.td_gates.proofs.Levels.{level_under, before-level_under, level_eq-other}
 use Rattle.td_gates.proofs.Places.{none-some, some-same, slice_get-some, slice_get-within, get_or-back}
 use Rattle.td_circuit.specs.Numbering.{NumberedGate, Numbered, nets, first_output, IsNumbering}
+use Rattle.td_circuit.specs.Settings.{AreMoments}
 use Rattle.td_circuit.specs.Run.{latest_change}
 use Rattle.td_circuit.proofs.Nets.{length-nets, lower-at, takes-at, range-at, few_gates}
 use Rattle.td_run.specs.Runs.{first_waves, IsRunUpTo}
@@ -153,24 +153,24 @@ module _ (circuit : Numbered) (moments : List ℕ) (first second : List Bool) (w
       ∙ ap (λ (g : Option NumberedGate). gate_state waves g t) at_place
 
 -- a run by numbers, as the simulator needs it
-pub is_run_by : (circuit : Numbered) (moments : List ℕ) (first second : List Bool) (numbering : IsNumbering circuit)
+pub is_run_by : (circuit : Numbered) (first second : List Bool) (numbering : IsNumbering circuit) (fit : AreMoments circuit.netlist circuit.moments)
     (f : length (map level_from first) ≡ length circuit.netlist.inputs) (s : length (map level_from second) ≡ length circuit.netlist.inputs)
     (waves outs : List Wave) (run : IsRunUpTo circuit (map level_from first) (map level_from second) (length circuit.gates) waves outs)
-    → moments ≡ replicate (length circuit.netlist.inputs) 0
-    → IsRunBy circuit waves (net_state circuit moments first second waves)
-is_run_by circuit moments first second numbering f s waves outs run at_zero =
+    → IsRunBy circuit waves (net_state circuit circuit.moments first second waves)
+is_run_by circuit first second numbering fit f s waves outs run =
+    let moments : List ℕ = circuit.moments in
     let count : length (nets circuit) ≡ first_output circuit + length circuit.gates = length-nets circuit numbering in
     let firsts : List Level = map level_from first in
     let seconds : List Level = map level_from second in
-    let firsts_long : length (first_waves firsts seconds) ≡ first_output circuit = length-first_waves circuit firsts seconds numbering f s in
-    let long : length waves ≡ first_output circuit + length circuit.gates = length-waves circuit firsts seconds numbering f s (length circuit.gates) waves outs run in
+    let firsts_long : length (first_waves firsts seconds circuit.moments) ≡ first_output circuit = length-first_waves circuit firsts seconds numbering fit f s in
+    let long : length waves ≡ first_output circuit + length circuit.gates = length-waves circuit firsts seconds numbering fit f s (length circuit.gates) waves outs run in
     let small = few_gates circuit numbering in
     let gate_level : (place : ℕ) (gate : NumberedGate) → slice_get circuit.gates place ≡ Some gate
     → (t : ℕ) → before (wave_at waves (first_output circuit + place)) t ≡ (gate_before waves gate t).level =
     λ place gate at_place t.
     (let inside = slice_get-some circuit.gates place gate at_place in
     let here : wave_at waves (first_output circuit + place) ≡ get_or outs place (constant X) =
-    rw (run.begins, ← firsts_long) (get_or-back (first_waves firsts seconds) outs place (constant X)) in
+    rw (run.begins, ← firsts_long) (get_or-back (first_waves firsts seconds circuit.moments) outs place (constant X)) in
     ap (λ (w : Wave). before w t) here ∙ (run.gates place gate inside at_place).levels t) in
     record {
       count = count;
@@ -180,12 +180,10 @@ is_run_by circuit moments first second numbering f s waves outs run at_zero =
           | inl input ↦
               let i : ℕ = net - 2 in
               let is : net ≡ i + 2 = omega arith in
-              let zero_at : get_or moments i 0 ≡ 0 = rw at_zero (get_or-replicate (length circuit.netlist.inputs) i 0 0 (omega arith)) in
               input-level (wave_at waves net) (bit_at first i) (bit_at second i) (get_or moments i 0)
-              (subst (λ (n : ℕ). before (wave_at waves n) 0 ≡ level_from (bit_at first i)) (sym is) (input-start circuit first second numbering f s waves outs run i (omega arith)))
-              (λ u. subst (λ (n : ℕ). at (wave_at waves n) u ≡ level_from (bit_at second i)) (sym is) (input-at circuit first second numbering f s waves outs run i u (omega arith))
-              ∙ sym (ap (λ (m : ℕ). if nat_lt u m then level_from (bit_at first i) else level_from (bit_at second i)) zero_at
-              ∙ ap (λ (b : Bool). if b then level_from (bit_at first i) else level_from (bit_at second i)) (le-ltb u 0 (omega arith)))) t
+              (subst (λ (n : ℕ). before (wave_at waves n) 0 ≡ level_from (bit_at first i)) (sym is) (input-start circuit first second numbering fit f s waves outs run i (omega arith)))
+              (λ u. subst (λ (n : ℕ). at (wave_at waves n) u ≡ (if nat_lt u (get_or moments i 0) then level_from (bit_at first i) else level_from (bit_at second i))) (sym is)
+              (input-at circuit first second numbering fit f s waves outs run i u (omega arith))) t
               ∙ sym (ap (λ (state : GateState). state.level) (input-state circuit moments first second waves net t high input))
           | inr output ↦
               let place : ℕ = net - first_output circuit in
@@ -198,7 +196,7 @@ is_run_by circuit moments first second numbering f s waves outs run at_zero =
       low = λ net t h. elim (cases_lt net 2) [
         | inl low ↦
             constant-state circuit moments first second waves net (suc t) low
-            ∙ ap (λ (l : Level). state_of l None) (constant-still circuit first second numbering f s waves outs run net t low)
+            ∙ ap (λ (l : Level). state_of l None) (constant-still circuit first second numbering fit f s waves outs run net t low)
             ∙ sym (ap (λ (state : GateState). updated t state.level state.scheduled) (constant-state circuit moments first second waves net t low))
         | inr high ↦
             input-state circuit moments first second waves net (suc t) high h
@@ -212,7 +210,7 @@ is_run_by circuit moments first second numbering f s waves outs run at_zero =
           omega (arith, count);
       takes = λ place gate at_place. takes-at circuit numbering place gate at_place;
       range = λ place gate at_place. range-at circuit numbering place gate at_place;
-      late = λ net t inside past. stays-past (length circuit.gates * 1000000000) (wave_at waves net) t (run.within net (constant X) (omega arith)) (omega arith);
+      late = λ net t inside past. stays-past ((length circuit.gates + 1) * 1000000000) (wave_at waves net) t (run.within net (constant X) (omega arith)) (omega arith);
     }
 
 -- ---- the last change
@@ -300,19 +298,19 @@ greatest-is latest waves (net ∷ others) count all each =
     ∙ ap (λ (m : ℕ). max (unwrap_or (last (wave_at waves net)) 0) m) (greatest-is latest waves others count (All-tail (λ n. n < count) net others all) each)
 
 -- where no net has an event any more, the latest changes are the last ones
-pub at-end : (circuit : Numbered) (first second : List Bool) (numbering : IsNumbering circuit)
+pub at-end : (circuit : Numbered) (first second : List Bool) (numbering : IsNumbering circuit) (fit : AreMoments circuit.netlist circuit.moments)
     (f : length (map level_from first) ≡ length circuit.netlist.inputs) (s : length (map level_from second) ≡ length circuit.netlist.inputs)
     (waves outs : List Wave) (run : IsRunUpTo circuit (map level_from first) (map level_from second) (length circuit.gates) waves outs)
     → (states : ℕ → ℕ → GateState) → IsRunBy circuit waves states
     → (t : ℕ) (levels : List Bool) (whens latest : List ℕ) → ((net : ℕ) → net < length whens → 2 ^ 64 - 1 ≤ get_or whens net 0)
     → IsStateBefore circuit waves states t levels whens latest
     → (net : ℕ) → net < length (nets circuit) → get_or latest net 0 ≡ unwrap_or (last (wave_at waves net)) 0
-at-end circuit first second numbering f s waves outs run states by t levels whens latest none state net inside =
+at-end circuit first second numbering fit f s waves outs run states by t levels whens latest none state net inside =
     let long : length waves ≡ first_output circuit + length circuit.gates =
-    length-waves circuit (map level_from first) (map level_from second) numbering f s (length circuit.gates) waves outs run in
+    length-waves circuit (map level_from first) (map level_from second) numbering fit f s (length circuit.gates) waves outs run in
     let small = few_gates circuit numbering in
     let end : IsStateBefore circuit waves states (t + 2 ^ 63) levels whens latest =
     quiet-moments circuit waves states by t (2 ^ 63) levels whens latest (λ n within waits. absurd (let past = none n within in omega arith)) state in
     end.latest_are net inside
-    ∙ latest-last (length circuit.gates * 1000000000) (wave_at waves net) (t + 2 ^ 63) (run.rising net (constant X) (omega (arith, by.count)))
+    ∙ latest-last ((length circuit.gates + 1) * 1000000000) (wave_at waves net) (t + 2 ^ 63) (run.rising net (constant X) (omega (arith, by.count)))
     (run.within net (constant X) (omega (arith, by.count))) (omega arith)

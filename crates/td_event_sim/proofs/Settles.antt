@@ -1,6 +1,6 @@
 -- Settled levels by bits are the starts of the run's waves, and what the run's inputs and constants do.
 use Rattle.std.proofs.Common.{◌≡◌, ◌≢◌, ℕ, zero, suc, ◌+◌, ◌-◌, ◌^◌, ◌<◌, Bool, false, List, [], ◌∷◌, length, map, get_or, set, refl, arith, inl, inr, sym, ap, ◌∙◌, Some, get_or-set_same, get_or-set_other}
-use Rattle.std.specs.Prelude.{slice_get, ◌%◌, ◌==◌, cond, count_by, not}
+use Rattle.std.specs.Prelude.{slice_get, nat_lt, if◌then◌else◌, ◌%◌, ◌==◌, cond, count_by, not}
 use Rattle.std.specs.List.{All, Contains, list_all, list_any}
 use Rattle.std.proofs.lemmas.Bool.{cases_eq, cases_lt, cases_Bool}
 use Rattle.std.proofs.lemmas.List.{length-map}
@@ -14,8 +14,9 @@ use Rattle.td_gates.specs.Table.{table, level_eq, level_from}
 use Rattle.td_gates.specs.Wave.{Wave, at, before}
 use Rattle.td_gates.proofs.Places.{slice_get-some, slice_get-within, slice_get-get, slice_get-map_some}
 use Rattle.td_netlist.specs.Netlist.{Name, Net, Low, High, Named, Gate}
-use Rattle.td_circuit.specs.Numbering.{NumberedGate, Numbered, nets, first_output, IsGateAt, IsNumbering}
-use Rattle.td_circuit.specs.Run.{Runs}
+use Rattle.td_circuit.specs.Numbering.{NumberedGate, Numbered, setting, nets, first_output, IsGateAt, IsNumbering}
+use Rattle.td_circuit.specs.Settings.{AreMoments}
+use Rattle.td_circuit.specs.Run.{Runs, inputs_at}
 use Rattle.td_circuit.specs.NetValues.{net_wave}
 use Rattle.td_circuit.proofs.Looping.{input_number}
 use Rattle.td_circuit.proofs.Nets.{length-nets, takes-at, lower-at}
@@ -102,14 +103,24 @@ settled-more circuit vector place levels gate bit numbering fits long at_place i
     }
 
 -- ---- the starts of the run
-module _ (circuit : Numbered) (first second : List Bool) (numbering : IsNumbering circuit)
+inputs_at-each : (t : ℕ) (moments : List ℕ) (firsts seconds : List Bool) (i : ℕ) → i < length moments → i < length firsts → i < length seconds
+    → get_or (inputs_at t moments (map level_from firsts) (map level_from seconds)) i X
+    ≡ (if nat_lt t (get_or moments i 0) then level_from (bit_at firsts i) else level_from (bit_at seconds i))
+inputs_at-each t [] firsts seconds i m f s = absurd (omega arith)
+inputs_at-each t (moment ∷ moments) [] seconds i m f s = absurd (omega arith)
+inputs_at-each t (moment ∷ moments) (first ∷ firsts) [] i m f s = absurd (omega arith)
+inputs_at-each t (moment ∷ moments) (first ∷ firsts) (second ∷ seconds) zero m f s = refl
+inputs_at-each t (moment ∷ moments) (first ∷ firsts) (second ∷ seconds) (suc i) m f s =
+    inputs_at-each t moments firsts seconds i (omega arith) (omega arith) (omega arith)
+
+module _ (circuit : Numbered) (first second : List Bool) (numbering : IsNumbering circuit) (fit : AreMoments circuit.netlist circuit.moments)
     (f : length (map level_from first) ≡ length circuit.netlist.inputs) (s : length (map level_from second) ≡ length circuit.netlist.inputs)
     (waves outs : List Wave) (run : IsRunUpTo circuit (map level_from first) (map level_from second) (length circuit.gates) waves outs) where
   long_waves : length waves ≡ length (nets circuit)
-  long_waves = same_length circuit (map level_from first) (map level_from second) numbering f s waves outs run
+  long_waves = same_length circuit (map level_from first) (map level_from second) numbering fit f s waves outs run
 
-  runs : Runs circuit.netlist (map level_from first) (map level_from second) (net_wave (nets circuit) waves)
-  runs = is_run circuit (map level_from first) (map level_from second) numbering f s waves outs run
+  runs : Runs (setting circuit) (map level_from first) (map level_from second) (net_wave (nets circuit) waves)
+  runs = is_run circuit (map level_from first) (map level_from second) numbering fit f s waves outs run
 
   wave-is : (i : ℕ) (net : Net) → slice_get (nets circuit) i ≡ Some net → net_wave (nets circuit) waves net ≡ wave_at waves i
   wave-is i net at_i = value_at (constant X) circuit numbering waves long_waves i net at_i
@@ -176,14 +187,15 @@ module _ (circuit : Numbered) (first second : List Bool) (numbering : IsNumberin
       ap (λ (w : Wave). w.start) (sym (wave-is (i + 2) (Named name.0) (input_net i name.0 name.1))) ∙ sym level
       ∙ level-at first i (omega (arith, length-map first level_from, f))
 
-  pub input-at : (i t : ℕ) → i < length circuit.netlist.inputs → at (wave_at waves (i + 2)) t ≡ level_from (bit_at second i)
+  pub input-at : (i t : ℕ) → i < length circuit.netlist.inputs
+      → at (wave_at waves (i + 2)) t ≡ (if nat_lt t (get_or circuit.moments i 0) then level_from (bit_at first i) else level_from (bit_at second i))
   input-at i t h =
       let name = slice_get-within circuit.netlist.inputs i h in
-      let level : get_or (map level_from second) i X ≡ at (net_wave (nets circuit) waves (Named name.0)) t =
-      slice_get-get (map level_from second) i _ X
+      let level : get_or (inputs_at t circuit.moments (map level_from first) (map level_from second)) i X ≡ at (net_wave (nets circuit) waves (Named name.0)) t =
+      slice_get-get (inputs_at t circuit.moments (map level_from first) (map level_from second)) i _ X
       (rw (← runs.inputs t) (slice_get-map_some (λ n. at (net_wave (nets circuit) waves (Named n)) t) circuit.netlist.inputs i name.0 name.1)) in
       ap (λ (w : Wave). at w t) (sym (wave-is (i + 2) (Named name.0) (input_net i name.0 name.1))) ∙ sym level
-      ∙ level-at second i (omega (arith, length-map second level_from, s))
+      ∙ inputs_at-each t circuit.moments first second i (omega (arith, fit.count)) (omega (arith, length-map first level_from, f)) (omega (arith, length-map second level_from, s))
 
   still : (wave : Wave) (t : ℕ) → wave.changes ≡ [] → at wave t ≡ before wave t
   still wave zero none = rw none refl

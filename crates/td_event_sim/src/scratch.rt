@@ -1,10 +1,10 @@
 //! The delay of a pair of vectors.
 
-ghost use Rattle.std.specs.Prelude.{◌≡◌, ℕ, ◌+◌, ◌-◌, ◌^◌, ◌<◌, ◌≤◌, List, length, map, replicate, slice_index, IfOk, OnOk};
+ghost use Rattle.std.specs.Prelude.{◌≡◌, ℕ, ◌+◌, ◌-◌, ◌^◌, ◌<◌, ◌≤◌, List, length, map, slice_index, IfOk, OnOk};
 ghost use Rattle.std.specs.List.{All};
 ghost use Rattle.td_gates.specs.Wave.{Wave};
 ghost use Rattle.td_gates.specs.Schedule.{GateState};
-ghost use Rattle.td_circuit.specs.Numbering.{nets, first_output as first_output_of, IsNumbering};
+ghost use Rattle.td_circuit.specs.Numbering.{nets, setting, first_output as first_output_of, IsNumbering};
 ghost use Rattle.td_circuit.specs.Run.{IsDelayOfBits};
 ghost use Rattle.td_event_sim.specs.Earliest.{IsFrom};
 ghost use Rattle.td_event_sim.specs.Queue.{Waits, AreBelow};
@@ -31,14 +31,12 @@ fn start(
     queue: &mut Queue,
     circuit: &Circuit,
     pair: &Pair,
-    moments: &[u64],
 ) -> Result<(), AllocError>
     requires first_fits { length pair.now.first ≡ length circuit.now.netlist.inputs }
     requires second_fits { length pair.now.second ≡ length circuit.now.netlist.inputs }
     requires levels_fit { length levels.old ≡ length (nets circuit.now) }
     requires latest_fit { length latest.old ≡ length (nets circuit.now) }
     requires whens_fit { length whens.old ≡ length (nets circuit.now) }
-    requires moments { moments.now ≡ replicate (length circuit.now.netlist.inputs) 0 }
     ensures reached { OnOk result (HasReached circuit.now pair.now 0 levels.new whens.new latest.new) }
     ensures waiting { OnOk result (AreWaiting queue.new whens.new) }
     ensures below { (limit : ℕ) → length (nets circuit.now) ≤ limit → AreBelow limit queue.old → AreBelow limit queue.new }
@@ -46,6 +44,7 @@ fn start(
     let _gates = circuit.gates();
     let first = pair.first();
     let second = pair.second();
+    let moments = circuit.moments();
     settle(levels, circuit, first);
     latest.fill(0);
     schedule_inputs(whens, queue, first, second, moments)?;
@@ -120,7 +119,6 @@ fn simulate(
     readers: &[Vec<u32>],
     circuit: &Circuit,
     pair: &Pair,
-    moments: &[u64],
 ) -> Result<u64, AllocError>
     requires first_fits { length pair.now.first ≡ length circuit.now.netlist.inputs }
     requires second_fits { length pair.now.second ≡ length circuit.now.netlist.inputs }
@@ -129,13 +127,13 @@ fn simulate(
     requires whens_fit { length whens.old ≡ length (nets circuit.now) }
     requires readers { AreReadersOf (first_output_of circuit.now) (length (nets circuit.now)) circuit.now.gates (map (λ outputs. outputs.items) readers.now) }
     requires below { AreBelow (length (nets circuit.now)) queue.old }
-    requires moments { moments.now ≡ replicate (length circuit.now.netlist.inputs) 0 }
-    ensures delay { IfOk result (IsDelayOfBits circuit.now.netlist pair.now.first pair.now.second) }
-    ensures only { IfOk result (λ delay. (other : ℕ) → IsDelayOfBits circuit.now.netlist pair.now.first pair.now.second other → other ≡ delay) }
+    ensures delay { IfOk result (IsDelayOfBits (setting circuit.now) pair.now.first pair.now.second) }
+    ensures only { IfOk result (λ delay. (other : ℕ) → IsDelayOfBits (setting circuit.now) pair.now.first pair.now.second other → other ≡ delay) }
     ensures below { AreBelow (length (nets circuit.now)) queue.new }
 {
     let _gates = circuit.gates();
-    start(levels, latest, whens, queue, circuit, pair, moments)?;
+    let _moments = circuit.moments();
+    start(levels, latest, whens, queue, circuit, pair)?;
     let mut moment = queue.first();
     while moment < NEVER {
         advance(
@@ -164,8 +162,6 @@ pub struct Scratch {
     taken: Vec<u32>,
     /// The nets that changed at a moment.
     changed: Vec<usize>,
-    /// The moments at which the inputs take their second levels.
-    input_moments: Vec<u64>,
 }
 
 impl Model for Scratch {
@@ -180,13 +176,12 @@ impl Model for Scratch {
       latest = inside.latest.items;
       whens = inside.whens.items;
       queue = inside.queue;
-      moments = inside.input_moments.items;
     } };
 }
 
 /// So many times the same moment.
 fn moments(alloc: Global, count: usize, moment: u64) -> Result<Vec<u64>, AllocError>
-    ensures { IfOk result (λ moments. moments.items ≡ replicate count moment) }
+    ensures { IfOk result (λ moments. length moments.items ≡ count) }
 {
     let mut moments = Vec::new(alloc);
     for _ in 0..count {
@@ -219,7 +214,6 @@ impl Scratch {
         let latest = moments(alloc, nets, 0)?;
         let whens = moments(alloc, nets, NEVER)?;
         let queue = Queue::new(alloc)?;
-        let input_moments = moments(alloc, circuit.input_count(), 0)?;
         Ok(Scratch {
             readers,
             levels,
@@ -228,7 +222,6 @@ impl Scratch {
             queue,
             taken: Vec::new(alloc),
             changed: Vec::new(alloc),
-            input_moments,
         })
     }
 }
@@ -239,8 +232,8 @@ pub fn delay_of(scratch: &mut Scratch, circuit: &Circuit, pair: &Pair) -> Result
     requires scratch { IsFor circuit.now scratch.old }
     requires first_fits { length pair.now.first ≡ length circuit.now.netlist.inputs }
     requires second_fits { length pair.now.second ≡ length circuit.now.netlist.inputs }
-    ensures delay { IfOk result (IsDelayOfBits circuit.now.netlist pair.now.first pair.now.second) }
-    ensures only { IfOk result (λ delay. (other : ℕ) → IsDelayOfBits circuit.now.netlist pair.now.first pair.now.second other → other ≡ delay) }
+    ensures delay { IfOk result (IsDelayOfBits (setting circuit.now) pair.now.first pair.now.second) }
+    ensures only { IfOk result (λ delay. (other : ℕ) → IsDelayOfBits (setting circuit.now) pair.now.first pair.now.second other → other ≡ delay) }
     ensures scratch { IsFor circuit.now scratch.new }
 {
     simulate(
@@ -253,6 +246,5 @@ pub fn delay_of(scratch: &mut Scratch, circuit: &Circuit, pair: &Pair) -> Result
         &scratch.readers,
         circuit,
         pair,
-        &scratch.input_moments,
     )
 }

@@ -9,7 +9,7 @@ use Rattle.td_event_sim.proofs.scratch.start.Goals as goal
 
 pub schedule_inputs-requires-clause-moments_fit : goal.schedule_inputs-requires-clause-moments_fit
 schedule_inputs-requires-clause-moments_fit c =
-    ap length c.requires.moments ∙ length-replicate (length c.args.circuit.now.netlist.inputs) 0 ∙ sym (ap length c.first-first.ensures ∙ c.requires.first_fits)
+    ap length c.moments-moments.ensures.moments ∙ c.moments-moments.ensures.fit.count ∙ sym (ap length c.first-first.ensures ∙ c.requires.first_fits)
 
 pub schedule_inputs-requires-clause-few : goal.schedule_inputs-requires-clause-few
 schedule_inputs-requires-clause-few c =
@@ -25,14 +25,12 @@ returns-clause-reached c = λ waves outs run.
     λ net h. rw zeros_are (get_or-replicate (length c.args.latest.now) net 0 0 (omega (arith, c.fill.ensures.len))) in
     let settled : AreSettled c.args.circuit.now c.args.pair.now.first (length c.args.circuit.now.gates) c.settle.new.levels =
     subst (λ (v : List Bool). AreSettled c.args.circuit.now v (length c.args.circuit.now.gates) c.settle.new.levels) c.first-first.ensures c.settle.ensures in
-    let scheduled : AreScheduled (length c.args.pair.now.first) c.args.moments.now c.args.pair.now.first c.args.pair.now.second c.schedule_inputs.new.whens =
-    rw (c.first-first.ensures, c.second-second.ensures) at c.in_ok-schedule_inputs.ensures.scheduled in
-    let limit : (i : ℕ) → i < length c.args.circuit.now.netlist.inputs → get_or c.args.moments.now i 0 < 2 ^ 64 - 1 =
-    λ i h. (let zero_at : get_or c.args.moments.now i 0 ≡ 0 = rw c.requires.moments (get_or-replicate (length c.args.circuit.now.netlist.inputs) i 0 0 h) in omega arith) in (
-      net_state c.args.circuit.now c.args.moments.now c.args.pair.now.first c.args.pair.now.second waves,
-      is_run_by c.args.circuit.now c.args.moments.now c.args.pair.now.first c.args.pair.now.second numbering f s waves outs run c.requires.moments,
+    let scheduled : AreScheduled (length c.args.pair.now.first) c.args.circuit.now.moments c.args.pair.now.first c.args.pair.now.second c.schedule_inputs.new.whens =
+    rw (c.first-first.ensures, c.second-second.ensures, c.moments-moments.ensures.moments) at c.in_ok-schedule_inputs.ensures.scheduled in (
+      net_state c.args.circuit.now c.args.circuit.now.moments c.args.pair.now.first c.args.pair.now.second waves,
+      is_run_by c.args.circuit.now c.args.pair.now.first c.args.pair.now.second numbering c.moments-moments.ensures.fit f s waves outs run,
       0,
       omega arith,
-      at-start c.args.circuit.now c.args.moments.now c.args.pair.now.first c.args.pair.now.second numbering f s waves outs run c.settle.new.levels c.schedule_inputs.new.whens c.fill.new.self
-          (c.settle.auto.levels ∙ c.requires.levels_fit) settled (c.schedule_inputs.auto.whens ∙ c.requires.whens_fit) (c.fill.ensures.len ∙ c.requires.latest_fit) limit scheduled zeros,
+      at-start c.args.circuit.now c.args.pair.now.first c.args.pair.now.second numbering c.moments-moments.ensures.fit f s waves outs run c.settle.new.levels c.schedule_inputs.new.whens c.fill.new.self
+          (c.settle.auto.levels ∙ c.requires.levels_fit) settled (c.schedule_inputs.auto.whens ∙ c.requires.whens_fit) (c.fill.ensures.len ∙ c.requires.latest_fit) scheduled zeros,
     )
