@@ -1,0 +1,5 @@
+pub mod Batches
+pub mod Codes
+pub mod Moments
+pub mod Nets
+pub mod Steps

@@ -1,0 +1,13 @@
+//! The waves of a run as a value change dump (IEEE 1364-2005, clause 18).
+#![tactic(auto)]
+
+mod batch;
+mod events;
+mod fault;
+mod writing;
+
+pub use fault::VcdFault;
+pub use writing::write;
+
+#[cfg(test)]
+mod tests;
