@@ -3,3 +3,4 @@ pub mod Codes
 pub mod Moments
 pub mod Nets
 pub mod Steps
+pub mod Playing
