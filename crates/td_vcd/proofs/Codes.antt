@@ -31,3 +31,9 @@ pub code-step : (whole before now : List ℕ) (rest digit : ℕ) → 94 ≤ rest
     → now ≡ before ++ digit ∷ [] → now ++ code (rest / 94) ≡ whole
 code-step whole before now rest digit more is kept grown =
     rw (grown, is) (append_assoc before ((33 + rest % 94) ∷ []) (code (rest / 94)) ∙ ap (λ (t : List ℕ). before ++ t) (sym (code-more rest more)) ∙ kept)
+
+-- the last turn
+pub code-end : (whole before now : List ℕ) (rest digit : ℕ) → rest < 94 → digit ≡ 33 + rest → before ++ code rest ≡ whole
+    → now ≡ before ++ digit ∷ [] → now ≡ whole
+code-end whole before now rest digit last is kept grown =
+    grown ∙ ap (λ (d : ℕ). before ++ d ∷ []) is ∙ ap (λ (t : List ℕ). before ++ t) (sym (code-last rest last)) ∙ kept

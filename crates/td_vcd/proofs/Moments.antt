@@ -72,7 +72,7 @@ same_numbers n m (x ∷ xs) (y ∷ ys) p q to back =
 with_number-increasing : (m new : ℕ) (xs : List ℕ) → m ≤ new → IsIncreasingFrom m xs → IsIncreasingFrom m (with_number new xs)
 with_number-increasing m new [] low increasing = (low, tt)
 with_number-increasing m new (x ∷ xs) low increasing = elim (cases_lt new x) [
-  | inl less ↦ rw (lt-ltb new x less) (low, omega arith, increasing.1)
+  | inl less ↦ rw (lt-ltb new x less) (low, (omega (arith, less), increasing.1))
   | inr reached ↦ rw (le-ltb new x reached) (elim (cases_eq x new) [
     | inl same ↦ rw (eq-eqb x new same) increasing
     | inr other ↦ rw (ne_eqb x new other) (increasing.0, with_number-increasing (suc x) new xs (omega arith) increasing.1)

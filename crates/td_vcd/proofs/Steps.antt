@@ -13,7 +13,7 @@ use Rattle.td_netlist.specs.Netlist.{Netlist}
 use Rattle.td_netlist.specs.WellFormed.{driven}
 use Rattle.td_run.specs.Waves.{constant, AreWithin, waves_of}
 use Rattle.td_vcd.specs.declared.events.Event.{Event}
-use Rattle.td_vcd.specs.Text.{Line, ended, text_of, numbered, number_of, event_of, events_from, head_lines, declaration, start_line, dump_begins, dump_ends, change_lines, dump}
+use Rattle.td_vcd.specs.Text.{Line, ended, text_of, numbered, number_of, event_of, events_from, head_lines, declaration, start_line, dump_begins, dump_ends, change_lines, dump_lines, dump}
 use Rattle.td_vcd.specs.Walks.{event_lines, lines_from}
 
 -- ---- lines that are numbered
@@ -84,22 +84,25 @@ events_small bound variable (wave ∷ others) small =
 pub three : (b v t s : List ℕ) → ((b ++ v) ++ t) ++ s ≡ b ++ (v ++ (t ++ (s ++ [])))
 three b v t s = simp (append_assoc, append-nil)
 
+six : (a b c d e f : List Line) → text_of (a ++ (b ++ (c ++ (d ++ (e ++ f)))))
+    ≡ text_of a ++ (text_of b ++ (text_of c ++ (text_of d ++ (text_of e ++ text_of f))))
+six a b c d e f =
+    flat_map-append ended a (b ++ (c ++ (d ++ (e ++ f))))
+    ∙ ap (λ (t : List ℕ). text_of a ++ t) (flat_map-append ended b (c ++ (d ++ (e ++ f)))
+    ∙ ap (λ (t : List ℕ). text_of b ++ t) (flat_map-append ended c (d ++ (e ++ f))
+    ∙ ap (λ (t : List ℕ). text_of c ++ t) (flat_map-append ended d (e ++ f)
+    ∙ ap (λ (t : List ℕ). text_of d ++ t) (flat_map-append ended e f))))
+
+dump_is : (netlist : Netlist) (waves : List Wave) → dump netlist waves ≡ text_of (dump_lines netlist waves)
+unfolding dump
+dump_is netlist waves = refl
+
 pub dump_parts : (netlist : Netlist) (waves : List Wave) → dump netlist waves
     ≡ text_of (head_lines netlist) ++ (text_of (numbered declaration 0 (driven netlist)) ++ (text_of dump_begins
     ++ (text_of (numbered start_line 0 waves) ++ (text_of dump_ends ++ text_of (change_lines (events_from 0 waves))))))
-unfolding dump
 dump_parts netlist waves =
-    six (head_lines netlist) (numbered declaration 0 (driven netlist)) dump_begins (numbered start_line 0 waves) dump_ends
+    dump_is netlist waves ∙ six (head_lines netlist) (numbered declaration 0 (driven netlist)) dump_begins (numbered start_line 0 waves) dump_ends
     (change_lines (events_from 0 waves))
-  where
-    six : (a b c d e f : List Line) → text_of (a ++ (b ++ (c ++ (d ++ (e ++ f)))))
-        ≡ text_of a ++ (text_of b ++ (text_of c ++ (text_of d ++ (text_of e ++ text_of f))))
-    six a b c d e f =
-        flat_map-append ended a (b ++ (c ++ (d ++ (e ++ f))))
-        ∙ ap (λ (t : List ℕ). text_of a ++ t) (flat_map-append ended b (c ++ (d ++ (e ++ f)))
-        ∙ ap (λ (t : List ℕ). text_of b ++ t) (flat_map-append ended c (d ++ (e ++ f))
-        ∙ ap (λ (t : List ℕ). text_of c ++ t) (flat_map-append ended d (e ++ f)
-        ∙ ap (λ (t : List ℕ). text_of d ++ t) (flat_map-append ended e f))))
 
 abbrev pub change_origin : Change
 change_origin = record { moment = 0; level = Zero }
@@ -114,3 +117,8 @@ push_step variable events changes i whole grown inside kept is =
     ∙ append_assoc events (event_of variable (get_or changes i change_origin) ∷ []) (map (event_of variable) (drop (i + 1) changes))
     ∙ ap (λ (cs : List Change). events ++ map (event_of variable) cs) (sym (drop_more changes i change_origin inside))
     ∙ kept
+
+-- a line of five pieces
+pub line_made : (b x1 x2 x3 x4 x5 l a m n e z : List ℕ) → x1 ≡ b ++ l → x2 ≡ x1 ++ a → x3 ≡ x2 ++ m → x4 ≡ x3 ++ n → x5 ≡ x4 ++ (e ++ z)
+    → x5 ≡ b ++ ((l ++ (a ++ (m ++ (n ++ e)))) ++ z)
+line_made b x1 x2 x3 x4 x5 l a m n e z p q r s t = rw (t, s, r, q, p) (simp (append_assoc))

@@ -16,7 +16,7 @@ loop-event-preserved g c =
 
 pub returns-in_err-make_room-clause-refused : goal.returns-in_err-make_room-clause-refused
 returns-in_err-make_room-clause-refused g c =
-    let p = err_from_is_err_and c.from_residual-in_err-make_room.result c.from_residual-in_err-make_room.ensures.1 in
+    let p = err_from_is_err_and c.from_residual.result c.from_residual.ensures.1 in
     rw (p.1, p.2) (refused_batch _ _ _ _ _ _ c.loop-event.invariant c.in_err-make_room.ensures.err)
 
 pub returns-in_err-push_event-clause-refused : goal.returns-in_err-push_event-clause-refused
