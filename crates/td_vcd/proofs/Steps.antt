@@ -84,14 +84,18 @@ events_small bound variable (wave ∷ others) small =
 pub three : (b v t s : List ℕ) → ((b ++ v) ++ t) ++ s ≡ b ++ (v ++ (t ++ (s ++ [])))
 three b v t s = simp (append_assoc, append-nil)
 
-six : (a b c d e f : List Line) → text_of (a ++ (b ++ (c ++ (d ++ (e ++ f)))))
+six : (a b c d e f : List Line) → text_of (((((a ++ b) ++ c) ++ d) ++ e) ++ f)
     ≡ text_of a ++ (text_of b ++ (text_of c ++ (text_of d ++ (text_of e ++ text_of f))))
 six a b c d e f =
-    flat_map-append ended a (b ++ (c ++ (d ++ (e ++ f))))
+    ap (λ (ls : List Line). text_of ls) (regroup a b c d e f)
+    ∙ flat_map-append ended a (b ++ (c ++ (d ++ (e ++ f))))
     ∙ ap (λ (t : List ℕ). text_of a ++ t) (flat_map-append ended b (c ++ (d ++ (e ++ f)))
     ∙ ap (λ (t : List ℕ). text_of b ++ t) (flat_map-append ended c (d ++ (e ++ f))
     ∙ ap (λ (t : List ℕ). text_of c ++ t) (flat_map-append ended d (e ++ f)
     ∙ ap (λ (t : List ℕ). text_of d ++ t) (flat_map-append ended e f))))
+  where
+    regroup : (a b c d e f : List Line) → ((((a ++ b) ++ c) ++ d) ++ e) ++ f ≡ a ++ (b ++ (c ++ (d ++ (e ++ f))))
+    regroup a b c d e f = simp (append_assoc)
 
 dump_is : (netlist : Netlist) (waves : List Wave) → dump netlist waves ≡ text_of (dump_lines netlist waves)
 unfolding dump
@@ -120,5 +124,9 @@ push_step variable events changes i whole grown inside kept is =
 
 -- a line of five pieces
 pub line_made : (b x1 x2 x3 x4 x5 l a m n e z : List ℕ) → x1 ≡ b ++ l → x2 ≡ x1 ++ a → x3 ≡ x2 ++ m → x4 ≡ x3 ++ n → x5 ≡ x4 ++ (e ++ z)
-    → x5 ≡ b ++ ((l ++ (a ++ (m ++ (n ++ e)))) ++ z)
+    → x5 ≡ b ++ (((((l ++ a) ++ m) ++ n) ++ e) ++ z)
 line_made b x1 x2 x3 x4 x5 l a m n e z p q r s t = rw (t, s, r, q, p) (simp (append_assoc))
+
+-- a line of three pieces
+pub short_line_made : (b x1 x2 x3 l a e z : List ℕ) → x1 ≡ b ++ l → x2 ≡ x1 ++ a → x3 ≡ x2 ++ (e ++ z) → x3 ≡ b ++ (((l ++ a) ++ e) ++ z)
+short_line_made b x1 x2 x3 l a e z p q r = rw (r, q, p) (simp (append_assoc))

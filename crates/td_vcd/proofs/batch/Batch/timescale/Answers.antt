@@ -6,5 +6,5 @@ use Rattle.td_vcd.proofs.batch.Batch.timescale.Goals as goal
 
 pub returns : goal.returns
 returns c = on_ok_weaker c.push-3.result
-    (line_made _ _ _ _ _ _ (codes "$timescale ") _ (codes " ") _ (codes " $end") (10 ∷ []) c.in_ok-push.ensures c.in_ok-digits.ensures c.in_ok-push-2.ensures c.in_ok-scale.ensures)
+    (line_made _ _ _ _ _ _ (codes "$timescale ") _ (codes " ") _ (codes " $end") (10 ∷ []) c.in_ok-push.ensures (rw c.from.ensures at c.in_ok-digits.ensures) c.in_ok-push-2.ensures c.in_ok-scale.ensures)
     c.push-3.ensures
