@@ -12,6 +12,8 @@ import sys
 import tempfile
 import time
 
+from crates import lower_first, uses_of
+
 TOP = os.path.dirname(os.path.dirname(os.path.abspath(__file__)))
 PROGRAM = "tdelay"
 # What a check of a crate takes at the most, in kilobytes.
@@ -20,25 +22,12 @@ MEMORY = 3_500_000
 
 def crates():
     """The crates that the program stands on, and itself: what each one uses, lower ones first."""
-    uses = {}
-    for line in open(os.path.join(TOP, "crates.txt")):
-        head, colon, rest = line.partition(":")
-        if colon:
-            uses[head.split()[0]] = rest.split()
-    order = []
-
-    def visit(crate):
-        if crate in uses and crate not in order:
-            for low in uses[crate]:
-                visit(low)
-            order.append(crate)
-
-    visit(PROGRAM)
-    return {crate: [low for low in uses[crate] if low in uses] for crate in order}
+    uses = uses_of(TOP)
+    return {crate: [low for low in uses[crate] if low in uses] for crate in lower_first(uses, [PROGRAM])}
 
 
 def seconds_of():
-    """How long the proof of each crate takes, by the README's table."""
+    """How long the proof of each crate takes at most, by the README's table, which counts the tests of a crate with it."""
     table = {}
     for name, seconds in re.findall(r"^\| `(\w+)` \| (\d+) \|", open(os.path.join(TOP, "README.md")).read(), flags=re.M):
         table[name] = int(seconds)
@@ -77,7 +66,7 @@ class Build:
 
     def say(self, crate):
         so_far = int(time.monotonic() - self.began)
-        text = f"tdelay: crate {len(self.done) + 1} of {len(self.uses)}, {crate}: {so_far} s so far, about {left(self.uses, self.table, self.done)} s left"
+        text = f"tdelay: crate {len(self.done) + 1} of {len(self.uses)}, {crate}: {so_far} s so far, at most some {left(self.uses, self.table, self.done)} s left"
         if self.terminal:
             sys.stderr.write("\r\033[K" + text)
         else:

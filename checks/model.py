@@ -16,6 +16,8 @@ import os
 import re
 import sys
 
+from crates import lower_first, uses_of
+
 # The figures that docs/MODEL.md gives: what it calls them, and what they are of.
 FIGURES = {
     "the worst delay of a netlist": (["td_circuit::Run::IsWorst"], []),
@@ -43,27 +45,6 @@ class Definition:
     def text(self):
         """The definition without comments and without field names behind a point."""
         return "\n".join(re.sub(r"--.*", "", line) for line in self.lines + list(self.header))
-
-
-def order_of_crates():
-    """The crates, each behind those that it stands on."""
-    uses = {}
-    for line in open("crates.txt"):
-        head, _, rest = line.partition(":")
-        if head.strip():
-            uses[head.split()[0]] = rest.split()
-    order = []
-
-    def visit(crate):
-        if crate in uses and crate not in order:
-            for low in uses[crate]:
-                visit(low)
-            if crate not in order:
-                order.append(crate)
-
-    for crate in uses:
-        visit(crate)
-    return order
 
 
 def imports_of(lines, mark="use "):
@@ -167,7 +148,8 @@ def rust_types(path):
 
 class Model:
     def __init__(self):
-        self.crates = order_of_crates()
+        uses = uses_of()
+        self.crates = lower_first(uses, uses)
         self.specs = {}
         self.by_name = {}
         for path in sorted(glob.glob("crates/*/specs/*.antt")):
