@@ -20,8 +20,8 @@ from crates import lower_first, uses_of
 
 # The figures that docs/MODEL.md gives: what it calls them, and what they are of.
 FIGURES = {
-    "the worst delay of a netlist": (["td_circuit::Run::IsWorst"], []),
-    "an answer of a search, without the meaning of a text": (["td_search::Answers::IsExact", "td_search::Answers::IsBetween"], ["Means"]),
+    "the worst delay of admitted pairs": (["td_domain::Worst::IsWorst"], []),
+    "an answer of a search, without the meaning of a text": (["td_search::alone"], ["Means"]),
     "the meaning of a text": (["td_netlist::Means::Means"], []),
     "an accepted certificate": (["td_certificate::Accepts::Accepts"], []),
     "what the checker tells, faults included": (["td_checker::check"], []),

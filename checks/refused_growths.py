@@ -90,14 +90,21 @@ def run(program, shim, folder, words, first, last):
     return done.returncode, done.stdout.decode(), done.stderr.decode(), certificate
 
 
+def without_budget(words):
+    """The words of a search without its budget."""
+    if "--budget" not in words:
+        return words
+    at = words.index("--budget")
+    return words[:at] + words[at + 2 :]
+
+
 def lines_of(text):
     """The value behind the first word of each line."""
     return {line.split(" ", 1)[0]: line.split(" ", 1)[-1] for line in text.splitlines()}
 
 
 def is_right(ample, got, worst):
-    """By what a run with refused growths ended, None where it told anything wrong. The worst delay is that of the netlist, for a
-    search."""
+    """By what a run with refused growths ended, None where it told anything wrong. The worst delay is that of what a search asks."""
     status, out, err, certificate = got
     if got == ample:
         return "the same"
@@ -125,6 +132,9 @@ def main():
         made = run(program, shim, folder, ["worst", "apart.v", "--cert", "out.cert"], 0, -1)
         with open(os.path.join(folder, "apart.cert"), "wb") as file:
             file.write(made[3])
+        made = run(program, shim, folder, ["worst", "apart.v", "--flips", "1", "--at", "0,2", "--cert", "out.cert"], 0, -1)
+        with open(os.path.join(folder, "few.cert"), "wb") as file:
+            file.write(made[3])
         commands = [
             ["sim", "inverter.v", "0", "1"],
             ["sim", "c17.v", "01010", "01110"],
@@ -133,12 +143,18 @@ def main():
             ["worst", "apart.v", "--cert", "out.cert"],
             ["worst", "apart.v", "--budget", "2"],
             ["check", "apart.v", "apart.cert"],
+            ["sim", "apart.v", "01", "10", "--at", "0,2"],
+            ["bound", "apart.v", "--first", "0.", "--at", "0,2"],
+            ["worst", "apart.v", "--flips", "1", "--cert", "out.cert"],
+            ["worst", "apart.v", "--first", "0.", "--hold", ".=", "--at", "3,0", "--cert", "out.cert"],
+            ["worst", "apart.v", "--flips", "1", "--budget", "2"],
+            ["check", "apart.v", "few.cert"],
         ]
         for words in commands:
             ample = run(program, shim, folder, words, 0, -1)
             worst = None
             if words[0] == "worst":
-                whole = run(program, shim, folder, words[:2], 0, -1)
+                whole = run(program, shim, folder, without_budget(words), 0, -1)
                 worst = int(lines_of(whole[1])["exact"])
                 ample = run(program, shim, folder, words, 0, -1)
             with open(os.path.join(folder, "growths")) as file:

@@ -484,31 +484,39 @@ bit_known One false allows = absurd allows
 bit_known One true allows = λ known. refl
 bit_known Free bit allows = λ known. absurd (known refl)
 
-at_once : (wave : Wave) → ((t : ℕ) → at wave t ≡ at wave 0) → ChangesWithin (Some (record { earliest = 0; latest = 0 })) wave
-at_once wave stays = ((λ t sooner. absurd (omega arith)), (λ t later. stays t))
+-- the wave keeps its start before this moment, and stays from then on
+abbrev ChangesAt : ℕ → Wave → Type 0
+ChangesAt moment wave = ((t : ℕ) → t < moment → at wave t ≡ wave.start) × IsQuietAfter moment wave
 
-never_from : (wave : Wave) (known : Level) → known ≢ X → Agrees known wave.start → Agrees known (at wave 0)
-    → ((t : ℕ) → at wave t ≡ at wave 0) → ChangesWithin None wave
-never_from wave known clear first second stays t = stays t ∙ second clear ∙ sym (first clear)
+never_from : (moment : ℕ) (wave : Wave) (known : Level) → known ≢ X → Agrees known wave.start → Agrees known (at wave moment)
+    → ChangesAt moment wave → ChangesWithin None wave
+never_from moment wave known clear first second changes t = elim (cases_lt t moment) [
+  | inl early ↦ changes.0 t early
+  | inr late ↦ changes.1 t late ∙ second clear ∙ sym (first clear)
+]
 
-input_within : (first second : Trit) (wave : Wave) → Agrees (level_of_trit first) wave.start → Agrees (level_of_trit second) (at wave 0)
-    → ((t : ℕ) → at wave t ≡ at wave 0) → ChangesWithin (input_changes first second) wave
-input_within Zero Zero wave a b stays = never_from wave Low (λ e. cc) a b stays
-input_within One One wave a b stays = never_from wave High (λ e. cc) a b stays
-input_within Zero One wave a b stays = at_once wave stays
-input_within One Zero wave a b stays = at_once wave stays
-input_within Zero Free wave a b stays = at_once wave stays
-input_within One Free wave a b stays = at_once wave stays
-input_within Free second wave a b stays = at_once wave stays
+input_within : (first second : Trit) (moment : ℕ) (wave : Wave) → Agrees (level_of_trit first) wave.start
+    → Agrees (level_of_trit second) (at wave moment) → ChangesAt moment wave → ChangesWithin (input_changes first second moment) wave
+input_within Zero Zero moment wave a b changes = never_from moment wave Low (λ e. cc) a b changes
+input_within One One moment wave a b changes = never_from moment wave High (λ e. cc) a b changes
+input_within Zero One moment wave a b changes = changes
+input_within One Zero moment wave a b changes = changes
+input_within Zero Free moment wave a b changes = changes
+input_within One Free moment wave a b changes = changes
+input_within Free second moment wave a b changes = changes
 
-pub covers_input : (first second : Trit) (wave : Wave) → IsInputWave first second wave → Covers (input_signal first second) wave
-covers_input first second wave is =
+pub covers_input : (first second : Trit) (moment : ℕ) (wave : Wave) → IsInputWave first second moment wave
+    → Covers (input_signal first second moment) wave
+covers_input first second moment wave is =
     let a : Agrees (level_of_trit first) wave.start = λ known. is.starts ∙ bit_known first is.before is.first_allows known in
-    let b : (t : ℕ) → Agrees (level_of_trit second) (at wave t) = λ t known. is.then t ∙ bit_known second is.after is.second_allows known in
+    let b : (t : ℕ) → moment ≤ t → Agrees (level_of_trit second) (at wave t) =
+    λ t late known. is.then t late ∙ bit_known second is.after is.second_allows known in
+    let now : moment ≤ moment = omega arith in
     record {
       start = a;
-      finish = λ known. (0, λ t h. b t known);
-      changes = input_within first second wave a (b 0) (λ t. is.then t ∙ sym (is.then 0));
+      finish = λ known. (moment, λ t h. b t h known);
+      changes = input_within first second moment wave a (b moment now)
+          ((λ t early. is.keeps t early ∙ sym is.starts), (λ t late. is.then t late ∙ sym (is.then moment now)));
     }
 
 pub covers_constant : (one : Bool) (wave : Wave) → IsConstant (level_from one) wave → Covers (constant_signal one) wave
@@ -595,14 +603,14 @@ reach_gate kind delay signals m small =
     let each = recursion_from_All (Within m) signals small in
     changes_reach (controlling kind) delay _ _ m signals (hull signals) each (hull_reach m signals each)
 
-pub reach_input : (first second : Trit) → span_reach (input_changes first second) ≤ 10 ^ 9
-reach_input Zero Zero = omega arith
-reach_input One One = omega arith
-reach_input Zero One = omega arith
-reach_input One Zero = omega arith
-reach_input Zero Free = omega arith
-reach_input One Free = omega arith
-reach_input Free second = omega arith
+pub reach_input : (first second : Trit) (moment : ℕ) → moment ≤ 10 ^ 9 → span_reach (input_changes first second moment) ≤ 10 ^ 9
+reach_input Zero Zero moment small = omega arith
+reach_input One One moment small = omega arith
+reach_input Zero One moment small = omega arith
+reach_input One Zero moment small = omega arith
+reach_input Zero Free moment small = omega arith
+reach_input One Free moment small = omega arith
+reach_input Free second moment small = omega arith
 
 last_is_end : (changes : Option Span) → (latest_of 0 changes ≡ 0) ⊎ IsEnd changes (latest_of 0 changes)
 last_is_end None = inl refl

@@ -14,14 +14,15 @@ use Rattle.td_domain.specs.Functions.{Functions}
 use Rattle.td_arrival.specs.declared.signals.Span.{Span}
 use Rattle.td_arrival.specs.declared.signals.Signal.{Signal}
 
-abbrev pub input_changes : Trit → Trit → Option Span
-input_changes Zero Zero = None
-input_changes One One = None
-input_changes first second = Some (record { earliest = 0; latest = 0 })
+abbrev pub input_changes : Trit → Trit → ℕ → Option Span
+input_changes Zero Zero moment = None
+input_changes One One moment = None
+input_changes first second moment = Some (record { earliest = moment; latest = moment })
 
--- an input changes at moment 0 or never, and surely never where both its bits are known and equal
-abbrev pub input_signal : Trit → Trit → Signal
-input_signal first second = record { start = level_of_trit first; finish = level_of_trit second; changes = input_changes first second }
+-- an input changes at its moment or never, and surely never where both its bits are known and equal
+abbrev pub input_signal : Trit → Trit → ℕ → Signal
+input_signal first second moment =
+    record { start = level_of_trit first; finish = level_of_trit second; changes = input_changes first second moment }
 
 abbrev pub constant_signal : Bool → Signal
 constant_signal one = record { start = level_from one; finish = level_from one; changes = None }

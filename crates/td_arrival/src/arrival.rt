@@ -25,15 +25,15 @@ impl Domain for Arrival {
 
     ghost reach = { λ signal. span_reach signal.changes };
 
-    fn input(_alloc: Global, first: Trit, second: Trit) -> Result<Signal, AllocError> {
+    fn input(_alloc: Global, first: Trit, second: Trit, moment: u64) -> Result<Signal, AllocError> {
         let start = first.level();
         let finish = second.level();
         let changes = if start != Level::X && start == finish {
             None
         } else {
             Some(Span {
-                earliest: 0,
-                latest: 0,
+                earliest: moment,
+                latest: moment,
             })
         };
         Ok(Signal {

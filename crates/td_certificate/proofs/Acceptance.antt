@@ -1,13 +1,14 @@
 -- The time of a certificate that is accepted is the worst delay.
 use Rattle.std.proofs.Common.{◌≡◌, ◌≢◌, ◌≤◌, ◌*◌, ℕ, zero, suc, Bool, true, false, List, [], ◌∷◌, ◌++◌, length, map, set, Some, None, refl, sym, ap, subst, ◌∙◌, arith}
-use Rattle.std.specs.Prelude.{slice_get, replicate}
+use Rattle.std.specs.Prelude.{slice_get}
 use Rattle.std.specs.List.{AllByRecursion}
-use Rattle.std.proofs.lemmas.List.{length-map, length-set, length-replicate}
+use Rattle.std.proofs.lemmas.List.{length-map, length-set}
 use Rattle.std.proofs.lemmas.List.Elements.{recursion_from_All}
 use Rattle.td_gates.specs.Table.{level_from}
-use Rattle.td_netlist.specs.Netlist.{Netlist}
-use Rattle.td_circuit.specs.Numbering.{Numbered, IsNumbering}
-use Rattle.td_circuit.specs.Run.{IsDelayOfBits, IsVector, IsWorst}
+use Rattle.td_nets.specs.Netlist.{Netlist}
+use Rattle.td_circuit.specs.Settings.{Setting, AreMoments}
+use Rattle.td_circuit.specs.Numbering.{Numbered, setting, IsNumbering}
+use Rattle.td_circuit.specs.Run.{IsDelayOfBits}
 use Rattle.td_circuit.proofs.Existence.{numbering_exists}
 use Rattle.td_run.specs.Laws.{IsAcyclic}
 use Rattle.td_run.proofs.Existence.{one_delay_lem}
@@ -15,6 +16,8 @@ use Rattle.td_domain.specs.declared.cubes.Trit.{Trit}
 use Rattle.td_domain.specs.declared.cubes.Trit.TheVariants.{Zero, One, Free}
 use Rattle.td_domain.specs.Pairs.{Pair}
 use Rattle.td_domain.specs.Cubes.{Allows, AllowsBits, IsIn, IsPoint}
+use Rattle.td_domain.specs.Admits.{Admitted, IsAdmitted}
+use Rattle.td_domain.specs.Worst.{IsWorst}
 use Rattle.td_domain.specs.Together.{both_functions}
 use Rattle.td_domain.specs.BothLaws.{both_covers_gate, both_quiet}
 use Rattle.td_domain.proofs.Soundness.{no_later}
@@ -27,9 +30,9 @@ use Rattle.td_ternary.specs.PossibleLaws as possible_laws
 use Rattle.td_certificate.specs.declared.tree.BoundedBy.{BoundedBy}
 use Rattle.td_certificate.specs.declared.tree.BoundedBy.TheVariants as by
 use Rattle.td_certificate.specs.declared.certificate.Certificate.{Certificate}
-use Rattle.td_certificate.specs.Trees.{Tree, Split, Bound, Point, lines_of}
+use Rattle.td_certificate.specs.Trees.{Tree, Split, Bound, Point, Empty, lines_of}
 use Rattle.td_certificate.specs.Walks.{lines_from}
-use Rattle.td_certificate.specs.Accepts.{IsBoundBy, root_cube, IsGood, HasDelay, Accepts, AcceptedIsWorst}
+use Rattle.td_certificate.specs.Accepts.{IsBoundBy, IsGood, HasDelay, setting_of, Accepts, AcceptedIsWorst}
 use Rattle.td_certificate.proofs.TreeLaws.{trees_are_counted}
 use Rattle.td_certificate.proofs.Walking.{lines_are_walked}
 
@@ -118,80 +121,78 @@ side (p ∷ q ∷ cube) (suc (suc position)) (a ∷ before) (b ∷ after) is h =
       | high rest ↦ high (h.0, h.1, rest)
     ]
 
--- each pair lies in the cube in which everything is free
-pub all_free : (inputs : ℕ) (before after : List Bool) → length before ≡ inputs → length after ≡ inputs
-    → AllowsBits (replicate (2 * inputs) Free) before after
-all_free zero [] [] e f = tt
-all_free zero [] (b ∷ after) e f = absurd (omega (arith, f))
-all_free zero (a ∷ before) after e f = absurd (omega (arith, e))
-all_free (suc inputs) [] after e f = absurd (omega (arith, e))
-all_free (suc inputs) (a ∷ before) [] e f = absurd (omega (arith, f))
-all_free (suc inputs) (a ∷ before) (b ∷ after) e f =
-    let two : 2 * suc inputs ≡ suc (suc (2 * inputs)) = omega arith in
-    let rest = all_free inputs before after (omega (arith, e)) (omega (arith, f)) in
-    rw two (tt, tt, rest)
-
 both_lists : {A : Type 0} (P : A → Type 0) (xs ys : List A) → AllByRecursion P (xs ++ ys) → AllByRecursion P xs × AllByRecursion P ys
 both_lists P [] ys h = (tt, h)
 both_lists P (x ∷ xs) ys h = let rest = both_lists P xs ys h.1 in ((h.0, rest.0), rest.1)
+
+-- a cube has two positions for each bit of its pairs' vectors
+pub cube_fits : (cube : List Trit) (before after : List Bool) → AllowsBits cube before after
+    → (length cube ≡ 2 * length before) × (length after ≡ length before)
+cube_fits [] [] [] h = (refl, refl)
+cube_fits [] [] (b ∷ after) h = absurd h
+cube_fits [] (a ∷ before) after h = absurd h
+cube_fits (p ∷ []) before after h = absurd h
+cube_fits (p ∷ q ∷ cube) [] after h = absurd h
+cube_fits (p ∷ q ∷ cube) (a ∷ before) [] h = absurd h
+cube_fits (p ∷ q ∷ cube) (a ∷ before) (b ∷ after) h =
+    let rest = cube_fits cube before after h.2 in (omega (arith, rest.0), omega (arith, rest.1))
 
 -- ---- vectors
 
 same_count : {A B C : Type 0} (f : A → C) (g : B → C) (xs : List A) (ys : List B) → map f xs ≡ map g ys → length ys ≡ length xs
 same_count f g xs ys e = omega (arith, ap length e, length-map xs f, length-map ys g)
 
-pub vector_fits : (netlist : Netlist) (first second : List Bool) (delay : ℕ) → IsDelayOfBits netlist first second delay
-    → IsVector netlist first × IsVector netlist second
-vector_fits netlist first second delay is = (
-  same_count _ level_from netlist.inputs first is.runs.settled.inputs,
-  same_count _ level_from netlist.inputs second (is.runs.inputs 0),
-)
+pub vector_fits : (given : Setting) (first second : List Bool) (delay : ℕ) → IsDelayOfBits given first second delay → length first ≡ length given.netlist.inputs
+vector_fits given first second delay is = same_count _ level_from given.netlist.inputs first is.runs.settled.inputs
 
-pub same_delay : (netlist : Netlist) → IsAcyclic netlist → (first second others laters : List Bool) (this that : ℕ)
-    → first ≡ others → second ≡ laters → IsDelayOfBits netlist first second this → IsDelayOfBits netlist others laters that → this ≡ that
-same_delay netlist acyclic first second others laters this that e f is also =
-    let fits = vector_fits netlist others laters that also in
-    let one = one_delay_lem netlist (map level_from others) (map level_from laters) acyclic (rw length-map fits.0) (rw length-map fits.1) in
+pub same_delay : (given : Setting) → IsAcyclic given.netlist → AreMoments given.netlist given.moments → (first second others laters : List Bool) (this that : ℕ)
+    → length others ≡ length given.netlist.inputs → length laters ≡ length given.netlist.inputs
+    → first ≡ others → second ≡ laters → IsDelayOfBits given first second this → IsDelayOfBits given others laters that → this ≡ that
+same_delay given acyclic fit first second others laters this that f_fits s_fits e f is also =
+    let one = one_delay_lem given (map level_from others) (map level_from laters) acyclic fit (rw length-map f_fits) (rw length-map s_fits) in
     one.2 this (rw (e, f) at is) ∙ sym (one.2 that also)
 
 -- ---- one pair, down the tree
 
-module _ (circuit : Numbered) (numbering : IsNumbering circuit) (acyclic : IsAcyclic circuit.netlist) (most : ℕ)
-    (pair : Pair) (delay : ℕ) (is : IsDelayOfBits circuit.netlist pair.first pair.second delay) where
+module _ (circuit : Numbered) (numbering : IsNumbering circuit) (fit : AreMoments circuit.netlist circuit.moments) (acyclic : IsAcyclic circuit.netlist)
+    (admit : Admitted) (most : ℕ) (pair : Pair) (admitted : IsAdmitted admit pair)
+    (delay : ℕ) (is : IsDelayOfBits (setting circuit) pair.first pair.second delay) where
   -- no bound is below the pair's delay
   below_bound : (domain : BoundedBy) (cube : List Trit) → length cube ≡ 2 * length circuit.netlist.inputs → IsIn pair cube
-      → (bound : ℕ) → IsBoundBy domain circuit.netlist cube (Some bound) → delay ≤ bound
+      → (bound : ℕ) → IsBoundBy domain (setting circuit) cube (Some bound) → delay ≤ bound
   below_bound by.Arrival cube count is_in bound of_cube =
       rw is.is_latest (no_later arrival_coverage.Covers arrival.arrival_functions
       arrival_laws.covers_input arrival_laws.covers_constant arrival_laws.covers_gate
-      circuit numbering cube count of_cube.signals of_cube.are_signals pair is_in is.waves is.runs
+      circuit numbering fit cube count of_cube.signals of_cube.are_signals pair is_in is.waves is.runs
       arrival_laws.quiet_after_last bound (sym of_cube.is_greatest))
   below_bound by.Possible cube count is_in bound of_cube =
       rw is.is_latest (no_later possible_coverage.Covers possible.possible_functions
       possible_laws.covers_input possible_laws.covers_constant possible_laws.covers_gate
-      circuit numbering cube count of_cube.signals of_cube.are_signals pair is_in is.waves is.runs
+      circuit numbering fit cube count of_cube.signals of_cube.are_signals pair is_in is.waves is.runs
       possible_laws.quiet_after_last bound (sym of_cube.is_greatest))
   below_bound by.Both cube count is_in bound of_cube =
       rw is.is_latest (no_later (λ signal wave. arrival_coverage.Covers signal.0 wave × possible_coverage.Covers signal.1 wave)
       (both_functions arrival.arrival_functions possible.possible_functions)
-      (λ first second wave h. (arrival_laws.covers_input first second wave h, possible_laws.covers_input first second wave h))
+      (λ first second moment wave h. (arrival_laws.covers_input first second moment wave h, possible_laws.covers_input first second moment wave h))
       (λ one wave h. (arrival_laws.covers_constant one wave h, possible_laws.covers_constant one wave h))
       (both_covers_gate arrival_coverage.Covers possible_coverage.Covers arrival.gate_signal possible.gate_signal arrival_laws.covers_gate possible_laws.covers_gate)
-      circuit numbering cube count of_cube.signals of_cube.are_signals pair is_in is.waves is.runs
+      circuit numbering fit cube count of_cube.signals of_cube.are_signals pair is_in is.waves is.runs
       (both_quiet arrival_coverage.Covers possible_coverage.Covers arrival.last_of possible.last_of arrival_laws.quiet_after_last possible_laws.quiet_after_last)
       bound (sym of_cube.is_greatest))
 
   -- the delay of a point's pair
-  at_point : (cube : List Trit) (time : ℕ) → IsPoint cube → IsIn pair cube → HasDelay circuit.netlist cube time → delay ≡ time
-  at_point cube time known is_in has =
+  at_point : (cube : List Trit) (time : ℕ) → length cube ≡ 2 * length circuit.netlist.inputs → IsPoint cube → IsIn pair cube → HasDelay (setting circuit) cube time → delay ≡ time
+  at_point cube time count known is_in has =
       let same = one_pair cube pair.first pair.second has.pair.first has.pair.second (recursion_from_All _ cube known) is_in has.is_in in
-      same_delay circuit.netlist acyclic pair.first pair.second has.pair.first has.pair.second delay time same.0 same.1 is has.is
+      let long = cube_fits cube has.pair.first has.pair.second has.is_in in
+      same_delay (setting circuit) acyclic fit pair.first pair.second has.pair.first has.pair.second delay time
+      (omega (arith, count, long.0)) (omega (arith, count, long.0, long.1)) same.0 same.1 is has.is
 
   below : (tree : Tree) (cube : List Trit) → length cube ≡ 2 * length circuit.netlist.inputs → IsIn pair cube
-      → AllByRecursion (IsGood circuit.netlist most) (lines_of cube tree) → delay ≤ most
+      → AllByRecursion (IsGood (setting circuit) admit most) (lines_of cube tree) → delay ≤ most
   unfolding lines_of
   below (Split position zero_side one_side) cube count is_in good =
-      let sides = both_lists (IsGood circuit.netlist most) (lines_of (set cube position Zero) zero_side)
+      let sides = both_lists (IsGood (setting circuit) admit most) (lines_of (set cube position Zero) zero_side)
       (lines_of (set cube position One) one_side) good.1 in
       elim (side cube position pair.first pair.second good.0.splits is_in) [
         | low here ↦ below zero_side (set cube position Zero) (length-set cube position Zero ∙ count) here sides.0
@@ -201,35 +202,42 @@ module _ (circuit : Numbered) (numbering : IsNumbering circuit) (acyclic : IsAcy
       let least = good.0.of_cube in
       omega (arith, below_bound domain cube count is_in least.bound least.is, least.within, good.0.within)
   below (Point time) cube count is_in good =
-      omega (arith, at_point cube time good.0.one_pair is_in good.0.of_cube, good.0.within)
+      omega (arith, at_point cube time count good.0.one_pair is_in good.0.of_cube, good.0.within)
+  below Empty cube count is_in good = absurd (good.0.of_cube (pair, admitted, is_in))
 
 -- ---- all pairs
 
-by_number : (circuit : Numbered) → IsNumbering circuit → IsAcyclic circuit.netlist → (c : Certificate) → Accepts circuit.netlist c
-    → IsWorst circuit.netlist c.time
-by_number circuit numbering acyclic c accepts =
-    let fits = vector_fits circuit.netlist c.pair.first c.pair.second c.time accepts.reached in
+abbrev at_moments : Netlist → List ℕ → Setting
+at_moments netlist moments = record { netlist = netlist; moments = moments }
+
+by_number : (circuit : Numbered) → IsNumbering circuit → AreMoments circuit.netlist circuit.moments → IsAcyclic circuit.netlist → (c : Certificate)
+    → c.question.moments ≡ circuit.moments → Accepts circuit.netlist c → IsWorst (setting circuit) c.question.admit c.time
+by_number circuit numbering fit acyclic c moments accepts =
+    let admit : Admitted = c.question.admit in
+    let given : setting_of circuit.netlist c ≡ setting circuit = ap (λ ms. at_moments circuit.netlist ms) moments in
+    let reached : IsDelayOfBits (setting circuit) c.pair.first c.pair.second c.time =
+    subst (λ s. IsDelayOfBits s c.pair.first c.pair.second c.time) given accepts.reached in
+    let long = cube_fits admit.pins c.pair.first c.pair.second accepts.admitted.pinned in
+    let fits = vector_fits (setting circuit) c.pair.first c.pair.second c.time reached in
     let made = trees_are_counted.has_tree c.tree accepts.tree in
-    let good : AllByRecursion (IsGood circuit.netlist c.time) (lines_of (root_cube c) made.0) =
-    subst (AllByRecursion (IsGood circuit.netlist c.time)) (ap (lines_from (root_cube c ∷ [])) (sym made.1) ∙ lines_are_walked made.0 (root_cube c)) accepts.good in
+    let good : AllByRecursion (IsGood (setting circuit) admit c.time) (lines_of admit.pins made.0) =
+    subst (AllByRecursion (IsGood (setting circuit) admit c.time)) (ap (lines_from (admit.pins ∷ [])) (sym made.1) ∙ lines_are_walked made.0 admit.pins)
+    (subst (λ s. AllByRecursion (IsGood s admit c.time) (lines_from (admit.pins ∷ []) c.tree)) given accepts.good) in
     record {
-      first = c.pair.first;
-      second = c.pair.second;
-      first_fits = fits.0;
-      second_fits = fits.1;
-      reached = accepts.reached;
-      greatest = λ first second delay first_fits second_fits is.
-          let pair : Pair = record { first = first; second = second } in
-          let count : length (replicate (2 * c.inputs) Free) ≡ 2 * length circuit.netlist.inputs =
-          length-replicate (2 * c.inputs) Free ∙ ap (λ n. 2 * n) (sym accepts.size.inputs) in
-          below circuit numbering acyclic c.time pair delay is made.0 (replicate (2 * c.inputs) Free) count
-          (all_free c.inputs first second (first_fits ∙ accepts.size.inputs) (second_fits ∙ accepts.size.inputs)) good;
+      pair = c.pair;
+      admitted = accepts.admitted;
+      reached = reached;
+      greatest = λ pair delay admitted is.
+          below circuit numbering fit acyclic admit c.time pair admitted delay is made.0 admit.pins (omega (arith, long.0, fits)) admitted.pinned good;
     }
 
 pub accepted_is_worst : AcceptedIsWorst
-accepted_is_worst netlist c well_formed acyclic accepts =
-    let numbered = numbering_exists netlist well_formed acyclic in
-    let same : numbered.0.netlist ≡ netlist = numbered.2 in
-    subst (λ (n : Netlist). IsWorst n c.time) same
-    (by_number numbered.0 numbered.1 (subst IsAcyclic (sym same) (record { well_formed = well_formed; acyclic = acyclic })) c
-    (subst (λ (n : Netlist). Accepts n c) (sym same) accepts))
+accepted_is_worst netlist c well_formed acyclic fit accepts =
+    let given : Setting = setting_of netlist c in
+    let numbered = numbering_exists given well_formed acyclic in
+    let same : setting numbered.0 ≡ given = numbered.2 in
+    let net_is : numbered.0.netlist ≡ netlist = ap (λ (s : Setting). s.netlist) same in
+    let moments_are : numbered.0.moments ≡ c.question.moments = ap (λ (s : Setting). s.moments) same in
+    subst (λ (s : Setting). IsWorst s c.question.admit c.time) same
+    (by_number numbered.0 numbered.1 (rw (net_is, moments_are) fit) (subst IsAcyclic (sym net_is) (record { well_formed = well_formed; acyclic = acyclic })) c
+    (sym moments_are) (subst (λ (n : Netlist). Accepts n c) (sym net_is) accepts))

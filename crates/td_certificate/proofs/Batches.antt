@@ -1,15 +1,19 @@
 -- The text of a certificate up to some node.
-use Rattle.std.proofs.Common.{◌≡◌, ℕ, ◌+◌, ◌≤◌, ◌<◌, List, [], ◌∷◌, ◌++◌, length, take, drop, get_or, refl, sym, ap, subst, ◌∙◌, append_assoc, arith}
-use Rattle.std.specs.Prelude.{map, codes, decimal}
+use Rattle.std.proofs.Common.{◌≡◌, ℕ, zero, suc, ◌+◌, ◌*◌, ◌/◌, ◌≤◌, ◌<◌, Bool, true, false, Some, List, [], ◌∷◌, ◌++◌, length, take, drop, get_or, refl, sym, ap, subst, ◌∙◌, append_assoc, arith}
+use Rattle.std.specs.Prelude.{map, codes, decimal, slice_get, if◌then◌else◌}
+use Rattle.std.specs.List.{flat_map}
 use Rattle.std.proofs.lemmas.List.{append-nil, take_all, take_more, take-append-drop, map-append}
 use Rattle.std.proofs.lemmas.List.Concat.{flat_map-append, flat_map-cons}
+use Rattle.std.proofs.lemmas.Option.{get_or_from_slice_get}
+use Rattle.td_domain.specs.declared.cubes.Trit.{Trit}
 use Rattle.td_gates.specs.Output.{Output, Sent, SentTo, SentFront, Failed}
 use Rattle.td_gates.proofs.Outputs.{Sent-nothing, SentTo-begins, SentTo-more, SentTo-front, Failed-longer}
 use Rattle.td_certificate.specs.declared.tree.Node.{Node}
-use Rattle.td_certificate.proofs.CertificateCode.{five}
-use Rattle.td_certificate.specs.Text.{bits, node_line}
+use Rattle.td_certificate.specs.Questions.{version_of}
+use Rattle.td_certificate.specs.Text.{bits, node_line, trit, first_trits, second_trits, numbers}
+use Rattle.td_certificate.proofs.CertificateCode.{head_text}
 use Rattle.td_certificate.specs.declared.certificate.Certificate.{Certificate}
-use Rattle.td_certificate.specs.Spelling.{head_lines, ended, text_of, spelling}
+use Rattle.td_certificate.specs.Spelling.{inputs, question_text, version_line, head_lines, ended, text_of, spelling}
 
 pub up_to : Certificate → ℕ → List ℕ
 up_to c count = text_of (head_lines c) ++ text_of (map node_line (take count c.tree))
@@ -66,19 +70,101 @@ node_pushed a b c i items d batch batch' is lt p e =
 
 -- ---- the head
 
-made : (v nl ci i sp g ti t fr f so s : List ℕ)
-    → ((((((v ++ nl) ++ ci) ++ (i ++ (sp ++ (g ++ ((nl ++ ti) ++ (t ++ (nl ++ fr))))))) ++ f) ++ (nl ++ so)) ++ s) ++ nl
-    ≡ (v ++ nl) ++ ((((ci ++ i) ++ sp) ++ g) ++ nl) ++ ((ti ++ t) ++ nl) ++ ((fr ++ f) ++ nl) ++ ((so ++ s) ++ nl) ++ []
-made v nl ci i sp g ti t fr f so s = simp (append_assoc, append-nil)
+-- the trits of the first bits, or those of the second
+abbrev pub side : Bool → List Trit → List Trit
+side second pins = if second then second_trits pins else first_trits pins
 
-pub head_made : (c : Certificate) (t0 t1 t2 t3 t4 : List ℕ)
-    → t0 ≡ codes "tdelay-cert 1\ncircuit " ++ (decimal c.inputs ++ (codes " " ++ (decimal c.gates ++ (codes "\ntime " ++ (decimal c.time ++ codes "\nfrom ")))))
-    → t1 ≡ t0 ++ bits c.pair.first → t2 ≡ t1 ++ codes "\nto " → t3 ≡ t2 ++ bits c.pair.second → t4 ≡ t3 ++ codes "\n" → t4 ≡ text_of (head_lines c)
-head_made c t0 t1 t2 t3 t4 e0 e1 e2 e3 e4 =
-    e4 ∙ ap (λ (t : List ℕ). t ++ codes "\n") (e3 ∙ ap (λ (t : List ℕ). t ++ bits c.pair.second) (e2 ∙ ap (λ (t : List ℕ). t ++ codes "\nto ") (e1 ∙ ap (λ (t : List ℕ). t ++ bits c.pair.first) e0)))
-    ∙ made (codes "tdelay-cert 1") (10 ∷ []) (codes "circuit ") (decimal c.inputs) (codes " ") (decimal c.gates) (codes "time ") (decimal c.time) (codes "from ") (bits c.pair.first) (codes "to ") (bits c.pair.second)
-    ∙ sym (five (codes "tdelay-cert 1") (codes "circuit " ++ decimal c.inputs ++ codes " " ++ decimal c.gates) (codes "time " ++ decimal c.time) (codes "from " ++ bits c.pair.first) (codes "to " ++ bits c.pair.second) [])
-    ∙ append-nil (text_of (head_lines c))
+abbrev pub side_of : Bool → ℕ
+side_of second = if second then 1 else 0
+
+record IsAt (second : Bool) (pins : List Trit) (i : ℕ) : Type 0 where
+  below : i < length (side second pins)
+  same : slice_get (side second pins) i ≡ slice_get pins (2 * i + side_of second)
+
+side_at : (second : Bool) (pins : List Trit) (i : ℕ) → 2 * i + 1 < length pins → IsAt second pins i
+side_at second [] i lt = absurd (omega (arith, lt))
+side_at second (p ∷ []) i lt = absurd (omega (arith, lt))
+side_at true (p ∷ q ∷ pins) zero lt = record { below = omega arith; same = refl }
+side_at false (p ∷ q ∷ pins) zero lt = record { below = omega arith; same = refl }
+side_at true (p ∷ q ∷ pins) (suc i) lt =
+    let rest = side_at true pins i (omega (arith, lt)) in
+    let two : 2 * suc i + 1 ≡ suc (suc (2 * i + 1)) = omega arith in
+    record { below = omega (arith, rest.below); same = rest.same ∙ ap (slice_get (p ∷ q ∷ pins)) (sym two) }
+side_at false (p ∷ q ∷ pins) (suc i) lt =
+    let rest = side_at false pins i (omega (arith, lt)) in
+    let two : 2 * suc i + 0 ≡ suc (suc (2 * i + 0)) = omega arith in
+    record { below = omega (arith, rest.below); same = rest.same ∙ ap (slice_get (p ∷ q ∷ pins)) (sym two) }
+
+pub trit_pushed : (second : Bool) (pins : List Trit) (i at count : ℕ) (t : Trit) (old text new : List ℕ) → count ≡ length pins → i < count / 2 → at ≡ side_of second
+    → slice_get pins (2 * i + at) ≡ Some t → text ≡ old ++ map trit (take i (side second pins)) → new ≡ text ++ trit t ∷ []
+    → new ≡ old ++ map trit (take (i + 1) (side second pins))
+trit_pushed second pins i at count t old text new is lt at_is get before pushed =
+    let here = side_at second pins i (omega (arith, is, lt)) in
+    let element : get_or (side second pins) i t ≡ t = get_or_from_slice_get (side second pins) i t t (here.same ∙ ap (λ (n : ℕ). slice_get pins (2 * i + n)) (sym at_is) ∙ get) in
+    let more : take (i + 1) (side second pins) ≡ take i (side second pins) ++ t ∷ [] = take_more (side second pins) i t here.below ∙ ap (λ (x : Trit). take i (side second pins) ++ x ∷ []) element in
+    pushed ∙ ap (λ (ts : List ℕ). ts ++ trit t ∷ []) before ∙ append_assoc old (map trit (take i (side second pins))) (trit t ∷ [])
+    ∙ ap (λ (ts : List ℕ). old ++ ts) (sym (map-append trit (take i (side second pins)) (t ∷ [])) ∙ ap (map trit) (sym more))
+
+side_length : (second : Bool) (pins : List Trit) → length (side second pins) ≤ length pins / 2
+side_length true [] = omega arith
+side_length false [] = omega arith
+side_length true (p ∷ []) = omega arith
+side_length false (p ∷ []) = omega arith
+side_length true (p ∷ q ∷ pins) = omega (arith, side_length true pins)
+side_length false (p ∷ q ∷ pins) = omega (arith, side_length false pins)
+
+pub trits_pushed : (second : Bool) (pins : List Trit) (i count : ℕ) (old text : List ℕ) → count ≡ length pins → count / 2 ≤ i → text ≡ old ++ map trit (take i (side second pins)) → text ≡ old ++ map trit (side second pins)
+trits_pushed second pins i count old text is le before =
+    before ∙ ap (λ (ts : List Trit). old ++ map trit ts) (take_all i (side second pins) (omega (arith, side_length second pins, is, le)))
+
+-- ---- moments
+
+abbrev pub behind_at : ℕ → List ℕ
+behind_at moment = codes " " ++ decimal moment
+
+-- a space before each number
+pub spaced : (m : ℕ) (ms : List ℕ) → codes "at" ++ flat_map behind_at (m ∷ ms) ≡ codes "at " ++ numbers (m ∷ ms)
+spaced m ms = ap (λ (t : List ℕ). codes "at" ++ t) (all_spaced m ms)
+  where
+    all_spaced : (m : ℕ) (ms : List ℕ) → flat_map behind_at (m ∷ ms) ≡ codes " " ++ numbers (m ∷ ms)
+    all_spaced m [] = flat_map-cons behind_at m [] ∙ append-nil (behind_at m)
+    all_spaced m (n ∷ ms) =
+        flat_map-cons behind_at m (n ∷ ms) ∙ ap (λ (t : List ℕ). behind_at m ++ t) (all_spaced n ms)
+        ∙ sym (append_assoc (behind_at m) (codes " ") (numbers (n ∷ ms)))
+
+pub moment_pushed : (ms : List ℕ) (i d : ℕ) (old text new : List ℕ) → i < length ms → text ≡ old ++ (codes "at" ++ flat_map behind_at (take i ms)) → new ≡ text ++ behind_at (get_or ms i d)
+    → new ≡ old ++ (codes "at" ++ flat_map behind_at (take (i + 1) ms))
+moment_pushed ms i d old text new lt before pushed =
+    let more : flat_map behind_at (take (i + 1) ms) ≡ flat_map behind_at (take i ms) ++ behind_at (get_or ms i d) =
+    ap (flat_map behind_at) (take_more ms i d lt) ∙ flat_map-append behind_at (take i ms) (get_or ms i d ∷ [])
+    ∙ ap (λ (t : List ℕ). flat_map behind_at (take i ms) ++ t) (flat_map-cons behind_at (get_or ms i d) [] ∙ append-nil (behind_at (get_or ms i d))) in
+    pushed ∙ ap (λ (t : List ℕ). t ++ behind_at (get_or ms i d)) before
+    ∙ append_assoc old (codes "at" ++ flat_map behind_at (take i ms)) (behind_at (get_or ms i d))
+    ∙ ap (λ (t : List ℕ). old ++ (codes "at" ++ t)) (sym more)
+
+pub moments_pushed : (ms : List ℕ) (i : ℕ) (old text new : List ℕ) → 0 < length ms → length ms ≤ i → text ≡ old ++ (codes "at" ++ flat_map behind_at (take i ms)) → new ≡ text ++ codes "\n"
+    → new ≡ old ++ ended (codes "at " ++ numbers ms)
+moments_pushed [] i old text new some le before pushed = absurd (omega arith)
+moments_pushed (m ∷ ms) i old text new some le before pushed =
+    pushed ∙ ap (λ (t : List ℕ). t ++ codes "\n") (before ∙ ap (λ (ns : List ℕ). old ++ (codes "at" ++ flat_map behind_at ns)) (take_all i (m ∷ ms) le) ∙ ap (λ (t : List ℕ). old ++ t) (spaced m ms))
+    ∙ append_assoc old (codes "at " ++ numbers (m ∷ ms)) (codes "\n")
+
+-- ---- the head
+
+made : (ve ci i sp g q ti t fr f so s nl : List ℕ)
+    → ((((((ve ++ (nl ++ (ci ++ (i ++ (sp ++ (g ++ nl)))))) ++ q) ++ (ti ++ (t ++ (nl ++ fr)))) ++ f) ++ (nl ++ so)) ++ s) ++ nl
+    ≡ (ve ++ nl) ++ (((((ci ++ i) ++ sp) ++ g) ++ nl) ++ (q ++ (((ti ++ t) ++ nl) ++ (((fr ++ f) ++ nl) ++ ((so ++ s) ++ nl)))))
+made ve ci i sp g q ti t fr f so s nl = simp append_assoc
+
+pub head_made : (c : Certificate) (t0 t1 t2 t3 t4 t5 t6 : List ℕ)
+    → t0 ≡ version_line (version_of c.question) ++ (codes "\n" ++ (codes "circuit " ++ (decimal (inputs c) ++ (codes " " ++ (decimal c.gates ++ codes "\n")))))
+    → t1 ≡ t0 ++ question_text c.question → t2 ≡ t1 ++ (codes "time " ++ (decimal c.time ++ codes "\nfrom "))
+    → t3 ≡ t2 ++ bits c.pair.first → t4 ≡ t3 ++ codes "\nto " → t5 ≡ t4 ++ bits c.pair.second → t6 ≡ t5 ++ codes "\n" → t6 ≡ text_of (head_lines c)
+head_made c t0 t1 t2 t3 t4 t5 t6 e0 e1 e2 e3 e4 e5 e6 =
+    e6 ∙ ap (λ (t : List ℕ). t ++ codes "\n") (e5 ∙ ap (λ (t : List ℕ). t ++ bits c.pair.second) (e4 ∙ ap (λ (t : List ℕ). t ++ codes "\nto ") (e3 ∙ ap (λ (t : List ℕ). t ++ bits c.pair.first)
+    (e2 ∙ ap (λ (t : List ℕ). t ++ (codes "time " ++ (decimal c.time ++ codes "\nfrom "))) (e1 ∙ ap (λ (t : List ℕ). t ++ question_text c.question) e0)))))
+    ∙ made (version_line (version_of c.question)) (codes "circuit ") (decimal (inputs c)) (codes " ") (decimal c.gates) (question_text c.question) (codes "time ") (decimal c.time) (codes "from ") (bits c.pair.first) (codes "to ") (bits c.pair.second) (10 ∷ [])
+    ∙ sym (head_text c)
 
 pub head_begins : (a : Output) (c : Certificate) (batch : List ℕ) → batch ≡ text_of (head_lines c) → SentTo a a (up_to c 0) batch
 head_begins a c batch e = subst (λ (t : List ℕ). SentTo a a t batch) (e ∙ up_to-none c) (SentTo-begins a batch)

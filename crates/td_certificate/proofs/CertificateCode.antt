@@ -1,186 +1,293 @@
 -- A certificate's text is a code.
-use Rattle.std.proofs.Common.{◌≡◌, ℕ, ◌≤◌, Bool, List, [], ◌∷◌, ◌++◌, length, Ok, refl, sym, ap, subst, ◌∙◌, append_assoc, arith}
+use Rattle.std.proofs.Common.{◌≡◌, ℕ, ◌≤◌, ◌<◌, Bool, true, List, [], ◌∷◌, ◌++◌, length, Ok, refl, sym, ap, subst, ◌∙◌, append_assoc, arith}
 use Rattle.std.specs.Prelude.{codes, decimal, map}
-use Rattle.std.specs.List.{flat_map}
+use Rattle.std.specs.List.{AllByRecursion}
 use Rattle.std.proofs.lemmas.List.{append-nil}
 use Rattle.std.proofs.lemmas.List.Concat.{flat_map-append, flat_map-cons}
+use Rattle.std.proofs.lemmas.Fmt.{decimal_digit}
 use Rattle.td_certificate.specs.declared.tree.Node.{Node}
+use Rattle.td_certificate.specs.declared.question.Version.{Version}
+use Rattle.td_certificate.specs.declared.question.Version.TheVariants.{First, Second, Third}
 use Rattle.td_certificate.specs.declared.certificate.Certificate.{Certificate}
-use Rattle.td_certificate.specs.Spelling.{head_lines, ended, text_of, greatest, spelling, HasSpelling}
+use Rattle.td_certificate.specs.Questions.{Question, inputs_of, version_of}
+use Rattle.td_certificate.specs.Spelling.{inputs, question_lines, question_text, version_line, circuit_line, time_line, from_line, to_line, head_lines, ended, text_of, greatest, spelling, IsNode, HasSpelling}
 use Rattle.td_certificate.specs.Text.{bits, node_line}
-use Rattle.td_certificate.specs.Reading.{◌>>=◌, number_at, number_behind, vector_behind, version_at, nodes_at, with_fields, certificate_at}
+use Rattle.td_certificate.specs.Reading.{Reading, ◌>>=◌, number_at, number_from, number_behind, vector_behind, version_at, has_inputs, question_at, nodes_at, with_fields, lines_at, certificate_at}
 use Rattle.td_certificate.proofs.Codes.{IsCode, IsCode-then, IsCode-done}
-use Rattle.td_certificate.proofs.FieldCodes.{IsLimit, AtMost, number_text, number_code}
-use Rattle.td_certificate.proofs.VectorCodes.{behind_fixed, number_behind_code, HasLength}
-use Rattle.td_certificate.proofs.VersionCode.{version_code}
-use Rattle.td_certificate.proofs.NodeCodes.{IsCode-as, greatest_limit, vector_text, vector_behind_code}
+use Rattle.td_certificate.proofs.FieldCodes.{IsLimit, Always, AtMost, IsFrom, number_text, number_code, number_from_code}
+use Rattle.td_certificate.proofs.VectorCodes.{behind_word, number_behind_code, HasLength, vector_text, vector_behind_code, IsCode-as}
+use Rattle.td_certificate.proofs.VersionCode.{version_text, version_code}
+use Rattle.td_certificate.proofs.QuestionCodes.{IsQuestion, question_code, some_inputs_of}
+use Rattle.td_certificate.proofs.NodeCodes.{greatest_limit}
 use Rattle.td_certificate.proofs.TreeCodes.{AreNodes, nodes_text, nodes_code}
 
 -- ---- from the last field to the first, where those before are known
 
-abbrev IsFromTree : ℕ → ℕ → ℕ → List Bool → List Bool → Certificate → Type 0
-IsFromTree i g t f s c = AreNodes 1 c.tree × (c ≡ with_fields i g t f s c.tree)
+abbrev IsFromTree : Version → ℕ → Question → ℕ → List Bool → List Bool → Certificate → Type 0
+IsFromTree v g q t f s c = AreNodes v 1 c.tree × (c ≡ with_fields g q t f s c.tree)
 
-from_tree : (i g t : ℕ) (f s : List Bool) → IsCode (IsFromTree i g t f s) (λ c. nodes_text c.tree) (λ bytes. nodes_at 1 bytes >>= λ tree. Ok (with_fields i g t f s tree.0, tree.1))
-from_tree i g t f s =
-    IsCode-then (λ (c : Certificate). c.tree) (AreNodes 1) nodes_text (nodes_at 1) (λ n c. c ≡ with_fields i g t f s n) (λ n c. []) (λ n bytes. Ok (with_fields i g t f s n, bytes)) (IsFromTree i g t f s) (λ c. nodes_text c.tree) (nodes_code 1)
-    (λ n v. IsCode-done (with_fields i g t f s n))
+from_tree : (v : Version) (g : ℕ) (q : Question) (t : ℕ) (f s : List Bool) → IsCode (IsFromTree v g q t f s) (λ c. nodes_text c.tree) (λ bytes. nodes_at v 1 bytes >>= λ tree. Ok (with_fields g q t f s tree.0, tree.1))
+from_tree v g q t f s =
+    IsCode-then (λ (c : Certificate). c.tree) (AreNodes v 1) nodes_text (nodes_at v 1) (λ n c. c ≡ with_fields g q t f s n) (λ n c. []) (λ n bytes. Ok (with_fields g q t f s n, bytes)) (IsFromTree v g q t f s) (λ c. nodes_text c.tree) (nodes_code v 1)
+    (λ n u. IsCode-done (with_fields g q t f s n))
     (record {
-      down = λ c v. (v.0, v.1, sym (append-nil (nodes_text c.tree)));
-      up = λ n c v e.
+      down = λ c u. (u.0, u.1, sym (append-nil (nodes_text c.tree)));
+      up = λ n c u e.
           let p : c.tree ≡ n = ap (λ (d : Certificate). d.tree) e in
-          ((subst (AreNodes 1) (sym p) v, e ∙ ap (λ (m : List Node). with_fields i g t f s m) (sym p)), ap nodes_text p ∙ sym (append-nil (nodes_text n)));
+          ((subst (AreNodes v 1) (sym p) u, e ∙ ap (λ (m : List Node). with_fields g q t f s m) (sym p)), ap nodes_text p ∙ sym (append-nil (nodes_text n)));
     })
 
-abbrev text_from_second : Certificate → List ℕ
+abbrev pub text_from_second : Certificate → List ℕ
 text_from_second c = (codes "to " ++ vector_text c.pair.second) ++ nodes_text c.tree
 
-record IsFromSecond (i g t : ℕ) (f : List Bool) (c : Certificate) : Type 0 where
+record IsFromSecond (v : Version) (i g : ℕ) (q : Question) (t : ℕ) (f : List Bool) (c : Certificate) : Type 0 where
   second : length c.pair.second ≡ i
-  nodes : AreNodes 1 c.tree
-  is : c ≡ with_fields i g t f c.pair.second c.tree
+  nodes : AreNodes v 1 c.tree
+  is : c ≡ with_fields g q t f c.pair.second c.tree
 
-from_second : (i g t : ℕ) (f : List Bool) → IsCode (IsFromSecond i g t f) text_from_second (λ bytes. vector_behind (codes "to ") i bytes >>= λ second. nodes_at 1 second.1 >>= λ tree. Ok (with_fields i g t f second.0 tree.0, tree.1))
-from_second i g t f =
-    IsCode-then (λ (c : Certificate). c.pair.second) (HasLength i) (λ bs. codes "to " ++ vector_text bs) (vector_behind (codes "to ") i) (λ s c. IsFromTree i g t f s c) (λ s c. nodes_text c.tree)
-    (λ s bytes. nodes_at 1 bytes >>= λ tree. Ok (with_fields i g t f s tree.0, tree.1)) (IsFromSecond i g t f) text_from_second (vector_behind_code (codes "to ") i)
-    (λ s v. from_tree i g t f s)
+abbrev read_second : Version → ℕ → ℕ → Question → ℕ → List Bool → List ℕ → Reading Certificate
+read_second v i g q t f bytes = vector_behind (codes "to ") i bytes >>= λ second. nodes_at v 1 second.1 >>= λ tree. Ok (with_fields g q t f second.0 tree.0, tree.1)
+
+from_second : (v : Version) (i g : ℕ) (q : Question) (t : ℕ) (f : List Bool) → IsCode (IsFromSecond v i g q t f) text_from_second (read_second v i g q t f)
+from_second v i g q t f =
+    IsCode-then (λ (c : Certificate). c.pair.second) (HasLength i) (λ bs. codes "to " ++ vector_text bs) (vector_behind (codes "to ") i) (λ s c. IsFromTree v g q t f s c) (λ s c. nodes_text c.tree)
+    (λ s bytes. nodes_at v 1 bytes >>= λ tree. Ok (with_fields g q t f s tree.0, tree.1)) (IsFromSecond v i g q t f) text_from_second (vector_behind_code (codes "to ") i)
+    (λ s u. from_tree v g q t f s)
     (record {
-      down = λ c v. (v.second, (v.nodes, v.is), refl);
-      up = λ s c v w.
+      down = λ c u. (u.second, (u.nodes, u.is), refl);
+      up = λ s c u w.
           let p : c.pair.second ≡ s = ap (λ (d : Certificate). d.pair.second) w.1 in
-          (record { second = ap length p ∙ v; nodes = w.0; is = w.1 ∙ ap (λ (m : List Bool). with_fields i g t f m c.tree) (sym p) }, ap (λ (m : List Bool). (codes "to " ++ vector_text m) ++ nodes_text c.tree) p);
+          (record { second = ap length p ∙ u; nodes = w.0; is = w.1 ∙ ap (λ (m : List Bool). with_fields g q t f m c.tree) (sym p) }, ap (λ (m : List Bool). (codes "to " ++ vector_text m) ++ nodes_text c.tree) p);
     })
 
-abbrev text_from_first : Certificate → List ℕ
+abbrev pub text_from_first : Certificate → List ℕ
 text_from_first c = (codes "from " ++ vector_text c.pair.first) ++ text_from_second c
 
-record IsFromFirst (i g t : ℕ) (c : Certificate) : Type 0 where
+record IsFromFirst (v : Version) (i g : ℕ) (q : Question) (t : ℕ) (c : Certificate) : Type 0 where
   first : length c.pair.first ≡ i
   second : length c.pair.second ≡ i
-  nodes : AreNodes 1 c.tree
-  is : c ≡ with_fields i g t c.pair.first c.pair.second c.tree
+  nodes : AreNodes v 1 c.tree
+  is : c ≡ with_fields g q t c.pair.first c.pair.second c.tree
 
-from_first : (i g t : ℕ) → IsCode (IsFromFirst i g t) text_from_first
-    (λ bytes. vector_behind (codes "from ") i bytes >>= λ first. vector_behind (codes "to ") i first.1 >>= λ second. nodes_at 1 second.1 >>= λ tree. Ok (with_fields i g t first.0 second.0 tree.0, tree.1))
-from_first i g t =
-    IsCode-then (λ (c : Certificate). c.pair.first) (HasLength i) (λ bs. codes "from " ++ vector_text bs) (vector_behind (codes "from ") i) (λ f c. IsFromSecond i g t f c) (λ f c. text_from_second c)
-    (λ f bytes. vector_behind (codes "to ") i bytes >>= λ second. nodes_at 1 second.1 >>= λ tree. Ok (with_fields i g t f second.0 tree.0, tree.1)) (IsFromFirst i g t) text_from_first (vector_behind_code (codes "from ") i)
-    (λ f v. from_second i g t f)
+abbrev read_first : Version → ℕ → ℕ → Question → ℕ → List ℕ → Reading Certificate
+read_first v i g q t bytes = vector_behind (codes "from ") i bytes >>= λ first. read_second v i g q t first.0 first.1
+
+from_first : (v : Version) (i g : ℕ) (q : Question) (t : ℕ) → IsCode (IsFromFirst v i g q t) text_from_first (read_first v i g q t)
+from_first v i g q t =
+    IsCode-then (λ (c : Certificate). c.pair.first) (HasLength i) (λ bs. codes "from " ++ vector_text bs) (vector_behind (codes "from ") i) (λ f c. IsFromSecond v i g q t f c) (λ f c. text_from_second c)
+    (λ f bytes. read_second v i g q t f bytes) (IsFromFirst v i g q t) text_from_first (vector_behind_code (codes "from ") i)
+    (λ f u. from_second v i g q t f)
     (record {
-      down = λ c v. (v.first, record { second = v.second; nodes = v.nodes; is = v.is }, refl);
-      up = λ f c v w.
+      down = λ c u. (u.first, record { second = u.second; nodes = u.nodes; is = u.is }, refl);
+      up = λ f c u w.
           let p : c.pair.first ≡ f = ap (λ (d : Certificate). d.pair.first) w.is in
-          (record { first = ap length p ∙ v; second = w.second; nodes = w.nodes; is = w.is ∙ ap (λ (m : List Bool). with_fields i g t m c.pair.second c.tree) (sym p) }, ap (λ (m : List Bool). (codes "from " ++ vector_text m) ++ text_from_second c) p);
+          (record { first = ap length p ∙ u; second = w.second; nodes = w.nodes; is = w.is ∙ ap (λ (m : List Bool). with_fields g q t m c.pair.second c.tree) (sym p) }, ap (λ (m : List Bool). (codes "from " ++ vector_text m) ++ text_from_second c) p);
     })
 
-abbrev text_from_time : Certificate → List ℕ
+abbrev pub text_from_time : Certificate → List ℕ
 text_from_time c = (codes "time " ++ number_text 10 c.time) ++ text_from_first c
 
-record IsFromTime (i g : ℕ) (c : Certificate) : Type 0 where
+record IsFromTime (v : Version) (i g : ℕ) (q : Question) (c : Certificate) : Type 0 where
   time : c.time ≤ greatest
   first : length c.pair.first ≡ i
   second : length c.pair.second ≡ i
-  nodes : AreNodes 1 c.tree
-  is : c ≡ with_fields i g c.time c.pair.first c.pair.second c.tree
+  nodes : AreNodes v 1 c.tree
+  is : c ≡ with_fields g q c.time c.pair.first c.pair.second c.tree
 
-from_time : (i g : ℕ) → IsCode (IsFromTime i g) text_from_time
-    (λ bytes. number_behind (codes "time ") greatest 10 bytes >>= λ time. vector_behind (codes "from ") i time.1 >>= λ first. vector_behind (codes "to ") i first.1 >>= λ second. nodes_at 1 second.1 >>= λ tree.
-    Ok (with_fields i g time.0 first.0 second.0 tree.0, tree.1))
-from_time i g =
-    IsCode-then (λ (c : Certificate). c.time) (AtMost greatest) (λ n. codes "time " ++ number_text 10 n) (number_behind (codes "time ") greatest 10) (λ t c. IsFromFirst i g t c) (λ t c. text_from_first c)
-    (λ t bytes. vector_behind (codes "from ") i bytes >>= λ first. vector_behind (codes "to ") i first.1 >>= λ second. nodes_at 1 second.1 >>= λ tree. Ok (with_fields i g t first.0 second.0 tree.0, tree.1))
-    (IsFromTime i g) text_from_time (number_behind_code (codes "time ") greatest 10 greatest_limit)
-    (λ t v. from_first i g t)
+abbrev read_time : Version → ℕ → ℕ → Question → List ℕ → Reading Certificate
+read_time v i g q bytes = number_behind (codes "time ") greatest 10 bytes >>= λ time. read_first v i g q time.0 time.1
+
+from_time : (v : Version) (i g : ℕ) (q : Question) → IsCode (IsFromTime v i g q) text_from_time (read_time v i g q)
+from_time v i g q =
+    IsCode-then (λ (c : Certificate). c.time) (AtMost greatest) (λ n. codes "time " ++ number_text 10 n) (number_behind (codes "time ") greatest 10) (λ t c. IsFromFirst v i g q t c) (λ t c. text_from_first c)
+    (λ t bytes. read_first v i g q t bytes) (IsFromTime v i g q) text_from_time (number_behind_code (codes "time ") greatest 10 greatest_limit)
+    (λ t u. from_first v i g q t)
     (record {
-      down = λ c v. (v.time, record { first = v.first; second = v.second; nodes = v.nodes; is = v.is }, refl);
-      up = λ t c v w.
+      down = λ c u. (u.time, record { first = u.first; second = u.second; nodes = u.nodes; is = u.is }, refl);
+      up = λ t c u w.
           let p : c.time ≡ t = ap (λ (d : Certificate). d.time) w.is in (
-            record { time = subst (AtMost greatest) (sym p) v; first = w.first; second = w.second; nodes = w.nodes; is = w.is ∙ ap (λ (m : ℕ). with_fields i g m c.pair.first c.pair.second c.tree) (sym p) },
+            record { time = subst (AtMost greatest) (sym p) u; first = w.first; second = w.second; nodes = w.nodes; is = w.is ∙ ap (λ (m : ℕ). with_fields g q m c.pair.first c.pair.second c.tree) (sym p) },
             ap (λ (m : ℕ). (codes "time " ++ number_text 10 m) ++ text_from_first c) p,
           );
     })
 
-abbrev text_from_gates : Certificate → List ℕ
-text_from_gates c = number_text 10 c.gates ++ text_from_time c
+abbrev pub text_from_question : Certificate → List ℕ
+text_from_question c = question_text c.question ++ text_from_time c
 
-record IsFromGates (i : ℕ) (c : Certificate) : Type 0 where
-  gates : c.gates ≤ 200000
+record IsFromQuestion (v : Version) (i g : ℕ) (c : Certificate) : Type 0 where
+  question : IsQuestion v i c.question
   time : c.time ≤ greatest
   first : length c.pair.first ≡ i
   second : length c.pair.second ≡ i
-  nodes : AreNodes 1 c.tree
-  is : c ≡ with_fields i c.gates c.time c.pair.first c.pair.second c.tree
+  nodes : AreNodes v 1 c.tree
+  is : c ≡ with_fields g c.question c.time c.pair.first c.pair.second c.tree
+
+abbrev read_question : Version → ℕ → ℕ → List ℕ → Reading Certificate
+read_question v i g bytes = question_at v i bytes >>= λ question. read_time v i g question.0 question.1
+
+from_question : (v : Version) (i g : ℕ) → (has_inputs v ≡ true → 0 < i) → i ≤ 4096 → IsCode (IsFromQuestion v i g) text_from_question (read_question v i g)
+from_question v i g some few =
+    IsCode-then (λ (c : Certificate). c.question) (IsQuestion v i) question_text (question_at v i) (λ q c. IsFromTime v i g q c) (λ q c. text_from_time c)
+    (λ q bytes. read_time v i g q bytes) (IsFromQuestion v i g) text_from_question (question_code v i some few)
+    (λ q u. from_time v i g q)
+    (record {
+      down = λ c u. (u.question, record { time = u.time; first = u.first; second = u.second; nodes = u.nodes; is = u.is }, refl);
+      up = λ q c u w.
+          let p : c.question ≡ q = ap (λ (d : Certificate). d.question) w.is in (
+            record {
+              question = subst (IsQuestion v i) (sym p) u;
+              time = w.time;
+              first = w.first;
+              second = w.second;
+              nodes = w.nodes;
+              is = w.is ∙ ap (λ (m : Question). with_fields g m c.time c.pair.first c.pair.second c.tree) (sym p);
+            },
+            ap (λ (m : Question). question_text m ++ text_from_time c) p,
+          );
+    })
+
+abbrev pub text_from_gates : Certificate → List ℕ
+text_from_gates c = number_text 10 c.gates ++ text_from_question c
+
+record IsFromGates (v : Version) (i : ℕ) (c : Certificate) : Type 0 where
+  gates : c.gates ≤ 200000
+  question : IsQuestion v i c.question
+  time : c.time ≤ greatest
+  first : length c.pair.first ≡ i
+  second : length c.pair.second ≡ i
+  nodes : AreNodes v 1 c.tree
 
 gates_limit : IsLimit 200000 10
 gates_limit = record { high = omega arith; close_is = refl }
 
-from_gates : (i : ℕ) → IsCode (IsFromGates i) text_from_gates
-    (λ bytes. number_at 200000 10 bytes >>= λ gates. number_behind (codes "time ") greatest 10 gates.1 >>= λ time. vector_behind (codes "from ") i time.1 >>= λ first. vector_behind (codes "to ") i first.1 >>= λ second. nodes_at 1 second.1 >>= λ tree.
-    Ok (with_fields i gates.0 time.0 first.0 second.0 tree.0, tree.1))
-from_gates i =
-    IsCode-then (λ (c : Certificate). c.gates) (AtMost 200000) (number_text 10) (number_at 200000 10) (λ g c. IsFromTime i g c) (λ g c. text_from_time c)
-    (λ g bytes. number_behind (codes "time ") greatest 10 bytes >>= λ time. vector_behind (codes "from ") i time.1 >>= λ first. vector_behind (codes "to ") i first.1 >>= λ second. nodes_at 1 second.1 >>= λ tree.
-    Ok (with_fields i g time.0 first.0 second.0 tree.0, tree.1))
-    (IsFromGates i) text_from_gates (number_code 200000 10 gates_limit)
-    (λ g v. from_time i g)
+abbrev read_gates : Version → ℕ → List ℕ → Reading Certificate
+read_gates v i bytes = number_at 200000 10 bytes >>= λ gates. read_question v i gates.0 gates.1
+
+from_gates : (v : Version) (i : ℕ) → (has_inputs v ≡ true → 0 < i) → i ≤ 4096 → IsCode (IsFromGates v i) text_from_gates (read_gates v i)
+from_gates v i some few =
+    IsCode-then (λ (c : Certificate). c.gates) (AtMost 200000) (number_text 10) (number_at 200000 10) (λ g c. IsFromQuestion v i g c) (λ g c. text_from_question c)
+    (λ g bytes. read_question v i g bytes) (IsFromGates v i) text_from_gates (number_code 200000 10 gates_limit)
+    (λ g u. from_question v i g some few)
     (record {
-      down = λ c v. (v.gates, record { time = v.time; first = v.first; second = v.second; nodes = v.nodes; is = v.is }, refl);
-      up = λ g c v w.
+      down = λ c u. (u.gates, record { question = u.question; time = u.time; first = u.first; second = u.second; nodes = u.nodes; is = refl }, refl);
+      up = λ g c u w.
           let p : c.gates ≡ g = ap (λ (d : Certificate). d.gates) w.is in (
-            record { gates = subst (AtMost 200000) (sym p) v; time = w.time; first = w.first; second = w.second; nodes = w.nodes; is = w.is ∙ ap (λ (m : ℕ). with_fields i m c.time c.pair.first c.pair.second c.tree) (sym p) },
-            ap (λ (m : ℕ). number_text 10 m ++ text_from_time c) p,
+            record { gates = subst (AtMost 200000) (sym p) u; question = w.question; time = w.time; first = w.first; second = w.second; nodes = w.nodes },
+            ap (λ (m : ℕ). number_text 10 m ++ text_from_question c) p,
           );
     })
 
 abbrev pub text_from_inputs : Certificate → List ℕ
-text_from_inputs c = (codes "circuit " ++ number_text 32 c.inputs) ++ text_from_gates c
+text_from_inputs c = number_text 32 (inputs c) ++ text_from_gates c
+
+record IsFromInputs (v : Version) (c : Certificate) : Type 0 where
+  inputs : IsFrom (has_inputs v) 4096 (inputs c)
+  rest : IsFromGates v (inputs_of c.question) c
 
 inputs_limit : IsLimit 4096 32
 inputs_limit = record { high = omega arith; close_is = refl }
 
-from_inputs : IsCode HasSpelling text_from_inputs
-    (λ bytes. number_behind (codes "circuit ") 4096 32 bytes >>= λ inputs. number_at 200000 10 inputs.1 >>= λ gates. number_behind (codes "time ") greatest 10 gates.1 >>= λ time. vector_behind (codes "from ") inputs.0 time.1 >>= λ first. vector_behind (codes "to ") inputs.0 first.1 >>= λ second. nodes_at 1 second.1 >>= λ tree.
-    Ok (with_fields inputs.0 gates.0 time.0 first.0 second.0 tree.0, tree.1))
-from_inputs =
-    IsCode-then (λ (c : Certificate). c.inputs) (AtMost 4096) (λ n. codes "circuit " ++ number_text 32 n) (number_behind (codes "circuit ") 4096 32) (λ i c. IsFromGates i c) (λ i c. text_from_gates c)
-    (λ i bytes. number_at 200000 10 bytes >>= λ gates. number_behind (codes "time ") greatest 10 gates.1 >>= λ time. vector_behind (codes "from ") i time.1 >>= λ first. vector_behind (codes "to ") i first.1 >>= λ second. nodes_at 1 second.1 >>= λ tree.
-    Ok (with_fields i gates.0 time.0 first.0 second.0 tree.0, tree.1))
-    HasSpelling text_from_inputs (number_behind_code (codes "circuit ") 4096 32 inputs_limit)
-    (λ i v. from_gates i)
+abbrev read_inputs : Version → List ℕ → Reading Certificate
+read_inputs v bytes = number_from (has_inputs v) 4096 32 bytes >>= λ inputs. read_gates v inputs.0 inputs.1
+
+from_inputs : (v : Version) → IsCode (IsFromInputs v) text_from_inputs (read_inputs v)
+from_inputs v =
+    IsCode-then inputs (IsFrom (has_inputs v) 4096) (number_text 32) (number_from (has_inputs v) 4096 32) (λ i c. IsFromGates v i c) (λ i c. text_from_gates c)
+    (λ i bytes. read_gates v i bytes) (IsFromInputs v) text_from_inputs (number_from_code (has_inputs v) 4096 32 inputs_limit (omega arith))
+    (λ i u. from_gates v i u.1 u.0)
     (record {
-      down = λ c v. (v.inputs, record { gates = v.gates; time = v.time; first = v.first; second = v.second; nodes = record { each = v.nodes; counted = v.tree }; is = refl }, refl);
-      up = λ i c v w.
-          let p : c.inputs ≡ i = ap (λ (d : Certificate). d.inputs) w.is in (
-            record { inputs = subst (AtMost 4096) (sym p) v; gates = w.gates; time = w.time; first = w.first ∙ sym p; second = w.second ∙ sym p; nodes = w.nodes.each; tree = w.nodes.counted },
-            ap (λ (m : ℕ). (codes "circuit " ++ number_text 32 m) ++ text_from_gates c) p,
-          );
+      down = λ c u. (u.inputs, u.rest, refl);
+      up = λ i c u w.
+          let p : inputs c ≡ i = w.question.inputs in
+          (record { inputs = subst (IsFrom (has_inputs v) 4096) (sym p) u; rest = subst (λ (n : ℕ). IsFromGates v n c) (sym p) w }, ap (λ (n : ℕ). number_text 32 n ++ text_from_gates c) p);
     })
+
+-- ---- by the version
+
+-- it has a spelling of this version
+record IsOfVersion (v : Version) (c : Certificate) : Type 0 where
+  has : HasSpelling c
+  version : version_of c.question ≡ v
+
+to_version : (v : Version) (c : Certificate) → IsFromInputs v c → IsOfVersion v c
+to_version v c u = record {
+  has = record {
+    inputs = u.inputs.0;
+    gates = u.rest.gates;
+    pins = u.rest.question.pins;
+    flips = u.rest.question.flips;
+    count = u.rest.question.count;
+    moments = u.rest.question.moments;
+    time = u.rest.time;
+    first = u.rest.first;
+    second = u.rest.second;
+    nodes = subst (λ (w : Version). AllByRecursion (IsNode w) c.tree) (sym u.rest.question.version) u.rest.nodes.each;
+    tree = u.rest.nodes.counted;
+  };
+  version = u.rest.question.version;
+}
+
+-- without inputs the version is the first
+some_inputs : (v : Version) (c : Certificate) → HasSpelling c → version_of c.question ≡ v → has_inputs v ≡ true → 0 < inputs c
+some_inputs v c has e some = some_inputs_of v c.question has.pins has.flips has.count e some
+
+from_version : (v : Version) (c : Certificate) → IsOfVersion v c → IsFromInputs v c
+from_version v c u = record {
+  inputs = (u.has.inputs, some_inputs v c u.has u.version);
+  rest = record {
+    gates = u.has.gates;
+    question = record { version = u.version; inputs = refl; pins = u.has.pins; flips = u.has.flips; count = u.has.count; moments = u.has.moments };
+    time = u.has.time;
+    first = u.has.first;
+    second = u.has.second;
+    nodes = record { each = subst (λ (w : Version). AllByRecursion (IsNode w) c.tree) u.version u.has.nodes; counted = u.has.tree };
+  };
+}
+
+abbrev pub lines_text : Certificate → List ℕ
+lines_text c = codes "circuit " ++ text_from_inputs c
+
+lines_code : (v : Version) → IsCode (IsOfVersion v) lines_text (lines_at v)
+unfolding lines_at
+lines_code v =
+    IsCode-as (IsFromInputs v) (IsOfVersion v) lines_text lines_text (lines_at v) (to_version v) (from_version v) (λ c u. refl)
+    (behind_word (codes "circuit ") (IsFromInputs v) text_from_inputs (read_inputs v) (from_inputs v))
 
 -- ---- the whole
 
-regroup : (v ci i sp g ti t fr f so s nl n : List ℕ)
-    → (v ++ nl) ++ ((((ci ++ i) ++ sp) ++ g) ++ nl) ++ ((ti ++ t) ++ nl) ++ ((fr ++ f) ++ nl) ++ ((so ++ s) ++ nl) ++ n
-    ≡ (v ++ nl) ++ ((ci ++ (i ++ sp)) ++ ((g ++ nl) ++ ((ti ++ (t ++ nl)) ++ ((fr ++ (f ++ nl)) ++ ((so ++ (s ++ nl)) ++ n)))))
-regroup v ci i sp g ti t fr f so s nl n = simp append_assoc
+regroup : (ve ci i sp g q ti t fr f so s nl n : List ℕ)
+    → (ve ++ nl) ++ (((((ci ++ i) ++ sp) ++ g) ++ nl) ++ (q ++ (((ti ++ t) ++ nl) ++ (((fr ++ f) ++ nl) ++ ((so ++ s) ++ nl))))) ++ n
+    ≡ (ve ++ nl) ++ (ci ++ ((i ++ sp) ++ ((g ++ nl) ++ (q ++ ((ti ++ (t ++ nl)) ++ ((fr ++ (f ++ nl)) ++ ((so ++ (s ++ nl)) ++ n)))))))
+regroup ve ci i sp g q ti t fr f so s nl n = simp append_assoc
 
-pub five : (a b c d e n : List ℕ) → flat_map ended (a ∷ b ∷ c ∷ d ∷ e ∷ []) ++ n ≡ ended a ++ ended b ++ ended c ++ ended d ++ ended e ++ n
-five a b c d e n = rw (flat_map-cons ended a (b ∷ c ∷ d ∷ e ∷ []), flat_map-cons ended b (c ∷ d ∷ e ∷ []), flat_map-cons ended c (d ∷ e ∷ []), flat_map-cons ended d (e ∷ []), flat_map-cons ended e []) (simp (append_assoc, append-nil))
-
-head_text : (c : Certificate) → text_of (head_lines c) ++ nodes_text c.tree ≡ codes "tdelay-cert 1\n" ++ text_from_inputs c
+-- the text of the lines before the tree
+pub head_text : (c : Certificate) → text_of (head_lines c) ≡ ended (version_line (version_of c.question)) ++ (ended (circuit_line c) ++ (question_text c.question ++ (ended (time_line c) ++ (ended (from_line c) ++ ended (to_line c)))))
 head_text c =
-    five (codes "tdelay-cert 1") (codes "circuit " ++ decimal c.inputs ++ codes " " ++ decimal c.gates) (codes "time " ++ decimal c.time) (codes "from " ++ bits c.pair.first) (codes "to " ++ bits c.pair.second) (nodes_text c.tree)
-    ∙ regroup (codes "tdelay-cert 1") (codes "circuit ") (decimal c.inputs) (codes " ") (decimal c.gates) (codes "time ") (decimal c.time) (codes "from ") (bits c.pair.first) (codes "to ") (bits c.pair.second) (10 ∷ []) (nodes_text c.tree)
+    let last : text_of (time_line c ∷ from_line c ∷ to_line c ∷ []) ≡ ended (time_line c) ++ (ended (from_line c) ++ ended (to_line c)) =
+    flat_map-cons ended (time_line c) (from_line c ∷ to_line c ∷ []) ∙ ap (λ (t : List ℕ). ended (time_line c) ++ t) (flat_map-cons ended (from_line c) (to_line c ∷ []) ∙ ap (λ (t : List ℕ). ended (from_line c) ++ t) (flat_map-cons ended (to_line c) [] ∙ append-nil (ended (to_line c)))) in
+    flat_map-cons ended (version_line (version_of c.question)) (circuit_line c ∷ (question_lines c.question ++ time_line c ∷ from_line c ∷ to_line c ∷ []))
+    ∙ ap (λ (t : List ℕ). ended (version_line (version_of c.question)) ++ t) (flat_map-cons ended (circuit_line c) (question_lines c.question ++ time_line c ∷ from_line c ∷ to_line c ∷ [])
+    ∙ ap (λ (t : List ℕ). ended (circuit_line c) ++ t) (flat_map-append ended (question_lines c.question) (time_line c ∷ from_line c ∷ to_line c ∷ []) ∙ ap (λ (t : List ℕ). question_text c.question ++ t) last))
 
-pub spelling_is : (c : Certificate) → spelling c ≡ codes "tdelay-cert 1\n" ++ text_from_inputs c
+version_line_text : (v : Version) → ended (version_line v) ≡ version_text v
+version_line_text First = ap (λ (t : List ℕ). ended (codes "tdelay-cert " ++ t)) (decimal_digit 1 (omega arith))
+version_line_text Second = ap (λ (t : List ℕ). ended (codes "tdelay-cert " ++ t)) (decimal_digit 2 (omega arith))
+version_line_text Third = ap (λ (t : List ℕ). ended (codes "tdelay-cert " ++ t)) (decimal_digit 3 (omega arith))
+
+pub spelling_is : (c : Certificate) → spelling c ≡ version_text (version_of c.question) ++ lines_text c
 unfolding spelling
-spelling_is c = flat_map-append ended (head_lines c) (map node_line c.tree) ∙ head_text c
+spelling_is c =
+    flat_map-append ended (head_lines c) (map node_line c.tree)
+    ∙ ap (λ (t : List ℕ). t ++ nodes_text c.tree) (head_text c)
+    ∙ regroup (version_line (version_of c.question)) (codes "circuit ") (decimal (inputs c)) (codes " ") (decimal c.gates) (question_text c.question) (codes "time ") (decimal c.time) (codes "from ") (bits c.pair.first) (codes "to ") (bits c.pair.second) (10 ∷ []) (nodes_text c.tree)
+    ∙ ap (λ (t : List ℕ). t ++ lines_text c) (version_line_text (version_of c.question))
 
 pub certificate_code : IsCode HasSpelling spelling certificate_at
 unfolding certificate_at
 certificate_code =
-    IsCode-as HasSpelling HasSpelling (λ c. codes "tdelay-cert 1\n" ++ text_from_inputs c) spelling certificate_at (λ c v. v) (λ c v. v) (λ c v. spelling_is c)
-    (behind_fixed (codes "tdelay-cert 1\n") version_at HasSpelling text_from_inputs
-    (λ bytes. number_behind (codes "circuit ") 4096 32 bytes >>= λ inputs. number_at 200000 10 inputs.1 >>= λ gates. number_behind (codes "time ") greatest 10 gates.1 >>= λ time. vector_behind (codes "from ") inputs.0 time.1 >>= λ first. vector_behind (codes "to ") inputs.0 first.1 >>= λ second. nodes_at 1 second.1 >>= λ tree.
-    Ok (with_fields inputs.0 gates.0 time.0 first.0 second.0 tree.0, tree.1))
-    version_code from_inputs)
+    IsCode-then (λ (c : Certificate). version_of c.question) Always version_text version_at (λ v c. IsOfVersion v c) (λ v c. lines_text c) lines_at HasSpelling spelling version_code
+    (λ v u. lines_code v)
+    (record {
+      down = λ c u. (tt, record { has = u; version = refl }, spelling_is c);
+      up = λ v c u w. (w.has, spelling_is c ∙ ap (λ (x : Version). version_text x ++ lines_text c) w.version);
+    })

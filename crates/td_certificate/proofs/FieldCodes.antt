@@ -1,5 +1,5 @@
 -- Each field is a code: words, letters, numbers, vectors.
-use Rattle.std.proofs.Common.{◌≡◌, ℕ, ◌+◌, ◌-◌, ◌*◌, ◌/◌, ◌%◌, ◌^◌, ◌<◌, ◌≤◌, Bool, true, false, cond, eqb, ltb, leb, List, [], ◌∷◌, ◌++◌, Ok, Err, ◌⊎◌, inl, inr, refl, sym, ap, subst, ◌∙◌, append_assoc, arith}
+use Rattle.std.proofs.Common.{◌≡◌, ℕ, zero, suc, ◌+◌, ◌-◌, ◌*◌, ◌/◌, ◌%◌, ◌^◌, ◌<◌, ◌≤◌, Bool, true, false, cond, eqb, ltb, leb, List, [], ◌∷◌, ◌++◌, Ok, Err, ◌⊎◌, inl, inr, refl, sym, ap, subst, ◌∙◌, append_assoc, arith}
 use Rattle.std.specs.Prelude.{◌&&◌, decimal}
 use Rattle.std.specs.Char.{is_ascii_digit}
 use Rattle.std.proofs.lemmas.List.{append-nil}
@@ -7,7 +7,7 @@ use Rattle.std.proofs.lemmas.Bool.{eqb-true, eq-eqb, ne_eqb, ltb-true, lt-ltb, l
 use Rattle.std.proofs.lemmas.Fmt.{decimal_digit, decimal_step, decimal_by_steps}
 use Rattle.td_certificate.specs.declared.fields.Reason.{Reason}
 use Rattle.td_certificate.specs.declared.fields.Reason.TheVariants.{Syntax, NumberTooLarge}
-use Rattle.td_certificate.specs.Reading.{Ends, Wrong, Reading, literal, digits_at, number_at}
+use Rattle.td_certificate.specs.Reading.{Ends, Wrong, Reading, literal, digits_at, number_at, begins_with_zero, number_from}
 use Rattle.td_certificate.proofs.Loops.{done, done_is}
 use Rattle.td_certificate.proofs.Codes.{IsCode, IsFrontOf, IsStopped}
 
@@ -340,3 +340,146 @@ number_code most close limit = record {
   ends = λ bytes e. number_ends most close limit bytes e;
   stops = λ bytes rest reason e. number_stops most close limit bytes rest reason e;
 }
+
+-- ---- numbers of positive counts
+
+abbrev pub IsFrom : Bool → ℕ → ℕ → Type 0
+IsFrom positive most number = (number ≤ most) × (positive ≡ true → 0 < number)
+
+-- the first digit of a number that isn't 0
+record NoZero (number : ℕ) (text : List ℕ) : Type 0 where
+  first : 0 < number → (rest : List ℕ) → begins_with_zero (text ++ rest) ≡ false
+
+no_zero_one : (n : ℕ) → n < 10 → NoZero n ((48 + n) ∷ [])
+no_zero_one n lt = record { first = λ pos rest. ne_eqb (48 + n) 48 (omega arith) }
+
+no_zero_more : (n : ℕ) (ds : List ℕ) → 10 ≤ n → NoZero (n / 10) ds → NoZero n (ds ++ ((48 + n % 10) ∷ []))
+no_zero_more n ds le front = record {
+  first = λ pos rest. ap begins_with_zero (append_assoc ds ((48 + n % 10) ∷ []) rest) ∙ front.first (omega arith) ((48 + n % 10) ∷ rest);
+}
+
+no_zero : (n : ℕ) → n < 2 ^ 64 → 0 < n → (rest : List ℕ) → begins_with_zero (decimal n ++ rest) ≡ false
+no_zero n small pos rest = (decimal_by_steps NoZero no_zero_one no_zero_more n small).first pos rest
+
+is_zero : (n : ℕ) (rest : List ℕ) → n ≡ 0 → begins_with_zero (decimal n ++ rest) ≡ true
+is_zero n rest none = ap (λ (k : ℕ). begins_with_zero (decimal k ++ rest)) none ∙ ap (λ (t : List ℕ). begins_with_zero (t ++ rest)) (decimal_digit 0 (omega arith))
+
+-- a text that doesn't begin with 0 is of a positive number
+from_one : (close n : ℕ) (bytes rest : List ℕ) → bytes ≡ number_text close n ++ rest → begins_with_zero bytes ≡ false → 0 < n
+from_one close zero bytes rest e none =
+    absurd (let h : begins_with_zero bytes ≡ true = ap begins_with_zero (e ∙ append_assoc (decimal 0) (close ∷ []) rest) ∙ is_zero 0 (close ∷ rest) refl in cc)
+from_one close (suc n) bytes rest e none = omega arith
+
+still_front : (front : List ℕ) (next : ℕ) (later : List ℕ) → begins_with_zero (front ++ next ∷ later) ≡ false → begins_with_zero front ≡ false
+still_front [] next later none = refl
+still_front (b ∷ front) next later none = none
+
+still_other : (front : List ℕ) (next : ℕ) (later other : List ℕ) → begins_with_zero (front ++ next ∷ later) ≡ false → begins_with_zero (front ++ next ∷ other) ≡ false
+still_other [] next later other none = none
+still_other (b ∷ front) next later other none = none
+
+from_any : (most close : ℕ) (bytes : List ℕ) → number_from false most close bytes ≡ number_at most close bytes
+unfolding number_from
+from_any most close bytes = refl
+
+from_some : (most close : ℕ) (bytes : List ℕ) → begins_with_zero bytes ≡ false → number_from true most close bytes ≡ number_at most close bytes
+unfolding number_from
+from_some most close bytes none = rw none refl
+
+from_none : (most close : ℕ) (bytes : List ℕ) → begins_with_zero bytes ≡ true → number_from true most close bytes ≡ Err (Wrong Syntax bytes)
+unfolding number_from
+from_none most close bytes is = rw is refl
+
+zero_or_not : {X : Type 0} (bytes : List ℕ) → (begins_with_zero bytes ≡ true → X) → (begins_with_zero bytes ≡ false → X) → X
+zero_or_not {X} bytes f g = elim (begins_with_zero bytes) as (λ t. begins_with_zero bytes ≡ t → X) [ true ↦ f | false ↦ g ] refl
+
+from_takes : (most close : ℕ) → IsLimit most close → (bytes : List ℕ) (m : ℕ) (rest : List ℕ) → number_from true most close bytes ≡ Ok (m, rest) → IsFrom true most m × (bytes ≡ number_text close m ++ rest)
+from_takes most close limit bytes m rest e =
+    zero_or_not bytes
+    (λ is. absurd (let h : wrong Syntax bytes ≡ done (m, rest) = sym (from_none most close bytes is) ∙ e in cc))
+    (λ none.
+    let p = number_takes most close limit bytes m rest (sym (from_some most close bytes none) ∙ e) in
+    ((p.0, λ positive. from_one close m bytes rest p.1 none), p.1))
+
+from_ends : (most close : ℕ) → IsLimit most close → 0 < most → (bytes : List ℕ) → number_from true most close bytes ≡ Err Ends → IsFrontOf (IsFrom true most) (number_text close) bytes
+from_ends most close limit some [] e = record {
+  value = 1;
+  has = (omega arith, λ positive. omega arith);
+  next = 49;
+  later = close ∷ [];
+  parts = ap (λ (t : List ℕ). t ++ close ∷ []) (decimal_digit 1 (omega arith));
+}
+from_ends most close limit some (b ∷ bytes) e =
+    zero_or_not (b ∷ bytes)
+    (λ is. absurd (let h : wrong {A = ℕ} Syntax (b ∷ bytes) ≡ ends = sym (from_none most close (b ∷ bytes) is) ∙ e in cc))
+    (λ none.
+    let f = number_ends most close limit (b ∷ bytes) (sym (from_some most close (b ∷ bytes) none) ∙ e) in
+    let begins : begins_with_zero (number_text close f.value) ≡ false = ap begins_with_zero f.parts ∙ none in
+    record {
+      value = f.value;
+      has = (f.has, λ positive. from_one close f.value (number_text close f.value) [] (sym (append-nil (number_text close f.value))) begins);
+      next = f.next;
+      later = f.later;
+      parts = f.parts;
+    })
+
+from_stops : (most close : ℕ) → IsLimit most close → (bytes rest : List ℕ) (reason : Reason) → number_from true most close bytes ≡ Err (Wrong reason rest) → IsStopped (number_from true most close) bytes rest
+from_stops most close limit [] rest reason e =
+    absurd (let h : ends {A = ℕ} ≡ wrong reason rest = sym (from_some most close [] refl ∙ number_none most close) ∙ e in cc)
+from_stops most close limit (b ∷ bytes) rest reason e =
+    zero_or_not (b ∷ bytes)
+    (λ is. stopped_at_once (number_from true most close) b bytes rest Syntax reason (sym (from_none most close (b ∷ bytes) is) ∙ e) (from_some most close [] refl ∙ number_none most close)
+    (λ other. from_none most close (b ∷ other) is))
+    (λ none.
+    let s = number_stops most close limit (b ∷ bytes) rest reason (sym (from_some most close (b ∷ bytes) none) ∙ e) in
+    let split : begins_with_zero (s.front ++ s.next ∷ s.later) ≡ false = ap begins_with_zero (sym s.parts) ∙ none in
+    record {
+      front = s.front;
+      next = s.next;
+      later = s.later;
+      parts = s.parts;
+      rest_is = s.rest_is;
+      goes = from_some most close s.front (still_front s.front s.next s.later split) ∙ s.goes;
+      stays = λ other. let w = s.stays other in (w.0, from_some most close (s.front ++ s.next ∷ other) (still_other s.front s.next s.later other split) ∙ w.1);
+    })
+
+from_code : (most close : ℕ) → IsLimit most close → 0 < most → IsCode (IsFrom true most) (number_text close) (number_from true most close)
+from_code most close limit some = record {
+  some = 1;
+  some_valid = (omega arith, λ positive. omega arith);
+  takes = λ bytes m rest e. from_takes most close limit bytes m rest e;
+  again = λ m rest v.
+      let begins : begins_with_zero (number_text close m ++ rest) ≡ false =
+      ap begins_with_zero (append_assoc (decimal m) (close ∷ []) rest) ∙ no_zero m (omega (arith, limit.high, v.0)) (v.1 refl) (close ∷ rest) in
+      from_some most close (number_text close m ++ rest) begins ∙ (number_code most close limit).again m rest v.0;
+  ends = λ bytes e. from_ends most close limit some bytes e;
+  stops = λ bytes rest reason e. from_stops most close limit bytes rest reason e;
+}
+
+any_code : (most close : ℕ) → IsLimit most close → IsCode (IsFrom false most) (number_text close) (number_from false most close)
+any_code most close limit =
+    let code = number_code most close limit in
+    record {
+      some = 0;
+      some_valid = (omega arith, λ positive. absurd cc);
+      takes = λ bytes m rest e. let p = code.takes bytes m rest (sym (from_any most close bytes) ∙ e) in ((p.0, λ positive. absurd cc), p.1);
+      again = λ m rest v. from_any most close (number_text close m ++ rest) ∙ code.again m rest v.0;
+      ends = λ bytes e.
+          let f = code.ends bytes (sym (from_any most close bytes) ∙ e) in
+          record { value = f.value; has = (f.has, λ positive. absurd cc); next = f.next; later = f.later; parts = f.parts };
+      stops = λ bytes rest reason e.
+          let s = code.stops bytes rest reason (sym (from_any most close bytes) ∙ e) in
+          record {
+            front = s.front;
+            next = s.next;
+            later = s.later;
+            parts = s.parts;
+            rest_is = s.rest_is;
+            goes = from_any most close s.front ∙ s.goes;
+            stays = λ other. let w = s.stays other in (w.0, from_any most close (s.front ++ s.next ∷ other) ∙ w.1);
+          };
+    }
+
+pub number_from_code : (positive : Bool) (most close : ℕ) → IsLimit most close → 0 < most → IsCode (IsFrom positive most) (number_text close) (number_from positive most close)
+number_from_code true most close limit some = from_code most close limit some
+number_from_code false most close limit some = any_code most close limit

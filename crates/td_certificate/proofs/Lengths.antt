@@ -1,20 +1,27 @@
 -- Lengths of texts.
-use Rattle.std.proofs.Common.{◌≡◌, ℕ, ◌+◌, ◌*◌, ◌<◌, ◌≤◌, ◌^◌, Bool, List, [], ◌∷◌, ◌++◌, length, length-append, ap, arith}
+use Rattle.std.proofs.Common.{◌≡◌, ℕ, zero, suc, ◌+◌, ◌*◌, ◌<◌, ◌≤◌, ◌^◌, Bool, List, [], ◌∷◌, ◌++◌, length, length-append, ap, arith}
 use Rattle.std.specs.Prelude.{codes, decimal, map}
 use Rattle.std.specs.List.{AllByRecursion}
 use Rattle.std.proofs.lemmas.List.{length-map}
 use Rattle.std.proofs.lemmas.Fmt.{length-decimal-le}
+use Rattle.td_domain.specs.declared.cubes.Trit.{Trit}
 use Rattle.td_certificate.specs.declared.tree.BoundedBy.TheVariants.{Arrival, Possible, Both}
 use Rattle.td_certificate.specs.declared.tree.Node.{Node}
 use Rattle.td_certificate.specs.declared.tree.Node.TheVariants as node
+use Rattle.td_certificate.specs.declared.question.Version.{Version}
+use Rattle.td_certificate.specs.declared.question.Version.TheVariants.{First, Second, Third}
 use Rattle.td_certificate.specs.declared.certificate.Certificate.{Certificate}
-use Rattle.td_certificate.specs.Text.{bit}
-use Rattle.td_certificate.specs.Spelling.{HasSpelling}
+use Rattle.td_certificate.specs.Questions.{Question, inputs_of, version_of}
+use Rattle.td_certificate.specs.Text.{bit, trit, first_trits, second_trits, hold, numbers}
+use Rattle.td_certificate.specs.Spelling.{inputs, FirstField, SecondField, HoldField, FlipsField, AtField, fields_of, field_line, ended, text_of, question_text, latest, HasSpelling}
 use Rattle.td_certificate.specs.Lengths.{IsShort, SearchedTextsFit}
 use Rattle.td_certificate.proofs.FieldCodes.{number_text}
-use Rattle.td_certificate.proofs.NodeCodes.{node_text, vector_text}
+use Rattle.td_certificate.proofs.VectorCodes.{vector_text}
+use Rattle.td_certificate.proofs.VersionCode.{version_text}
+use Rattle.td_certificate.proofs.QuestionCodes.{four_text, third_parts}
+use Rattle.td_certificate.proofs.NodeCodes.{node_text}
 use Rattle.td_certificate.proofs.TreeCodes.{nodes_text, nodes_text-cons}
-use Rattle.td_certificate.proofs.CertificateCode.{text_from_inputs, spelling_is}
+use Rattle.td_certificate.proofs.CertificateCode.{text_from_second, text_from_first, text_from_time, text_from_question, text_from_gates, text_from_inputs, lines_text, spelling_is}
 
 short : (n : ℕ) → n < 10 ^ 15 → length (decimal n) ≤ 15
 short n small = length-decimal-le 15 n (omega arith) small (omega arith)
@@ -29,6 +36,7 @@ node_length (node.Bound Arrival bound) small = let here = line_length (codes "b 
 node_length (node.Bound Possible bound) small = let here = line_length (codes "b t ") bound small in omega (arith, here)
 node_length (node.Bound Both bound) small = let here = line_length (codes "b m ") bound small in omega (arith, here)
 node_length (node.Point time) small = let here = line_length (codes "p ") time small in omega (arith, here)
+node_length node.Empty small = omega arith
 
 nodes_length : (nodes : List Node) → AllByRecursion IsShort nodes → length (nodes_text nodes) ≤ 20 * length nodes
 nodes_length [] small = omega arith
@@ -47,29 +55,98 @@ number_length word close n small = omega (arith, short n small, length-append wo
 behind_length : (word : List ℕ) (vector : List Bool) → length (word ++ vector_text vector) ≤ length word + length vector + 5
 behind_length word vector = omega (arith, vector_length vector, length-append word (vector_text vector))
 
-six : (a b c d e n : List ℕ) → length (a ++ (b ++ (c ++ (d ++ (e ++ n))))) ≡ length a + length b + length c + length d + length e + length n
-six a b c d e n =
+-- ---- the question
+
+first_few : (pins : List Trit) (count : ℕ) → length pins ≡ 2 * count → length (first_trits pins) ≤ count
+first_few [] count e = omega arith
+first_few (p ∷ []) count e = omega arith
+first_few (p ∷ q ∷ pins) zero e = absurd (omega (arith, e))
+first_few (p ∷ q ∷ pins) (suc count) e = let rest = first_few pins count (omega (arith, e)) in omega (arith, rest)
+
+second_few : (pins : List Trit) (count : ℕ) → length pins ≡ 2 * count → length (second_trits pins) ≤ count
+second_few [] count e = omega arith
+second_few (p ∷ []) count e = omega arith
+second_few (p ∷ q ∷ pins) zero e = absurd (omega (arith, e))
+second_few (p ∷ q ∷ pins) (suc count) e = let rest = second_few pins count (omega (arith, e)) in omega (arith, rest)
+
+chars_length : {A : Type 0} (word : List ℕ) (byte : A → ℕ) (xs : List A) → length (ended (word ++ map byte xs)) ≡ length word + length xs + 1
+chars_length word byte xs = omega (arith, length-append (word ++ map byte xs) (10 ∷ []), length-append word (map byte xs), length-map xs byte)
+
+numbers_length : (ms : List ℕ) → AllByRecursion (λ moment. moment ≤ latest) ms → length (numbers ms) ≤ 16 * length ms
+numbers_length [] within = omega arith
+numbers_length (m ∷ []) within = omega (arith, short m (omega (arith, within.0)))
+numbers_length (m ∷ n ∷ ms) within =
+    omega (arith, short m (omega (arith, within.0)), numbers_length (n ∷ ms) within.1, length-append (decimal m ++ codes " ") (numbers (n ∷ ms)), length-append (decimal m) (codes " "))
+
+record IsAsked (q : Question) : Type 0 where
+  inputs : inputs_of q ≤ 4096
+  pins : length q.admit.pins ≡ 2 * inputs_of q
+  flips : q.admit.flips ≤ inputs_of q
+  count : length q.moments ≡ inputs_of q
+  moments : AllByRecursion (λ moment. moment ≤ latest) q.moments
+
+four_length : (a b c d : List ℕ) → length (a ++ (b ++ (c ++ d))) ≡ length a + length b + length c + length d
+four_length a b c d = omega (arith, length-append a (b ++ (c ++ d)), length-append b (c ++ d), length-append c d)
+
+admit_length : (q : Question) → IsAsked q → length (text_of (map (field_line q) (fields_of Second))) ≤ 12400
+admit_length q has =
+    let a = q.admit in
     omega (
       arith,
-      length-append a (b ++ (c ++ (d ++ (e ++ n)))),
-      length-append b (c ++ (d ++ (e ++ n))),
-      length-append c (d ++ (e ++ n)),
-      length-append d (e ++ n),
-      length-append e n,
+      ap length (four_text (field_line q FirstField) (field_line q SecondField) (field_line q HoldField) (field_line q FlipsField)),
+      four_length (ended (field_line q FirstField)) (ended (field_line q SecondField)) (ended (field_line q HoldField)) (ended (field_line q FlipsField)),
+      chars_length (codes "first ") trit (first_trits a.pins),
+      chars_length (codes "second ") trit (second_trits a.pins),
+      chars_length (codes "hold ") hold a.held,
+      line_length (codes "flips ") a.flips (omega (arith, has.flips, has.inputs)),
+      first_few a.pins (inputs_of q) has.pins,
+      second_few a.pins (inputs_of q) has.pins,
+      has.inputs,
     )
 
-head_length : (c : Certificate) → HasSpelling c → c.time < 10 ^ 15 → length (text_from_inputs c) ≤ 8300 + length (nodes_text c.tree)
+at_length : (q : Question) → IsAsked q → length (ended (field_line q AtField)) ≤ 65600
+at_length q has =
+    omega (arith, length-append (codes "at " ++ numbers q.moments) (10 ∷ []), length-append (codes "at ") (numbers q.moments), numbers_length q.moments has.moments, has.count, has.inputs)
+
+lines_length : (q : Question) (v : Version) → IsAsked q → length (text_of (map (field_line q) (fields_of v))) ≤ 78000
+lines_length q First has = omega arith
+lines_length q Second has = omega (arith, admit_length q has)
+lines_length q Third has =
+    omega (
+      arith,
+      ap length (third_parts q),
+      length-append (text_of (map (field_line q) (fields_of Second))) (ended (field_line q AtField)),
+      admit_length q has,
+      at_length q has,
+    )
+
+-- ---- the whole
+
+version_length : (v : Version) → length (version_text v) ≤ 20
+version_length First = omega arith
+version_length Second = omega arith
+version_length Third = omega arith
+
+head_length : (c : Certificate) → HasSpelling c → c.time < 10 ^ 15 → length (lines_text c) ≤ 90000 + length (nodes_text c.tree)
 head_length c has small =
-    let inputs : length (codes "circuit " ++ number_text 32 c.inputs) ≤ 24 = number_length (codes "circuit ") 32 c.inputs (omega (arith, has.inputs)) in
+    let question : length (question_text c.question) ≤ 78000 =
+    lines_length c.question (version_of c.question) (record { inputs = has.inputs; pins = has.pins; flips = has.flips; count = has.count; moments = has.moments }) in
+    let inputs_short : length (number_text 32 (inputs c)) ≤ 16 = number_length [] 32 (inputs c) (omega (arith, has.inputs)) in
     let gates : length (number_text 10 c.gates) ≤ 16 = number_length [] 10 c.gates (omega (arith, has.gates)) in
     let time : length (codes "time " ++ number_text 10 c.time) ≤ 21 = number_length (codes "time ") 10 c.time small in
     let first : length (codes "from " ++ vector_text c.pair.first) ≤ 10 + length c.pair.first = omega (arith, behind_length (codes "from ") c.pair.first) in
     let second : length (codes "to " ++ vector_text c.pair.second) ≤ 8 + length c.pair.second = omega (arith, behind_length (codes "to ") c.pair.second) in
     omega (
       arith,
-      six (codes "circuit " ++ number_text 32 c.inputs) (number_text 10 c.gates) (codes "time " ++ number_text 10 c.time)
-          (codes "from " ++ vector_text c.pair.first) (codes "to " ++ vector_text c.pair.second) (nodes_text c.tree),
-      inputs,
+      length-append (codes "circuit ") (text_from_inputs c),
+      length-append (number_text 32 (inputs c)) (text_from_gates c),
+      length-append (number_text 10 c.gates) (text_from_question c),
+      length-append (question_text c.question) (text_from_time c),
+      length-append (codes "time " ++ number_text 10 c.time) (text_from_first c),
+      length-append (codes "from " ++ vector_text c.pair.first) (text_from_second c),
+      length-append (codes "to " ++ vector_text c.pair.second) (nodes_text c.tree),
+      question,
+      inputs_short,
       gates,
       time,
       first,
@@ -84,7 +161,8 @@ searched_texts_fit c has small short few =
     omega (
       arith,
       ap length (spelling_is c),
-      length-append (codes "tdelay-cert 1\n") (text_from_inputs c),
+      length-append (version_text (version_of c.question)) (lines_text c),
+      version_length (version_of c.question),
       head_length c has small,
       nodes_length c.tree short,
     )

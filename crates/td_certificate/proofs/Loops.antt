@@ -1,13 +1,15 @@
 -- The loops of the reader, against reading as a function.
-use Rattle.std.proofs.Common.{◌≡◌, ◌≢◌, ℕ, zero, suc, ◌+◌, ◌-◌, ◌<◌, ◌≤◌, Bool, true, false, cond, eqb, List, [], ◌∷◌, ◌++◌, length, drop, get_or, Ok, Err, refl, sym, ap, ◌∙◌, append_assoc, add-one, arith}
-use Rattle.std.specs.Prelude.{◌||◌}
-use Rattle.std.proofs.lemmas.List.{append-nil, nil_from_length, length-drop}
+use Rattle.std.proofs.Common.{◌≡◌, ◌≢◌, ℕ, suc, ◌+◌, ◌-◌, ◌*◌, ◌<◌, ◌≤◌, Bool, cond, eqb, List, [], ◌∷◌, ◌++◌, length, take, drop, get_or, Option, Ok, Err, refl, sym, ap, ◌∙◌, append_assoc, add-one, arith}
+use Rattle.std.specs.Prelude.{◌&&◌, ◌==◌}
+use Rattle.std.proofs.lemmas.List.{append-nil, nil_from_length, length-drop, length-take, take_more}
 use Rattle.std.proofs.Math.Seq.{drop-cons}
 use Rattle.std.proofs.lemmas.Bool.{ne_eqb, eq-eqb}
+use Rattle.td_domain.specs.declared.cubes.Trit.{Trit}
 use Rattle.td_certificate.specs.declared.fields.Reason.TheVariants.{Syntax}
 use Rattle.td_certificate.specs.declared.fields.Stop as code_stop
 use Rattle.td_certificate.specs.declared.fields.Stop.TheVariants as code
-use Rattle.td_certificate.specs.Reading.{Ends, Wrong, Reading, ◌>>=◌, Fails, byte_at, literal, bits_at}
+use Rattle.td_certificate.specs.Text.{weave}
+use Rattle.td_certificate.specs.Reading.{Ends, Wrong, Reading, ◌>>=◌, Fails, byte_at, literal, char_at, chars_at, moment_at, moments_at}
 
 -- what is read behind a list that was read
 abbrev pub with_front : {A : Type 0} → List A → Reading (List A) → Reading (List A)
@@ -75,40 +77,103 @@ literal_done word i rest total le so_far =
     let none : drop i word ≡ [] = nil_from_length (drop i word) (omega (arith, length-drop i word)) in
     sym so_far ∙ ap (λ (w : List ℕ). literal w rest) none
 
--- ---- bits
+-- ---- characters
 
-bits_end : (count : ℕ) (rest : List ℕ) → 0 < count → rest ≡ [] → bits_at count rest ≡ Err Ends
-unfolding bits_at
-bits_end zero rest lt e = absurd (omega arith)
-bits_end (suc count) rest lt e = rw e refl
-
-bits_same : (count : ℕ) (x : ℕ × List ℕ) (rest : List ℕ) → byte_at rest ≡ Ok x
-    → bits_at (suc count) rest ≡ cond (eqb x.0 48 || eqb x.0 49) (bits_at count x.1 >>= λ others. Ok (eqb x.0 49 ∷ others.0, others.1)) (Err (Wrong Syntax rest))
-unfolding bits_at
-bits_same count x rest e = rw (byte_is rest x e) refl
-
-pub bits_stop : (stop : code_stop.Stop) (front : List Bool) (count i : ℕ) (rest : List ℕ) (total : Reading (List Bool)) → i < count
-    → Fails stop (byte_at rest) → with_front front (bits_at (count - i) rest) ≡ total → Fails stop total
-bits_stop stop front count i rest total lt e so_far =
-    no_byte stop rest total e (λ none. sym so_far ∙ ap (with_front front) (bits_end (count - i) rest (omega arith) none))
-
-pub bits_differ : (front : List Bool) (count i : ℕ) (x : ℕ × List ℕ) (rest : List ℕ) (total : Reading (List Bool)) → i < count → byte_at rest ≡ Ok x
-    → (eqb x.0 48 || eqb x.0 49) ≡ false → with_front front (bits_at (count - i) rest) ≡ total → total ≡ Err (Wrong Syntax rest)
-bits_differ front count i x rest total lt e is so_far =
+chars_first : {A : Type 0} (value : ℕ → Option A) (count i : ℕ) (rest : List ℕ) → i < count
+    → chars_at value (count - i) rest ≡ (char_at value rest >>= λ x. chars_at value (count - (i + 1)) x.1 >>= λ others. Ok (x.0 ∷ others.0, others.1))
+unfolding chars_at
+chars_first {A} value count i rest lt =
     let k : count - i ≡ suc (count - (i + 1)) = omega arith in
-    let one : bits_at (count - i) rest ≡ Err (Wrong Syntax rest) = rw (k, bits_same (count - (i + 1)) x rest e, is) refl in
-    sym so_far ∙ ap (with_front front) one
+    ap (λ (n : ℕ). chars_at value n rest) k
 
-pub bits_go_on : (front : List Bool) (count i : ℕ) (x : ℕ × List ℕ) (rest : List ℕ) (total : Reading (List Bool)) (bit : Bool) → i < count → byte_at rest ≡ Ok x
-    → (eqb x.0 48 || eqb x.0 49) ≡ true → bit ≡ eqb x.0 49 → with_front front (bits_at (count - i) rest) ≡ total
-    → with_front (front ++ bit ∷ []) (bits_at (count - (i + 1)) x.1) ≡ total
-bits_go_on front count i x rest total bit lt e is same so_far =
-    let k : count - i ≡ suc (count - (i + 1)) = omega arith in
-    let one : bits_at (count - i) rest ≡ (bits_at (count - (i + 1)) x.1 >>= λ others. Ok (eqb x.0 49 ∷ others.0, others.1)) = rw (k, bits_same (count - (i + 1)) x rest e, is) refl in
-    rw same (sym (ap (with_front front) one ∙ with_front-push front (eqb x.0 49) (bits_at (count - (i + 1)) x.1)) ∙ so_far)
+-- a reading behind others that stopped
+front_stops : {A B : Type 0} (stop : code_stop.Stop) (front : List B) (read : Reading A) (next : A × List ℕ → Reading (List B)) (whole total : Reading (List B))
+    → Fails stop read → whole ≡ (read >>= next) → with_front front whole ≡ total → Fails stop total
+front_stops code.OutOfMemory front read next whole total e is so_far = tt
+front_stops {A} code.Ends front read next whole total e is so_far = sym so_far ∙ ap (with_front front) (is ∙ ap (λ (r : Reading A). r >>= next) e)
+front_stops {A} (code.Wrong reason at) front read next whole total e is so_far = sym so_far ∙ ap (with_front front) (is ∙ ap (λ (r : Reading A). r >>= next) e)
 
-pub bits_done : (front : List Bool) (count i : ℕ) (rest : List ℕ) (total : Reading (List Bool)) → count ≤ i → with_front front (bits_at (count - i) rest) ≡ total → total ≡ Ok (front, rest)
-unfolding bits_at
-bits_done front count i rest total le so_far =
+pub chars_stop : {A : Type 0} (stop : code_stop.Stop) (value : ℕ → Option A) (front : List A) (count i : ℕ) (rest : List ℕ) (total : Reading (List A)) → i < count
+    → Fails stop (char_at value rest) → with_front front (chars_at value (count - i) rest) ≡ total → Fails stop total
+chars_stop stop value front count i rest total lt e so_far =
+    front_stops stop front (char_at value rest) (λ x. chars_at value (count - (i + 1)) x.1 >>= λ others. Ok (x.0 ∷ others.0, others.1))
+    (chars_at value (count - i) rest) total e (chars_first value count i rest lt) so_far
+
+pub chars_go_on : {A : Type 0} (value : ℕ → Option A) (front : List A) (count i : ℕ) (x : A × List ℕ) (rest : List ℕ) (total : Reading (List A)) → i < count → char_at value rest ≡ Ok x
+    → with_front front (chars_at value (count - i) rest) ≡ total → with_front (front ++ x.0 ∷ []) (chars_at value (count - (i + 1)) x.1) ≡ total
+chars_go_on {A} value front count i x rest total lt e so_far =
+    let one : chars_at value (count - i) rest ≡ (chars_at value (count - (i + 1)) x.1 >>= λ others. Ok (x.0 ∷ others.0, others.1)) =
+    chars_first value count i rest lt ∙ ap (λ (r : Reading A). r >>= λ y. chars_at value (count - (i + 1)) y.1 >>= λ others. Ok (y.0 ∷ others.0, others.1)) e in
+    sym (ap (with_front front) one ∙ with_front-push front x.0 (chars_at value (count - (i + 1)) x.1)) ∙ so_far
+
+pub chars_done : {A : Type 0} (value : ℕ → Option A) (front : List A) (count i : ℕ) (rest : List ℕ) (total : Reading (List A)) → count ≤ i
+    → with_front front (chars_at value (count - i) rest) ≡ total → total ≡ Ok (front, rest)
+unfolding chars_at
+chars_done {A} value front count i rest total le so_far =
     let k : count - i ≡ 0 = omega arith in
-    sym so_far ∙ rw k (ap (λ (bs : List Bool). Ok (bs, rest)) (append-nil front))
+    sym so_far ∙ ap (λ (n : ℕ). with_front front (chars_at value n rest)) k ∙ ap (λ (xs : List A). Ok (xs, rest)) (append-nil front)
+
+-- ---- moments
+
+abbrev behind_moment : Bool → ℕ → ℕ × List ℕ → Reading (List ℕ)
+behind_moment at_once others x = moments_at (at_once && x.0 == 0) others x.1 >>= λ later. Ok (x.0 ∷ later.0, later.1)
+
+moments_first : (at_once : Bool) (count i : ℕ) (rest : List ℕ) → i < count
+    → moments_at at_once (count - i) rest ≡ (moment_at at_once (count - i - 1) rest >>= behind_moment at_once (count - i - 1))
+unfolding moments_at
+moments_first at_once count i rest lt =
+    let k : count - i ≡ suc (count - i - 1) = omega arith in
+    ap (λ (n : ℕ). moments_at at_once n rest) k
+
+pub moments_stop : (stop : code_stop.Stop) (at_once : Bool) (front : List ℕ) (count i : ℕ) (rest : List ℕ) (total : Reading (List ℕ)) → i < count
+    → Fails stop (moment_at at_once (count - i - 1) rest) → with_front front (moments_at at_once (count - i) rest) ≡ total → Fails stop total
+moments_stop stop at_once front count i rest total lt e so_far =
+    front_stops stop front (moment_at at_once (count - i - 1) rest) (behind_moment at_once (count - i - 1))
+    (moments_at at_once (count - i) rest) total e (moments_first at_once count i rest lt) so_far
+
+pub moments_go_on : (at_once now : Bool) (front : List ℕ) (count i : ℕ) (x : ℕ × List ℕ) (rest : List ℕ) (total : Reading (List ℕ)) → i < count
+    → moment_at at_once (count - i - 1) rest ≡ Ok x → now ≡ (at_once && x.0 == 0)
+    → with_front front (moments_at at_once (count - i) rest) ≡ total → with_front (front ++ x.0 ∷ []) (moments_at now (count - (i + 1)) x.1) ≡ total
+moments_go_on at_once now front count i x rest total lt e is so_far =
+    let one : moments_at at_once (count - i) rest ≡ behind_moment at_once (count - i - 1) x =
+    moments_first at_once count i rest lt ∙ ap (λ (r : Reading ℕ). r >>= behind_moment at_once (count - i - 1)) e in
+    let left : count - (i + 1) ≡ count - i - 1 = omega arith in
+    ap (λ (b : Bool). with_front (front ++ x.0 ∷ []) (moments_at b (count - (i + 1)) x.1)) is
+    ∙ ap (λ (n : ℕ). with_front (front ++ x.0 ∷ []) (moments_at (at_once && x.0 == 0) n x.1)) left
+    ∙ sym (ap (with_front front) one ∙ with_front-push front x.0 (moments_at (at_once && x.0 == 0) (count - i - 1) x.1)) ∙ so_far
+
+pub moments_done : (at_once : Bool) (front : List ℕ) (count i : ℕ) (rest : List ℕ) (total : Reading (List ℕ)) → count ≤ i
+    → with_front front (moments_at at_once (count - i) rest) ≡ total → total ≡ Ok (front, rest)
+unfolding moments_at
+moments_done at_once front count i rest total le so_far =
+    let k : count - i ≡ 0 = omega arith in
+    sym so_far ∙ ap (λ (n : ℕ). with_front front (moments_at at_once n rest)) k ∙ ap (λ (xs : List ℕ). Ok (xs, rest)) (append-nil front)
+
+-- ---- woven trits
+
+pub weave-push : (firsts seconds : List Trit) (first second : Trit) → length firsts ≡ length seconds → weave (firsts ++ first ∷ []) (seconds ++ second ∷ []) ≡ weave firsts seconds ++ first ∷ second ∷ []
+weave-push [] [] first second e = refl
+weave-push [] (s ∷ seconds) first second e = absurd (omega (arith, e))
+weave-push (f ∷ firsts) [] first second e = absurd (omega (arith, e))
+weave-push (f ∷ firsts) (s ∷ seconds) first second e = ap (λ (trits : List Trit). f ∷ s ∷ trits) (weave-push firsts seconds first second (omega (arith, e)))
+
+weave_next : (firsts seconds : List Trit) (i : ℕ) (d e : Trit) → i < length firsts → length firsts ≡ length seconds
+    → weave (take (i + 1) firsts) (take (i + 1) seconds) ≡ (weave (take i firsts) (take i seconds) ++ get_or firsts i d ∷ []) ++ get_or seconds i e ∷ []
+weave_next firsts seconds i d e lt same =
+    let below : i < length seconds = omega (arith, same) in
+    let long : length (take i firsts) ≡ length (take i seconds) = omega (arith, length-take i firsts, length-take i seconds) in
+    ap (λ (ts : List Trit). weave ts (take (i + 1) seconds)) (take_more firsts i d lt)
+    ∙ ap (λ (ts : List Trit). weave (take i firsts ++ get_or firsts i d ∷ []) ts) (take_more seconds i e below)
+    ∙ weave-push (take i firsts) (take i seconds) (get_or firsts i d) (get_or seconds i e) long
+    ∙ sym (append_assoc (weave (take i firsts) (take i seconds)) (get_or firsts i d ∷ []) (get_or seconds i e ∷ []))
+
+pub weave_more : (firsts seconds items next last : List Trit) (i : ℕ) (d e : Trit) → i < length firsts → length firsts ≡ length seconds
+    → items ≡ weave (take i firsts) (take i seconds) → next ≡ items ++ get_or firsts i d ∷ [] → last ≡ next ++ get_or seconds i e ∷ []
+    → last ≡ weave (take (i + 1) firsts) (take (i + 1) seconds)
+weave_more firsts seconds items next last i d e lt same is more most =
+    most ∙ ap (λ (ts : List Trit). ts ++ get_or seconds i e ∷ []) (more ∙ ap (λ (ts : List Trit). ts ++ get_or firsts i d ∷ []) is) ∙ sym (weave_next firsts seconds i d e lt same)
+
+pub weave-length : (firsts seconds : List Trit) → length firsts ≡ length seconds → length (weave firsts seconds) ≡ 2 * length firsts
+weave-length [] seconds e = refl
+weave-length (f ∷ firsts) [] e = absurd (omega (arith, e))
+weave-length (f ∷ firsts) (s ∷ seconds) e = let rest = weave-length firsts seconds (omega (arith, e)) in omega (arith, rest)

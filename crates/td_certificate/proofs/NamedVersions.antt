@@ -6,17 +6,21 @@ use Rattle.std.proofs.lemmas.Bool.{eq-eqb, leb-true}
 use Rattle.td_certificate.specs.declared.certificate.Certificate.{Certificate}
 use Rattle.td_certificate.specs.declared.fault.CertFaultKind.TheVariants as kind
 use Rattle.td_certificate.specs.declared.fields.Reason.{Reason}
-use Rattle.td_certificate.specs.declared.fields.Reason.TheVariants.{Syntax, NumberTooLarge, Version}
+use Rattle.td_certificate.specs.declared.fields.Reason.TheVariants.{Syntax, NumberTooLarge}
+use Rattle.td_certificate.specs.declared.fields.Reason.TheVariants as reason
+use Rattle.td_certificate.specs.declared.question.Version.{Version}
+use Rattle.td_certificate.specs.declared.question.Version.TheVariants.{First, Second, Third}
+use Rattle.td_certificate.specs.Questions.{version_number}
 use Rattle.td_certificate.specs.Spelling.{greatest}
-use Rattle.td_certificate.specs.Reading.{Ends, Wrong, Reading, literal, begins_number, front_number, version_reason, because, version_at, certificate_at}
-use Rattle.td_certificate.specs.Faults.{NoDigit, VersionsAreNamed, kind_at, kind_in}
+use Rattle.td_certificate.specs.Reading.{Ends, Wrong, Reading, literal, begins_number, front_number, is_version, version_reason, because, digit_at, version_at, lines_at, certificate_at}
+use Rattle.td_certificate.specs.Faults.{NoDigit, IsOther, VersionsAreNamed, kind_at, kind_in}
 use Rattle.td_certificate.proofs.Loops.{done}
 use Rattle.td_certificate.proofs.Codes.{bind_err}
 use Rattle.td_certificate.proofs.FieldCodes.{ends, wrong, both, digit_range, decimal_more, digit_text, literal_code}
 use Rattle.td_certificate.proofs.Numbers.{front_grows}
 use Rattle.td_certificate.proofs.VectorCodes.{cases}
 use Rattle.td_certificate.proofs.Versions.{front_digit}
-use Rattle.td_certificate.proofs.PlainReading.{literal_plain, behind_version, version_plain}
+use Rattle.td_certificate.proofs.PlainReading.{literal_plain, lines_plain}
 
 -- ---- the digits in front are a number's as it is written
 
@@ -97,75 +101,81 @@ split_begun (d ∷ b ∷ rest) e le =
 
 -- ---- what version_reason says
 
-record IsOther (behind : List ℕ) : Type 0 where
+record IsOtherNumber (behind : List ℕ) : Type 0 where
   begins : begins_number behind ≡ true
-  other : front_number 0 behind ≢ 1
+  other : IsOther (front_number 0 behind)
   within : front_number 0 behind ≤ greatest
 
 reason_by : Bool → Bool → Bool → Reason
-reason_by begins one within = cond (begins && not one) (cond within Version NumberTooLarge) Syntax
+reason_by begins known within = cond (begins && not known) (cond within reason.Version NumberTooLarge) Syntax
 
-by_version : (begins one within : Bool) → reason_by begins one within ≡ Version → (begins ≡ true) × (one ≡ false) × (within ≡ true)
+by_version : (begins known within : Bool) → reason_by begins known within ≡ reason.Version → (begins ≡ true) × (known ≡ false) × (within ≡ true)
 unfolding reason_by
 by_version true true within e = absurd cc
 by_version true false true e = (refl, refl, refl)
 by_version true false false e = absurd cc
-by_version false one within e = absurd cc
+by_version false known within e = absurd cc
 
-other_of : (behind : List ℕ) → version_reason behind ≡ Version → IsOther behind
+is_a_version : (version : Version) → is_version (version_number version) ≡ true
+is_a_version First = refl
+is_a_version Second = refl
+is_a_version Third = refl
+
+is_other : (n : ℕ) → is_version n ≡ false → IsOther n
+is_other n none version same =
+    let known : is_version n ≡ true = ap is_version same ∙ is_a_version version in
+    cc
+
+other_of : (behind : List ℕ) → version_reason behind ≡ reason.Version → IsOtherNumber behind
 unfolding version_reason reason_by
 other_of behind e =
-    let p = by_version (begins_number behind) (eqb (front_number 0 behind) 1) (leb (front_number 0 behind) greatest) e in
-    record {
-      begins = p.0;
-      other = λ same. let q : eqb (front_number 0 behind) 1 ≡ true = eq-eqb (front_number 0 behind) 1 same in let h : eqb (front_number 0 behind) 1 ≡ false = p.1 in cc;
-      within = leb-true (front_number 0 behind) greatest p.2;
-    }
+    let p = by_version (begins_number behind) (is_version (front_number 0 behind)) (leb (front_number 0 behind) greatest) e in
+    record { begins = p.0; other = is_other (front_number 0 behind) p.1; within = leb-true (front_number 0 behind) greatest p.2 }
 
 -- ---- from the text to its first line
 
-because_reason : {A : Type 0} (why reason : Reason) (read : Reading A) (rest : List ℕ) → because why read ≡ Err (Wrong reason rest) → why ≡ reason
-because_reason why reason (Ok y) rest e = absurd (let h : done y ≡ wrong reason rest = e in cc)
-because_reason {A} why reason (Err Ends) rest e = absurd (let h : ends {A = A} ≡ wrong reason rest = e in cc)
-because_reason {A} why reason (Err (Wrong other this)) rest e = let h : wrong {A = A} why this ≡ wrong reason rest = e in cc
+because_reason : {A : Type 0} (why told : Reason) (read : Reading A) (rest : List ℕ) → because why read ≡ Err (Wrong told rest) → why ≡ told
+because_reason why told (Ok y) rest e = absurd (let h : done y ≡ wrong told rest = e in cc)
+because_reason {A} why told (Err Ends) rest e = absurd (let h : ends {A = A} ≡ wrong told rest = e in cc)
+because_reason {A} why told (Err (Wrong other this)) rest e = let h : wrong {A = A} why this ≡ wrong told rest = e in cc
 
-abbrev line_end : Unit {0} × List ℕ → Reading (Unit {0})
-line_end word = because (version_reason word.1) (literal (codes "1\n") word.1)
+abbrev line_end : Unit {0} × List ℕ → Reading Version
+line_end word = because (version_reason word.1) (digit_at word.1)
 
 record Behind (text : List ℕ) : Type 0 where
   behind : List ℕ
   parts : text ≡ codes "tdelay-cert " ++ behind
-  reason : version_reason behind ≡ Version
+  reason : version_reason behind ≡ reason.Version
 
-behind_of : (text rest : List ℕ) → version_at text ≡ Err (Wrong Version rest) → Behind text
+behind_of : (text rest : List ℕ) → version_at text ≡ Err (Wrong reason.Version rest) → Behind text
 unfolding version_at
 behind_of text rest e =
-    elim (bind_err (literal (codes "tdelay-cert ") text) line_end (Wrong Version rest) e) as (λ _. Behind text) [
+    elim (bind_err (literal (codes "tdelay-cert ") text) line_end (Wrong reason.Version rest) e) as (λ _. Behind text) [
       | inl here ↦ absurd (literal_plain (codes "tdelay-cert ") text rest here)
       | inr there ↦
           let p = (literal_code (codes "tdelay-cert ")).takes text there.value.0 there.value.1 there.was in
-          record { behind = there.value.1; parts = p.1; reason = because_reason (version_reason there.value.1) Version (literal (codes "1\n") there.value.1) rest there.stopped }
+          record { behind = there.value.1; parts = p.1; reason = because_reason (version_reason there.value.1) reason.Version (digit_at there.value.1) rest there.stopped }
     ]
 
-abbrev then_version : Unit {0} × List ℕ → Reading Certificate
-then_version word = behind_version word.1
+abbrev then_lines : Version × List ℕ → Reading Certificate
+then_lines version = lines_at version.0 version.1
 
-first_of : (text rest : List ℕ) → certificate_at text ≡ Err (Wrong Version rest) → version_at text ≡ Err (Wrong Version rest)
+first_of : (text rest : List ℕ) → certificate_at text ≡ Err (Wrong reason.Version rest) → version_at text ≡ Err (Wrong reason.Version rest)
 unfolding certificate_at
 first_of text rest e =
-    elim (bind_err (version_at text) then_version (Wrong Version rest) e) as (λ _. version_at text ≡ Err (Wrong Version rest)) [
+    elim (bind_err (version_at text) then_lines (Wrong reason.Version rest) e) as (λ _. version_at text ≡ Err (Wrong reason.Version rest)) [
       | inl here ↦ here
-      | inr there ↦ absurd (version_plain there.value.1 rest there.stopped)
+      | inr there ↦ absurd (lines_plain there.value.0 there.value.1 rest there.stopped)
     ]
 
-wrong_of : (read : Reading Certificate) → kind_at read ≡ Some kind.Version → (rest : List ℕ) × (read ≡ Err (Wrong Version rest))
+wrong_of : (read : Reading Certificate) → kind_at read ≡ Some kind.Version → (rest : List ℕ) × (read ≡ Err (Wrong reason.Version rest))
 wrong_of (Ok x) e = absurd cc
 wrong_of (Err Ends) e = absurd cc
 wrong_of (Err (Wrong Syntax rest)) e = absurd cc
 wrong_of (Err (Wrong NumberTooLarge rest)) e = absurd cc
-wrong_of (Err (Wrong Version rest)) e = (rest, refl)
+wrong_of (Err (Wrong reason.Version rest)) e = (rest, refl)
 
-certificate_wrong : (text : List ℕ) → kind_in text ≡ Some kind.Version → (rest : List ℕ) × (certificate_at text ≡ Err (Wrong Version rest))
+certificate_wrong : (text : List ℕ) → kind_in text ≡ Some kind.Version → (rest : List ℕ) × (certificate_at text ≡ Err (Wrong reason.Version rest))
 unfolding kind_in
 certificate_wrong text e = wrong_of (certificate_at text) e
 

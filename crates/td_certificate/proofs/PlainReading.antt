@@ -1,19 +1,24 @@
 -- Version is told of nothing behind the first line.
-use Rattle.std.proofs.Common.{◌≡◌, ℕ, zero, suc, ◌+◌, ◌-◌, ◌*◌, Bool, true, false, cond, eqb, ltb, leb, List, [], ◌∷◌, Ok, inl, inr}
-use Rattle.std.specs.Prelude.{codes, ◌||◌}
+use Rattle.std.proofs.Common.{◌≡◌, ℕ, zero, suc, ◌+◌, ◌-◌, ◌*◌, Bool, true, false, cond, eqb, ltb, leb, List, [], ◌∷◌, Option, Some, None, Ok, Err, inl, inr}
+use Rattle.std.specs.Prelude.{codes, replicate, ◌&&◌, ◌==◌}
 use Rattle.std.specs.Char.{is_ascii_digit}
 use Rattle.td_certificate.specs.declared.tree.Node.TheVariants as node
+use Rattle.td_certificate.specs.declared.question.Version.{Version}
+use Rattle.td_certificate.specs.declared.question.Version.TheVariants.{First, Second, Third}
 use Rattle.td_certificate.specs.declared.certificate.Certificate.{Certificate}
-use Rattle.td_certificate.specs.declared.fields.Reason.TheVariants.{Syntax, NumberTooLarge, Version}
+use Rattle.td_certificate.specs.declared.fields.Reason.TheVariants.{Syntax, NumberTooLarge}
+use Rattle.td_certificate.specs.declared.fields.Reason.TheVariants as reason
 use Rattle.td_certificate.specs.Trees.{sides}
-use Rattle.td_certificate.specs.Spelling.{greatest}
-use Rattle.td_certificate.specs.Reading.{Wrong, Reading, ◌>>=◌, literal, digits_at, number_at, bits_at, vector_at, letter_at, number_behind, vector_behind, Tag, SplitTag, BoundTag, PointTag, tag_at, behind_tag, node_at, nodes_within, nodes_at, with_fields}
+use Rattle.td_certificate.specs.Questions.{Question, all_at_once}
+use Rattle.td_certificate.specs.Text.{weave}
+use Rattle.td_certificate.specs.Spelling.{greatest, latest}
+use Rattle.td_certificate.specs.Reading.{Ends, Wrong, Reading, ◌>>=◌, literal, digits_at, number_at, begins_with_zero, number_from, taken, char_at, chars_at, trit_of, hold_of, bit_of, chars_behind, letter_at, number_behind, vector_behind, because, has_inputs, most_flips, flips_at, with_pins, admit_at, close_of, moment_at, moments_at, at_line, asked, question_at, Tag, SplitTag, BoundTag, PointTag, EmptyTag, tag_at, behind_tag, node_at, nodes_within, nodes_at, with_fields, lines_at}
 use Rattle.td_certificate.proofs.Loops.{done}
 use Rattle.td_certificate.proofs.Codes.{bind_err}
 use Rattle.td_certificate.proofs.FieldCodes.{ends, wrong}
 
 abbrev pub Plain : {A : Type 0} → Reading A → Type 0
-Plain {A} read = (rest : List ℕ) → ¬ (read ≡ wrong {A = A} Version rest)
+Plain {A} read = (rest : List ℕ) → ¬ (read ≡ wrong {A = A} reason.Version rest)
 
 plain_ok : {A : Type 0} (x : A × List ℕ) → Plain (done x)
 plain_ok x rest e = cc
@@ -28,7 +33,7 @@ plain_large : {A : Type 0} (at : List ℕ) → Plain {A = A} (wrong NumberTooLar
 plain_large at rest e = cc
 
 plain_then : {A B : Type 0} (r : Reading A) (f : A × List ℕ → Reading B) → Plain r → ((x : A × List ℕ) → Plain (f x)) → Plain (r >>= f)
-plain_then r f p q rest e = elim (bind_err r f (Wrong Version rest) e) as (λ _. ⊥) [ inl here ↦ p rest here | inr there ↦ q there.value rest there.stopped ]
+plain_then r f p q rest e = elim (bind_err r f (Wrong reason.Version rest) e) as (λ _. ⊥) [ inl here ↦ p rest here | inr there ↦ q there.value rest there.stopped ]
 
 plain_if : {A : Type 0} (b : Bool) (x y : Reading A) → Plain x → Plain y → Plain (cond b x y)
 plain_if true x y p q = p
@@ -63,46 +68,101 @@ number_plain most close (b ∷ rest) =
     (plain_if (leb (b - 48) most) (digits_at most close (b - 48) rest) (wrong NumberTooLarge (b ∷ rest)) (digits_plain most close (b - 48) rest) (plain_large (b ∷ rest)))
     (plain_syntax (b ∷ rest))
 
-bits_plain : (count : ℕ) (bytes : List ℕ) → Plain (bits_at count bytes)
-unfolding bits_at
-bits_plain zero bytes = plain_ok ([], bytes)
-bits_plain (suc count) [] = plain_ends
-bits_plain (suc count) (b ∷ rest) =
-    plain_if (eqb b 48 || eqb b 49) (bits_at count rest >>= λ others. Ok (eqb b 49 ∷ others.0, others.1)) (wrong Syntax (b ∷ rest))
-    (plain_then (bits_at count rest) (λ others. Ok (eqb b 49 ∷ others.0, others.1)) (bits_plain count rest) (λ others. plain_ok (eqb b 49 ∷ others.0, others.1)))
-    (plain_syntax (b ∷ rest))
+from_plain : (positive : Bool) (most close : ℕ) (bytes : List ℕ) → Plain (number_from positive most close bytes)
+unfolding number_from
+from_plain positive most close bytes =
+    plain_if (positive && begins_with_zero bytes) (wrong Syntax bytes) (number_at most close bytes) (plain_syntax bytes) (number_plain most close bytes)
 
-vector_plain : (count : ℕ) (bytes : List ℕ) → Plain (vector_at count bytes)
-unfolding vector_at
-vector_plain zero bytes = plain_then (literal (codes "none\n") bytes) (λ word. Ok ([], word.1)) (literal_plain (codes "none\n") bytes) (λ word. plain_ok ([], word.1))
-vector_plain (suc count) bytes =
-    plain_then (bits_at (suc count) bytes) (λ bits. literal (codes "\n") bits.1 >>= λ end. Ok (bits.0, end.1)) (bits_plain (suc count) bytes)
-    (λ bits. plain_then (literal (codes "\n") bits.1) (λ end. Ok (bits.0, end.1)) (literal_plain (codes "\n") bits.1) (λ end. plain_ok (bits.0, end.1)))
+-- told as the syntax
+syntax_plain : {A : Type 0} (read : Reading A) → Plain (because Syntax read)
+syntax_plain (Ok x) = plain_ok x
+syntax_plain (Err Ends) = plain_ends
+syntax_plain (Err (Wrong other rest)) = plain_syntax rest
+
+taken_plain : {A : Type 0} (o : Option A) (b : ℕ) (rest : List ℕ) → Plain (taken o b rest)
+taken_plain (Some x) b rest = plain_ok (x, rest)
+taken_plain None b rest = plain_syntax (b ∷ rest)
+
+pub char_plain : {A : Type 0} (value : ℕ → Option A) (bytes : List ℕ) → Plain (char_at value bytes)
+char_plain value [] = plain_ends
+char_plain value (b ∷ rest) = taken_plain (value b) b rest
+
+chars_plain : {A : Type 0} (value : ℕ → Option A) (count : ℕ) (bytes : List ℕ) → Plain (chars_at value count bytes)
+unfolding chars_at
+chars_plain value zero bytes = plain_ok ([], bytes)
+chars_plain value (suc count) bytes =
+    plain_then (char_at value bytes) (λ first. chars_at value count first.1 >>= λ others. Ok (first.0 ∷ others.0, others.1)) (char_plain value bytes)
+    (λ first. plain_then (chars_at value count first.1) (λ others. Ok (first.0 ∷ others.0, others.1)) (chars_plain value count first.1) (λ others. plain_ok (first.0 ∷ others.0, others.1)))
+
+chars_behind_plain : {A : Type 0} (word : List ℕ) (value : ℕ → Option A) (count : ℕ) (bytes : List ℕ) → Plain (chars_behind word value count bytes)
+unfolding chars_behind
+chars_behind_plain word value count bytes =
+    plain_then (literal word bytes) (λ behind. chars_at value count behind.1 >>= λ chars. literal (codes "\n") chars.1 >>= λ end. Ok (chars.0, end.1)) (literal_plain word bytes)
+    (λ behind. plain_then (chars_at value count behind.1) (λ chars. literal (codes "\n") chars.1 >>= λ end. Ok (chars.0, end.1)) (chars_plain value count behind.1)
+    (λ chars. plain_then (literal (codes "\n") chars.1) (λ end. Ok (chars.0, end.1)) (literal_plain (codes "\n") chars.1) (λ end. plain_ok (chars.0, end.1))))
+
+vector_behind_plain : (word : List ℕ) (count : ℕ) (bytes : List ℕ) → Plain (vector_behind word count bytes)
+unfolding vector_behind
+vector_behind_plain word zero bytes =
+    plain_then (literal word bytes) (λ behind. literal (codes "none\n") behind.1 >>= λ none. Ok ([], none.1)) (literal_plain word bytes)
+    (λ behind. plain_then (literal (codes "none\n") behind.1) (λ none. Ok ([], none.1)) (literal_plain (codes "none\n") behind.1) (λ none. plain_ok ([], none.1)))
+vector_behind_plain word (suc count) bytes = chars_behind_plain word bit_of (suc count) bytes
 
 number_behind_plain : (word : List ℕ) (most close : ℕ) (bytes : List ℕ) → Plain (number_behind word most close bytes)
 unfolding number_behind
 number_behind_plain word most close bytes = plain_then (literal word bytes) (λ behind. number_at most close behind.1) (literal_plain word bytes) (λ behind. number_plain most close behind.1)
 
-vector_behind_plain : (word : List ℕ) (count : ℕ) (bytes : List ℕ) → Plain (vector_behind word count bytes)
-unfolding vector_behind
-vector_behind_plain word count bytes = plain_then (literal word bytes) (λ behind. vector_at count behind.1) (literal_plain word bytes) (λ behind. vector_plain count behind.1)
+-- ---- the question
 
--- one of three letters
-three_plain : {A : Type 0} (i j k b : ℕ) (rest : List ℕ) (x y z : A) → Plain (cond (eqb b i) (done (x, rest)) (cond (eqb b j) (done (y, rest)) (cond (eqb b k) (done (z, rest)) (wrong Syntax (b ∷ rest)))))
-three_plain i j k b rest x y z =
-    plain_if (eqb b i) (done (x, rest)) (cond (eqb b j) (done (y, rest)) (cond (eqb b k) (done (z, rest)) (wrong Syntax (b ∷ rest)))) (plain_ok (x, rest))
-    (plain_if (eqb b j) (done (y, rest)) (cond (eqb b k) (done (z, rest)) (wrong Syntax (b ∷ rest))) (plain_ok (y, rest))
-    (plain_if (eqb b k) (done (z, rest)) (wrong Syntax (b ∷ rest)) (plain_ok (z, rest)) (plain_syntax (b ∷ rest))))
+flips_plain : (most : ℕ) (bytes : List ℕ) → Plain (flips_at most bytes)
+unfolding flips_at
+flips_plain most bytes = syntax_plain (number_behind (codes "flips ") most 10 bytes)
+
+admit_plain : (v : Version) (i : ℕ) (bytes : List ℕ) → Plain (admit_at v i bytes)
+unfolding admit_at
+admit_plain v i bytes =
+    plain_then (chars_behind (codes "first ") trit_of i bytes)
+    (λ firsts. chars_behind (codes "second ") trit_of i firsts.1 >>= λ seconds. chars_behind (codes "hold ") hold_of i seconds.1 >>= λ held. flips_at (most_flips v (weave firsts.0 seconds.0) held.0) held.1 >>= λ flips. Ok (with_pins firsts.0 seconds.0 held.0 flips.0, flips.1))
+    (chars_behind_plain (codes "first ") trit_of i bytes)
+    (λ firsts. plain_then (chars_behind (codes "second ") trit_of i firsts.1)
+    (λ seconds. chars_behind (codes "hold ") hold_of i seconds.1 >>= λ held. flips_at (most_flips v (weave firsts.0 seconds.0) held.0) held.1 >>= λ flips. Ok (with_pins firsts.0 seconds.0 held.0 flips.0, flips.1))
+    (chars_behind_plain (codes "second ") trit_of i firsts.1)
+    (λ seconds. plain_then (chars_behind (codes "hold ") hold_of i seconds.1)
+    (λ held. flips_at (most_flips v (weave firsts.0 seconds.0) held.0) held.1 >>= λ flips. Ok (with_pins firsts.0 seconds.0 held.0 flips.0, flips.1))
+    (chars_behind_plain (codes "hold ") hold_of i seconds.1)
+    (λ held. plain_then (flips_at (most_flips v (weave firsts.0 seconds.0) held.0) held.1) (λ flips. Ok (with_pins firsts.0 seconds.0 held.0 flips.0, flips.1))
+    (flips_plain (most_flips v (weave firsts.0 seconds.0) held.0) held.1) (λ flips. plain_ok (with_pins firsts.0 seconds.0 held.0 flips.0, flips.1)))))
+
+moments_plain : (at_once : Bool) (count : ℕ) (bytes : List ℕ) → Plain (moments_at at_once count bytes)
+unfolding moments_at
+moments_plain at_once zero bytes = plain_ok ([], bytes)
+moments_plain at_once (suc count) bytes =
+    plain_then (moment_at at_once count bytes) (λ first. moments_at (at_once && first.0 == 0) count first.1 >>= λ others. Ok (first.0 ∷ others.0, others.1))
+    (syntax_plain (number_from (at_once && count == 0) latest (close_of count) bytes))
+    (λ first. plain_then (moments_at (at_once && first.0 == 0) count first.1) (λ others. Ok (first.0 ∷ others.0, others.1)) (moments_plain (at_once && first.0 == 0) count first.1) (λ others. plain_ok (first.0 ∷ others.0, others.1)))
+
+at_plain : (i : ℕ) (bytes : List ℕ) → Plain (at_line i bytes)
+unfolding at_line
+at_plain i bytes = plain_then (literal (codes "at ") bytes) (λ behind. moments_at true i behind.1) (literal_plain (codes "at ") bytes) (λ behind. moments_plain true i behind.1)
+
+question_plain : (v : Version) (i : ℕ) (bytes : List ℕ) → Plain (question_at v i bytes)
+unfolding question_at
+question_plain First i bytes = plain_ok (all_at_once i, bytes)
+question_plain Second i bytes =
+    plain_then (admit_at Second i bytes) (λ admit. Ok (asked admit.0 (replicate i 0), admit.1)) (admit_plain Second i bytes) (λ admit. plain_ok (asked admit.0 (replicate i 0), admit.1))
+question_plain Third i bytes =
+    plain_then (admit_at Third i bytes) (λ admit. at_line i admit.1 >>= λ moments. Ok (asked admit.0 moments.0, moments.1)) (admit_plain Third i bytes)
+    (λ admit. plain_then (at_line i admit.1) (λ moments. Ok (asked admit.0 moments.0, moments.1)) (at_plain i admit.1) (λ moments. plain_ok (asked admit.0 moments.0, moments.1)))
+
+-- ---- the tree
 
 letter_plain : (bytes : List ℕ) → Plain (letter_at bytes)
 unfolding letter_at
-letter_plain [] = plain_ends
-letter_plain (b ∷ rest) = three_plain 97 116 109 b rest _ _ _
+letter_plain bytes = char_plain _ bytes
 
-tag_plain : (bytes : List ℕ) → Plain (tag_at bytes)
+tag_plain : (v : Version) (bytes : List ℕ) → Plain (tag_at v bytes)
 unfolding tag_at
-tag_plain [] = plain_ends
-tag_plain (b ∷ rest) = three_plain 115 98 112 b rest SplitTag BoundTag PointTag
+tag_plain v bytes = char_plain _ bytes
 
 last_plain : (bytes : List ℕ) → Plain (number_behind (codes " ") greatest 10 bytes)
 last_plain bytes = number_behind_plain (codes " ") greatest 10 bytes
@@ -117,44 +177,57 @@ behind_tag_plain BoundTag bytes =
     (λ domain. plain_then (number_behind (codes " ") greatest 10 domain.1) (λ bound. Ok (node.Bound domain.0 bound.0, bound.1)) (last_plain domain.1) (λ bound. plain_ok (node.Bound domain.0 bound.0, bound.1))))
 behind_tag_plain PointTag bytes =
     plain_then (number_behind (codes " ") greatest 10 bytes) (λ time. Ok (node.Point time.0, time.1)) (last_plain bytes) (λ time. plain_ok (node.Point time.0, time.1))
+behind_tag_plain EmptyTag bytes =
+    plain_then (literal (codes "one\n") bytes) (λ word. Ok (node.Empty, word.1)) (literal_plain (codes "one\n") bytes) (λ word. plain_ok (node.Empty, word.1))
 
-node_plain : (bytes : List ℕ) → Plain (node_at bytes)
+node_plain : (v : Version) (bytes : List ℕ) → Plain (node_at v bytes)
 unfolding node_at
-node_plain bytes = plain_then (tag_at bytes) (λ tag. behind_tag tag.0 tag.1) (tag_plain bytes) (λ tag. behind_tag_plain tag.0 tag.1)
+node_plain v bytes = plain_then (tag_at v bytes) (λ tag. behind_tag tag.0 tag.1) (tag_plain v bytes) (λ tag. behind_tag_plain tag.0 tag.1)
 
-within_plain : (count pending : ℕ) (bytes : List ℕ) → Plain (nodes_within count pending bytes)
+within_plain : (v : Version) (count pending : ℕ) (bytes : List ℕ) → Plain (nodes_within v count pending bytes)
 unfolding nodes_within
-within_plain zero zero bytes = plain_ok ([], bytes)
-within_plain (suc count) zero bytes = plain_ok ([], bytes)
-within_plain zero (suc pending) bytes = plain_ends
-within_plain (suc count) (suc pending) bytes =
-    plain_then (node_at bytes) (λ first. nodes_within count (sides first.0 + pending) first.1 >>= λ others. Ok (first.0 ∷ others.0, others.1)) (node_plain bytes)
-    (λ first. plain_then (nodes_within count (sides first.0 + pending) first.1) (λ others. Ok (first.0 ∷ others.0, others.1)) (within_plain count (sides first.0 + pending) first.1) (λ others. plain_ok (first.0 ∷ others.0, others.1)))
+within_plain v zero zero bytes = plain_ok ([], bytes)
+within_plain v (suc count) zero bytes = plain_ok ([], bytes)
+within_plain v zero (suc pending) bytes = plain_ends
+within_plain v (suc count) (suc pending) bytes =
+    plain_then (node_at v bytes) (λ first. nodes_within v count (sides first.0 + pending) first.1 >>= λ others. Ok (first.0 ∷ others.0, others.1)) (node_plain v bytes)
+    (λ first. plain_then (nodes_within v count (sides first.0 + pending) first.1) (λ others. Ok (first.0 ∷ others.0, others.1)) (within_plain v count (sides first.0 + pending) first.1) (λ others. plain_ok (first.0 ∷ others.0, others.1)))
 
-nodes_plain : (pending : ℕ) (bytes : List ℕ) → Plain (nodes_at pending bytes)
+nodes_plain : (v : Version) (pending : ℕ) (bytes : List ℕ) → Plain (nodes_at v pending bytes)
 unfolding nodes_at
-nodes_plain pending bytes = within_plain _ pending bytes
+nodes_plain v pending bytes = within_plain v _ pending bytes
 
-abbrev behind_second : ℕ → ℕ → ℕ → List Bool → List ℕ → Reading Certificate
-behind_second i g t f bytes = vector_behind (codes "to ") i bytes >>= λ second. nodes_at 1 second.1 >>= λ tree. Ok (with_fields i g t f second.0 tree.0, tree.1)
+-- ---- the lines behind the first
 
-second_plain : (i g t : ℕ) (f : List Bool) (bytes : List ℕ) → Plain (behind_second i g t f bytes)
-second_plain i g t f bytes =
-    plain_then (vector_behind (codes "to ") i bytes) (λ second. nodes_at 1 second.1 >>= λ tree. Ok (with_fields i g t f second.0 tree.0, tree.1)) (vector_behind_plain (codes "to ") i bytes)
-    (λ second. plain_then (nodes_at 1 second.1) (λ tree. Ok (with_fields i g t f second.0 tree.0, tree.1)) (nodes_plain 1 second.1) (λ tree. plain_ok (with_fields i g t f second.0 tree.0, tree.1)))
+abbrev behind_second : Version → ℕ → ℕ → Question → ℕ → List Bool → List ℕ → Reading Certificate
+behind_second v i g q t f bytes = vector_behind (codes "to ") i bytes >>= λ second. nodes_at v 1 second.1 >>= λ tree. Ok (with_fields g q t f second.0 tree.0, tree.1)
 
-abbrev behind_gates : ℕ → ℕ → List ℕ → Reading Certificate
-behind_gates i g bytes = number_behind (codes "time ") greatest 10 bytes >>= λ time. vector_behind (codes "from ") i time.1 >>= λ first. behind_second i g time.0 first.0 first.1
+second_plain : (v : Version) (i g : ℕ) (q : Question) (t : ℕ) (f : List Bool) (bytes : List ℕ) → Plain (behind_second v i g q t f bytes)
+second_plain v i g q t f bytes =
+    plain_then (vector_behind (codes "to ") i bytes) (λ second. nodes_at v 1 second.1 >>= λ tree. Ok (with_fields g q t f second.0 tree.0, tree.1)) (vector_behind_plain (codes "to ") i bytes)
+    (λ second. plain_then (nodes_at v 1 second.1) (λ tree. Ok (with_fields g q t f second.0 tree.0, tree.1)) (nodes_plain v 1 second.1) (λ tree. plain_ok (with_fields g q t f second.0 tree.0, tree.1)))
 
-gates_plain : (i g : ℕ) (bytes : List ℕ) → Plain (behind_gates i g bytes)
-gates_plain i g bytes =
-    plain_then (number_behind (codes "time ") greatest 10 bytes) (λ time. vector_behind (codes "from ") i time.1 >>= λ first. behind_second i g time.0 first.0 first.1) (number_behind_plain (codes "time ") greatest 10 bytes)
-    (λ time. plain_then (vector_behind (codes "from ") i time.1) (λ first. behind_second i g time.0 first.0 first.1) (vector_behind_plain (codes "from ") i time.1) (λ first. second_plain i g time.0 first.0 first.1))
+abbrev behind_question : Version → ℕ → ℕ → Question → List ℕ → Reading Certificate
+behind_question v i g q bytes = number_behind (codes "time ") greatest 10 bytes >>= λ time. vector_behind (codes "from ") i time.1 >>= λ first. behind_second v i g q time.0 first.0 first.1
 
-abbrev pub behind_version : List ℕ → Reading Certificate
-behind_version bytes = number_behind (codes "circuit ") 4096 32 bytes >>= λ inputs. number_at 200000 10 inputs.1 >>= λ gates. behind_gates inputs.0 gates.0 gates.1
+time_plain : (v : Version) (i g : ℕ) (q : Question) (bytes : List ℕ) → Plain (behind_question v i g q bytes)
+time_plain v i g q bytes =
+    plain_then (number_behind (codes "time ") greatest 10 bytes) (λ time. vector_behind (codes "from ") i time.1 >>= λ first. behind_second v i g q time.0 first.0 first.1) (number_behind_plain (codes "time ") greatest 10 bytes)
+    (λ time. plain_then (vector_behind (codes "from ") i time.1) (λ first. behind_second v i g q time.0 first.0 first.1) (vector_behind_plain (codes "from ") i time.1) (λ first. second_plain v i g q time.0 first.0 first.1))
 
-pub version_plain : (bytes : List ℕ) → Plain (behind_version bytes)
-version_plain bytes =
-    plain_then (number_behind (codes "circuit ") 4096 32 bytes) (λ inputs. number_at 200000 10 inputs.1 >>= λ gates. behind_gates inputs.0 gates.0 gates.1) (number_behind_plain (codes "circuit ") 4096 32 bytes)
-    (λ inputs. plain_then (number_at 200000 10 inputs.1) (λ gates. behind_gates inputs.0 gates.0 gates.1) (number_plain 200000 10 inputs.1) (λ gates. gates_plain inputs.0 gates.0 gates.1))
+abbrev behind_inputs : Version → ℕ → List ℕ → Reading Certificate
+behind_inputs v i bytes = number_at 200000 10 bytes >>= λ gates. question_at v i gates.1 >>= λ question. behind_question v i gates.0 question.0 question.1
+
+inputs_plain : (v : Version) (i : ℕ) (bytes : List ℕ) → Plain (behind_inputs v i bytes)
+inputs_plain v i bytes =
+    plain_then (number_at 200000 10 bytes) (λ gates. question_at v i gates.1 >>= λ question. behind_question v i gates.0 question.0 question.1) (number_plain 200000 10 bytes)
+    (λ gates. plain_then (question_at v i gates.1) (λ question. behind_question v i gates.0 question.0 question.1) (question_plain v i gates.1) (λ question. time_plain v i gates.0 question.0 question.1))
+
+abbrev behind_word : Version → List ℕ → Reading Certificate
+behind_word v bytes = number_from (has_inputs v) 4096 32 bytes >>= λ inputs. behind_inputs v inputs.0 inputs.1
+
+pub lines_plain : (v : Version) (bytes : List ℕ) → Plain (lines_at v bytes)
+unfolding lines_at
+lines_plain v bytes =
+    plain_then (literal (codes "circuit ") bytes) (λ word. behind_word v word.1) (literal_plain (codes "circuit ") bytes)
+    (λ word. plain_then (number_from (has_inputs v) 4096 32 word.1) (λ inputs. behind_inputs v inputs.0 inputs.1) (from_plain (has_inputs v) 4096 32 word.1) (λ inputs. inputs_plain v inputs.0 inputs.1))

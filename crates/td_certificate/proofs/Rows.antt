@@ -1,8 +1,8 @@
 -- Worked rows: an inverter that rises in 2 steps and falls in 3, and its certificate of one leaf.
-use Rattle.std.proofs.Common.{◌≡◌, ◌≢◌, ◌≤◌, ◌+◌, ◌*◌, ◌-◌, ℕ, zero, suc, true, false, [], ◌∷◌, map, Option, Some, None, refl, sym, ap, ◌∙◌, arith}
-use Rattle.std.specs.Prelude.{codes, slice_get, if◌then◌else◌}
+use Rattle.std.proofs.Common.{◌≡◌, ◌≢◌, ◌≤◌, ◌+◌, ◌*◌, ◌-◌, ℕ, zero, suc, Bool, true, false, List, [], ◌∷◌, map, Option, Some, None, refl, sym, ap, ◌∙◌, arith}
+use Rattle.std.specs.Prelude.{codes, nat_lt, slice_get, if◌then◌else◌}
 use Rattle.std.specs.List.{AllByRecursion}
-use Rattle.std.proofs.lemmas.Bool.{le-leb}
+use Rattle.std.proofs.lemmas.Bool.{le-leb, le-ltb}
 use Rattle.std.proofs.lemmas.List.Elements.{All-from_recursion, recursion_from_All}
 use Rattle.td_gates.specs.declared.primitives.Level.{Level}
 use Rattle.td_gates.specs.declared.primitives.Level.TheVariants as level
@@ -13,17 +13,23 @@ use Rattle.td_gates.specs.Schedule.{target_before, Obeys}
 use Rattle.td_gates.specs.WindowRule.{HeldFor}
 use Rattle.td_gates.specs.Table.{delay_to, table}
 use Rattle.td_gates.proofs.Windows.{Obeys-from_MeetsWindows}
-use Rattle.td_netlist.specs.declared.netlist.Scale.TheVariants as scale
-use Rattle.td_netlist.specs.Names.{name_eq}
-use Rattle.td_netlist.specs.Netlist.{Name, Net, Low, High, Named, Gate, Netlist}
+use Rattle.td_nets.specs.declared.netlist.Scale.TheVariants as scale
+use Rattle.td_nets.specs.Names.{name_eq}
+use Rattle.td_nets.specs.Netlist.{Name, Net, Low, High, Named, Gate, Netlist}
+use Rattle.td_circuit.specs.Settings.{Setting}
 use Rattle.td_circuit.specs.Run.{IsDelayOfBits}
 use Rattle.td_domain.specs.declared.cubes.Trit.{Trit}
-use Rattle.td_domain.specs.declared.cubes.Trit.TheVariants.{Free}
+use Rattle.td_domain.specs.declared.cubes.Trit.TheVariants.{Zero, One, Free}
+use Rattle.td_domain.specs.Pairs.{Pair}
+use Rattle.td_domain.specs.Cubes.{AllowsBits, IsIn}
+use Rattle.td_domain.specs.Admits.{Admitted, flips_of, IsAdmitted}
 use Rattle.td_arrival.specs.Arrivals.{input_signal, constant_signal, gate_signal}
 use Rattle.td_arrival.specs.declared.signals.Signal.{Signal}
 use Rattle.td_certificate.specs.declared.tree.BoundedBy.TheVariants as by
 use Rattle.td_certificate.specs.declared.tree.Node.TheVariants as node
 use Rattle.td_certificate.specs.declared.certificate.Certificate.{Certificate}
+use Rattle.td_certificate.specs.declared.question.Version.TheVariants.{First, Second, Third}
+use Rattle.td_certificate.specs.Questions.{Question, version_of, all_at_once}
 use Rattle.td_certificate.specs.Accepts.{IsBounded, IsGood, Accepts}
 
 abbrev delay : Delay
@@ -45,6 +51,10 @@ inverter = record {
   defaulted = 0;
 }
 
+-- its input changes at moment 0
+abbrev given : Setting
+given = record { netlist = inverter; moments = 0 ∷ [] }
+
 -- ---- the run of 0 and 1: the output falls at 3
 
 abbrev rises : Wave
@@ -57,6 +67,9 @@ abbrev waves : Net → Wave
 waves Low = record { start = level.Zero; changes = [] }
 waves High = record { start = level.One; changes = [] }
 waves (Named name) = if name_eq name a then rises else falls
+
+not_before : (n : ℕ) → nat_lt n 0 ≡ false
+not_before n = le-ltb n 0 (omega arith)
 
 risen : (n : ℕ) → at rises n ≡ level.One
 risen n = rw (le-leb 0 n (omega arith)) refl
@@ -119,7 +132,7 @@ are_waves (Named name) = elim (name_eq name a) as (λ is. IsWave (if is then ris
   | false ↦ (omega arith, λ e. cc, tt)
 ]
 
-has_delay : IsDelayOfBits inverter (false ∷ []) (true ∷ []) 3
+has_delay : IsDelayOfBits given (false ∷ []) (true ∷ []) 3
 has_delay =
     let settled : AllByRecursion (λ (gate : Gate). (waves (Named gate.output)).start ≡ table gate.kind (map (λ net. (waves net).start) gate.inputs)) inverter.gates = (refl, tt) in
     let obey : AllByRecursion (λ (gate : Gate). Obeys gate.kind gate.delay (map waves gate.inputs) (waves (Named gate.output))) inverter.gates = (obeys, tt) in
@@ -133,7 +146,7 @@ has_delay =
           inputs = refl;
           gates = All-from_recursion (λ (gate : Gate). (waves (Named gate.output)).start ≡ table gate.kind (map (λ net. (waves net).start) gate.inputs)) inverter.gates settled;
         };
-        inputs = λ t. ap (λ l. l ∷ []) (risen t);
+        inputs = λ t. rw (not_before t, risen t) refl;
         low = refl;
         high = refl;
         gates = All-from_recursion (λ (gate : Gate). Obeys gate.kind gate.delay (map waves gate.inputs) (waves (Named gate.output))) inverter.gates obey;
@@ -147,7 +160,7 @@ abbrev signals : Net → Signal
 signals Low = constant_signal false
 signals High = constant_signal true
 signals (Named name) =
-    if name_eq name a then input_signal Free Free
+    if name_eq name a then input_signal Free Free 0
     else record { start = level.X; finish = level.X; changes = Some (record { earliest = 2; latest = 3 }) }
 
 abbrev some_of : {A : Type 0} → A → Option A
@@ -159,17 +172,18 @@ some_is x z e = cc
 none_not : {A X : Type 0} (x : A) → None ≡ some_of x → X
 none_not x e = absurd cc
 
-input_signals : (i : ℕ) (name : Name) (first second : Trit) → slice_get (a ∷ []) i ≡ Some name
-    → slice_get (Free ∷ Free ∷ []) (2 * i) ≡ Some first → slice_get (Free ∷ Free ∷ []) (2 * i + 1) ≡ Some second
-    → signals (Named name) ≡ input_signal first second
-input_signals zero name first second e f g =
+input_signals : (i : ℕ) (name : Name) (first second : Trit) (moment : ℕ) → slice_get (a ∷ []) i ≡ Some name
+    → slice_get (Free ∷ Free ∷ []) (2 * i) ≡ Some first → slice_get (Free ∷ Free ∷ []) (2 * i + 1) ≡ Some second → slice_get (0 ∷ []) i ≡ Some moment
+    → signals (Named name) ≡ input_signal first second moment
+input_signals zero name first second moment e f g h =
     let named : a ≡ name = some_is a name e in
     let one : Free ≡ first = some_is Free first f in
     let two : Free ≡ second = some_is Free second g in
-    ap (λ n. signals (Named n)) (sym named) ∙ ap (λ t. input_signal t Free) one ∙ ap (λ t. input_signal first t) two
-input_signals (suc i) name first second e f g = none_not name e
+    let three : 0 ≡ moment = some_is 0 moment h in
+    ap (λ n. signals (Named n)) (sym named) ∙ ap (λ t. input_signal t Free 0) one ∙ ap (λ t. input_signal first t 0) two ∙ ap (λ m. input_signal first second m) three
+input_signals (suc i) name first second moment e f g h = none_not name e
 
-is_bounded : IsBounded by.Arrival inverter (Free ∷ Free ∷ []) 3
+is_bounded : IsBounded by.Arrival given (Free ∷ Free ∷ []) 3
 is_bounded = record {
   bound = 3;
   is = record {
@@ -182,40 +196,77 @@ is_bounded = record {
 
 -- ---- the certificate of one leaf
 
+abbrev question : Question
+question = all_at_once 1
+
 abbrev certificate : ℕ → Certificate
 certificate bound = record {
-  inputs = 1;
   gates = 1;
+  question = question;
   time = 3;
   pair = record { first = false ∷ []; second = true ∷ [] };
   tree = node.Bound by.Arrival bound ∷ [];
 }
 
+-- all pairs are admitted, so that its text is of the first version
+is_first : version_of question ≡ First
+is_first = refl
+
 -- with 3 it is accepted
 accepted : Accepts inverter (certificate 3)
 accepted = record {
   size = record { inputs = refl; gates = refl };
+  admitted = record { pinned = (tt, tt, tt); held = (λ e. absurd cc, tt); few = omega arith };
   reached = has_delay;
   tree = refl;
   good = (record { splits = tt; one_pair = tt; of_cube = is_bounded; within = omega arith }, tt);
 }
 
 -- a leaf with 2 is below the bound, and no good line
-two_is_low : ¬ IsGood inverter 3 (record { cube = Free ∷ Free ∷ []; node = node.Bound by.Arrival 2 })
+two_is_low : ¬ IsGood given question.admit 3 (record { cube = Free ∷ Free ∷ []; node = node.Bound by.Arrival 2 })
 two_is_low good =
     let least = good.of_cube in
     let are = least.is.are_signals in
-    let input : least.is.signals (Named a) ≡ input_signal Free Free = are.inputs 0 a Free Free refl refl refl in
+    let input : least.is.signals (Named a) ≡ input_signal Free Free 0 = are.inputs 0 a Free Free 0 refl refl refl refl in
     let gate : least.is.signals (Named y) ≡ gate_signal Not delay (least.is.signals (Named a) ∷ []) = (recursion_from_All (λ (gate : Gate). least.is.signals (Named gate.output) ≡ gate_signal gate.kind gate.delay (map least.is.signals gate.inputs)) inverter.gates are.gates).0 in
-    let output : least.is.signals (Named y) ≡ gate_signal Not delay (input_signal Free Free ∷ []) =
+    let output : least.is.signals (Named y) ≡ gate_signal Not delay (input_signal Free Free 0 ∷ []) =
     gate ∙ ap (λ s. gate_signal Not delay (s ∷ [])) input in
     let three : least.bound ≡ 3 = some_is least.bound 3 (rw output at least.is.is_greatest) in
     omega (arith, three, least.within)
 
 -- nor is a leaf with 4, above the time
-four_is_high : ¬ IsGood inverter 3 (record { cube = Free ∷ Free ∷ []; node = node.Bound by.Arrival 4 })
+four_is_high : ¬ IsGood given question.admit 3 (record { cube = Free ∷ Free ∷ []; node = node.Bound by.Arrival 4 })
 four_is_high good = omega (arith, good.within)
 
 -- nor a leaf of one pair where something is free
-not_one_pair : ¬ IsGood inverter 3 (record { cube = Free ∷ Free ∷ []; node = node.Point 3 })
+not_one_pair : ¬ IsGood given question.admit 3 (record { cube = Free ∷ Free ∷ []; node = node.Point 3 })
 not_one_pair good = (recursion_from_All (λ (trit : Trit). trit ≢ Free) (Free ∷ Free ∷ []) good.one_pair).0 refl
+
+-- nor a leaf without an admitted pair where one lies
+not_empty : ¬ IsGood given question.admit 3 (record { cube = Free ∷ Free ∷ []; node = node.Empty })
+not_empty good =
+    good.of_cube (record { first = false ∷ []; second = false ∷ [] }, record { pinned = (tt, tt, tt); held = (λ e. absurd cc, tt); few = omega arith }, (tt, tt, tt))
+
+-- without flips no pair lies in the cube of 0 and 1
+abbrev still : Admitted
+still = record { pins = Free ∷ Free ∷ []; held = false ∷ []; flips = 0 }
+
+no_flip : (pair : Pair) → IsAdmitted still pair → ¬ IsIn pair (Zero ∷ One ∷ [])
+no_flip pair admitted is_in = let few = admitted.few in no_pair pair.first pair.second few is_in
+  where
+    no_pair : (before after : List Bool) → flips_of before after ≤ 0 → ¬ AllowsBits (Zero ∷ One ∷ []) before after
+    no_pair [] after few h = absurd h
+    no_pair (a ∷ before) [] few h = absurd h
+    no_pair (true ∷ before) (b ∷ after) few h = absurd h.0
+    no_pair (false ∷ before) (false ∷ after) few h = absurd h.1
+    no_pair (false ∷ before) (true ∷ after) few h = absurd (omega (arith, few))
+
+is_empty : IsGood given still 3 (record { cube = Zero ∷ One ∷ []; node = node.Empty })
+is_empty = record { splits = tt; one_pair = tt; of_cube = λ has. no_flip has.0 has.1 has.2; within = tt }
+
+-- such pairs are of the second version, and with a moment that isn't 0 of the third
+is_second : version_of (record { admit = still; moments = 0 ∷ [] }) ≡ Second
+is_second = refl
+
+is_third : version_of (record { admit = still; moments = 7 ∷ [] }) ≡ Third
+is_third = refl

@@ -1,18 +1,21 @@
 -- The number of another version, as it is written in the first line.
-use Rattle.std.proofs.Common.{◌≡◌, ◌≢◌, ℕ, ◌+◌, ◌-◌, ◌*◌, ◌/◌, ◌%◌, ◌^◌, ◌<◌, ◌≤◌, Bool, true, false, cond, eqb, leb, List, [], ◌∷◌, ◌++◌, Err, Some, refl, ap, ◌∙◌, append_assoc, arith}
+use Rattle.std.proofs.Common.{◌≡◌, ℕ, ◌+◌, ◌-◌, ◌*◌, ◌/◌, ◌%◌, ◌^◌, ◌<◌, ◌≤◌, Bool, true, false, cond, eqb, leb, List, [], ◌∷◌, ◌++◌, Option, Ok, Err, Some, None, refl, ap, ◌∙◌, append_assoc, arith}
 use Rattle.std.specs.Prelude.{codes, decimal}
 use Rattle.std.specs.Char.{is_ascii_digit}
-use Rattle.std.proofs.lemmas.Bool.{ne_eqb, eqb-true}
+use Rattle.std.proofs.lemmas.Bool.{ne_eqb}
 use Rattle.std.proofs.lemmas.Fmt.{decimal_by_steps_wide}
 use Rattle.td_certificate.specs.declared.fault.CertFaultKind.{CertFaultKind}
 use Rattle.td_certificate.specs.declared.fault.CertFaultKind.TheVariants as kind
 use Rattle.td_certificate.specs.declared.fields.Reason.{Reason}
-use Rattle.td_certificate.specs.declared.fields.Reason.TheVariants.{Syntax, NumberTooLarge, Version}
+use Rattle.td_certificate.specs.declared.fields.Reason.TheVariants.{Syntax, NumberTooLarge}
+use Rattle.td_certificate.specs.declared.fields.Reason.TheVariants as reason
+use Rattle.td_certificate.specs.declared.question.Version.{Version}
+use Rattle.td_certificate.specs.declared.question.Version.TheVariants.{First, Second, Third}
 use Rattle.td_certificate.specs.Spelling.{greatest}
-use Rattle.td_certificate.specs.Reading.{Wrong, Reading, ◌>>=◌, literal, begins_number, front_number, version_reason, because, version_at, certificate_at}
-use Rattle.td_certificate.specs.Faults.{NoDigit, VersionsAreTold, kind_of, kind_in}
+use Rattle.td_certificate.specs.Reading.{Wrong, Reading, ◌>>=◌, literal, taken, begins_number, front_number, is_version, version_reason, because, version_of_digit, digit_at, version_at, certificate_at}
+use Rattle.td_certificate.specs.Faults.{NoDigit, IsOther, VersionsAreTold, kind_of, kind_in}
 use Rattle.td_certificate.proofs.FieldCodes.{range_digit, digit_range, literal_code}
-use Rattle.td_certificate.proofs.VectorCodes.{cases}
+use Rattle.td_certificate.proofs.VectorCodes.{cases, option_cases}
 
 -- the digits of a number: one, or a first that isn't 0 and a second
 data Shape (n : ℕ) (ds : List ℕ) : Type 0 where
@@ -68,51 +71,68 @@ shape_begins : (n : ℕ) (ds later : List ℕ) → Shape n ds → NoDigit later 
 shape_begins n ds later (one lt is) none = ap (λ (t : List ℕ). begins_number (t ++ later)) is ∙ one_begins (48 + n) later (range_digit (48 + n) (omega arith) (omega arith)) none
 shape_begins n ds later (more _ d e es is low high digit) none = ap (λ (t : List ℕ). begins_number (t ++ later)) is ∙ more_begin d e (es ++ later) low high
 
-reason_at : (n : ℕ) (behind : List ℕ) → n ≢ 1 → begins_number behind ≡ true → front_number 0 behind ≡ n → version_reason behind ≡ cond (leb n greatest) Version NumberTooLarge
-unfolding version_reason
-reason_at n behind other begins number = rw (begins, number, ne_eqb n 1 other) refl
+not_version : (n : ℕ) → IsOther n → is_version n ≡ false
+not_version n other = rw (ne_eqb n 1 (other First), ne_eqb n 2 (other Second), ne_eqb n 3 (other Third)) refl
 
-reason_written : (n : ℕ) (later : List ℕ) → n ≢ 1 → n < 10 ^ 64 → NoDigit later → version_reason (decimal n ++ later) ≡ cond (leb n greatest) Version NumberTooLarge
+reason_at : (n : ℕ) (behind : List ℕ) → IsOther n → begins_number behind ≡ true → front_number 0 behind ≡ n → version_reason behind ≡ cond (leb n greatest) reason.Version NumberTooLarge
+unfolding version_reason
+reason_at n behind other begins number = rw (begins, number, not_version n other) refl
+
+reason_written : (n : ℕ) (later : List ℕ) → IsOther n → n < 10 ^ 64 → NoDigit later → version_reason (decimal n ++ later) ≡ cond (leb n greatest) reason.Version NumberTooLarge
 reason_written n later other small none =
     let w = written n small in
     reason_at n (decimal n ++ later) other (shape_begins n (decimal n) later w.shape none) (w.front later ∙ front_ended n later none)
 
--- ---- where version 1 stops
+-- ---- where no version's digit stands, or more than the digit
 
 abbrev Stops : List ℕ → Type 0
-Stops behind = (rest : List ℕ) × (literal (codes "1\n") behind ≡ Err (Wrong Syntax rest))
+Stops behind = (rest : List ℕ) × (digit_at behind ≡ Err (Wrong Syntax rest))
 
-first_differs : (d : ℕ) (rest : List ℕ) → d ≢ 49 → Stops (d ∷ rest)
-unfolding literal
-first_differs d rest other = (d ∷ rest, rw (ne_eqb d 49 other) refl)
+abbrev behind_digit : Version × List ℕ → Reading Version
+behind_digit version = literal (codes "\n") version.1 >>= λ end. Ok (version.0, end.1)
 
-second_differs : (d e : ℕ) (rest : List ℕ) → d ≡ 49 → is_ascii_digit e ≡ true → Stops (d ∷ e ∷ rest)
-unfolding literal
-second_differs d e rest is digit = let r = digit_range e digit in (e ∷ rest, rw (is, ne_eqb e 10 (omega (arith, r.0))) refl)
+first_differs : (d : ℕ) (rest : List ℕ) → version_of_digit d ≡ None → Stops (d ∷ rest)
+unfolding digit_at
+first_differs d rest none = (d ∷ rest, ap (λ (o : Option Version). taken o d rest >>= behind_digit) none)
+
+second_differs : (d e : ℕ) (rest : List ℕ) (version : Version) → version_of_digit d ≡ Some version → is_ascii_digit e ≡ true → Stops (d ∷ e ∷ rest)
+unfolding digit_at literal
+second_differs d e rest version is digit =
+    let r = digit_range e digit in
+    let end : literal (codes "\n") (e ∷ rest) ≡ Err (Wrong Syntax (e ∷ rest)) = rw (ne_eqb e 10 (omega (arith, r.0))) refl in
+    (e ∷ rest, ap (λ (o : Option Version). taken o d (e ∷ rest) >>= behind_digit) is ∙ ap (λ (r : Reading (Unit {0})). r >>= λ end. Ok (version, end.1)) end)
 
 digits_differ : (d e : ℕ) (rest : List ℕ) → is_ascii_digit e ≡ true → Stops (d ∷ e ∷ rest)
 digits_differ d e rest digit =
-    cases (eqb d 49) (λ h. second_differs d e rest (eqb-true d 49 h) digit) (λ h. first_differs d (e ∷ rest) (λ is. let q : eqb d 49 ≡ true = rw is refl in cc))
+    option_cases (version_of_digit d) (λ none. first_differs d (e ∷ rest) none) (λ version is. second_differs d e rest version is digit)
 
-shape_stops : (n : ℕ) (ds later : List ℕ) → n ≢ 1 → Shape n ds → Stops (ds ++ later)
+other_digit : (n : ℕ) → IsOther n → version_of_digit (48 + n) ≡ None
+other_digit n other =
+    rw (
+      ne_eqb (48 + n) 49 (λ e. other First (omega (arith, e))),
+      ne_eqb (48 + n) 50 (λ e. other Second (omega (arith, e))),
+      ne_eqb (48 + n) 51 (λ e. other Third (omega (arith, e))),
+    ) refl
+
+shape_stops : (n : ℕ) (ds later : List ℕ) → IsOther n → Shape n ds → Stops (ds ++ later)
 shape_stops n ds later other (one lt is) =
-    let s = first_differs (48 + n) later (omega arith) in
-    (s.0, ap (λ (t : List ℕ). literal (codes "1\n") (t ++ later)) is ∙ s.1)
+    let s = first_differs (48 + n) later (other_digit n other) in
+    (s.0, ap (λ (t : List ℕ). digit_at (t ++ later)) is ∙ s.1)
 shape_stops n ds later other (more _ d e es is low high digit) =
     let s = digits_differ d e (es ++ later) digit in
-    (s.0, ap (λ (t : List ℕ). literal (codes "1\n") (t ++ later)) is ∙ s.1)
+    (s.0, ap (λ (t : List ℕ). digit_at (t ++ later)) is ∙ s.1)
 
-version_stops : (behind rest : List ℕ) → literal (codes "1\n") behind ≡ Err (Wrong Syntax rest) → version_at (codes "tdelay-cert " ++ behind) ≡ Err (Wrong (version_reason behind) rest)
+version_stops : (behind rest : List ℕ) → digit_at behind ≡ Err (Wrong Syntax rest) → version_at (codes "tdelay-cert " ++ behind) ≡ Err (Wrong (version_reason behind) rest)
 unfolding version_at
 version_stops behind rest e =
-    ap (λ (r : Reading (Unit {0})). r >>= λ word. because (version_reason word.1) (literal (codes "1\n") word.1)) ((literal_code (codes "tdelay-cert ")).again tt behind tt)
-    ∙ ap (λ (r : Reading (Unit {0})). because (version_reason behind) r) e
+    ap (λ (r : Reading (Unit {0})). r >>= λ word. because (version_reason word.1) (digit_at word.1)) ((literal_code (codes "tdelay-cert ")).again tt behind tt)
+    ∙ ap (λ (r : Reading Version). because (version_reason behind) r) e
 
 kind_first : (bytes rest : List ℕ) (why : Reason) → version_at bytes ≡ Err (Wrong why rest) → kind_in bytes ≡ Some (kind_of why)
 unfolding kind_in certificate_at
 kind_first bytes rest why e = rw e refl
 
-kind_either : (within : Bool) → kind_of (cond within Version NumberTooLarge) ≡ cond within kind.Version kind.NumberTooLarge
+kind_either : (within : Bool) → kind_of (cond within reason.Version NumberTooLarge) ≡ cond within kind.Version kind.NumberTooLarge
 kind_either true = refl
 kind_either false = refl
 

@@ -1,16 +1,19 @@
 -- When a certificate is accepted of a netlist.
-use Rattle.std.specs.Prelude.{◌≡◌, ℕ, ◌*◌, ◌≤◌, List, [], ◌∷◌, length, slice_get, Option, Some}
+use Rattle.std.specs.Prelude.{◌≡◌, ℕ, ◌≤◌, List, [], ◌∷◌, length, slice_get, Option, Some}
 use Rattle.std.specs.List.{AllByRecursion}
-use Rattle.td_netlist.specs.Netlist.{Netlist}
-use Rattle.td_netlist.specs.WellFormed.{IsWellFormed}
+use Rattle.td_nets.specs.Netlist.{Netlist}
+use Rattle.td_nets.specs.WellFormed.{IsWellFormed}
 use Rattle.td_circuit.specs.Loops.{Loop}
-use Rattle.td_circuit.specs.Run.{IsDelayOfBits, IsWorst}
+use Rattle.td_circuit.specs.Settings.{Setting, AreMoments}
+use Rattle.td_circuit.specs.Run.{IsDelayOfBits}
 use Rattle.td_domain.specs.declared.cubes.Trit.{Trit}
 use Rattle.td_domain.specs.declared.cubes.Trit.TheVariants.{Free}
 use Rattle.td_domain.specs.Pairs.{Pair}
 use Rattle.td_domain.specs.Cubes.{IsIn, IsPoint}
+use Rattle.td_domain.specs.Admits.{Admitted, IsAdmitted, HasAdmitted}
 use Rattle.td_domain.specs.Bounds.{IsBound}
 use Rattle.td_domain.specs.Together.{both_functions}
+use Rattle.td_domain.specs.Worst.{IsWorst}
 use Rattle.td_arrival.specs.Arrivals.{arrival_functions}
 use Rattle.td_ternary.specs.Possibles.{possible_functions}
 use Rattle.td_certificate.specs.declared.tree.BoundedBy.{BoundedBy}
@@ -18,15 +21,15 @@ use Rattle.td_certificate.specs.declared.tree.BoundedBy.TheVariants as by
 use Rattle.td_certificate.specs.declared.tree.Node.{Node}
 use Rattle.td_certificate.specs.declared.tree.Node.TheVariants as node
 use Rattle.td_certificate.specs.declared.certificate.Certificate.{Certificate}
-use Rattle.td_certificate.specs.Cubes.{free_cube}
+use Rattle.td_certificate.specs.Spelling.{inputs}
 use Rattle.td_certificate.specs.Trees.{IsTree}
 use Rattle.td_certificate.specs.Walks.{Line, lines_from}
 
 -- what the domain of a leaf gives of a cube: its bound, or none
-abbrev pub IsBoundBy : BoundedBy → Netlist → List Trit → Option ℕ → Type 0
-IsBoundBy by.Arrival netlist cube answer = IsBound arrival_functions netlist cube answer
-IsBoundBy by.Possible netlist cube answer = IsBound possible_functions netlist cube answer
-IsBoundBy by.Both netlist cube answer = IsBound (both_functions arrival_functions possible_functions) netlist cube answer
+abbrev pub IsBoundBy : BoundedBy → Setting → List Trit → Option ℕ → Type 0
+IsBoundBy by.Arrival setting cube answer = IsBound arrival_functions setting cube answer
+IsBoundBy by.Possible setting cube answer = IsBound possible_functions setting cube answer
+IsBoundBy by.Both setting cube answer = IsBound (both_functions arrival_functions possible_functions) setting cube answer
 
 -- ---- what holds of a line
 
@@ -41,60 +44,65 @@ IsOfOnePair cube (node.Point time) = IsPoint cube
 IsOfOnePair cube _ = Unit {0}
 
 -- the domain gives a bound of the cube, and it is at most this
-pub record IsBounded (domain : BoundedBy) (netlist : Netlist) (cube : List Trit) (most : ℕ) : Type 0 where
+pub record IsBounded (domain : BoundedBy) (setting : Setting) (cube : List Trit) (most : ℕ) : Type 0 where
   pub bound : ℕ
-  pub is : IsBoundBy domain netlist cube (Some bound)
+  pub is : IsBoundBy domain setting cube (Some bound)
   pub within : bound ≤ most
 
 -- some pair of the cube has this delay
-pub record HasDelay (netlist : Netlist) (cube : List Trit) (delay : ℕ) : Type 0 where
+pub record HasDelay (setting : Setting) (cube : List Trit) (delay : ℕ) : Type 0 where
   pub pair : Pair
   pub is_in : IsIn pair cube
-  pub is : IsDelayOfBits netlist pair.first pair.second delay
+  pub is : IsDelayOfBits setting pair.first pair.second delay
 
--- the number of a leaf is one of the cube: at least its domain's bound, or the delay of its pair
-abbrev pub IsOfCube : Netlist → List Trit → Node → Type 0
-IsOfCube netlist cube (node.Split position) = Unit {0}
-IsOfCube netlist cube (node.Bound domain bound) = IsBounded domain netlist cube bound
-IsOfCube netlist cube (node.Point time) = HasDelay netlist cube time
+-- What a leaf says is true of the cube: its number is at least its domain's bound, or the delay of the pair, or no admitted
+-- pair lies there.
+abbrev pub IsOfCube : Setting → Admitted → List Trit → Node → Type 0
+IsOfCube setting admit cube (node.Split position) = Unit {0}
+IsOfCube setting admit cube (node.Bound domain bound) = IsBounded domain setting cube bound
+IsOfCube setting admit cube (node.Point time) = HasDelay setting cube time
+IsOfCube setting admit cube node.Empty = ¬ HasAdmitted admit cube
 
 -- the number of a leaf is at most the time
 abbrev pub IsWithin : ℕ → Node → Type 0
-IsWithin most (node.Split position) = Unit {0}
 IsWithin most (node.Bound domain bound) = bound ≤ most
 IsWithin most (node.Point time) = time ≤ most
+IsWithin most _ = Unit {0}
 
-pub record IsGood (netlist : Netlist) (most : ℕ) (line : Line) : Type 0 where
+pub record IsGood (setting : Setting) (admit : Admitted) (most : ℕ) (line : Line) : Type 0 where
   pub splits : SplitsFree line.cube line.node
   pub one_pair : IsOfOnePair line.cube line.node
-  pub of_cube : IsOfCube netlist line.cube line.node
+  pub of_cube : IsOfCube setting admit line.cube line.node
   pub within : IsWithin most line.node
 
 -- ---- the certificate
 
 -- it is of a circuit with so many inputs and gates
 pub record IsOfSize (netlist : Netlist) (c : Certificate) : Type 0 where
-  pub inputs : length netlist.inputs ≡ c.inputs
+  pub inputs : length netlist.inputs ≡ inputs c
   pub gates : length netlist.gates ≡ c.gates
+
+-- the netlist with the certificate's moments
+abbrev pub setting_of : Netlist → Certificate → Setting
+setting_of netlist c = record { netlist = netlist; moments = c.question.moments }
 
 -- the certificate's pair has its time
 abbrev pub IsReached : Netlist → Certificate → Type 0
-IsReached netlist c = IsDelayOfBits netlist c.pair.first c.pair.second c.time
+IsReached netlist c = IsDelayOfBits (setting_of netlist c) c.pair.first c.pair.second c.time
 
--- the cube of the root
-abbrev pub root_cube : Certificate → List Trit
-root_cube c = free_cube (2 * c.inputs)
-
+-- the lines of the tree, whose root has the pins as its cube
 abbrev pub lines_in : Certificate → List Line
-lines_in c = lines_from (root_cube c ∷ []) c.tree
+lines_in c = lines_from (c.question.admit.pins ∷ []) c.tree
 
--- The certificate is accepted: it is of this circuit, its pair has its time, and its lines are good.
+-- The certificate is accepted: it is of this circuit, its pair is admitted and has its time, and its lines are good.
 pub record Accepts (netlist : Netlist) (c : Certificate) : Type 0 where
   pub size : IsOfSize netlist c
+  pub admitted : IsAdmitted c.question.admit c.pair
   pub reached : IsReached netlist c
   pub tree : IsTree c.tree
-  pub good : AllByRecursion (IsGood netlist c.time) (lines_in c)
+  pub good : AllByRecursion (IsGood (setting_of netlist c) c.question.admit c.time) (lines_in c)
 
--- the time of a certificate that is accepted of a netlist without a loop is its worst delay
+-- the time of a certificate that is accepted of a netlist without a loop is the worst delay of the admitted pairs
 abbrev pub AcceptedIsWorst : Type 0
-AcceptedIsWorst = (netlist : Netlist) (c : Certificate) → IsWellFormed netlist → (¬ Loop netlist) → Accepts netlist c → IsWorst netlist c.time
+AcceptedIsWorst = (netlist : Netlist) (c : Certificate) → IsWellFormed netlist → (¬ Loop netlist) → AreMoments netlist c.question.moments
+    → Accepts netlist c → IsWorst (setting_of netlist c) c.question.admit c.time

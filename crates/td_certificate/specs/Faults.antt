@@ -6,8 +6,10 @@ use Rattle.td_certificate.specs.declared.fault.CertFaultKind.{CertFaultKind}
 use Rattle.td_certificate.specs.declared.fault.CertFaultKind.TheVariants as kind
 use Rattle.td_certificate.specs.declared.fault.CertFault.{CertFault}
 use Rattle.td_certificate.specs.declared.certificate.Certificate.{Certificate}
+use Rattle.td_certificate.specs.declared.question.Version.{Version}
 use Rattle.td_certificate.specs.declared.fields.Reason.{Reason}
 use Rattle.td_certificate.specs.declared.fields.Reason.TheVariants as reason
+use Rattle.td_certificate.specs.Questions.{version_number}
 use Rattle.td_certificate.specs.Spelling.{HasSpelling, spelling, greatest}
 use Rattle.td_certificate.specs.Reading.{Reading, Ends, Wrong, certificate_at}
 
@@ -65,16 +67,20 @@ abbrev pub NoDigit : List ℕ → Type 0
 NoDigit [] = Unit {0}
 NoDigit (b ∷ rest) = is_ascii_digit b ≡ false
 
--- A first line with a number other than 1 is told as another version, or as a number too large, whatever follows the number.
+-- the number of no version
+abbrev pub IsOther : ℕ → Type 0
+IsOther number = (version : Version) → number ≢ version_number version
+
+-- A first line with a number of no version is told as another version, or as a number too large, whatever follows the number.
 abbrev pub VersionsAreTold : Type 0
-VersionsAreTold = (n : ℕ) (later : List ℕ) → n ≢ 1 → n < 10 ^ 64 → NoDigit later
+VersionsAreTold = (n : ℕ) (later : List ℕ) → IsOther n → n < 10 ^ 64 → NoDigit later
     → kind_in (codes "tdelay-cert " ++ decimal n ++ later) ≡ Some (if nat_le n greatest then kind.Version else kind.NumberTooLarge)
 
--- the first line has the number of another version
+-- the first line has the number of no version
 pub record NamesVersion (text : List ℕ) : Type 0 where
   pub number : ℕ
   pub later : List ℕ
-  pub other : number ≢ 1
+  pub other : IsOther number
   pub within : number ≤ greatest
   pub ended : NoDigit later
   pub parts : text ≡ codes "tdelay-cert " ++ decimal number ++ later

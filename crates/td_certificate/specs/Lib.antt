@@ -1,6 +1,7 @@
 pub mod Cubes
 pub mod Trees
 pub mod Text
+pub mod Questions
 pub mod Spelling
 pub mod Kinds
 pub mod Faults

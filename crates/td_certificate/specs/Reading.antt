@@ -1,17 +1,26 @@
 -- Reading a certificate from the front, up to the first byte that can't be read on.
-use Rattle.std.specs.Prelude.{◌≡◌, ℕ, zero, suc, ◌+◌, ◌-◌, ◌*◌, ◌<◌, ◌≤◌, Bool, false, List, [], ◌∷◌, length, codes, Option, Some, None, Result, Ok, Err, nat_lt, nat_le, ◌==◌, ◌||◌, ◌&&◌, not, if◌then◌else◌}
+use Rattle.std.specs.Prelude.{◌≡◌, ℕ, zero, suc, ◌+◌, ◌-◌, ◌*◌, ◌<◌, ◌≤◌, Bool, true, false, List, [], ◌∷◌, length, replicate, codes, Option, Some, None, Result, Ok, Err, nat_lt, nat_le, ◌==◌, ◌||◌, ◌&&◌, not, if◌then◌else◌}
+use Rattle.std.specs.List.{list_all}
 use Rattle.std.specs.Char.{is_ascii_digit}
+use Rattle.td_domain.specs.declared.cubes.Trit.{Trit}
+use Rattle.td_domain.specs.declared.cubes.Trit.TheVariants.{Zero, One, Free}
+use Rattle.td_domain.specs.Admits.{Admitted}
 use Rattle.td_certificate.specs.declared.tree.BoundedBy.{BoundedBy}
 use Rattle.td_certificate.specs.declared.tree.BoundedBy.TheVariants.{Arrival, Possible, Both}
 use Rattle.td_certificate.specs.declared.tree.Node.{Node}
 use Rattle.td_certificate.specs.declared.tree.Node.TheVariants as node
+use Rattle.td_certificate.specs.declared.question.Version.{Version}
+use Rattle.td_certificate.specs.declared.question.Version.TheVariants.{First, Second, Third}
 use Rattle.td_certificate.specs.declared.fields.Reason.{Reason}
-use Rattle.td_certificate.specs.declared.fields.Reason.TheVariants.{Syntax, NumberTooLarge, Version}
+use Rattle.td_certificate.specs.declared.fields.Reason.TheVariants.{Syntax, NumberTooLarge}
+use Rattle.td_certificate.specs.declared.fields.Reason.TheVariants as reason
 use Rattle.td_certificate.specs.declared.fields.Stop as code_stop
 use Rattle.td_certificate.specs.declared.fields.Stop.TheVariants as code
 use Rattle.td_certificate.specs.Trees.{sides}
 use Rattle.td_certificate.specs.declared.certificate.Certificate.{Certificate}
-use Rattle.td_certificate.specs.Spelling.{greatest}
+use Rattle.td_certificate.specs.Questions.{Question, is_free, holds_none, all_at_once}
+use Rattle.td_certificate.specs.Text.{bit, trit, weave, hold}
+use Rattle.td_certificate.specs.Spelling.{greatest, latest}
 
 -- why reading stops: the bytes end, or from here on they can't be read, for this reason
 pub data Stop : Type 0 where
@@ -66,41 +75,68 @@ number_at most close (b ∷ rest) =
     if nat_le (b - 48) most then digits_at most close (b - 48) rest
     else Err (Wrong NumberTooLarge (b ∷ rest))) else Err (Wrong Syntax (b ∷ rest))
 
--- so many characters 0 or 1
-unfoldable pub bits_at : ℕ → List ℕ → Reading (List Bool)
-bits_at zero bytes = Ok ([], bytes)
-bits_at (suc count) [] = Err Ends
-bits_at (suc count) (b ∷ rest) =
-    if b == 48 || b == 49 then (bits_at count rest >>= λ others. Ok ((b == 49) ∷ others.0, others.1)) else Err (Wrong Syntax (b ∷ rest))
+abbrev pub begins_with_zero : List ℕ → Bool
+begins_with_zero [] = false
+begins_with_zero (b ∷ rest) = b == 48
 
--- the bits of a vector, or `none`, and the newline
-unfoldable pub vector_at : ℕ → List ℕ → Reading (List Bool)
-vector_at zero bytes = do
-  word ← literal (codes "none\n") bytes
-  Ok ([], word.1)
-vector_at (suc count) bytes = do
-  bits ← bits_at (suc count) bytes
-  end ← literal (codes "\n") bits.1
-  Ok (bits.0, end.1)
+-- such a number, which isn't 0 where it must be positive
+unfoldable pub number_from : Bool → ℕ → ℕ → List ℕ → Reading ℕ
+number_from positive most close bytes = if positive && begins_with_zero bytes then Err (Wrong Syntax bytes) else number_at most close bytes
 
-unfoldable pub letter_at : List ℕ → Reading BoundedBy
-letter_at [] = Err Ends
-letter_at (b ∷ rest) =
-    if b == 97 then Ok (Arrival, rest) else (
-    if b == 116 then Ok (Possible, rest) else (
-    if b == 109 then Ok (Both, rest) else Err (Wrong Syntax (b ∷ rest))))
+-- ---- characters
+
+-- the first of these values that is written as this byte
+abbrev pub written_as : {A : Type 0} → (A → ℕ) → List A → ℕ → Option A
+written_as byte [] b = None
+written_as byte (x ∷ others) b = if b == byte x then Some x else written_as byte others b
+
+abbrev pub taken : {A : Type 0} → Option A → ℕ → List ℕ → Reading A
+taken (Some x) b rest = Ok (x, rest)
+taken None b rest = Err (Wrong Syntax (b ∷ rest))
+
+-- a character, by what its byte stands for
+abbrev pub char_at : {A : Type 0} → (ℕ → Option A) → List ℕ → Reading A
+char_at value [] = Err Ends
+char_at value (b ∷ rest) = taken (value b) b rest
+
+-- so many characters
+unfoldable pub chars_at : {A : Type 0} → (ℕ → Option A) → ℕ → List ℕ → Reading (List A)
+chars_at value zero bytes = Ok ([], bytes)
+chars_at value (suc count) bytes = do
+  first ← char_at value bytes
+  others ← chars_at value count first.1
+  Ok (first.0 ∷ others.0, others.1)
+
+abbrev pub bit_of : ℕ → Option Bool
+bit_of b = written_as bit (false ∷ true ∷ []) b
+
+abbrev pub trit_of : ℕ → Option Trit
+trit_of b = written_as trit (Zero ∷ One ∷ Free ∷ []) b
+
+abbrev pub hold_of : ℕ → Option Bool
+hold_of b = written_as hold (true ∷ false ∷ []) b
+
+-- a word, so many characters and the newline
+unfoldable pub chars_behind : {A : Type 0} → List ℕ → (ℕ → Option A) → ℕ → List ℕ → Reading (List A)
+chars_behind word value count bytes = do
+  behind ← literal word bytes
+  chars ← chars_at value count behind.1
+  end ← literal (codes "\n") chars.1
+  Ok (chars.0, end.1)
+
+-- a word, the bits of a vector, or `none`, and the newline
+unfoldable pub vector_behind : List ℕ → ℕ → List ℕ → Reading (List Bool)
+vector_behind word zero bytes = do
+  behind ← literal word bytes
+  none ← literal (codes "none\n") behind.1
+  Ok ([], none.1)
+vector_behind word (suc count) bytes = chars_behind word bit_of (suc count) bytes
 
 -- a word, a number and the byte that closes it
 unfoldable pub number_behind : List ℕ → ℕ → ℕ → List ℕ → Reading ℕ
 number_behind word most close bytes = do
   behind ← literal word bytes
   number_at most close behind.1
-
--- a word, a vector and the newline
-unfoldable pub vector_behind : List ℕ → ℕ → List ℕ → Reading (List Bool)
-vector_behind word count bytes = do
-  behind ← literal word bytes
-  vector_at count behind.1
 
 -- ---- the first line
 
@@ -120,11 +156,15 @@ abbrev pub IsUpTo : ℕ → ℕ → Option ℕ → Type 0
 IsUpTo most number (Some told) = (told ≡ number) × (number ≤ most)
 IsUpTo most number None = most < number
 
--- Why version 1 doesn't stand here: another number is another version, or passes the greatest; with no other it is the syntax.
+-- one of the versions has this number
+abbrev pub is_version : ℕ → Bool
+is_version number = number == 1 || (number == 2 || number == 3)
+
+-- Why no version stands here: another number is another version, or passes the greatest; with no other it is the syntax.
 unfoldable pub version_reason : List ℕ → Reason
 version_reason behind =
-    if begins_number behind && not (front_number 0 behind == 1) then (
-    if nat_le (front_number 0 behind) greatest then Version else NumberTooLarge) else Syntax
+    if begins_number behind && not (is_version (front_number 0 behind)) then (
+    if nat_le (front_number 0 behind) greatest then reason.Version else NumberTooLarge) else Syntax
 
 -- where reading stops at a byte, it does for this reason
 abbrev pub because : {A : Type 0} → Reason → Reading A → Reading A
@@ -132,28 +172,127 @@ because reason (Ok x) = Ok x
 because reason (Err Ends) = Err Ends
 because reason (Err (Wrong other rest)) = Err (Wrong reason rest)
 
--- the first line: what stands behind its word and space says why it isn't that of version 1
-unfoldable pub version_at : List ℕ → Reading (Unit {0})
+-- the digit of a version
+abbrev pub version_digit : Version → ℕ
+version_digit First = 49
+version_digit Second = 50
+version_digit Third = 51
+
+abbrev pub version_of_digit : ℕ → Option Version
+version_of_digit b = written_as version_digit (First ∷ Second ∷ Third ∷ []) b
+
+-- a version's digit and the newline
+unfoldable pub digit_at : List ℕ → Reading Version
+digit_at bytes = do
+  version ← char_at version_of_digit bytes
+  end ← literal (codes "\n") version.1
+  Ok (version.0, end.1)
+
+-- the first line: what stands behind its word and space says why it isn't that of a version
+unfoldable pub version_at : List ℕ → Reading Version
 version_at bytes = do
   word ← literal (codes "tdelay-cert ") bytes
-  because (version_reason word.1) (literal (codes "1\n") word.1)
+  because (version_reason word.1) (digit_at word.1)
+
+-- ---- the question
+
+-- From the second version on there is at least one input: without inputs all pairs are admitted and nothing changes later.
+abbrev pub has_inputs : Version → Bool
+has_inputs First = false
+has_inputs Second = true
+has_inputs Third = true
+
+-- the greatest number of flips: in the second version one less where nothing is pinned or held
+abbrev pub most_flips : Version → List Trit → List Bool → ℕ
+most_flips Second pins held = if list_all is_free pins && holds_none held then length held - 1 else length held
+most_flips version pins held = length held
+
+-- the number of flips; what passes the most is no number of this version
+unfoldable pub flips_at : ℕ → List ℕ → Reading ℕ
+flips_at most bytes = because Syntax (number_behind (codes "flips ") most 10 bytes)
+
+abbrev pub with_pins : List Trit → List Trit → List Bool → ℕ → Admitted
+with_pins firsts seconds held flips = record { pins = weave firsts seconds; held = held; flips = flips }
+
+-- the lines `first` to `flips`
+unfoldable pub admit_at : Version → ℕ → List ℕ → Reading Admitted
+admit_at version inputs bytes = do
+  firsts ← chars_behind (codes "first ") trit_of inputs bytes
+  seconds ← chars_behind (codes "second ") trit_of inputs firsts.1
+  held ← chars_behind (codes "hold ") hold_of inputs seconds.1
+  flips ← flips_at (most_flips version (weave firsts.0 seconds.0) held.0) held.1
+  Ok (with_pins firsts.0 seconds.0 held.0 flips.0, flips.1)
+
+-- the byte behind a moment with so many others to come
+abbrev pub close_of : ℕ → ℕ
+close_of zero = 10
+close_of (suc others) = 32
+
+-- a moment with so many others to come; the last must not be 0 where all before are
+abbrev pub moment_at : Bool → ℕ → List ℕ → Reading ℕ
+moment_at at_once others bytes = because Syntax (number_from (at_once && others == 0) latest (close_of others) bytes)
+
+-- so many moments, behind others that are all 0 or not
+unfoldable pub moments_at : Bool → ℕ → List ℕ → Reading (List ℕ)
+moments_at at_once zero bytes = Ok ([], bytes)
+moments_at at_once (suc count) bytes = do
+  first ← moment_at at_once count bytes
+  others ← moments_at (at_once && first.0 == 0) count first.1
+  Ok (first.0 ∷ others.0, others.1)
+
+-- the line `at`
+unfoldable pub at_line : ℕ → List ℕ → Reading (List ℕ)
+at_line inputs bytes = do
+  behind ← literal (codes "at ") bytes
+  moments_at true inputs behind.1
+
+abbrev pub asked : Admitted → List ℕ → Question
+asked admit moments = record { admit = admit; moments = moments }
+
+-- the lines of a question
+unfoldable pub question_at : Version → ℕ → List ℕ → Reading Question
+question_at First inputs bytes = Ok (all_at_once inputs, bytes)
+question_at Second inputs bytes = do
+  admit ← admit_at Second inputs bytes
+  Ok (asked admit.0 (replicate inputs 0), admit.1)
+question_at Third inputs bytes = do
+  admit ← admit_at Third inputs bytes
+  moments ← at_line inputs admit.1
+  Ok (asked admit.0 moments.0, moments.1)
 
 -- ---- the tree
 
--- the letter of a node
+-- the letter of a domain
+abbrev pub domain_byte : BoundedBy → ℕ
+domain_byte Arrival = 97
+domain_byte Possible = 116
+domain_byte Both = 109
+
+unfoldable pub letter_at : List ℕ → Reading BoundedBy
+letter_at bytes = char_at (λ b. written_as domain_byte (Arrival ∷ Possible ∷ Both ∷ []) b) bytes
+
+-- how a node's line begins
 pub data Tag : Type 0 where
   SplitTag : Tag
   BoundTag : Tag
   PointTag : Tag
+  EmptyTag : Tag
 
-unfoldable pub tag_at : List ℕ → Reading Tag
-tag_at [] = Err Ends
-tag_at (b ∷ rest) =
-    if b == 115 then Ok (SplitTag, rest) else (
-    if b == 98 then Ok (BoundTag, rest) else (
-    if b == 112 then Ok (PointTag, rest) else Err (Wrong Syntax (b ∷ rest))))
+abbrev pub tag_byte : Tag → ℕ
+tag_byte SplitTag = 115
+tag_byte BoundTag = 98
+tag_byte PointTag = 112
+tag_byte EmptyTag = 110
 
--- what stands behind the letter of a node
+-- in the first version each leaf has an admitted pair
+abbrev pub tags : Version → List Tag
+tags First = SplitTag ∷ BoundTag ∷ PointTag ∷ []
+tags version = SplitTag ∷ BoundTag ∷ PointTag ∷ EmptyTag ∷ []
+
+unfoldable pub tag_at : Version → List ℕ → Reading Tag
+tag_at version bytes = char_at (λ b. written_as tag_byte (tags version) b) bytes
+
+-- what stands behind the first byte of a node
 unfoldable pub behind_tag : Tag → List ℕ → Reading Node
 behind_tag SplitTag bytes = do
   position ← number_behind (codes " ") greatest 10 bytes
@@ -166,40 +305,50 @@ behind_tag BoundTag bytes = do
 behind_tag PointTag bytes = do
   time ← number_behind (codes " ") greatest 10 bytes
   Ok (node.Point time.0, time.1)
+behind_tag EmptyTag bytes = do
+  word ← literal (codes "one\n") bytes
+  Ok (node.Empty, word.1)
 
 -- a node's line
-unfoldable pub node_at : List ℕ → Reading Node
-node_at bytes = do
-  tag ← tag_at bytes
+unfoldable pub node_at : Version → List ℕ → Reading Node
+node_at version bytes = do
+  tag ← tag_at version bytes
   behind_tag tag.0 tag.1
 
 -- the nodes of so many subtrees, no more of them than the first number
-unfoldable pub nodes_within : ℕ → ℕ → List ℕ → Reading (List Node)
-nodes_within count zero bytes = Ok ([], bytes)
-nodes_within zero (suc pending) bytes = Err Ends
-nodes_within (suc count) (suc pending) bytes = do
-  first ← node_at bytes
-  others ← nodes_within count (sides first.0 + pending) first.1
+unfoldable pub nodes_within : Version → ℕ → ℕ → List ℕ → Reading (List Node)
+nodes_within version count zero bytes = Ok ([], bytes)
+nodes_within version zero (suc pending) bytes = Err Ends
+nodes_within version (suc count) (suc pending) bytes = do
+  first ← node_at version bytes
+  others ← nodes_within version count (sides first.0 + pending) first.1
   Ok (first.0 ∷ others.0, others.1)
 
 -- the nodes of so many subtrees
-unfoldable pub nodes_at : ℕ → List ℕ → Reading (List Node)
-nodes_at pending bytes = nodes_within (length bytes) pending bytes
+unfoldable pub nodes_at : Version → ℕ → List ℕ → Reading (List Node)
+nodes_at version pending bytes = nodes_within version (length bytes) pending bytes
 
-abbrev pub with_fields : ℕ → ℕ → ℕ → List Bool → List Bool → List Node → Certificate
-with_fields inputs gates time first second tree =
-    record { inputs = inputs; gates = gates; time = time; pair = record { first = first; second = second }; tree = tree }
+abbrev pub with_fields : ℕ → Question → ℕ → List Bool → List Bool → List Node → Certificate
+with_fields gates question time first second tree =
+    record { gates = gates; question = question; time = time; pair = record { first = first; second = second }; tree = tree }
 
 -- ---- the whole
+
+-- the lines behind the first, and the bytes after them
+unfoldable pub lines_at : Version → List ℕ → Reading Certificate
+lines_at version bytes = do
+  word ← literal (codes "circuit ") bytes
+  inputs ← number_from (has_inputs version) 4096 32 word.1
+  gates ← number_at 200000 10 inputs.1
+  question ← question_at version inputs.0 gates.1
+  time ← number_behind (codes "time ") greatest 10 question.1
+  first ← vector_behind (codes "from ") inputs.0 time.1
+  second ← vector_behind (codes "to ") inputs.0 first.1
+  tree ← nodes_at version 1 second.1
+  Ok (with_fields gates.0 question.0 time.0 first.0 second.0 tree.0, tree.1)
 
 -- a certificate, and the bytes after it
 unfoldable pub certificate_at : List ℕ → Reading Certificate
 certificate_at bytes = do
   version ← version_at bytes
-  inputs ← number_behind (codes "circuit ") 4096 32 version.1
-  gates ← number_at 200000 10 inputs.1
-  time ← number_behind (codes "time ") greatest 10 gates.1
-  first ← vector_behind (codes "from ") inputs.0 time.1
-  second ← vector_behind (codes "to ") inputs.0 first.1
-  tree ← nodes_at 1 second.1
-  Ok (with_fields inputs.0 gates.0 time.0 first.0 second.0 tree.0, tree.1)
+  lines_at version.0 version.1

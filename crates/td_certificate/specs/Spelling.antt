@@ -1,23 +1,64 @@
 -- Certificates and their one spelling: lines, each ended by a newline.
-use Rattle.std.specs.Prelude.{◌≡◌, ℕ, ◌≤◌, ◌^◌, List, [], ◌∷◌, ◌++◌, length, map, codes, decimal}
+use Rattle.std.specs.Prelude.{◌≡◌, ◌≢◌, ℕ, ◌*◌, ◌≤◌, ◌^◌, List, [], ◌∷◌, ◌++◌, length, map, codes, decimal}
 use Rattle.std.specs.List.{flat_map, AllByRecursion}
 use Rattle.td_certificate.specs.declared.tree.Node.{Node}
 use Rattle.td_certificate.specs.declared.tree.Node.TheVariants as node
+use Rattle.td_certificate.specs.declared.question.Version.{Version}
+use Rattle.td_certificate.specs.declared.question.Version.TheVariants.{First, Second, Third}
 use Rattle.td_certificate.specs.declared.certificate.Certificate.{Certificate}
+use Rattle.td_certificate.specs.Questions.{Question, inputs_of, version_of, version_number}
 use Rattle.td_certificate.specs.Trees.{IsTree}
-use Rattle.td_certificate.specs.Text.{bits, node_line}
+use Rattle.td_certificate.specs.Text.{bits, node_line, trit, first_trits, second_trits, hold, numbers}
 
 -- ---- the lines
+
+-- the number of inputs of the circuit
+abbrev pub inputs : Certificate → ℕ
+inputs c = inputs_of c.question
+
+-- what the lines of a question tell, each one of these
+pub data Field : Type 0 where
+  FirstField : Field
+  SecondField : Field
+  HoldField : Field
+  FlipsField : Field
+  AtField : Field
+
+-- the lines of a question, by the version
+abbrev pub fields_of : Version → List Field
+fields_of First = []
+fields_of Second = FirstField ∷ SecondField ∷ HoldField ∷ FlipsField ∷ []
+fields_of Third = FirstField ∷ SecondField ∷ HoldField ∷ FlipsField ∷ AtField ∷ []
+
+abbrev pub field_line : Question → Field → List ℕ
+field_line question FirstField = codes "first " ++ map trit (first_trits question.admit.pins)
+field_line question SecondField = codes "second " ++ map trit (second_trits question.admit.pins)
+field_line question HoldField = codes "hold " ++ map hold question.admit.held
+field_line question FlipsField = codes "flips " ++ decimal question.admit.flips
+field_line question AtField = codes "at " ++ numbers question.moments
+
+abbrev pub question_lines : Question → List (List ℕ)
+question_lines question = map (field_line question) (fields_of (version_of question))
+
+abbrev pub version_line : Version → List ℕ
+version_line version = codes "tdelay-cert " ++ decimal (version_number version)
+
+abbrev pub circuit_line : Certificate → List ℕ
+circuit_line c = codes "circuit " ++ decimal (inputs c) ++ codes " " ++ decimal c.gates
+
+abbrev pub time_line : Certificate → List ℕ
+time_line c = codes "time " ++ decimal c.time
+
+abbrev pub from_line : Certificate → List ℕ
+from_line c = codes "from " ++ bits c.pair.first
+
+abbrev pub to_line : Certificate → List ℕ
+to_line c = codes "to " ++ bits c.pair.second
 
 -- the lines before the tree
 abbrev pub head_lines : Certificate → List (List ℕ)
 head_lines c =
-    codes "tdelay-cert 1"
-    ∷ (codes "circuit " ++ decimal c.inputs ++ codes " " ++ decimal c.gates)
-    ∷ (codes "time " ++ decimal c.time)
-    ∷ (codes "from " ++ bits c.pair.first)
-    ∷ (codes "to " ++ bits c.pair.second)
-    ∷ []
+    version_line (version_of c.question) ∷ circuit_line c ∷ (question_lines c.question ++ time_line c ∷ from_line c ∷ to_line c ∷ [])
 
 -- a line and its newline
 abbrev pub ended : List ℕ → List ℕ
@@ -26,6 +67,10 @@ ended line = line ++ 10 ∷ []
 -- the text of these lines
 abbrev pub text_of : List (List ℕ) → List ℕ
 text_of lines = flat_map ended lines
+
+-- the text of a question's lines
+abbrev pub question_text : Question → List ℕ
+question_text question = text_of (question_lines question)
 
 unfoldable pub spelling : Certificate → List ℕ
 spelling c = text_of (head_lines c ++ map node_line c.tree)
@@ -36,19 +81,30 @@ spelling c = text_of (head_lines c ++ map node_line c.tree)
 abbrev pub greatest : ℕ
 greatest = 10 ^ 18
 
-abbrev pub IsNode : Node → Type 0
-IsNode (node.Split position) = position ≤ greatest
-IsNode (node.Bound domain bound) = bound ≤ greatest
-IsNode (node.Point time) = time ≤ greatest
+-- the latest moment of an input
+abbrev pub latest : ℕ
+latest = 1000000000
 
--- its numbers are within their limits, its vectors have a bit for each input, and its nodes are one tree's
+-- a node of a text of this version: numbers up to the greatest, and leaves without an admitted pair only where pairs are restricted
+abbrev pub IsNode : Version → Node → Type 0
+IsNode version (node.Split position) = position ≤ greatest
+IsNode version (node.Bound domain bound) = bound ≤ greatest
+IsNode version (node.Point time) = time ≤ greatest
+IsNode version node.Empty = version ≢ First
+
+-- its numbers are within their limits, there are two pins, a moment and a bit of each vector for each input, and its nodes are
+-- one tree's
 pub record HasSpelling (c : Certificate) : Type 0 where
-  pub inputs : c.inputs ≤ 4096
+  pub inputs : inputs_of c.question ≤ 4096
   pub gates : c.gates ≤ 200000
+  pub pins : length c.question.admit.pins ≡ 2 * inputs_of c.question
+  pub flips : c.question.admit.flips ≤ inputs_of c.question
+  pub count : length c.question.moments ≡ inputs_of c.question
+  pub moments : AllByRecursion (λ moment. moment ≤ latest) c.question.moments
   pub time : c.time ≤ greatest
-  pub first : length c.pair.first ≡ c.inputs
-  pub second : length c.pair.second ≡ c.inputs
-  pub nodes : AllByRecursion IsNode c.tree
+  pub first : length c.pair.first ≡ inputs_of c.question
+  pub second : length c.pair.second ≡ inputs_of c.question
+  pub nodes : AllByRecursion (IsNode (version_of c.question)) c.tree
   pub tree : IsTree c.tree
 
 -- the certificate is spelled so

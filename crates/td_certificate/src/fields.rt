@@ -2,10 +2,11 @@
 
 ghost use Rattle.std.specs.Prelude.{◌≡◌, ◌≢◌, ◌≤◌, ◌<◌, ◌+◌, ◌^◌, ◌==◌, ◌||◌, length, codes, IfOk};
 ghost use Rattle.td_certificate.specs.declared.fields.Stop.TheVariants.{OutOfMemory};
-ghost use Rattle.td_certificate.specs.Reading.{Gives, byte_at, literal, digits_at, number_at, bits_at, vector_at, letter_at, number_behind, vector_behind, behind_tag, BoundTag, node_at};
+ghost use Rattle.td_certificate.specs.Reading.{Gives, byte_at, literal, digits_at, number_at, number_from, begins_with_zero, letter_at, number_behind, behind_tag, BoundTag, EmptyTag, node_at};
 
+use crate::question::Version;
 use crate::tree::{BoundedBy, Node};
-use std::alloc::{AllocError, AllocFailed, Global};
+use std::alloc::{AllocError, AllocFailed};
 
 /// The greatest number of a certificate.
 pub const GREATEST: u64 = 1_000_000_000_000_000_000;
@@ -43,7 +44,7 @@ impl<T: Drop> From<AllocFailed<T>> for Stop<'_> {
 }
 
 /// Takes the first byte.
-fn first_byte(text: &[u8]) -> Result<(u8, &[u8]), Stop<'_>>
+pub fn first_byte(text: &[u8]) -> Result<(u8, &[u8]), Stop<'_>>
     ensures { Gives (λ x. (x.0, x.1.now)) result (byte_at text.now) }
 {
     match text {
@@ -102,41 +103,29 @@ pub fn number<'a>(most: u64, close: u8, text: &'a [u8]) -> Result<(u64, &'a [u8]
     }
 }
 
-fn is_bit(byte: u8) -> bool
-    ensures { result ≡ (byte == 48 || byte == 49) }
+/// Whether the first byte is a 0.
+fn begins_with_zero(text: &[u8]) -> bool
+    ensures { result ≡ begins_with_zero text.now }
 {
-    byte == b'0' || byte == b'1'
+    matches!(text, [b'0', ..])
 }
 
-/// Takes so many characters 0 or 1.
-pub fn bits(alloc: Global, count: u32, text: &[u8]) -> Result<(Vec<bool>, &[u8]), Stop<'_>>
-    ensures { Gives (λ x. (x.0.items, x.1.now)) result (bits_at count text.now) }
+/// Takes a number as `number` does. A 0 is refused where it must be of a positive count.
+#[tactic(auto, unfolding(crate::specs::Reading::number_from))]
+pub fn number_from<'a>(
+    positive: bool,
+    most: u64,
+    close: u8,
+    text: &'a [u8],
+) -> Result<(u64, &'a [u8]), Stop<'a>>
+    requires { most ≤ 10 ^ 18 }
+    ensures read { Gives (λ x. (x.0, x.1.now)) result (number_from positive most close text.now) }
+    ensures within { IfOk result (λ x. x.0 ≤ most) }
 {
-    let mut bits = Vec::new(alloc);
-    let mut rest = text;
-    for _ in 0..count {
-        let (byte, after) = first_byte(rest)?;
-        if !is_bit(byte) {
-            return Err(Stop::Wrong(Reason::Syntax, rest));
-        }
-        bits.push(byte == b'1')?;
-        rest = after;
+    if positive && begins_with_zero(text) {
+        return Err(Stop::Wrong(Reason::Syntax, text));
     }
-    Ok((bits, rest))
-}
-
-/// Takes the bits of a vector, or `none`, and the newline.
-#[tactic(auto, unfolding(crate::specs::Reading::vector_at))]
-pub fn vector(alloc: Global, count: u32, text: &[u8]) -> Result<(Vec<bool>, &[u8]), Stop<'_>>
-    ensures { Gives (λ x. (x.0.items, x.1.now)) result (vector_at count text.now) }
-{
-    if count == 0 {
-        let rest = literal(b"none\n", text)?;
-        return Ok((Vec::new(alloc), rest));
-    }
-    let (bits, rest) = bits(alloc, count, text)?;
-    let rest = literal(b"\n", rest)?;
-    Ok((bits, rest))
+    number(most, close, text)
 }
 
 #[tactic(auto, unfolding(crate::specs::Reading::letter_at))]
@@ -168,20 +157,6 @@ pub fn number_behind<'a>(
     number(most, close, rest)
 }
 
-/// Takes a word, a vector and the newline.
-#[tactic(auto, unfolding(crate::specs::Reading::vector_behind))]
-pub fn vector_behind<'a>(
-    alloc: Global,
-    word: &[u8],
-    count: u32,
-    text: &'a [u8],
-) -> Result<(Vec<bool>, &'a [u8]), Stop<'a>>
-    ensures { Gives (λ x. (x.0.items, x.1.now)) result (vector_behind word.now count text.now) }
-{
-    let rest = literal(word, text)?;
-    vector(alloc, count, rest)
-}
-
 /// Takes a space, a number and the newline.
 fn last_number(text: &[u8]) -> Result<(u64, &[u8]), Stop<'_>>
     ensures { Gives (λ x. (x.0, x.1.now)) result (number_behind (codes " ") (10 ^ 18) 10 text.now) }
@@ -199,10 +174,19 @@ fn bound(text: &[u8]) -> Result<(Node, &[u8]), Stop<'_>>
     Ok((Node::Bound(domain, bound), rest))
 }
 
+/// Takes what follows the first byte of a leaf without an admitted pair, which the first version doesn't have.
+#[tactic(auto, unfolding(crate::specs::Reading::behind_tag))]
+fn empty(text: &[u8]) -> Result<(Node, &[u8]), Stop<'_>>
+    ensures { Gives (λ x. (x.0, x.1.now)) result (behind_tag EmptyTag text.now) }
+{
+    let rest = literal(b"one\n", text)?;
+    Ok((Node::Empty, rest))
+}
+
 /// Takes a node's line.
 #[tactic(auto, unfolding(crate::specs::Reading::node_at, crate::specs::Reading::tag_at, crate::specs::Reading::behind_tag))]
-pub fn node(text: &[u8]) -> Result<(Node, &[u8]), Stop<'_>>
-    ensures { Gives (λ x. (x.0, x.1.now)) result (node_at text.now) }
+pub fn node(version: Version, text: &[u8]) -> Result<(Node, &[u8]), Stop<'_>>
+    ensures { Gives (λ x. (x.0, x.1.now)) result (node_at version text.now) }
 {
     match text {
         [] => Err(Stop::Ends),
@@ -215,6 +199,10 @@ pub fn node(text: &[u8]) -> Result<(Node, &[u8]), Stop<'_>>
             let (time, rest) = last_number(rest)?;
             Ok((Node::Point(time), rest))
         }
+        [b'n', rest @ ..] => match version {
+            Version::First => Err(Stop::Wrong(Reason::Syntax, text)),
+            Version::Second | Version::Third => empty(rest),
+        },
         [_, ..] => Err(Stop::Wrong(Reason::Syntax, text)),
     }
 }

@@ -1,19 +1,23 @@
 //! Certificates of a worst delay: evidence that another program can check, and its text.
 #![tactic(auto)]
 
+mod asking;
 mod certificate;
+mod characters;
 mod fault;
 mod fields;
 pub mod laws;
+mod question;
 mod reading;
 mod tree;
 mod writing;
 
 pub use certificate::Certificate;
 pub use fault::{CertFault, CertFaultKind, WriteFault};
+pub use question::{Question, Version};
 pub use reading::read;
 pub use tree::{BoundedBy, Node, Tree};
-pub use writing::write;
+pub use writing::{push_question, write};
 
 #[cfg(test)]
 mod tests;

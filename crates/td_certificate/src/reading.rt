@@ -1,15 +1,18 @@
 //! Reading a certificate's text.
 
 ghost use Rattle.std.specs.Prelude.{◌≡◌, ◌≤◌, ◌<◌, ◌+◌, ◌-◌, ◌^◌, ◌∷◌, ℕ, take, length, Some, IfOk, IfErr};
-ghost use Rattle.td_certificate.specs.Reading.{Gives, begins_number, front_number, IsUpTo, version_reason, version_at, nodes_at, certificate_at};
+ghost use Rattle.td_certificate.specs.Reading.{Gives, begins_number, front_number, IsUpTo, is_version, version_reason, digit_at, version_at, has_inputs, nodes_at, lines_at, certificate_at};
 ghost use Rattle.td_certificate.specs.Spelling.{Spells};
 ghost use Rattle.td_certificate.specs.declared.certificate.Certificate.{Certificate as Contents};
 ghost use Rattle.td_certificate.specs.declared.fault.CertFaultKind.{CertFaultKind as Kind};
 ghost use Rattle.td_certificate.specs.Faults.{IsFault, kind_of, kind_in, IsWithinLimit, IsFront, HasMore, IsReadAs, IsTold, line_behind};
 
+use crate::asking::question;
 use crate::certificate::Certificate;
+use crate::characters::vector;
 use crate::fault::{CertFault, CertFaultKind};
-use crate::fields::{GREATEST, Reason, Stop, literal, node, number, number_behind, vector_behind};
+use crate::fields::{GREATEST, Reason, Stop, literal, node, number, number_behind, number_from};
+use crate::question::Version;
 use crate::tree::Tree;
 use std::alloc::Global;
 use td_domain::Pair;
@@ -53,7 +56,14 @@ fn front_number(bytes: &[u8]) -> Option<u64>
     Some(number)
 }
 
-/// What is wrong with a first line that isn't that of version 1, from the byte behind its word and space on.
+/// Whether one of the versions has this number.
+fn is_version(number: u64) -> bool
+    ensures { result ≡ is_version number }
+{
+    number == 1 || number == 2 || number == 3
+}
+
+/// What is wrong with a first line that isn't that of a version, from the byte behind its word and space on.
 #[tactic(auto, unfolding(crate::specs::Reading::version_reason))]
 fn version_reason(behind: &[u8]) -> Reason
     ensures { result ≡ version_reason behind.now }
@@ -63,32 +73,53 @@ fn version_reason(behind: &[u8]) -> Reason
     }
     match front_number(behind) {
         None => Reason::NumberTooLarge,
-        Some(1) => Reason::Syntax,
-        Some(_) => Reason::Version,
+        Some(number) => {
+            if is_version(number) {
+                Reason::Syntax
+            } else {
+                Reason::Version
+            }
+        }
     }
+}
+
+/// Takes a version's digit and the newline.
+#[tactic(auto, unfolding(crate::specs::Reading::digit_at))]
+fn digit(text: &[u8]) -> Result<(Version, &[u8]), Stop<'_>>
+    ensures { Gives (λ x. (x.0, x.1.now)) result (digit_at text.now) }
+{
+    let (version, rest) = match text {
+        [] => return Err(Stop::Ends),
+        [b'1', rest @ ..] => (Version::First, rest),
+        [b'2', rest @ ..] => (Version::Second, rest),
+        [b'3', rest @ ..] => (Version::Third, rest),
+        [_, ..] => return Err(Stop::Wrong(Reason::Syntax, text)),
+    };
+    let rest = literal(b"\n", rest)?;
+    Ok((version, rest))
 }
 
 /// Takes the first line.
 #[tactic(auto, unfolding(crate::specs::Reading::version_at))]
-fn version(text: &[u8]) -> Result<&[u8], Stop<'_>>
-    ensures { Gives (λ rest. (tt, rest.now)) result (version_at text.now) }
+fn version(text: &[u8]) -> Result<(Version, &[u8]), Stop<'_>>
+    ensures { Gives (λ x. (x.0, x.1.now)) result (version_at text.now) }
 {
     let behind = literal(b"tdelay-cert ", text)?;
-    match literal(b"1\n", behind) {
+    match digit(behind) {
         Err(Stop::Wrong(_, rest)) => Err(Stop::Wrong(version_reason(behind), rest)),
         other => other,
     }
 }
 
 /// Takes a tree.
-fn tree(alloc: Global, text: &[u8]) -> Result<(Tree, &[u8]), Stop<'_>>
-    ensures { Gives (λ x. (x.0, x.1.now)) result (nodes_at 1 text.now) }
+fn tree(alloc: Global, version: Version, text: &[u8]) -> Result<(Tree, &[u8]), Stop<'_>>
+    ensures { Gives (λ x. (x.0, x.1.now)) result (nodes_at version 1 text.now) }
 {
     let mut nodes = Vec::new(alloc);
     let mut pending = 1u64;
     let mut rest = text;
     while pending > 0 {
-        let (first, after) = node(rest)?;
+        let (first, after) = node(version, rest)?;
         pending = pending - 1 + first.sides();
         nodes.push(first)?;
         rest = after;
@@ -96,27 +127,46 @@ fn tree(alloc: Global, text: &[u8]) -> Result<(Tree, &[u8]), Stop<'_>>
     Ok((Tree::from_nodes(nodes), rest))
 }
 
+/// Whether a circuit has inputs where a text of this version is about it.
+fn has_inputs(version: Version) -> bool
+    ensures { result ≡ has_inputs version }
+{
+    match version {
+        Version::First => false,
+        Version::Second | Version::Third => true,
+    }
+}
+
+/// Takes the lines behind the first.
+#[tactic(auto, unfolding(crate::specs::Reading::lines_at))]
+fn lines(alloc: Global, version: Version, text: &[u8]) -> Result<(Certificate, &[u8]), Stop<'_>>
+    ensures { Gives (λ x. (x.0, x.1.now)) result (lines_at version text.now) }
+{
+    let rest = literal(b"circuit ", text)?;
+    let (inputs, rest) = number_from(has_inputs(version), MAX_INPUTS, b' ', rest)?;
+    let (gates, rest) = number(MAX_GATES, b'\n', rest)?;
+    let (question, rest) = question(alloc, version, inputs as u32, rest)?;
+    let (time, rest) = number_behind(b"time ", GREATEST, b'\n', rest)?;
+    let (first, rest) = vector(alloc, b"from ", inputs as u32, rest)?;
+    let (second, rest) = vector(alloc, b"to ", inputs as u32, rest)?;
+    let (tree, rest) = tree(alloc, version, rest)?;
+    let certificate = Certificate {
+        gates: gates as u32,
+        question,
+        time,
+        pair: Pair::new(first, second),
+        tree,
+    };
+    Ok((certificate, rest))
+}
+
 /// Takes a certificate.
 #[tactic(auto, unfolding(crate::specs::Reading::certificate_at))]
 fn certificate(alloc: Global, text: &[u8]) -> Result<(Certificate, &[u8]), Stop<'_>>
     ensures { Gives (λ x. (x.0, x.1.now)) result (certificate_at text.now) }
 {
-    let rest = version(text)?;
-    let (inputs, rest) = number_behind(b"circuit ", MAX_INPUTS, b' ', rest)?;
-    let (gates, rest) = number(MAX_GATES, b'\n', rest)?;
-    let (time, rest) = number_behind(b"time ", GREATEST, b'\n', rest)?;
-    let (first, rest) = vector_behind(alloc, b"from ", inputs as u32, rest)?;
-    let (second, rest) = vector_behind(alloc, b"to ", inputs as u32, rest)?;
-    let (tree, rest) = tree(alloc, rest)?;
-    let pair = Pair::new(first, second);
-    let certificate = Certificate {
-        inputs: inputs as u32,
-        gates: gates as u32,
-        time,
-        pair,
-        tree,
-    };
-    Ok((certificate, rest))
+    let (version, rest) = version(text)?;
+    lines(alloc, version, rest)
 }
 
 /// The line of the place where this rest of the text begins.

@@ -1,6 +1,6 @@
 use super::*;
 use std::test::*;
-use td_domain::Pair;
+use td_domain::{Admit, Cube, Pair, Trit};
 use td_gates::MemorySink;
 
 /// An inverter's certificate.
@@ -14,6 +14,22 @@ const SPLIT: &[u8; 81] =
 const LEAVES: &[u8; 77] =
     b"tdelay-cert 1\ncircuit 0 9\ntime 5\nfrom none\nto none\ns 7\nb t 4\ns 10\nb m 5\np 20\n";
 
+/// An inverter whose input changes at moment 7.
+const LATER: &[u8; 88] =
+    b"tdelay-cert 3\ncircuit 1 2\nfirst .\nsecond .\nhold .\nflips 1\nat 7\ntime 9\nfrom 0\nto 1\nb a 9\n";
+
+/// Two inputs of which one may differ, and each kind of leaf.
+const ONE_FLIP: &[u8; 127] =
+    b"tdelay-cert 2\ncircuit 2 3\nfirst ..\nsecond ..\nhold ..\nflips 1\ntime 5\nfrom 01\nto 11\ns 0\ns 1\nb a 3\ns 2\ns 3\nb a 0\nnone\nb a 5\nb a 5\n";
+
+/// Pinned bits, and an input that is held.
+const PINNED: &[u8; 92] =
+    b"tdelay-cert 2\ncircuit 3 1\nfirst 0.1\nsecond 1..\nhold .=.\nflips 3\ntime 0\nfrom 000\nto 100\nnone\n";
+
+/// Pinned bits and moments, of which the last is 0.
+const PINNED_LATER: &[u8; 109] =
+    b"tdelay-cert 3\ncircuit 3 1\nfirst 0.1\nsecond 1..\nhold .=.\nflips 0\nat 0 1000000000 0\ntime 0\nfrom 000\nto 100\np 0\n";
+
 fn fault_of(rt: &HostRuntime, text: &[u8]) -> Option<(CertFaultKind, u32)> {
     match read(rt.alloc(), text) {
         Ok(_) => None,
@@ -23,7 +39,16 @@ fn fault_of(rt: &HostRuntime, text: &[u8]) -> Option<(CertFaultKind, u32)> {
 
 #[test]
 fn a_certificate_is_read_and_written_again(rt: HostRuntime) -> Result<(), Fail> {
-    for text in [SMALL.as_slice(), SPLIT.as_slice(), LEAVES.as_slice()] {
+    let texts = [
+        SMALL.as_slice(),
+        SPLIT.as_slice(),
+        LEAVES.as_slice(),
+        LATER.as_slice(),
+        ONE_FLIP.as_slice(),
+        PINNED.as_slice(),
+        PINNED_LATER.as_slice(),
+    ];
+    for text in texts {
         let certificate = read(rt.alloc(), text)?;
         let mut sink = MemorySink::new(rt.alloc(), 1000, 7)?;
         write(rt.alloc(), &mut sink, &certificate)?;
@@ -35,7 +60,7 @@ fn a_certificate_is_read_and_written_again(rt: HostRuntime) -> Result<(), Fail> 
 #[test]
 fn what_was_read(rt: HostRuntime) -> Result<(), Fail> {
     let certificate = read(rt.alloc(), SPLIT)?;
-    assert_eq!(rt; certificate.inputs, 1);
+    assert_eq!(rt; certificate.question.inputs(), 1);
     assert_eq!(rt; certificate.gates, 2);
     assert_eq!(rt; certificate.time, 0);
     assert_eq!(rt; certificate.pair.first(), [false].as_slice());
@@ -48,7 +73,7 @@ fn what_was_read(rt: HostRuntime) -> Result<(), Fail> {
     assert_eq!(rt; nodes[6].sides(), 0);
 
     let certificate = read(rt.alloc(), LEAVES)?;
-    assert_eq!(rt; certificate.inputs, 0);
+    assert_eq!(rt; certificate.question.inputs(), 0);
     assert!(rt; certificate.pair.first().is_empty());
     let leaves = [
         Node::Split(7),
@@ -64,8 +89,8 @@ fn what_was_read(rt: HostRuntime) -> Result<(), Fail> {
 #[test]
 fn a_certificate_of_parts_is_written(rt: HostRuntime) -> Result<(), Fail> {
     let certificate = Certificate {
-        inputs: 2,
         gates: 200_000,
+        question: Question::new(Admit::all(rt.alloc(), 2)?, vec![in rt.alloc(); 0, 0]?),
         time: 1_000_000_000_000_000_000,
         pair: Pair::new(
             vec![in rt.alloc(); false, true]?,
@@ -103,13 +128,13 @@ fn first_lines(rt: HostRuntime) {
     let cases: [(&[u8], CertFaultKind); 27] = [
         (b"tdelay-cert 9", CertFaultKind::Version),
         (b"tdelay-cert 9\n", CertFaultKind::Version),
-        (b"tdelay-cert 2\ncircuit 1 1\n", CertFaultKind::Version),
-        (b"tdelay-cert 3\n", CertFaultKind::Version),
+        (b"tdelay-cert 4\ncircuit 1 1\n", CertFaultKind::Version),
+        (b"tdelay-cert 20\n", CertFaultKind::Version),
         (b"tdelay-cert 4x", CertFaultKind::Version),
         (b"tdelay-cert 0", CertFaultKind::Version),
         (b"tdelay-cert 10\n", CertFaultKind::Version),
         (b"tdelay-cert 12", CertFaultKind::Version),
-        (b"tdelay-cert 2x", CertFaultKind::Version),
+        (b"tdelay-cert 2x", CertFaultKind::Syntax),
         (b"tdelay-cert 0x", CertFaultKind::Version),
         (b"tdelay-cert 1000000000000000000", CertFaultKind::Version),
         (
@@ -141,7 +166,16 @@ fn first_lines(rt: HostRuntime) {
     for (text, kind) in cases {
         assert_eq!(rt; fault_of(&rt, text), Some((kind, 1)), "{text:?}");
     }
-    for front in ["", "t", "tdelay-cert", "tdelay-cert ", "tdelay-cert 1"] {
+    let fronts = [
+        "",
+        "t",
+        "tdelay-cert",
+        "tdelay-cert ",
+        "tdelay-cert 1",
+        "tdelay-cert 2",
+        "tdelay-cert 3",
+    ];
+    for front in fronts {
         assert_eq!(rt;
             fault_of(&rt, front.as_bytes()),
             Some((CertFaultKind::UnexpectedEnd, 1))
@@ -217,6 +251,236 @@ fn faults_behind_the_first_line(rt: HostRuntime) -> Result<(), Fail> {
     ];
     for (behind, kind, line) in cases {
         let text = format!(in rt.alloc(); "tdelay-cert 1\n{behind}")?;
+        assert_eq!(rt;
+            fault_of(&rt, text.as_bytes()),
+            Some((kind, line)),
+            "{behind}"
+        );
+    }
+    Ok(())
+}
+
+#[test]
+fn what_was_asked(rt: HostRuntime) -> Result<(), Fail> {
+    let certificate = read(rt.alloc(), PINNED_LATER)?;
+    let question = certificate.question;
+    assert_eq!(rt; question.version(), Version::Third);
+    assert_eq!(rt; question.moments(), [0, 1_000_000_000, 0].as_slice());
+    let admit = question.admit();
+    assert_eq!(rt; admit.flips(), 0);
+    assert_eq!(rt; admit.held(), [false, true, false].as_slice());
+    let pins = admit.pins();
+    assert_eq!(rt; pins.len(), 6);
+    let wanted = [
+        Trit::Zero,
+        Trit::One,
+        Trit::Free,
+        Trit::Free,
+        Trit::One,
+        Trit::Free,
+    ];
+    for (position, trit) in wanted.iter().enumerate() {
+        if position < pins.len() {
+            assert_eq!(rt; pins.trit(position), *trit);
+        }
+    }
+    let certificate = read(rt.alloc(), ONE_FLIP)?;
+    assert_eq!(rt; certificate.question.version().number(), 2);
+    assert_eq!(rt; certificate.question.moments(), [0, 0].as_slice());
+    assert_eq!(rt; certificate.tree.nodes().len(), 9);
+    let certificate = read(rt.alloc(), SMALL)?;
+    assert_eq!(rt; certificate.question.version(), Version::First);
+    assert_eq!(rt; certificate.question.admit().flips(), 1);
+    Ok(())
+}
+
+#[test]
+fn questions_are_written(rt: HostRuntime) -> Result<(), Fail> {
+    let question = |pins: [Trit; 2], held: bool, flips: u32, moment: u64| -> Result<
+        Question,
+        Fail,
+    > {
+        let cube = Cube::new(Vec::from_slice(rt.alloc(), &pins)?);
+        let admit = Admit::new(cube, vec![in rt.alloc(); held]?, flips);
+        Ok(Question::new(admit, vec![in rt.alloc(); moment]?))
+    };
+    let free = [Trit::Free, Trit::Free];
+    let cases = [
+        (question(free, false, 1, 0)?, ""),
+        (
+            question(free, false, 0, 0)?,
+            "first .\nsecond .\nhold .\nflips 0\n",
+        ),
+        (
+            question(free, true, 1, 0)?,
+            "first .\nsecond .\nhold =\nflips 1\n",
+        ),
+        (
+            question([Trit::Zero, Trit::One], false, 1, 0)?,
+            "first 0\nsecond 1\nhold .\nflips 1\n",
+        ),
+        (
+            question(free, false, 1, 70)?,
+            "first .\nsecond .\nhold .\nflips 1\nat 70\n",
+        ),
+    ];
+    for (question, told) in cases {
+        let mut text = String::new(rt.alloc());
+        push_question(&mut text, &question)?;
+        assert_eq!(rt; text.as_str(), told);
+    }
+    Ok(())
+}
+
+#[test]
+fn faults_of_a_question(rt: HostRuntime) -> Result<(), Fail> {
+    let cases: [(&str, CertFaultKind, u32); 37] = [
+        ("2\ncircuit 0", CertFaultKind::Syntax, 2),
+        ("3\ncircuit 0 1\n", CertFaultKind::Syntax, 2),
+        ("2\ncircuit ", CertFaultKind::UnexpectedEnd, 2),
+        ("2\ncircuit 4097", CertFaultKind::NumberTooLarge, 2),
+        ("2\ncircuit 1 200001", CertFaultKind::NumberTooLarge, 2),
+        ("2\ncircuit 1 1\ntime", CertFaultKind::Syntax, 3),
+        ("2\ncircuit 1 1\nfirst .", CertFaultKind::UnexpectedEnd, 3),
+        ("2\ncircuit 1 1\nfirst x", CertFaultKind::Syntax, 3),
+        ("2\ncircuit 1 1\nfirst ..", CertFaultKind::Syntax, 3),
+        ("2\ncircuit 2 1\nfirst .\n", CertFaultKind::Syntax, 3),
+        ("2\ncircuit 1 1\nfirst none\n", CertFaultKind::Syntax, 3),
+        (
+            "2\ncircuit 1 1\nfirst .\nsecond =",
+            CertFaultKind::Syntax,
+            4,
+        ),
+        (
+            "2\ncircuit 1 1\nfirst .\nsecond .\nhold 0",
+            CertFaultKind::Syntax,
+            5,
+        ),
+        (
+            "2\ncircuit 1 1\nfirst .\nsecond .\nhold .\nflips ",
+            CertFaultKind::UnexpectedEnd,
+            6,
+        ),
+        // All pairs are admitted.
+        (
+            "2\ncircuit 1 1\nfirst .\nsecond .\nhold .\nflips 1",
+            CertFaultKind::Syntax,
+            6,
+        ),
+        (
+            "2\ncircuit 12 1\nfirst ............\nsecond ............\nhold ............\nflips 1",
+            CertFaultKind::UnexpectedEnd,
+            6,
+        ),
+        (
+            "2\ncircuit 12 1\nfirst ............\nsecond ............\nhold ............\nflips 12",
+            CertFaultKind::Syntax,
+            6,
+        ),
+        (
+            "2\ncircuit 12 1\nfirst ............\nsecond ............\nhold ............\nflips 11\n",
+            CertFaultKind::UnexpectedEnd,
+            7,
+        ),
+        (
+            "2\ncircuit 1 1\nfirst 0\nsecond .\nhold .\nflips 1",
+            CertFaultKind::UnexpectedEnd,
+            6,
+        ),
+        (
+            "2\ncircuit 1 1\nfirst .\nsecond .\nhold =\nflips 1\n",
+            CertFaultKind::UnexpectedEnd,
+            7,
+        ),
+        (
+            "2\ncircuit 1 1\nfirst 0\nsecond .\nhold .\nflips 2",
+            CertFaultKind::Syntax,
+            6,
+        ),
+        (
+            "2\ncircuit 1 1\nfirst 0\nsecond .\nhold .\nflips 00",
+            CertFaultKind::Syntax,
+            6,
+        ),
+        (
+            "2\ncircuit 1 1\nfirst 0\nsecond .\nhold .\nflips 1000000000000000001",
+            CertFaultKind::Syntax,
+            6,
+        ),
+        (
+            "2\ncircuit 1 1\nfirst 0\nsecond .\nhold .\nflips 1\nat 1\n",
+            CertFaultKind::Syntax,
+            7,
+        ),
+        (
+            "3\ncircuit 1 1\nfirst .\nsecond .\nhold .\nflips 1\ntime 1\n",
+            CertFaultKind::Syntax,
+            7,
+        ),
+        (
+            "3\ncircuit 1 1\nfirst .\nsecond .\nhold .\nflips 1\nat ",
+            CertFaultKind::UnexpectedEnd,
+            7,
+        ),
+        // A moment that isn't 0 is due.
+        (
+            "3\ncircuit 1 1\nfirst .\nsecond .\nhold .\nflips 1\nat 0",
+            CertFaultKind::Syntax,
+            7,
+        ),
+        (
+            "3\ncircuit 2 1\nfirst ..\nsecond ..\nhold ..\nflips 1\nat 0 ",
+            CertFaultKind::UnexpectedEnd,
+            7,
+        ),
+        (
+            "3\ncircuit 2 1\nfirst ..\nsecond ..\nhold ..\nflips 1\nat 0 0",
+            CertFaultKind::Syntax,
+            7,
+        ),
+        (
+            "3\ncircuit 2 1\nfirst ..\nsecond ..\nhold ..\nflips 1\nat 1 0\n",
+            CertFaultKind::UnexpectedEnd,
+            8,
+        ),
+        (
+            "3\ncircuit 2 1\nfirst ..\nsecond ..\nhold ..\nflips 1\nat 1\n",
+            CertFaultKind::Syntax,
+            7,
+        ),
+        (
+            "3\ncircuit 1 1\nfirst .\nsecond .\nhold .\nflips 1\nat 1 1\n",
+            CertFaultKind::Syntax,
+            7,
+        ),
+        (
+            "3\ncircuit 1 1\nfirst .\nsecond .\nhold .\nflips 1\nat 01\n",
+            CertFaultKind::Syntax,
+            7,
+        ),
+        (
+            "3\ncircuit 1 1\nfirst .\nsecond .\nhold .\nflips 1\nat 1000000000",
+            CertFaultKind::UnexpectedEnd,
+            7,
+        ),
+        (
+            "3\ncircuit 1 1\nfirst .\nsecond .\nhold .\nflips 1\nat 1000000001",
+            CertFaultKind::Syntax,
+            7,
+        ),
+        (
+            "3\ncircuit 1 1\nfirst .\nsecond .\nhold .\nflips 1\nat 9999999999999999999",
+            CertFaultKind::Syntax,
+            7,
+        ),
+        (
+            "2\ncircuit 1 1\nfirst .\nsecond .\nhold =\nflips 1\ntime 0\nfrom 0\nto 0\nnone\nnone\n",
+            CertFaultKind::Trailing,
+            11,
+        ),
+    ];
+    for (behind, kind, line) in cases {
+        let text = format!(in rt.alloc(); "tdelay-cert {behind}")?;
         assert_eq!(rt;
             fault_of(&rt, text.as_bytes()),
             Some((kind, line)),

@@ -15,13 +15,14 @@ pub enum BoundedBy {
     Both,
 }
 
-/// A node of a tree: a split at a position of its cube, a leaf with a domain's bound of its cube, or a leaf of one pair with
-/// that pair's delay. Bounds and delays are in steps.
+/// A node of a tree: a split at a position of its cube, a leaf with a domain's bound of its cube, a leaf of one pair with
+/// that pair's delay, or a leaf in whose cube no admitted pair lies. Bounds and delays are in steps.
 #[derive(Clone, Copy, Debug, PartialEq, Eq, Drop)]
 pub enum Node {
     Split(u64),
     Bound(BoundedBy, u64),
     Point(u64),
+    Empty,
 }
 
 impl Node {
@@ -31,7 +32,7 @@ impl Node {
     {
         match self {
             Node::Split(_) => 2,
-            Node::Bound(_, _) | Node::Point(_) => 0,
+            Node::Bound(_, _) | Node::Point(_) | Node::Empty => 0,
         }
     }
 }
@@ -57,6 +58,7 @@ impl fmt::Display for Node {
             Node::Split(position) => write!(f, "s {position}"),
             Node::Bound(domain, bound) => write!(f, "b {domain} {bound}"),
             Node::Point(time) => write!(f, "p {time}"),
+            Node::Empty => write!(f, "none"),
         }
     }
 }

@@ -1,17 +1,102 @@
 //! Writing a certificate's text.
 
-ghost use Rattle.std.specs.Prelude.{◌≡◌, ◌++◌, OnOk, OnErr, IfOk, IfErr, string_bytes};
+ghost use Rattle.std.specs.Char.{encode_utf8};
+ghost use Rattle.std.specs.Prelude.{◌≡◌, ◌++◌, ◌∷◌, [], ◌<◌, if◌then◌else◌, length, map, codes, OnOk, OnErr, IfOk, IfErr, string_bytes};
 ghost use Rattle.td_gates.specs.Output.{Sent, SentTo, SentFront, Failed, one_more};
-ghost use Rattle.td_certificate.specs.Spelling.{head_lines, text_of, HasSpelling, spelling};
-ghost use Rattle.td_certificate.specs.Text.{bits};
+ghost use Rattle.td_certificate.specs.declared.question.Version.TheVariants as of_version;
+ghost use Rattle.td_certificate.specs.Spelling.{fields_of, field_line, ended, question_text, head_lines, text_of, HasSpelling, spelling};
+ghost use Rattle.td_certificate.specs.Text.{bits, trit, first_trits, second_trits, hold, numbers};
 
 use crate::certificate::Certificate;
 use crate::fault::WriteFault;
+use crate::question::{Question, Version};
 use std::alloc::{AllocError, Global};
+use td_domain::{Cube, Trit};
 use td_gates::{DeviceFault, Sink};
 
 /// How many bytes are gathered before they are written.
 const BATCH: usize = 65_536;
+
+/// The character of a trit.
+fn trit_character(bit: Trit) -> char
+    ensures { encode_utf8 result ≡ trit bit ∷ [] }
+{
+    match bit {
+        Trit::Zero => '0',
+        Trit::One => '1',
+        Trit::Free => '.',
+    }
+}
+
+/// The position of an input's second bit behind that of its first, or of its first.
+fn side(second: bool) -> usize
+    ensures { result ≡ (if second then 1 else 0) }
+{
+    usize::from(second)
+}
+
+/// Puts a character for each first bit of the inputs at the end, or for each second bit.
+fn push_trits(text: &mut String, pins: &Cube, second: bool) -> Result<(), AllocError>
+    ensures { OnOk result (string_bytes text.new ≡ string_bytes text.old ++ map trit (if second then second_trits pins.now else first_trits pins.now)) }
+{
+    for input in 0..pins.len() / 2 {
+        text.push(trit_character(pins.trit(2 * input + side(second))))?;
+    }
+    Ok(())
+}
+
+/// Puts a character for each input at the end, which tells whether it is held.
+fn push_holds(text: &mut String, held: &[bool]) -> Result<(), AllocError>
+    ensures { OnOk result (string_bytes text.new ≡ string_bytes text.old ++ map hold held.now) }
+{
+    for held in held {
+        text.push(if *held { '=' } else { '.' })?;
+    }
+    Ok(())
+}
+
+/// Puts the lines from `first` to `flips` at the end.
+fn push_admit(text: &mut String, question: &Question) -> Result<(), AllocError>
+    ensures { OnOk result (string_bytes text.new ≡ string_bytes text.old ++ text_of (map (field_line question.now) (fields_of of_version.Second))) }
+{
+    let admit = question.admit();
+    text.push_str("first ")?;
+    push_trits(text, admit.pins(), false)?;
+    text.push_str("\nsecond ")?;
+    push_trits(text, admit.pins(), true)?;
+    text.push_str("\nhold ")?;
+    push_holds(text, admit.held())?;
+    let flips = admit.flips();
+    writeln!(text, "\nflips {flips}")?;
+    Ok(())
+}
+
+/// Puts the line `at` of these moments at the end.
+fn push_moments(text: &mut String, moments: &[u64]) -> Result<(), AllocError>
+    requires { 0 < length moments.now }
+    ensures { OnOk result (string_bytes text.new ≡ string_bytes text.old ++ ended (codes "at " ++ numbers moments.now)) }
+{
+    text.push_str("at")?;
+    for moment in moments {
+        write!(text, " {moment}")?;
+    }
+    text.push_str("\n")?;
+    Ok(())
+}
+
+/// Puts the lines that tell a question at the end, as they stand in a certificate's text. In the first version there are none.
+pub fn push_question(text: &mut String, question: &Question) -> Result<(), AllocError>
+    ensures { OnOk result (string_bytes text.new ≡ string_bytes text.old ++ question_text question.now) }
+{
+    match question.version() {
+        Version::First => Ok(()),
+        Version::Second => push_admit(text, question),
+        Version::Third => {
+            push_admit(text, question)?;
+            push_moments(text, question.moments())
+        }
+    }
+}
 
 /// Puts a character for each bit at the end, or `none`.
 fn push_bits(text: &mut String, vector: &[bool]) -> Result<(), AllocError>
@@ -30,12 +115,13 @@ fn push_bits(text: &mut String, vector: &[bool]) -> Result<(), AllocError>
 fn head(alloc: Global, certificate: &Certificate) -> Result<String, AllocError>
     ensures { IfOk result (λ text. string_bytes text ≡ text_of (head_lines certificate.now)) }
 {
-    let inputs = certificate.inputs;
+    let version = certificate.question.version().number();
+    let inputs = certificate.question.inputs();
     let gates = certificate.gates;
     let time = certificate.time;
-    let mut text = format!(in alloc;
-        "tdelay-cert 1\ncircuit {inputs} {gates}\ntime {time}\nfrom "
-    )?;
+    let mut text = format!(in alloc; "tdelay-cert {version}\ncircuit {inputs} {gates}\n")?;
+    push_question(&mut text, &certificate.question)?;
+    write!(text, "time {time}\nfrom ")?;
     push_bits(&mut text, certificate.pair.first())?;
     text.push_str("\nto ")?;
     push_bits(&mut text, certificate.pair.second())?;

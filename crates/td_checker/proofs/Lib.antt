@@ -5,3 +5,4 @@ pub mod Lines
 pub mod Told
 pub mod Texts
 pub mod Written
+pub mod PairCubes

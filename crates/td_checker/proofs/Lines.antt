@@ -1,17 +1,17 @@
 -- A walk over the nodes of a certificate goes over the lines of its tree.
-use Rattle.std.proofs.Common.{◌≡◌, ◌+◌, ◌*◌, ◌<◌, ◌≤◌, ℕ, zero, suc, List, [], ◌∷◌, length, take, drop, get_or, Option, Some, None, refl, sym, ap, subst, ◌∙◌, arith}
-use Rattle.std.specs.Prelude.{slice_get, replicate}
+use Rattle.std.proofs.Common.{◌≡◌, ◌+◌, ◌<◌, ◌≤◌, ℕ, zero, suc, List, [], ◌∷◌, length, take, drop, get_or, Option, Some, None, refl, sym, ap, subst, ◌∙◌, arith}
+use Rattle.std.specs.Prelude.{slice_get}
 use Rattle.std.specs.List.{AllByRecursion}
-use Rattle.std.proofs.lemmas.List.{length-replicate, drop_all}
+use Rattle.std.proofs.lemmas.List.{drop_all}
 use Rattle.std.proofs.lemmas.Option.{slice_get-get_or}
-use Rattle.td_netlist.specs.Netlist.{Netlist}
+use Rattle.td_circuit.specs.Settings.{Setting}
 use Rattle.td_domain.specs.declared.cubes.Trit.{Trit}
-use Rattle.td_domain.specs.declared.cubes.Trit.TheVariants.{Free}
+use Rattle.td_domain.specs.Admits.{Admitted}
 use Rattle.td_certificate.specs.declared.tree.Node.{Node}
 use Rattle.td_certificate.specs.declared.tree.Node.TheVariants as node
 use Rattle.td_certificate.specs.declared.certificate.Certificate.{Certificate}
 use Rattle.td_certificate.specs.Trees.{IsTree, sides, pending_after}
-use Rattle.td_certificate.specs.Accepts.{root_cube, lines_in, IsGood}
+use Rattle.td_certificate.specs.Accepts.{lines_in, IsGood}
 use Rattle.td_certificate.specs.Cubes.{cubes_past}
 use Rattle.td_certificate.specs.Walks.{position_of, Line, lines_from}
 use Rattle.td_checker.specs.Paths.{cubes_ahead, StandsAt, AreInside}
@@ -64,17 +64,16 @@ pub record IsWalked (c : Certificate) (place : ℕ) (cube : List Trit) (path : L
   pub pending : pending_after (length cubes) (drop place c.tree) ≡ Some 0
   pub stands : StandsAt cubes cube path
   pub inside : AreInside (length cube) path
-  pub count : length cube ≡ 2 * c.inputs
+  pub count : length cube ≡ length c.question.admit.pins
 
-pub started : (c : Certificate) (cube : List Trit) (path : List ℕ) → IsTree c.tree → cube ≡ replicate (2 * c.inputs) Free → path ≡ []
-    → IsWalked c 0 cube path
+pub started : (c : Certificate) (cube : List Trit) (path : List ℕ) → IsTree c.tree → cube ≡ c.question.admit.pins → path ≡ [] → IsWalked c 0 cube path
 started c cube path tree is none = record {
-  cubes = root_cube c ∷ [];
+  cubes = c.question.admit.pins ∷ [];
   walked = refl;
   pending = tree;
   stands = rw none (is, refl);
   inside = rw none tt;
-  count = ap length is ∙ length-replicate (2 * c.inputs) Free;
+  count = ap length is;
 }
 
 -- the first of the lines
@@ -85,11 +84,13 @@ first_line [] n rest cube path pending stands = none_not 0 pending
 first_line (next ∷ others) (node.Split position) rest cube path pending stands = rw (stands.1, stands.0) refl
 first_line (next ∷ others) (node.Bound domain bound) rest cube path pending stands = rw (stands.1, stands.0) refl
 first_line (next ∷ others) (node.Point time) rest cube path pending stands = rw (stands.1, stands.0) refl
+first_line (next ∷ others) node.Empty rest cube path pending stands = rw (stands.1, stands.0) refl
 
 pub count_behind : (cube : List Trit) (n : Node) (cubes : List (List Trit)) → length (cubes_past cube (position_of n) cubes) ≡ sides n + length cubes
 count_behind cube (node.Split position) cubes = omega arith
 count_behind cube (node.Bound domain bound) cubes = omega arith
 count_behind cube (node.Point time) cubes = omega arith
+count_behind cube node.Empty cubes = omega arith
 
 next_pending : (cubes : List (List Trit)) (n : Node) (rest : List Node) (cube : List Trit) (path : List ℕ)
     → pending_after (length cubes) (n ∷ rest) ≡ Some 0 → StandsAt cubes cube path
@@ -137,19 +138,19 @@ passed c place cube next path ahead n walk at stands inside same =
     } in
     subst (λ (k : ℕ). IsWalked c k next ahead) one there
 
-pub good_more : (netlist : Netlist) (c : Certificate) (place : ℕ) (cube : List Trit) (path : List ℕ) (n : Node) → IsWalked c place cube path
-    → slice_get c.tree place ≡ Some n → IsGood netlist c.time (with_cube cube n)
-    → AllByRecursion (IsGood netlist c.time) (take place (lines_in c)) → AllByRecursion (IsGood netlist c.time) (take (place + 1) (lines_in c))
-good_more netlist c place cube path n walk at good all =
+pub good_more : (given : Setting) (c : Certificate) (place : ℕ) (cube : List Trit) (path : List ℕ) (n : Node) → IsWalked c place cube path
+    → slice_get c.tree place ≡ Some n → IsGood given c.question.admit c.time (with_cube cube n)
+    → AllByRecursion (IsGood given c.question.admit c.time) (take place (lines_in c)) → AllByRecursion (IsGood given c.question.admit c.time) (take (place + 1) (lines_in c))
+good_more given c place cube path n walk at good all =
     let line = has_line c place cube path n walk at in
     let one : suc place ≡ place + 1 = omega arith in
-    subst (λ (k : ℕ). AllByRecursion (IsGood netlist c.time) (take k (lines_in c))) one
-    (all_more (IsGood netlist c.time) (lines_in c) place (with_cube cube n) all line.stands good)
+    subst (λ (k : ℕ). AllByRecursion (IsGood given c.question.admit c.time) (take k (lines_in c))) one
+    (all_more (IsGood given c.question.admit c.time) (lines_in c) place (with_cube cube n) all line.stands good)
 
-pub found_bad : (netlist : Netlist) (c : Certificate) (place : ℕ) (cube : List Trit) (path : List ℕ) (n : Node) (flaw : Flaw)
-    → IsWalked c place cube path → slice_get c.tree place ≡ Some n → HasFlaw netlist c.time flaw (with_cube cube n)
-    → AllByRecursion (IsGood netlist c.time) (take place (lines_in c)) → IsBadAt netlist c.time (lines_in c) flaw place
-found_bad netlist c place cube path n flaw walk at has all = record {
+pub found_bad : (given : Setting) (c : Certificate) (place : ℕ) (cube : List Trit) (path : List ℕ) (n : Node) (flaw : Flaw)
+    → IsWalked c place cube path → slice_get c.tree place ≡ Some n → HasFlaw given c.question.admit c.time flaw (with_cube cube n)
+    → AllByRecursion (IsGood given c.question.admit c.time) (take place (lines_in c)) → IsBadAt given c.question.admit c.time (lines_in c) flaw place
+found_bad given c place cube path n flaw walk at has all = record {
   bad = with_cube cube n;
   stands = (has_line c place cube path n walk at).stands;
   good_before = all;
@@ -160,22 +161,22 @@ no_lines : (cubes : List (List Trit)) → lines_from cubes [] ≡ []
 no_lines [] = refl
 no_lines (cube ∷ cubes) = refl
 
-pub all_good : (netlist : Netlist) (c : Certificate) (place : ℕ) (cube : List Trit) (path : List ℕ) → IsWalked c place cube path
-    → length c.tree ≤ place → AllByRecursion (IsGood netlist c.time) (take place (lines_in c)) → AllByRecursion (IsGood netlist c.time) (lines_in c)
-all_good netlist c place cube path walk over all =
+pub all_good : (given : Setting) (c : Certificate) (place : ℕ) (cube : List Trit) (path : List ℕ) → IsWalked c place cube path
+    → length c.tree ≤ place → AllByRecursion (IsGood given c.question.admit c.time) (take place (lines_in c)) → AllByRecursion (IsGood given c.question.admit c.time) (lines_in c)
+all_good given c place cube path walk over all =
     let none : drop place c.tree ≡ [] = drop_all place c.tree over in
     let end : drop place (lines_in c) ≡ [] = sym walk.walked ∙ ap (lines_from walk.cubes) none ∙ no_lines walk.cubes in
-    subst (AllByRecursion (IsGood netlist c.time)) (take_whole (lines_in c) place end) all
+    subst (AllByRecursion (IsGood given c.question.admit c.time)) (take_whole (lines_in c) place end) all
 
 pub node_at : (nodes tree : List Node) (place : ℕ) (d : Node) → nodes ≡ tree → place < length nodes → slice_get tree place ≡ Some (get_or nodes place d)
 node_at nodes tree place d same below =
     ap (λ (ns : List Node). slice_get ns place) (sym same) ∙ slice_get-get_or nodes place d below
 
 -- what was found of a line
-pub has_flaw : (netlist : Netlist) (most : ℕ) (line : Line) (found : Option code_flaw.Flaw) (flaw : code_flaw.Flaw)
-    → IsJudged netlist most line found → found ≡ Some flaw → HasFlaw netlist most (flaw_of flaw) line
-has_flaw netlist most line found flaw judged is = subst (IsJudged netlist most line) is judged
+pub has_flaw : (given : Setting) (admit : Admitted) (most : ℕ) (line : Line) (found : Option code_flaw.Flaw) (flaw : code_flaw.Flaw)
+    → IsJudged given admit most line found → found ≡ Some flaw → HasFlaw given admit most (flaw_of flaw) line
+has_flaw given admit most line found flaw judged is = subst (IsJudged given admit most line) is judged
 
-pub is_good : (netlist : Netlist) (most : ℕ) (line : Line) (found : Option code_flaw.Flaw)
-    → IsJudged netlist most line found → found ≡ None → IsGood netlist most line
-is_good netlist most line found judged is = subst (IsJudged netlist most line) is judged
+pub is_good : (given : Setting) (admit : Admitted) (most : ℕ) (line : Line) (found : Option code_flaw.Flaw)
+    → IsJudged given admit most line found → found ≡ None → IsGood given admit most line
+is_good given admit most line found judged is = subst (IsJudged given admit most line) is judged

@@ -5,7 +5,7 @@ use Rattle.std.proofs.lemmas.Bool.{eqb-true}
 use Rattle.std.proofs.lemmas.List.Elements.{recursion_from_All}
 use Rattle.td_gates.specs.declared.primitives.Level.{Level}
 use Rattle.td_gates.specs.Table.{level_from}
-use Rattle.td_netlist.specs.Netlist.{Netlist}
+use Rattle.td_circuit.specs.Settings.{Setting}
 use Rattle.td_circuit.specs.Run.{IsDelay, IsDelayOfBits}
 use Rattle.td_domain.specs.declared.cubes.Trit.{Trit}
 use Rattle.td_domain.specs.declared.cubes.Trit.TheVariants.{Free}
@@ -77,17 +77,17 @@ pub whole : (cube : List Trit) (n : ℕ) (before after : List Bool) → length c
 whole cube n before after few bits = subst (λ trits. AllowsBits trits before after) (take_all (2 * n) cube few) bits.allowed
 
 -- the only delay of a point's pairs
-has : (netlist : Netlist) (cube : List Trit) (pair : Pair) (delay asked : ℕ) → IsPoint cube → IsIn pair cube
-    → ((other : ℕ) → IsDelayOfBits netlist pair.first pair.second other → other ≡ delay) → HasDelay netlist cube asked → delay ≡ asked
-has netlist cube pair delay asked point is_in only h =
+has : (given : Setting) (cube : List Trit) (pair : Pair) (delay asked : ℕ) → IsPoint cube → IsIn pair cube
+    → ((other : ℕ) → IsDelayOfBits given pair.first pair.second other → other ≡ delay) → HasDelay given cube asked → delay ≡ asked
+has given cube pair delay asked point is_in only h =
     let same = one_pair cube h.pair.first h.pair.second pair.first pair.second (recursion_from_All _ cube point) h.is_in is_in in
     sym (only asked (rw (same.0, same.1) at h.is))
 
-pub has_delay : (netlist : Netlist) (cube : List Trit) (pair : Pair) (delay asked : ℕ) → IsPoint cube → IsIn pair cube
-    → IsDelayOfBits netlist pair.first pair.second delay
-    → ((other : ℕ) → IsDelayOfBits netlist pair.first pair.second other → other ≡ delay) → (delay ≡ asked) ↔ HasDelay netlist cube asked
-has_delay netlist cube pair delay asked point is_in is only =
-    (λ e. record { pair = pair; is_in = is_in; is = rw e at is }, λ h. has netlist cube pair delay asked point is_in only h)
+pub has_delay : (given : Setting) (cube : List Trit) (pair : Pair) (delay asked : ℕ) → IsPoint cube → IsIn pair cube
+    → IsDelayOfBits given pair.first pair.second delay
+    → ((other : ℕ) → IsDelayOfBits given pair.first pair.second other → other ≡ delay) → (delay ≡ asked) ↔ HasDelay given cube asked
+has_delay given cube pair delay asked point is_in is only =
+    (λ e. record { pair = pair; is_in = is_in; is = rw e at is }, λ h. has given cube pair delay asked point is_in only h)
 
 -- ---- what the code's tests say
 
@@ -95,16 +95,16 @@ has_delay netlist cube pair delay asked point is_in is only =
 pub is_asked : (P : ℕ → Type 0) (found asked : ℕ) → P found → ((other : ℕ) → P other → other ≡ found) → IsTrue (nat_eq found asked) ↔ P asked
 is_asked P found asked is only = (λ same. subst P (eqb-true found asked same) is, λ holds. eq-eqb found asked (sym (only asked holds)))
 
-pub told_delay : (netlist : Netlist) (cube : List Trit) (pair : Pair) (delay asked : ℕ) → IsPoint cube → IsIn pair cube
-    → IsDelayOfBits netlist pair.first pair.second delay
-    → ((other : ℕ) → IsDelayOfBits netlist pair.first pair.second other → other ≡ delay)
-    → IsTrue (nat_eq delay asked) ↔ HasDelay netlist cube asked
-told_delay netlist cube pair delay asked point is_in is only =
-    let one = has_delay netlist cube pair delay asked point is_in is only in
+pub told_delay : (given : Setting) (cube : List Trit) (pair : Pair) (delay asked : ℕ) → IsPoint cube → IsIn pair cube
+    → IsDelayOfBits given pair.first pair.second delay
+    → ((other : ℕ) → IsDelayOfBits given pair.first pair.second other → other ≡ delay)
+    → IsTrue (nat_eq delay asked) ↔ HasDelay given cube asked
+told_delay given cube pair delay asked point is_in is only =
+    let one = has_delay given cube pair delay asked point is_in is only in
     (λ same. one.0 (eqb-true delay asked same), λ has. eq-eqb delay asked (one.1 has))
 
 -- a delay of the levels of these bits
-pub only_of_bits : (netlist : Netlist) (first second : List Bool) (firsts seconds : List Level) (delay told other : ℕ)
+pub only_of_bits : (given : Setting) (first second : List Bool) (firsts seconds : List Level) (delay told other : ℕ)
     → firsts ≡ map level_from first → seconds ≡ map level_from second → told ≡ delay
-    → ((d : ℕ) → IsDelay netlist firsts seconds d → d ≡ delay) → IsDelayOfBits netlist first second other → other ≡ told
-only_of_bits netlist first second firsts seconds delay told other f s same only is = only other (rw (f, s) is) ∙ sym same
+    → ((d : ℕ) → IsDelay given firsts seconds d → d ≡ delay) → IsDelayOfBits given first second other → other ≡ told
+only_of_bits given first second firsts seconds delay told other f s same only is = only other (rw (f, s) is) ∙ sym same

@@ -1,31 +1,35 @@
 -- From what is said of two texts to what the checker answers.
-use Rattle.std.proofs.Common.{◌≡◌, ◌≢◌, ◌≤◌, ℕ, List, [], ◌∷◌, ◌++◌, length, map, length-append, refl, sym, ap, subst, arith}
+use Rattle.std.proofs.Common.{◌≡◌, ◌≢◌, ◌≤◌, ℕ, List, [], ◌∷◌, ◌++◌, length, map, length-append, refl, sym, ap, subst, ◌∙◌, arith}
 use Rattle.std.specs.Prelude.{Result, Ok, Err, IfOk, IfErr}
 use Rattle.std.specs.List.{flat_map}
 use Rattle.std.proofs.lemmas.List.{length-map, append-nil}
 use Rattle.std.proofs.lemmas.List.Concat.{flat_map-cons}
+use Rattle.std.proofs.lemmas.List.Elements.{All-from_recursion}
 use Rattle.td_gates.specs.declared.timing.Delay.{Delay}
-use Rattle.td_netlist.specs.Netlist.{Netlist}
+use Rattle.td_nets.specs.Netlist.{Netlist}
 use Rattle.td_netlist.specs.declared.fault.Fault.{Fault}
 use Rattle.td_netlist.specs.declared.fault.FaultKind.TheVariants as netlist_kind
 use Rattle.td_netlist.specs.Faults.{IsUnlessMemory}
 use Rattle.td_netlist.specs.NameFaults.{IsFaultIn}
 use Rattle.td_netlist.specs.Means.{Means}
-use Rattle.td_netlist.specs.WellFormed.{IsWellFormed}
-use Rattle.td_netlist.specs.Views.{name_of}
+use Rattle.td_nets.specs.WellFormed.{IsWellFormed}
+use Rattle.td_nets.specs.Views.{name_of}
 use Rattle.td_netlist.proofs.Readings.{one_netlist}
 use Rattle.td_circuit.specs.Loops.{LiesOnLoop}
+use Rattle.td_circuit.specs.Settings.{AreMoments}
 use Rattle.td_certificate.specs.declared.certificate.Certificate.{Certificate}
 use Rattle.td_certificate.specs.declared.fault.CertFaultKind.{CertFaultKind}
 use Rattle.td_certificate.specs.declared.fault.CertFaultKind.TheVariants as kind
 use Rattle.td_certificate.specs.Text.{node_line}
-use Rattle.td_certificate.specs.Spelling.{head_lines, ended, spelling, Spells}
+use Rattle.td_certificate.specs.Spelling.{head_lines, ended, spelling, HasSpelling, Spells}
+use Rattle.td_certificate.specs.Accepts.{IsOfSize, Accepts}
 use Rattle.td_certificate.specs.Faults.{IsWithinLimit, IsFault}
 use Rattle.td_certificate.proofs.Acceptance.{accepted_is_worst}
 use Rattle.td_certificate.proofs.Exclusion.{spells-front, spells-more, spells-stops}
 use Rattle.td_certificate.proofs.Texts.{spells_once}
 use Rattle.td_checker.specs.declared.verdict.Verdict.{Verdict}
 use Rattle.td_checker.specs.declared.verdict.Verdict.TheVariants as verdict
+use Rattle.td_checker.specs.declared.verdict.Checked.{Checked}
 use Rattle.td_checker.specs.declared.verdict.CheckFault.{CheckFault}
 use Rattle.td_checker.specs.declared.verdict.CheckFault.TheVariants as fault
 use Rattle.td_checker.specs.Verdicts.{IsVerdict}
@@ -86,10 +90,10 @@ fault_is_memory netlist_text default text (fault.Loop name) v is have =
 fault_is_memory netlist_text default text (fault.Certificate told) v is have =
     spelled_fault told.kind told.line text have.certificate have.spells have.within is.2 is.3
 
-pub told_only : (netlist_text : List ℕ) (default : Delay) (text : List ℕ) (result : Result Verdict CheckFault)
-    → IfOk result (λ told. HaveVerdict netlist_text default text told) → IfErr result (λ told. IsCheckFault netlist_text default text told)
+pub told_only : (netlist_text : List ℕ) (default : Delay) (text : List ℕ) (result : Result Checked CheckFault)
+    → IfOk result (λ told. HaveVerdict netlist_text default text told.verdict) → IfErr result (λ told. IsCheckFault netlist_text default text told)
     → (v : Verdict) → HaveVerdict netlist_text default text v → IsToldAs v result
-told_only netlist_text default text (Ok told) found fails v have = texts_have_one_verdict netlist_text default text told v found have
+told_only netlist_text default text (Ok told) found fails v have = texts_have_one_verdict netlist_text default text told.verdict v found have
 told_only netlist_text default text (Err told) found fails v have = fault_is_memory netlist_text default text told v fails have
 
 pub certificate_fault : (netlist_text : List ℕ) (default : Delay) (text : List ℕ) (netlist : Netlist) (told : CheckFault)
@@ -111,10 +115,16 @@ have_verdict netlist_text default text netlist c v circuit spells is = record {
   is = is;
 }
 
+-- the moments of a certificate of this circuit are the circuit's
+pub moments_fit : (netlist : Netlist) (c : Certificate) → IsOfSize netlist c → HasSpelling c → AreMoments netlist c.question.moments
+moments_fit netlist c size has =
+    record { count = has.count ∙ sym size.inputs; within = All-from_recursion (λ moment. moment ≤ 1000000000) c.question.moments has.moments }
+
 pub tells_worst : (netlist_text : List ℕ) (default : Delay) (text : List ℕ) (netlist : Netlist) (c : Certificate) (v : Verdict)
     → HasCircuit netlist_text default netlist → IsWellFormed netlist → Spells c text × IsWithinLimit text → IsVerdict netlist c v
     → v ≡ verdict.Accepted → TellsWorst netlist_text default text
 tells_worst netlist_text default text netlist c v circuit formed spells is accepted other d means spelled =
     let same : netlist ≡ other = one_netlist netlist_text default netlist other circuit.means means in
     let one : c ≡ d = (spells_once c d text text [] spells.0 spelled (sym (append-nil text))).0 in
-    rw (same, one) at (accepted_is_worst netlist c formed circuit.acyclic (rw accepted at is))
+    let accepts : Accepts netlist c = rw accepted at is in
+    rw (same, one) at (accepted_is_worst netlist c formed circuit.acyclic (moments_fit netlist c accepts.size spells.0.has) accepts)

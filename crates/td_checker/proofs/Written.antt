@@ -2,15 +2,15 @@
 use Rattle.std.proofs.Common.{◌≡◌, ◌*◌, ◌<◌, ◌≤◌, ◌^◌, ℕ, Bool, List, [], ◌∷◌, length, map, Some, refl, ap, subst, ◌∙◌, arith}
 use Rattle.std.specs.Prelude.{unwrap_or}
 use Rattle.std.specs.List.{All, AllByRecursion}
-use Rattle.std.proofs.lemmas.List.{length-map, length-set, length-replicate}
+use Rattle.std.proofs.lemmas.List.{length-map, length-set}
 use Rattle.std.proofs.lemmas.List.Elements.{recursion_from_All}
 use Rattle.std.proofs.lemmas.Option.{slice_get_within}
 use Rattle.td_gates.specs.declared.timing.Change.{Change}
 use Rattle.td_gates.specs.Table.{level_from}
 use Rattle.td_gates.specs.Wave.{Wave, last_of}
-use Rattle.td_netlist.specs.Netlist.{Netlist}
-use Rattle.td_circuit.specs.Numbering.{Numbered, nets, IsNumbering}
-use Rattle.td_circuit.specs.Run.{IsDelayOfBits, IsVector, latest_change}
+use Rattle.td_circuit.specs.Settings.{Setting, AreMoments}
+use Rattle.td_circuit.specs.Numbering.{Numbered, setting, nets, IsNumbering}
+use Rattle.td_circuit.specs.Run.{IsDelayOfBits, latest_change}
 use Rattle.td_circuit.proofs.Existence.{numbering_exists}
 use Rattle.td_circuit.proofs.Nets.{numbers-below, few_gates}
 use Rattle.td_run.specs.Laws.{IsAcyclic}
@@ -28,9 +28,13 @@ use Rattle.td_certificate.specs.Spelling.{IsNode, HasSpelling, spelling}
 use Rattle.td_certificate.specs.Lengths.{IsShort}
 use Rattle.td_certificate.specs.Faults.{IsWithinLimit}
 use Rattle.td_certificate.specs.declared.tree.Node.TheVariants as node
-use Rattle.td_certificate.specs.Accepts.{root_cube, IsGood}
+use Rattle.td_certificate.specs.Accepts.{IsGood, setting_of}
 use Rattle.td_certificate.proofs.Lengths.{searched_texts_fit}
-use Rattle.td_certificate.proofs.Acceptance.{vector_fits}
+use Rattle.td_certificate.proofs.Acceptance.{cube_fits, vector_fits}
+use Rattle.td_certificate.proofs.FirstVersion.{has_admitted}
+use Rattle.td_certificate.specs.declared.question.Version.{Version}
+use Rattle.td_certificate.specs.Questions.{Question, inputs_of, version_of}
+use Rattle.td_domain.specs.Admits.{Admitted}
 use Rattle.td_checker.specs.Written.{AcceptedIsWritten}
 use Rattle.td_checker.proofs.Lines.{count_behind}
 
@@ -46,85 +50,113 @@ latest_within bound [] all = omega arith
 latest_within bound (wave ∷ others) all =
     omega (arith, last_within bound wave.changes (recursion_from_All (λ change. change.moment ≤ bound) wave.changes all.0), latest_within bound others all.1)
 
-delay_by_number : (circuit : Numbered) → IsNumbering circuit → (first second : List Bool) (delay : ℕ) → IsVector circuit.netlist first
-    → IsVector circuit.netlist second → IsDelayOfBits circuit.netlist first second delay → delay < 10 ^ 15
-delay_by_number circuit numbering first second delay first_fits second_fits is =
+delay_by_number : (circuit : Numbered) → IsNumbering circuit → AreMoments circuit.netlist circuit.moments → (first second : List Bool) (delay : ℕ)
+    → length first ≡ length circuit.netlist.inputs → length second ≡ length circuit.netlist.inputs → IsDelayOfBits (setting circuit) first second delay → delay < 10 ^ 15
+delay_by_number circuit numbering fit first second delay first_fits second_fits is =
     let f : length (map level_from first) ≡ length circuit.netlist.inputs = length-map first level_from ∙ first_fits in
     let s : length (map level_from second) ≡ length circuit.netlist.inputs = length-map second level_from ∙ second_fits in
-    let found = run_exists circuit (map level_from first) (map level_from second) numbering f s (length circuit.gates) (omega arith) in
+    let found = run_exists circuit (map level_from first) (map level_from second) numbering fit f s (length circuit.gates) (omega arith) in
     let small = all_small (length circuit.gates) found.0 (few_gates circuit numbering) found.2.within in
     let below : All (λ net. net < length found.0) circuit.outputs =
-    rw (same_length circuit (map level_from first) (map level_from second) numbering f s found.0 found.1 found.2)
+    rw (same_length circuit (map level_from first) (map level_from second) numbering fit f s found.0 found.1 found.2)
     (numbers-below (nets circuit) circuit.outputs _ numbering.outputs) in
-    let outputs = waves_of-within 200000000000000 found.0 circuit.outputs small below in
-    let most = latest_within 200000000000000 (waves_of found.0 circuit.outputs)
-    (recursion_from_All (λ wave. AreWithin 200000000000000 wave.changes) (waves_of found.0 circuit.outputs) outputs) in
+    let outputs = waves_of-within 200001000000000 found.0 circuit.outputs small below in
+    let most = latest_within 200001000000000 (waves_of found.0 circuit.outputs)
+    (recursion_from_All (λ wave. AreWithin 200001000000000 wave.changes) (waves_of found.0 circuit.outputs) outputs) in
     let same : delay ≡ latest_change (waves_of found.0 circuit.outputs) =
-    is.is_latest ∙ ap latest_change (only_outputs circuit (map level_from first) (map level_from second) numbering f s found.0 found.1 found.2 is.waves is.runs) in
+    is.is_latest ∙ ap latest_change (only_outputs circuit (map level_from first) (map level_from second) numbering fit f s found.0 found.1 found.2 is.waves is.runs) in
     omega (arith, most, same)
 
-small_delay : (netlist : Netlist) → IsAcyclic netlist → (first second : List Bool) (delay : ℕ) → IsDelayOfBits netlist first second delay
-    → delay < 10 ^ 15
-small_delay netlist acyclic first second delay is =
-    let numbered = numbering_exists netlist acyclic.well_formed acyclic.acyclic in
-    let fits = vector_fits netlist first second delay is in
-    let by_number : (n : Netlist) → numbered.0.netlist ≡ n → IsVector n first → IsVector n second → IsDelayOfBits n first second delay → delay < 10 ^ 15 =
-    λ n same. subst (λ (m : Netlist). IsVector m first → IsVector m second → IsDelayOfBits m first second delay → delay < 10 ^ 15) same
-    (delay_by_number numbered.0 numbered.1 first second delay) in
-    by_number netlist numbered.2 fits.0 fits.1 is
+small_delay : (given : Setting) → IsAcyclic given.netlist → AreMoments given.netlist given.moments → (first second : List Bool) (delay : ℕ)
+    → length first ≡ length given.netlist.inputs → length second ≡ length given.netlist.inputs → IsDelayOfBits given first second delay → delay < 10 ^ 15
+small_delay given acyclic fit first second delay f s is =
+    let numbered = numbering_exists given acyclic.well_formed acyclic.acyclic in
+    let by_number : (g : Setting) → setting numbered.0 ≡ g → AreMoments g.netlist g.moments → length first ≡ length g.netlist.inputs → length second ≡ length g.netlist.inputs
+    → IsDelayOfBits g first second delay → delay < 10 ^ 15 =
+    λ g same. subst (λ (m : Setting). AreMoments m.netlist m.moments → length first ≡ length m.netlist.inputs → length second ≡ length m.netlist.inputs
+    → IsDelayOfBits m first second delay → delay < 10 ^ 15) same
+    (delay_by_number_of numbered.0 numbered.1) in
+    by_number given numbered.2 fit f s is
+  where
+    delay_by_number_of : (circuit : Numbered) → IsNumbering circuit → AreMoments circuit.netlist circuit.moments → length first ≡ length circuit.netlist.inputs
+        → length second ≡ length circuit.netlist.inputs → IsDelayOfBits (setting circuit) first second delay → delay < 10 ^ 15
+    delay_by_number_of circuit numbering fit f s is = delay_by_number circuit numbering fit first second delay f s is
 
 -- ---- numbers of a tree whose lines are good
 
-abbrev AllWithin : List (List Trit) → Type 0
-AllWithin cubes = AllByRecursion (λ cube. length cube ≤ 8192) cubes
+short_node : (given : Setting) (admit : Admitted) (most : ℕ) (cube : List Trit) (n : Node) → most < 10 ^ 15 → length cube ≤ 8192
+    → IsGood given admit most (record { cube = cube; node = n }) → IsShort n
+short_node given admit most cube (node.Split position) small few good = let inside = slice_get_within cube position Free good.splits in omega (arith, inside)
+short_node given admit most cube (node.Bound domain bound) small few good = omega (arith, good.within)
+short_node given admit most cube (node.Point time) small few good = omega (arith, good.within)
+short_node given admit most cube node.Empty small few good = tt
 
-within_past : (cube : List Trit) (n : Node) (cubes : List (List Trit)) → length cube ≤ 8192 → AllWithin cubes → AllWithin (cubes_past cube (position_of n) cubes)
-within_past cube (node.Split position) cubes few all =
-    (omega (arith, length-set cube position Zero), (omega (arith, length-set cube position One), all))
-within_past cube (node.Bound domain bound) cubes few all = all
-within_past cube (node.Point time) cubes few all = all
+-- a leaf without an admitted pair stands only where pairs are restricted
+written_node : (given : Setting) (question : Question) (most : ℕ) (cube : List Trit) (n : Node) → length question.admit.pins ≡ 2 * inputs_of question
+    → length cube ≡ length question.admit.pins → IsShort n → IsGood given question.admit most (record { cube = cube; node = n }) → IsNode (version_of question) n
+written_node given question most cube (node.Split position) pins same short good = omega (arith, short)
+written_node given question most cube (node.Bound domain bound) pins same short good = omega (arith, short)
+written_node given question most cube (node.Point time) pins same short good = omega (arith, short)
+written_node given question most cube node.Empty pins same short good = λ first. good.of_cube (has_admitted question cube first pins (same ∙ pins))
 
-short_node : (netlist : Netlist) (most : ℕ) (cube : List Trit) (n : Node) → most < 10 ^ 15 → length cube ≤ 8192 → IsGood netlist most (record { cube = cube; node = n }) → IsShort n
-short_node netlist most cube (node.Split position) small few good = let inside = slice_get_within cube position Free good.splits in omega (arith, inside)
-short_node netlist most cube (node.Bound domain bound) small few good = omega (arith, good.within)
-short_node netlist most cube (node.Point time) small few good = omega (arith, good.within)
+abbrev AllLong : ℕ → List (List Trit) → Type 0
+AllLong count cubes = AllByRecursion (λ cube. length cube ≡ count) cubes
 
-short_nodes : (netlist : Netlist) (most : ℕ) (nodes : List Node) (cubes : List (List Trit)) → most < 10 ^ 15 → AllWithin cubes
-    → pending_after (length cubes) nodes ≡ Some 0 → AllByRecursion (IsGood netlist most) (lines_from cubes nodes) → AllByRecursion IsShort nodes
-short_nodes netlist most [] cubes small few tree good = tt
-short_nodes netlist most (n ∷ nodes) [] small few tree good = cc
-short_nodes netlist most (n ∷ nodes) (cube ∷ cubes) small few tree good = (
-  short_node netlist most cube n small few.0 good.0,
-  short_nodes netlist most nodes (cubes_past cube (position_of n) cubes) small (within_past cube n cubes few.0 few.1)
-      (ap (λ (k : ℕ). pending_after k nodes) (count_behind cube n cubes) ∙ tree) good.1,
-)
+long_past : (count : ℕ) (cube : List Trit) (n : Node) (cubes : List (List Trit)) → length cube ≡ count → AllLong count cubes → AllLong count (cubes_past cube (position_of n) cubes)
+long_past count cube (node.Split position) cubes long all = (length-set cube position Zero ∙ long, (length-set cube position One ∙ long, all))
+long_past count cube (node.Bound domain bound) cubes long all = all
+long_past count cube (node.Point time) cubes long all = all
+long_past count cube node.Empty cubes long all = all
 
-node_of : (n : Node) → IsShort n → IsNode n
-node_of (node.Split position) short = omega (arith, short)
-node_of (node.Bound domain bound) short = omega (arith, short)
-node_of (node.Point time) short = omega (arith, short)
+abbrev IsWritten : Version → Node → Type 0
+IsWritten version n = IsShort n × IsNode version n
 
-nodes_are : (nodes : List Node) → AllByRecursion IsShort nodes → AllByRecursion IsNode nodes
-nodes_are [] short = tt
-nodes_are (n ∷ nodes) short = (node_of n short.0, nodes_are nodes short.1)
+written_nodes : (given : Setting) (question : Question) (most : ℕ) (nodes : List Node) (cubes : List (List Trit)) → most < 10 ^ 15 → length question.admit.pins ≤ 8192
+    → length question.admit.pins ≡ 2 * inputs_of question → AllLong (length question.admit.pins) cubes
+    → pending_after (length cubes) nodes ≡ Some 0 → AllByRecursion (IsGood given question.admit most) (lines_from cubes nodes)
+    → AllByRecursion (IsWritten (version_of question)) nodes
+written_nodes given question most [] cubes small few pins long tree good = tt
+written_nodes given question most (n ∷ nodes) [] small few pins long tree good = cc
+written_nodes given question most (n ∷ nodes) (cube ∷ cubes) small few pins long tree good =
+    let short = short_node given question.admit most cube n small (omega (arith, long.0, few)) good.0 in (
+      (short, written_node given question most cube n pins long.0 short good.0),
+      written_nodes given question most nodes (cubes_past cube (position_of n) cubes) small few pins (long_past (length question.admit.pins) cube n cubes long.0 long.1)
+          (ap (λ (k : ℕ). pending_after k nodes) (count_behind cube n cubes) ∙ tree) good.1,
+    )
+
+are_short : (version : Version) (nodes : List Node) → AllByRecursion (IsWritten version) nodes → AllByRecursion IsShort nodes
+are_short version [] all = tt
+are_short version (n ∷ nodes) all = (all.0.0, are_short version nodes all.1)
+
+are_nodes : (version : Version) (nodes : List Node) → AllByRecursion (IsWritten version) nodes → AllByRecursion (IsNode version) nodes
+are_nodes version [] all = tt
+are_nodes version (n ∷ nodes) all = (all.0.1, are_nodes version nodes all.1)
 
 -- ---- what is written
 
 pub accepted_is_written : AcceptedIsWritten
-accepted_is_written netlist_text default netlist c means acyclic accepts few =
-    let small : c.time < 10 ^ 15 = small_delay netlist acyclic c.pair.first c.pair.second c.time accepts.reached in
-    let fits = vector_fits netlist c.pair.first c.pair.second c.time accepts.reached in
-    let inputs : c.inputs ≤ 4096 = omega (arith, accepts.size.inputs, acyclic.well_formed.few_inputs) in
-    let root : length (root_cube c) ≤ 8192 = omega (arith, length-replicate (2 * c.inputs) Free, inputs) in
-    let short : AllByRecursion IsShort c.tree =
-    short_nodes netlist c.time c.tree (root_cube c ∷ []) small (root, tt) accepts.tree accepts.good in
+accepted_is_written netlist_text default netlist c means acyclic fit flips accepts few =
+    let given : Setting = setting_of netlist c in
+    let long = cube_fits c.question.admit.pins c.pair.first c.pair.second accepts.admitted.pinned in
+    let first : length c.pair.first ≡ length netlist.inputs = vector_fits given c.pair.first c.pair.second c.time accepts.reached in
+    let second : length c.pair.second ≡ length netlist.inputs = omega (arith, long.1, first) in
+    let size = accepts.size.inputs in
+    let small : c.time < 10 ^ 15 = small_delay given acyclic fit c.pair.first c.pair.second c.time first second accepts.reached in
+    let inputs : inputs_of c.question ≤ 4096 = omega (arith, size, acyclic.well_formed.few_inputs) in
+    let pins : length c.question.admit.pins ≡ 2 * inputs_of c.question = omega (arith, long.0, first, size) in
+    let written = written_nodes given c.question c.time c.tree (c.question.admit.pins ∷ []) small (omega (arith, pins, inputs)) pins (refl, tt) accepts.tree accepts.good in
+    let short : AllByRecursion IsShort c.tree = are_short (version_of c.question) c.tree written in
     let has : HasSpelling c = record {
       inputs = inputs;
       gates = omega (arith, accepts.size.gates, acyclic.well_formed.few_gates);
+      pins = pins;
+      flips = flips;
+      count = fit.count ∙ size;
+      moments = recursion_from_All (λ moment. moment ≤ 1000000000) c.question.moments fit.within;
       time = omega (arith, small);
-      first = fits.0 ∙ accepts.size.inputs;
-      second = fits.1 ∙ accepts.size.inputs;
-      nodes = nodes_are c.tree short;
+      first = first ∙ size;
+      second = second ∙ size;
+      nodes = are_nodes (version_of c.question) c.tree written;
       tree = accepts.tree;
     } in
     let within : IsWithinLimit (spelling c) = searched_texts_fit c has small short few in

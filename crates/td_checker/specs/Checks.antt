@@ -2,17 +2,19 @@
 use Rattle.std.specs.Prelude.{◌≡◌, ◌≢◌, ℕ, List, Result, Ok, Err}
 use Rattle.td_gates.specs.declared.timing.Delay.{Delay}
 use Rattle.td_netlist.specs.declared.fault.FaultKind.TheVariants as netlist_kind
-use Rattle.td_netlist.specs.Netlist.{Netlist}
+use Rattle.td_nets.specs.Netlist.{Netlist}
 use Rattle.td_netlist.specs.NameFaults.{IsFaultIn}
 use Rattle.td_netlist.specs.Means.{Means}
-use Rattle.td_netlist.specs.Views.{name_of}
+use Rattle.td_nets.specs.Views.{name_of}
 use Rattle.td_circuit.specs.Loops.{Loop, LiesOnLoop}
-use Rattle.td_circuit.specs.Run.{IsWorst}
+use Rattle.td_domain.specs.Worst.{IsWorst}
 use Rattle.td_certificate.specs.declared.certificate.Certificate.{Certificate}
 use Rattle.td_certificate.specs.declared.fault.CertFaultKind.TheVariants as certificate_kind
+use Rattle.td_certificate.specs.Accepts.{setting_of}
 use Rattle.td_certificate.specs.Spelling.{Spells}
 use Rattle.td_certificate.specs.Faults.{IsWithinLimit, IsFault}
 use Rattle.td_checker.specs.declared.verdict.Verdict.{Verdict}
+use Rattle.td_checker.specs.declared.verdict.Checked.{Checked}
 use Rattle.td_checker.specs.declared.verdict.CheckFault.{CheckFault}
 use Rattle.td_checker.specs.declared.verdict.CheckFault.TheVariants as fault
 use Rattle.td_checker.specs.Verdicts.{IsVerdict}
@@ -46,8 +48,8 @@ IsCheckFault netlist_text default text (fault.Certificate told) =
     × (told.kind ≢ certificate_kind.OutOfMemory) × IsFault told.kind told.line text
 
 -- memory aside, this verdict is told
-abbrev pub IsToldAs : Verdict → Result Verdict CheckFault → Type 0
-IsToldAs verdict (Ok told) = told ≡ verdict
+abbrev pub IsToldAs : Verdict → Result Checked CheckFault → Type 0
+IsToldAs verdict (Ok told) = told.verdict ≡ verdict
 IsToldAs verdict (Err told) = told ≡ fault.OutOfMemory
 
 -- two texts have at most one verdict
@@ -55,10 +57,11 @@ abbrev pub TextsHaveOneVerdict : Type 0
 TextsHaveOneVerdict = (netlist_text : List ℕ) (default : Delay) (text : List ℕ) (this that : Verdict)
     → HaveVerdict netlist_text default text this → HaveVerdict netlist_text default text that → this ≡ that
 
--- the time of the certificate that the text spells is the worst delay of the netlist that the netlist's text means
+-- The time of the certificate that the text spells is the worst delay of the netlist that the netlist's text means, over the
+-- pairs that the certificate admits and with its moments of the inputs.
 abbrev pub TellsWorst : List ℕ → Delay → List ℕ → Type 0
 TellsWorst netlist_text default text = (netlist : Netlist) (certificate : Certificate) → Means netlist_text default netlist
-    → Spells certificate text → IsWorst netlist certificate.time
+    → Spells certificate text → IsWorst (setting_of netlist certificate) certificate.question.admit certificate.time
 
 -- what a fault says of the certificate's text alone
 abbrev pub IsCertificateFault : List ℕ → CheckFault → Type 0

@@ -1,12 +1,16 @@
 -- Verdicts on certificates.
 use Rattle.std.specs.Prelude.{◌≡◌, ℕ, ◌+◌, List, codes, length, slice_get, take, Option, Some, None}
 use Rattle.std.specs.List.{AllByRecursion}
-use Rattle.td_netlist.specs.Netlist.{Netlist}
+use Rattle.td_nets.specs.Netlist.{Netlist}
+use Rattle.td_circuit.specs.Settings.{Setting}
+use Rattle.td_domain.specs.Admits.{Admitted, IsAdmitted}
+use Rattle.td_certificate.specs.declared.tree.Node.{Node}
+use Rattle.td_certificate.specs.declared.tree.Node.TheVariants as node
 use Rattle.td_certificate.specs.declared.certificate.Certificate.{Certificate}
 use Rattle.td_certificate.specs.Trees.{IsTree}
 use Rattle.td_certificate.specs.Walks.{Line}
 use Rattle.td_certificate.specs.Spelling.{head_lines}
-use Rattle.td_certificate.specs.Accepts.{lines_in, SplitsFree, IsOfOnePair, IsOfCube, IsWithin, IsGood, IsOfSize, IsReached, Accepts}
+use Rattle.td_certificate.specs.Accepts.{lines_in, SplitsFree, IsOfOnePair, IsOfCube, IsWithin, IsGood, IsOfSize, setting_of, IsReached, Accepts}
 use Rattle.td_checker.specs.declared.verdict.Verdict.{Verdict}
 use Rattle.td_checker.specs.declared.verdict.Verdict.TheVariants as verdict
 
@@ -18,6 +22,8 @@ verdict_number (verdict.LeafAboveTime line) = 4
 verdict_number (verdict.BadPosition line) = 5
 verdict_number (verdict.NotAPoint line) = 6
 verdict_number verdict.OtherCircuit = 7
+verdict_number verdict.PairNotAdmitted = 8
+verdict_number (verdict.LeafNotEmpty line) = 9
 
 abbrev pub verdict_name : Verdict → List ℕ
 verdict_name verdict.Accepted = codes "Accepted"
@@ -27,12 +33,15 @@ verdict_name (verdict.LeafAboveTime line) = codes "LeafAboveTime"
 verdict_name (verdict.BadPosition line) = codes "BadPosition"
 verdict_name (verdict.NotAPoint line) = codes "NotAPoint"
 verdict_name verdict.OtherCircuit = codes "OtherCircuit"
+verdict_name verdict.PairNotAdmitted = codes "PairNotAdmitted"
+verdict_name (verdict.LeafNotEmpty line) = codes "LeafNotEmpty"
 
 abbrev pub verdict_line : Verdict → Option ℕ
 verdict_line (verdict.LeafBound line) = Some line
 verdict_line (verdict.LeafAboveTime line) = Some line
 verdict_line (verdict.BadPosition line) = Some line
 verdict_line (verdict.NotAPoint line) = Some line
+verdict_line (verdict.LeafNotEmpty line) = Some line
 verdict_line _ = None
 
 -- ---- the first bad line
@@ -42,28 +51,48 @@ pub data Flaw : Type 0 where
   Misplaced : Flaw
   NotOnePair : Flaw
   WrongNumber : Flaw
+  NotEmpty : Flaw
   AboveTime : Flaw
 
--- the line has this flaw, and none that is looked for before it
-abbrev pub HasFlaw : Netlist → ℕ → Flaw → Line → Type 0
-HasFlaw netlist most Misplaced line = ¬ SplitsFree line.cube line.node
-HasFlaw netlist most NotOnePair line = SplitsFree line.cube line.node × (¬ IsOfOnePair line.cube line.node)
-HasFlaw netlist most WrongNumber line =
-    SplitsFree line.cube line.node × IsOfOnePair line.cube line.node × (¬ IsOfCube netlist line.cube line.node)
-HasFlaw netlist most AboveTime line =
-    SplitsFree line.cube line.node × IsOfOnePair line.cube line.node × IsOfCube netlist line.cube line.node × (¬ IsWithin most line.node)
+-- a leaf that says that no admitted pair lies in its cube
+abbrev pub SaysEmpty : Node → Type 0
+SaysEmpty node.Empty = Unit {0}
+SaysEmpty _ = ⊥
 
--- The certificate is of this circuit and its pair has its time, and this line of the text is the first bad one: it has this
--- flaw, and those before it in the tree are good.
+-- the line has this flaw, and none that is looked for before it
+abbrev pub HasFlaw : Setting → Admitted → ℕ → Flaw → Line → Type 0
+HasFlaw setting admit most Misplaced line = ¬ SplitsFree line.cube line.node
+HasFlaw setting admit most NotOnePair line = SplitsFree line.cube line.node × (¬ IsOfOnePair line.cube line.node)
+HasFlaw setting admit most WrongNumber line =
+    SplitsFree line.cube line.node × IsOfOnePair line.cube line.node × (¬ IsOfCube setting admit line.cube line.node) × (¬ SaysEmpty line.node)
+HasFlaw setting admit most NotEmpty line =
+    SplitsFree line.cube line.node × IsOfOnePair line.cube line.node × (¬ IsOfCube setting admit line.cube line.node) × SaysEmpty line.node
+HasFlaw setting admit most AboveTime line =
+    SplitsFree line.cube line.node × IsOfOnePair line.cube line.node × IsOfCube setting admit line.cube line.node × (¬ IsWithin most line.node)
+
+-- the flaw of a line of this certificate, and a good line of it, for this netlist
+abbrev pub HasFlawIn : Netlist → Certificate → Flaw → Line → Type 0
+HasFlawIn netlist c = HasFlaw (setting_of netlist c) c.question.admit c.time
+
+abbrev pub IsGoodIn : Netlist → Certificate → Line → Type 0
+IsGoodIn netlist c = IsGood (setting_of netlist c) c.question.admit c.time
+
+-- the certificate's pair is admitted
+abbrev pub HasAdmittedPair : Certificate → Type 0
+HasAdmittedPair c = IsAdmitted c.question.admit c.pair
+
+-- The certificate is of this circuit and its pair is admitted and has its time, and this line of the text is the first bad one:
+-- it has this flaw, and those before it in the tree are good.
 pub record IsFirstBad (netlist : Netlist) (c : Certificate) (flaw : Flaw) (line : ℕ) : Type 0 where
   pub size : IsOfSize netlist c
+  pub admitted : HasAdmittedPair c
   pub reached : IsReached netlist c
   pub tree : IsTree c.tree
   pub place : ℕ
   pub bad : Line
   pub stands : slice_get (lines_in c) place ≡ Some bad
-  pub good_before : AllByRecursion (IsGood netlist c.time) (take place (lines_in c))
-  pub has : HasFlaw netlist c.time flaw bad
+  pub good_before : AllByRecursion (IsGoodIn netlist c) (take place (lines_in c))
+  pub has : HasFlawIn netlist c flaw bad
   pub line_is : line ≡ 1 + length (head_lines c) + place
 
 -- ---- the verdict
@@ -71,10 +100,12 @@ pub record IsFirstBad (netlist : Netlist) (c : Certificate) (flaw : Flaw) (line 
 abbrev pub IsVerdict : Netlist → Certificate → Verdict → Type 0
 IsVerdict netlist c verdict.Accepted = Accepts netlist c
 IsVerdict netlist c verdict.OtherCircuit = ¬ IsOfSize netlist c
-IsVerdict netlist c verdict.PairTime = IsOfSize netlist c × (¬ IsReached netlist c)
+IsVerdict netlist c verdict.PairNotAdmitted = IsOfSize netlist c × (¬ HasAdmittedPair c)
+IsVerdict netlist c verdict.PairTime = IsOfSize netlist c × HasAdmittedPair c × (¬ IsReached netlist c)
 IsVerdict netlist c (verdict.BadPosition line) = IsFirstBad netlist c Misplaced line
 IsVerdict netlist c (verdict.NotAPoint line) = IsFirstBad netlist c NotOnePair line
 IsVerdict netlist c (verdict.LeafBound line) = IsFirstBad netlist c WrongNumber line
+IsVerdict netlist c (verdict.LeafNotEmpty line) = IsFirstBad netlist c NotEmpty line
 IsVerdict netlist c (verdict.LeafAboveTime line) = IsFirstBad netlist c AboveTime line
 
 -- a certificate has at most one verdict

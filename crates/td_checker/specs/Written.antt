@@ -1,9 +1,11 @@
 -- Certificates that are accepted, and their texts.
 use Rattle.std.specs.Prelude.{ℕ, ◌≤◌, List, length}
 use Rattle.td_gates.specs.declared.timing.Delay.{Delay}
-use Rattle.td_netlist.specs.Netlist.{Netlist}
+use Rattle.td_nets.specs.Netlist.{Netlist}
 use Rattle.td_netlist.specs.Means.{Means}
+use Rattle.td_circuit.specs.Settings.{AreMoments}
 use Rattle.td_run.specs.Laws.{IsAcyclic}
+use Rattle.td_certificate.specs.Questions.{inputs_of}
 use Rattle.td_certificate.specs.declared.certificate.Certificate.{Certificate}
 use Rattle.td_certificate.specs.Spelling.{HasSpelling, spelling}
 use Rattle.td_certificate.specs.Faults.{IsWithinLimit}
@@ -17,8 +19,9 @@ pub record IsAcceptedAsWritten (netlist_text : List ℕ) (default : Delay) (c : 
   pub within : IsWithinLimit (spelling c)
   pub verdict : HaveVerdict netlist_text default (spelling c) verdict.Accepted
 
--- A certificate that is accepted of the netlist that a text means, with a tree of at most 10,000,000 lines, as an exact
--- answer of a search gives it, is accepted as it is written.
+-- A certificate that is accepted of the netlist that a text means, with a moment for each input, no more flips than inputs, and a
+-- tree of at most 10,000,000 lines, as an exact answer of a search gives it, is accepted as it is written.
 abbrev pub AcceptedIsWritten : Type 0
 AcceptedIsWritten = (netlist_text : List ℕ) (default : Delay) (netlist : Netlist) (c : Certificate) → Means netlist_text default netlist
-    → IsAcyclic netlist → Accepts netlist c → length c.tree ≤ 10000000 → IsAcceptedAsWritten netlist_text default c
+    → IsAcyclic netlist → AreMoments netlist c.question.moments → c.question.admit.flips ≤ inputs_of c.question → Accepts netlist c
+    → length c.tree ≤ 10000000 → IsAcceptedAsWritten netlist_text default c

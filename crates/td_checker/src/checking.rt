@@ -1,29 +1,29 @@
 //! The verdict on a certificate.
 
-ghost use Rattle.std.specs.Prelude.{◌≡◌, ◌≤◌, ◌<◌, ◌↔◌, ℕ, List, length, IfOk, IfErr, IfSome, IsTrue};
+ghost use Rattle.std.specs.Prelude.{◌≡◌, ◌≤◌, ◌<◌, ◌+◌, ◌*◌, ◌↔◌, ℕ, List, length, IfOk, IfErr, IfSome, IsTrue};
 ghost use Rattle.td_netlist.specs.Means.{Means};
-ghost use Rattle.td_netlist.specs.WellFormed.{IsWellFormed};
-ghost use Rattle.td_circuit.specs.Run.{IsVector};
-ghost use Rattle.td_certificate.specs.Accepts.{lines_in, IsOfSize, IsReached};
+ghost use Rattle.td_nets.specs.WellFormed.{IsWellFormed};
+ghost use Rattle.td_circuit.specs.Numbering.{setting};
+ghost use Rattle.td_circuit.specs.Run.{IsDelayOfBits};
+ghost use Rattle.td_certificate.specs.Accepts.{lines_in, IsOfSize};
 ghost use Rattle.td_certificate.specs.Faults.{IsWithinLimit};
-ghost use Rattle.td_certificate.specs.Spelling.{HasSpelling, Spells};
+ghost use Rattle.td_certificate.specs.Spelling.{head_lines, HasSpelling, Spells};
 ghost use Rattle.td_checker.specs.Judging.{AreJudged, told_as};
 ghost use Rattle.td_checker.specs.Verdicts.{IsVerdict};
 ghost use Rattle.td_checker.specs.declared.verdict.Verdict.{Verdict as Told};
 ghost use Rattle.td_checker.specs.Checks.{HaveVerdict, HasCircuit, IsCheckFault, IsCertificateFault, IsToldAs, TellsWorst};
 
+use crate::admitting::is_admitted;
 use crate::delays::delay_of;
 use crate::judging::{Flaw, judge};
-use crate::verdict::{CheckFault, Verdict};
+use crate::verdict::{CheckFault, Checked, Verdict};
 use crate::walking::Walk;
 use std::alloc::{AllocError, Global};
-use td_certificate::{CertFaultKind, Certificate};
+use td_certificate::{CertFaultKind, Certificate, Version};
 use td_circuit::{BuildFault, Circuit, build};
 use td_gates::Delay;
-use td_netlist::{FaultKind, Netlist};
-
-/// The line of a text on which its tree begins.
-const FIRST_LINE: u32 = 6;
+use td_netlist::FaultKind;
+use td_nets::Netlist;
 
 /// The first bad line of a tree: its place among the tree's lines, from 0, and what is wrong with it.
 #[derive(Clone, Copy, Debug, PartialEq, Eq, Drop)]
@@ -39,13 +39,14 @@ fn first_bad(
     circuit: &Circuit,
     certificate: &Certificate,
 ) -> Result<Option<BadLine>, AllocError>
-    requires { length circuit.now.netlist.inputs ≡ certificate.now.inputs }
-    ensures judged { IfOk result (λ found. AreJudged circuit.now.netlist certificate.now.time (lines_in certificate.now) found) }
+    requires pins { length certificate.now.question.admit.pins ≡ 2 * length circuit.now.netlist.inputs }
+    ensures judged { IfOk result (λ found. AreJudged (setting circuit.now) certificate.now.question.admit certificate.now.time (lines_in certificate.now) found) }
     ensures place { IfOk result (λ found. IfSome found (λ bad. bad.place < length certificate.now.tree)) }
 {
-    let mut walk = Walk::new(alloc, certificate.inputs as usize)?;
+    let admit = certificate.question.admit();
+    let mut walk = Walk::new(alloc, admit.pins())?;
     for (place, node) in certificate.tree.nodes().iter().enumerate() {
-        if let Some(flaw) = judge(alloc, circuit, certificate.time, &walk.cube, *node)? {
+        if let Some(flaw) = judge(alloc, circuit, admit, certificate.time, &walk.cube, *node)? {
             return Ok(Some(BadLine { place, flaw }));
         }
         walk.pass(*node)?;
@@ -53,16 +54,27 @@ fn first_bad(
     Ok(None)
 }
 
-/// The verdict that tells this line.
-fn told_of(bad: BadLine) -> Verdict
-    requires { bad.place < 268435456 }
-    ensures { result ≡ told_as bad.flaw bad.place }
+/// The line of the text on which the tree begins.
+fn first_line(certificate: &Certificate) -> u32
+    ensures line { result ≡ 1 + length (head_lines certificate.now) }
+    ensures small { result ≤ 11 }
 {
-    let line = FIRST_LINE + bad.place as u32;
-    match bad.flaw {
+    match certificate.question.version() {
+        Version::First => 6,
+        Version::Second => 10,
+        Version::Third => 11,
+    }
+}
+
+/// The verdict that tells this flaw of a line.
+fn told_of(flaw: Flaw, line: u32) -> Verdict
+    ensures { result ≡ told_as flaw line }
+{
+    match flaw {
         Flaw::Misplaced => Verdict::BadPosition(line),
         Flaw::NotOnePair => Verdict::NotAPoint(line),
         Flaw::WrongNumber => Verdict::LeafBound(line),
+        Flaw::NotEmpty => Verdict::LeafNotEmpty(line),
         Flaw::AboveTime => Verdict::LeafAboveTime(line),
     }
 }
@@ -71,7 +83,7 @@ fn told_of(bad: BadLine) -> Verdict
 fn is_of_size(circuit: &Circuit, certificate: &Certificate) -> bool
     ensures { IsTrue result ↔ IsOfSize circuit.now.netlist certificate.now }
 {
-    circuit.input_count() == certificate.inputs as usize
+    circuit.input_count() == certificate.question.inputs()
         && circuit.gates().len() == certificate.gates as usize
 }
 
@@ -81,34 +93,54 @@ fn is_reached(
     circuit: &Circuit,
     certificate: &Certificate,
 ) -> Result<bool, AllocError>
-    requires first { IsVector circuit.now.netlist certificate.now.pair.first }
-    requires second { IsVector circuit.now.netlist certificate.now.pair.second }
-    ensures { IfOk result (λ is. IsTrue is ↔ IsReached circuit.now.netlist certificate.now) }
+    requires first { length certificate.now.pair.first ≡ length circuit.now.netlist.inputs }
+    requires second { length certificate.now.pair.second ≡ length circuit.now.netlist.inputs }
+    ensures { IfOk result (λ is. IsTrue is ↔ IsDelayOfBits (setting circuit.now) certificate.now.pair.first certificate.now.pair.second certificate.now.time) }
 {
     Ok(delay_of(alloc, circuit, &certificate.pair)? == certificate.time)
 }
 
-/// The verdict on a certificate that has a text within the limit.
-#[tactic(auto, using(crate::proofs::Told::bad_told, crate::proofs::Told::accepted_told, crate::proofs::Told::first_fits, crate::proofs::Told::second_fits, crate::proofs::Told::inputs_fit, crate::proofs::Told::is_tree))]
-fn verdict_on(
+/// The verdict on a certificate of the size of a circuit that has the certificate's moments.
+#[tactic(auto, using(crate::proofs::Told::bad_told, crate::proofs::Told::accepted_told, crate::proofs::Told::first_fits, crate::proofs::Told::second_fits, crate::proofs::Told::pins_fit, crate::proofs::Told::is_tree))]
+fn verdict_of_lines(
     alloc: Global,
     circuit: &Circuit,
     certificate: &Certificate,
 ) -> Result<Verdict, AllocError>
+    requires size { IsOfSize circuit.now.netlist certificate.now }
     requires spelled { HasSpelling certificate.now }
+    requires moments { circuit.now.moments ≡ certificate.now.question.moments }
     requires few { length certificate.now.tree ≤ 268435456 }
     ensures { IfOk result (λ verdict. IsVerdict circuit.now.netlist certificate.now verdict) }
 {
-    if !is_of_size(circuit, certificate) {
-        return Ok(Verdict::OtherCircuit);
+    if !is_admitted(alloc, certificate.question.admit(), &certificate.pair)? {
+        return Ok(Verdict::PairNotAdmitted);
     }
     if !is_reached(alloc, circuit, certificate)? {
         return Ok(Verdict::PairTime);
     }
     match first_bad(alloc, circuit, certificate)? {
-        Some(bad) => Ok(told_of(bad)),
+        Some(bad) => Ok(told_of(bad.flaw, first_line(certificate) + bad.place as u32)),
         None => Ok(Verdict::Accepted),
     }
+}
+
+/// The verdict on a certificate that has a text within the limit.
+fn verdict_on(
+    alloc: Global,
+    circuit: Circuit,
+    certificate: &Certificate,
+) -> Result<Verdict, AllocError>
+    requires spelled { HasSpelling certificate.now }
+    requires few { length certificate.now.tree ≤ 268435456 }
+    ensures { IfOk result (λ verdict. IsVerdict circuit.netlist certificate.now verdict) }
+{
+    if !is_of_size(&circuit, certificate) {
+        return Ok(Verdict::OtherCircuit);
+    }
+    let mut circuit = circuit;
+    circuit.set_moments(Vec::from_slice(alloc, certificate.question.moments())?);
+    verdict_of_lines(alloc, &circuit, certificate)
 }
 
 /// The netlist that a text means.
@@ -166,14 +198,19 @@ fn verdict_of_texts<'a>(
     netlist: &'a [u8],
     default: Delay,
     certificate: &[u8],
-) -> Result<Verdict, CheckFault<'a>>
-    ensures told { IfOk result (λ verdict. HaveVerdict netlist.now default certificate.now verdict) }
+) -> Result<Checked, CheckFault<'a>>
+    ensures told { IfOk result (λ checked. HaveVerdict netlist.now default certificate.now checked.verdict) }
+    ensures spelled { IfOk result (λ checked. Spells checked.certificate certificate.now) }
     ensures fault { IfErr result (λ fault. IsCheckFault netlist.now default certificate.now fault) }
-    ensures worst { IfOk result (λ verdict. verdict ≡ Verdict.Accepted → TellsWorst netlist.now default certificate.now) }
+    ensures worst { IfOk result (λ checked. checked.verdict ≡ Verdict.Accepted → TellsWorst netlist.now default certificate.now) }
 {
     let circuit = circuit_of(alloc, netlist, default)?;
     let spelled = spelled_by(alloc, certificate)?;
-    Ok(verdict_on(alloc, &circuit, &spelled)?)
+    let verdict = verdict_on(alloc, circuit, &spelled)?;
+    Ok(Checked {
+        verdict,
+        certificate: spelled,
+    })
 }
 
 /// The verdict on a certificate's text, for a netlist's text in which gates that state no delay have the default one.
@@ -187,16 +224,17 @@ pub fn check<'a>(
     netlist: &'a [u8],
     default: Delay,
     certificate: &[u8],
-) -> Result<Verdict, CheckFault<'a>>
-    // What is told is the verdict on the two texts, and a fault is one of theirs.
-    ensures told { IfOk result (λ verdict. HaveVerdict netlist.now default certificate.now verdict) }
+) -> Result<Checked, CheckFault<'a>>
+    // What is told is the verdict on the two texts, with the certificate that the one spells, and a fault is one of theirs.
+    ensures told { IfOk result (λ checked. HaveVerdict netlist.now default certificate.now checked.verdict) }
+    ensures spelled { IfOk result (λ checked. Spells checked.certificate certificate.now) }
     ensures fault { IfErr result (λ fault. IsCheckFault netlist.now default certificate.now fault) }
 
     // Unless memory runs out, texts that have a verdict are told it.
     ensures only { (verdict : Told) → HaveVerdict netlist.now default certificate.now verdict → IsToldAs verdict result }
 
-    // An accepted time is the worst delay.
-    ensures worst { IfOk result (λ verdict. verdict ≡ Verdict.Accepted → TellsWorst netlist.now default certificate.now) }
+    // An accepted time is the worst delay of the admitted pairs.
+    ensures worst { IfOk result (λ checked. checked.verdict ≡ Verdict.Accepted → TellsWorst netlist.now default certificate.now) }
 {
     verdict_of_texts(alloc, netlist, default, certificate)
 }

@@ -2,7 +2,8 @@
 
 ghost use Rattle.std.specs.Prelude.{◌≡◌, ◌≢◌, ℕ, ◌*◌, length, map, IfOk};
 ghost use Rattle.td_gates.specs.Table.{level_from};
-ghost use Rattle.td_circuit.specs.Run.{IsVector, IsDelayOfBits};
+ghost use Rattle.td_circuit.specs.Numbering.{setting};
+ghost use Rattle.td_circuit.specs.Run.{IsDelayOfBits};
 ghost use Rattle.td_domain.specs.declared.cubes.Trit.{Trit as TritModel};
 ghost use Rattle.td_domain.specs.Cubes.{Allows, IsIn, IsPoint};
 
@@ -25,11 +26,11 @@ fn levels(alloc: Global, bits: &[bool]) -> Result<Vec<Level>, AllocError>
 
 /// The delay of a pair, in steps.
 pub fn delay_of(alloc: Global, circuit: &Circuit, pair: &Pair) -> Result<u64, AllocError>
-    requires first { IsVector circuit.now.netlist pair.now.first }
-    requires second { IsVector circuit.now.netlist pair.now.second }
-    ensures delay { IfOk result (λ delay. IsDelayOfBits circuit.now.netlist pair.now.first pair.now.second delay) }
+    requires first { length pair.now.first ≡ length circuit.now.netlist.inputs }
+    requires second { length pair.now.second ≡ length circuit.now.netlist.inputs }
+    ensures delay { IfOk result (λ delay. IsDelayOfBits (setting circuit.now) pair.now.first pair.now.second delay) }
     ensures only { IfOk result (λ delay. (other : ℕ)
-        → IsDelayOfBits circuit.now.netlist pair.now.first pair.now.second other → other ≡ delay) }
+        → IsDelayOfBits (setting circuit.now) pair.now.first pair.now.second other → other ≡ delay) }
 {
     let first = levels(alloc, pair.first())?;
     let second = levels(alloc, pair.second())?;
@@ -53,8 +54,8 @@ pub fn pair_of(alloc: Global, circuit: &Circuit, cube: &Cube) -> Result<Pair, Al
     requires point { IsPoint cube.now }
     requires length { length cube.now ≡ 2 * length circuit.now.netlist.inputs }
     ensures pair { IfOk result (λ pair. IsIn pair cube.now) }
-    ensures first { IfOk result (λ pair. IsVector circuit.now.netlist pair.first) }
-    ensures second { IfOk result (λ pair. IsVector circuit.now.netlist pair.second) }
+    ensures first { IfOk result (λ pair. length pair.first ≡ length circuit.now.netlist.inputs) }
+    ensures second { IfOk result (λ pair. length pair.second ≡ length circuit.now.netlist.inputs) }
 {
     let inputs = cube.len() / 2;
     let mut first = Vec::new(alloc);

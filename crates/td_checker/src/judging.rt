@@ -1,16 +1,17 @@
 //! What is wrong with a line of a tree.
 
 ghost use Rattle.std.specs.Prelude.{◌≡◌, ◌*◌, ◌↔◌, Option, ℕ, length, slice_get, Some, IfOk, IsTrue};
+ghost use Rattle.td_circuit.specs.Numbering.{setting};
 ghost use Rattle.td_domain.specs.Cubes.{IsPoint};
 ghost use Rattle.td_certificate.specs.Accepts.{IsBoundBy, SplitsFree, IsOfOnePair, IsBounded, HasDelay, IsOfCube, IsWithin};
-ghost use Rattle.td_checker.specs.Judging.{with_cube, IsJudged};
+ghost use Rattle.td_checker.specs.Judging.{with_cube, wrong_flaw, IsJudged};
 
 use crate::delays::{delay_of, pair_of};
 use std::alloc::{AllocError, Global};
 use td_arrival::Arrival;
 use td_certificate::{BoundedBy, Node};
 use td_circuit::Circuit;
-use td_domain::{Both, Cube, Trit, bound};
+use td_domain::{Admit, Both, Cube, Trit, bound};
 use td_ternary::Possible;
 
 /// What is wrong with a line.
@@ -22,6 +23,8 @@ pub enum Flaw {
     NotOnePair,
     /// A bound less than the domain's or of a domain that gives none, or a time that isn't the pair's delay.
     WrongNumber,
+    /// An admitted pair lies in the cube of a leaf that says that none does.
+    NotEmpty,
     /// The number of a leaf is above the time.
     AboveTime,
 }
@@ -30,12 +33,14 @@ pub enum Flaw {
 pub fn judge(
     alloc: Global,
     circuit: &Circuit,
+    admit: &Admit,
     time: u64,
     cube: &Cube,
     node: Node,
 ) -> Result<Option<Flaw>, AllocError>
-    requires { length cube.now ≡ 2 * length circuit.now.netlist.inputs }
-    ensures { IfOk result (λ found. IsJudged circuit.now.netlist time (with_cube cube.now node) found) }
+    requires cube { length cube.now ≡ 2 * length circuit.now.netlist.inputs }
+    requires pins { length cube.now ≡ length admit.now.pins }
+    ensures { IfOk result (λ found. IsJudged (setting circuit.now) admit.now time (with_cube cube.now node) found) }
 {
     if !splits_free(cube, node) {
         return Ok(Some(Flaw::Misplaced));
@@ -43,13 +48,23 @@ pub fn judge(
     if !is_of_one_pair(cube, node) {
         return Ok(Some(Flaw::NotOnePair));
     }
-    if !is_of_cube(alloc, circuit, cube, node)? {
-        return Ok(Some(Flaw::WrongNumber));
+    if !is_of_cube(alloc, circuit, admit, cube, node)? {
+        return Ok(Some(wrong(node)));
     }
     if !is_within(time, node) {
         return Ok(Some(Flaw::AboveTime));
     }
     Ok(None)
+}
+
+/// What is wrong with a node that isn't true of its cube.
+fn wrong(node: Node) -> Flaw
+    ensures { result ≡ wrong_flaw node }
+{
+    match node {
+        Node::Empty => Flaw::NotEmpty,
+        Node::Split(_) | Node::Bound(_, _) | Node::Point(_) => Flaw::WrongNumber,
+    }
 }
 
 /// Whether the node, where it is a split, is at a free position.
@@ -60,7 +75,7 @@ fn splits_free(cube: &Cube, node: Node) -> bool
         Node::Split(position) => {
             (position as usize) < cube.len() && cube.trit(position as usize) == Trit::Free
         }
-        Node::Bound(_, _) | Node::Point(_) => true,
+        Node::Bound(_, _) | Node::Point(_) | Node::Empty => true,
     }
 }
 
@@ -69,21 +84,29 @@ fn is_of_one_pair(cube: &Cube, node: Node) -> bool
     ensures { IsTrue result ↔ IsOfOnePair cube.now node }
 {
     match node {
-        Node::Split(_) | Node::Bound(_, _) => true,
+        Node::Split(_) | Node::Bound(_, _) | Node::Empty => true,
         Node::Point(_) => cube.is_point(),
     }
 }
 
-/// Whether the number of a leaf is one of its cube.
-fn is_of_cube(alloc: Global, circuit: &Circuit, cube: &Cube, node: Node) -> Result<bool, AllocError>
+/// Whether what a leaf says is true of its cube.
+fn is_of_cube(
+    alloc: Global,
+    circuit: &Circuit,
+    admit: &Admit,
+    cube: &Cube,
+    node: Node,
+) -> Result<bool, AllocError>
     requires length { length cube.now ≡ 2 * length circuit.now.netlist.inputs }
+    requires pins { length cube.now ≡ length admit.now.pins }
     requires pair { IsOfOnePair cube.now node }
-    ensures { IfOk result (λ is. IsTrue is ↔ IsOfCube circuit.now.netlist cube.now node) }
+    ensures { IfOk result (λ is. IsTrue is ↔ IsOfCube (setting circuit.now) admit.now cube.now node) }
 {
     match node {
         Node::Split(_) => Ok(true),
         Node::Bound(domain, most) => is_bounded(alloc, circuit, cube, domain, most),
         Node::Point(delay) => has_delay(alloc, circuit, cube, delay),
+        Node::Empty => Ok(!admit.any(cube)),
     }
 }
 
@@ -92,7 +115,7 @@ fn is_within(time: u64, node: Node) -> bool
     ensures { IsTrue result ↔ IsWithin time node }
 {
     match node {
-        Node::Split(_) => true,
+        Node::Split(_) | Node::Empty => true,
         Node::Bound(_, number) | Node::Point(number) => number <= time,
     }
 }
@@ -105,9 +128,9 @@ fn bound_by(
     domain: BoundedBy,
 ) -> Result<Option<u64>, AllocError>
     requires { length cube.now ≡ 2 * length circuit.now.netlist.inputs }
-    ensures bound { IfOk result (IsBoundBy domain circuit.now.netlist cube.now) }
+    ensures bound { IfOk result (IsBoundBy domain (setting circuit.now) cube.now) }
     ensures only { IfOk result (λ answer. (other : Option ℕ)
-        → IsBoundBy domain circuit.now.netlist cube.now other → other ≡ answer) }
+        → IsBoundBy domain (setting circuit.now) cube.now other → other ≡ answer) }
 {
     match domain {
         BoundedBy::Arrival => bound::<Arrival>(alloc, circuit, cube),
@@ -125,7 +148,7 @@ fn is_bounded(
     most: u64,
 ) -> Result<bool, AllocError>
     requires { length cube.now ≡ 2 * length circuit.now.netlist.inputs }
-    ensures { IfOk result (λ is. IsTrue is ↔ IsBounded domain circuit.now.netlist cube.now most) }
+    ensures { IfOk result (λ is. IsTrue is ↔ IsBounded domain (setting circuit.now) cube.now most) }
 {
     match bound_by(alloc, circuit, cube, domain)? {
         Some(bound) => Ok(bound <= most),
@@ -137,7 +160,7 @@ fn is_bounded(
 fn has_delay(alloc: Global, circuit: &Circuit, cube: &Cube, delay: u64) -> Result<bool, AllocError>
     requires length { length cube.now ≡ 2 * length circuit.now.netlist.inputs }
     requires point { IsPoint cube.now }
-    ensures { IfOk result (λ has. IsTrue has ↔ HasDelay circuit.now.netlist cube.now delay) }
+    ensures { IfOk result (λ has. IsTrue has ↔ HasDelay (setting circuit.now) cube.now delay) }
 {
     let pair = pair_of(alloc, circuit, cube)?;
     Ok(delay_of(alloc, circuit, &pair)? == delay)

@@ -1,6 +1,7 @@
 //! The checker of certificates: it trusts nobody, and stands on nothing of the search.
 #![tactic(auto)]
 
+mod admitting;
 mod checking;
 mod delays;
 mod judging;
@@ -9,7 +10,7 @@ mod verdict;
 mod walking;
 
 pub use checking::check;
-pub use verdict::{CheckFault, Verdict};
+pub use verdict::{CheckFault, Checked, Verdict};
 
 #[cfg(test)]
 mod searched;

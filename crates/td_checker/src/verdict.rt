@@ -5,16 +5,17 @@ ghost use Rattle.td_checker.specs.declared.verdict.CheckFault.TheVariants as fau
 ghost use Rattle.td_checker.specs.Verdicts.{verdict_number, verdict_name, verdict_line};
 
 use std::alloc::AllocError;
-use td_certificate::CertFault;
-use td_netlist::{Fault, Name};
+use td_certificate::{CertFault, Certificate};
+use td_netlist::Fault;
+use td_nets::Name;
 use thiserror::Error;
 
-/// The verdict on a certificate: the first that applies of another circuit, a pair without the time, and, line by line in
-/// the tree, a bad position, a leaf of one pair with something free, a wrong number, and a number above the time.
-/// Lines are those of the text, from 1.
+/// The verdict on a certificate: the first that applies of another circuit, a pair that isn't admitted, a pair without the
+/// time, and, line by line in the tree, a bad position, a leaf of one pair with something free, a wrong number or a leaf
+/// `none` whose cube holds an admitted pair, and a number above the time. Lines are those of the text, from 1.
 #[derive(Clone, Copy, Debug, PartialEq, Eq, Drop)]
 pub enum Verdict {
-    /// The certificate's time is the circuit's worst delay.
+    /// The certificate's time is the circuit's worst delay over the admitted pairs.
     Accepted,
     /// The pair's delay isn't the time.
     PairTime,
@@ -28,10 +29,14 @@ pub enum Verdict {
     NotAPoint(u32),
     /// The circuit has another number of inputs or gates.
     OtherCircuit,
+    /// The pair isn't admitted.
+    PairNotAdmitted,
+    /// An admitted pair lies in the cube of a leaf `none`.
+    LeafNotEmpty(u32),
 }
 
 impl Verdict {
-    /// The number by which programs tell this verdict, from 1 for `Accepted` to 7.
+    /// The number by which programs tell this verdict, from 1 for `Accepted` to 9.
     pub fn number(self) -> u8
         ensures { result ≡ verdict_number self }
     {
@@ -43,6 +48,8 @@ impl Verdict {
             Verdict::BadPosition(_) => 5,
             Verdict::NotAPoint(_) => 6,
             Verdict::OtherCircuit => 7,
+            Verdict::PairNotAdmitted => 8,
+            Verdict::LeafNotEmpty(_) => 9,
         }
     }
 
@@ -58,6 +65,8 @@ impl Verdict {
             Verdict::BadPosition(_) => "BadPosition",
             Verdict::NotAPoint(_) => "NotAPoint",
             Verdict::OtherCircuit => "OtherCircuit",
+            Verdict::PairNotAdmitted => "PairNotAdmitted",
+            Verdict::LeafNotEmpty(_) => "LeafNotEmpty",
         }
     }
 
@@ -69,10 +78,21 @@ impl Verdict {
             Verdict::LeafBound(line)
             | Verdict::LeafAboveTime(line)
             | Verdict::BadPosition(line)
-            | Verdict::NotAPoint(line) => Some(line),
-            Verdict::Accepted | Verdict::PairTime | Verdict::OtherCircuit => None,
+            | Verdict::NotAPoint(line)
+            | Verdict::LeafNotEmpty(line) => Some(line),
+            Verdict::Accepted
+            | Verdict::PairTime
+            | Verdict::OtherCircuit
+            | Verdict::PairNotAdmitted => None,
         }
     }
+}
+
+/// What the checker says of two texts: its verdict, and the certificate that the one text spells.
+#[derive(Debug, Drop)]
+pub struct Checked {
+    pub verdict: Verdict,
+    pub certificate: Certificate,
 }
 
 /// Why two texts have no verdict: the first that is there of a fault of the netlist's text, a loop and a fault of the

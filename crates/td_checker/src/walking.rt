@@ -1,6 +1,6 @@
 //! A walk over a tree, from the cube of each node to that of the next.
 
-ghost use Rattle.std.specs.Prelude.{◌≡◌, ◌<◌, ◌*◌, [], ◌∷◌, replicate, reverse, length, set, slice_get, Some, IfOk, OnOk};
+ghost use Rattle.std.specs.Prelude.{◌≡◌, ◌<◌, [], ◌∷◌, reverse, length, set, slice_get, Some, IfOk, OnOk};
 ghost use Rattle.td_domain.specs.declared.cubes.Trit.{Trit as TritModel};
 ghost use Rattle.td_certificate.specs.Accepts.{SplitsFree};
 ghost use Rattle.td_certificate.specs.Cubes.{cubes_past};
@@ -20,13 +20,13 @@ pub struct Walk {
 }
 
 impl Walk {
-    /// The root of a tree for so many inputs: everything is free.
-    pub fn new(alloc: Global, inputs: usize) -> Result<Walk, AllocError>
-        ensures cube { IfOk result (λ walk. walk.cube ≡ replicate (2 * inputs) TritModel.Free) }
+    /// The root of a tree, with this cube.
+    pub fn new(alloc: Global, root: &Cube) -> Result<Walk, AllocError>
+        ensures cube { IfOk result (λ walk. walk.cube ≡ root.now) }
         ensures path { IfOk result (λ walk. walk.path.items ≡ []) }
     {
         Ok(Walk {
-            cube: Cube::free(alloc, inputs)?,
+            cube: root.copy(alloc)?,
             path: Vec::new(alloc),
         })
     }
@@ -43,7 +43,7 @@ impl Walk {
     {
         match node {
             Node::Split(position) => self.split(position as usize),
-            Node::Bound(_, _) | Node::Point(_) => {
+            Node::Bound(_, _) | Node::Point(_) | Node::Empty => {
                 self.leave();
                 Ok(())
             }

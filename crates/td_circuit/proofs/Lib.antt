@@ -8,3 +8,4 @@ pub mod Nets
 pub mod Values
 pub mod Sorting
 pub mod Existence
+pub mod Moments

@@ -7,8 +7,8 @@ use Rattle.std.proofs.lemmas.List.{length-map, length-append}
 use Rattle.td_gates.specs.Delays.{IsInRange}
 use Rattle.td_gates.specs.Table.{TakesInputs}
 use Rattle.td_gates.proofs.Places.{some-same, slice_get-some, slice_get-within, slice_get-append_cases, slice_get-Contains, Contains-slice_get, All-from_contains}
-use Rattle.td_netlist.specs.Netlist.{Name, Net, Low, High, Named, Gate}
-use Rattle.td_netlist.specs.WellFormed.{gate_outputs}
+use Rattle.td_nets.specs.Netlist.{Name, Net, Low, High, Named, Gate}
+use Rattle.td_nets.specs.WellFormed.{gate_outputs}
 use Rattle.td_circuit.specs.Numbering.{NumberedGate, Numbered, nets, first_output, AreNumbersOf, IsGateAt, IsNumbering}
 use Rattle.td_circuit.specs.Run.{IsNetOf}
 use Rattle.td_circuit.proofs.Looping.{input_number, output_number}

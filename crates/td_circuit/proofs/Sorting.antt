@@ -1,9 +1,9 @@
 -- Gates without a loop stand in an order in which each reads no output of itself or a later one.
 use Rattle.std.proofs.Common.{◌≡◌, ◌≢◌, ℕ, zero, suc, ◌<◌, ◌≤◌, Bool, true, false, List, [], ◌∷◌, ◌++◌, length, get_or, refl, arith, sym, ap, ◌∙◌, subst, ◌⊎◌, inl, inr}
 use Rattle.std.specs.List.{Contains}
-use Rattle.td_netlist.specs.Netlist.{Name, Net, Low, High, Named, Gate}
-use Rattle.td_netlist.specs.Names.{name_eq}
-use Rattle.td_netlist.proofs.SameNames.{name_eq-true, name_eq-same}
+use Rattle.td_nets.specs.Netlist.{Name, Net, Low, High, Named, Gate}
+use Rattle.td_nets.specs.Names.{name_eq}
+use Rattle.td_nets.proofs.SameNames.{name_eq-true, name_eq-same}
 use Rattle.td_circuit.specs.Loops.{Reads, LeadsTo}
 
 cases_bool : (b : Bool) → (b ≡ true) ⊎ (b ≡ false)

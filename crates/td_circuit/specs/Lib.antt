@@ -3,6 +3,7 @@ pub mod Search
 pub mod Names
 pub mod Loops
 pub mod Numbering
+pub mod Settings
 pub mod Run
 pub mod NetValues
 pub mod Drivers

@@ -1,13 +1,14 @@
--- The run of a netlist under two vectors, the delay of a pair and the worst delay.
-use Rattle.std.specs.Prelude.{◌≡◌, ℕ, ◌≤◌, max, Bool, List, [], ◌∷◌, length, map, unwrap_or}
+-- The run of a setting under two vectors, and the delay of a pair.
+use Rattle.std.specs.Prelude.{◌≡◌, ℕ, nat_lt, max, Bool, List, [], ◌∷◌, map, unwrap_or, if◌then◌else◌}
 use Rattle.std.specs.List.{All, Contains}
 use Rattle.td_gates.specs.declared.primitives.Level.{Level}
 use Rattle.td_gates.specs.declared.primitives.Level.TheVariants.{Zero, One}
 use Rattle.td_gates.specs.Table.{table, level_from}
 use Rattle.td_gates.specs.Wave.{Wave, at, last, IsWave}
 use Rattle.td_gates.specs.Schedule.{Obeys}
-use Rattle.td_netlist.specs.Netlist.{Net, Low, High, Named, Netlist}
-use Rattle.td_netlist.specs.WellFormed.{driven}
+use Rattle.td_nets.specs.Netlist.{Net, Low, High, Named, Netlist}
+use Rattle.td_nets.specs.WellFormed.{driven}
+use Rattle.td_circuit.specs.Settings.{Setting}
 
 -- the nets of a netlist: the constants, its inputs and the outputs of its gates
 abbrev pub IsNetOf : Netlist → Net → Type 0
@@ -23,17 +24,24 @@ pub record IsSettled (netlist : Netlist) (vector : List Level) (levels : Net →
   pub inputs : map (λ name. levels (Named name)) netlist.inputs ≡ vector
   pub gates : All (λ gate. levels (Named gate.output) ≡ table gate.kind (map levels gate.inputs)) netlist.gates
 
--- The run of two vectors: each net has a wave that starts at its settled level under the first vector; the inputs
--- have the second vector's levels from moment 0 on, the constants never change, and each gate obeys the
+-- the levels of the inputs at a moment: each has its first level before its own moment, and its second from then on
+abbrev pub inputs_at : ℕ → List ℕ → List Level → List Level → List Level
+inputs_at t (moment ∷ moments) (first ∷ firsts) (second ∷ seconds) =
+    (if nat_lt t moment then first else second) ∷ inputs_at t moments firsts seconds
+inputs_at t moments firsts seconds = []
+
+-- The run of two vectors: each net has a wave that starts at its settled level under the first vector; each input
+-- takes its level of the second vector at its own moment, the constants never change, and each gate obeys the
 -- scheduling rule.
-pub record Runs (netlist : Netlist) (first second : List Level) (waves : Net → Wave) : Type 0 where
+pub record Runs (setting : Setting) (first second : List Level) (waves : Net → Wave) : Type 0 where
   pub are_waves : (net : Net) → IsWave (waves net)
-  pub settled : IsSettled netlist first (λ net. (waves net).start)
-  pub inputs : (t : ℕ) → map (λ name. at (waves (Named name)) t) netlist.inputs ≡ second
+  pub settled : IsSettled setting.netlist first (λ net. (waves net).start)
+  pub inputs : (t : ℕ)
+      → map (λ name. at (waves (Named name)) t) setting.netlist.inputs ≡ inputs_at t setting.moments first second
   pub low : (waves Low).changes ≡ []
   pub high : (waves High).changes ≡ []
   pub gates : All
-      (λ gate. Obeys gate.kind gate.delay (map waves gate.inputs) (waves (Named gate.output))) netlist.gates
+      (λ gate. Obeys gate.kind gate.delay (map waves gate.inputs) (waves (Named gate.output))) setting.netlist.gates
 
 -- the latest moment at which one of the waves changes, 0 where none does
 abbrev pub latest_change : List Wave → ℕ
@@ -41,29 +49,11 @@ latest_change [] = 0
 latest_change (wave ∷ others) = max (unwrap_or (last wave) 0) (latest_change others)
 
 -- the delay of a pair of vectors: the latest moment at which an output changes in their run, 0 where none does
-pub record IsDelay (netlist : Netlist) (first second : List Level) (delay : ℕ) : Type 0 where
+pub record IsDelay (setting : Setting) (first second : List Level) (delay : ℕ) : Type 0 where
   pub waves : Net → Wave
-  pub runs : Runs netlist first second waves
-  pub is_latest : delay ≡ latest_change (map (λ name. waves (Named name)) netlist.outputs)
+  pub runs : Runs setting first second waves
+  pub is_latest : delay ≡ latest_change (map (λ name. waves (Named name)) setting.netlist.outputs)
 
 -- the delay of a pair of Boolean vectors
-abbrev pub IsDelayOfBits : Netlist → List Bool → List Bool → ℕ → Type 0
-IsDelayOfBits netlist first second delay = IsDelay netlist (map level_from first) (map level_from second) delay
-
--- a Boolean vector of the netlist has one bit for each input
-abbrev pub IsVector : Netlist → List Bool → Type 0
-IsVector netlist vector = length vector ≡ length netlist.inputs
-
--- no pair of Boolean vectors has a greater delay
-abbrev pub IsUpperBound : Netlist → ℕ → Type 0
-IsUpperBound netlist moment = (first second : List Bool) (delay : ℕ) → IsVector netlist first → IsVector netlist second
-    → IsDelayOfBits netlist first second delay → delay ≤ moment
-
--- the worst delay: some pair of Boolean vectors has it, and no pair has a greater one
-pub record IsWorst (netlist : Netlist) (worst : ℕ) : Type 0 where
-  pub first : List Bool
-  pub second : List Bool
-  pub first_fits : IsVector netlist first
-  pub second_fits : IsVector netlist second
-  pub reached : IsDelayOfBits netlist first second worst
-  pub greatest : IsUpperBound netlist worst
+abbrev pub IsDelayOfBits : Setting → List Bool → List Bool → ℕ → Type 0
+IsDelayOfBits setting first second delay = IsDelay setting (map level_from first) (map level_from second) delay

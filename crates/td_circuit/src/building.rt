@@ -1,8 +1,8 @@
 //! Building circuits.
 
-ghost use Rattle.std.specs.Prelude.{◌≡◌, IfOk, OnOk, IfErr};
+ghost use Rattle.std.specs.Prelude.{◌≡◌, length, replicate, IfOk, OnOk, IfErr};
 ghost use Rattle.td_circuit.specs.Loops.{Loop};
-ghost use Rattle.td_netlist.specs.WellFormed.{driven};
+ghost use Rattle.td_nets.specs.WellFormed.{driven};
 ghost use Rattle.td_circuit.specs.Names.{names_in};
 ghost use Rattle.td_circuit.specs.Order.{IsOrder, FitsFault};
 ghost use Rattle.td_circuit.specs.Drivers.{AreFanIns};
@@ -15,7 +15,7 @@ use crate::order::{Driver, OrderFault, order_of};
 use crate::plan::{gate_drivers, gates_of, numbers_of, output_drivers, places_of};
 use crate::resolve::{fan_ins_of, names_of};
 use std::alloc::{AllocError, Global};
-use td_netlist::{Name, Netlist};
+use td_nets::{Name, Netlist};
 use thiserror::Error;
 
 /// Why a netlist has no circuit.
@@ -48,16 +48,19 @@ struct Numbers {
     gate_outputs: Vec<u32>,
 }
 
-/// The parts of a circuit beside its netlist: which gate of the netlist is at each place, and the numbers.
+/// The parts of a circuit beside its netlist: which gate of the netlist is at each place, the numbers, and the moments
+/// of the inputs.
 #[derive(Debug, Drop)]
 struct Plan {
     order: Vec<usize>,
     numbers: Numbers,
+    moments: Vec<u64>,
 }
 
-/// The circuit of a netlist. An error hands the netlist back.
+/// The circuit of a netlist, whose inputs all take their second levels at moment 0. An error hands the netlist back.
 pub fn build(alloc: Global, netlist: Netlist) -> Result<Circuit, (Netlist, BuildFault)>
     ensures netlist { IfOk result (λ circuit. circuit.netlist ≡ netlist) }
+    ensures moments { IfOk result (λ circuit. circuit.moments ≡ replicate (length netlist.inputs) 0) }
     // There is a circuit only where there is no loop, and an error names a net of a loop.
     ensures acyclic { OnOk result (¬ Loop netlist) }
     ensures returned { IfErr result (λ refused. refused.0 ≡ netlist) }
@@ -70,6 +73,7 @@ pub fn build(alloc: Global, netlist: Netlist) -> Result<Circuit, (Netlist, Build
             gates: plan.numbers.gates,
             outputs: plan.numbers.outputs,
             gate_outputs: plan.numbers.gate_outputs,
+            moments: plan.moments,
         }),
         Err(fault) => Err((netlist, fault)),
     }
@@ -85,7 +89,12 @@ fn plan_of(alloc: Global, netlist: &Netlist) -> Result<Plan, BuildFault>
     match order_of(alloc, fan_ins) {
         Ok(order) => {
             let numbers = numbers_for(alloc, netlist, &names, fan_ins, order.as_slice())?;
-            Ok(Plan { order, numbers })
+            let moments = vec![in alloc; 0; netlist.inputs().len()]?;
+            Ok(Plan {
+                order,
+                numbers,
+                moments,
+            })
         }
         Err(fault) => Err(fault_of(netlist, fan_ins, fault)),
     }

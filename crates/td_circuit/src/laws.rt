@@ -2,7 +2,8 @@
 
 ghost use Rattle.td_circuit.specs.Laws.{NumberingsExist};
 
-/// Each netlist without a loop has a numbering: its gates can stand in an order in which each reads lower nets.
+/// Each netlist without a loop has a numbering, whatever the moments of its inputs: its gates can stand in an order in
+/// which each reads lower nets.
 pub fn numberings_exist()
     ensures { NumberingsExist }
 {}

@@ -11,6 +11,3 @@ mod resolve;
 
 pub use building::{BuildFault, build};
 pub use circuit::{Circuit, Gate};
-
-#[cfg(test)]
-mod tests;

@@ -3,3 +3,5 @@ pub mod Refusing
 pub mod Outputs
 pub mod Programs
 pub mod Missing
+pub mod Moments
+pub mod Questions

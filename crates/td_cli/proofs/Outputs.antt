@@ -4,7 +4,7 @@ use Rattle.std.specs.Prelude.{slice_get}
 use Rattle.std.specs.List.{flat_map}
 use Rattle.std.proofs.lemmas.List.{length-map}
 use Rattle.td_gates.proofs.Places.{some-same, slice_get-some, slice_get-within, get-slice_get, slice_get-get, slice_get-map_some}
-use Rattle.td_netlist.specs.Netlist.{Name, Low, High, Named}
+use Rattle.td_nets.specs.Netlist.{Name, Low, High, Named}
 use Rattle.td_gates.specs.declared.primitives.Level.TheVariants.{X}
 use Rattle.td_gates.specs.Wave.{Wave, last}
 use Rattle.td_circuit.specs.Numbering.{Numbered, nets, IsNumbering}

@@ -19,12 +19,14 @@ use Rattle.td_cli.specs.declared.refusal.Refusal.{Refusal}
 use Rattle.td_cli.specs.declared.refusal.Refusal.TheVariants as refusal
 use Rattle.td_command.specs.declared.command.Request.{Request}
 use Rattle.td_cli.specs.Files.{FileStep, Made, Ended, FileText, HasBeginning, IsWritten, IsLeft, AreWritten, Takes}
+use Rattle.td_cli.specs.declared.asking.QuestionWords.{QuestionWords}
+use Rattle.td_cli.specs.Vectors.{words_of}
 use Rattle.td_cli.specs.Refusals.{unwritten_text}
-use Rattle.td_cli.specs.Outcomes.{HasNoCircuit}
+use Rattle.td_cli.specs.Outcomes.{HasNoAnswer}
 use Rattle.td_cli.specs.WorstReports.{IsWorstReport}
 use Rattle.td_command.specs.CommandLine.{kinds_of}
 use Rattle.td_cli.specs.Ends.{Product, Streams, streams, Tells, TellsReason, TellsUnread, TellsUnwritten, Says, Ends}
-use Rattle.td_cli.specs.Requests.{Disk, Reads, HoldsOnFile, words_of, certificate_files, search_ending, IsWorstProduct, IsOutOfMemory, IsShown, TellsText, RequestEnds, ProgramEnds}
+use Rattle.td_cli.specs.Requests.{Disk, Reads, HoldsOnFile, certificate_files, search_ending, IsWorstProduct, IsOutOfMemory, IsShown, TellsText, RequestEnds, ProgramEnds}
 
 -- a kind whose text goes to standard error isn't
 pub not_shown : (k : ErrorKind) → (k ≢ kind.DisplayHelp) × (k ≢ kind.DisplayVersion) → ¬ IsShown k
@@ -220,9 +222,9 @@ no_name word certificate none = ap (λ (it : Option (Bor (List ℕ))). certifica
 abbrev pub certificate_file : List ℕ → Certificate → FileText
 certificate_file name certificate = record { name = name; text = spelling certificate }
 
-module _ (text : List ℕ) (default : Delay) (budget : ℕ) (b : List ℕ → Type 0) where
+module _ (text : List ℕ) (default : Delay) (words : QuestionWords) (budget : ℕ) (b : List ℕ → Type 0) where
   abbrev pub WorstEnds : Option (List ℕ) → List FileStep → Status → Streams → Streams → Type 0
-  WorstEnds name = Ends (IsWorstProduct text default budget name) (HasNoCircuit text default) b
+  WorstEnds name = Ends (IsWorstProduct text default words budget name) (HasNoAnswer text default words) b
 
   -- of the name that is given
   pub named : (word : Option (Bor (List ℕ))) (name : Bor (List ℕ)) (steps : List FileStep) (status : Status) (old new : Streams) → word ≡ Some name
@@ -232,7 +234,7 @@ module _ (text : List ℕ) (default : Delay) (budget : ℕ) (b : List ℕ → Ty
 
   -- the report of a search was not said
   pub lost_report : (name : Option (List ℕ)) (report : List ℕ) (certificate : Option Certificate) (status : Status) (old new : Streams)
-      → IsWorstReport text default budget report certificate → Failed old.out new.out report
+      → IsWorstReport text default words budget report certificate → Failed old.out new.out report
       → Tells old.err new.err (unwritten_text (codes "stdout")) → status ≡ Device → WorstEnds name [] status old new
   lost_report name report certificate status old new is broke told ends = inr (inr (inl (record {
     product = record { report = report; files = certificate_files name certificate; ending = search_ending certificate };
@@ -245,7 +247,7 @@ module _ (text : List ℕ) (default : Delay) (budget : ℕ) (b : List ℕ → Ty
 
   -- the report of a search was said, and no file is due
   pub without_file : (name : Option (List ℕ)) (report : List ℕ) (certificate : Option Certificate) (status : Status) (old new : Streams)
-      → IsWorstReport text default budget report certificate → certificate_files name certificate ≡ []
+      → IsWorstReport text default words budget report certificate → certificate_files name certificate ≡ []
       → Sent old.out new.out report → new.err ≡ old.err → status ≡ search_ending certificate → WorstEnds name [] status old new
   without_file name report certificate status old new is none sent silent ends = inl (record {
     product = record { report = report; files = certificate_files name certificate; ending = search_ending certificate };
@@ -258,7 +260,7 @@ module _ (text : List ℕ) (default : Delay) (budget : ℕ) (b : List ℕ → Ty
 
   -- the report of a search and its certificate were written
   pub with_file : (name report : List ℕ) (certificate : Certificate) (steps : List FileStep) (status : Status) (old new : Streams)
-      → IsWorstReport text default budget report (Some certificate) → IsWritten (certificate_file name certificate) steps
+      → IsWorstReport text default words budget report (Some certificate) → IsWritten (certificate_file name certificate) steps
       → Sent old.out new.out report → new.err ≡ old.err → status ≡ Done → WorstEnds (Some name) steps status old new
   with_file name report certificate steps status old new is written sent silent ends = inl (record {
     product = record { report = report; files = certificate_file name certificate ∷ []; ending = Done };
@@ -271,7 +273,7 @@ module _ (text : List ℕ) (default : Delay) (budget : ℕ) (b : List ℕ → Ty
 
   -- the certificate of a search was not written
   pub lost_file : (name report : List ℕ) (certificate : Certificate) (fault : WriteFault) (steps : List FileStep) (status : Status) (old new : Streams)
-      → IsWorstReport text default budget report (Some certificate) → IsLeft (b name) (certificate_file name certificate) fault steps
+      → IsWorstReport text default words budget report (Some certificate) → IsLeft (b name) (certificate_file name certificate) fault steps
       → Sent old.out new.out report → TellsUnwritten name fault old.err new.err → status ≡ Device → WorstEnds (Some name) steps status old new
   lost_file name report certificate fault steps status old new is left sent told ends = inr (inr (inr (record {
     product = record { report = report; files = certificate_file name certificate ∷ []; ending = Done };

@@ -3,8 +3,7 @@ use Rattle.std.proofs.Common.{◌≡◌, ℕ, zero, suc, ◌+◌, ◌*◌, ◌<�
 use Rattle.std.specs.Prelude.{IfOk, IfNone, Option, None, Some, Result, Ok, Err}
 use Rattle.std.proofs.lemmas.List.{length-map, length-replicate}
 use Rattle.td_domain.specs.declared.cubes.Trit.{Trit}
-use Rattle.td_domain.specs.declared.cubes.Trit.TheVariants.{Free}
-use Rattle.td_cli.specs.Vectors.{SpellsVector, AreTrits, woven}
+use Rattle.td_cli.specs.Vectors.{SpellsVector, AreGiven, woven}
 
 module _ {S : Type 0} (character : S → ℕ) where
   -- a character that is no symbol's spells no vector
@@ -44,10 +43,11 @@ if_none P Q f (Err e) h = tt
 
 -- ---- cubes
 
--- there is a trit for each input
-pub trits-length : (count : ℕ) (word : Option (List ℕ)) (trits : List Trit) → AreTrits count word trits → length trits ≡ count
-trits-length count None trits are = ap length are ∙ length-replicate count Free
-trits-length count (Some word) trits are = are.fits
+-- there is a symbol for each input
+pub given-length : {S : Type 0} (character : S → ℕ) (left_out : S) (count : ℕ) (word : Option (List ℕ)) (symbols : List S)
+    → AreGiven character left_out count word symbols → length symbols ≡ count
+given-length character left_out count None symbols are = ap length are ∙ length-replicate count left_out
+given-length character left_out count (Some word) symbols are = are.fits
 
 -- one more input
 pub woven-more : (firsts seconds : List Trit) (i : ℕ) (d : Trit) → i < length firsts → length firsts ≡ length seconds

@@ -2,7 +2,7 @@
 use Rattle.std.specs.Prelude.{◌≡◌, ℕ, List, [], ◌++◌, codes, decimal, Option, Some, None}
 use Rattle.td_gates.specs.declared.timing.Delay.{Delay}
 use Rattle.td_certificate.specs.declared.certificate.Certificate.{Certificate}
-use Rattle.td_certificate.specs.Spelling.{Spells}
+use Rattle.td_certificate.specs.Spelling.{Spells, question_text}
 use Rattle.td_checker.specs.declared.verdict.Verdict.{Verdict}
 use Rattle.td_checker.specs.declared.verdict.Verdict.TheVariants.{Accepted}
 use Rattle.td_checker.specs.Verdicts.{verdict_number, verdict_name, verdict_line}
@@ -11,9 +11,10 @@ use Rattle.td_cli.specs.declared.status.Status.{Status}
 use Rattle.td_cli.specs.declared.status.Status.TheVariants as status
 use Rattle.td_cli.specs.Reports.{newline}
 
--- the time of a certificate that is accepted
-abbrev pub accepted_text : ℕ → List ℕ
-accepted_text time = codes "accepted " ++ decimal time ++ newline
+-- the time of a certificate that is accepted, and the lines of its text that tell what it is about, which the first version of
+-- the text hasn't
+abbrev pub accepted_text : Certificate → List ℕ
+accepted_text certificate = codes "accepted " ++ decimal certificate.time ++ newline ++ question_text certificate.question
 
 -- the line of the certificate's text that a verdict is about, where it is about one
 abbrev pub place_text : Option ℕ → List ℕ
@@ -30,20 +31,18 @@ abbrev pub ending_of : Verdict → Status
 ending_of Accepted = status.Done
 ending_of other = status.Rejected
 
--- the text spells a certificate with this time
-abbrev pub SpellsTime : List ℕ → ℕ → Type 0
-SpellsTime text time = (certificate : Certificate) × Spells certificate text × (certificate.time ≡ time)
-
--- the report tells this verdict: of an accepted certificate the time that its text spells
-abbrev pub TellsVerdict : List ℕ → Verdict → List ℕ → Type 0
-TellsVerdict certificate_text Accepted report = (time : ℕ) × SpellsTime certificate_text time × (report ≡ accepted_text time)
-TellsVerdict certificate_text other report = report ≡ refused_text other
+-- what is told of a certificate with this verdict
+abbrev pub verdict_text : Certificate → Verdict → List ℕ
+verdict_text certificate Accepted = accepted_text certificate
+verdict_text certificate other = refused_text other
 
 -- The two texts have a verdict, by which the program ends, and the report tells it. An accepted time is the worst delay of
--- the netlist that its text means.
+-- the pairs that the certificate admits, in the netlist that its text means, with the certificate's moments.
 pub record IsCheckReport (text : List ℕ) (default : Delay) (certificate_text : List ℕ) (ending : Status) (report : List ℕ) : Type 0 where
   pub verdict : Verdict
   pub has : HaveVerdict text default certificate_text verdict
+  pub certificate : Certificate
+  pub spells : Spells certificate certificate_text
   pub ends : ending ≡ ending_of verdict
-  pub tells : TellsVerdict certificate_text verdict report
+  pub is : report ≡ verdict_text certificate verdict
   pub worst : verdict ≡ Accepted → TellsWorst text default certificate_text

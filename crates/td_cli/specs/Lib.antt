@@ -1,5 +1,6 @@
 pub mod Statuses
 pub mod Vectors
+pub mod Admitting
 pub mod Reports
 pub mod BoundReports
 pub mod CheckReports

@@ -1,26 +1,32 @@
 -- When a command is refused, and why.
-use Rattle.std.specs.Prelude.{◌≡◌, ◌≢◌, ℕ, List, [], ◌∷◌, length, ◌⊎◌, Option}
-use Rattle.td_gates.specs.declared.primitives.Level.{Level}
+use Rattle.std.specs.Prelude.{◌≡◌, ◌≢◌, ℕ, List, [], ◌∷◌, ◌++◌, length, ◌⊎◌, Option}
 use Rattle.td_gates.specs.declared.timing.Delay.{Delay}
 use Rattle.td_netlist.specs.declared.fault.Fault.{Fault}
 use Rattle.td_netlist.specs.declared.fault.FaultKind.TheVariants as kind
 use Rattle.td_circuit.specs.declared.building.BuildFault.{BuildFault}
 use Rattle.td_circuit.specs.declared.building.BuildFault.TheVariants as build
-use Rattle.td_netlist.specs.Netlist.{Netlist}
-use Rattle.td_netlist.specs.Views.{name_of}
+use Rattle.td_nets.specs.Netlist.{Netlist}
+use Rattle.td_nets.specs.Views.{name_of}
 use Rattle.td_netlist.specs.NameFaults.{IsFaultIn}
 use Rattle.td_netlist.specs.Means.{Means}
 use Rattle.td_circuit.specs.Loops.{Loop, LiesOnLoop}
 use Rattle.td_circuit.specs.Numbering.{Numbered}
-use Rattle.td_cli.specs.declared.refusal.VectorWord.{VectorWord}
-use Rattle.td_cli.specs.declared.refusal.VectorWord.TheVariants as vector
+use Rattle.td_cli.specs.declared.vector.VectorWord.{VectorWord}
+use Rattle.td_cli.specs.declared.vector.VectorWord.TheVariants as vector
+use Rattle.td_cli.specs.declared.asking.QuestionWords.{QuestionWords}
 use Rattle.td_cli.specs.declared.refusal.Refusal.{Refusal}
 use Rattle.td_cli.specs.declared.refusal.Refusal.TheVariants as refusal
-use Rattle.td_domain.specs.declared.cubes.Trit.{Trit}
+use Rattle.td_domain.specs.Pairs.{Pair}
+use Rattle.td_domain.specs.Admits.{IsAdmitted}
+use Rattle.td_search.specs.declared.answers.SearchFault.{SearchFault}
+use Rattle.td_search.specs.declared.answers.SearchFault.TheVariants as search
+use Rattle.td_search.specs.Problems.{Problem}
 use Rattle.td_checker.specs.declared.verdict.CheckFault.{CheckFault}
 use Rattle.td_checker.specs.declared.verdict.CheckFault.TheVariants as check
 use Rattle.td_checker.specs.Checks.{IsCheckFault}
-use Rattle.td_cli.specs.Vectors.{level_character, SpellsVector, AreTrits}
+use Rattle.td_cli.specs.Vectors.{words_of, VectorWords, IsFirstBad, SpellsLevels, GivesTrits, GivesMoments}
+use Rattle.td_cli.specs.Admitting.{pair_words}
+use Rattle.td_cli.specs.WorstReports.{IsAsked}
 
 -- the refusal tells this fault of a circuit
 abbrev pub IsOfLoop : BuildFault → Refusal → Type 0
@@ -35,15 +41,6 @@ IsOfFault fault refused = (refused ≡ refusal.OutOfMemory) ⊎ ((fault.kind ≢
 pub record IsCircuitOf (text : List ℕ) (default : Delay) (circuit : Numbered) : Type 0 where
   pub means : Means text default circuit.netlist
   pub acyclic : ¬ Loop circuit.netlist
-
--- the words of a command that give something for each input, each with what it is for so many inputs to be given
-abbrev pub VectorWords : Type 1
-VectorWords = List (VectorWord × (ℕ → Type 0))
-
--- the first of the words that gives nothing for so many inputs
-abbrev pub IsFirstBad : ℕ → VectorWords → VectorWord → Type 0
-IsFirstBad count [] word = ⊥
-IsFirstBad count (given ∷ others) word = ((word ≡ given.0) × ¬ given.1 count) ⊎ (given.1 count × IsFirstBad count others word)
 
 -- the text means a netlist without a loop, for whose inputs this word gives nothing
 pub record HasBadWord (text : List ℕ) (default : Delay) (words : VectorWords) (word : VectorWord) : Type 0 where
@@ -71,21 +68,33 @@ IsRefusedFor text default words other = ⊥
 abbrev pub HasNoCircuit : List ℕ → Delay → Refusal → Type 0
 HasNoCircuit text default = IsRefusedFor text default []
 
--- the word spells a level for each of so many inputs
-abbrev pub SpellsLevels : List ℕ → ℕ → Type 0
-SpellsLevels word count = (levels : List Level) × SpellsVector level_character count word levels
-
--- the option gives trits for so many inputs
-abbrev pub GivesTrits : Option (List ℕ) → ℕ → Type 0
-GivesTrits word count = (trits : List Trit) × AreTrits count word trits
-
 -- why `sim` has no report
-abbrev pub HasNoReport : List ℕ → Delay → List ℕ → List ℕ → Refusal → Type 0
-HasNoReport text default from to = IsRefusedFor text default ((vector.From, SpellsLevels from) ∷ (vector.To, SpellsLevels to) ∷ [])
+abbrev pub HasNoReport : List ℕ → Delay → List ℕ → List ℕ → Option (List ℕ) → Refusal → Type 0
+HasNoReport text default from to at =
+    IsRefusedFor text default ((vector.From, SpellsLevels from) ∷ (vector.To, SpellsLevels to) ∷ (vector.At, GivesMoments at) ∷ [])
 
 -- why `bound` has no report
-abbrev pub HasNoBounds : List ℕ → Delay → Option (List ℕ) → Option (List ℕ) → Refusal → Type 0
-HasNoBounds text default first second = IsRefusedFor text default ((vector.First, GivesTrits first) ∷ (vector.Second, GivesTrits second) ∷ [])
+abbrev pub HasNoBounds : List ℕ → Delay → Option (List ℕ) → Option (List ℕ) → Option (List ℕ) → Refusal → Type 0
+HasNoBounds text default first second at =
+    IsRefusedFor text default ((vector.First, GivesTrits first) ∷ (vector.Second, GivesTrits second) ∷ (vector.At, GivesMoments at) ∷ [])
+
+-- the words of a search that give something for each input
+abbrev pub question_words : QuestionWords → VectorWords
+question_words words = pair_words words ++ (vector.At, GivesMoments (words_of words.at)) ∷ []
+
+-- the words ask for a worst delay, and admit no pair
+abbrev pub AdmitsNone : List ℕ → Delay → QuestionWords → Type 0
+AdmitsNone text default words = (asked : Problem) × IsAsked text default words asked × ((pair : Pair) → ¬ IsAdmitted asked.admit pair)
+
+-- the reason that tells a fault of a search
+abbrev pub unanswered : SearchFault → Refusal
+unanswered search.OutOfMemory = refusal.OutOfMemory
+unanswered search.NoPair = refusal.NoPair
+
+-- why a search has no answer
+abbrev pub HasNoAnswer : List ℕ → Delay → QuestionWords → Refusal → Type 0
+HasNoAnswer text default words refusal.NoPair = AdmitsNone text default words
+HasNoAnswer text default words other = IsRefusedFor text default (question_words words) other
 
 -- the reason that tells a fault of the checker
 abbrev pub refusal_of : CheckFault → Refusal

@@ -3,14 +3,15 @@ use Rattle.std.specs.Prelude.{ℕ, List, [], ◌++◌, codes, decimal}
 use Rattle.td_netlist.specs.declared.fault.FaultKind.{FaultKind}
 use Rattle.td_netlist.specs.declared.fault.FaultKind.TheVariants as kind
 use Rattle.td_netlist.specs.declared.fault.Fault.{Fault}
-use Rattle.td_netlist.specs.Views.{name_of}
-use Rattle.td_netlist.specs.Printed.{printed}
+use Rattle.td_netlist.specs.Kinds as kinds
+use Rattle.td_nets.specs.Views.{name_of}
+use Rattle.td_nets.specs.Printed.{printed}
 use Rattle.td_certificate.specs.declared.fault.CertFault.{CertFault}
 use Rattle.td_certificate.specs.Kinds.{kind_number, kind_name}
-use Rattle.td_cli.specs.declared.refusal.VectorWord.{VectorWord}
-use Rattle.td_cli.specs.declared.refusal.VectorWord.TheVariants as vector
+use Rattle.td_cli.specs.declared.vector.VectorWord.{VectorWord}
+use Rattle.td_cli.specs.declared.vector.VectorWord.TheVariants as vector
 use Rattle.td_cli.specs.declared.refusal.Refusal.{Refusal}
-use Rattle.td_cli.specs.declared.refusal.Refusal.TheVariants.{OutOfMemory, Unreadable, Netlist, Loop, Certificate, BadVector}
+use Rattle.td_cli.specs.declared.refusal.Refusal.TheVariants.{OutOfMemory, Unreadable, Netlist, Loop, Certificate, BadVector, NoPair}
 use Rattle.td_cli.specs.Reports.{newline}
 
 abbrev pub vector_word : VectorWord → List ℕ
@@ -18,25 +19,12 @@ vector_word vector.From = codes "FROM"
 vector_word vector.To = codes "TO"
 vector_word vector.First = codes "first"
 vector_word vector.Second = codes "second"
+vector_word vector.Hold = codes "hold"
+vector_word vector.At = codes "at"
 
 -- the number and the name of a fault of a netlist's text
 abbrev pub number_and_name : FaultKind → List ℕ
-number_and_name kind.OutOfMemory = codes "0 OutOfMemory"
-number_and_name kind.BadByte = codes "1 BadByte"
-number_and_name kind.UnexpectedEnd = codes "2 UnexpectedEnd"
-number_and_name kind.Syntax = codes "3 Syntax"
-number_and_name (kind.OutOfSubset token) = codes "4 OutOfSubset"
-number_and_name kind.ZeroDelay = codes "5 ZeroDelay"
-number_and_name kind.DelayTooFine = codes "6 DelayTooFine"
-number_and_name kind.DelayTooLarge = codes "7 DelayTooLarge"
-number_and_name kind.Redeclared = codes "8 Redeclared"
-number_and_name kind.UnknownBit = codes "9 UnknownBit"
-number_and_name kind.WidthNotOne = codes "10 WidthNotOne"
-number_and_name kind.TwoDrivers = codes "11 TwoDrivers"
-number_and_name kind.DrivenInput = codes "12 DrivenInput"
-number_and_name kind.Undriven = codes "13 Undriven"
-number_and_name kind.TooMany = codes "14 TooMany"
-number_and_name kind.PortUndeclared = codes "15 PortUndeclared"
+number_and_name told = decimal (kinds.kind_number told) ++ codes " " ++ kinds.kind_name told
 
 -- the token at which a text leaves the subset, in round brackets
 abbrev pub token_text : FaultKind → List ℕ
@@ -63,6 +51,7 @@ refusal_text (Netlist fault) = codes "tdelay: netlist fault " ++ fault_text faul
 refusal_text (Loop name) = codes "tdelay: circuit fault 1 Loop on " ++ printed (name_of name) ++ newline
 refusal_text (Certificate fault) = codes "tdelay: certificate fault " ++ certificate_fault_text fault ++ newline
 refusal_text (BadVector word) = codes "tdelay: bad vector " ++ vector_word word ++ newline
+refusal_text NoPair = codes "tdelay: no admitted pair" ++ newline
 
 -- the line that tells a file that can't be written
 abbrev pub unwritten_text : List ℕ → List ℕ

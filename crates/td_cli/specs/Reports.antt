@@ -4,15 +4,16 @@ use Rattle.std.specs.List.{flat_map}
 use Rattle.td_gates.specs.declared.primitives.Level.{Level}
 use Rattle.td_gates.specs.declared.timing.Delay.{Delay}
 use Rattle.td_gates.specs.Wave.{Wave, last}
-use Rattle.td_netlist.specs.declared.netlist.Unit.{Unit as Step}
-use Rattle.td_netlist.specs.declared.netlist.Scale.{Scale}
-use Rattle.td_netlist.specs.declared.netlist.Scale.TheVariants as scale
-use Rattle.td_netlist.specs.Netlist.{Name, Net, Named, Netlist}
-use Rattle.td_netlist.specs.Printed.{printed}
+use Rattle.td_nets.specs.declared.netlist.Unit.{Unit as Step}
+use Rattle.td_nets.specs.declared.netlist.Scale.{Scale}
+use Rattle.td_nets.specs.declared.netlist.Scale.TheVariants as scale
+use Rattle.td_nets.specs.Netlist.{Name, Net, Named, Netlist}
+use Rattle.td_nets.specs.Printed.{printed}
 use Rattle.td_netlist.specs.Means.{Means}
 use Rattle.td_circuit.specs.Loops.{Loop}
+use Rattle.td_circuit.specs.Settings.{Setting}
 use Rattle.td_circuit.specs.Run.{Runs, latest_change}
-use Rattle.td_cli.specs.Vectors.{level_character, SpellsVector}
+use Rattle.td_cli.specs.Vectors.{level_character, SpellsVector, AreMomentsOf}
 
 abbrev pub newline : List ℕ
 newline = 10 ∷ []
@@ -58,15 +59,21 @@ sim_text netlist waves =
     ++ output_lines netlist waves
     ++ time_line (latest_change (map (λ name. waves (Named name)) netlist.outputs))
 
--- The text means a netlist without a loop, the two words are vectors of its inputs, and the report is that of their run.
-pub record IsSimReport (text : List ℕ) (default : Delay) (from to report : List ℕ) : Type 0 where
-  pub netlist : Netlist
-  pub means : Means text default netlist
-  pub acyclic : ¬ Loop netlist
+-- The text means a netlist without a loop, and the option gives a moment for each of its inputs, all of them 0 where it is
+-- left out.
+pub record IsSetting (text : List ℕ) (default : Delay) (at : Option (List ℕ)) (setting : Setting) : Type 0 where
+  pub means : Means text default setting.netlist
+  pub acyclic : ¬ Loop setting.netlist
+  pub moments : AreMomentsOf (length setting.netlist.inputs) at setting.moments
+
+-- The text and the option give a setting, the two words are vectors of its inputs, and the report is that of their run.
+pub record IsSimReport (text : List ℕ) (default : Delay) (from to : List ℕ) (at : Option (List ℕ)) (report : List ℕ) : Type 0 where
+  pub setting : Setting
+  pub is_setting : IsSetting text default at setting
   pub first : List Level
   pub second : List Level
-  pub from_is : SpellsVector level_character (length netlist.inputs) from first
-  pub to_is : SpellsVector level_character (length netlist.inputs) to second
+  pub from_is : SpellsVector level_character (length setting.netlist.inputs) from first
+  pub to_is : SpellsVector level_character (length setting.netlist.inputs) to second
   pub waves : Net → Wave
-  pub runs : Runs netlist first second waves
-  pub is : report ≡ sim_text netlist waves
+  pub runs : Runs setting first second waves
+  pub is : report ≡ sim_text setting.netlist waves

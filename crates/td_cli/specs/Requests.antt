@@ -1,5 +1,5 @@
 -- How each command and the program end.
-use Rattle.std.specs.Prelude.{◌≡◌, ℕ, List, [], ◌∷◌, ◌++◌, ◌⊎◌, Option, Some, None, option_map, codes}
+use Rattle.std.specs.Prelude.{◌≡◌, ℕ, List, [], ◌∷◌, ◌++◌, ◌⊎◌, Option, Some, None, codes}
 use Rattle.std.specs.Borrow.{Bor}
 use Rattle.clap.specs.Words.{IsAmong}
 use Rattle.clap.specs.declared.error.kind.ErrorKind.{ErrorKind}
@@ -14,27 +14,30 @@ use Rattle.td_cli.specs.declared.files.ReadFault.{ReadFault}
 use Rattle.td_cli.specs.declared.files.ReadFault.TheVariants as unread
 use Rattle.td_cli.specs.declared.refusal.Refusal.{Refusal}
 use Rattle.td_cli.specs.declared.refusal.Refusal.TheVariants as refusal
+use Rattle.td_command.specs.declared.command.WorstRequest.{WorstRequest}
 use Rattle.td_command.specs.declared.command.Request.{Request}
 use Rattle.td_command.specs.declared.command.Request.TheVariants as request
 use Rattle.td_command.specs.CommandLine.{delays, kinds_of, Asks}
+use Rattle.td_cli.specs.declared.asking.QuestionWords.{QuestionWords}
+use Rattle.td_cli.specs.Vectors.{words_of}
 use Rattle.td_cli.specs.Reports.{newline, IsSimReport}
 use Rattle.td_cli.specs.BoundReports.{IsBoundReport}
 use Rattle.td_cli.specs.CheckReports.{IsCheckReport}
 use Rattle.td_cli.specs.WorstReports.{IsWorstReport}
 use Rattle.td_cli.specs.Refusals.{refusal_text, unwritten_text}
-use Rattle.td_cli.specs.Outcomes.{HasNoReport, HasNoBounds, HasNoCircuit, HasNoVerdict}
+use Rattle.td_cli.specs.Outcomes.{HasNoReport, HasNoBounds, HasNoAnswer, HasNoVerdict}
 use Rattle.td_cli.specs.Files.{FileStep, FileText}
 use Rattle.td_cli.specs.Ends.{Product, IsReportOnly, Streams, Tells, Ends}
 
 -- ---- the commands, on bytes that were read
 
 -- what `sim` says
-abbrev pub IsSimProduct : List ℕ → Delay → List ℕ → List ℕ → Product → Type 0
-IsSimProduct text default from to = IsReportOnly (IsSimReport text default from to) Done
+abbrev pub IsSimProduct : List ℕ → Delay → List ℕ → List ℕ → Option (List ℕ) → Product → Type 0
+IsSimProduct text default from to at = IsReportOnly (IsSimReport text default from to at) Done
 
 -- what `bound` says
-abbrev pub IsBoundProduct : List ℕ → Delay → Option (List ℕ) → Option (List ℕ) → Product → Type 0
-IsBoundProduct text default first second = IsReportOnly (IsBoundReport text default first second) Done
+abbrev pub IsBoundProduct : List ℕ → Delay → Option (List ℕ) → Option (List ℕ) → Option (List ℕ) → Product → Type 0
+IsBoundProduct text default first second at = IsReportOnly (IsBoundReport text default first second at) Done
 
 -- what `check` says
 abbrev pub IsCheckProduct : List ℕ → Delay → List ℕ → Product → Type 0
@@ -52,9 +55,9 @@ search_ending (Some certificate) = Done
 search_ending None = Between
 
 -- what `worst` says
-pub record IsWorstProduct (text : List ℕ) (default : Delay) (budget : ℕ) (name : Option (List ℕ)) (product : Product) : Type 0 where
+pub record IsWorstProduct (text : List ℕ) (default : Delay) (words : QuestionWords) (budget : ℕ) (name : Option (List ℕ)) (product : Product) : Type 0 where
   pub certificate : Option Certificate
-  pub is : IsWorstReport text default budget product.report certificate
+  pub is : IsWorstReport text default words budget product.report certificate
   pub files : product.files ≡ certificate_files name certificate
   pub ends : product.ending ≡ search_ending certificate
 
@@ -82,17 +85,18 @@ IsUnreadable disk name reason = (word : Bor (List ℕ)) × (reason ≡ refusal.U
 abbrev pub HoldsOnFile : Disk → List ℕ → (List ℕ → Refusal → Type 0) → Refusal → Type 0
 HoldsOnFile disk name HoldsOn reason = IsUnreadable disk name reason ⊎ Reads disk name (λ text. HoldsOn text reason)
 
-abbrev pub words_of : Option (Bor (List ℕ)) → Option (List ℕ)
-words_of word = option_map (λ word. word.now) word
+-- the words of a request that say what its search is about
+abbrev pub words_in : WorstRequest → QuestionWords
+words_in asked = record { first = asked.first; second = asked.second; hold = asked.hold; flips = asked.flips; at = asked.at }
 
 -- what is said for a request
 abbrev pub IsProductOf : Disk → Request → Product → Type 0
 IsProductOf disk (request.Sim asked) product =
-    Reads disk asked.file.now (λ text. IsSimProduct text (delays asked.rise asked.fall) asked.from.now asked.to.now product)
+    Reads disk asked.file.now (λ text. IsSimProduct text (delays asked.rise asked.fall) asked.from.now asked.to.now (words_of asked.at) product)
 IsProductOf disk (request.Bound asked) product =
-    Reads disk asked.file.now (λ text. IsBoundProduct text (delays asked.rise asked.fall) (words_of asked.first) (words_of asked.second) product)
+    Reads disk asked.file.now (λ text. IsBoundProduct text (delays asked.rise asked.fall) (words_of asked.first) (words_of asked.second) (words_of asked.at) product)
 IsProductOf disk (request.Worst asked) product =
-    Reads disk asked.file.now (λ text. IsWorstProduct text (delays asked.rise asked.fall) asked.budget (words_of asked.certificate) product)
+    Reads disk asked.file.now (λ text. IsWorstProduct text (delays asked.rise asked.fall) (words_in asked) asked.budget (words_of asked.certificate) product)
 IsProductOf disk (request.Check asked) product =
     Reads disk asked.file.now (λ text. Reads disk asked.certificate.now (λ certificate.
     IsCheckProduct text (delays asked.rise asked.fall) certificate product))
@@ -100,10 +104,10 @@ IsProductOf disk (request.Check asked) product =
 -- why a request is refused
 abbrev pub HoldsOf : Disk → Request → Refusal → Type 0
 HoldsOf disk (request.Sim asked) =
-    HoldsOnFile disk asked.file.now (λ text. HasNoReport text (delays asked.rise asked.fall) asked.from.now asked.to.now)
+    HoldsOnFile disk asked.file.now (λ text. HasNoReport text (delays asked.rise asked.fall) asked.from.now asked.to.now (words_of asked.at))
 HoldsOf disk (request.Bound asked) =
-    HoldsOnFile disk asked.file.now (λ text. HasNoBounds text (delays asked.rise asked.fall) (words_of asked.first) (words_of asked.second))
-HoldsOf disk (request.Worst asked) = HoldsOnFile disk asked.file.now (λ text. HasNoCircuit text (delays asked.rise asked.fall))
+    HoldsOnFile disk asked.file.now (λ text. HasNoBounds text (delays asked.rise asked.fall) (words_of asked.first) (words_of asked.second) (words_of asked.at))
+HoldsOf disk (request.Worst asked) = HoldsOnFile disk asked.file.now (λ text. HasNoAnswer text (delays asked.rise asked.fall) (words_in asked))
 HoldsOf disk (request.Check asked) =
     HoldsOnFile disk asked.file.now (λ text. HoldsOnFile disk asked.certificate.now (HasNoVerdict text (delays asked.rise asked.fall)))
 

@@ -1,9 +1,7 @@
 -- What `worst` prints.
 use Rattle.std.specs.Prelude.{◌≡◌, ℕ, List, ◌++◌, codes, decimal, length, Bool, Option, Some, None}
 use Rattle.td_gates.specs.declared.timing.Delay.{Delay}
-use Rattle.td_netlist.specs.Netlist.{Netlist}
-use Rattle.td_netlist.specs.Means.{Means}
-use Rattle.td_circuit.specs.Loops.{Loop}
+use Rattle.td_nets.specs.Netlist.{Netlist}
 use Rattle.td_domain.specs.Pairs.{Pair}
 use Rattle.td_certificate.specs.declared.certificate.Certificate.{Certificate}
 use Rattle.td_certificate.specs.Text.{bits}
@@ -11,8 +9,12 @@ use Rattle.td_search.specs.declared.answers.Cause.{Cause}
 use Rattle.td_search.specs.declared.answers.Cause.TheVariants as cause
 use Rattle.td_search.specs.declared.answers.Answer.{Answer}
 use Rattle.td_search.specs.declared.answers.Answer.TheVariants as answer
+use Rattle.td_search.specs.Problems.{Problem}
 use Rattle.td_search.specs.Answers.{IsAnswer, certificate_of}
-use Rattle.td_cli.specs.Reports.{newline, head_lines}
+use Rattle.td_cli.specs.declared.asking.QuestionWords.{QuestionWords}
+use Rattle.td_cli.specs.Vectors.{words_of}
+use Rattle.td_cli.specs.Admitting.{AreAdmitted}
+use Rattle.td_cli.specs.Reports.{newline, head_lines, IsSetting}
 
 abbrev pub exact_line : ℕ → List ℕ
 exact_line time = codes "exact " ++ decimal time ++ newline
@@ -49,16 +51,21 @@ abbrev pub worst_text : Netlist → Answer → List ℕ
 worst_text netlist found = head_lines netlist ++ answer_lines found
 
 -- the certificate of an exact answer
-abbrev pub certificate_in : Netlist → Answer → Option Certificate
-certificate_in netlist (answer.Exact time pair tree) = Some (certificate_of netlist time pair tree)
-certificate_in netlist (answer.Between low high pair nodes why) = None
+abbrev pub certificate_in : Problem → Answer → Option Certificate
+certificate_in asked (answer.Exact time pair tree) = Some (certificate_of asked time pair tree)
+certificate_in asked (answer.Between low high pair nodes why) = None
 
--- The text means a netlist without a loop, and the report and the certificate are those of an answer of its search.
-pub record IsWorstReport (text : List ℕ) (default : Delay) (budget : ℕ) (report : List ℕ) (certificate : Option Certificate) : Type 0 where
-  pub netlist : Netlist
-  pub means : Means text default netlist
-  pub acyclic : ¬ Loop netlist
+-- what the words of a search ask of a text: the setting, and which pairs of its inputs are admitted
+pub record IsAsked (text : List ℕ) (default : Delay) (words : QuestionWords) (asked : Problem) : Type 0 where
+  pub is_setting : IsSetting text default (words_of words.at) asked.setting
+  pub admits : AreAdmitted (length asked.setting.netlist.inputs) words asked.admit
+
+-- The report and the certificate are those of an answer to what the words ask of the text.
+pub record IsWorstReport (text : List ℕ) (default : Delay) (words : QuestionWords) (budget : ℕ) (report : List ℕ)
+    (certificate : Option Certificate) : Type 0 where
+  pub asked : Problem
+  pub is_asked : IsAsked text default words asked
   pub found : Answer
-  pub is_answer : IsAnswer netlist budget found
-  pub is : report ≡ worst_text netlist found
-  pub certified : certificate ≡ certificate_in netlist found
+  pub is_answer : IsAnswer asked budget found
+  pub is : report ≡ worst_text asked.setting.netlist found
+  pub certified : certificate ≡ certificate_in asked found

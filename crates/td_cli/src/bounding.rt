@@ -1,46 +1,54 @@
 //! The command `bound`: the bounds of a cube of pairs.
 
 ghost use Rattle.std.specs.Prelude.{◌≡◌, ℕ, ◌*◌, length, Option, Some, IfOk, IfErr};
-ghost use Rattle.std.specs.Option.{option_map};
+ghost use Rattle.td_circuit.specs.Numbering.{setting};
 ghost use Rattle.td_domain.specs.Bounds.{IsUpperBoundIn};
 ghost use Rattle.td_certificate.specs.declared.tree.BoundedBy.TheVariants as by;
+ghost use Rattle.td_cli.specs.Vectors.{words_of};
 ghost use Rattle.td_cli.specs.BoundReports.{bounds_text, IsSoundBound, IsBoundReport};
 ghost use Rattle.td_cli.specs.Outcomes.{HasNoBounds};
 
-use crate::refusal::{Refusal, VectorWord};
+use crate::refusal::Refusal;
 use crate::report;
 use crate::simulate::circuit;
 use crate::text::Text;
-use crate::vector::{cube, trits};
+use crate::timing::moments;
+use crate::vector::{VectorWord, cube, given};
 use std::alloc::{AllocError, Global};
 use td_arrival::Arrival;
 use td_circuit::Circuit;
-use td_domain::{Both, Cube, bound};
+use td_domain::{Both, Cube, Trit, bound};
 use td_gates::Delay;
 use td_ternary::Possible;
 
 /// The report of the bounds of a cube, which is given by trits for the first vector and for the second, all free where
-/// left out: by arrival windows, by possible levels, and by both at once.
+/// left out, with the moments of an option: by arrival windows, by possible levels, and by both at once.
 pub fn bounds<'a>(
     alloc: Global,
     text: &'a [u8],
     default: Delay,
     first: Option<&str>,
     second: Option<&str>,
+    at: Option<&str>,
 ) -> Result<Text, Refusal<'a>>
     // The report is that of the cube's bounds in what the text means.
     ensures report { IfOk result (λ report.
-        IsBoundReport text.now default (option_map (λ word. word.now) first.entry) (option_map (λ word. word.now) second.entry) report) }
+        IsBoundReport text.now default (words_of first.entry) (words_of second.entry) (words_of at.entry) report) }
     ensures refusal { IfErr result (λ refusal.
-        HasNoBounds text.now default (option_map (λ word. word.now) first.entry) (option_map (λ word. word.now) second.entry) refusal) }
+        HasNoBounds text.now default (words_of first.entry) (words_of second.entry) (words_of at.entry) refusal) }
 {
-    let circuit = circuit(alloc, text, default)?;
-    let Some(firsts) = trits(alloc, first, circuit.input_count())? else {
+    let mut circuit = circuit(alloc, text, default)?;
+    let inputs = circuit.input_count();
+    let Some(firsts) = given(alloc, first, inputs, Trit::Free)? else {
         return Err(Refusal::BadVector(VectorWord::First));
     };
-    let Some(seconds) = trits(alloc, second, circuit.input_count())? else {
+    let Some(seconds) = given(alloc, second, inputs, Trit::Free)? else {
         return Err(Refusal::BadVector(VectorWord::Second));
     };
+    let Some(moments) = moments(alloc, at, inputs)? else {
+        return Err(Refusal::BadVector(VectorWord::At));
+    };
+    circuit.set_moments(moments);
     let cube = cube(alloc, &firsts, &seconds)?;
     let bounds = bounds_of(alloc, &circuit, &cube)?;
     let report = report_of(alloc, &circuit, bounds)?;
@@ -57,9 +65,9 @@ struct CubeBounds {
 
 fn bounds_of(alloc: Global, circuit: &Circuit, cube: &Cube) -> Result<CubeBounds, AllocError>
     requires { length cube.now ≡ 2 * length circuit.now.netlist.inputs }
-    ensures arrivals { IfOk result (λ bounds. IsSoundBound by.Arrival circuit.now.netlist cube.now bounds.arrivals) }
-    ensures possibles { IfOk result (λ bounds. IsSoundBound by.Possible circuit.now.netlist cube.now bounds.possibles) }
-    ensures together { IfOk result (λ bounds. IsSoundBound by.Both circuit.now.netlist cube.now bounds.together) }
+    ensures arrivals { IfOk result (λ bounds. IsSoundBound by.Arrival (setting circuit.now) cube.now bounds.arrivals) }
+    ensures possibles { IfOk result (λ bounds. IsSoundBound by.Possible (setting circuit.now) cube.now bounds.possibles) }
+    ensures together { IfOk result (λ bounds. IsSoundBound by.Both (setting circuit.now) cube.now bounds.together) }
 {
     let arrivals = bound::<Arrival>(alloc, circuit, cube)?;
     let possibles = bound::<Possible>(alloc, circuit, cube)?;

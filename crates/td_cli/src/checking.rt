@@ -1,15 +1,17 @@
 //! The command `check`: the verdict on a certificate.
 
 ghost use Rattle.std.specs.Prelude.{◌≡◌, ◌++◌, ℕ, List, IfOk, IfErr, OnOk};
+ghost use Rattle.td_certificate.specs.Spelling.{question_text};
 ghost use Rattle.td_checker.specs.Checks.{HaveVerdict, TellsWorst};
 ghost use Rattle.td_checker.specs.declared.verdict.Verdict.TheVariants as Told;
-ghost use Rattle.td_cli.specs.CheckReports.{accepted_text, refused_text, place_text, ending_of, SpellsTime, TellsVerdict, IsCheckReport};
+ghost use Rattle.td_cli.specs.CheckReports.{accepted_text, refused_text, place_text, verdict_text, ending_of, IsCheckReport};
 ghost use Rattle.td_cli.specs.Outcomes.{HasNoVerdict, refusal_of};
 
 use crate::refusal::Refusal;
 use crate::status::Status;
 use crate::text::Text;
 use std::alloc::{AllocError, Global};
+use td_certificate::{Certificate, Question, push_question};
 use td_checker::{CheckFault, Verdict, check};
 use td_gates::Delay;
 
@@ -33,16 +35,16 @@ pub fn verdict_on<'a>(
     ensures refusal { IfErr result (λ refusal.
         HasNoVerdict text.now default certificate.now refusal) }
 {
-    let verdict = match check(alloc, text, default, certificate) {
-        Ok(verdict) => verdict,
+    let found = match check(alloc, text, default, certificate) {
+        Ok(found) => found,
         Err(fault) => return Err(refused(fault)),
     };
-    let Ok(report) = report_of(alloc, verdict, certificate) else {
+    let Ok(report) = report_of(alloc, found.verdict, &found.certificate) else {
         return Err(Refusal::OutOfMemory);
     };
     Ok(Checked {
         report,
-        ending: ending(verdict),
+        ending: ending(found.verdict),
     })
 }
 
@@ -68,37 +70,34 @@ fn ending(verdict: Verdict) -> Status
     }
 }
 
-/// The report of a verdict: of an accepted certificate its time.
-fn report_of(alloc: Global, verdict: Verdict, certificate: &[u8]) -> Result<Text, AllocError>
-    ensures { IfOk result (λ report. TellsVerdict certificate.now verdict report) }
+/// The report of a verdict: of an accepted certificate its time, and what it is about.
+fn report_of(alloc: Global, verdict: Verdict, certificate: &Certificate) -> Result<Text, AllocError>
+    ensures { IfOk result (λ report. report ≡ verdict_text certificate.now verdict) }
 {
     let mut report = Text::new(alloc);
     match verdict {
-        Verdict::Accepted => {
-            let time = time_of(alloc, certificate)?;
-            accepted(&mut report, time)?;
-        }
+        Verdict::Accepted => accepted(alloc, &mut report, certificate)?,
         refusal => refuses(&mut report, refusal)?,
     }
     Ok(report)
 }
 
-/// The time of the certificate that a text spells. The text was read before, so an error is want of memory.
-fn time_of(alloc: Global, certificate: &[u8]) -> Result<u64, AllocError>
-    ensures { IfOk result (λ time. SpellsTime certificate.now time) }
-{
-    match td_certificate::read(alloc, certificate) {
-        Ok(certificate) => Ok(certificate.time),
-        Err(_) => Err(AllocError),
-    }
-}
-
-fn accepted(text: &mut Text, time: u64) -> Result<(), AllocError>
-    ensures { OnOk result (text.new ≡ text.old ++ accepted_text time) }
+fn accepted(alloc: Global, text: &mut Text, certificate: &Certificate) -> Result<(), AllocError>
+    ensures { OnOk result (text.new ≡ text.old ++ accepted_text certificate.now) }
 {
     text.push(b"accepted ")?;
-    text.number(time)?;
-    text.push(b"\n")
+    text.number(certificate.time)?;
+    text.push(b"\n")?;
+    about(alloc, text, &certificate.question)
+}
+
+/// Appends the lines that tell what a certificate is about, as they stand in its text.
+fn about(alloc: Global, text: &mut Text, question: &Question) -> Result<(), AllocError>
+    ensures { OnOk result (text.new ≡ text.old ++ question_text question.now) }
+{
+    let mut lines = String::new(alloc);
+    push_question(&mut lines, question)?;
+    text.push(lines.as_bytes())
 }
 
 fn refuses(text: &mut Text, verdict: Verdict) -> Result<(), AllocError>

@@ -1,6 +1,7 @@
 //! The program `tdelay` as a function of its words, files and writers.
 #![tactic(auto)]
 
+mod asking;
 mod bounding;
 mod checking;
 mod files;
@@ -12,9 +13,11 @@ mod searching;
 mod simulate;
 mod status;
 mod text;
+mod timing;
 mod vector;
 mod writer;
 
+pub use asking::QuestionWords;
 pub use bounding::bounds;
 pub use checking::{Checked, verdict_on};
 pub use files::{Files, ReadFault, RealFiles};

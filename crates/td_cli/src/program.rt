@@ -8,14 +8,16 @@ ghost use Rattle.td_certificate.specs.Spelling.{HasSpelling, spelling};
 ghost use Rattle.td_command.specs.CommandLine.{delays, IsCarriedOut};
 ghost use Rattle.td_cli.specs.Ends.{Ends, Tells, TellsReason, TellsUnread, TellsUnwritten, Says, streams};
 ghost use Rattle.td_cli.specs.Files.{IsWritten, IsLeft, Takes};
-ghost use Rattle.td_cli.specs.Outcomes.{HasNoReport, HasNoBounds, HasNoCircuit, HasNoVerdict};
+ghost use Rattle.td_cli.specs.Outcomes.{HasNoReport, HasNoBounds, HasNoAnswer, HasNoVerdict};
 ghost use Rattle.td_cli.specs.Refusals.{unwritten_text};
-ghost use Rattle.td_cli.specs.Requests.{disk_of, words_of, IsSimProduct, IsBoundProduct, IsCheckProduct, IsWorstProduct, Reads, HoldsOnFile, RequestEnds, IsOutOfMemory, IsShown, TellsText, ProgramEnds, RefusesWords};
+ghost use Rattle.td_cli.specs.Vectors.{words_of};
+ghost use Rattle.td_cli.specs.Requests.{disk_of, words_in, IsSimProduct, IsBoundProduct, IsCheckProduct, IsWorstProduct, Reads, HoldsOnFile, RequestEnds, IsOutOfMemory, IsShown, TellsText, ProgramEnds, RefusesWords};
 ghost use Rattle.td_command.specs.declared.command.Request.TheVariants as Asked;
 ghost use Rattle.td_cli.specs.declared.refusal.Refusal.TheVariants as Reason;
 ghost use Rattle.td_cli.specs.declared.files.ReadFault.TheVariants as Fault;
 ghost use Rattle.td_cli.specs.declared.status.Status.TheVariants as Ended;
 
+use crate::asking::QuestionWords;
 use crate::bounding::bounds;
 use crate::checking::verdict_on;
 use crate::files::{Files, ReadFault};
@@ -97,7 +99,16 @@ fn run_sim<F: Files, O: Sink, E: Sink>(
         return Status::BadCommand;
     };
     match files.read(alloc, request.file) {
-        Ok(text) => carry_out_sim(alloc, &text, default, request.from, request.to, out, err),
+        Ok(text) => carry_out_sim(
+            alloc,
+            &text,
+            default,
+            request.from,
+            request.to,
+            request.at,
+            out,
+            err,
+        ),
         Err(fault) => tell_unread(alloc, err, request.file, fault),
     }
 }
@@ -124,6 +135,7 @@ fn run_bound<F: Files, O: Sink, E: Sink>(
             default,
             request.first,
             request.second,
+            request.at,
             out,
             err,
         ),
@@ -155,6 +167,7 @@ fn run_worst<F: Files, O: Sink, E: Sink>(
                 files,
                 &text,
                 default,
+                words_in(request),
                 budget,
                 request.certificate,
                 out,
@@ -162,6 +175,19 @@ fn run_worst<F: Files, O: Sink, E: Sink>(
             )
         }
         Err(fault) => tell_unread(alloc, err, request.file, fault),
+    }
+}
+
+/// The words of a request that say what its search is about.
+fn words_in(request: WorstRequest<'_>) -> QuestionWords<'_>
+    ensures { result ≡ words_in request.entry }
+{
+    QuestionWords {
+        first: request.first,
+        second: request.second,
+        hold: request.hold,
+        flips: request.flips,
+        at: request.at,
     }
 }
 
@@ -224,13 +250,14 @@ pub fn carry_out_sim<O: Sink, E: Sink>(
     default: Delay,
     from: &str,
     to: &str,
+    at: Option<&str>,
     out: &mut O,
     err: &mut E,
 ) -> Status
-    ensures { Ends (IsSimProduct text.now default from.now to.now) (HasNoReport text.now default from.now to.now) (λ _. ⊥) [] result
+    ensures { Ends (IsSimProduct text.now default from.now to.now (words_of at.entry)) (HasNoReport text.now default from.now to.now (words_of at.entry)) (λ _. ⊥) [] result
         (streams (O.output out.old) (E.output err.old)) (streams (O.output out.new) (E.output err.new)) }
 {
-    match sim(alloc, text, default, from, to) {
+    match sim(alloc, text, default, from, to, at) {
         Ok(report) => say(report.bytes(), Status::Done, out, err),
         Err(refusal) => tell_refusal(alloc, err, &refusal),
     }
@@ -243,14 +270,15 @@ pub fn carry_out_bound<O: Sink, E: Sink>(
     default: Delay,
     first: Option<&str>,
     second: Option<&str>,
+    at: Option<&str>,
     out: &mut O,
     err: &mut E,
 ) -> Status
-    ensures { Ends (IsBoundProduct text.now default (words_of first.entry) (words_of second.entry))
-        (HasNoBounds text.now default (words_of first.entry) (words_of second.entry)) (λ _. ⊥) [] result
+    ensures { Ends (IsBoundProduct text.now default (words_of first.entry) (words_of second.entry) (words_of at.entry))
+        (HasNoBounds text.now default (words_of first.entry) (words_of second.entry) (words_of at.entry)) (λ _. ⊥) [] result
         (streams (O.output out.old) (E.output err.old)) (streams (O.output out.new) (E.output err.new)) }
 {
-    match bounds(alloc, text, default, first, second) {
+    match bounds(alloc, text, default, first, second, at) {
         Ok(report) => say(report.bytes(), Status::Done, out, err),
         Err(refusal) => tell_refusal(alloc, err, &refusal),
     }
@@ -281,6 +309,7 @@ pub fn carry_out_worst<F: Files, O: Sink, E: Sink>(
     files: &mut F,
     text: &[u8],
     default: Delay,
+    words: QuestionWords<'_>,
     budget: u64,
     name: Option<&str>,
     out: &mut O,
@@ -288,10 +317,10 @@ pub fn carry_out_worst<F: Files, O: Sink, E: Sink>(
 ) -> Status
     requires { budget ≤ 10000000 }
     ensures { Takes (F.did files.old files.new) (λ steps.
-        Ends (IsWorstProduct text.now default budget (words_of name.entry)) (HasNoCircuit text.now default) (F.breaks files.old) steps result
+        Ends (IsWorstProduct text.now default words.entry budget (words_of name.entry)) (HasNoAnswer text.now default words.entry) (F.breaks files.old) steps result
         (streams (O.output out.old) (E.output err.old)) (streams (O.output out.new) (E.output err.new))) }
 {
-    let found = match worst(alloc, text, default, budget) {
+    let found = match worst(alloc, text, default, words, budget) {
         Ok(found) => found,
         Err(refusal) => return tell_refusal(alloc, err, &refusal),
     };

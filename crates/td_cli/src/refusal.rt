@@ -2,23 +2,15 @@
 
 ghost use Rattle.std.specs.Prelude.{◌≡◌, ◌++◌, OnOk};
 ghost use Rattle.td_cli.specs.Refusals.{vector_word, number_and_name, fault_text, certificate_fault_text, unreadable_text, refusal_text};
-ghost use Rattle.td_netlist.specs.Views.{name_of};
+ghost use Rattle.td_nets.specs.Views.{name_of};
 ghost use Rattle.td_cli.specs.Ends.{status_of};
 
 use crate::status::Status;
 use crate::text::Text;
+use crate::vector::VectorWord;
 use std::alloc::{AllocError, AllocFailed};
 use td_certificate::CertFault;
 use td_netlist::{Fault, FaultKind};
-
-/// A word of the command line that gives a vector.
-#[derive(Clone, Copy, Debug, PartialEq, Eq, Drop)]
-pub enum VectorWord {
-    From,
-    To,
-    First,
-    Second,
-}
 
 /// Why a command was not carried out.
 #[derive(Debug, Drop)]
@@ -32,8 +24,10 @@ pub enum Refusal<'a> {
     Loop(td_netlist::Name),
     /// The certificate's text was refused.
     Certificate(CertFault),
-    /// This word is no vector of the circuit's inputs.
+    /// This word gives nothing for the circuit's inputs.
     BadVector(VectorWord),
+    /// No pair of vectors is admitted.
+    NoPair,
 }
 
 impl<'a> From<AllocError> for Refusal<'a> {
@@ -59,6 +53,7 @@ impl<'a> Refusal<'a> {
             Refusal::Loop(_) => Status::Refused,
             Refusal::Certificate(_) => Status::Refused,
             Refusal::BadVector(_) => Status::BadCommand,
+            Refusal::NoPair => Status::Refused,
         }
     }
 
@@ -87,6 +82,7 @@ impl<'a> Refusal<'a> {
                 text.push(b"tdelay: bad vector ")?;
                 text.push(word.word())?;
             }
+            Refusal::NoPair => text.push(b"tdelay: no admitted pair")?,
         }
         text.push(b"\n")
     }
@@ -102,31 +98,19 @@ impl VectorWord {
             VectorWord::To => b"TO",
             VectorWord::First => b"first",
             VectorWord::Second => b"second",
+            VectorWord::Hold => b"hold",
+            VectorWord::At => b"at",
         }
     }
 }
 
-fn number_and_name(kind: FaultKind<'_>) -> &'static [u8]
-    ensures { result.now ≡ number_and_name kind.entry }
+/// Appends the number and the name of a fault of a netlist's text.
+fn tell_kind(text: &mut Text, kind: FaultKind<'_>) -> Result<(), AllocError>
+    ensures { OnOk result (text.new ≡ text.old ++ number_and_name kind.entry) }
 {
-    match kind {
-        FaultKind::OutOfMemory => b"0 OutOfMemory",
-        FaultKind::BadByte => b"1 BadByte",
-        FaultKind::UnexpectedEnd => b"2 UnexpectedEnd",
-        FaultKind::Syntax => b"3 Syntax",
-        FaultKind::OutOfSubset(_) => b"4 OutOfSubset",
-        FaultKind::ZeroDelay => b"5 ZeroDelay",
-        FaultKind::DelayTooFine => b"6 DelayTooFine",
-        FaultKind::DelayTooLarge => b"7 DelayTooLarge",
-        FaultKind::Redeclared => b"8 Redeclared",
-        FaultKind::UnknownBit => b"9 UnknownBit",
-        FaultKind::WidthNotOne => b"10 WidthNotOne",
-        FaultKind::TwoDrivers => b"11 TwoDrivers",
-        FaultKind::DrivenInput => b"12 DrivenInput",
-        FaultKind::Undriven => b"13 Undriven",
-        FaultKind::TooMany => b"14 TooMany",
-        FaultKind::PortUndeclared => b"15 PortUndeclared",
-    }
+    text.number(u64::from(kind.number()))?;
+    text.push(b" ")?;
+    text.word(kind.name())
 }
 
 /// Appends the line, but for its end, that tells a file that can't be read.
@@ -141,7 +125,7 @@ fn tell_unreadable(text: &mut Text, name: &str) -> Result<(), AllocError>
 fn tell_fault(text: &mut Text, fault: Fault<'_>) -> Result<(), AllocError>
     ensures { OnOk result (text.new ≡ text.old ++ fault_text fault.entry) }
 {
-    text.push(number_and_name(fault.kind))?;
+    tell_kind(text, fault.kind)?;
     text.push(b" at line ")?;
     text.number(u64::from(fault.line))?;
     match fault.kind {

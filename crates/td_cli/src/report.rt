@@ -1,13 +1,13 @@
 //! The lines of the reports.
 
 ghost use Rattle.std.specs.Prelude.{◌≡◌, ◌++◌, OnOk};
-ghost use Rattle.td_netlist.specs.Views.{name_of};
+ghost use Rattle.td_nets.specs.Views.{name_of};
 ghost use Rattle.td_cli.specs.Reports.{scale_text, unit_line, defaulted_line, moment_text, last_line, time_line};
 ghost use Rattle.td_cli.specs.BoundReports.{bound_text, bound_line};
 
 use crate::text::Text;
 use std::alloc::AllocError;
-use td_netlist::{Name, Scale, Unit};
+use td_nets::{Name, Scale, Unit};
 
 fn scale(text: &mut Text, scale: Scale) -> Result<(), AllocError>
     ensures { OnOk result (text.new ≡ text.old ++ scale_text scale) }

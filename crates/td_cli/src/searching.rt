@@ -1,22 +1,26 @@
 //! The command `worst`: the search for the worst delay.
 
-ghost use Rattle.std.specs.Prelude.{◌≡◌, ◌≤◌, ◌++◌, IfOk, IfErr, IfSome, OnOk};
+ghost use Rattle.std.specs.Prelude.{◌≡◌, ◌≤◌, ◌++◌, length, IfOk, IfErr, IfSome, OnOk};
+ghost use Rattle.td_search.specs.Problems.{problem};
 ghost use Rattle.td_certificate.specs.Spelling.{HasSpelling};
 ghost use Rattle.td_certificate.specs.Text.{bits};
 ghost use Rattle.td_cli.specs.WorstReports.{exact_line, between_line, cause_name, cause_line, from_line, to_line, nodes_line, pair_lines};
-ghost use Rattle.td_cli.specs.WorstReports.{answer_lines, worst_text, certificate_in, IsWorstReport};
-ghost use Rattle.td_cli.specs.Outcomes.{HasNoCircuit};
+ghost use Rattle.td_cli.specs.WorstReports.{answer_lines, worst_text, certificate_in, IsAsked, IsWorstReport};
+ghost use Rattle.td_cli.specs.Outcomes.{unanswered, question_words, IsRefusedFor, HasNoAnswer};
 
+use crate::asking::{QuestionWords, admit};
 use crate::refusal::Refusal;
 use crate::report;
 use crate::simulate::circuit;
 use crate::text::Text;
+use crate::timing::moments;
+use crate::vector::VectorWord;
 use std::alloc::{AllocError, Global};
-use td_certificate::Certificate;
+use td_certificate::{Certificate, Question};
 use td_circuit::Circuit;
-use td_domain::Pair;
+use td_domain::{Admit, Pair};
 use td_gates::Delay;
-use td_search::{Answer, Cause, alone, certificate_of};
+use td_search::{Answer, Cause, SearchFault, alone, certificate_of};
 
 /// The report of a search, and the certificate of an exact answer.
 #[derive(Drop)]
@@ -25,37 +29,93 @@ pub struct Found {
     pub certificate: Option<Certificate>,
 }
 
-/// The report of the search for the worst delay, which handles at most so many nodes. The budget is at most 10,000,000.
+/// What is asked: a circuit with its moments, and which pairs of its inputs are admitted.
+#[derive(Drop)]
+struct Asked {
+    circuit: Circuit,
+    admit: Admit,
+}
+
+/// What the words ask of a text.
+fn question_of<'a>(
+    alloc: Global,
+    text: &'a [u8],
+    default: Delay,
+    words: QuestionWords<'_>,
+) -> Result<Asked, Refusal<'a>>
+    ensures asked { IfOk result (λ asked. IsAsked text.now default words.entry (problem asked.circuit asked.admit)) }
+    ensures refusal { IfErr result (IsRefusedFor text.now default (question_words words.entry)) }
+{
+    let mut circuit = circuit(alloc, text, default)?;
+    let inputs = circuit.input_count();
+    let admit = match admit(alloc, words, inputs)? {
+        Ok(admit) => admit,
+        Err(word) => return Err(Refusal::BadVector(word)),
+    };
+    let Some(moments) = moments(alloc, words.at, inputs)? else {
+        return Err(Refusal::BadVector(VectorWord::At));
+    };
+    circuit.set_moments(moments);
+    Ok(Asked { circuit, admit })
+}
+
+/// The report of the search for the worst delay of what the words ask, which handles at most so many nodes. The budget is at
+/// most 10,000,000.
 pub fn worst<'a>(
     alloc: Global,
     text: &'a [u8],
     default: Delay,
+    words: QuestionWords<'_>,
     budget: u64,
 ) -> Result<Found, Refusal<'a>>
     requires { budget ≤ 10000000 }
     // The report and the certificate are those of an answer of the search.
     ensures report { IfOk result (λ found.
-        IsWorstReport text.now default budget found.report found.certificate) }
-    ensures refusal { IfErr result (λ refusal. HasNoCircuit text.now default refusal) }
+        IsWorstReport text.now default words.entry budget found.report found.certificate) }
+    ensures refusal { IfErr result (λ refusal. HasNoAnswer text.now default words.entry refusal) }
     // A certificate has a text.
     ensures spelled { IfOk result (λ found. IfSome found.certificate HasSpelling) }
 {
-    let circuit = circuit(alloc, text, default)?;
-    let answer = alone(alloc, &circuit, budget)?;
+    let Asked { circuit, admit } = question_of(alloc, text, default, words)?;
+    let moments = Vec::from_slice(alloc, circuit.moments())?;
+    let answer = match alone(alloc, &circuit, &admit, budget) {
+        Ok(answer) => answer,
+        Err(fault) => return Err(unanswered(fault)),
+    };
     let report = report_of(alloc, &circuit, &answer)?;
-    let certificate = certificate(&circuit, answer);
+    let certificate = certificate(&circuit, admit, moments, answer);
     Ok(Found {
         report,
         certificate,
     })
 }
 
-/// The certificate of an exact answer.
-fn certificate(circuit: &Circuit, answer: Answer) -> Option<Certificate>
-    ensures { result ≡ certificate_in circuit.now.netlist answer }
+/// The refusal of a search without an answer.
+fn unanswered<'a>(fault: SearchFault) -> Refusal<'a>
+    ensures { result ≡ unanswered fault }
+{
+    match fault {
+        SearchFault::OutOfMemory => Refusal::OutOfMemory,
+        SearchFault::NoPair => Refusal::NoPair,
+    }
+}
+
+/// The certificate of an exact answer. At no more inputs than there are may bits differ, and the moments are the circuit's.
+fn certificate(
+    circuit: &Circuit,
+    admit: Admit,
+    moments: Vec<u64>,
+    answer: Answer,
+) -> Option<Certificate>
+    requires flips { admit.flips ≤ length admit.held }
+    requires moments { moments.items ≡ circuit.now.moments }
+    ensures { result ≡ certificate_in (problem circuit.now admit) answer }
 {
     match answer {
-        Answer::Exact { time, pair, tree } => Some(certificate_of(circuit, time, pair, tree)),
+        Answer::Exact { time, pair, tree } => {
+            let question = Question::new(admit, moments);
+            Some(certificate_of(circuit, question, time, pair, tree))
+        }
         Answer::Between { .. } => None,
     }
 }

@@ -5,41 +5,49 @@ ghost use Rattle.td_circuit.specs.Numbering.{nets};
 ghost use Rattle.td_circuit.specs.Run.{latest_change};
 ghost use Rattle.td_circuit.specs.NetValues.{net_wave};
 ghost use Rattle.td_run.specs.Runs.{output_waves};
-ghost use Rattle.td_netlist.specs.Netlist.{Named};
+ghost use Rattle.td_nets.specs.Netlist.{Named};
 ghost use Rattle.td_cli.specs.Reports.{output_lines, sim_text, IsSimReport};
+ghost use Rattle.td_cli.specs.Vectors.{words_of};
 ghost use Rattle.td_cli.specs.Outcomes.{IsOfLoop, IsOfFault, IsCircuitOf, HasNoCircuit, HasNoReport};
 
-use crate::refusal::{Refusal, VectorWord};
+use crate::refusal::Refusal;
 use crate::report;
 use crate::text::Text;
-use crate::vector::vector;
+use crate::timing::moments;
+use crate::vector::{VectorWord, vector};
 use std::alloc::{AllocError, Global};
 use td_circuit::{BuildFault, Circuit, build};
 use td_gates::{Delay, Level};
 use td_netlist::{Fault, FaultKind, read};
 use td_run::{Run, waves};
 
-/// The report of the run of a pair of vectors: when each output changes last.
+/// The report of the run of a pair of vectors, whose inputs change at the moments of an option: when each output changes last.
 pub fn sim<'a>(
     alloc: Global,
     text: &'a [u8],
     default: Delay,
     from: &str,
     to: &str,
+    at: Option<&str>,
 ) -> Result<Text, Refusal<'a>>
-    // The report is that of the run of what the text means.
+    // The report is that of the run of what the text means, with the moments of the option.
     ensures report { IfOk result (λ report.
-        IsSimReport text.now default from.now to.now report) }
+        IsSimReport text.now default from.now to.now (words_of at.entry) report) }
     ensures refusal { IfErr result (λ refusal.
-        HasNoReport text.now default from.now to.now refusal) }
+        HasNoReport text.now default from.now to.now (words_of at.entry) refusal) }
 {
-    let circuit = circuit(alloc, text, default)?;
-    let Some(first) = vector::<Level>(alloc, from, circuit.input_count())? else {
+    let mut circuit = circuit(alloc, text, default)?;
+    let inputs = circuit.input_count();
+    let Some(first) = vector::<Level>(alloc, from, inputs)? else {
         return Err(Refusal::BadVector(VectorWord::From));
     };
-    let Some(second) = vector::<Level>(alloc, to, circuit.input_count())? else {
+    let Some(second) = vector::<Level>(alloc, to, inputs)? else {
         return Err(Refusal::BadVector(VectorWord::To));
     };
+    let Some(moments) = moments(alloc, at, inputs)? else {
+        return Err(Refusal::BadVector(VectorWord::At));
+    };
+    circuit.set_moments(moments);
     let run = waves(alloc, &circuit, &first, &second)?;
     let report = report_of(alloc, &circuit, &run)?;
     Ok(report)

@@ -2,7 +2,7 @@
 
 use std::alloc::{AllocError, Global};
 use std::marker::Model;
-use td_netlist::Name;
+use td_nets::Name;
 
 /// The bytes of a text to be written.
 #[derive(Drop)]
@@ -21,8 +21,8 @@ impl Model for Text {
 
 impl Text {
     ghost use Rattle.std.specs.Prelude.{◌≡◌, ◌++◌, [], OnOk, OnErr, decimal};
-    ghost use Rattle.td_netlist.specs.Views.{name_of};
-    ghost use Rattle.td_netlist.specs.Printed.{printed};
+    ghost use Rattle.td_nets.specs.Views.{name_of};
+    ghost use Rattle.td_nets.specs.Printed.{printed};
 
     /// An empty text.
     pub fn new(alloc: Global) -> Text

@@ -1,13 +1,22 @@
-//! Vectors in words of the command line: a character for each input.
+//! Vectors and masks in words of the command line: a character for each input.
 
 ghost use Rattle.std.specs.Prelude.{◌≡◌, ℕ, List, length, map, replicate, IfOk, IfSome, IfNone};
-ghost use Rattle.std.specs.Option.{option_map};
-ghost use Rattle.td_domain.specs.declared.cubes.Trit.{Trit as TritModel};
-ghost use Rattle.td_cli.specs.Vectors.{level_character, trit_character, SpellsVector, AreTrits, woven};
+ghost use Rattle.td_cli.specs.Vectors.{level_character, trit_character, held_character, words_of, SpellsVector, AreGiven, woven};
 
 use std::alloc::{AllocError, Global};
 use td_domain::{Cube, Trit};
 use td_gates::Level;
+
+/// A word of the command line that gives something for each input.
+#[derive(Clone, Copy, Debug, PartialEq, Eq, Drop)]
+pub enum VectorWord {
+    From,
+    To,
+    First,
+    Second,
+    Hold,
+    At,
+}
 
 /// What a vector has for each input.
 pub trait Symbol: Sized + Drop {
@@ -28,6 +37,18 @@ impl Symbol for Level {
             b'0' => Some(Level::Zero),
             b'1' => Some(Level::One),
             b'x' => Some(Level::X),
+            _ => None,
+        }
+    }
+}
+
+impl Symbol for bool {
+    ghost spelled_as = { held_character };
+
+    fn of(character: u8) -> Option<Self> {
+        match character {
+            b'=' => Some(true),
+            b'.' => Some(false),
             _ => None,
         }
     }
@@ -83,28 +104,29 @@ pub fn vector<S: Symbol>(
     }
 }
 
-/// Trits for so many inputs, all of them free.
-fn free(alloc: Global, count: usize) -> Result<Vec<Trit>, AllocError>
-    ensures { IfOk result (λ trits. trits.items ≡ replicate count TritModel.Free) }
+/// So many symbols, each of them this one.
+fn repeated<S: Symbol + Copy>(alloc: Global, symbol: S, count: usize) -> Result<Vec<S>, AllocError>
+    ensures { IfOk result (λ symbols. symbols.items ≡ replicate count symbol) }
 {
-    let mut trits = Vec::new(alloc);
+    let mut symbols = Vec::new(alloc);
     for _input in 0..count {
-        trits.push(Trit::Free)?;
+        symbols.push(symbol)?;
     }
-    Ok(trits)
+    Ok(symbols)
 }
 
-/// The trits for so many inputs that the word of an option spells, all free where the option is left out.
-pub fn trits(
+/// The symbols for so many inputs that the word of an option spells, each of them this one where the option is left out.
+pub fn given<S: Symbol + Copy>(
     alloc: Global,
     word: Option<&str>,
     count: usize,
-) -> Result<Option<Vec<Trit>>, AllocError>
-    ensures some { IfOk result (λ found. IfSome found (λ trits. AreTrits count (option_map (λ word. word.now) word.entry) trits.items)) }
-    ensures none { IfOk result (λ found. IfNone found ((trits : List TritModel) → ¬ AreTrits count (option_map (λ word. word.now) word.entry) trits)) }
+    left_out: S,
+) -> Result<Option<Vec<S>>, AllocError>
+    ensures some { IfOk result (λ found. IfSome found (λ symbols. AreGiven S.spelled_as left_out count (words_of word.entry) symbols.items)) }
+    ensures none { IfOk result (λ found. IfNone found ((symbols : List S) → ¬ AreGiven S.spelled_as left_out count (words_of word.entry) symbols)) }
 {
     match word {
-        None => Ok(Some(free(alloc, count)?)),
+        None => Ok(Some(repeated(alloc, left_out, count)?)),
         Some(word) => vector(alloc, word, count),
     }
 }

@@ -2,6 +2,10 @@
 #![tactic(auto)]
 
 #[cfg(test)]
+mod admitted;
+#[cfg(test)]
+mod moments;
+#[cfg(test)]
 mod runs;
 #[cfg(test)]
 mod searches;

@@ -38,7 +38,7 @@ pub const INVERTER: &[u8] =
 
 const NOR: &[u8] = b"module t(a, y);\ninput a;\noutput y;\nnor (y,a,a);\nendmodule\n";
 
-const PARTED: &[u8] =
+pub const PARTED: &[u8] =
     b"module t(a, y);\ninput a;\noutput y;\nnot #1 g(b,a); and #1 h(y,a,b);\nendmodule\n";
 
 const TWO_DRIVERS: &[u8] =
@@ -64,11 +64,13 @@ const LATE: &[u8] =
 const RECONVERGENT: &[u8] =
     b"module t(a, b, y);\ninput a, b;\noutput y;\nbuf #1 p1(p,b); buf #1 p2(q,b); xor #3 g(y,a,p,q);\nendmodule\n";
 
-const HIDDEN: &[u8] =
+pub const HIDDEN: &[u8] =
     b"module t(a, c, y);\ninput a, c;\noutput y;\nbuf #1 g1(d,a); or #1 g2(m,c,d); not #3 g3(k,a); and #2 g4(y,m,k);\nendmodule\n";
 
 const SLOW_ARM: &[u8] =
     b"module t(a, b, y);\ninput a, b;\noutput y;\nbuf #4 s(t,a); or #1 g(y,b,t);\nendmodule\n";
+
+const SKEW: &[u8] = b"module t(a, b, y);\ninput a, b;\noutput y;\nand #2 g(y,a,b);\nendmodule\n";
 
 pub const C17: &[u8] = b"module c17 (N1,N2,N3,N6,N7,N22,N23);
 input N1,N2,N3,N6,N7;
@@ -83,7 +85,7 @@ nand NAND2_6 (N23, N16, N19);
 endmodule
 ";
 
-pub const FILES: [(&str, &[u8]); 15] = [
+pub const FILES: [(&str, &[u8]); 16] = [
     ("inverter.v", INVERTER),
     ("nor.v", NOR),
     ("parted.v", PARTED),
@@ -99,6 +101,7 @@ pub const FILES: [(&str, &[u8]); 15] = [
     ("hidden.v", HIDDEN),
     ("slow.v", SLOW_ARM),
     ("c17.v", C17),
+    ("skew.v", SKEW),
 ];
 
 /// Each command line, what it writes to standard output, and to standard error, and its exit status.
@@ -390,7 +393,7 @@ Usage: tdelay <COMMAND>
 Commands:
   sim    Simulates one pair of vectors: when each output changes last
   bound  Bounds the delay of all pairs of vectors that two patterns allow
-  worst  Searches for the worst delay of all pairs of vectors, and a pair that has it
+  worst  Searches for the worst delay of the admitted pairs of vectors, and a pair that has it
   check  Checks the certificate of a worst delay, and trusts nothing else
   help   Print this message or the help of the given subcommand(s)
 
@@ -405,9 +408,10 @@ Usage: tdelay sim [OPTIONS] <FILE> <FROM> <TO>
 Arguments:
   <FILE>  The netlist, a path, or `stdin` for standard input
   <FROM>  The first vector: 0, 1 or x for each input in order, or `none`
-  <TO>    The second vector, applied at moment 0
+  <TO>    The second vector, which the inputs take from moment 0 or those of --at on
 
 Options:
+      --at <MOMENTS>      When each input takes its second level: a number of steps for each in order, separated by commas; all 0 where left out
       --default-rise <N>  Rise delay in steps of gates without a delay [default: 1]
       --default-fall <N>  Fall delay in steps of gates without a delay [default: 1]
   -h, --help              Print help

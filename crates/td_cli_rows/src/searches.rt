@@ -12,12 +12,12 @@ const LOST_CERTIFICATE: &[u8] =
     b"tdelay-cert 1\ncircuit 1 2\ntime 0\nfrom 0\nto 1\ns 0\ns 1\nb a 0\nb a 0\ns 1\nb a 0\nb a 0\n";
 
 /// Carries out a command over the circuits of the tests.
-fn run_words(alloc: Global, words: &[&str]) -> Result<Ended<'static>, Fail> {
+pub fn run_words(alloc: Global, words: &[&str]) -> Result<Ended<'static>, Fail> {
     carried_out(alloc, words, MemoryFiles::new(alloc, &FILES), ROOM)
 }
 
 /// The file of this name, where it was made and ended and nothing else was done.
-fn one_file<'s>(steps: &'s [MemoryStep], name: &[u8]) -> Option<&'s MemoryFile> {
+pub fn one_file<'s>(steps: &'s [MemoryStep], name: &[u8]) -> Option<&'s MemoryFile> {
     if steps.len() != 2 || steps[0].made()? != name {
         return None;
     }
@@ -177,7 +177,7 @@ fn failing_certificates(rt: HostRuntime) -> Result<(), Fail> {
 }
 
 /// Checks a certificate's text of a netlist's: what is printed, why none is, and the status.
-fn checks(
+pub fn checks(
     rt: &impl Abort,
     alloc: Global,
     netlist: &[u8],

@@ -1,20 +1,21 @@
 -- The commands as the parser fills them in, and what their words ask for where they have no fault.
-use Rattle.std.proofs.Common.{◌≡◌, ◌≤◌, List, length, Some, codes, refl, inl, inr, arith, ℕ, true}
+use Rattle.std.proofs.Common.{◌≡◌, ◌≤◌, List, length, Option, Some, codes, refl, inl, inr, arith, ℕ, true}
 use Rattle.std.specs.Prelude.{option_map, pos}
+use Rattle.std.specs.Borrow.{Bor}
 use Rattle.std.specs.List.{list_any}
 use Rattle.clap.specs.Facts.{unwrap_or_range}
 use Rattle.clap.specs.Simple.{App, Shape, built_leaf, inherited, marked_built, with_leaf_noted}
-use Rattle.clap.specs.declared.builder.value_parser.ValueParser.TheVariants.{Signed}
+use Rattle.clap.specs.declared.builder.value_parser.ValueParser.TheVariants.{Signed, Unsigned}
 use Rattle.clap.specs.Walk.{Row, Rule, Text, action_of, arg_by_id, first_of, most_values}
 use Rattle.clap.specs.declared.builder.action.ArgAction.TheVariants.{Set, Help}
-use Rattle.td_command.specs.CommandLine.{AsksBound, AsksCheck, AsksSim, AsksWorst, bound_command, check_command, program, sim_command, worst_command}
+use Rattle.td_command.specs.CommandLine.{AsksBound, AsksCheck, AsksSim, AsksWorst, HasWord, bound_command, check_command, program, sim_command, worst_command}
 use Rattle.td_command.specs.declared.command.SimRequest.{SimRequest}
 use Rattle.td_command.specs.declared.command.BoundRequest.{BoundRequest}
 use Rattle.td_command.specs.declared.command.WorstRequest.{WorstRequest}
 use Rattle.td_command.specs.declared.command.CheckRequest.{CheckRequest}
 use Rattle.td_command.proofs.Rows.{IsKnown}
 use Rattle.td_command.proofs.Levels.{IsPlainLeaf, IsTaken, has_default}
-use Rattle.td_command.proofs.Numbers.{HasOption, behind, default_there, given_text, number_there, text_there}
+use Rattle.td_command.proofs.Numbers.{HasCountOption, HasOption, behind, count_there, default_there, given_text, number_there, text_there}
 
 -- ---- the commands
 
@@ -49,6 +50,10 @@ has_option : {shape : Shape} {id : Text} {least most : ℕ} (rule : Rule) → ar
     → rule.parser ≡ Some (Signed (pos least) (pos most)) → list_any (has_default id) shape.rules ≡ true → HasOption shape id least most
 has_option rule named parser left_out = record { rule = rule; named = named; parser = parser; left_out = left_out }
 
+has_count_option : {shape : Shape} {id : Text} (rule : Rule) → arg_by_id shape.rules id ≡ Some rule
+    → rule.parser ≡ Some (Unsigned 0 18446744073709551615) → HasCountOption shape id
+has_count_option rule named parser = record { rule = rule; named = named; parser = parser }
+
 pub sim_is_plain : IsPlainLeaf sim
 sim_is_plain = record {
   known = (
@@ -61,7 +66,10 @@ sim_is_plain = record {
           known_one refl refl refl refl (omega arith),
           (
             known_one refl refl refl refl (omega arith),
-            (known_help refl refl (omega arith), tt),
+            (
+              known_one refl refl refl refl (omega arith),
+              (known_help refl refl (omega arith), tt),
+            ),
           ),
         ),
       ),
@@ -82,7 +90,10 @@ bound_is_plain = record {
           known_one refl refl refl refl (omega arith),
           (
             known_one refl refl refl refl (omega arith),
-            (known_help refl refl (omega arith), tt),
+            (
+              known_one refl refl refl refl (omega arith),
+              (known_help refl refl (omega arith), tt),
+            ),
           ),
         ),
       ),
@@ -105,7 +116,22 @@ worst_is_plain = record {
             known_one refl refl refl refl (omega arith),
             (
               known_one refl refl refl refl (omega arith),
-              (known_help refl refl (omega arith), tt),
+              (
+                known_one refl refl refl refl (omega arith),
+                (
+                  known_one refl refl refl refl (omega arith),
+                  (
+                    known_one refl refl refl refl (omega arith),
+                    (
+                      known_one refl refl refl refl (omega arith),
+                      (
+                        known_one refl refl refl refl (omega arith),
+                        (known_help refl refl (omega arith), tt),
+                      ),
+                    ),
+                  ),
+                ),
+              ),
             ),
           ),
         ),
@@ -135,14 +161,28 @@ check_is_plain = record {
 
 -- ---- what the words ask for
 
+-- the word of an option, as the program is given it
+abbrev word_of : Text → List Row → Option (Bor Text)
+word_of id rows = option_map behind (first_of id rows)
+
+word_there : (id : Text) (rows : List Row) → HasWord id rows (word_of id rows)
+word_there id rows = given_text (first_of id rows)
+
 pub asks_sim : (rows : List Row) → IsTaken sim rows → (asked : SimRequest) × AsksSim rows asked
 asks_sim rows taken =
     let file = text_there sim.rules (codes "FILE") rows (taken.given.0 refl) taken.rules in
     let from = text_there sim.rules (codes "FROM") rows (taken.given.1.0 refl) taken.rules in
     let to = text_there sim.rules (codes "TO") rows (taken.given.1.1.0 refl) taken.rules in
     let default = default_there sim rows (has_option _ refl refl refl) (has_option _ refl refl refl) taken in (
-      record { file = behind file.0; from = behind from.0; to = behind to.0; rise = default.0.rise; fall = default.0.fall },
-      record { file = file.1; from = from.1; to = to.1; default = default.1 },
+      record {
+        file = behind file.0;
+        from = behind from.0;
+        to = behind to.0;
+        at = word_of (codes "at") rows;
+        rise = default.0.rise;
+        fall = default.0.fall;
+      },
+      record { file = file.1; from = from.1; to = to.1; at = word_there (codes "at") rows; default = default.1 },
     )
 
 pub asks_bound : (rows : List Row) → IsTaken bound rows → (asked : BoundRequest) × AsksBound rows asked
@@ -151,33 +191,51 @@ asks_bound rows taken =
     let default = default_there bound rows (has_option _ refl refl refl) (has_option _ refl refl refl) taken in (
       record {
         file = behind file.0;
-        first = option_map behind (first_of (codes "first") rows);
-        second = option_map behind (first_of (codes "second") rows);
-        rise = default.0.rise;
-        fall = default.0.fall;
-      },
-      record { file = file.1; first = given_text (first_of (codes "first") rows); second = given_text (first_of (codes "second") rows); default = default.1 },
-    )
-
-pub asks_worst : (rows : List Row) → IsTaken worst rows → (asked : WorstRequest) × AsksWorst rows asked
-asks_worst rows taken =
-    let file = text_there worst.rules (codes "FILE") rows (taken.given.0 refl) taken.rules in
-    let workers = number_there worst (codes "workers") 1 1 rows (has_option _ refl refl refl) taken in
-    let budget = number_there worst (codes "budget") 0 10000000 rows (has_option _ refl refl refl) taken in
-    let default = default_there worst rows (has_option _ refl refl refl) (has_option _ refl refl refl) taken in (
-      record {
-        file = behind file.0;
-        workers = workers.0;
-        budget = budget.0;
-        certificate = option_map behind (first_of (codes "cert") rows);
+        first = word_of (codes "first") rows;
+        second = word_of (codes "second") rows;
+        at = word_of (codes "at") rows;
         rise = default.0.rise;
         fall = default.0.fall;
       },
       record {
         file = file.1;
+        first = word_there (codes "first") rows;
+        second = word_there (codes "second") rows;
+        at = word_there (codes "at") rows;
+        default = default.1;
+      },
+    )
+
+pub asks_worst : (rows : List Row) → IsTaken worst rows → (asked : WorstRequest) × AsksWorst rows asked
+asks_worst rows taken =
+    let file = text_there worst.rules (codes "FILE") rows (taken.given.0 refl) taken.rules in
+    let flips = count_there worst (codes "flips") rows (has_count_option _ refl refl) taken in
+    let workers = number_there worst (codes "workers") 1 1 rows (has_option _ refl refl refl) taken in
+    let budget = number_there worst (codes "budget") 0 10000000 rows (has_option _ refl refl refl) taken in
+    let default = default_there worst rows (has_option _ refl refl refl) (has_option _ refl refl refl) taken in (
+      record {
+        file = behind file.0;
+        first = word_of (codes "first") rows;
+        second = word_of (codes "second") rows;
+        hold = word_of (codes "hold") rows;
+        flips = flips.0;
+        at = word_of (codes "at") rows;
+        workers = workers.0;
+        budget = budget.0;
+        certificate = word_of (codes "cert") rows;
+        rise = default.0.rise;
+        fall = default.0.fall;
+      },
+      record {
+        file = file.1;
+        first = word_there (codes "first") rows;
+        second = word_there (codes "second") rows;
+        hold = word_there (codes "hold") rows;
+        flips = flips.1;
+        at = word_there (codes "at") rows;
         workers = (workers.1, workers.3);
         budget = (budget.1, budget.3);
-        certificate = given_text (first_of (codes "cert") rows);
+        certificate = word_there (codes "cert") rows;
         default = default.1;
       },
     )

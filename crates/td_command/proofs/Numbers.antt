@@ -1,5 +1,5 @@
 -- What the getters read of the arguments of a command whose words have no fault.
-use Rattle.std.proofs.Common.{◌≡◌, ◌∙◌, ◌==◌, ◌≤◌, ℕ, Bool, cond, true, false, List, [], ◌∷◌, Option, Some, None, drop, refl, sym, ap, subst, arith}
+use Rattle.std.proofs.Common.{◌≡◌, ◌∙◌, ◌==◌, ◌||◌, ◌≤◌, ℕ, Bool, cond, true, false, List, [], ◌∷◌, Option, Some, None, drop, refl, sym, ap, subst, arith}
 use Rattle.std.proofs.lemmas.Bool.{ne_eqb}
 use Rattle.std.proofs.lemmas.Int.{ints}
 use Rattle.std.proofs.lemmas.Str.Parse.{digit_from_value}
@@ -9,7 +9,7 @@ use Rattle.std.specs.Str.{bytes_eq}
 use Rattle.td_gates.specs.Delays.{Delays}
 use Rattle.td_command.proofs.Rows.{AreOfRules, IsOfRule, found_has}
 use Rattle.clap.specs.ValueTests.{accepts}
-use Rattle.std.specs.List.{list_any}
+use Rattle.std.specs.List.{find, list_any}
 use Rattle.std.specs.Str.Parse.{IsNumeral, digits_value, starts_with_minus, without_leading_plus}
 use Rattle.clap.specs.Facts.{parser_of_value}
 use Rattle.clap.specs.Lexer.{without_minus}
@@ -19,7 +19,7 @@ use Rattle.clap.specs.Walk.{Row, Rule, Text, arg_by_id, first_of, has_row, one_o
 use Rattle.clap.specs.declared.builder.value_parser.ValueParser.{ValueParser}
 use Rattle.clap.specs.declared.builder.value_parser.ValueParser.TheVariants as vp
 use Rattle.clap.proofs.ValueTestLemmas.{accepts-Accepts}
-use Rattle.td_command.specs.CommandLine.{HasDefault, HasNumber, IsNumber, delays}
+use Rattle.td_command.specs.CommandLine.{HasCount, HasDefault, HasNumber, IsNumber, delays}
 use Rattle.td_command.proofs.Levels.{IsRead, IsTaken, first_row, has_default, reads}
 
 -- ---- numbers
@@ -79,6 +79,42 @@ pub number_there : (shape : Shape) (id : Text) (least most : ℕ) (rows : List R
     → (number : ℕ) × HasNumber id rows number × (least ≤ number) × (number ≤ most)
 number_there shape id least most rows has taken =
     option_number least most id has.rule rows has.parser (reads shape.rules id has.rule rows has.named (taken.default id has.left_out) taken.rules)
+
+-- the argument of an id that has a text has a row
+first_has : (id : Text) (rows : List Row) (word : Text) → first_of id rows ≡ Some word → has_row id rows ≡ true
+first_has id [] word given = cc
+first_has id (row ∷ rest) word given = go (bytes_eq row.id id) given (first_has id rest word)
+  where
+    go : (is : Bool) → option_and_then (λ (row : Row). slice_get row.values 0) (cond is (Some row) (find (λ row. bytes_eq row.id id) rest)) ≡ Some word
+        → (first_of id rest ≡ Some word → has_row id rest ≡ true) → (is || has_row id rest) ≡ true
+    go true given behind = refl
+    go false given behind = behind given
+
+-- the command has an option of this id with any number of 64 bits
+pub record HasCountOption (shape : Shape) (id : Text) : Type 0 where
+  pub rule : Rule
+  pub named : arg_by_id shape.rules id ≡ Some rule
+  pub parser : rule.parser ≡ Some (vp.Unsigned 0 18446744073709551615)
+
+-- a text that passed is a number of 64 bits
+count_read : (id : Text) (rule : Rule) (rows : List Row) → rule.parser ≡ Some (vp.Unsigned 0 18446744073709551615)
+    → IsRead id rule rows → (number : ℕ) × HasCount id rows (Some number)
+count_read id rule rows parser read =
+    let is : parser_of_value rule.parser ≡ vp.Unsigned 0 18446744073709551615 = ap parser_of_value parser in
+    let accepted = subst (λ (p : ValueParser). accepts rule.ignore_case p read.value ≡ true) is read.passes in
+    let found = accepts-Accepts rule.ignore_case (vp.Unsigned 0 18446744073709551615) read.value accepted in
+    let text : one_of id rows ≡ Some read.value = read.one ∙ ap (λ (p : ValueParser). Some (read_as (reading_of p) read.value)) is in
+    (digits_value 10 (without_leading_plus read.value), ((read.value, text, (found.0, refl)), found.1))
+
+pub count_there : (shape : Shape) (id : Text) (rows : List Row) → HasCountOption shape id → IsTaken shape rows
+    → (number : Option ℕ) × HasCount id rows number
+count_there shape id rows has taken = go (first_of id rows) refl
+  where
+    go : (word : Option Text) → first_of id rows ≡ word → (number : Option ℕ) × HasCount id rows number
+    go None left_out = (None, left_out)
+    go (Some word) given =
+        let found = count_read id has.rule rows has.parser (reads shape.rules id has.rule rows has.named (first_has id rows word given) taken.rules) in
+        (Some found.0, found.1)
 
 pub default_there : (shape : Shape) (rows : List Row) → HasOption shape (codes "default-rise") 1 1000000000
     → HasOption shape (codes "default-fall") 1 1000000000 → IsTaken shape rows → (default : Delays) × HasDefault rows default

@@ -1,8 +1,9 @@
 -- The command line as the parser of command lines is told it, and what the words ask for.
-use Rattle.std.specs.Prelude.{◌≡◌, ℕ, ◌≤◌, List, [], ◌∷◌, codes, pos, true, Option, Some, None, option_map}
+use Rattle.std.specs.Prelude.{◌≡◌, ℕ, ◌≤◌, ◌<◌, ◌^◌, List, [], ◌∷◌, codes, pos, true, Option, Some, None, option_map}
+use Rattle.std.specs.Borrow.{Bor}
 use Rattle.std.specs.Str.Parse.{IsNumeral, digits_value, without_leading_plus}
 use Rattle.clap.specs.Words.{App, Kinds, Row, Rule, Text, fault_of, first_of, new_app, new_rule, one_of, subcommand_of, with_rule, with_subcommand}
-use Rattle.clap.specs.declared.builder.value_parser.ValueParser.TheVariants.{Signed}
+use Rattle.clap.specs.declared.builder.value_parser.ValueParser.TheVariants.{Signed, Unsigned}
 use Rattle.td_gates.specs.Delays.{Delays, IsInRange}
 use Rattle.td_command.specs.declared.command.SimRequest.{SimRequest}
 use Rattle.td_command.specs.declared.command.BoundRequest.{BoundRequest}
@@ -26,24 +27,44 @@ abbrev pub number_option : Text → ℕ → ℕ → Text → Rule
 number_option id least most left_out =
     record (option id) { parser = Some (Signed (pos least) (pos most)); defaults = left_out ∷ [] }
 
+-- an option with any number of 64 bits, and none where it is left out
+abbrev pub count_option : Text → Rule
+count_option id = record (option id) { parser = Some (Unsigned 0 18446744073709551615) }
+
 -- the delays of gates that state none
 abbrev pub with_default : App → App
 with_default app =
     with_rule (with_rule app (number_option (codes "default-rise") 1 1000000000 (codes "1")))
     (number_option (codes "default-fall") 1 1000000000 (codes "1"))
 
+-- when each input takes its second level
+abbrev pub with_moments : App → App
+with_moments app = with_rule app (option (codes "at"))
+
+-- the pairs of a cube, by the trits of their two vectors
+abbrev pub with_cube : App → App
+with_cube app = with_rule (with_rule app (option (codes "first"))) (option (codes "second"))
+
+-- the pairs that a search admits: those of a cube, where some inputs are held and only so many may flip
+abbrev pub with_admitted : App → App
+with_admitted app = with_rule (with_rule (with_cube app) (option (codes "hold"))) (count_option (codes "flips"))
+
+-- how a search goes, and where its certificate goes
+abbrev pub with_search : App → App
+with_search app =
+    with_rule (with_rule (with_rule app (number_option (codes "workers") 1 1 (codes "1")))
+    (number_option (codes "budget") 0 10000000 (codes "1000000"))) (option (codes "cert"))
+
 abbrev pub sim_command : App
-sim_command = with_default (with_rule (with_rule (with_rule (new_app (codes "sim"))
-    (needed (codes "FILE"))) (needed (codes "FROM"))) (needed (codes "TO")))
+sim_command = with_default (with_moments (with_rule (with_rule (with_rule (new_app (codes "sim"))
+    (needed (codes "FILE"))) (needed (codes "FROM"))) (needed (codes "TO"))))
 
 abbrev pub bound_command : App
-bound_command = with_default (with_rule (with_rule (with_rule (new_app (codes "bound"))
-    (needed (codes "FILE"))) (option (codes "first"))) (option (codes "second")))
+bound_command = with_default (with_moments (with_cube (with_rule (new_app (codes "bound")) (needed (codes "FILE")))))
 
 abbrev pub worst_command : App
-worst_command = with_default (with_rule (with_rule (with_rule (with_rule (new_app (codes "worst"))
-    (needed (codes "FILE"))) (number_option (codes "workers") 1 1 (codes "1")))
-    (number_option (codes "budget") 0 10000000 (codes "1000000"))) (option (codes "cert")))
+worst_command =
+    with_default (with_search (with_moments (with_admitted (with_rule (new_app (codes "worst")) (needed (codes "FILE"))))))
 
 abbrev pub check_command : App
 check_command = with_default (with_rule (with_rule (new_app (codes "check"))
@@ -74,6 +95,15 @@ IsNumber text number = IsNumeral 10 (without_leading_plus text) × (digits_value
 abbrev pub HasNumber : Text → List Row → ℕ → Type 0
 HasNumber id rows number = (text : Text) × (one_of id rows ≡ Some text) × IsNumber text number
 
+-- the option is given as this number of 64 bits, or left out
+abbrev pub HasCount : Text → List Row → Option ℕ → Type 0
+HasCount id rows None = first_of id rows ≡ None
+HasCount id rows (Some number) = HasNumber id rows number × (number < 2 ^ 64)
+
+-- the option is given as this word, or left out
+abbrev pub HasWord : Text → List Row → Option (Bor Text) → Type 0
+HasWord id rows word = first_of id rows ≡ option_map (λ word. word.now) word
+
 abbrev pub delays : ℕ → ℕ → Delays
 delays rise fall = record { rise = rise; fall = fall }
 
@@ -96,21 +126,28 @@ pub record AsksSim (rows : List Row) (asked : SimRequest) : Type 0 where
   pub file : first_of (codes "FILE") rows ≡ Some asked.file.now
   pub from : first_of (codes "FROM") rows ≡ Some asked.from.now
   pub to : first_of (codes "TO") rows ≡ Some asked.to.now
+  pub at : HasWord (codes "at") rows asked.at
   pub default : HasDefault rows (delays asked.rise asked.fall)
 
 -- the words of `bound` ask for this
 pub record AsksBound (rows : List Row) (asked : BoundRequest) : Type 0 where
   pub file : first_of (codes "FILE") rows ≡ Some asked.file.now
-  pub first : first_of (codes "first") rows ≡ option_map (λ word. word.now) asked.first
-  pub second : first_of (codes "second") rows ≡ option_map (λ word. word.now) asked.second
+  pub first : HasWord (codes "first") rows asked.first
+  pub second : HasWord (codes "second") rows asked.second
+  pub at : HasWord (codes "at") rows asked.at
   pub default : HasDefault rows (delays asked.rise asked.fall)
 
 -- the words of `worst` ask for this
 pub record AsksWorst (rows : List Row) (asked : WorstRequest) : Type 0 where
   pub file : first_of (codes "FILE") rows ≡ Some asked.file.now
+  pub first : HasWord (codes "first") rows asked.first
+  pub second : HasWord (codes "second") rows asked.second
+  pub hold : HasWord (codes "hold") rows asked.hold
+  pub flips : HasCount (codes "flips") rows asked.flips
+  pub at : HasWord (codes "at") rows asked.at
   pub workers : HasWorkers rows asked.workers
   pub budget : HasBudget rows asked.budget
-  pub certificate : first_of (codes "cert") rows ≡ option_map (λ word. word.now) asked.certificate
+  pub certificate : HasWord (codes "cert") rows asked.certificate
   pub default : HasDefault rows (delays asked.rise asked.fall)
 
 -- the words of `check` ask for this

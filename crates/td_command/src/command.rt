@@ -1,9 +1,10 @@
 //! The command line.
 
-ghost use Rattle.std.specs.Prelude.{◌≡◌, ◌<◌, ℕ, codes, map, false, IfOk, IfErr, IfSome, IfNone};
+ghost use Rattle.std.specs.Prelude.{◌≡◌, ◌<◌, ◌^◌, ℕ, codes, map, false, IfOk, IfErr, IfSome, IfNone};
 ghost use Rattle.clap.specs.Words.{app_of, rule_of, found_of, rows_of, subcommand_rows_of, HasKind};
-ghost use Rattle.td_command.specs.CommandLine.{needed, option, number_option, sim_command, bound_command, worst_command, check_command, program, with_default};
-ghost use Rattle.td_command.specs.CommandLine.{HasNumber, HasDefault, HasWorkers, HasBudget, AsksSim, AsksBound, AsksWorst, AsksCheck, EnteredAsks, kinds_of, Asks, IsAnswered};
+ghost use Rattle.td_command.specs.CommandLine.{needed, option, number_option, count_option, sim_command, bound_command, worst_command, check_command, program};
+ghost use Rattle.td_command.specs.CommandLine.{with_default, with_moments, with_cube, with_admitted, with_search};
+ghost use Rattle.td_command.specs.CommandLine.{HasNumber, HasCount, HasDefault, HasWorkers, HasBudget, AsksSim, AsksBound, AsksWorst, AsksCheck, EnteredAsks, kinds_of, Asks, IsAnswered};
 
 use clap::builder::ValueParser;
 use clap::{Arg, ArgMatches, Command, Error};
@@ -17,6 +18,8 @@ pub struct SimRequest<'a> {
     pub file: &'a str,
     pub from: &'a str,
     pub to: &'a str,
+    /// The moment at which each input takes its second level.
+    pub at: Option<&'a str>,
     /// The delays of gates that state none.
     pub rise: u32,
     pub fall: u32,
@@ -28,6 +31,8 @@ pub struct BoundRequest<'a> {
     pub file: &'a str,
     pub first: Option<&'a str>,
     pub second: Option<&'a str>,
+    /// The moment at which each input takes its second level.
+    pub at: Option<&'a str>,
     /// The delays of gates that state none.
     pub rise: u32,
     pub fall: u32,
@@ -37,6 +42,14 @@ pub struct BoundRequest<'a> {
 #[derive(Clone, Copy, Debug)]
 pub struct WorstRequest<'a> {
     pub file: &'a str,
+    pub first: Option<&'a str>,
+    pub second: Option<&'a str>,
+    /// Which inputs keep their level.
+    pub hold: Option<&'a str>,
+    /// At how many inputs, at most, the two vectors differ.
+    pub flips: Option<u64>,
+    /// The moment at which each input takes its second level.
+    pub at: Option<&'a str>,
     /// How many threads search, one for now.
     pub workers: u32,
     /// The most nodes that the search handles, at most 10,000,000.
@@ -106,6 +119,14 @@ fn number_option<'a>(
         .default_value(left_out)
 }
 
+/// An option with any number of 64 bits.
+fn count_option<'a>(alloc: Global, id: &'a str, help: &'a str) -> Arg<'a>
+    ensures rule { rule_of result ≡ count_option id.entry.now }
+    ensures local { result.global ≡ false }
+{
+    option(alloc, id, "N", help).value_parser(ValueParser::unsigned(0, u64::MAX))
+}
+
 fn file<'a>(alloc: Global) -> Arg<'a>
     ensures rule { rule_of result ≡ needed (codes "FILE") }
     ensures local { result.global ≡ false }
@@ -140,25 +161,22 @@ fn with_default<'a>(alloc: Global, command: Command<'a>) -> Result<Command<'a>, 
     command.arg(rise)?.arg(fall)
 }
 
-fn sim_command<'a>(alloc: Global) -> Result<Command<'a>, AllocError>
-    ensures { IfOk result (λ new. app_of new ≡ sim_command) }
+/// When each input takes its second level, as an option.
+fn with_moments<'a>(alloc: Global, command: Command<'a>) -> Result<Command<'a>, AllocError>
+    ensures { IfOk result (λ new. app_of new ≡ with_moments (app_of command.entry)) }
 {
-    let from = needed(
+    let at = option(
         alloc,
-        "FROM",
-        "The first vector: 0, 1 or x for each input in order, or `none`",
+        "at",
+        "MOMENTS",
+        "When each input takes its second level: a number of steps for each in order, separated by commas; all 0 where left out",
     );
-    let to = needed(alloc, "TO", "The second vector, applied at moment 0");
-    let command = Command::new(alloc, "sim")
-        .about("Simulates one pair of vectors: when each output changes last")
-        .arg(file(alloc))?
-        .arg(from)?
-        .arg(to)?;
-    with_default(alloc, command)
+    command.arg(at)
 }
 
-fn bound_command<'a>(alloc: Global) -> Result<Command<'a>, AllocError>
-    ensures { IfOk result (λ new. app_of new ≡ bound_command) }
+/// The pairs of a cube, as two options.
+fn with_cube<'a>(alloc: Global, command: Command<'a>) -> Result<Command<'a>, AllocError>
+    ensures { IfOk result (λ new. app_of new ≡ with_cube (app_of command.entry)) }
 {
     let first = option(
         alloc,
@@ -170,18 +188,32 @@ fn bound_command<'a>(alloc: Global) -> Result<Command<'a>, AllocError>
         alloc,
         "second",
         "TRITS",
-        "The second vector, applied at moment 0",
+        "The second vector, which the inputs take from moment 0 or those of --at on",
     );
-    let command = Command::new(alloc, "bound")
-        .about("Bounds the delay of all pairs of vectors that two patterns allow")
-        .arg(file(alloc))?
-        .arg(first)?
-        .arg(second)?;
-    with_default(alloc, command)
+    command.arg(first)?.arg(second)
 }
 
-fn worst_command<'a>(alloc: Global) -> Result<Command<'a>, AllocError>
-    ensures { IfOk result (λ new. app_of new ≡ worst_command) }
+/// The pairs that a search admits, as options.
+fn with_admitted<'a>(alloc: Global, command: Command<'a>) -> Result<Command<'a>, AllocError>
+    ensures { IfOk result (λ new. app_of new ≡ with_admitted (app_of command.entry)) }
+{
+    let hold = option(
+        alloc,
+        "hold",
+        "MASK",
+        "The inputs whose two levels are the same: = (held) or . for each in order; none held where left out",
+    );
+    let flips = count_option(
+        alloc,
+        "flips",
+        "The most inputs whose two levels differ; any number of them where left out",
+    );
+    with_cube(alloc, command)?.arg(hold)?.arg(flips)
+}
+
+/// How a search goes, and where its certificate goes, as options.
+fn with_search<'a>(alloc: Global, command: Command<'a>) -> Result<Command<'a>, AllocError>
+    ensures { IfOk result (λ new. app_of new ≡ with_search (app_of command.entry)) }
 {
     let workers = number_option(
         alloc,
@@ -205,13 +237,49 @@ fn worst_command<'a>(alloc: Global) -> Result<Command<'a>, AllocError>
         "OUT",
         "Writes the certificate of an exact answer to this file",
     );
-    let command = Command::new(alloc, "worst")
-        .about("Searches for the worst delay of all pairs of vectors, and a pair that has it")
+    command.arg(workers)?.arg(budget)?.arg(certificate)
+}
+
+fn sim_command<'a>(alloc: Global) -> Result<Command<'a>, AllocError>
+    ensures { IfOk result (λ new. app_of new ≡ sim_command) }
+{
+    let from = needed(
+        alloc,
+        "FROM",
+        "The first vector: 0, 1 or x for each input in order, or `none`",
+    );
+    let to = needed(
+        alloc,
+        "TO",
+        "The second vector, which the inputs take from moment 0 or those of --at on",
+    );
+    let command = Command::new(alloc, "sim")
+        .about("Simulates one pair of vectors: when each output changes last")
         .arg(file(alloc))?
-        .arg(workers)?
-        .arg(budget)?
-        .arg(certificate)?;
-    with_default(alloc, command)
+        .arg(from)?
+        .arg(to)?;
+    with_default(alloc, with_moments(alloc, command)?)
+}
+
+fn bound_command<'a>(alloc: Global) -> Result<Command<'a>, AllocError>
+    ensures { IfOk result (λ new. app_of new ≡ bound_command) }
+{
+    let command = Command::new(alloc, "bound")
+        .about("Bounds the delay of all pairs of vectors that two patterns allow")
+        .arg(file(alloc))?;
+    with_default(alloc, with_moments(alloc, with_cube(alloc, command)?)?)
+}
+
+fn worst_command<'a>(alloc: Global) -> Result<Command<'a>, AllocError>
+    ensures { IfOk result (λ new. app_of new ≡ worst_command) }
+{
+    let command = Command::new(alloc, "worst")
+        .about(
+            "Searches for the worst delay of the admitted pairs of vectors, and a pair that has it",
+        )
+        .arg(file(alloc))?;
+    let command = with_moments(alloc, with_admitted(alloc, command)?)?;
+    with_default(alloc, with_search(alloc, command)?)
 }
 
 fn check_command<'a>(alloc: Global) -> Result<Command<'a>, AllocError>
@@ -249,6 +317,27 @@ fn number(matches: &ArgMatches<'_>, id: &str) -> Option<u32>
     matches.get_one::<u32>(id)
 }
 
+/// The number of 64 bits of an option.
+fn count_given(matches: &ArgMatches<'_>, id: &str) -> Option<u64>
+    ensures some { IfSome result (λ number. HasNumber id.now (rows_of (found_of matches.now)) number) }
+    ensures none { IfNone result ((number : ℕ) → number < 2 ^ 64 → ¬ HasNumber id.now (rows_of (found_of matches.now)) number) }
+{
+    matches.get_one::<u64>(id)
+}
+
+/// The number of 64 bits of an option that may be left out.
+fn count(matches: &ArgMatches<'_>, id: &str) -> Option<Option<u64>>
+    ensures { IsAnswered (HasCount id.now (rows_of (found_of matches.now))) result }
+{
+    match matches.get_str(id) {
+        None => Some(None),
+        Some(_) => {
+            let number = count_given(matches, id)?;
+            Some(Some(number))
+        }
+    }
+}
+
 /// The delay of gates that state none.
 fn default(matches: &ArgMatches<'_>) -> Option<Delay>
     ensures { IsAnswered (HasDefault (rows_of (found_of matches.now))) result }
@@ -269,6 +358,7 @@ fn sim_of<'a>(matches: &ArgMatches<'a>) -> Option<SimRequest<'a>>
         file,
         from,
         to,
+        at: matches.get_str("at"),
         rise: default.rise,
         fall: default.fall,
     })
@@ -283,6 +373,7 @@ fn bound_of<'a>(matches: &ArgMatches<'a>) -> Option<BoundRequest<'a>>
         file,
         first: matches.get_str("first"),
         second: matches.get_str("second"),
+        at: matches.get_str("at"),
         rise: default.rise,
         fall: default.fall,
     })
@@ -316,11 +407,17 @@ fn worst_of<'a>(matches: &ArgMatches<'a>) -> Option<WorstRequest<'a>>
     ensures { IsAnswered (AsksWorst (rows_of (found_of matches.now))) result }
 {
     let file = matches.get_str("FILE")?;
+    let flips = count(matches, "flips")?;
     let workers = workers(matches)?;
     let budget = budget(matches)?;
     let default = default(matches)?;
     Some(WorstRequest {
         file,
+        first: matches.get_str("first"),
+        second: matches.get_str("second"),
+        hold: matches.get_str("hold"),
+        flips,
+        at: matches.get_str("at"),
         workers,
         budget,
         certificate: matches.get_str("cert"),

@@ -50,8 +50,9 @@ module _ {Sig : Type 0} (functions : Functions Sig) (reach : Sig → ℕ) (circu
   -- what is right for the next net
   abbrev pub IsNext : List Sig → Sig → Type 0
   IsNext front x =
-      ((i : ℕ) (first second : Trit) → i < length circuit.netlist.inputs → 2 + i ≡ length front
-      → slice_get cube (2 * i) ≡ Some first → slice_get cube (2 * i + 1) ≡ Some second → x ≡ functions.input_of first second)
+      ((i : ℕ) (first second : Trit) (moment : ℕ) → i < length circuit.netlist.inputs → 2 + i ≡ length front
+      → slice_get cube (2 * i) ≡ Some first → slice_get cube (2 * i + 1) ≡ Some second → slice_get circuit.moments i ≡ Some moment
+      → x ≡ functions.input_of first second moment)
       × ((place : ℕ) (gate : NumberedGate) → slice_get circuit.gates place ≡ Some gate → first_output circuit + place ≡ length front
       → x ≡ functions.gate_of gate.kind gate.delay (filter_map (slice_get front) gate.inputs))
       × (reach x ≤ (length front + 1) * 10 ^ 9)
@@ -61,11 +62,11 @@ module _ {Sig : Type 0} (functions : Functions Sig) (reach : Sig → ℕ) (circu
   grown front x long is_front next = record {
     low = slice_get-before front (x ∷ []) 0 (omega arith) ∙ is_front.low;
     high = slice_get-before front (x ∷ []) 1 (omega arith) ∙ is_front.high;
-    inputs = λ i first second few within at_first at_second. elim (cases_eq (2 + i) (length front)) [
-      | inl now ↦ slice_get-seam front x (2 + i) now ∙ ap (λ y. Some y) (next.0 i first second few now at_first at_second)
+    inputs = λ i first second moment few within at_first at_second at_moment. elim (cases_eq (2 + i) (length front)) [
+      | inl now ↦ slice_get-seam front x (2 + i) now ∙ ap (λ y. Some y) (next.0 i first second moment few now at_first at_second at_moment)
       | inr other ↦
           let old : 2 + i < length front = omega (arith, length-append front (x ∷ [])) in
-          slice_get-before front (x ∷ []) (2 + i) old ∙ is_front.inputs i first second few old at_first at_second
+          slice_get-before front (x ∷ []) (2 + i) old ∙ is_front.inputs i first second moment few old at_first at_second at_moment
     ];
     gates = λ place gate stands within.
         let lower : AllByRecursion (λ net. slice_get (front ++ x ∷ []) net ≡ slice_get front net) gate.inputs =
@@ -100,23 +101,26 @@ module _ {Sig : Type 0} (functions : Functions Sig) (reach : Sig → ℕ) (circu
       ]
 
   -- after the signal of an input
-  pub grown_input : ((first second : Trit) → reach (functions.input_of first second) ≤ 10 ^ 9)
-      → (front after : List Sig) (x : Sig) (i : ℕ) (first second : Trit)
+  pub grown_input : ((first second : Trit) (moment : ℕ) → moment ≤ 10 ^ 9 → reach (functions.input_of first second moment) ≤ 10 ^ 9)
+      → (front after : List Sig) (x : Sig) (i : ℕ) (first second : Trit) (moment : ℕ)
       → i < length circuit.netlist.inputs → length front ≡ 2 + i → AreFirstSignals functions reach circuit cube front
       → slice_get cube (2 * i) ≡ Some first → slice_get cube (2 * i + 1) ≡ Some second
-      → x ≡ functions.input_of first second → after ≡ front ++ x ∷ []
+      → slice_get circuit.moments i ≡ Some moment → moment ≤ 10 ^ 9
+      → x ≡ functions.input_of first second moment → after ≡ front ++ x ∷ []
       → AreFirstSignals functions reach circuit cube after
-  grown_input law front after x i first second few count is_front at_first at_second is is_after = rw is_after (
+  grown_input law front after x i first second moment few count is_front at_first at_second at_moment early is is_after = rw is_after (
       grown front x (omega arith) is_front (
-        (λ j one other fewer here at_one at_other.
+        (λ j one other own fewer here at_one at_other at_own.
             let same : j ≡ i = omega arith in
             let as_one : slice_get cube (2 * i) ≡ Some one = rw same at at_one in
             let as_other : slice_get cube (2 * i + 1) ≡ Some other = rw same at at_other in
             let ones : first ≡ one = cc in
             let others : second ≡ other = cc in
-            rw (← ones, ← others) is),
+            let as_own : slice_get circuit.moments i ≡ Some own = rw same at at_own in
+            let owns : moment ≡ own = cc in
+            rw (← ones, ← others, ← owns) is),
         (λ place gate stands here. absurd (omega arith)),
-        (let small : reach x ≤ 10 ^ 9 = rw is (law first second) in omega arith),
+        (let small : reach x ≤ 10 ^ 9 = rw is (law first second moment early) in omega arith),
       ))
 
   -- the signals that a gate reads reach no further than the nets before it
@@ -147,7 +151,7 @@ module _ {Sig : Type 0} (functions : Functions Sig) (reach : Sig → ℕ) (circu
       → AreFirstSignals functions reach circuit cube after
   grown_gate law front after x place gate stands count is_front is is_after = rw is_after (
       grown front x (omega arith) is_front (
-        (λ i first second few here at_first at_second. absurd (omega arith)),
+        (λ i first second moment few here at_first at_second at_moment. absurd (omega arith)),
         (λ other another others here.
             let same : other ≡ place = omega arith in
             let as_other : slice_get circuit.gates place ≡ Some another = rw same at others in

@@ -3,6 +3,10 @@ pub mod Cubes
 pub mod Waves
 pub mod Functions
 pub mod Bounds
+pub mod Admits
+pub mod FewestFlips
+pub mod Worst
+pub mod Laws
 pub mod Together
 pub mod FirstSignals
 pub mod BothLaws

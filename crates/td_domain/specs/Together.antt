@@ -11,7 +11,7 @@ lesser (Some a) (Some b) = Some (min a b)
 -- both signals at once, and the lesser of their last moments
 abbrev pub both_functions : {S T : Type 0} → Functions S → Functions T → Functions (S × T)
 both_functions these those = record {
-  input_of = λ first second. (these.input_of first second, those.input_of first second);
+  input_of = λ first second moment. (these.input_of first second moment, those.input_of first second moment);
   constant_of = λ one. (these.constant_of one, those.constant_of one);
   gate_of = λ kind delay signals. (
     these.gate_of kind delay (map (λ signal. signal.0) signals),

@@ -2,7 +2,8 @@
 
 ghost use Rattle.std.specs.Prelude.{◌≡◌, ℕ, ◌*◌, ◌<◌, ◌^◌, Option, Some, IfOk, length, map, filter_map, slice_get};
 ghost use Rattle.std.specs.List.{All};
-ghost use Rattle.td_circuit.specs.Numbering.{nets, IsNumbering};
+ghost use Rattle.td_circuit.specs.Settings.{AreMoments};
+ghost use Rattle.td_circuit.specs.Numbering.{nets, setting, IsNumbering};
 ghost use Rattle.td_domain.specs.Bounds.{IsBound, IsUpperBoundIn, greatest_bound};
 ghost use Rattle.td_domain.specs.FirstSignals.{AreFirstSignals};
 
@@ -19,18 +20,18 @@ pub fn bound<D: Domain>(
     cube: &Cube,
 ) -> Result<Option<u64>, AllocError>
     requires { length cube.now ≡ 2 * length circuit.now.netlist.inputs }
-    ensures bound { IfOk result (IsBound D.functions circuit.now.netlist cube.now) }
+    ensures bound { IfOk result (IsBound D.functions (setting circuit.now) cube.now) }
     ensures only { IfOk result (λ answer. (other : Option ℕ)
-        → IsBound D.functions circuit.now.netlist cube.now other → other ≡ answer) }
-    ensures sound { IfOk result (λ answer. (moment : ℕ) → answer ≡ Some moment → IsUpperBoundIn circuit.now.netlist cube.now moment) }
+        → IsBound D.functions (setting circuit.now) cube.now other → other ≡ answer) }
+    ensures sound { IfOk result (λ answer. (moment : ℕ) → answer ≡ Some moment → IsUpperBoundIn (setting circuit.now) cube.now moment) }
     ensures small { IfOk result (λ answer. (moment : ℕ) → answer ≡ Some moment → moment < 10 ^ 15) }
 {
     let signals = signals::<D>(alloc, circuit, cube)?;
     Ok(greatest_last::<D>(&signals, circuit.outputs()))
 }
 
-/// The signals of all nets, by number: those of the constants, those of the inputs by their trits, and those of the
-/// gates' outputs in topological order.
+/// The signals of all nets, by number: those of the constants, those of the inputs by their trits and moments, and
+/// those of the gates' outputs in topological order.
 pub fn signals<D: Domain>(
     alloc: Global,
     circuit: &Circuit,
@@ -40,14 +41,16 @@ pub fn signals<D: Domain>(
     ensures all { IfOk result (λ signals. length signals.items ≡ length (nets circuit.now)) }
     ensures front { IfOk result (λ signals. AreFirstSignals D.functions D.reach circuit.now cube.now signals.items) }
     ensures numbering { IsNumbering circuit.now }
+    ensures fit { AreMoments circuit.now.netlist circuit.now.moments }
 {
     let gates = circuit.gates();
     let inputs = circuit.input_count();
+    let moments = circuit.moments();
     let mut signals = Vec::with_capacity(alloc, circuit.net_count())?;
     signals.push(D::constant(alloc, false)?)?;
     signals.push(D::constant(alloc, true)?)?;
     for i in 0..inputs {
-        let signal = D::input(alloc, cube.trit(2 * i), cube.trit(2 * i + 1))?;
+        let signal = D::input(alloc, cube.trit(2 * i), cube.trit(2 * i + 1), moments[i])?;
         signals.push(signal)?;
     }
     for gate in gates {

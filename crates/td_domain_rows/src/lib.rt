@@ -2,6 +2,8 @@
 #![tactic(auto)]
 
 #[cfg(test)]
+mod admits;
+#[cfg(test)]
 mod bounds;
 #[cfg(test)]
 mod cubes;

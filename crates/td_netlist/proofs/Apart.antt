@@ -7,9 +7,9 @@ use Rattle.std.proofs.lemmas.List.Concat.{flat_map-cons}
 use Rattle.td_syntax.specs.declared.syntax.Role.{Role}
 use Rattle.td_syntax.specs.Grammar as grammar
 use Rattle.td_netlist.specs.declared.ranges.Range.{Range}
-use Rattle.td_netlist.specs.Netlist.{Name}
-use Rattle.td_netlist.specs.WellFormed.{IsDistinct}
-use Rattle.td_netlist.specs.Names.{is_in}
+use Rattle.td_nets.specs.Netlist.{Name}
+use Rattle.td_nets.specs.WellFormed.{IsDistinct}
+use Rattle.td_nets.specs.Names.{is_in}
 use Rattle.td_netlist.specs.Ranges.{width_of, bit_at, bits_from, bit_name, nets_of}
 use Rattle.td_netlist.specs.Module.{scalar, names_of, declared_names, range_in, ports, ports_as}
 use Rattle.td_netlist.proofs.Members.{one_of, nowhere, of_mapped, mapped, of_filtered, of_gathered}

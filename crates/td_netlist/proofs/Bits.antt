@@ -2,7 +2,7 @@
 use Rattle.std.proofs.Common.{◌≡◌, ℕ, suc, ◌+◌, ◌-◌, ◌≤◌, ◌<◌, List, [], ◌∷◌, ◌++◌, map, Some, refl, sym, ap, ◌∙◌, arith, append_assoc}
 use Rattle.std.proofs.lemmas.List.{append-nil}
 use Rattle.td_netlist.specs.declared.ranges.Range.{Range}
-use Rattle.td_netlist.specs.Netlist.{Name}
+use Rattle.td_nets.specs.Netlist.{Name}
 use Rattle.td_netlist.specs.Ranges.{width_of, bit_at, bits_from, bit_name, nets_of}
 
 -- so many bits are still to come

@@ -7,8 +7,8 @@ use Rattle.td_syntax.specs.Grammar.{ArePorts, output_count}
 use Rattle.td_netlist.specs.declared.fault.FaultKind.{FaultKind}
 use Rattle.td_netlist.specs.declared.fault.FaultKind.TheVariants as kind
 use Rattle.td_netlist.specs.declared.fault.Fault.{Fault}
-use Rattle.td_netlist.specs.Netlist.{Name}
-use Rattle.td_netlist.specs.WellFormed.{IsDistinct}
+use Rattle.td_nets.specs.Netlist.{Name}
+use Rattle.td_nets.specs.WellFormed.{IsDistinct}
 use Rattle.td_netlist.specs.Faults.{◌>>=◌, UnlessMemory}
 use Rattle.td_netlist.specs.Ranges.{nets_of}
 use Rattle.td_netlist.specs.PlacedNets.{different, Placed, nets_at, outputs_in, inputs_in, output_bits, driven_in, net_count, names_in, input_count}

@@ -12,9 +12,9 @@ use Rattle.td_netlist.specs.declared.ranges.Range.{Range}
 use Rattle.td_netlist.specs.declared.fault.FaultKind.{FaultKind}
 use Rattle.td_netlist.specs.declared.fault.FaultKind.TheVariants as kind
 use Rattle.td_netlist.specs.declared.fault.Fault.{Fault}
-use Rattle.td_netlist.specs.Netlist.{Name}
-use Rattle.td_netlist.specs.WellFormed.{IsDistinct}
-use Rattle.td_netlist.specs.Names.{is_in, with_name}
+use Rattle.td_nets.specs.Netlist.{Name}
+use Rattle.td_nets.specs.WellFormed.{IsDistinct}
+use Rattle.td_nets.specs.Names.{is_in, with_name}
 use Rattle.td_netlist.specs.Faults.{unless}
 use Rattle.td_netlist.specs.Ranges.{width_of}
 use Rattle.td_netlist.specs.PlacedNets.{different, plain_name, names_in, net_count, input_count}

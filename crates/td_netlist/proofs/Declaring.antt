@@ -11,9 +11,9 @@ use Rattle.td_syntax.specs.Grammar as grammar
 use Rattle.td_netlist.specs.declared.fault.FaultKind.{FaultKind}
 use Rattle.td_netlist.specs.declared.fault.FaultKind.TheVariants as kind
 use Rattle.td_netlist.specs.declared.fault.Fault.{Fault}
-use Rattle.td_netlist.specs.Netlist.{Name}
-use Rattle.td_netlist.specs.WellFormed.{IsDistinct}
-use Rattle.td_netlist.specs.Names.{is_in}
+use Rattle.td_nets.specs.Netlist.{Name}
+use Rattle.td_nets.specs.WellFormed.{IsDistinct}
+use Rattle.td_nets.specs.Names.{is_in}
 use Rattle.td_netlist.specs.declared.ranges.Range.{Range}
 use Rattle.td_netlist.specs.Ranges.{width_of}
 use Rattle.td_netlist.specs.Module.{scalar, names_of, Declared, is_input, is_direction, is_of}
@@ -24,7 +24,7 @@ use Rattle.td_netlist.proofs.Finding.{find_front, find_behind, found_there, foun
 use Rattle.td_netlist.proofs.Knowing.{named}
 use Rattle.td_netlist.proofs.Distinct.{distinct_push}
 use Rattle.td_netlist.proofs.Sets.{contains_is, not_contained}
-use Rattle.td_netlist.proofs.SameNames.{text_same}
+use Rattle.td_nets.proofs.SameNames.{text_same}
 use Rattle.td_netlist.proofs.Steps.{unless_ok, unless_err}
 
 -- ---- nets

@@ -11,9 +11,9 @@ use Rattle.td_syntax.specs.Grammar.{output_count}
 use Rattle.td_netlist.specs.declared.fault.FaultKind.{FaultKind}
 use Rattle.td_netlist.specs.declared.fault.FaultKind.TheVariants as kind
 use Rattle.td_netlist.specs.declared.fault.Fault.{Fault}
-use Rattle.td_netlist.specs.Netlist.{Name, Net, Low, High, Named}
-use Rattle.td_netlist.specs.WellFormed.{IsDistinct}
-use Rattle.td_netlist.specs.Names.{is_in, with_name}
+use Rattle.td_nets.specs.Netlist.{Name, Net, Low, High, Named}
+use Rattle.td_nets.specs.WellFormed.{IsDistinct}
+use Rattle.td_nets.specs.Names.{is_in, with_name}
 use Rattle.td_netlist.specs.Faults.{◌>>=◌}
 use Rattle.td_netlist.specs.PlacedNets.{different, line_of, Placed, placed_net, placed_in, nets_at, outputs_in, plain_name, names_in, net_count}
 use Rattle.td_netlist.specs.Module.{scalar, names_of, is_input, ports_as, declarations, range_in, Source, Joins, source_of, net_of, net_from, terminals_in, outputs_of, inputs_of, Primitive, primitives}

@@ -6,9 +6,9 @@ use Rattle.std.proofs.lemmas.List.{length-append}
 use Rattle.std.proofs.lemmas.List.Concat.{flat_map-cons}
 use Rattle.std.proofs.lemmas.List.Sums.{sum_by-cons}
 use Rattle.td_syntax.specs.Grammar as grammar
-use Rattle.td_netlist.specs.Netlist.{Name}
-use Rattle.td_netlist.specs.WellFormed.{IsDistinct}
-use Rattle.td_netlist.specs.Names.{is_in, with_name}
+use Rattle.td_nets.specs.Netlist.{Name}
+use Rattle.td_nets.specs.WellFormed.{IsDistinct}
+use Rattle.td_nets.specs.Names.{is_in, with_name}
 use Rattle.td_netlist.specs.Ranges.{width_of, nets_of}
 use Rattle.td_netlist.specs.Module.{scalar, names_of, Declared, declarations, range_in, nets_named, terminals_in}
 use Rattle.td_netlist.specs.PlacedNets.{different, plain_name, names_in, net_count}

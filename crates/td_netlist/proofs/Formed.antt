@@ -17,8 +17,8 @@ use Rattle.td_syntax.specs.declared.syntax.Role.TheVariants as role
 use Rattle.td_syntax.specs.Grammar as grammar
 use Rattle.td_syntax.specs.Grammar.{IsItem, IsNet, IsInstance, IsBetween, IsStatedDelay, output_count, item_gates, instance_gates, unit_exponent, decimal_value}
 use Rattle.td_netlist.specs.declared.ranges.Range.{Range}
-use Rattle.td_netlist.specs.Netlist.{Name, Net, Named, Gate}
-use Rattle.td_netlist.specs.WellFormed.{IsDistinct, IsWellFormed, IsGate, driven, gate_outputs}
+use Rattle.td_nets.specs.Netlist.{Name, Net, Named, Gate}
+use Rattle.td_nets.specs.WellFormed.{IsDistinct, IsWellFormed, IsGate, driven, gate_outputs}
 use Rattle.td_netlist.specs.Ranges.{width_of, holds, bits_from, bit_name, nets_of}
 use Rattle.td_netlist.specs.PlacedNets.{line_of, Placed, placed_net, placed_in, nets_at, outputs_in, inputs_in, output_bits, driven_in}
 use Rattle.td_netlist.specs.Module.{scalar, names_of, Declared, is_input, is_output, is_direction, ports, ports_as, declarations, declared, declared_names, range_in, nets_named, whole_source, bit_source, Joins, NotOne, NoBit, source_of, net_from, net_of, outputs_of, inputs_of, Primitive, primitives, item_primitives, as_primitive, delay_of, name_from, gate_by, primitive_gates, gates_of, netlist_in}

@@ -9,8 +9,8 @@ use Rattle.td_gates.specs.declared.timing.Delay.{Delay}
 use Rattle.td_syntax.specs.declared.syntax.Role.{Role}
 use Rattle.td_syntax.specs.Grammar as grammar
 use Rattle.td_syntax.specs.Grammar.{IsItem, IsBetween, output_count, unit_exponent}
-use Rattle.td_netlist.specs.Netlist.{Name, Net, Low, High, Named, Gate}
-use Rattle.td_netlist.specs.WellFormed.{IsDistinct, IsWellFormed, gate_outputs, driven}
+use Rattle.td_nets.specs.Netlist.{Name, Net, Low, High, Named, Gate}
+use Rattle.td_nets.specs.WellFormed.{IsDistinct, IsWellFormed, gate_outputs, driven}
 use Rattle.td_netlist.specs.Ranges.{nets_of}
 use Rattle.td_netlist.specs.Module.{scalar, names_of, Declared, is_input, is_output, is_direction, ports, ports_as, declarations, declared, declared_names, range_in, nets_named, net_of, primitives, outputs_of, inputs_of, gate_by, primitive_gates, gates_of, netlist_in}
 use Rattle.td_netlist.specs.PlacedNets.{line_of, Placed, placed_net, nets_at, outputs_in, inputs_in, output_bits, driven_in, input_count}

@@ -7,7 +7,7 @@ use Rattle.td_gates.specs.declared.timing.Delay.{Delay}
 use Rattle.td_syntax.specs.Grammar as grammar
 use Rattle.td_syntax.specs.Grammar.{unit_exponent, output_count}
 use Rattle.td_netlist.specs.declared.fault.Fault.{Fault}
-use Rattle.td_netlist.specs.Netlist.{Name, Net, Gate}
+use Rattle.td_nets.specs.Netlist.{Name, Net, Gate}
 use Rattle.td_netlist.specs.Faults.{◌>>=◌}
 use Rattle.td_netlist.specs.Module.{source_of, net_of, terminals_in, outputs_of, inputs_of, Primitive, primitives, delay_of, name_from, gate_by, primitive_gates, gates_of}
 use Rattle.td_netlist.specs.Means.{IsJoined}

@@ -8,7 +8,7 @@ use Rattle.td_syntax.specs.Grammar as grammar
 use Rattle.td_syntax.specs.Grammar.{decimal_value}
 use Rattle.td_netlist.specs.declared.fault.FaultKind.TheVariants as kind
 use Rattle.td_netlist.specs.declared.fault.Fault.{Fault}
-use Rattle.td_netlist.specs.Netlist.{Name, Net}
+use Rattle.td_nets.specs.Netlist.{Name, Net}
 use Rattle.td_netlist.specs.Faults.{fault}
 use Rattle.td_netlist.specs.PlacedNets.{line_of, plain_name}
 use Rattle.td_netlist.specs.Module.{scalar, names_of, declarations, range_in, whole_source, bit_source, Source, Joins, NoBit, NotOne, source_of, net_from, net_of}

@@ -12,16 +12,16 @@ use Rattle.td_netlist.specs.declared.ranges.Range.{Range}
 use Rattle.td_netlist.specs.declared.fault.FaultKind.{FaultKind}
 use Rattle.td_netlist.specs.declared.fault.FaultKind.TheVariants as kind
 use Rattle.td_netlist.specs.declared.fault.Fault.{Fault}
-use Rattle.td_netlist.specs.Netlist.{Name}
+use Rattle.td_nets.specs.Netlist.{Name}
 use Rattle.td_netlist.specs.Ranges.{width_of}
-use Rattle.td_netlist.specs.Names.{is_in, with_name}
+use Rattle.td_nets.specs.Names.{is_in, with_name}
 use Rattle.td_netlist.specs.PlacedNets.{different}
 use Rattle.td_netlist.specs.Module.{scalar}
 use Rattle.td_netlist.specs.Checks.{Known, known, range_known, nets_known, with_range, know}
 use Rattle.td_netlist.proofs.Members.{first, later, one_of, nowhere, in_front, behind, either_side, mapped, of_mapped}
 use Rattle.td_netlist.proofs.Finding.{found_there, found_none}
 use Rattle.td_netlist.proofs.Sets.{contains_is, is_contained, is_absent}
-use Rattle.td_netlist.proofs.SameNames.{text_same}
+use Rattle.td_nets.proofs.SameNames.{text_same}
 use Rattle.td_netlist.proofs.Steps.{unless_ok, unless_err}
 use Rattle.td_netlist.proofs.KnownNames.{nets_more}
 

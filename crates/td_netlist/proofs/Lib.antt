@@ -1,5 +1,3 @@
-pub mod SameNames
-pub mod Driven
 pub mod Members
 pub mod Distinct
 pub mod Walks

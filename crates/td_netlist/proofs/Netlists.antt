@@ -6,7 +6,7 @@ use Rattle.td_gates.specs.declared.timing.Delay.{Delay}
 use Rattle.td_syntax.specs.Grammar as grammar
 use Rattle.td_syntax.specs.Grammar.{ArePorts, IsItem, item_gates, unit_exponent}
 use Rattle.td_netlist.specs.declared.fault.Fault.{Fault}
-use Rattle.td_netlist.specs.Netlist.{Gate}
+use Rattle.td_nets.specs.Netlist.{Gate}
 use Rattle.td_netlist.specs.declared.fault.FaultKind.{FaultKind}
 use Rattle.td_netlist.specs.Faults.{Fails, told, UnlessMemory, ◌>>=◌}
 use Rattle.td_netlist.specs.Module.{terminals_in, Primitive, primitives, gates_of}

@@ -9,8 +9,8 @@ use Rattle.td_syntax.specs.Grammar.{IsPort, ArePorts}
 use Rattle.td_netlist.specs.declared.ranges.Range.{Range}
 use Rattle.td_netlist.specs.declared.fault.FaultKind.TheVariants as kind
 use Rattle.td_netlist.specs.declared.fault.Fault.{Fault}
-use Rattle.td_netlist.specs.Netlist.{Name}
-use Rattle.td_netlist.specs.Names.{is_in}
+use Rattle.td_nets.specs.Netlist.{Name}
+use Rattle.td_nets.specs.Names.{is_in}
 use Rattle.td_netlist.specs.Faults.{◌>>=◌}
 use Rattle.td_netlist.specs.Ranges.{range_of}
 use Rattle.td_netlist.specs.Module.{scalar, names_of, Declared, is_direction, item_declared, ports_from, ports_declared, declarations, port_name, port_names, ports}

@@ -13,9 +13,9 @@ use Rattle.td_syntax.specs.declared.syntax.Role.TheVariants as role
 use Rattle.td_syntax.specs.Grammar as grammar
 use Rattle.td_netlist.specs.declared.fault.FaultKind.TheVariants as kind
 use Rattle.td_netlist.specs.declared.fault.Fault.{Fault}
-use Rattle.td_netlist.specs.Netlist.{Name}
-use Rattle.td_netlist.specs.WellFormed.{IsDistinct}
-use Rattle.td_netlist.specs.Names.{name_eq, is_in}
+use Rattle.td_nets.specs.Netlist.{Name}
+use Rattle.td_nets.specs.WellFormed.{IsDistinct}
+use Rattle.td_nets.specs.Names.{name_eq, is_in}
 use Rattle.td_netlist.specs.Faults.{fault}
 use Rattle.td_netlist.specs.Ranges.{nets_of}
 use Rattle.td_netlist.specs.PlacedNets.{Placed, nets_at, output_bits}
@@ -25,7 +25,7 @@ use Rattle.td_netlist.specs.Checks.{each, direction_of, Sides, sideless, placed_
 use Rattle.td_netlist.proofs.Members.{either_side, one_of, nowhere, between, mapped, of_mapped, filtered, of_filtered, gathered}
 use Rattle.td_netlist.proofs.Distinct.{distinct_head, distinct_tail}
 use Rattle.td_netlist.proofs.Sets.{is_absent}
-use Rattle.td_netlist.proofs.SameNames.{name_eq-same}
+use Rattle.td_nets.proofs.SameNames.{name_eq-same}
 use Rattle.td_netlist.proofs.Steps.{kept, stops}
 use Rattle.td_netlist.proofs.Declaring.{named_push, declared_as, with_direction, all_names, undirected, directed}
 use Rattle.td_netlist.proofs.DeclaredNames.{breaks_as}

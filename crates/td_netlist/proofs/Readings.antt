@@ -13,20 +13,20 @@ use Rattle.td_syntax.proofs.Whole.{is_again}
 use Rattle.td_netlist.specs.declared.fault.FaultKind.{FaultKind}
 use Rattle.td_netlist.specs.declared.fault.FaultKind.TheVariants as kind
 use Rattle.td_netlist.specs.declared.fault.Fault.{Fault}
-use Rattle.td_netlist.specs.declared.name.Name as code_name
-use Rattle.td_netlist.specs.declared.netlist.Gate as code_gate
-use Rattle.td_netlist.specs.Netlist.{Name, Gate, Netlist}
-use Rattle.td_netlist.specs.Views.{name_of, gate_of, netlist_from}
+use Rattle.td_nets.specs.declared.name.Name as code_name
+use Rattle.td_nets.specs.declared.netlist.Gate as code_gate
+use Rattle.td_nets.specs.Netlist.{Name, Gate, Netlist}
+use Rattle.td_nets.specs.Views.{name_of, gate_of, netlist_from}
 use Rattle.td_netlist.specs.FirstPass.{kind_from}
 use Rattle.td_netlist.specs.Faults.{Fails, told, UnlessMemory, IsUnlessMemory}
-use Rattle.td_netlist.specs.declared.netlist.Unit.{Unit as Step}
+use Rattle.td_nets.specs.declared.netlist.Unit.{Unit as Step}
 use Rattle.td_netlist.specs.PlacedNets.{nets_at}
 use Rattle.td_netlist.specs.Module.{is_input, is_output, ports_as, gates_of, primitives, defaulted_of, unit_of, netlist_in}
 use Rattle.td_netlist.specs.Conditions.{IsConsistent}
 use Rattle.td_netlist.specs.NameFaults.{IsNameFault, IsFaultIn}
 use Rattle.td_netlist.specs.Means.{Means}
 use Rattle.td_netlist.specs.Checks.{Sides, checked_at}
-use Rattle.td_netlist.specs.WellFormed.{IsWellFormed}
+use Rattle.td_nets.specs.WellFormed.{IsWellFormed}
 use Rattle.td_netlist.proofs.Consistent.{memory_alone, AreSides}
 use Rattle.td_netlist.proofs.FewNets.{few_nets}
 use Rattle.td_netlist.proofs.FormedBack.{consistent}

@@ -2,7 +2,7 @@
 use Rattle.std.proofs.Common.{◌≡◌, Result, Ok, ap}
 use Rattle.td_syntax.specs.Grammar as grammar
 use Rattle.td_netlist.specs.declared.fault.Fault.{Fault}
-use Rattle.td_netlist.specs.Netlist.{Net}
+use Rattle.td_nets.specs.Netlist.{Net}
 use Rattle.td_netlist.specs.Faults.{Fails, ◌>>=◌}
 use Rattle.td_netlist.specs.Checks.{Drivers, seen, see}
 use Rattle.td_netlist.proofs.Walks.{fails_behind}

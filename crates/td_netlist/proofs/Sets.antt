@@ -6,9 +6,9 @@ use Rattle.std.proofs.lemmas.List.{map_push}
 use Rattle.td_netlist.specs.declared.name_ref.NameRef as code_name
 use Rattle.td_netlist.specs.contracts.name_ref.NameRefPartialEq.TheImpl.{ghosts}
 use Rattle.td_netlist.proofs.Members.{first, later, one_of, nowhere}
-use Rattle.td_netlist.proofs.SameNames.{name_eq-true, name_eq-same}
-use Rattle.td_netlist.specs.Netlist.{Name}
-use Rattle.td_netlist.specs.Names.{name_eq, is_in, with_name}
+use Rattle.td_nets.proofs.SameNames.{name_eq-true, name_eq-same}
+use Rattle.td_nets.specs.Netlist.{Name}
+use Rattle.td_nets.specs.Names.{name_eq, is_in, with_name}
 use Rattle.td_netlist.specs.NameViews.{name_ref_of}
 
 pub any_names : (n : code_name.NameRef) (keys : List code_name.NameRef) → list_any (λ k. ghosts.eq n k) keys ≡ is_in (name_ref_of n) (map name_ref_of keys)

@@ -12,8 +12,8 @@ use Rattle.td_netlist.specs.declared.fault.FaultKind.TheVariants.{Redeclared, Po
 use Rattle.td_netlist.specs.declared.fault.Fault.{Fault}
 use Rattle.td_netlist.specs.Faults.{fault, unless, ◌>>=◌}
 use Rattle.td_netlist.specs.declared.ranges.Range.{Range}
-use Rattle.td_netlist.specs.Netlist.{Name, Net, Low, High, Named}
-use Rattle.td_netlist.specs.Names.{is_in}
+use Rattle.td_nets.specs.Netlist.{Name, Net, Low, High, Named}
+use Rattle.td_nets.specs.Names.{is_in}
 use Rattle.td_netlist.specs.Ranges.{range_of, width_of, nets_of}
 use Rattle.td_netlist.specs.PlacedNets.{different, line_of, Placed}
 use Rattle.td_netlist.specs.Module.{scalar, is_input, is_wire, port_names, whole_source, bit_source, Source, Joins, NoBit, NotOne, outputs_of, inputs_of, Declared, Primitive, primitives}

@@ -2,8 +2,8 @@
 use Rattle.std.specs.Prelude.{◌≤◌}
 use Rattle.std.specs.List.{Contains}
 use Rattle.td_syntax.specs.Grammar as grammar
-use Rattle.td_netlist.specs.Netlist.{Name}
-use Rattle.td_netlist.specs.WellFormed.{IsDistinct}
+use Rattle.td_nets.specs.Netlist.{Name}
+use Rattle.td_nets.specs.WellFormed.{IsDistinct}
 use Rattle.td_netlist.specs.Means.{AreDeclared, AreJoined}
 use Rattle.td_netlist.specs.Module.{is_input, ports_as}
 use Rattle.td_netlist.specs.PlacedNets.{nets_at, outputs_in, inputs_in, output_bits, net_count, input_count, driven_in}

@@ -1,8 +1,3 @@
-pub mod Netlist
-pub mod Names
-pub mod WellFormed
-pub mod Views
-pub mod Printed
 pub mod Kinds
 pub mod Faults
 pub mod FirstPass

@@ -4,7 +4,7 @@ use Rattle.td_gates.specs.declared.timing.Delay.{Delay}
 use Rattle.td_syntax.specs.Grammar as grammar
 use Rattle.td_netlist.specs.declared.fault.Fault.{Fault}
 use Rattle.td_netlist.specs.Faults.{◌>>=◌}
-use Rattle.td_netlist.specs.Netlist.{Name, Net, Low, High, Named, Gate}
+use Rattle.td_nets.specs.Netlist.{Name, Net, Low, High, Named, Gate}
 use Rattle.td_netlist.specs.Module.{outputs_of, inputs_of, Primitive, delay_of}
 use Rattle.td_netlist.specs.Checks.{each, Known, resolve}
 

@@ -4,8 +4,8 @@ use Rattle.std.specs.List.{Contains}
 use Rattle.td_gates.specs.declared.timing.Delay.{Delay}
 use Rattle.td_syntax.specs.Grammar as grammar
 use Rattle.td_syntax.specs.Text.{Parses}
-use Rattle.td_netlist.specs.Netlist.{Name, Netlist}
-use Rattle.td_netlist.specs.WellFormed.{IsDistinct, IsWellFormed}
+use Rattle.td_nets.specs.Netlist.{Name, Netlist}
+use Rattle.td_nets.specs.WellFormed.{IsDistinct, IsWellFormed}
 use Rattle.td_netlist.specs.Module.{names_of, Declared, declarations, declared_names, is_direction, is_wire, ports, range_in, nets_named, Source, Joins, source_of, terminals_in, netlist_in}
 
 -- Each port is listed once and has one direction, no other name has one, no name is a wire twice, and what is declared

@@ -11,12 +11,12 @@ use Rattle.td_syntax.specs.declared.syntax.Role.{Role}
 use Rattle.td_syntax.specs.declared.syntax.Role.TheVariants as role
 use Rattle.td_syntax.specs.Grammar as grammar
 use Rattle.td_syntax.specs.Grammar.{decimal_value, output_count, unit_exponent, steps_of}
-use Rattle.td_netlist.specs.declared.netlist.Unit.{Unit as Step}
-use Rattle.td_netlist.specs.declared.netlist.Scale.{Scale}
-use Rattle.td_netlist.specs.declared.netlist.Scale.TheVariants as scale
+use Rattle.td_nets.specs.declared.netlist.Unit.{Unit as Step}
+use Rattle.td_nets.specs.declared.netlist.Scale.{Scale}
+use Rattle.td_nets.specs.declared.netlist.Scale.TheVariants as scale
 use Rattle.td_netlist.specs.declared.ranges.Range.{Range}
-use Rattle.td_netlist.specs.Netlist.{Name, Net, Low, High, Named, Gate, Netlist}
-use Rattle.td_netlist.specs.Names.{is_in}
+use Rattle.td_nets.specs.Netlist.{Name, Net, Low, High, Named, Gate, Netlist}
+use Rattle.td_nets.specs.Names.{is_in}
 use Rattle.td_netlist.specs.Ranges.{range_of, holds, bit_name, nets_of}
 
 -- the net of a name that is no vector

@@ -5,7 +5,7 @@ use Rattle.td_syntax.specs.Grammar as grammar
 use Rattle.td_syntax.specs.Text.{Parses}
 use Rattle.td_netlist.specs.declared.fault.FaultKind.{FaultKind}
 use Rattle.td_netlist.specs.declared.fault.FaultKind.TheVariants as kind
-use Rattle.td_netlist.specs.Netlist.{Name}
+use Rattle.td_nets.specs.Netlist.{Name}
 use Rattle.td_netlist.specs.Faults.{UnlessMemory, fault}
 use Rattle.td_netlist.specs.Checks.{checked_at}
 use Rattle.td_netlist.specs.FirstPass.{IsFirstIn}

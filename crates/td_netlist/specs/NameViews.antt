@@ -6,7 +6,7 @@ use Rattle.td_netlist.specs.declared.name_ref.Direction as code_direction
 use Rattle.td_netlist.specs.declared.name_ref.NetRef as code_name_ref_net
 use Rattle.td_netlist.specs.declared.name_ref.NetRef.TheVariants as net
 use Rattle.td_netlist.specs.declared.name_ref.PlacedRef as code_placed
-use Rattle.td_netlist.specs.Netlist.{Name, Net, Low, High, Named}
+use Rattle.td_nets.specs.Netlist.{Name, Net, Low, High, Named}
 use Rattle.td_netlist.specs.PlacedNets.{Placed}
 use Rattle.td_netlist.specs.Module.{Declared}
 

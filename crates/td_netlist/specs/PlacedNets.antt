@@ -2,8 +2,8 @@
 use Rattle.std.specs.Prelude.{ℕ, List, [], ◌∷◌, ◌++◌, map, fold, sum_by}
 use Rattle.std.specs.List.{flat_map}
 use Rattle.td_syntax.specs.Grammar as grammar
-use Rattle.td_netlist.specs.Netlist.{Name, Net, Named}
-use Rattle.td_netlist.specs.Names.{with_name}
+use Rattle.td_nets.specs.Netlist.{Name, Net, Named}
+use Rattle.td_nets.specs.Names.{with_name}
 use Rattle.td_netlist.specs.Ranges.{width_of, nets_of}
 use Rattle.td_netlist.specs.Module.{names_of, Declared, declarations, is_input, is_output, declared, ports_as, range_in, net_of, primitives, outputs_of, inputs_of, terminals_in}
 

@@ -3,7 +3,7 @@ use Rattle.std.specs.Prelude.{ℕ, zero, suc, ◌+◌, ◌-◌, ◌≤◌, List,
 use Rattle.td_syntax.specs.Grammar as grammar
 use Rattle.td_syntax.specs.Grammar.{decimal_value}
 use Rattle.td_netlist.specs.declared.ranges.Range.{Range}
-use Rattle.td_netlist.specs.Netlist.{Name}
+use Rattle.td_nets.specs.Netlist.{Name}
 
 -- the range of a vector, and none for a scalar
 abbrev pub range_of : Option grammar.Range → Option Range

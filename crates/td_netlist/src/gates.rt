@@ -8,19 +8,18 @@ ghost use Rattle.td_netlist.specs.Faults.{Gives};
 ghost use Rattle.td_netlist.specs.Making.{with_net, gate_at, with_gate, with_gates};
 ghost use Rattle.td_netlist.specs.Checks.{each};
 ghost use Rattle.td_netlist.specs.Module.{delay_of};
-ghost use Rattle.td_netlist.specs.Views.{name_of, net_of, gate_of};
+ghost use Rattle.td_nets.specs.Views.{name_of, net_of, gate_of};
 ghost use Rattle.td_netlist.specs.NameViews.{name_ref_of, net_ref_of};
 ghost use Rattle.td_netlist.specs.CheckViews.{primitive_of};
 
 use crate::drivers::resolve;
 use crate::fault::Fault;
 use crate::known::Known;
-use crate::name::{Name, Net};
 use crate::name_ref::{NameRef, NetRef};
-use crate::netlist::Gate;
 use crate::primitive::Primitive;
 use std::alloc::{AllocError, Global};
 use td_gates::Delay;
+use td_nets::{Gate, Name, Net};
 use td_syntax::{Delay as Stated, Number, Terminal, steps_of};
 
 /// A name of its own, with the bytes of the borrowed one.

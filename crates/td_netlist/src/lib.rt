@@ -9,14 +9,11 @@ mod gates;
 mod known;
 pub mod laws;
 mod meaning;
-mod name;
 mod name_ref;
 mod names;
-mod netlist;
 mod primitive;
 mod ranges;
 
 pub use fault::{Fault, FaultKind};
 pub use meaning::read;
-pub use name::{Name, Net};
-pub use netlist::{Gate, Netlist, Scale, Unit};
+pub use td_nets::{Gate, Name, Net, Netlist, Scale, Unit};

@@ -5,7 +5,7 @@ ghost use Rattle.std.specs.List.{AllByRecursion};
 ghost use Rattle.td_syntax.specs.Grammar.{IsItem, ArePorts, item_gates, unit_exponent};
 ghost use Rattle.td_syntax.specs.Text.{Parses};
 ghost use Rattle.td_syntax.specs.Views.{module_view};
-ghost use Rattle.td_netlist.specs.Netlist as netlist;
+ghost use Rattle.td_nets.specs.Netlist as netlist;
 ghost use Rattle.td_netlist.specs.Faults.{IsUnlessMemory, UnlessMemory, Fails};
 ghost use Rattle.td_netlist.specs.Checks.{checked_at};
 ghost use Rattle.td_netlist.specs.Conditions.{IsConsistent};
@@ -14,19 +14,18 @@ ghost use Rattle.td_netlist.specs.Means.{Means};
 ghost use Rattle.td_netlist.specs.PlacedNets.{nets_at};
 ghost use Rattle.td_netlist.specs.Module.{netlist_in, step_of, unit_of};
 ghost use Rattle.td_netlist.specs.NameViews.{name_ref_of, placed_ref_of};
-ghost use Rattle.td_netlist.specs.Views.{name_of};
-ghost use Rattle.td_netlist.specs.WellFormed.{IsWellFormed};
+ghost use Rattle.td_nets.specs.Views.{name_of};
+ghost use Rattle.td_nets.specs.WellFormed.{IsWellFormed};
 
 use crate::declarations::declared;
 use crate::drivers::all_driven;
 use crate::fault::Fault;
 use crate::gates::{Timing, gates, owned};
-use crate::name::Name;
 use crate::name_ref::{NameRef, PlacedRef};
-use crate::netlist::{Netlist, Scale, Unit};
 use crate::primitive::{defaulted_count, primitives};
 use std::alloc::{AllocError, Global};
 use td_gates::Delay;
+use td_nets::{Name, Netlist, Scale, Unit};
 use td_syntax::{Directive, Front, Module, parse, unit_exponent};
 
 fn owned_names(alloc: Global, names: &[NameRef<'_>]) -> Result<Vec<Name>, AllocError>

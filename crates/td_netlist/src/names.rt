@@ -2,7 +2,7 @@
 
 ghost use Rattle.std.specs.Prelude.{◌≡◌, [], IfOk, OnOk, not, length};
 ghost use Rattle.td_netlist.specs.NameViews.{name_ref_of};
-ghost use Rattle.td_netlist.specs.Names.{is_in, with_name};
+ghost use Rattle.td_nets.specs.Names.{is_in, with_name};
 
 use crate::name_ref::NameRef;
 use indexmap::IndexSet;
@@ -17,7 +17,7 @@ pub struct Names<'a> {
 
 impl<'a> Model for Names<'a> {
     ghost use Rattle.std.specs.Prelude.{List, map};
-    ghost use Rattle.td_netlist.specs.Netlist as netlist;
+    ghost use Rattle.td_nets.specs.Netlist as netlist;
     ghost use Rattle.td_netlist.specs.NameViews.{name_ref_of};
 
     ghost Value = { List netlist.Name };

@@ -2,7 +2,8 @@ use itoa::Buffer;
 use std::alloc::AllocError;
 use std::test::*;
 use td_gates::{Delay, Kind};
-use td_netlist::{Name, Net, Scale, Unit, read};
+use td_netlist::read;
+use td_nets::{Name, Net, Scale, Unit};
 
 const UNIT: Delay = Delay { rise: 1, fall: 1 };
 

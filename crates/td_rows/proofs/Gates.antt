@@ -9,7 +9,7 @@ use Rattle.std.proofs.lemmas.List.Sums.{AllPass-from_list_all}
 use Rattle.td_gates.specs.Delays.{IsInRange}
 use Rattle.td_gates.specs.Table.{TakesInputs}
 use Rattle.td_gates.proofs.Places.{some-same}
-use Rattle.td_netlist.specs.Netlist.{Gate}
+use Rattle.td_nets.specs.Netlist.{Gate}
 use Rattle.td_rows.specs.declared.Cell.{Cell}
 use Rattle.td_rows.specs.Cells.{named, gate_at, AreLower, IsCell}
 

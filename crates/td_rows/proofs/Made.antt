@@ -5,8 +5,8 @@ use Rattle.std.specs.List.{Contains}
 use Rattle.std.proofs.lemmas.List.{length-map, length-append}
 use Rattle.std.proofs.lemmas.Option.{slice_get-map}
 use Rattle.td_gates.proofs.Places.{some-same, slice_get-some, slice_get-within, slice_get-append_cases, slice_get-Contains, Contains-slice_get}
-use Rattle.td_netlist.specs.Netlist.{Name, Named, Gate, Netlist}
-use Rattle.td_netlist.specs.WellFormed.{gate_outputs, driven, IsGate, IsWellFormed}
+use Rattle.td_nets.specs.Netlist.{Name, Named, Gate, Netlist}
+use Rattle.td_nets.specs.WellFormed.{gate_outputs, driven, IsGate, IsWellFormed}
 use Rattle.td_rows.specs.Cells.{w, AreCells, AreInputs}
 
 pub w_same : (i j : ℕ) → w i ≡ w j → i ≡ j

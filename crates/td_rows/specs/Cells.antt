@@ -3,7 +3,7 @@ use Rattle.std.specs.Prelude.{◌≡◌, ◌⊎◌, ℕ, ◌+◌, ◌-◌, ◌<�
 use Rattle.std.specs.List.{list_all}
 use Rattle.td_gates.specs.Delays.{IsInRange}
 use Rattle.td_gates.specs.Table.{TakesInputs}
-use Rattle.td_netlist.specs.Netlist.{Name, Net, Named, Gate, Netlist}
+use Rattle.td_nets.specs.Netlist.{Name, Net, Named, Gate, Netlist}
 use Rattle.td_rows.specs.declared.Cell.{Cell}
 use Rattle.td_rows.specs.declared.Refused.{Refused}
 use Rattle.td_rows.specs.declared.Refused.TheVariants as refused

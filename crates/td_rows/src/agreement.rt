@@ -4,7 +4,7 @@ ghost use Rattle.std.specs.Prelude.{◌≡◌, length};
 ghost use Rattle.td_circuit.specs.Numbering.{nets};
 
 use crate::slow::history;
-use crate::{Cell, circuit_of, takes};
+use crate::{Cell, circuit_of, moments_of, takes};
 use std::alloc::Global;
 use std::process::Abort;
 use std::test::*;
@@ -78,17 +78,32 @@ fn compare(rt: &impl Abort, alloc: Global, circuit: &Circuit, run: &Run) -> Resu
     Ok(compared)
 }
 
-/// Compares the runs of all pairs of vectors, x among the levels.
+/// Compares the runs of all pairs of vectors, x among the levels, where all inputs change at once.
 fn compare_all(
     rt: &impl Abort,
     alloc: Global,
     inputs: u32,
     cells: &[Cell<'_>],
 ) -> Result<(), Fail> {
-    let circuit = match circuit_of(alloc, inputs, cells) {
+    let moments = vec![in alloc; 0; inputs as usize]?;
+    compare_at(rt, alloc, inputs, &moments, cells)
+}
+
+/// Compares the runs of all pairs of vectors, x among the levels, where the inputs change at these moments.
+fn compare_at(
+    rt: &impl Abort,
+    alloc: Global,
+    inputs: u32,
+    moments: &[u64],
+    cells: &[Cell<'_>],
+) -> Result<(), Fail> {
+    let mut circuit = match circuit_of(alloc, inputs, cells) {
         Ok(circuit) => circuit,
         Err(_) => panic!(rt; "no circuit"),
     };
+    let own = moments_of(alloc, moments)?;
+    assert_eq!(rt; own.len(), circuit.input_count());
+    circuit.set_moments(own);
     let mut codes = 1usize;
     for _ in 0..circuit.input_count() {
         codes = codes.saturating_mul(3);
@@ -140,6 +155,19 @@ fn of_inputs_that_change_together(rt: HostRuntime) -> Result<(), Fail> {
         cell(Kind::Xor, 3, 3, &[0, 2, 3]),
     ];
     compare_all(&rt, rt.alloc(), 2, &cells)
+}
+
+#[test]
+fn of_inputs_that_change_apart(rt: HostRuntime) -> Result<(), Fail> {
+    let alloc = rt.alloc();
+    let cells = [
+        cell(Kind::Nand, 2, 1, &[0, 1]),
+        cell(Kind::Xor, 3, 2, &[0, 1, 2]),
+    ];
+    for moments in [[0, 1], [1, 0], [2, 5], [4, 4]] {
+        compare_at(&rt, alloc, 2, &moments, &cells)?;
+    }
+    Ok(())
 }
 
 #[test]

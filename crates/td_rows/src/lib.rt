@@ -2,10 +2,10 @@
 #![tactic(auto)]
 
 ghost use Rattle.std.specs.Prelude.{◌≡◌, ◌≤◌, ◌<◌, ◌+◌, ◌↔◌, ◌⊎◌, length, map, nat_lt, IfOk, IfErr, IsTrue};
-ghost use Rattle.std.specs.List.{list_all};
+ghost use Rattle.std.specs.List.{All, list_all};
 ghost use Rattle.td_gates.specs.Table.{TakesInputs};
-ghost use Rattle.td_netlist.specs.Views.{name_of, net_of, gate_of};
-ghost use Rattle.td_netlist.specs.Netlist.{Netlist};
+ghost use Rattle.td_nets.specs.Views.{name_of, net_of, gate_of};
+ghost use Rattle.td_nets.specs.Netlist.{Netlist};
 ghost use Rattle.td_circuit.specs.Loops.{Loop};
 ghost use Rattle.td_rows.specs.Cells.{w, named, gate_at, IsCell, AreCells, AreInputs, AreMade, IsMade};
 ghost use Rattle.td_rows.specs.Cells.{IsBadCell, HasBadCell, IsMalformed, IsRefused};
@@ -15,7 +15,7 @@ pub mod slow;
 use std::alloc::{AllocError, AllocFailed, Global};
 use td_circuit::{BuildFault, Circuit, build};
 use td_gates::{Delay, Kind};
-use td_netlist::{Gate, Name, Net, Netlist, Scale, Unit};
+use td_nets::{Gate, Name, Net, Netlist, Scale, Unit};
 
 /// A gate that reads nets by number: first come the inputs, and then the gates in order.
 #[derive(Clone, Copy)]
@@ -172,6 +172,18 @@ pub fn circuit_of(alloc: Global, inputs: u32, cells: &[Cell<'_>]) -> Result<Circ
         Err((_, BuildFault::OutOfMemory)) => Err(Refused::OutOfMemory),
         Err((_, BuildFault::Loop(_))) => Err(Refused::Malformed),
     }
+}
+
+/// These moments, none of them later than an input may change.
+pub fn moments_of(alloc: Global, moments: &[u64]) -> Result<Vec<u64>, AllocError>
+    ensures count { IfOk result (λ own. length own.items ≡ length moments.now) }
+    ensures within { IfOk result (λ own. All (λ moment. moment ≤ 1000000000) own.items) }
+{
+    let mut own = Vec::new(alloc);
+    for moment in moments {
+        own.push((*moment).min(1_000_000_000))?;
+    }
+    Ok(own)
 }
 
 #[cfg(test)]

@@ -13,12 +13,13 @@ use Rattle.td_gates.specs.Schedule.{Obeys, target_at, target_before}
 use Rattle.td_gates.proofs.Obedience.{Obeys-by_target}
 use Rattle.td_gates.specs.declared.primitives.Level.TheVariants.{Zero, One}
 use Rattle.td_gates.specs.Table.{table}
-use Rattle.td_netlist.specs.Netlist.{Net, Named, Netlist}
-use Rattle.td_circuit.specs.Numbering.{Numbered, nets, IsNumbering}
+use Rattle.td_nets.specs.Netlist.{Net, Named, Netlist}
+use Rattle.td_circuit.specs.Settings.{Setting, AreMoments}
+use Rattle.td_circuit.specs.Numbering.{Numbered, setting, nets, IsNumbering}
 use Rattle.td_circuit.specs.Run.{IsNetOf, IsSettled, Runs, IsDelay, latest_change}
 use Rattle.td_circuit.specs.NetValues.{net_level, net_wave}
 use Rattle.td_circuit.proofs.Existence.{numbering_exists}
-use Rattle.td_run.specs.Laws.{OneSettling, OneRun, OneDelay}
+use Rattle.td_run.specs.Laws.{IsAcyclic, OneSettling, OneRun, OneDelay}
 use Rattle.td_run.specs.Settled.{levels_of, IsSettledUpTo}
 use Rattle.td_run.proofs.Settled.{next_level, is_settled, only_settled}
 use Rattle.td_run.proofs.Named.{is_run, only_run, only_outputs, outputs-are}
@@ -58,20 +59,21 @@ gate_exists kind delay fits ins bound all =
       delayed_wave-within bound delay fits target within,
     )
 
-pub run_exists : (circuit : Numbered) (firsts seconds : List Level) → IsNumbering circuit → length firsts ≡ length circuit.netlist.inputs
+pub run_exists : (circuit : Numbered) (firsts seconds : List Level) → IsNumbering circuit → AreMoments circuit.netlist circuit.moments → length firsts ≡ length circuit.netlist.inputs
     → length seconds ≡ length circuit.netlist.inputs → (place : ℕ) → place ≤ length circuit.gates
     → (waves : List Wave) × (outs : List Wave) × IsRunUpTo circuit firsts seconds place waves outs
-run_exists circuit firsts seconds numbering f s zero h = (first_waves firsts seconds, [], run_start circuit firsts seconds (first_waves firsts seconds) refl)
-run_exists circuit firsts seconds numbering f s (suc place) h =
-    let before = run_exists circuit firsts seconds numbering f s place (omega arith) in
+run_exists circuit firsts seconds numbering fit f s zero h =
+    (first_waves firsts seconds circuit.moments, [], run_start circuit firsts seconds (first_waves firsts seconds circuit.moments) fit refl)
+run_exists circuit firsts seconds numbering fit f s (suc place) h =
+    let before = run_exists circuit firsts seconds numbering fit f s place (omega arith) in
     let gate = slice_get-within circuit.gates place (omega arith) in
-    let long : length before.0 ≡ _ = length-waves circuit firsts seconds numbering f s place before.0 before.1 before.2 in
+    let long : length before.0 ≡ _ = length-waves circuit firsts seconds numbering fit f s place before.0 before.1 before.2 in
     let below : All (λ n. n < length before.0) gate.0.inputs = rw long (lower-at circuit numbering place gate.0 gate.1) in
-    let wave = gate_exists gate.0.kind gate.0.delay (range-at circuit numbering place gate.0 gate.1) (waves_of before.0 gate.0.inputs) (place * 1000000000)
-    (waves_of-within (place * 1000000000) before.0 gate.0.inputs before.2.within below) in (
+    let wave = gate_exists gate.0.kind gate.0.delay (range-at circuit numbering place gate.0 gate.1) (waves_of before.0 gate.0.inputs) ((place + 1) * 1000000000)
+    (waves_of-within ((place + 1) * 1000000000) before.0 gate.0.inputs before.2.within below) in (
       before.0 ++ wave.0 ∷ [],
       before.1 ++ wave.0 ∷ [],
-      next_gate circuit firsts seconds numbering f s place before.0 before.1 gate.0 wave.0 before.2 gate.1 wave.1 wave.2 wave.3,
+      next_gate circuit firsts seconds numbering fit f s place before.0 before.1 gate.0 wave.0 before.2 gate.1 wave.1 wave.2 wave.3,
     )
 
 -- the settled levels of the nets up to a gate
@@ -104,46 +106,58 @@ settling circuit vector numbering fits =
       λ other net settled is. only_settled circuit vector numbering fits found.0 found.1 found.2 other settled net is,
     )
 
-running : (circuit : Numbered) (first second : List Level) → IsNumbering circuit → length first ≡ length circuit.netlist.inputs
+running : (circuit : Numbered) (first second : List Level) → IsNumbering circuit → AreMoments circuit.netlist circuit.moments → length first ≡ length circuit.netlist.inputs
     → length second ≡ length circuit.netlist.inputs
-    → (waves : Net → Wave) × Runs circuit.netlist first second waves
-    × ((other : Net → Wave) (net : Net) → Runs circuit.netlist first second other → IsNetOf circuit.netlist net → other net ≡ waves net)
-running circuit first second numbering f s =
-    let found = run_exists circuit first second numbering f s (length circuit.gates) (omega arith) in (
+    → (waves : Net → Wave) × Runs (setting circuit) first second waves
+    × ((other : Net → Wave) (net : Net) → Runs (setting circuit) first second other → IsNetOf circuit.netlist net → other net ≡ waves net)
+running circuit first second numbering fit f s =
+    let found = run_exists circuit first second numbering fit f s (length circuit.gates) (omega arith) in (
       net_wave (nets circuit) found.0,
-      is_run circuit first second numbering f s found.0 found.1 found.2,
-      λ other net runs is. only_run circuit first second numbering f s found.0 found.1 found.2 other runs net is,
+      is_run circuit first second numbering fit f s found.0 found.1 found.2,
+      λ other net runs is. only_run circuit first second numbering fit f s found.0 found.1 found.2 other runs net is,
     )
 
-delaying : (circuit : Numbered) (first second : List Level) → IsNumbering circuit → length first ≡ length circuit.netlist.inputs
+delaying : (circuit : Numbered) (first second : List Level) → IsNumbering circuit → AreMoments circuit.netlist circuit.moments → length first ≡ length circuit.netlist.inputs
     → length second ≡ length circuit.netlist.inputs
-    → (delay : ℕ) × IsDelay circuit.netlist first second delay × ((other : ℕ) → IsDelay circuit.netlist first second other → other ≡ delay)
-delaying circuit first second numbering f s =
-    let found = run_exists circuit first second numbering f s (length circuit.gates) (omega arith) in
+    → (delay : ℕ) × IsDelay (setting circuit) first second delay × ((other : ℕ) → IsDelay (setting circuit) first second other → other ≡ delay)
+delaying circuit first second numbering fit f s =
+    let found = run_exists circuit first second numbering fit f s (length circuit.gates) (omega arith) in
     let waves : Net → Wave = net_wave (nets circuit) found.0 in (
       latest_change (map (λ name. waves (Named name)) circuit.netlist.outputs),
-      record { waves = waves; runs = is_run circuit first second numbering f s found.0 found.1 found.2; is_latest = refl },
+      record { waves = waves; runs = is_run circuit first second numbering fit f s found.0 found.1 found.2; is_latest = refl },
       λ other is. is.is_latest ∙ ap latest_change
-          (only_outputs circuit first second numbering f s found.0 found.1 found.2 is.waves is.runs
-          ∙ sym (outputs-are circuit first second numbering f s found.0 found.1 found.2)),
+          (only_outputs circuit first second numbering fit f s found.0 found.1 found.2 is.waves is.runs
+          ∙ sym (outputs-are circuit first second numbering fit f s found.0 found.1 found.2)),
     )
 
 pub one_settling_lem : OneSettling
 one_settling_lem netlist vector is fits =
-    let made = numbering_exists netlist is.well_formed is.acyclic in
+    let made = numbering_exists (record { netlist = netlist; moments = [] }) is.well_formed is.acyclic in
+    let same : made.0.netlist ≡ netlist = ap (λ (s : Setting). s.netlist) made.2 in
     let P : Netlist → Type 0 = λ n. (levels : Net → Level) × IsSettled n vector levels
     × ((other : Net → Level) (net : Net) → IsSettled n vector other → IsNetOf n net → other net ≡ levels net) in
-    subst P made.2 (settling made.0 vector made.1 (fits ∙ ap (λ n. length n.inputs) (sym made.2)))
+    subst P same (settling made.0 vector made.1 (fits ∙ ap (λ n. length n.inputs) (sym same)))
+
+-- what each numbering of a setting gives, the setting has
+of_setting : (P : Setting → Type 0) (given : Setting) (first second : List Level) → IsAcyclic given.netlist
+    → AreMoments given.netlist given.moments → length first ≡ length given.netlist.inputs → length second ≡ length given.netlist.inputs
+    → ((circuit : Numbered) → IsNumbering circuit → AreMoments circuit.netlist circuit.moments
+    → length first ≡ length circuit.netlist.inputs → length second ≡ length circuit.netlist.inputs → P (setting circuit))
+    → P given
+of_setting P given first second is fit f s each =
+    let made = numbering_exists given is.well_formed is.acyclic in
+    let back : given ≡ setting made.0 = sym made.2 in
+    subst P made.2 (each made.0 made.1
+    (subst (λ (x : Setting). AreMoments x.netlist x.moments) back fit)
+    (f ∙ ap (λ (x : Setting). length x.netlist.inputs) back) (s ∙ ap (λ (x : Setting). length x.netlist.inputs) back))
 
 pub one_run_lem : OneRun
-one_run_lem netlist first second is f s =
-    let made = numbering_exists netlist is.well_formed is.acyclic in
-    let P : Netlist → Type 0 = λ n. (waves : Net → Wave) × Runs n first second waves
-    × ((other : Net → Wave) (net : Net) → Runs n first second other → IsNetOf n net → other net ≡ waves net) in
-    subst P made.2 (running made.0 first second made.1 (f ∙ ap (λ n. length n.inputs) (sym made.2)) (s ∙ ap (λ n. length n.inputs) (sym made.2)))
+one_run_lem given first second is fit f s =
+    of_setting (λ x. (waves : Net → Wave) × Runs x first second waves
+    × ((other : Net → Wave) (net : Net) → Runs x first second other → IsNetOf x.netlist net → other net ≡ waves net))
+    given first second is fit f s (λ circuit numbering moments g t. running circuit first second numbering moments g t)
 
 pub one_delay_lem : OneDelay
-one_delay_lem netlist first second is f s =
-    let made = numbering_exists netlist is.well_formed is.acyclic in
-    let P : Netlist → Type 0 = λ n. (delay : ℕ) × IsDelay n first second delay × ((other : ℕ) → IsDelay n first second other → other ≡ delay) in
-    subst P made.2 (delaying made.0 first second made.1 (f ∙ ap (λ n. length n.inputs) (sym made.2)) (s ∙ ap (λ n. length n.inputs) (sym made.2)))
+one_delay_lem given first second is fit f s =
+    of_setting (λ x. (delay : ℕ) × IsDelay x first second delay × ((other : ℕ) → IsDelay x first second other → other ≡ delay))
+    given first second is fit f s (λ circuit numbering moments g t. delaying circuit first second numbering moments g t)

@@ -7,4 +7,3 @@ pub mod Named
 pub mod Gates
 pub mod Settled
 pub mod Existence
-pub mod Worst

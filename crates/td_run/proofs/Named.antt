@@ -1,8 +1,8 @@
 -- The run by numbers is the one run of the netlist, by names.
 use Rattle.std.proofs.Common.{◌≡◌, ℕ, zero, suc, ◌+◌, ◌<◌, List, [], ◌∷◌, length, map, get_or, refl, arith, inl, inr, sym, ap, ◌∙◌, Some}
-use Rattle.std.specs.Prelude.{slice_get}
+use Rattle.std.specs.Prelude.{slice_get, nat_lt, if◌then◌else◌}
 use Rattle.std.specs.List.{All, Contains}
-use Rattle.std.proofs.lemmas.Bool.{le-leb}
+use Rattle.std.proofs.lemmas.Bool.{cases_lt, le-leb, lt-leb, lt-ltb, le-ltb}
 use Rattle.std.proofs.lemmas.List.Elements.{All-contains}
 use Rattle.td_gates.specs.declared.primitives.Level.{Level}
 use Rattle.td_gates.specs.declared.primitives.Level.TheVariants.{Zero, One, X}
@@ -15,10 +15,11 @@ use Rattle.td_gates.specs.WindowRule.{MeetsWindows}
 use Rattle.td_gates.proofs.Levels.{level_eq-same, level_eq-other, cases_level}
 use Rattle.td_gates.proofs.Obedience.{Obeys-unique, waves-equal, wave-equal}
 use Rattle.td_gates.proofs.Windows.{MeetsWindows-from_Obeys}
-use Rattle.td_gates.proofs.Places.{none-some, some-same, slice_get-some, slice_get-map_some, get_or-front, get_or-back, map-fuse, All-from_contains}
-use Rattle.td_netlist.specs.Netlist.{Name, Net, Low, High, Named, Gate}
-use Rattle.td_circuit.specs.Numbering.{NumberedGate, Numbered, nets, first_output, IsGateAt, IsNumbering}
-use Rattle.td_circuit.specs.Run.{IsNetOf, Runs}
+use Rattle.td_gates.proofs.Places.{none-some, some-same, slice_get-some, slice_get-within, slice_get-map_some, get_or-front, get_or-back, map-fuse, All-from_contains}
+use Rattle.td_nets.specs.Netlist.{Name, Net, Low, High, Named, Gate}
+use Rattle.td_circuit.specs.Settings.{AreMoments}
+use Rattle.td_circuit.specs.Numbering.{NumberedGate, Numbered, setting, nets, first_output, IsGateAt, IsNumbering}
+use Rattle.td_circuit.specs.Run.{IsNetOf, inputs_at, Runs}
 use Rattle.td_circuit.specs.NetValues.{net_wave}
 use Rattle.td_circuit.proofs.Looping.{input_number, output_number}
 use Rattle.td_circuit.proofs.Nets.{length-nets, place_of}
@@ -28,70 +29,104 @@ use Rattle.td_run.specs.Runs.{input_wave, input_waves, first_waves, IsRunUpTo}
 use Rattle.td_run.proofs.Numbered.{length-first_waves, length-waves, length-input_waves}
 
 -- the waves of the inputs
-input_waves-at : (firsts seconds : List Level) (i : ℕ) (first second : Level) → slice_get firsts i ≡ Some first → slice_get seconds i ≡ Some second
-    → get_or (input_waves firsts seconds) i (constant X) ≡ input_wave first second
-input_waves-at [] seconds i first second p q = absurd (none-some first p)
-input_waves-at (a ∷ firsts) [] i first second p q = absurd (none-some second q)
-input_waves-at (a ∷ firsts) (b ∷ seconds) zero first second p q =
-    ap (λ l. input_wave l b) (some-same a first p) ∙ ap (λ l. input_wave first l) (some-same b second q)
-input_waves-at (a ∷ firsts) (b ∷ seconds) (suc i) first second p q = input_waves-at firsts seconds i first second p q
+input_waves-at : (firsts seconds : List Level) (moments : List ℕ) (i : ℕ) (first second : Level) (moment : ℕ)
+    → slice_get firsts i ≡ Some first → slice_get seconds i ≡ Some second → slice_get moments i ≡ Some moment
+    → get_or (input_waves firsts seconds moments) i (constant X) ≡ input_wave first second moment
+input_waves-at [] seconds moments i first second moment p q r = absurd (none-some first p)
+input_waves-at (a ∷ firsts) [] moments i first second moment p q r = absurd (none-some second q)
+input_waves-at (a ∷ firsts) (b ∷ seconds) [] i first second moment p q r = absurd (none-some moment r)
+input_waves-at (a ∷ firsts) (b ∷ seconds) (m ∷ moments) zero first second moment p q r =
+    ap (λ l. input_wave l b m) (some-same a first p) ∙ ap (λ l. input_wave first l m) (some-same b second q)
+    ∙ ap (λ n. input_wave first second n) (some-same m moment r)
+input_waves-at (a ∷ firsts) (b ∷ seconds) (m ∷ moments) (suc i) first second moment p q r =
+    input_waves-at firsts seconds moments i first second moment p q r
 
-input_wave-at : (first second : Level) (t : ℕ) → at (input_wave first second) t ≡ second
-input_wave-at first second t = elim (cases_level second first) [
-  | inl same ↦ rw (same, level_eq-same first)
-  | inr differ ↦ rw (level_eq-other second first differ, le-leb 0 t (omega arith))
+-- the levels of the inputs at a moment
+pub inputs_at-at : (t : ℕ) (firsts seconds : List Level) (moments : List ℕ) (i : ℕ) (first second : Level) (moment : ℕ)
+    → slice_get firsts i ≡ Some first → slice_get seconds i ≡ Some second → slice_get moments i ≡ Some moment
+    → slice_get (inputs_at t moments firsts seconds) i ≡ Some (if nat_lt t moment then first else second)
+inputs_at-at t [] seconds moments i first second moment p q r = absurd (none-some first p)
+inputs_at-at t (a ∷ firsts) [] moments i first second moment p q r = absurd (none-some second q)
+inputs_at-at t (a ∷ firsts) (b ∷ seconds) [] i first second moment p q r = absurd (none-some moment r)
+inputs_at-at t (a ∷ firsts) (b ∷ seconds) (m ∷ moments) zero first second moment p q r =
+    ap (λ (l : Level). Some (if nat_lt t m then l else b)) (some-same a first p)
+    ∙ ap (λ (l : Level). Some (if nat_lt t m then first else l)) (some-same b second q)
+    ∙ ap (λ (n : ℕ). Some (if nat_lt t n then first else second)) (some-same m moment r)
+inputs_at-at t (a ∷ firsts) (b ∷ seconds) (m ∷ moments) (suc i) first second moment p q r =
+    inputs_at-at t firsts seconds moments i first second moment p q r
+
+input_wave-at : (first second : Level) (moment t : ℕ)
+    → at (input_wave first second moment) t ≡ (if nat_lt t moment then first else second)
+input_wave-at first second moment t = elim (cases_level second first) [
+  | inl same ↦ elim (cases_lt t moment) [
+    | inl early ↦ rw (same, level_eq-same first, lt-ltb t moment early)
+    | inr late ↦ rw (same, level_eq-same first, le-ltb t moment late)
+  ]
+  | inr differ ↦ elim (cases_lt t moment) [
+    | inl early ↦ rw (level_eq-other second first differ, lt-leb moment t early, lt-ltb t moment early)
+    | inr late ↦ rw (level_eq-other second first differ, le-leb moment t late, le-ltb t moment late)
+  ]
 ]
 
-pub input_wave-rising : (first second : Level) → IsWave (input_wave first second)
-input_wave-rising first second = elim (cases_level second first) [
+pub input_wave-rising : (first second : Level) (moment : ℕ) → IsWave (input_wave first second moment)
+input_wave-rising first second moment = elim (cases_level second first) [
   | inl same ↦ rw (same, level_eq-same first) tt
   | inr differ ↦ rw (level_eq-other second first differ) (omega arith, (λ same. differ (sym same)), tt)
 ]
 
-input_waves-starts : (firsts seconds : List Level) → length firsts ≡ length seconds → map (λ wave. wave.start) (input_waves firsts seconds) ≡ firsts
-input_waves-starts [] seconds same = refl
-input_waves-starts (first ∷ firsts) [] same = absurd (omega arith)
-input_waves-starts (first ∷ firsts) (second ∷ seconds) same = ap (λ ls. first ∷ ls) (input_waves-starts firsts seconds (omega arith))
+input_waves-starts : (firsts seconds : List Level) (moments : List ℕ) → length firsts ≡ length seconds → length firsts ≡ length moments
+    → map (λ wave. wave.start) (input_waves firsts seconds moments) ≡ firsts
+input_waves-starts [] seconds moments same fit = refl
+input_waves-starts (first ∷ firsts) [] moments same fit = absurd (omega arith)
+input_waves-starts (first ∷ firsts) (second ∷ seconds) [] same fit = absurd (omega arith)
+input_waves-starts (first ∷ firsts) (second ∷ seconds) (moment ∷ moments) same fit =
+    ap (λ ls. first ∷ ls) (input_waves-starts firsts seconds moments (omega arith) (omega arith))
 
-input_waves-levels : (firsts seconds : List Level) (t : ℕ) → length firsts ≡ length seconds → map (λ wave. at wave t) (input_waves firsts seconds) ≡ seconds
-input_waves-levels [] [] t same = refl
-input_waves-levels [] (second ∷ seconds) t same = absurd (omega arith)
-input_waves-levels (first ∷ firsts) [] t same = absurd (omega arith)
-input_waves-levels (first ∷ firsts) (second ∷ seconds) t same =
-    ap (λ l. l ∷ map (λ wave. at wave t) (input_waves firsts seconds)) (input_wave-at first second t)
-    ∙ ap (λ ls. second ∷ ls) (input_waves-levels firsts seconds t (omega arith))
+input_waves-levels : (firsts seconds : List Level) (moments : List ℕ) (t : ℕ) → length firsts ≡ length seconds → length firsts ≡ length moments
+    → map (λ wave. at wave t) (input_waves firsts seconds moments) ≡ inputs_at t moments firsts seconds
+input_waves-levels [] seconds [] t same fit = refl
+input_waves-levels [] seconds (moment ∷ moments) t same fit = absurd (omega arith)
+input_waves-levels (first ∷ firsts) [] moments t same fit = absurd (omega arith)
+input_waves-levels (first ∷ firsts) (second ∷ seconds) [] t same fit = absurd (omega arith)
+input_waves-levels (first ∷ firsts) (second ∷ seconds) (moment ∷ moments) t same fit =
+    ap (λ l. l ∷ map (λ wave. at wave t) (input_waves firsts seconds moments)) (input_wave-at first second moment t)
+    ∙ ap (λ ls. (if nat_lt t moment then first else second) ∷ ls) (input_waves-levels firsts seconds moments t (omega arith) (omega arith))
 
-named-inputs : (m : Net → Wave) (names : List Name) (firsts seconds : List Level) → length firsts ≡ length names → length seconds ≡ length names
-    → ((i : ℕ) (name : Name) → slice_get names i ≡ Some name → m (Named name) ≡ get_or (input_waves firsts seconds) i (constant X))
-    → map (λ name. m (Named name)) names ≡ input_waves firsts seconds
-named-inputs m [] [] seconds f s each = refl
-named-inputs m [] (first ∷ firsts) seconds f s each = absurd (omega arith)
-named-inputs m (name ∷ names) [] seconds f s each = absurd (omega arith)
-named-inputs m (name ∷ names) (first ∷ firsts) [] f s each = absurd (omega arith)
-named-inputs m (name ∷ names) (first ∷ firsts) (second ∷ seconds) f s each =
+named-inputs : (m : Net → Wave) (names : List Name) (firsts seconds : List Level) (moments : List ℕ)
+    → length firsts ≡ length names → length seconds ≡ length names → length moments ≡ length names
+    → ((i : ℕ) (name : Name) → slice_get names i ≡ Some name → m (Named name) ≡ get_or (input_waves firsts seconds moments) i (constant X))
+    → map (λ name. m (Named name)) names ≡ input_waves firsts seconds moments
+named-inputs m [] [] seconds moments f s fit each = refl
+named-inputs m [] (first ∷ firsts) seconds moments f s fit each = absurd (omega arith)
+named-inputs m (name ∷ names) [] seconds moments f s fit each = absurd (omega arith)
+named-inputs m (name ∷ names) (first ∷ firsts) [] moments f s fit each = absurd (omega arith)
+named-inputs m (name ∷ names) (first ∷ firsts) (second ∷ seconds) [] f s fit each = absurd (omega arith)
+named-inputs m (name ∷ names) (first ∷ firsts) (second ∷ seconds) (moment ∷ moments) f s fit each =
     ap (λ w. w ∷ map (λ n. m (Named n)) names) (each 0 name refl)
-    ∙ ap (λ ws. input_wave first second ∷ ws) (named-inputs m names firsts seconds (omega arith) (omega arith) (λ i n at_i. each (suc i) n at_i))
+    ∙ ap (λ ws. input_wave first second moment ∷ ws)
+    (named-inputs m names firsts seconds moments (omega arith) (omega arith) (omega arith) (λ i n at_i. each (suc i) n at_i))
 
 slice_get-level : (f : Name → Level) (names : List Name) (levels : List Level) (i : ℕ) (name : Name)
     → map f names ≡ levels → slice_get names i ≡ Some name → slice_get levels i ≡ Some (f name)
 slice_get-level f names levels i name same at_i = rw (← same) (slice_get-map_some f names i name at_i)
 
-before-input : (wave : Wave) (t : ℕ) → ((u : ℕ) → at wave u ≡ at wave 0) → before wave t ≡ before (input_wave wave.start (at wave 0)) t
-before-input wave zero each = refl
-before-input wave (suc t) each = each t ∙ sym (input_wave-at wave.start (at wave 0) t)
+before-input : (wave : Wave) (second : Level) (moment t : ℕ) → ((u : ℕ) → at wave u ≡ (if nat_lt u moment then wave.start else second))
+    → before wave t ≡ before (input_wave wave.start second moment) t
+before-input wave second moment zero each = refl
+before-input wave second moment (suc t) each = each t ∙ sym (input_wave-at wave.start second moment t)
 
 Obeys-as : (kind kind' : Kind) (delay delay' : Delay) (ins ins' : List Wave) (out out' : Wave)
     → kind ≡ kind' → delay ≡ delay' → ins ≡ ins' → out ≡ out' → Obeys kind delay ins out → Obeys kind' delay' ins' out'
 Obeys-as kind kind' delay delay' ins ins' out out' p q r s obeys = rw (← p, ← q, ← r, ← s) obeys
 
-module _ (circuit : Numbered) (firsts seconds : List Level) (numbering : IsNumbering circuit)
+module _ (circuit : Numbered) (firsts seconds : List Level) (numbering : IsNumbering circuit) (fit : AreMoments circuit.netlist circuit.moments)
     (first_fits : length firsts ≡ length circuit.netlist.inputs) (second_fits : length seconds ≡ length circuit.netlist.inputs)
     (waves outs : List Wave) (run : IsRunUpTo circuit firsts seconds (length circuit.gates) waves outs) where
   m : Net → Wave
   m net = net_wave (nets circuit) waves net
 
   pub same_length : length waves ≡ length (nets circuit)
-  same_length = length-waves circuit firsts seconds numbering first_fits second_fits (length circuit.gates) waves outs run
+  same_length = length-waves circuit firsts seconds numbering fit first_fits second_fits (length circuit.gates) waves outs run
       ∙ sym (length-nets circuit numbering)
 
   m-at : (i : ℕ) (net : Net) → slice_get (nets circuit) i ≡ Some net → m net ≡ get_or waves i (constant X)
@@ -104,16 +139,16 @@ module _ (circuit : Numbered) (firsts seconds : List Level) (numbering : IsNumbe
   waves-high : get_or waves 1 (constant X) ≡ constant One
   waves-high = rw run.begins
 
-  waves-input : (i : ℕ) → i < length circuit.netlist.inputs → get_or waves (suc (suc i)) (constant X) ≡ get_or (input_waves firsts seconds) i (constant X)
+  waves-input : (i : ℕ) → i < length circuit.netlist.inputs → get_or waves (suc (suc i)) (constant X) ≡ get_or (input_waves firsts seconds circuit.moments) i (constant X)
   waves-input i h =
-      let long = length-input_waves firsts seconds (first_fits ∙ sym second_fits) in
-      rw run.begins (get_or-front (input_waves firsts seconds) outs i (constant X) (omega (arith, first_fits)))
+      let long = length-input_waves firsts seconds circuit.moments (first_fits ∙ sym second_fits) (first_fits ∙ sym fit.count) in
+      rw run.begins (get_or-front (input_waves firsts seconds circuit.moments) outs i (constant X) (omega (arith, first_fits)))
 
   waves-out : (place : ℕ) → get_or waves (first_output circuit + place) (constant X) ≡ get_or outs place (constant X)
-  waves-out place = rw (run.begins, ← length-first_waves circuit firsts seconds numbering first_fits second_fits) (get_or-back (first_waves firsts seconds) outs place (constant X))
+  waves-out place = rw (run.begins, ← length-first_waves circuit firsts seconds numbering fit first_fits second_fits) (get_or-back (first_waves firsts seconds circuit.moments) outs place (constant X))
 
-  inputs-are : map (λ name. m (Named name)) circuit.netlist.inputs ≡ input_waves firsts seconds
-  inputs-are = named-inputs m circuit.netlist.inputs firsts seconds first_fits second_fits
+  inputs-are : map (λ name. m (Named name)) circuit.netlist.inputs ≡ input_waves firsts seconds circuit.moments
+  inputs-are = named-inputs m circuit.netlist.inputs firsts seconds circuit.moments first_fits second_fits fit.count
       (λ i name at_i. m-at (suc (suc i)) (Named name) (input_number circuit i name at_i) ∙ waves-input i (slice_get-some circuit.netlist.inputs i name at_i))
 
   gate-obeys : (gate : Gate) → Contains circuit.netlist.gates gate → Obeys gate.kind gate.delay (map m gate.inputs) (m (Named gate.output))
@@ -128,7 +163,7 @@ module _ (circuit : Numbered) (firsts seconds : List Level) (numbering : IsNumbe
       (get_or outs placed.0 (constant X)) (m (Named gate.output)) is.kind is.delay (sym inputs) (sym output)
       (run.gates placed.0 placed.1 (slice_get-some circuit.gates placed.0 placed.1 placed.2) placed.2)
 
-  pub is_run : Runs circuit.netlist firsts seconds (net_wave (nets circuit) waves)
+  pub is_run : Runs (setting circuit) firsts seconds (net_wave (nets circuit) waves)
   unfolding m
   is_run = record {
     are_waves = λ net. net_value-all IsWave (constant X) (nets circuit) waves net tt run.rising;
@@ -136,13 +171,15 @@ module _ (circuit : Numbered) (firsts seconds : List Level) (numbering : IsNumbe
       low = ap (λ w. w.start) (m-at 0 Low refl ∙ waves-low);
       high = ap (λ w. w.start) (m-at 1 High refl ∙ waves-high);
       inputs = sym (map-fuse (λ name. m (Named name)) (λ (w : Wave). w.start) circuit.netlist.inputs)
-          ∙ ap (λ ws. map (λ (w : Wave). w.start) ws) inputs-are ∙ input_waves-starts firsts seconds (first_fits ∙ sym second_fits);
+          ∙ ap (λ ws. map (λ (w : Wave). w.start) ws) inputs-are
+          ∙ input_waves-starts firsts seconds circuit.moments (first_fits ∙ sym second_fits) (first_fits ∙ sym fit.count);
       gates = All-from_contains _ circuit.netlist.gates (λ gate found.
           (gate-obeys gate found).levels 0
           ∙ ap (table gate.kind) (map-fuse m (λ w. before w 0) gate.inputs));
     };
     inputs = λ t. sym (map-fuse (λ name. m (Named name)) (λ (w : Wave). at w t) circuit.netlist.inputs)
-        ∙ ap (λ ws. map (λ (w : Wave). at w t) ws) inputs-are ∙ input_waves-levels firsts seconds t (first_fits ∙ sym second_fits);
+        ∙ ap (λ ws. map (λ (w : Wave). at w t) ws) inputs-are
+        ∙ input_waves-levels firsts seconds circuit.moments t (first_fits ∙ sym second_fits) (first_fits ∙ sym fit.count);
     low = ap (λ w. w.changes) (m-at 0 Low refl ∙ waves-low);
     high = ap (λ w. w.changes) (m-at 1 High refl ∙ waves-high);
     gates = All-from_contains _ circuit.netlist.gates gate-obeys;
@@ -152,18 +189,25 @@ module _ (circuit : Numbered) (firsts seconds : List Level) (numbering : IsNumbe
   wave-at i h = run.rising i (constant X) h
 
   -- any run of the netlist has these waves
-  module _ (n : Net → Wave) (runs : Runs circuit.netlist firsts seconds n) where
+  module _ (n : Net → Wave) (runs : Runs (setting circuit) firsts seconds n) where
     input-same : (i : ℕ) (name : Name) → slice_get circuit.netlist.inputs i ≡ Some name
-        → n (Named name) ≡ get_or (input_waves firsts seconds) i (constant X)
+        → n (Named name) ≡ get_or (input_waves firsts seconds circuit.moments) i (constant X)
     input-same i name at_i =
         let first : slice_get firsts i ≡ Some (n (Named name)).start =
         rw (← runs.settled.inputs) (slice_get-map_some (λ x. (n (Named x)).start) circuit.netlist.inputs i name at_i) in
-        let level = λ (t : ℕ). slice_get-level (λ x. at (n (Named x)) t) circuit.netlist.inputs seconds i name (runs.inputs t) at_i in
-        let same : n (Named name) ≡ input_wave (n (Named name)).start (at (n (Named name)) 0) =
-        waves-equal (n (Named name)) (input_wave (n (Named name)).start (at (n (Named name)) 0))
-        (runs.are_waves (Named name)) (input_wave-rising (n (Named name)).start (at (n (Named name)) 0))
-        (λ t. before-input (n (Named name)) t (λ u. some-same (at (n (Named name)) u) (at (n (Named name)) 0) (sym (level u) ∙ level 0))) in
-        same ∙ sym (input_waves-at firsts seconds i (n (Named name)).start (at (n (Named name)) 0) first (level 0))
+        let below = slice_get-some circuit.netlist.inputs i name at_i in
+        let second = slice_get-within seconds i (omega (arith, below, second_fits)) in
+        let moment = slice_get-within circuit.moments i (omega (arith, below, fit.count)) in
+        let level = λ (t : ℕ).
+        slice_get-level (λ x. at (n (Named x)) t) circuit.netlist.inputs (inputs_at t circuit.moments firsts seconds) i name (runs.inputs t) at_i in
+        let is = λ (t : ℕ).
+        some-same (at (n (Named name)) t) (if nat_lt t moment.0 then (n (Named name)).start else second.0)
+        (sym (level t) ∙ inputs_at-at t firsts seconds circuit.moments i (n (Named name)).start second.0 moment.0 first second.1 moment.1) in
+        let same : n (Named name) ≡ input_wave (n (Named name)).start second.0 moment.0 =
+        waves-equal (n (Named name)) (input_wave (n (Named name)).start second.0 moment.0)
+        (runs.are_waves (Named name)) (input_wave-rising (n (Named name)).start second.0 moment.0)
+        (λ t. before-input (n (Named name)) second.0 moment.0 t is) in
+        same ∙ sym (input_waves-at firsts seconds circuit.moments i (n (Named name)).start second.0 moment.0 first second.1 moment.1)
 
     low-same : n Low ≡ get_or waves 0 (constant X)
     low-same = wave-equal (n Low) (constant Zero) runs.settled.low runs.low ∙ sym waves-low

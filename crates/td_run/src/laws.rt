@@ -1,23 +1,18 @@
 //! Laws of the definitions. These functions run nothing.
 
-ghost use Rattle.td_run.specs.Laws.{OneSettling, OneRun, OneDelay, OneWorst};
+ghost use Rattle.td_run.specs.Laws.{OneSettling, OneRun, OneDelay};
 
 /// A netlist without a loop has exactly one map of settled levels for each vector.
 pub fn one_settling()
     ensures { OneSettling }
 {}
 
-/// A netlist without a loop has exactly one run for each pair of vectors.
+/// A netlist without a loop, with a moment for each input, has exactly one run for each pair of vectors.
 pub fn one_run()
     ensures { OneRun }
 {}
 
-/// Each pair of vectors of a netlist without a loop has exactly one delay.
+/// Each pair of vectors of a netlist without a loop, with a moment for each input, has exactly one delay.
 pub fn one_delay()
     ensures { OneDelay }
-{}
-
-/// A netlist without a loop has exactly one worst delay over all pairs of Boolean vectors.
-pub fn one_worst()
-    ensures { OneWorst }
 {}

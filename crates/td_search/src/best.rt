@@ -1,13 +1,12 @@
 //! The best pair that a search has found.
 
-ghost use Rattle.std.specs.Prelude.{◌≡◌, length, IfOk};
-ghost use Rattle.td_search.specs.Best.{HasRoomFor};
+ghost use Rattle.std.specs.Prelude.{◌≡◌, ◌*◌, length, IfOk};
 ghost use Rattle.td_search.specs.Representatives.{representative};
 
 use crate::representatives::write_representative;
 use std::alloc::{AllocError, Global};
 use std::marker::Model;
-use td_domain::{Cube, Pair};
+use td_domain::{Admit, Cube, Pair};
 
 /// A pair and its delay in steps. Its room was taken once, so that a better pair takes its place without memory.
 #[derive(Drop)]
@@ -46,11 +45,13 @@ impl Best {
     }
 
     /// Puts the representative of a cube and its delay in the place of the pair. Takes no memory.
-    pub fn replace(&mut self, cube: &Cube, time: u64)
-        requires { HasRoomFor self.old cube.now }
-        ensures { self.new ≡ record { time = time; pair = representative cube.now } }
+    pub fn replace(&mut self, cube: &Cube, admit: &Admit, time: u64)
+        requires positions { length cube.now ≡ 2 * length admit.now.held }
+        requires first { length self.old.pair.first ≡ length admit.now.held }
+        requires second { length self.old.pair.second ≡ length admit.now.held }
+        ensures { self.new ≡ record { time = time; pair = representative admit.now cube.now } }
     {
-        write_representative(cube, &mut self.first, &mut self.second);
+        write_representative(cube, admit, &mut self.first, &mut self.second);
         self.time = time;
     }
 

@@ -3,7 +3,7 @@ use Rattle.std.proofs.Common.{◌≡◌, ℕ, zero, suc, ◌+◌, List, [], ◌�
 use Rattle.std.specs.List.{flat_map}
 use Rattle.std.proofs.lemmas.List.{length-replicate}
 use Rattle.std.proofs.lemmas.List.Concat.{flat_map-cons}
-use Rattle.td_syntax.specs.declared.token.Keyword.TheVariants as keyword
+use Rattle.td_nets.specs.declared.keyword.Keyword.TheVariants as keyword
 use Rattle.td_syntax.specs.declared.token.Stop.{Stop}
 use Rattle.td_syntax.specs.declared.token.Directive.{Directive}
 use Rattle.td_syntax.specs.declared.syntax.Front.{Front as Fronted}

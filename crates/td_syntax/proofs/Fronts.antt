@@ -6,17 +6,19 @@ use Rattle.std.specs.Option.{option_map}
 use Rattle.std.specs.Char.{is_ascii_digit}
 use Rattle.std.specs.Str.{bytes_eq}
 use Rattle.std.proofs.lemmas.Bool.{eqb-true}
-use Rattle.td_syntax.specs.declared.token.Keyword.{Keyword}
+use Rattle.td_nets.specs.declared.keyword.Keyword.{Keyword}
 use Rattle.td_syntax.specs.declared.token.Directive.{Directive}
 use Rattle.td_syntax.specs.declared.token.Unread.{Unread}
 use Rattle.td_syntax.specs.declared.token.Stop.TheVariants.{End, Bad}
 use Rattle.td_syntax.specs.declared.attribute.Place.TheVariants as place
-use Rattle.td_syntax.specs.Bytes.{is_blank, is_letter, is_name_byte, is_printable, is_quote, begins}
-use Rattle.td_syntax.specs.Words.{reserved_words}
+use Rattle.td_nets.specs.Letters.{is_letter, is_name_byte}
+use Rattle.td_syntax.specs.Bytes.{is_blank, is_printable, is_quote, begins}
+use Rattle.td_nets.specs.Words.{reserved_words}
 use Rattle.td_syntax.specs.Token.{Numeral, Token, Name, Escaped, Reserved, Number, Constant, Mark, Attribute, Directs, Outside}
 use Rattle.td_syntax.specs.Timescales.{timescale_at}
 use Rattle.td_syntax.specs.Pieces as pieces
-use Rattle.td_syntax.specs.Pieces.{Gap, Stands, stands, keyword_of, escaped_in, ends_name, comment_end, comment_in, numeral_at, constant_in, open_in, attribute_end, directive_by, directive_in, beside, marks, piece_in}
+use Rattle.td_nets.specs.Keywords.{beside}
+use Rattle.td_syntax.specs.Pieces.{Gap, Stands, stands, escaped_in, ends_name, comment_end, comment_in, numeral_at, constant_in, open_in, attribute_end, directive_by, directive_in, marks, piece_in}
 use Rattle.td_syntax.specs.Lexical.{Piece, Space, Found, Last, word_as, comment_of, slash_at, constant_of, number_by, number_at, escaped_at, timescale_piece, directive_of, directive_at, end_behind, attribute_of, mark_of, char_at, open_at, piece_at}
 use Rattle.td_syntax.proofs.Attributing.{same_end}
 use Rattle.td_syntax.proofs.SameSpans.{told, same_timescale}

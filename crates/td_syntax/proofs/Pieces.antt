@@ -14,7 +14,8 @@ use Rattle.td_syntax.specs.declared.attribute.Place.{Place}
 use Rattle.td_syntax.specs.declared.attribute.Place.TheVariants as place
 use Rattle.td_syntax.specs.declared.token.Directive.{Directive}
 use Rattle.td_syntax.specs.declared.token.Unread.{Unread}
-use Rattle.td_syntax.specs.Bytes.{is_blank, is_letter, is_name_byte, is_run_byte, is_number_byte, is_printable, is_newline, is_point, is_quote, begins}
+use Rattle.td_nets.specs.Letters.{is_letter, is_name_byte}
+use Rattle.td_syntax.specs.Bytes.{is_blank, is_run_byte, is_number_byte, is_printable, is_newline, is_point, is_quote, begins}
 use Rattle.td_syntax.specs.Timescales.{timescale_at}
 use Rattle.td_syntax.specs.Token.{Numeral}
 use Rattle.td_syntax.specs.Pieces.{numeral_at, ends_name, comment_end}

@@ -1,17 +1,12 @@
 -- Kinds of bytes.
 use Rattle.std.specs.Prelude.{ℕ, List, [], ◌∷◌, Bool, ◌||◌, ◌&&◌, ◌==◌, nat_le, false}
 use Rattle.std.specs.List.{count_by}
-use Rattle.std.specs.Char.{is_ascii_digit, is_ascii_alphabetic, is_ascii_alphanumeric}
+use Rattle.std.specs.Char.{is_ascii_digit}
+use Rattle.td_nets.specs.Letters.{is_name_byte}
 
 -- tab, newline, form feed, carriage return, space
 abbrev pub is_blank : ℕ → Bool
 is_blank b = b == 32 || b == 10 || b == 9 || b == 13 || b == 12
-
-abbrev pub is_letter : ℕ → Bool
-is_letter b = is_ascii_alphabetic b || b == 95
-
-abbrev pub is_name_byte : ℕ → Bool
-is_name_byte b = is_ascii_alphanumeric b || b == 95 || b == 36
 
 abbrev pub is_number_byte : ℕ → Bool
 is_number_byte b = is_ascii_digit b || b == 95

@@ -3,8 +3,8 @@ use Rattle.std.specs.Prelude.{◌≡◌, ℕ, zero, suc, ◌+◌, ◌*◌, ◌-�
 use Rattle.std.specs.List.{flat_map, fold, sum_by, list_all, AllByRecursion}
 use Rattle.td_gates.specs.declared.primitives.Kind.{Kind}
 use Rattle.td_gates.specs.declared.primitives.Kind.TheVariants as kinds
-use Rattle.td_syntax.specs.declared.token.Keyword.{Keyword}
-use Rattle.td_syntax.specs.declared.token.Keyword.TheVariants as keyword
+use Rattle.td_nets.specs.declared.keyword.Keyword.{Keyword}
+use Rattle.td_nets.specs.declared.keyword.Keyword.TheVariants as keyword
 use Rattle.td_syntax.specs.declared.token.Symbol.{Symbol}
 use Rattle.td_syntax.specs.declared.token.Symbol.TheVariants as symbol
 use Rattle.td_syntax.specs.declared.token.Directive.{Directive}

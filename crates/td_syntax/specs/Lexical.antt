@@ -4,8 +4,8 @@ use Rattle.std.specs.List.{prefix_len, position_or_len, list_any}
 use Rattle.std.specs.Option.{option_map}
 use Rattle.std.specs.Char.{is_ascii_digit, is_ascii_alphanumeric}
 use Rattle.std.specs.Str.{bytes_eq}
-use Rattle.td_syntax.specs.Words.{reserved_words}
-use Rattle.td_syntax.specs.declared.token.Keyword.{Keyword}
+use Rattle.td_nets.specs.Words.{reserved_words}
+use Rattle.td_nets.specs.declared.keyword.Keyword.{Keyword}
 use Rattle.td_syntax.specs.declared.token.Stop.{Stop}
 use Rattle.td_syntax.specs.declared.token.Stop.TheVariants as stop
 use Rattle.td_syntax.specs.declared.token.Symbol.TheVariants as symbol
@@ -15,9 +15,11 @@ use Rattle.td_syntax.specs.declared.token.Unread.{Unread}
 use Rattle.td_syntax.specs.declared.attribute.Place.{Place}
 use Rattle.td_syntax.specs.declared.attribute.Place.TheVariants as place
 use Rattle.td_syntax.specs.Token.{Numeral, Token, Name, Escaped, Reserved, Number, Constant, Mark, Attribute, Directs, Outside}
-use Rattle.td_syntax.specs.Pieces.{keyword_of, comment_end, numeral_at, ends_name}
+use Rattle.td_nets.specs.Keywords.{keyword_of}
+use Rattle.td_syntax.specs.Pieces.{comment_end, numeral_at, ends_name}
 use Rattle.td_syntax.specs.Timescales.{timescale_at}
-use Rattle.td_syntax.specs.Bytes.{is_blank, is_letter, is_name_byte, is_run_byte, is_printable, is_newline, is_quote, begins}
+use Rattle.td_nets.specs.Letters.{is_letter, is_name_byte}
+use Rattle.td_syntax.specs.Bytes.{is_blank, is_run_byte, is_printable, is_newline, is_quote, begins}
 
 -- A piece of a text and how many bytes it takes: white space or a comment, a token, or what nothing comes after.
 pub data Piece : Type 0 where

@@ -1,9 +1,7 @@
 pub mod Bytes
-pub mod Candidates
 pub mod Faults
 pub mod FirstFault
 pub mod Grammar
-pub mod Identifiers
 pub mod Lexical
 pub mod Parsing
 pub mod Pieces
@@ -14,4 +12,3 @@ pub mod Timescales
 pub mod Token
 pub mod Tokens
 pub mod Views
-pub mod Words

@@ -2,8 +2,8 @@
 -- what it read and what is left.
 use Rattle.std.specs.Prelude.{ℕ, zero, suc, ◌+◌, List, [], ◌∷◌, drop, length, Option, None, Some, is_some, Bool, true, false, not, Result, Ok, Err, ◌==◌, ◌&&◌, ◌||◌, nat_lt, if◌then◌else◌, codes}
 use Rattle.td_gates.specs.declared.primitives.Kind.{Kind}
-use Rattle.td_syntax.specs.declared.token.Keyword.{Keyword}
-use Rattle.td_syntax.specs.declared.token.Keyword.TheVariants as keyword
+use Rattle.td_nets.specs.declared.keyword.Keyword.{Keyword}
+use Rattle.td_nets.specs.declared.keyword.Keyword.TheVariants as keyword
 use Rattle.td_syntax.specs.declared.token.Symbol.{Symbol}
 use Rattle.td_syntax.specs.declared.token.Symbol.TheVariants as symbol
 use Rattle.td_syntax.specs.declared.token.Stop.TheVariants as stop

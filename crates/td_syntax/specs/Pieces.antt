@@ -4,15 +4,15 @@ use Rattle.std.specs.List.{prefix_len, position_or_len, list_any}
 use Rattle.std.specs.Option.{option_map}
 use Rattle.std.specs.Char.{is_ascii_digit, is_ascii_alphanumeric}
 use Rattle.std.specs.Str.{bytes_eq}
-use Rattle.td_gates.specs.declared.primitives.Kind.TheVariants as kind
-use Rattle.td_syntax.specs.declared.token.Keyword.{Keyword}
-use Rattle.td_syntax.specs.declared.token.Keyword.TheVariants as keyword
+use Rattle.td_nets.specs.declared.keyword.Keyword.{Keyword}
 use Rattle.td_syntax.specs.declared.token.Symbol.TheVariants as symbol
 use Rattle.td_syntax.specs.declared.token.Directive.TheVariants as directive
-use Rattle.td_syntax.specs.Words.{reserved_words}
+use Rattle.td_nets.specs.Words.{reserved_words}
 use Rattle.td_syntax.specs.Spans.{timescale_in}
 use Rattle.td_syntax.specs.Token.{Numeral, Token, Name, Reserved, Number, Constant, Mark, Attribute, Directs}
-use Rattle.td_syntax.specs.Bytes.{is_blank, is_letter, is_name_byte, is_number_byte, is_printable, is_newline, is_point, is_quote, begins}
+use Rattle.td_nets.specs.Keywords.{beside, keyword_of}
+use Rattle.td_nets.specs.Letters.{is_letter, is_name_byte}
+use Rattle.td_syntax.specs.Bytes.{is_blank, is_number_byte, is_printable, is_newline, is_point, is_quote, begins}
 
 -- a piece of a text and how many bytes it takes: white space or a comment, or a token
 pub data Piece : Type 0 where
@@ -24,22 +24,6 @@ abbrev pub stands : ℕ → Option Token → Option Piece
 stands n t = option_map (λ t. Stands t n) t
 
 -- ---- words
-
--- the value beside the first key that passes, if one does
-unfoldable pub beside : {K V : Type 0} → (K → Bool) → List (K × V) → Option V
-beside passes [] = None
-beside passes (e ∷ es) = if passes e.0 then Some e.1 else beside passes es
-
-abbrev pub keywords : List (List ℕ × Keyword)
-keywords =
-    (codes "module", keyword.Module) ∷ (codes "endmodule", keyword.EndModule) ∷ (codes "input", keyword.Input) ∷
-    (codes "output", keyword.Output) ∷ (codes "wire", keyword.Wire) ∷ (codes "and", keyword.Gate kind.And) ∷
-    (codes "nand", keyword.Gate kind.Nand) ∷ (codes "or", keyword.Gate kind.Or) ∷ (codes "nor", keyword.Gate kind.Nor) ∷
-    (codes "xor", keyword.Gate kind.Xor) ∷ (codes "xnor", keyword.Gate kind.Xnor) ∷ (codes "buf", keyword.Gate kind.Buf) ∷
-    (codes "not", keyword.Gate kind.Not) ∷ []
-
-unfoldable pub keyword_of : List ℕ → Option Keyword
-keyword_of w = beside (bytes_eq w) keywords
 
 -- a word of the grammar, or a name where it isn't reserved
 abbrev pub word_by : Option Keyword → List ℕ → Option Token

@@ -1,6 +1,6 @@
 -- Tokens, and the lines where they stand.
 use Rattle.std.specs.Prelude.{ℕ, List, Option, Bool, Result}
-use Rattle.td_syntax.specs.declared.token.Keyword.{Keyword}
+use Rattle.td_nets.specs.declared.keyword.Keyword.{Keyword}
 use Rattle.td_syntax.specs.declared.token.Symbol.{Symbol}
 use Rattle.td_syntax.specs.declared.token.Directive.{Directive}
 use Rattle.td_syntax.specs.declared.token.Unread.{Unread}

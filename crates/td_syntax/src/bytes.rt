@@ -1,24 +1,14 @@
 //! Kinds of bytes.
 
 ghost use Rattle.std.specs.Prelude.{◌≡◌};
-ghost use Rattle.td_syntax.specs.Bytes.{is_blank, is_letter, is_name_byte, is_number_byte, is_run_byte, is_printable};
+ghost use Rattle.td_syntax.specs.Bytes.{is_blank, is_number_byte, is_run_byte, is_printable};
+
+use td_nets::is_name_byte;
 
 pub fn is_blank(b: u8) -> bool
     ensures { result ≡ is_blank b }
 {
     b == b' ' || b == b'\n' || b == b'\t' || b == b'\r' || b == 12
-}
-
-pub fn is_letter(b: u8) -> bool
-    ensures { result ≡ is_letter b }
-{
-    b.is_ascii_alphabetic() || b == b'_'
-}
-
-pub fn is_name_byte(b: u8) -> bool
-    ensures { result ≡ is_name_byte b }
-{
-    b.is_ascii_alphanumeric() || b == b'_' || b == b'$'
 }
 
 pub fn is_number_byte(b: u8) -> bool

@@ -10,8 +10,9 @@ use crate::fault::Fault;
 use crate::parser::{Parser, keyword_of, refused, refused_name};
 use crate::step::Step;
 use crate::syntax::{Item, Module, Role};
-use crate::token::{Keyword, Placed, Symbol};
+use crate::token::{Placed, Symbol};
 use std::alloc::Global;
+use td_nets::Keyword;
 
 impl<'a> Parser<'a> {
     /// An item that begins with this word, or the end of the items.

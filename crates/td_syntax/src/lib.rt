@@ -8,13 +8,11 @@ mod delay;
 mod directives;
 mod fault;
 mod gates;
-mod identifier;
 mod items;
 mod lexer;
 mod parser;
 mod piece;
 mod read;
-mod reserved;
 mod step;
 mod syntax;
 mod timescale;
@@ -23,7 +21,6 @@ mod token;
 pub use delay::{decimal_value, steps_of};
 pub use directives::unit_exponent;
 pub use fault::{Fault, FaultKind};
-pub use identifier::is_simple_identifier;
 pub use read::parse;
 pub use syntax::{
     Declaration, Delay, Front, Header, Instance, Item, Module, Name, Port, Ports, Range, Role,

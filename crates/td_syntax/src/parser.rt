@@ -11,9 +11,10 @@ use crate::fault::{Fault, FaultKind};
 use crate::lexer::Lexer;
 use crate::step::Step;
 use crate::syntax::{Name, Role, Terminal};
-use crate::token::{Front, Keyword, Number, Placed, Stop, Symbol, Token};
+use crate::token::{Front, Number, Placed, Stop, Symbol, Token};
 use std::alloc::Global;
 use std::marker::Model;
+use td_nets::Keyword;
 
 /// The greatest number of gates, one for each output of an instance.
 const MAX_GATES: u32 = 200_000;

@@ -3,19 +3,20 @@
 ghost use Rattle.std.specs.Prelude.{◌≡◌, ◌≤◌, ◌<◌, ◌∷◌, ◌+◌, length, [], IfSome};
 ghost use Rattle.std.specs.List.{prefix_len, position_or_len};
 ghost use Rattle.std.specs.Char.{is_ascii_digit, is_ascii_alphanumeric};
-ghost use Rattle.td_syntax.specs.Bytes.{is_letter, is_name_byte, is_number_byte, is_run_byte, is_printable, is_newline, is_quote, begins};
-ghost use Rattle.td_syntax.specs.Pieces.{numeral_at, comment_end, keyword_of, ends_name};
+ghost use Rattle.td_nets.specs.Letters.{is_letter, is_name_byte};
+ghost use Rattle.td_syntax.specs.Bytes.{is_number_byte, is_run_byte, is_printable, is_newline, is_quote, begins};
+ghost use Rattle.td_nets.specs.Keywords.{keyword_of};
+ghost use Rattle.td_syntax.specs.Pieces.{numeral_at, comment_end, ends_name};
 ghost use Rattle.td_syntax.specs.Lexical.{Takes, piece_at, slash_at, number_at, constant_of, comment_of, word_of, mark_of, open_at, escaped_at, directive_of, directive_at, char_at, attribute_of, end_behind};
 ghost use Rattle.td_syntax.specs.declared.attribute.Place.TheVariants.{Plain};
 ghost use Rattle.td_syntax.specs.Views.{view, piece_view, option_numeral_view};
 
 use crate::attribute::attribute_len;
-use crate::bytes::{is_blank, is_letter, is_name_byte, is_number_byte, is_printable, is_run_byte};
-use crate::reserved::{is_candidate, is_reserved};
+use crate::bytes::{is_blank, is_number_byte, is_printable, is_run_byte};
 use crate::timescale::{blank_len, timescale};
-use crate::token::{Directive, Keyword, Number, Stop, Symbol, Token};
+use crate::token::{Directive, Number, Stop, Symbol, Token};
 use memchr::{memchr, memmem};
-use td_gates::Kind;
+use td_nets::{Keyword, is_candidate, is_letter, is_name_byte, is_reserved, keyword_of};
 
 /// A piece of a text and how many bytes it takes.
 #[derive(Clone, Copy, Debug)]
@@ -25,42 +26,6 @@ pub enum Piece<'a> {
     Found(Token<'a>, usize),
     /// What no token comes after.
     Last(Stop),
-}
-
-/// The reserved word of the subset that this is, if it is one.
-#[tactic(auto, unfolding(crate::specs::Pieces::keyword_of, crate::specs::Pieces::beside))]
-pub fn keyword_of(word: &[u8]) -> Option<Keyword>
-    ensures { result ≡ keyword_of word.now }
-{
-    if word == b"module".as_slice() {
-        Some(Keyword::Module)
-    } else if word == b"endmodule".as_slice() {
-        Some(Keyword::EndModule)
-    } else if word == b"input".as_slice() {
-        Some(Keyword::Input)
-    } else if word == b"output".as_slice() {
-        Some(Keyword::Output)
-    } else if word == b"wire".as_slice() {
-        Some(Keyword::Wire)
-    } else if word == b"and".as_slice() {
-        Some(Keyword::Gate(Kind::And))
-    } else if word == b"nand".as_slice() {
-        Some(Keyword::Gate(Kind::Nand))
-    } else if word == b"or".as_slice() {
-        Some(Keyword::Gate(Kind::Or))
-    } else if word == b"nor".as_slice() {
-        Some(Keyword::Gate(Kind::Nor))
-    } else if word == b"xor".as_slice() {
-        Some(Keyword::Gate(Kind::Xor))
-    } else if word == b"xnor".as_slice() {
-        Some(Keyword::Gate(Kind::Xnor))
-    } else if word == b"buf".as_slice() {
-        Some(Keyword::Gate(Kind::Buf))
-    } else if word == b"not".as_slice() {
-        Some(Keyword::Gate(Kind::Not))
-    } else {
-        None
-    }
 }
 
 fn word_of(word: &[u8]) -> Token<'_>

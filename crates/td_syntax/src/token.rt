@@ -1,17 +1,6 @@
 //! Tokens of a text.
 
-use td_gates::Kind;
-
-/// The reserved words of the subset.
-#[derive(Clone, Copy, Debug, PartialEq, Eq)]
-pub enum Keyword {
-    Module,
-    EndModule,
-    Input,
-    Output,
-    Wire,
-    Gate(Kind),
-}
+use td_nets::Keyword;
 
 /// The characters that the grammar names, a colon inside a range alone.
 #[derive(Clone, Copy, Debug, PartialEq, Eq)]

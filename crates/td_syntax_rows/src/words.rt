@@ -1,6 +1,7 @@
 use crate::parsed::{Case, agrees, fault_of, repeated, shown};
 use std::test::*;
-use td_syntax::{Item, Name, is_simple_identifier, parse};
+use td_nets::is_simple_identifier;
+use td_syntax::{Item, Name, parse};
 
 const SUBSET: &str = "and buf endmodule input module nand nor not or output wire xnor xor";
 

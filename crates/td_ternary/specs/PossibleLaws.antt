@@ -390,16 +390,27 @@ allowed_has One true h = refl
 allowed_has Free true h = refl
 allowed_has Free false h = refl
 
-at_zero : (s new : Level) (t : ℕ) → level_after s (change_at 0 s new) t ≡ new
-at_zero s new t = elim (cases_bool (level_eq s new)) [
-  | inl same ↦ rw same (same_is s new same)
-  | inr other ↦ rw (other, le-leb 0 t (omega arith)) refl
+before_change : (s new : Level) (moment t : ℕ) → t < moment → level_after s (change_at moment s new) t ≡ s
+before_change s new moment t early = elim (cases_bool (level_eq s new)) [
+  | inl same ↦ rw same refl
+  | inr other ↦ rw (other, lt-leb moment t early) refl
 ]
 
-pub covers_input : (first second : Trit) (wave : Wave) → IsInputWave first second wave → Covers (input_signal first second) wave
-covers_input first second wave is zero = rw is.starts (allowed_has first is.before is.first_allows)
-covers_input first second wave is (suc t) =
-    rw (at_zero (level_of_trit first) (level_of_trit second) t, is.then t) (allowed_has second is.after is.second_allows)
+after_change : (s new : Level) (moment t : ℕ) → moment ≤ t → level_after s (change_at moment s new) t ≡ new
+after_change s new moment t late = elim (cases_bool (level_eq s new)) [
+  | inl same ↦ rw same (same_is s new same)
+  | inr other ↦ rw (other, le-leb moment t late) refl
+]
+
+pub covers_input : (first second : Trit) (moment : ℕ) (wave : Wave) → IsInputWave first second moment wave
+    → Covers (input_signal first second moment) wave
+covers_input first second moment wave is zero = rw is.starts (allowed_has first is.before is.first_allows)
+covers_input first second moment wave is (suc t) = elim (cases_lt t moment) [
+  | inl early ↦ rw (before_change (level_of_trit first) (level_of_trit second) moment t early, is.keeps t early)
+      (allowed_has first is.before is.first_allows)
+  | inr late ↦ rw (after_change (level_of_trit first) (level_of_trit second) moment t late, is.then t late)
+      (allowed_has second is.after is.second_allows)
+]
 
 pub covers_constant : (one : Bool) (wave : Wave) → IsConstant (level_from one) wave → Covers (constant_signal one) wave
 covers_constant true wave is zero = rw (is 0) refl
@@ -477,8 +488,9 @@ reach_gate kind delay signals m small =
     last_change_low (m + max delay.rise delay.fall) _ (capped_low _ (possible kind delay signals 0) _
     (weaker _ _ (λ b under. omega arith) (changes_below (possible kind delay signals) H) (boundaries_low (possible kind delay signals) H)))
 
-pub reach_input : (first second : Trit) → last_change (change_at 0 (level_of_trit first) (level_of_trit second)) ≤ 10 ^ 9
-reach_input first second = elim (cases_bool (level_eq (level_of_trit first) (level_of_trit second))) [
+pub reach_input : (first second : Trit) (moment : ℕ) → moment ≤ 10 ^ 9
+    → last_change (change_at moment (level_of_trit first) (level_of_trit second)) ≤ 10 ^ 9
+reach_input first second moment small = elim (cases_bool (level_eq (level_of_trit first) (level_of_trit second))) [
   | inl same ↦ rw same (omega arith)
   | inr other ↦ rw other (omega arith)
 ]

@@ -31,11 +31,11 @@ set_of false one = High
 abbrev pub change_at : ℕ → Level → Level → List Change
 change_at moment old new = if level_eq old new then [] else (record { moment = moment; level = new } ∷ [])
 
--- an input: the first trit, from moment 0 on the second
-abbrev pub input_signal : Trit → Trit → Wave
-input_signal first second = record {
+-- an input: the first trit, from its moment on the second
+abbrev pub input_signal : Trit → Trit → ℕ → Wave
+input_signal first second moment = record {
   start = level_of_trit first;
-  changes = change_at 0 (level_of_trit first) (level_of_trit second);
+  changes = change_at moment (level_of_trit first) (level_of_trit second);
 }
 
 abbrev pub constant_signal : Bool → Wave

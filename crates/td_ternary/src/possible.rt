@@ -27,12 +27,12 @@ impl Domain for Possible {
 
     ghost reach = { λ signal. last_change signal.changes };
 
-    fn input(alloc: Global, first: Trit, second: Trit) -> Result<Wave, AllocError> {
+    fn input(alloc: Global, first: Trit, second: Trit, moment: u64) -> Result<Wave, AllocError> {
         let start = first.level();
         let level = second.level();
         let mut changes = Vec::new(alloc);
         if start != level {
-            changes.push(Change { moment: 0, level })?;
+            changes.push(Change { moment, level })?;
         }
         Ok(Wave::from_changes(start, changes))
     }

@@ -1,5 +1,5 @@
 use Rattle.std.proofs.Common.{◌≡◌, map, take}
-use Rattle.td_netlist.specs.Views.{net_of}
+use Rattle.td_nets.specs.Views.{net_of}
 use Rattle.td_rows.specs.Cells.{named}
 use Rattle.td_rows.proofs.named_nets.Given as goal
 

@@ -16,10 +16,10 @@ returns-in_err-spelled-clause-fault c =
 pub returns-clause-worst : goal.returns-clause-worst
 returns-clause-worst c = λ accepted.
     tells_worst c.args.netlist.now c.args.default c.args.certificate.now c.in_ok-circuit.circuit.netlist c.in_ok-spelled.spelled
-    c.in_ok-verdict_on.field-0 c.in_ok-circuit.ensures.found c.in_ok-circuit.ensures.formed c.in_ok-spelled.ensures.found
-    c.in_ok-verdict_on.ensures accepted
+    c.in_ok-verdict.verdict c.in_ok-circuit.ensures.found c.in_ok-circuit.ensures.formed c.in_ok-spelled.ensures.found
+    c.in_ok-verdict.ensures accepted
 
 pub returns-clause-told : goal.returns-clause-told
 returns-clause-told c =
     have_verdict c.args.netlist.now c.args.default c.args.certificate.now c.in_ok-circuit.circuit.netlist c.in_ok-spelled.spelled
-    c.in_ok-verdict_on.field-0 c.in_ok-circuit.ensures.found c.in_ok-spelled.ensures.found c.in_ok-verdict_on.ensures
+    c.in_ok-verdict.verdict c.in_ok-circuit.ensures.found c.in_ok-spelled.ensures.found c.in_ok-verdict.ensures

@@ -1,7 +1,8 @@
 use Rattle.std.proofs.Common.{sym, subst}
 use Rattle.td_command.specs.CommandLine.{delays}
+use Rattle.td_cli.specs.Vectors.{words_of}
 use Rattle.td_cli.specs.Outcomes.{HasNoBounds}
-use Rattle.td_cli.specs.Requests.{disk_of, words_of, IsBoundProduct}
+use Rattle.td_cli.specs.Requests.{disk_of, IsBoundProduct}
 use Rattle.td_cli.proofs.Programs.{nothing_done, on_file, not_read}
 use Rattle.td_cli.proofs.program.run_bound.Goals as goal
 
@@ -17,6 +18,6 @@ returns-in-Ok g c = (
   _,
   nothing_done g.F.Files.did g.met.F.Files.did_nothing _ _ c.read.ensures.stays,
   on_file (disk_of (g.F.Files.holds c.args.files.now) (g.F.Files.fails c.args.files.now) (g.F.Files.breaks c.args.files.now)) c.args.request.file.now c.deref.result.now (subst (λ bytes. g.F.Files.holds c.args.files.now c.args.request.file.now bytes) (sym c.deref.ensures.value) c.in-Ok.ensures.bytes)
-      (λ text. IsBoundProduct text (delays c.args.request.rise c.args.request.fall) (words_of c.args.request.first) (words_of c.args.request.second)) (λ text. HasNoBounds text (delays c.args.request.rise c.args.request.fall) (words_of c.args.request.first) (words_of c.args.request.second))
+      (λ text. IsBoundProduct text (delays c.args.request.rise c.args.request.fall) (words_of c.args.request.first) (words_of c.args.request.second) (words_of c.args.request.at)) (λ text. HasNoBounds text (delays c.args.request.rise c.args.request.fall) (words_of c.args.request.first) (words_of c.args.request.second) (words_of c.args.request.at))
       (λ _. ⊥) _ (λ name none. absurd none) _ _ _ _ (rw c.in-Some.ensures.delay at c.carry_out_bound.ensures),
 )

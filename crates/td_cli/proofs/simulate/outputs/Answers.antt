@@ -1,4 +1,4 @@
-use Rattle.td_netlist.specs.Views.{name_of}
+use Rattle.td_nets.specs.Views.{name_of}
 use Rattle.td_cli.proofs.Outputs.{output_at, line_added}
 use Rattle.td_cli.proofs.simulate.outputs.Goals as goal
 

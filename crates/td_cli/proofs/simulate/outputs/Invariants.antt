@@ -1,7 +1,7 @@
 use Rattle.std.proofs.Common.{◌≡◌, ◌++◌, take}
 use Rattle.std.specs.List.{flat_map}
 use Rattle.td_gates.specs.Wave.{last}
-use Rattle.td_netlist.specs.Netlist.{Named}
+use Rattle.td_nets.specs.Netlist.{Named}
 use Rattle.td_circuit.specs.Numbering.{nets}
 use Rattle.td_circuit.specs.NetValues.{net_wave}
 use Rattle.td_cli.specs.Reports.{last_line}

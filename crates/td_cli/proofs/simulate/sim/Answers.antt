@@ -1,8 +1,35 @@
-use Rattle.std.proofs.Common.{refl, sym}
+use Rattle.std.proofs.Common.{refl, sym, inl, inr}
 use Rattle.td_circuit.specs.Numbering.{nets}
 use Rattle.td_circuit.specs.NetValues.{net_wave}
+use Rattle.td_cli.proofs.Moments.{moments_fit}
+use Rattle.td_cli.proofs.Refusing.{bad_word}
 use Rattle.td_cli.proofs.simulate.sim.Goals as goal
+
+pub returns-in_default-2-clause-refusal : goal.returns-in_default-2-clause-refusal
+returns-in_default-2-clause-refusal c =
+    bad_word c.args.text.now c.args.default c.in_ok-circuit.circuit c.input_count-inputs.result _ _ c.in_ok-circuit.ensures.circuit
+    c.input_count-inputs.ensures
+    (inr (
+      (c.in-Some.first.items, rw c.in-Some.is at c.in_ok-first.ensures.some),
+      inl (refl, λ given. (rw c.in_default-2.is at c.in_ok-second.ensures.none) given.0 given.1),
+    ))
+
+pub returns-in_default-3-clause-refusal : goal.returns-in_default-3-clause-refusal
+returns-in_default-3-clause-refusal c =
+    bad_word c.args.text.now c.args.default c.in_ok-circuit.circuit c.input_count-inputs.result _ _ c.in_ok-circuit.ensures.circuit
+    c.input_count-inputs.ensures
+    (inr (
+      (c.in-Some.first.items, rw c.in-Some.is at c.in_ok-first.ensures.some),
+      inr (
+        (c.in-Some-2.second.items, rw c.in-Some-2.is at c.in_ok-second.ensures.some),
+        inl (refl, λ given. (rw c.in_default-3.is at c.in_ok-moments.ensures.none) given.0 given.1),
+      ),
+    ))
+
+pub set_moments-requires : goal.set_moments-requires
+set_moments-requires c =
+    moments_fit c.in_ok-circuit.circuit.netlist _ _ (rw (c.in-Some-3.is, c.input_count-inputs.ensures) at c.in_ok-moments.ensures.some)
 
 pub report_of-requires-clause-time : goal.report_of-requires-clause-time
 report_of-requires-clause-time c = sym (c.in_ok-run.ensures.only_delay _
-    (record { waves = net_wave (nets c.in_ok-circuit.circuit) c.in_ok-run.run'.waves; runs = c.in_ok-run.ensures.runs; is_latest = refl }))
+    (record { waves = net_wave (nets c.set_moments.new.self) c.in_ok-run.run'.waves; runs = c.in_ok-run.ensures.runs; is_latest = refl }))

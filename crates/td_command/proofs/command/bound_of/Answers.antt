@@ -15,5 +15,6 @@ returns c = record {
   file = sym (c.in_ok-file.ensures ∙ first_value-rows (found_of c.args.matches.now) (codes "FILE"));
   first = sym (c.get_str-2.ensures ∙ first_value-rows (found_of c.args.matches.now) (codes "first"));
   second = sym (c.get_str-3.ensures ∙ first_value-rows (found_of c.args.matches.now) (codes "second"));
+  at = sym (c.get_str-4.ensures ∙ first_value-rows (found_of c.args.matches.now) (codes "at"));
   default = rw c.default-2.view_is c.in_ok-default.ensures;
 }

@@ -23,5 +23,6 @@ returns c = record {
   file = sym (c.in_ok-file.ensures ∙ first_value-rows (found_of c.args.matches.now) (codes "FILE"));
   from = sym (c.in_ok-from.ensures ∙ first_value-rows (found_of c.args.matches.now) (codes "FROM"));
   to = sym (c.in_ok-to.ensures ∙ first_value-rows (found_of c.args.matches.now) (codes "TO"));
+  at = sym (c.get_str-4.ensures ∙ first_value-rows (found_of c.args.matches.now) (codes "at"));
   default = rw c.default-2.view_is c.in_ok-default.ensures;
 }

@@ -7,6 +7,9 @@ pub returns-in_err-file : goal.returns-in_err-file
 returns-in_err-file c = rw c.from_residual.ensures (λ asked has.
     let no : None ≡ Some asked.file.now = c.in_err-file.ensures ∙ first_value-rows (found_of c.args.matches.now) (codes "FILE") ∙ has.file in cc)
 
+pub returns-in_err-flips : goal.returns-in_err-flips
+returns-in_err-flips c = rw c.from_residual-in_err-flips.ensures (λ asked has. c.in_err-flips.ensures _ has.flips)
+
 pub returns-in_err-workers : goal.returns-in_err-workers
 returns-in_err-workers c = rw c.from_residual-in_err-workers.ensures (λ asked has. c.in_err-workers.ensures _ has.workers)
 
@@ -19,8 +22,13 @@ returns-in_err-default c = rw c.from_residual-in_err-default.ensures (λ asked h
 pub returns : goal.returns
 returns c = record {
   file = sym (c.in_ok-file.ensures ∙ first_value-rows (found_of c.args.matches.now) (codes "FILE"));
+  first = sym (c.get_str-2.ensures ∙ first_value-rows (found_of c.args.matches.now) (codes "first"));
+  second = sym (c.get_str-3.ensures ∙ first_value-rows (found_of c.args.matches.now) (codes "second"));
+  hold = sym (c.get_str-4.ensures ∙ first_value-rows (found_of c.args.matches.now) (codes "hold"));
+  flips = c.in_ok-flips.ensures;
+  at = sym (c.get_str-5.ensures ∙ first_value-rows (found_of c.args.matches.now) (codes "at"));
   workers = c.in_ok-workers.ensures;
   budget = c.in_ok-budget.ensures;
-  certificate = sym (c.get_str-2.ensures ∙ first_value-rows (found_of c.args.matches.now) (codes "cert"));
+  certificate = sym (c.get_str-6.ensures ∙ first_value-rows (found_of c.args.matches.now) (codes "cert"));
   default = rw c.default-2.view_is c.in_ok-default.ensures;
 }

@@ -37,13 +37,13 @@ returns-clause-sound g c = λ moment is pair delay is_in is_delay.
     let bound = returns-clause-bound g c in
     let latest = no_later g.D.Domain.covers g.D.Domain.functions
     g.met.D.Domain.covers_input g.met.D.Domain.covers_constant g.met.D.Domain.covers_gate
-    c.args.circuit.now c.in_ok-signals.ensures.numbering c.args.cube.now c.requires bound.signals bound.are_signals pair is_in is_delay.waves is_delay.runs
+    c.args.circuit.now c.in_ok-signals.ensures.numbering c.in_ok-signals.ensures.fit c.args.cube.now c.requires bound.signals bound.are_signals pair is_in is_delay.waves is_delay.runs
     g.met.D.Domain.quiet_after_last moment (sym bound.is_greatest ∙ is) in
     rw is_delay.is_latest latest
 
 pub returns-clause-only : goal.returns-clause-only
 returns-clause-only g c = λ other is.
-    one_bound g.D.Domain.functions c.args.circuit.now c.in_ok-signals.ensures.numbering c.args.cube.now c.requires
+    one_bound g.D.Domain.functions c.args.circuit.now c.in_ok-signals.ensures.numbering c.in_ok-signals.ensures.fit c.args.cube.now c.requires
     other _ is (returns-clause-bound g c)
 
 pub returns-clause-small : goal.returns-clause-small

@@ -1,14 +1,14 @@
 use Rattle.std.proofs.Common.{◌≡◌, ◌∙◌, ℕ, List, map, ap, sym}
 use Rattle.td_gates.specs.declared.timing.Delay.{Delay}
 use Rattle.td_syntax.specs.Grammar as grammar
-use Rattle.td_netlist.specs.Netlist.{Gate}
+use Rattle.td_nets.specs.Netlist.{Gate}
 use Rattle.td_netlist.specs.Module.{Primitive, outputs_of}
 use Rattle.std.proofs.lemmas.Result.{err_from_is_err_and}
 use Rattle.td_syntax.specs.Views.{terminal_view}
 use Rattle.td_netlist.specs.Checks as checks
 use Rattle.td_netlist.specs.Making as making
 use Rattle.td_netlist.specs.Checks.{each}
-use Rattle.td_netlist.specs.Views.{gate_of}
+use Rattle.td_nets.specs.Views.{gate_of}
 use Rattle.td_netlist.specs.CheckViews.{primitive_of}
 use Rattle.td_netlist.proofs.Walks.{goes, fails, ends}
 use Rattle.td_netlist.proofs.gates.add_gates.Goals as goal

@@ -2,7 +2,7 @@ use Rattle.std.proofs.Common.{◌≡◌, drop, map}
 use Rattle.td_syntax.specs.Views.{terminal_view}
 use Rattle.td_netlist.specs.Making as making
 use Rattle.td_netlist.specs.Checks.{each}
-use Rattle.td_netlist.specs.Views.{gate_of}
+use Rattle.td_nets.specs.Views.{gate_of}
 use Rattle.td_netlist.specs.CheckViews.{primitive_of}
 use Rattle.td_netlist.proofs.gates.add_gates.Given as goal
 

@@ -2,7 +2,7 @@ use Rattle.std.proofs.Common.{map}
 use Rattle.std.proofs.lemmas.Result.{err_from_is_err_and}
 use Rattle.td_netlist.specs.Making as making
 use Rattle.td_netlist.specs.Checks.{each}
-use Rattle.td_netlist.specs.Views.{gate_of}
+use Rattle.td_nets.specs.Views.{gate_of}
 use Rattle.td_netlist.specs.CheckViews.{primitive_of}
 use Rattle.std.proofs.Common.{[]}
 use Rattle.td_netlist.proofs.Walks.{goes, fails, ends}

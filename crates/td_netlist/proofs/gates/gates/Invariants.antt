@@ -1,7 +1,7 @@
 use Rattle.std.proofs.Common.{◌≡◌, drop, map}
 use Rattle.td_netlist.specs.Making as making
 use Rattle.td_netlist.specs.Checks.{each}
-use Rattle.td_netlist.specs.Views.{gate_of}
+use Rattle.td_nets.specs.Views.{gate_of}
 use Rattle.td_netlist.specs.CheckViews.{primitive_of}
 use Rattle.std.proofs.Common.{[]}
 use Rattle.td_netlist.proofs.gates.gates.Given as goal

@@ -3,7 +3,7 @@ use Rattle.std.proofs.lemmas.Result.{err_from_is_err_and}
 use Rattle.td_syntax.specs.Views.{terminal_view}
 use Rattle.td_netlist.specs.Making as making
 use Rattle.td_netlist.specs.Checks.{each}
-use Rattle.td_netlist.specs.Views.{net_of}
+use Rattle.td_nets.specs.Views.{net_of}
 use Rattle.std.proofs.Common.{[]}
 use Rattle.td_netlist.proofs.Walks.{goes, fails, ends}
 use Rattle.td_netlist.proofs.gates.nets.Goals as goal

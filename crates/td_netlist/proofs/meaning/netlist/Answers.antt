@@ -7,9 +7,9 @@ use Rattle.td_syntax.specs.declared.syntax.Front.{Front}
 use Rattle.td_syntax.specs.Grammar.{IsStatedDelay, unit_exponent}
 use Rattle.td_syntax.specs.Views.{module_view, option_delay_view}
 use Rattle.td_netlist.specs.declared.primitive.Primitive as code_primitive
-use Rattle.td_netlist.specs.WellFormed.{IsWellFormed}
+use Rattle.td_nets.specs.WellFormed.{IsWellFormed}
 use Rattle.td_netlist.specs.NameViews.{name_ref_of, placed_ref_of}
-use Rattle.td_netlist.specs.Views.{gate_of}
+use Rattle.td_nets.specs.Views.{gate_of}
 use Rattle.td_netlist.specs.PlacedNets.{nets_at}
 use Rattle.td_netlist.specs.Module.{Primitive, outputs_of, primitives, unit_of, defaulted_of}
 use Rattle.td_netlist.specs.CheckViews.{primitive_of, sides_of, drivers_of}

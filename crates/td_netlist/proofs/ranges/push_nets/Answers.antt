@@ -1,6 +1,6 @@
 use Rattle.std.proofs.Common.{◌++◌, ◌<◌, ◌≤◌, List, Some, ap, map, arith}
 use Rattle.std.proofs.lemmas.List.{map_push}
-use Rattle.td_netlist.specs.Netlist.{Name}
+use Rattle.td_nets.specs.Netlist.{Name}
 use Rattle.td_netlist.specs.Ranges.{width_of, nets_of}
 use Rattle.td_netlist.specs.NameViews.{name_ref_of}
 use Rattle.td_netlist.proofs.Bits.{at_begin, goes, ends}

@@ -1,7 +1,7 @@
 use Rattle.std.proofs.Common.{◌≡◌, ◌∙◌, ap, subst, Bool, not, List, map}
 use Rattle.std.specs.Prelude.{IfOk}
-use Rattle.td_netlist.specs.Netlist.{Name}
-use Rattle.td_netlist.specs.Names.{is_in, with_name}
+use Rattle.td_nets.specs.Netlist.{Name}
+use Rattle.td_nets.specs.Names.{is_in, with_name}
 use Rattle.td_netlist.specs.NameViews.{name_ref_of}
 use Rattle.td_netlist.proofs.Sets.{any_names, with_names, on_ok}
 use Rattle.td_netlist.proofs.names.Names.add.Goals as goal

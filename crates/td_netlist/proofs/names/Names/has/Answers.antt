@@ -1,6 +1,6 @@
 use Rattle.std.proofs.Common.{◌∙◌, ap, List}
-use Rattle.td_netlist.specs.Netlist.{Name}
-use Rattle.td_netlist.specs.Names.{is_in}
+use Rattle.td_nets.specs.Netlist.{Name}
+use Rattle.td_nets.specs.Names.{is_in}
 use Rattle.td_netlist.specs.NameViews.{name_ref_of}
 use Rattle.td_netlist.proofs.Sets.{any_names}
 use Rattle.td_netlist.proofs.names.Names.has.Goals as goal

@@ -1,0 +1,48 @@
+-- What a certificate is about, and by which version of its text that can be said.
+use Rattle.std.specs.Prelude.{ℕ, Bool, true, false, List, length, not, ◌==◌, ◌&&◌, if◌then◌else◌, replicate}
+use Rattle.std.specs.List.{list_all}
+use Rattle.td_domain.specs.declared.cubes.Trit.{Trit}
+use Rattle.td_domain.specs.declared.cubes.Trit.TheVariants.{Free}
+use Rattle.td_domain.specs.Admits.{Admitted, all_pairs}
+use Rattle.td_certificate.specs.declared.question.Version.{Version}
+use Rattle.td_certificate.specs.declared.question.Version.TheVariants.{First, Second, Third}
+
+-- which pairs are admitted, and for each input the moment at which it takes its second level
+pub record Question : Type 0 where
+  pub admit : Admitted
+  pub moments : List ℕ
+
+-- the number of inputs
+abbrev pub inputs_of : Question → ℕ
+inputs_of question = length question.admit.held
+
+abbrev pub is_free : Trit → Bool
+is_free Free = true
+is_free trit = false
+
+-- no input is held
+abbrev pub holds_none : List Bool → Bool
+holds_none held = list_all not held
+
+-- nothing is pinned or held, and all inputs may differ
+abbrev pub admits_all : Admitted → Bool
+admits_all admit = list_all is_free admit.pins && (holds_none admit.held && (admit.flips == length admit.held))
+
+-- all inputs change at moment 0
+abbrev pub is_at_once : List ℕ → Bool
+is_at_once moments = list_all (λ moment. moment == 0) moments
+
+-- The first version where all pairs are admitted and all inputs change at moment 0, the second where pairs are restricted, the
+-- third where an input changes later.
+abbrev pub version_of : Question → Version
+version_of question = if is_at_once question.moments then (if admits_all question.admit then First else Second) else Third
+
+-- the question of the first version for so many inputs
+abbrev pub all_at_once : ℕ → Question
+all_at_once inputs = record { admit = all_pairs inputs; moments = replicate inputs 0 }
+
+-- the number in the first line
+abbrev pub version_number : Version → ℕ
+version_number First = 1
+version_number Second = 2
+version_number Third = 3

@@ -1,0 +1,135 @@
+//! Reading what a certificate is about.
+
+ghost use Rattle.std.specs.Prelude.{◌≡◌, ◌≤◌, ◌<◌, ◌^◌, ◌==◌, ◌&&◌, length, true, IfOk};
+ghost use Rattle.td_certificate.specs.Text.{weave};
+ghost use Rattle.td_certificate.specs.Reading.{Gives, most_flips, flips_at, admit_at, moment_at, moments_at, at_line, question_at};
+
+use crate::characters::{Holds, Trits, line};
+use crate::fields::{Reason, Stop, literal, number_behind, number_from};
+use crate::question::{Question, Version, are_free, holds_none};
+use std::alloc::{AllocError, Global};
+use td_domain::{Admit, Cube, Trit};
+
+/// The latest moment of an input.
+const LATEST: u64 = 1_000_000_000;
+
+/// The cube with these first and these second trits.
+fn weave(alloc: Global, firsts: &[Trit], seconds: &[Trit]) -> Result<Cube, AllocError>
+    requires { length firsts.now ≡ length seconds.now }
+    ensures { IfOk result (λ cube. cube ≡ weave firsts.now seconds.now) }
+{
+    let mut trits = Vec::new(alloc);
+    for (input, first) in firsts.iter().enumerate() {
+        trits.push(*first)?;
+        trits.push(seconds[input])?;
+    }
+    Ok(Cube::new(trits))
+}
+
+/// The greatest number of flips in a text of this version. With all inputs where nothing is pinned or held, all pairs are
+/// admitted, which the second version doesn't say.
+fn most_flips(version: Version, pins: &Cube, held: &[bool]) -> u64
+    ensures { result ≡ most_flips version pins.now held.now }
+{
+    let inputs = held.len() as u64;
+    match version {
+        Version::Second => {
+            if are_free(pins) && holds_none(held) {
+                inputs.saturating_sub(1)
+            } else {
+                inputs
+            }
+        }
+        Version::First | Version::Third => inputs,
+    }
+}
+
+/// Takes the line of the flips.
+#[tactic(auto, unfolding(crate::specs::Reading::flips_at))]
+fn flips(most: u64, text: &[u8]) -> Result<(u64, &[u8]), Stop<'_>>
+    requires { most ≤ 10 ^ 18 }
+    ensures read { Gives (λ x. (x.0, x.1.now)) result (flips_at most text.now) }
+    ensures within { IfOk result (λ x. x.0 ≤ most) }
+{
+    match number_behind(b"flips ", most, b'\n', text) {
+        Err(Stop::Wrong(_, rest)) => Err(Stop::Wrong(Reason::Syntax, rest)),
+        other => other,
+    }
+}
+
+/// Takes the lines from `first` to `flips`.
+#[tactic(auto, unfolding(crate::specs::Reading::admit_at))]
+fn admit(
+    alloc: Global,
+    version: Version,
+    inputs: u32,
+    text: &[u8],
+) -> Result<(Admit, &[u8]), Stop<'_>>
+    requires { inputs ≤ 4096 }
+    ensures { Gives (λ x. (x.0, x.1.now)) result (admit_at version inputs text.now) }
+{
+    let (firsts, rest) = line::<Trits>(alloc, b"first ", inputs, text)?;
+    let (seconds, rest) = line::<Trits>(alloc, b"second ", inputs, rest)?;
+    let (held, rest) = line::<Holds>(alloc, b"hold ", inputs, rest)?;
+    let pins = weave(alloc, &firsts, &seconds)?;
+    let (flips, rest) = flips(most_flips(version, &pins, &held), rest)?;
+    Ok((Admit::new(pins, held, flips as u32), rest))
+}
+
+/// Takes a moment with so many others to come, behind moments that are all 0 or not.
+fn moment(at_once: bool, others: u32, text: &[u8]) -> Result<(u64, &[u8]), Stop<'_>>
+    ensures { Gives (λ x. (x.0, x.1.now)) result (moment_at at_once others text.now) }
+{
+    let close = if others == 0 { b'\n' } else { b' ' };
+    match number_from(at_once && others == 0, LATEST, close, text) {
+        Err(Stop::Wrong(_, rest)) => Err(Stop::Wrong(Reason::Syntax, rest)),
+        other => other,
+    }
+}
+
+/// Takes a moment for each input, not all of them 0.
+fn moments(alloc: Global, inputs: u32, text: &[u8]) -> Result<(Vec<u64>, &[u8]), Stop<'_>>
+    ensures { Gives (λ x. (x.0.items, x.1.now)) result (moments_at true inputs text.now) }
+{
+    let mut moments = Vec::new(alloc);
+    let mut at_once = true;
+    let mut rest = text;
+    for input in 0..inputs {
+        let (next, after) = moment(at_once, inputs - input - 1, rest)?;
+        at_once = at_once & (next == 0);
+        moments.push(next)?;
+        rest = after;
+    }
+    Ok((moments, rest))
+}
+
+/// Takes the lines of a question.
+#[tactic(auto, unfolding(crate::specs::Reading::question_at, crate::specs::Reading::at_line))]
+pub fn question(
+    alloc: Global,
+    version: Version,
+    inputs: u32,
+    text: &[u8],
+) -> Result<(Question, &[u8]), Stop<'_>>
+    requires { inputs ≤ 4096 }
+    ensures { Gives (λ x. (x.0, x.1.now)) result (question_at version inputs text.now) }
+{
+    match version {
+        Version::First => {
+            let admit = Admit::all(alloc, inputs as usize)?;
+            let moments = vec![in alloc; 0u64; inputs as usize]?;
+            Ok((Question::new(admit, moments), text))
+        }
+        Version::Second => {
+            let (admit, rest) = admit(alloc, version, inputs, text)?;
+            let moments = vec![in alloc; 0u64; inputs as usize]?;
+            Ok((Question::new(admit, moments), rest))
+        }
+        Version::Third => {
+            let (admit, rest) = admit(alloc, version, inputs, text)?;
+            let rest = literal(b"at ", rest)?;
+            let (moments, rest) = moments(alloc, inputs, rest)?;
+            Ok((Question::new(admit, moments), rest))
+        }
+    }
+}

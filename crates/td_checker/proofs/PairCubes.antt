@@ -1,0 +1,80 @@
+-- The cube in which a pair lies alone.
+use Rattle.std.proofs.Common.{◌≡◌, ◌*◌, ◌+◌, ℕ, zero, suc, Bool, true, false, List, [], ◌∷◌, ◌++◌, length, drop, refl, sym, ap, subst, ◌∙◌, append_assoc, arith}
+use Rattle.std.specs.Prelude.{slice_get, Some}
+use Rattle.td_domain.specs.declared.cubes.Trit.{Trit}
+use Rattle.td_domain.specs.Pairs.{Pair}
+use Rattle.td_domain.specs.Cubes.{Allows, AllowsBits}
+use Rattle.td_domain.specs.Admits.{Admitted, IsAdmitted, HasAdmitted}
+use Rattle.td_checker.specs.PairCubes.{trit_of, cube_of}
+use Rattle.td_checker.proofs.OneVerdict.{some_is, none_not}
+
+pub long_cube : (before after : List Bool) → length before ≡ length after → length (cube_of before after) ≡ 2 * length before
+long_cube [] [] e = refl
+long_cube [] (b ∷ after) e = absurd (omega arith)
+long_cube (a ∷ before) [] e = absurd (omega arith)
+long_cube (a ∷ before) (b ∷ after) e = let rest = long_cube before after (omega arith) in omega arith
+
+allows_own : (bit : Bool) → Allows (trit_of bit) bit
+allows_own true = tt
+allows_own false = tt
+
+own_only : (bit other : Bool) → Allows (trit_of bit) other → other ≡ bit
+own_only true true h = refl
+own_only true false h = absurd h
+own_only false true h = absurd h
+own_only false false h = refl
+
+inside : (before after : List Bool) → length before ≡ length after → AllowsBits (cube_of before after) before after
+inside [] [] e = tt
+inside [] (b ∷ after) e = absurd (omega arith)
+inside (a ∷ before) [] e = absurd (omega arith)
+inside (a ∷ before) (b ∷ after) e = (allows_own a, allows_own b, inside before after (omega arith))
+
+only : (before after others laters : List Bool) → length before ≡ length after → AllowsBits (cube_of before after) others laters
+    → (others ≡ before) × (laters ≡ after)
+only [] [] [] [] e h = (refl, refl)
+only [] [] [] (y ∷ laters) e h = absurd h
+only [] [] (x ∷ others) laters e h = absurd h
+only [] (b ∷ after) others laters e h = absurd (omega arith)
+only (a ∷ before) [] others laters e h = absurd (omega arith)
+only (a ∷ before) (b ∷ after) [] laters e h = absurd h
+only (a ∷ before) (b ∷ after) (x ∷ others) [] e h = absurd h
+only (a ∷ before) (b ∷ after) (x ∷ others) (y ∷ laters) e h =
+    let rest = only before after others laters (omega arith) h.2 in (
+      ap (λ z. z ∷ others) (own_only a x h.0) ∙ ap (λ zs. a ∷ zs) rest.0,
+      ap (λ z. z ∷ laters) (own_only b y h.1) ∙ ap (λ zs. b ∷ zs) rest.1,
+    )
+
+pair_is : (pair other : Pair) → other.first ≡ pair.first → other.second ≡ pair.second → other ≡ pair
+pair_is pair other e f = λ z. record { first = e z; second = f z }
+
+-- an admitted pair lies in the cube just where the pair is admitted
+pub alone : (admit : Admitted) (pair : Pair) → length pair.first ≡ length pair.second
+    → (HasAdmitted admit (cube_of pair.first pair.second) → IsAdmitted admit pair)
+    × (IsAdmitted admit pair → HasAdmitted admit (cube_of pair.first pair.second))
+alone admit pair e = (
+  λ has.
+      let same = only pair.first pair.second has.0.first has.0.second e has.2 in
+      subst (IsAdmitted admit) (pair_is pair has.0 same.0 same.1) has.1,
+  λ is. (pair, is, inside pair.first pair.second e),
+)
+
+rest_at : (xs : List Bool) (i : ℕ) (x : Bool) → slice_get xs i ≡ Some x → drop i xs ≡ x ∷ drop (suc i) xs
+rest_at [] i x is = none_not x is
+rest_at (y ∷ xs) zero x is = ap (λ z. z ∷ xs) (some_is y x is)
+rest_at (y ∷ xs) (suc i) x is = rest_at xs i x is
+
+-- one input more
+pub more_trits : (before after : List Bool) (i : ℕ) (a b : Bool) (done pushed both whole : List Trit) (t u : Trit)
+    → slice_get before i ≡ Some a → slice_get after i ≡ Some b → t ≡ trit_of a → u ≡ trit_of b → pushed ≡ done ++ t ∷ [] → both ≡ pushed ++ u ∷ []
+    → done ++ cube_of (drop i before) (drop i after) ≡ whole → both ++ cube_of (drop (i + 1) before) (drop (i + 1) after) ≡ whole
+more_trits before after i a b done pushed both whole t u at_a at_b t_is u_is p q was =
+    let next : suc i ≡ i + 1 = omega arith in
+    let rest : List Trit = cube_of (drop (i + 1) before) (drop (i + 1) after) in
+    let first : drop i before ≡ a ∷ drop (i + 1) before = rest_at before i a at_a ∙ ap (λ k. a ∷ drop k before) next in
+    let second : drop i after ≡ b ∷ drop (i + 1) after = rest_at after i b at_b ∙ ap (λ k. b ∷ drop k after) next in
+    let here : cube_of (drop i before) (drop i after) ≡ t ∷ u ∷ rest =
+    ap (λ l. cube_of l (drop i after)) first ∙ (ap (λ l. cube_of (a ∷ drop (i + 1) before) l) second
+    ∙ (ap (λ v. v ∷ trit_of b ∷ rest) (sym t_is) ∙ ap (λ v. t ∷ v ∷ rest) (sym u_is))) in
+    let joined : both ≡ done ++ t ∷ u ∷ [] = q ∙ (ap (λ l. l ++ u ∷ []) p ∙ append_assoc done (t ∷ []) (u ∷ [])) in
+    ap (λ l. l ++ rest) joined ∙ (append_assoc done (t ∷ u ∷ []) rest ∙ (ap (λ l. done ++ l) (sym here) ∙ was))

@@ -1,0 +1,40 @@
+//! Whether a pair is admitted.
+
+ghost use Rattle.std.specs.Prelude.{◌≡◌, ◌↔◌, length, IfOk, IsTrue};
+ghost use Rattle.td_domain.specs.Admits.{IsAdmitted};
+ghost use Rattle.td_checker.specs.PairCubes.{trit_of, cube_of};
+
+use std::alloc::{AllocError, Global};
+use td_domain::{Admit, Cube, Pair, Trit};
+
+/// The trit that allows this bit alone.
+fn trit_of(bit: bool) -> Trit
+    ensures { result ≡ trit_of bit }
+{
+    if bit { Trit::One } else { Trit::Zero }
+}
+
+/// The cube in which the pair lies alone.
+fn cube_of(alloc: Global, pair: &Pair) -> Result<Cube, AllocError>
+    requires { length pair.now.first ≡ length pair.now.second }
+    ensures { IfOk result (λ cube. cube ≡ cube_of pair.now.first pair.now.second) }
+{
+    let mut trits = Vec::new(alloc);
+    for (input, before) in pair.first().iter().enumerate() {
+        trits.push(trit_of(*before))?;
+        trits.push(trit_of(pair.second()[input]))?;
+    }
+    Ok(Cube::new(trits))
+}
+
+/// Whether a pair is admitted, which has a bit in each vector for each input.
+#[tactic(auto, using(crate::proofs::PairCubes::long_cube, crate::proofs::PairCubes::alone))]
+pub fn is_admitted(alloc: Global, admit: &Admit, pair: &Pair) -> Result<bool, AllocError>
+    requires first { length pair.now.first ≡ length admit.now.held }
+    requires second { length pair.now.second ≡ length admit.now.held }
+    ensures { IfOk result (λ is. IsTrue is ↔ IsAdmitted admit.now pair.now) }
+{
+    let _pins = admit.pins();
+    let cube = cube_of(alloc, pair)?;
+    Ok(admit.any(&cube))
+}

@@ -1,0 +1,17 @@
+use Rattle.td_search.specs.Problems.{problem}
+use Rattle.td_cli.proofs.Questions.{asked_held, asked_flips, no_answer, certificate_spelled}
+use Rattle.td_cli.proofs.searching.worst.Goals as goal
+
+pub alone-requires-clause-held : goal.alone-requires-clause-held
+alone-requires-clause-held c = asked_held c.args.text.now c.args.default c.args.words _ c.in_ok-circuit.ensures.asked
+
+pub returns-in-Err-clause-refusal : goal.returns-in-Err-clause-refusal
+returns-in-Err-clause-refusal c =
+    rw c.unanswered.ensures (no_answer c.args.text.now c.args.default c.args.words _ c.in-Err.fault c.in_ok-circuit.ensures.asked c.in-Err.ensures.fault)
+
+pub certificate-certificate-requires-clause-flips : goal.certificate-certificate-requires-clause-flips
+certificate-certificate-requires-clause-flips c = asked_flips c.args.text.now c.args.default c.args.words _ c.in_ok-circuit.ensures.asked
+
+pub returns-clause-spelled : goal.returns-clause-spelled
+returns-clause-spelled c =
+    rw c.certificate-certificate.ensures (certificate_spelled (problem c.in_ok-circuit.field-0.circuit c.in_ok-circuit.field-0.admit) c.in-Ok.answer c.in-Ok.ensures.text)

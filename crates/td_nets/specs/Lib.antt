@@ -1,0 +1,10 @@
+pub mod Letters
+pub mod Words
+pub mod Keywords
+pub mod Candidates
+pub mod Identifiers
+pub mod Netlist
+pub mod Names
+pub mod WellFormed
+pub mod Views
+pub mod Printed

@@ -1,0 +1,34 @@
+-- What a search is asked: the delays of the admitted pairs of a setting.
+use Rattle.std.specs.Prelude.{ℕ, ◌≤◌, List, Some}
+use Rattle.td_circuit.specs.Settings.{Setting}
+use Rattle.td_circuit.specs.Numbering.{Numbered, setting}
+use Rattle.td_circuit.specs.Run.{IsDelayOfBits}
+use Rattle.td_domain.specs.declared.cubes.Trit.{Trit}
+use Rattle.td_domain.specs.Pairs.{Pair}
+use Rattle.td_domain.specs.Cubes.{IsIn}
+use Rattle.td_domain.specs.Admits.{Admitted, IsAdmitted}
+use Rattle.td_certificate.specs.declared.tree.BoundedBy.TheVariants.{Both}
+use Rattle.td_certificate.specs.Accepts.{IsBoundBy}
+
+pub record Problem : Type 0 where
+  pub setting : Setting
+  pub admit : Admitted
+
+abbrev pub problem : Numbered → Admitted → Problem
+problem circuit admit = record { setting = setting circuit; admit = admit }
+
+-- the pair is admitted, and has this delay
+abbrev pub has_delay : Problem → Pair → ℕ → Type 0
+has_delay asked pair delay = IsAdmitted asked.admit pair × IsDelayOfBits asked.setting pair.first pair.second delay
+
+-- the strongest domain bounds the cube so
+abbrev pub has_bound : Problem → List Trit → ℕ → Type 0
+has_bound asked cube bound = IsBoundBy Both asked.setting cube (Some bound)
+
+-- no admitted pair of the cube has a greater delay
+abbrev pub IsAbove : Problem → List Trit → ℕ → Type 0
+IsAbove asked cube bound = (pair : Pair) (delay : ℕ) → IsIn pair cube → has_delay asked pair delay → delay ≤ bound
+
+-- each pair of the cube is one of the whole
+abbrev pub IsPart : List Trit → List Trit → Type 0
+IsPart cube whole = (pair : Pair) → IsIn pair cube → IsIn pair whole
