@@ -26,21 +26,21 @@ loop-output-init g c = record {
 pub overflow_sub-gate : goal.overflow_sub-gate
 overflow_sub-gate g c =
     (numbered g.D.Domain.functions g.D.Domain.reach c.args.circuit.now c.gates-gates.ensures.numbering c.args.cone.now c.args.signals.now
-    c.loop-output.output-index _ c.requires.can c.loop-output-test.true c.inputs-first.ensures).0
+    c.loop-output.output-index _ c.requires.can c.loop-output-test.true c.input_count-first.ensures).0
 
 pub bounds-gates-net : goal.bounds-gates-net
 bounds-gates-net g c =
     omega (
       arith,
       (numbered g.D.Domain.functions g.D.Domain.reach c.args.circuit.now c.gates-gates.ensures.numbering c.args.cone.now c.args.signals.now
-      c.loop-output.output-index _ c.requires.can c.loop-output-test.true c.inputs-first.ensures).1,
+      c.loop-output.output-index _ c.requires.can c.loop-output-test.true c.input_count-first.ensures).1,
       same_length _ _ c.gates-gates.ensures.gates,
     )
 
 pub gate-requires-clause-places : goal.gate-requires-clause-places
 gate-requires-clause-places g c =
     let place = numbered g.D.Domain.functions g.D.Domain.reach c.args.circuit.now c.gates-gates.ensures.numbering c.args.cone.now c.args.signals.now
-    c.loop-output.output-index _ c.requires.can c.loop-output-test.true c.inputs-first.ensures in
+    c.loop-output.output-index _ c.requires.can c.loop-output-test.true c.input_count-first.ensures in
     let stands = at_place _ _ _ _ c.gates-gates.ensures.gates (omega (arith, place.1, same_length _ _ c.gates-gates.ensures.gates)) c.index-gates-net.is in
     rw c.deref.ensures.value (λ k d less.
     let lower = lower-at c.args.circuit.now c.gates-gates.ensures.numbering _ _ stands k d less in
@@ -49,21 +49,21 @@ gate-requires-clause-places g c =
 pub gate-requires-clause-takes : goal.gate-requires-clause-takes
 gate-requires-clause-takes g c =
     let place = numbered g.D.Domain.functions g.D.Domain.reach c.args.circuit.now c.gates-gates.ensures.numbering c.args.cone.now c.args.signals.now
-    c.loop-output.output-index _ c.requires.can c.loop-output-test.true c.inputs-first.ensures in
+    c.loop-output.output-index _ c.requires.can c.loop-output-test.true c.input_count-first.ensures in
     let stands = at_place _ _ _ _ c.gates-gates.ensures.gates (omega (arith, place.1, same_length _ _ c.gates-gates.ensures.gates)) c.index-gates-net.is in
     rw c.deref.ensures.value (takes-at c.args.circuit.now c.gates-gates.ensures.numbering _ _ stands)
 
 pub gate-requires-clause-few : goal.gate-requires-clause-few
 gate-requires-clause-few g c =
     let place = numbered g.D.Domain.functions g.D.Domain.reach c.args.circuit.now c.gates-gates.ensures.numbering c.args.cone.now c.args.signals.now
-    c.loop-output.output-index _ c.requires.can c.loop-output-test.true c.inputs-first.ensures in
+    c.loop-output.output-index _ c.requires.can c.loop-output-test.true c.input_count-first.ensures in
     let stands = at_place _ _ _ _ c.gates-gates.ensures.gates (omega (arith, place.1, same_length _ _ c.gates-gates.ensures.gates)) c.index-gates-net.is in
     rw c.deref.ensures.value (terminals-at c.args.circuit.now c.gates-gates.ensures.numbering _ _ stands)
 
 pub gate-requires-clause-within : goal.gate-requires-clause-within
 gate-requires-clause-within g c =
     let place = numbered g.D.Domain.functions g.D.Domain.reach c.args.circuit.now c.gates-gates.ensures.numbering c.args.cone.now c.args.signals.now
-    c.loop-output.output-index _ c.requires.can c.loop-output-test.true c.inputs-first.ensures in
+    c.loop-output.output-index _ c.requires.can c.loop-output-test.true c.input_count-first.ensures in
     let stands = at_place _ _ _ _ c.gates-gates.ensures.gates (omega (arith, place.1, same_length _ _ c.gates-gates.ensures.gates)) c.index-gates-net.is in
     rw c.deref.ensures.value (reads-small g.D.Domain.functions g.D.Domain.reach c.args.circuit.now c.gates-gates.ensures.numbering
     c.loop-output.signals _ _ stands (c.loop-output.invariant.redone.count ∙ c.requires.can.count) c.loop-output.invariant.redone.near)
@@ -71,18 +71,18 @@ gate-requires-clause-within g c =
 pub put-requires-clause-net : goal.put-requires-clause-net
 put-requires-clause-net g c =
     let place = numbered g.D.Domain.functions g.D.Domain.reach c.args.circuit.now c.gates-gates.ensures.numbering c.args.cone.now c.args.signals.now
-    c.loop-output.output-index _ c.requires.can c.loop-output-test.true c.inputs-first.ensures in
+    c.loop-output.output-index _ c.requires.can c.loop-output-test.true c.input_count-first.ensures in
     omega (arith, place.1, place.2, c.loop-output.invariant.redone.count, c.requires.can.count, length-nets c.args.circuit.now c.gates-gates.ensures.numbering)
 
 pub loop-output-preserved : goal.loop-output-preserved
 loop-output-preserved g c =
     let place = numbered g.D.Domain.functions g.D.Domain.reach c.args.circuit.now c.gates-gates.ensures.numbering c.args.cone.now c.args.signals.now
-    c.loop-output.output-index _ c.requires.can c.loop-output-test.true c.inputs-first.ensures in
+    c.loop-output.output-index _ c.requires.can c.loop-output-test.true c.input_count-first.ensures in
     let stands = at_place _ _ _ _ c.gates-gates.ensures.gates (omega (arith, place.1, same_length _ _ c.gates-gates.ensures.gates)) c.index-gates-net.is in
     record {
       redone = redo-next g.D.Domain.functions g.D.Domain.reach c.args.circuit.now c.gates-gates.ensures.numbering
           g.met.D.Domain.reach_gate c.args.cone.now c.loop-output.output-index _ c.args.signals.now c.loop-output.signals _ (gate_of c.index-gates-net.result) c.in_ok-signal.signal
-          c.requires.can c.loop-output-test.true c.inputs-first.ensures stands c.loop-output.invariant.redone (rw c.deref.ensures.value at c.in_ok-signal.ensures) c.put.ensures.signals;
+          c.requires.can c.loop-output-test.true c.input_count-first.ensures stands c.loop-output.invariant.redone (rw c.deref.ensures.value at c.in_ok-signal.ensures) c.put.ensures.signals;
       undone = c.put.ensures.undone ∙ c.loop-output.invariant.undone;
       within = rw (← c.loop-output.invariant.redone.count) (c.put.ensures.within (rw c.loop-output.invariant.redone.count c.loop-output.invariant.within));
       room = omega (arith, c.loop-output.invariant.room, c.put.ensures.len, c.put.ensures.capacity);
