@@ -17,4 +17,3 @@ small last_of reach law circuit numbering signals count reaches outputs moment i
     let within = greatest_at-within last_of reach law signals most
     (λ net signal at. let low = reaches net signal at in let there = slice_get_within signals net signal at in omega arith) outputs moment is in
     omega (arith, count, length-nets circuit numbering, few_gates circuit numbering, numbering.well_formed.few_inputs, within)
-

@@ -1,10 +1,10 @@
 -- The signals of two domains side by side.
-use Rattle.std.proofs.Common.{◌≡◌, ℕ, zero, suc, ◌+◌, ◌*◌, ◌<◌, ◌≤◌, ◌^◌, max, Bool, List, [], ◌∷◌, length, map, refl, arith, sym, ap, ◌∙◌, Option, Some, None}
+use Rattle.std.proofs.Common.{◌≡◌, ℕ, zero, suc, ◌+◌, ◌<◌, max, List, [], ◌∷◌, length, map, refl, arith, sym, ap, ◌∙◌, Some}
 use Rattle.std.specs.Prelude.{slice_get, filter_map}
-use Rattle.std.specs.List.{All, AllByRecursion}
+use Rattle.std.specs.List.{AllByRecursion}
 use Rattle.std.proofs.lemmas.List.Elements.{recursion_from_All}
 use Rattle.td_gates.proofs.Places.{some-same, slice_get-within}
-use Rattle.td_circuit.specs.Numbering.{NumberedGate, Numbered, first_output, IsNumbering}
+use Rattle.td_circuit.specs.Numbering.{Numbered, first_output, IsNumbering}
 use Rattle.td_circuit.proofs.Nets.{lower-at}
 use Rattle.td_domain.specs.declared.cubes.Trit.{Trit}
 use Rattle.td_domain.specs.Functions.{Functions}

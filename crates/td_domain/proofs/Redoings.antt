@@ -1,5 +1,5 @@
 -- Evaluating some gates anew.
-use Rattle.std.proofs.Common.{◌≡◌, ◌≢◌, ℕ, zero, suc, ◌+◌, ◌*◌, ◌<◌, ◌≤◌, ◌^◌, max, Bool, List, [], ◌∷◌, ◌++◌, length, set, take, get_or, ◌-◌, ◌/◌, refl, arith, ◌⊎◌, inl, inr, sym, ap, ◌∙◌, Option, Some, None}
+use Rattle.std.proofs.Common.{◌≡◌, ◌≢◌, ℕ, zero, suc, ◌+◌, ◌*◌, ◌<◌, ◌≤◌, ◌^◌, max, List, [], ◌∷◌, ◌++◌, length, set, take, get_or, ◌-◌, ◌/◌, refl, arith, ◌⊎◌, inl, inr, sym, ap, ◌∙◌, Some}
 use Rattle.std.specs.Prelude.{slice_get, filter_map}
 use Rattle.std.specs.List.{All, AllByRecursion, Contains}
 use Rattle.std.proofs.lemmas.Bool.{cases_eq}
@@ -16,7 +16,7 @@ use Rattle.td_domain.specs.declared.cubes.Trit.TheVariants.{Free}
 use Rattle.td_domain.specs.Functions.{Functions}
 use Rattle.td_domain.specs.Sheets.{IsPage}
 use Rattle.td_domain.specs.FirstSignals.{AreFirstSignals}
-use Rattle.td_domain.specs.Cones.{ReadsNet, IsReached, IsCone}
+use Rattle.td_domain.specs.Cones.{ReadsNet, IsCone}
 use Rattle.td_domain.specs.Redoing.{AreNear, CanRedo, AreAllRedone}
 use Rattle.td_domain.proofs.Lists.{filter_map-same, weaker}
 use Rattle.td_domain.proofs.FrontLemmas.{fast}
@@ -127,6 +127,7 @@ module _ {Sig : Type 0} (functions : Functions Sig) (reach : Sig → ℕ) (circu
     where
       within : first_output circuit + place < length signals
       within = omega (arith, are.count, count, length-nets circuit numbering, slice_get_within circuit.gates place gate stands)
+
       small : reach x ≤ (first_output circuit + place + 1) * 10 ^ 9
       small =
           let few : max gate.delay.rise gate.delay.fall ≤ 10 ^ 9 = fast circuit numbering place gate stands in

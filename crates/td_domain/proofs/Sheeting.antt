@@ -1,11 +1,10 @@
 -- Sheets after a narrowing, and after a refused one.
-use Rattle.std.proofs.Common.{◌≡◌, ◌≢◌, ℕ, zero, suc, ◌+◌, ◌*◌, ◌/◌, ◌<◌, ◌≤◌, ◌^◌, Bool, List, [], ◌∷◌, ◌++◌, length, set, take, drop, reverse, replicate, get_or, refl, arith, ◌⊎◌, inl, inr, sym, ap, ◌∙◌, subst, Option, Some, None}
+use Rattle.std.proofs.Common.{◌≡◌, ℕ, zero, suc, ◌+◌, ◌<◌, ◌≤◌, ◌^◌, List, [], ◌∷◌, ◌++◌, length, set, take, drop, reverse, replicate, get_or, refl, arith, inl, inr, sym, ap, ◌∙◌, Option, Some, None}
 use Rattle.std.specs.Prelude.{slice_get}
-use Rattle.std.specs.List.{All, AllByRecursion, Contains}
 use Rattle.std.specs.Global.{Vec}
 use Rattle.std.proofs.lemmas.List.{length-set, reverse-append}
-use Rattle.td_gates.proofs.Places.{some-same, slice_get-set_cases, slice_get-get, slice_get-some, slice_get-within, get-slice_get, slice_get-Contains}
-use Rattle.td_circuit.specs.Numbering.{Numbered, nets, first_output, IsNumbering}
+use Rattle.td_gates.proofs.Places.{slice_get-set_cases, slice_get-get, slice_get-some, slice_get-within, get-slice_get, slice_get-Contains}
+use Rattle.td_circuit.specs.Numbering.{Numbered, IsNumbering}
 use Rattle.td_circuit.proofs.Nets.{few_gates}
 use Rattle.td_domain.specs.declared.cubes.Trit.{Trit}
 use Rattle.td_domain.specs.declared.cubes.Trit.TheVariants.{Free}
@@ -14,7 +13,7 @@ use Rattle.td_domain.specs.declared.undoing.Replaced.{Replaced}
 use Rattle.td_domain.specs.Functions.{Functions}
 use Rattle.td_domain.specs.Cones.{IsRising, IsCone}
 use Rattle.td_domain.specs.Undoing.{undone, AreWithin}
-use Rattle.td_domain.specs.Sheets.{Page, Shown, page_of, pages_before, CanBeUndone, IsSheet, IsUnchanged, AreCones}
+use Rattle.td_domain.specs.Sheets.{Shown, pages_before, CanBeUndone, IsSheet, IsUnchanged, AreCones}
 use Rattle.td_domain.proofs.Undoings.{set-back}
 use Rattle.td_domain.proofs.Coning.{replicated, length-replicated}
 

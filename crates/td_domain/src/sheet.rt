@@ -108,12 +108,20 @@ impl<D: Domain> Sheet<D> {
         self.narrowings.reserve(1)?;
         let cone = taken_cone(self.alloc, circuit, &mut self.cones, input)?;
         self.cube.set(position, known(bit));
-        let redone = redo::<D>(self.alloc, circuit, &self.cube, position, &cone, &mut self.signals);
+        let redone = redo::<D>(
+            self.alloc,
+            circuit,
+            &self.cube,
+            position,
+            &cone,
+            &mut self.signals,
+        );
         let count = cone.len() as u32;
         self.cones[input] = kept(circuit, cone);
         match redone {
             Ok(replaced) => {
-                self.narrowings.push_reserved(Narrowing { position, replaced });
+                self.narrowings
+                    .push_reserved(Narrowing { position, replaced });
                 self.redone = count;
                 Ok(())
             }

@@ -3,7 +3,7 @@
 ghost use Rattle.std.specs.Prelude.{◌≡◌, ℕ, ◌<◌, ◌^◌, Option, Some, length, map, filter_map, slice_get};
 ghost use Rattle.std.specs.List.{All};
 ghost use Rattle.td_circuit.specs.Numbering.{setting};
-ghost use Rattle.td_domain.specs.Bounds.{IsBound, IsUpperBoundIn, greatest};
+ghost use Rattle.td_domain.specs.Bounds.{IsBound, IsUpperBoundIn, greatest_bound};
 ghost use Rattle.td_domain.specs.Sheets.{IsSheet};
 ghost use Rattle.td_domain.specs.Together.{both_functions, lesser, pairs};
 

@@ -1,10 +1,6 @@
-use Rattle.std.proofs.Common.{◌≡◌, ◌<◌, ◌≤◌, ◌+◌, ◌*◌, ◌^◌, ℕ, List, length, map, Option, Some, arith, sym, ◌∙◌}
-use Rattle.std.specs.Prelude.{slice_get, filter_map}
-use Rattle.std.proofs.lemmas.Option.{slice_get_within}
-use Rattle.td_circuit.specs.Numbering.{Numbered, IsNumbering, nets}
-use Rattle.td_circuit.proofs.Nets.{numbers-below, length-nets, few_gates}
-use Rattle.td_domain.specs.Bounds.{greatest_bound}
-use Rattle.td_domain.proofs.GreatestLemmas.{greatest_at-within}
+use Rattle.std.proofs.Common.{sym, ◌∙◌}
+use Rattle.td_circuit.specs.Numbering.{nets}
+use Rattle.td_circuit.proofs.Nets.{numbers-below}
 use Rattle.td_domain.proofs.Limits.{small}
 use Rattle.td_domain.proofs.Soundness.{no_later, front-bound, one_bound}
 use Rattle.td_domain.proofs.Reaches.{within_reach}

@@ -1,11 +1,9 @@
-use Rattle.std.proofs.Common.{◌≡◌, ◌+◌, ◌-◌, ◌<◌, ◌≤◌, ◌∷◌, [], ◌++◌, ℕ, List, length, map, set, get_or, arith, sym, ap, ◌∙◌, refl, vec_len}
+use Rattle.std.proofs.Common.{◌≡◌, List, length, map, arith, sym, ap, ◌∙◌, refl}
 use Rattle.std.proofs.lemmas.List.{length-map}
-use Rattle.std.specs.Prelude.{slice_get, Some}
 use Rattle.td_circuit.specs.declared.circuit.Gate as code
 use Rattle.td_circuit.specs.Views.{gate_of}
-use Rattle.td_circuit.specs.Numbering.{NumberedGate, Numbered, IsNumbering, nets, first_output}
+use Rattle.td_circuit.specs.Numbering.{NumberedGate}
 use Rattle.td_circuit.proofs.Nets.{lower-at, length-nets, takes-at}
-use Rattle.td_domain.specs.Redoing.{CanRedo}
 use Rattle.td_domain.proofs.Coning.{at_place}
 use Rattle.td_domain.proofs.FrontLemmas.{terminals-at}
 use Rattle.td_domain.proofs.Redoings.{redo-none, redo-next, numbered, reads-small}
@@ -33,7 +31,7 @@ bounds-gates-net g c =
     omega (
       arith,
       (numbered g.D.Domain.functions g.D.Domain.reach c.args.circuit.now c.gates-gates.ensures.numbering c.args.cone.now c.args.signals.now
-      c.loop-output.output-index _ c.requires.can c.loop-output-test.true c.input_count-first.ensures).1,
+          c.loop-output.output-index _ c.requires.can c.loop-output-test.true c.input_count-first.ensures).1,
       same_length _ _ c.gates-gates.ensures.gates,
     )
 

@@ -1,8 +1,7 @@
-use Rattle.std.proofs.Common.{◌≡◌, ◌<◌, ◌∙◌, ◌⊎◌, ℕ, List, length, map, max, sym, ap, refl, arith, Option, Some}
-use Rattle.std.specs.Prelude.{slice_get, filter_map}
+use Rattle.std.proofs.Common.{◌≡◌, ◌∙◌, ◌⊎◌, length, max, sym}
 use Rattle.td_circuit.specs.Numbering.{nets}
 use Rattle.td_circuit.proofs.Nets.{numbers-below}
-use Rattle.td_domain.specs.Together.{both_functions, lesser, pairs}
+use Rattle.td_domain.specs.Together.{both_functions, pairs}
 use Rattle.td_domain.specs.BothLaws.{both_covers_gate, both_quiet, both_last_is_moment, both_reach_each}
 use Rattle.td_domain.proofs.Pairing.{pairs-front, length-pairs}
 use Rattle.td_domain.proofs.Limits.{small}

@@ -1,7 +1,6 @@
-use Rattle.std.proofs.Common.{◌≡◌, ◌<◌, ◌≤◌, ◌+◌, ◌*◌, ◌^◌, ◌∙◌, ℕ, List, length, map, sym, ap, refl, arith, Option, Some}
+use Rattle.std.proofs.Common.{◌≡◌, ◌∙◌, map, sym}
 use Rattle.std.specs.Prelude.{slice_get, filter_map}
 use Rattle.td_domain.specs.Bounds.{greatest_bound}
-use Rattle.td_domain.specs.Sheets.{Shown}
 use Rattle.td_domain.proofs.Limits.{small}
 use Rattle.td_domain.proofs.Soundness.{no_later, front-bound, one_bound}
 use Rattle.td_domain.proofs.Reaches.{within_reach}

@@ -1,9 +1,9 @@
-use Rattle.std.proofs.Common.{◌≡◌, ◌∙◌, ◌+◌, ◌*◌, ◌/◌, ◌<◌, ◌++◌, ◌∷◌, [], ℕ, List, length, set, take, drop, sym, ap, refl, arith, Some, None}
+use Rattle.std.proofs.Common.{◌≡◌, ◌∙◌, ◌/◌, ◌++◌, ◌∷◌, [], length, set, take, drop, sym, ap, arith}
 use Rattle.std.proofs.lemmas.List.{length-set}
 use Rattle.std.specs.Prelude.{slice_get}
 use Rattle.td_gates.proofs.Places.{slice_get-some}
 use Rattle.td_domain.specs.declared.cubes.Trit.TheVariants.{Free}
-use Rattle.td_domain.specs.Sheets.{Shown, page_of, known}
+use Rattle.td_domain.specs.Sheets.{Shown, page_of}
 use Rattle.td_domain.proofs.Sheeting.{written, free-again, few-reached, cones-kept, pages-more, undoable-more, still-sheet}
 use Rattle.td_domain.proofs.sheet.Sheet.narrow.Goals as goal
 
@@ -124,7 +124,7 @@ returns-in-Err-clause-sheet g c =
     still-sheet g.D.Domain.functions g.D.Domain.reach c.args.circuit.now c.args.self.now _ c.requires.sheet
     (returns-in-Err-clause-refused g c) (ap (λ (s : Shown _). s.outputs) c.self.view_is)
     (rw cones (cones-kept c.args.circuit.now c.taken_cone.new.cones (c.args.position / 2) c.in_ok-cone.cone c.kept.result
-          c.taken_cone.ensures.cones c.in_ok-cone.ensures.cone c.kept.ensures))
+    c.taken_cone.ensures.cones c.in_ok-cone.ensures.cone c.kept.ensures))
 
 pub returns-in-Err-clause-counted : goal.returns-in-Err-clause-counted
 returns-in-Err-clause-counted g c = ap (λ (s : Shown _). s.redone) c.self.view_is

@@ -1,8 +1,6 @@
-use Rattle.std.proofs.Common.{◌≡◌, ◌<◌, ◌∙◌, ℕ, length, sym, ap, refl, arith, Option, Some, None, replicate}
-use Rattle.std.specs.Prelude.{slice_get}
+use Rattle.std.proofs.Common.{◌∙◌}
 use Rattle.td_circuit.specs.Numbering.{nets}
 use Rattle.td_circuit.proofs.Nets.{numbers-below}
-use Rattle.td_domain.proofs.Coning.{replicated, length-replicated}
 use Rattle.td_domain.proofs.sheet.Sheet.new.Goals as goal
 
 pub invariant_of-result : goal.invariant_of-result
