@@ -1,0 +1,14 @@
+-- Internal: the sheets of a search.
+use Rattle.td_circuit.specs.Numbering.{Numbered}
+use Rattle.td_domain.specs.Sheets.{IsSheet}
+use Rattle.td_arrival.specs.Arrivals.{arrival_functions}
+use Rattle.td_arrival.specs.Coverage.{span_reach}
+use Rattle.td_ternary.specs.Possibles.{possible_functions}
+use Rattle.td_ternary.specs.Coverage.{last_change}
+use Rattle.td_search.specs.declared.sheets.Sheets.{Sheets}
+
+-- the sheets are of this circuit
+abbrev pub AreSheets : Numbered → Sheets → Type 0
+AreSheets circuit sheets =
+    IsSheet arrival_functions (λ signal. span_reach signal.changes) circuit sheets.arrival
+    × IsSheet possible_functions (λ signal. last_change signal.changes) circuit sheets.possible
