@@ -1,4 +1,3 @@
-use Rattle.std.proofs.Common.{arith}
 use Rattle.td_event_sim.proofs.Waitings.{waiting-set}
 use Rattle.td_event_sim.proofs.phases.schedule.Goals as goal
 

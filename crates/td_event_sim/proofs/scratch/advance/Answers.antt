@@ -2,7 +2,7 @@ use Rattle.std.proofs.Common.{length, map, sym, ap, ◌∙◌, ◌+◌, arith, a
 use Rattle.td_circuit.specs.Numbering.{nets, first_output}
 use Rattle.td_event_sim.specs.Moment.{AreWaitingBut}
 use Rattle.td_event_sim.proofs.Moments.{moment-done}
-use Rattle.td_event_sim.proofs.Fits.{length-gates, all-numbers, readers-within, none-earlier, waiting-but}
+use Rattle.td_event_sim.proofs.Fits.{all-numbers, readers-within, none-earlier, waiting-but}
 use Rattle.td_event_sim.proofs.scratch.advance.Goals as goal
 
 pub update-requires-clause-first : goal.update-requires-clause-first
