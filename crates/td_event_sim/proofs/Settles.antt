@@ -1,8 +1,8 @@
 -- Settled levels by bits are the starts of the run's waves, and what the run's inputs and constants do.
-use Rattle.std.proofs.Common.{◌≡◌, ◌≢◌, ℕ, zero, suc, ◌+◌, ◌-◌, ◌^◌, ◌<◌, Bool, false, List, [], ◌∷◌, length, map, get_or, set, refl, arith, inl, inr, sym, ap, ◌∙◌, Some, get_or-set_same, get_or-set_other}
+use Rattle.std.proofs.Common.{◌≡◌, ◌≢◌, ℕ, zero, suc, ◌+◌, ◌<◌, Bool, false, List, [], ◌∷◌, length, map, get_or, set, refl, arith, inl, inr, sym, ap, ◌∙◌, Some, get_or-set_same, get_or-set_other}
 use Rattle.std.specs.Prelude.{slice_get, nat_lt, if◌then◌else◌, ◌%◌, ◌==◌, cond, count_by, not}
 use Rattle.std.specs.List.{All, Contains, list_all, list_any}
-use Rattle.std.proofs.lemmas.Bool.{cases_eq, cases_lt, cases_Bool}
+use Rattle.std.proofs.lemmas.Bool.{cases_eq}
 use Rattle.std.proofs.lemmas.List.{length-map}
 use Rattle.std.proofs.lemmas.List.Elements.{All-head, All-tail, All-contains}
 use Rattle.std.proofs.lemmas.List.Recursion.{is_count_by}
@@ -10,7 +10,7 @@ use Rattle.td_gates.specs.declared.primitives.Level.{Level}
 use Rattle.td_gates.specs.declared.primitives.Level.TheVariants.{X}
 use Rattle.td_gates.specs.declared.primitives.Kind.{Kind}
 use Rattle.td_gates.specs.declared.primitives.Kind.TheVariants.{And, Nand, Or, Nor, Xor, Xnor, Buf, Not}
-use Rattle.td_gates.specs.Table.{table, level_eq, level_from}
+use Rattle.td_gates.specs.Table.{table, level_from}
 use Rattle.td_gates.specs.Wave.{Wave, at, before}
 use Rattle.td_gates.proofs.Places.{slice_get-some, slice_get-within, slice_get-get, slice_get-map_some}
 use Rattle.td_nets.specs.Netlist.{Name, Net, Low, High, Named, Gate}

@@ -1,5 +1,5 @@
 -- The state before moment 0.
-use Rattle.std.proofs.Common.{◌≡◌, ℕ, ◌+◌, ◌-◌, ◌^◌, ◌<◌, ◌≤◌, Bool, true, false, List, length, map, get_or, refl, arith, inl, inr, sym, ap, subst, ◌∙◌, Some}
+use Rattle.std.proofs.Common.{◌≡◌, ℕ, ◌+◌, ◌-◌, ◌^◌, ◌<◌, ◌≤◌, Bool, true, false, List, length, map, get_or, refl, arith, inl, inr, sym, ap, subst, ◌∙◌}
 use Rattle.std.proofs.lemmas.Bool.{cases_lt}
 use Rattle.std.proofs.lemmas.List.{length-map}
 use Rattle.td_gates.specs.Table.{level_from}
@@ -13,7 +13,7 @@ use Rattle.td_run.specs.Runs.{IsRunUpTo}
 use Rattle.td_event_sim.specs.Bits.{bit_at}
 use Rattle.td_event_sim.specs.Settling.{AreSettled}
 use Rattle.td_event_sim.specs.Moment.{event_of, AreScheduled, IsInputEvent}
-use Rattle.td_event_sim.specs.State.{gate_before, IsStateBefore}
+use Rattle.td_event_sim.specs.State.{IsStateBefore}
 use Rattle.td_event_sim.proofs.Steps.{some-event, no-event}
 use Rattle.td_event_sim.proofs.Settles.{starts-are}
 use Rattle.td_event_sim.proofs.Runs.{event_to, input_state, net_state, early-input, constant-state, input-state, output-state}

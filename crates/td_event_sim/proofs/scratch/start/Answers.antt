@@ -1,5 +1,5 @@
-use Rattle.std.proofs.Common.{◌≡◌, ◌-◌, ◌^◌, ◌<◌, length, map, ◌∙◌, arith, sym, ap, subst, get_or, replicate, ℕ, List, Bool}
-use Rattle.std.proofs.lemmas.List.{length-map, length-replicate, get_or-replicate}
+use Rattle.std.proofs.Common.{◌≡◌, ◌<◌, length, map, ◌∙◌, arith, sym, ap, subst, get_or, replicate, ℕ, List, Bool}
+use Rattle.std.proofs.lemmas.List.{length-map, get_or-replicate}
 use Rattle.td_gates.specs.Table.{level_from}
 use Rattle.td_event_sim.specs.Settling.{AreSettled}
 use Rattle.td_event_sim.specs.Moment.{AreScheduled}
