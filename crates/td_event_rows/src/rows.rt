@@ -2,6 +2,7 @@
 
 use crate::compared::{Compared, compare_all};
 use std::alloc::{AllocError, Global};
+use std::process::Abort;
 use std::test::*;
 use td_circuit::Circuit;
 use td_event_sim::Scratch;
@@ -59,11 +60,36 @@ fn agree(pairs: u32, greatest: u64) -> Option<Compared> {
     })
 }
 
+/// Checks the delays of all pairs of one input, which changes at this moment.
+fn check_one(
+    rt: &impl Abort,
+    alloc: Global,
+    moment: u64,
+    cells: &[Cell<'_>],
+    greatest: u64,
+) -> Result<(), Fail> {
+    let found = compared_at(alloc, 1, &[moment], cells)?;
+    assert_eq!(rt; found, agree(4, greatest));
+    Ok(())
+}
+
+/// Checks the delays of all pairs of two inputs, which change at these moments.
+fn check_two(
+    rt: &impl Abort,
+    alloc: Global,
+    moments: [u64; 2],
+    cells: &[Cell<'_>],
+    greatest: u64,
+) -> Result<(), Fail> {
+    let found = compared_at(alloc, 2, &moments, cells)?;
+    assert_eq!(rt; found, agree(16, greatest));
+    Ok(())
+}
+
 #[test]
 fn a_not_with_two_delays(rt: HostRuntime) -> Result<(), Fail> {
     let row = [cell(Kind::Not, 2, 3, &[0])];
-    assert_eq!(rt; compared_at(rt.alloc(), 1, &[0], &row)?, agree(4, 3));
-    Ok(())
+    check_one(&rt, rt.alloc(), 0, &row, 3)
 }
 
 /// An `and` of an input and its complement.
@@ -76,33 +102,22 @@ fn pulse(rise: u32, fall: u32) -> [Cell<'static>; 2] {
 
 #[test]
 fn a_pulse_shorter_than_the_delay_is_lost(rt: HostRuntime) -> Result<(), Fail> {
-    assert_eq!(rt;
-        compared_at(rt.alloc(), 1, &[0], &pulse(2, 2))?,
-        agree(4, 0)
-    );
-    Ok(())
+    check_one(&rt, rt.alloc(), 0, &pulse(2, 2), 0)
 }
 
 #[test]
 fn a_pulse_as_long_as_the_delay_passes(rt: HostRuntime) -> Result<(), Fail> {
-    assert_eq!(rt;
-        compared_at(rt.alloc(), 1, &[0], &pulse(1, 1))?,
-        agree(4, 2)
-    );
-    assert_eq!(rt;
-        compared_at(rt.alloc(), 1, &[7], &pulse(1, 1))?,
-        agree(4, 9)
-    );
-    Ok(())
+    check_one(&rt, rt.alloc(), 0, &pulse(1, 1), 2)
+}
+
+#[test]
+fn a_pulse_of_a_late_input(rt: HostRuntime) -> Result<(), Fail> {
+    check_one(&rt, rt.alloc(), 7, &pulse(1, 1), 9)
 }
 
 #[test]
 fn a_pulse_with_a_slow_fall(rt: HostRuntime) -> Result<(), Fail> {
-    assert_eq!(rt;
-        compared_at(rt.alloc(), 1, &[0], &pulse(1, 3))?,
-        agree(4, 4)
-    );
-    Ok(())
+    check_one(&rt, rt.alloc(), 0, &pulse(1, 3), 4)
 }
 
 #[test]
@@ -112,8 +127,7 @@ fn two_inputs_that_change_together(rt: HostRuntime) -> Result<(), Fail> {
         cell(Kind::Buf, 1, 1, &[1]),
         cell(Kind::Xor, 3, 3, &[0, 2, 3]),
     ];
-    assert_eq!(rt; compared_at(rt.alloc(), 2, &[0, 0], &row)?, agree(16, 3));
-    Ok(())
+    check_two(&rt, rt.alloc(), [0, 0], &row, 3)
 }
 
 /// Two ways to one gate, of which one is slow.
@@ -128,32 +142,29 @@ fn hidden() -> [Cell<'static>; 4] {
 
 #[test]
 fn two_ways_to_one_gate(rt: HostRuntime) -> Result<(), Fail> {
-    assert_eq!(rt;
-        compared_at(rt.alloc(), 2, &[0, 0], &hidden())?,
-        agree(16, 5)
-    );
-    Ok(())
+    check_two(&rt, rt.alloc(), [0, 0], &hidden(), 5)
 }
 
 #[test]
 fn a_slow_input(rt: HostRuntime) -> Result<(), Fail> {
     let row = [cell(Kind::Buf, 4, 4, &[0]), cell(Kind::Or, 1, 1, &[1, 2])];
-    assert_eq!(rt; compared_at(rt.alloc(), 2, &[0, 0], &row)?, agree(16, 5));
-    Ok(())
+    check_two(&rt, rt.alloc(), [0, 0], &row, 5)
 }
 
-/// An `and` of two inputs that change at their own moments.
+/// An `and` of two inputs that change at moments of their own.
 #[test]
 fn inputs_at_their_own_moments(rt: HostRuntime) -> Result<(), Fail> {
     let row = [cell(Kind::And, 2, 2, &[0, 1])];
-    assert_eq!(rt; compared_at(rt.alloc(), 2, &[0, 0], &row)?, agree(16, 2));
-    assert_eq!(rt; compared_at(rt.alloc(), 2, &[0, 1], &row)?, agree(16, 3));
-    assert_eq!(rt; compared_at(rt.alloc(), 2, &[0, 2], &row)?, agree(16, 4));
-    assert_eq!(rt;
-        compared_at(rt.alloc(), 2, &[300, 44], &row)?,
-        agree(16, 302)
-    );
-    Ok(())
+    check_two(&rt, rt.alloc(), [0, 0], &row, 2)?;
+    check_two(&rt, rt.alloc(), [0, 1], &row, 3)?;
+    check_two(&rt, rt.alloc(), [0, 2], &row, 4)
+}
+
+/// The moments stand in one slot of the queue, 256 moments apart.
+#[test]
+fn inputs_a_round_of_the_queue_apart(rt: HostRuntime) -> Result<(), Fail> {
+    let row = [cell(Kind::And, 2, 2, &[0, 1])];
+    check_two(&rt, rt.alloc(), [300, 44], &row, 302)
 }
 
 /// What comparing all pairs says, first with the circuit's own moments and then with these, in one scratch.
