@@ -1,5 +1,5 @@
 use Rattle.td_checker.proofs.Points.{more_bits}
-use Rattle.td_checker.proofs.delays.pair_of.Goals as goal
+use Rattle.td_checker.proofs.pairs.pair_of.Goals as goal
 
 pub loop-input-preserved : goal.loop-input-preserved
 loop-input-preserved c =
