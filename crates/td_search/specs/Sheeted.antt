@@ -3,8 +3,7 @@ use Rattle.td_circuit.specs.Numbering.{Numbered}
 use Rattle.td_domain.specs.Sheets.{IsSheet}
 use Rattle.td_arrival.specs.Arrivals.{arrival_functions}
 use Rattle.td_arrival.specs.Coverage.{span_reach}
-use Rattle.td_ternary.specs.Possibles.{possible_functions}
-use Rattle.td_ternary.specs.Coverage.{last_change}
+use Rattle.td_ternary.specs.Possibles.{possible_functions, last_change}
 use Rattle.td_event_sim.specs.Scratch.{IsFor}
 use Rattle.td_search.specs.declared.sheets.Sheets.{Sheets}
 use Rattle.td_search.specs.declared.scratch.Scratch.{Scratch}
