@@ -387,3 +387,23 @@ grafted_by q r workers budget xs order ys zs order' lease tree states items has 
 
 pub fits_lease : (states states' : List State) (cube cube' : List Trit) → states ≡ states' → cube ≡ cube' → FitAll states (cube ∷ []) → FitAll states' (cube' ∷ [])
 fits_lease states states' cube cube' e f h = subst (λ (q : List Trit). FitAll states' (q ∷ [])) f (subst (λ (l : List State). FitAll l (cube ∷ [])) e h)
+
+-- each leaf that is settled adds one to the order
+order_long : (b c : Board) (done : List Leaf) → SettlesAll b done c → length c.order ≡ length b.order + length done
+order_long b c [] h = let e = ap (λ (x : Board). length x.order) h in omega arith
+order_long b c (x ∷ xs) h =
+    let rest = order_long h.0 c xs h.2 in
+    let one = ap length h.1.1.settled in
+    omega (arith, length-append b.order (x.node ∷ []))
+
+-- a graft adds as many settlements as the private tree has states
+pub grafted_long : (b : Board) (lease : Lease) (tree : PrivateTree) (left : List ℕ) (c : Board) → Grafted b lease tree left c → tree.cube ≡ lease.cube → FitAll tree.states (tree.cube ∷ [])
+    → length c.order ≡ length b.order + length tree.states
+grafted_long b lease tree left c graft same fits =
+    let root : List Leaf = open_leaf lease.cube lease.number ∷ [] in
+    let long : length (settlements tree.states root (length b.nodes)) ≡ length tree.states =
+    settlements_long tree.states root (length b.nodes) (subst (λ (q : List Trit). FitAll tree.states (q ∷ [])) same fits) in
+    let order : graft.0.opened.order ≡ b.order = graft.0.opens.settled in
+    let all = order_long graft.0.opened c (settlements tree.states root (length b.nodes)) graft.0.settles in
+    let e = ap length order in
+    omega arith
