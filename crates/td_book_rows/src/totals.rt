@@ -1,6 +1,6 @@
 //! The settlements and offers of four threads, added up.
 
-ghost use Rattle.std.specs.Prelude.{◌≡◌, ◌<◌, max, length, IfOk, MatchOption};
+ghost use Rattle.std.specs.Prelude.{◌≡◌, ◌+◌, ◌<◌, max, IfOk, IfSome};
 
 use crate::claims::free_book;
 use std::alloc::{AllocError, Global};
