@@ -31,7 +31,7 @@ pub struct Book {
     // The allowances that are out.
     allowed: u64,
     chain: Chain,
-    // The nodes that were split or closed, in that order, with room for one of each leaf that is held.
+    // The nodes that were split or closed, in that order, with room for as many more as the allowances that are out.
     order: Vec<Node>,
     // A place to read a node's cube into.
     cube: Vec<Trit>,
@@ -88,7 +88,7 @@ fn count_fixed(cube: &[Trit]) -> usize
     cube.iter().filter(|trit| !is_free(**trit)).count()
 }
 
-// How many nodes a lease lets its worker handle, where its cube has so many fixed positions and so much of the budget is left.
+// How many nodes a lease of a leaf with this cube lets its worker handle, where so much of the budget is left.
 fn allowance_of(workers: u32, cube: &[Trit], left: u64) -> u32
     requires { 0 < left }
     ensures is { result ≡ allowance workers cube.now left }
@@ -217,8 +217,8 @@ impl Book {
         self.order.len() as u64
     }
 
-    // Holds an open leaf for a worker. The error is want of memory, and then the book is as before. All room that a close, a
-    // release or a graft of the lease needs in the order of settlements is taken here.
+    // Holds an open leaf for a worker. The error is want of memory, and then the book is as before. All room that the lease's
+    // settlements need in the order is taken here.
     fn hold(&mut self, worker: u32, number: u32) -> Result<Lease, AllocError>
         requires leaf { (before : List Node) × (after : List Node) × (self.old.nodes ≡ before ++ node number State.Open ∷ after) }
         requires left { handled self.old + allowed self.old < self.old.budget }
@@ -241,7 +241,8 @@ impl Book {
     }
 
     /// The first open leaf, held from now on by this worker, below the number of workers, where the budget allows it. The
-    /// error is want of memory, and then the book is as before.
+    /// error is want of memory, and then the book is as before. All room that a close or release of the lease needs is
+    /// taken here.
     pub fn claim(&mut self, worker: u32) -> Result<Claim, AllocError>
         requires { worker < self.old.workers }
         ensures ok { IfOk result (λ answer. Claimed self.old worker answer self.new) }
@@ -266,6 +267,7 @@ impl Book {
 
     /// The leaf of this number, held from now on by this worker, below the number of workers. `None` where it isn't an open
     /// leaf, or where all of the budget is handled or allowed. The error is want of memory, and then the book is as before.
+    /// All room that a close or release of the lease needs is taken here. Takes as many steps as the node lies deep.
     pub fn claim_id(&mut self, worker: u32, number: u32) -> Result<Option<Lease>, AllocError>
         requires { worker < self.old.workers }
         ensures ok { IfOk result (λ answer. ClaimedAt self.old worker number answer self.new) }
@@ -337,8 +339,8 @@ impl Book {
     }
 
     /// Makes the splits and closes of a private tree below a held leaf, in its order: the leaves that it opened and didn't close
-    /// are open then. Answers their numbers, in the tree's order. After a fault the book is as before, and the lease and the
-    /// private tree come back.
+    /// are open then. Answers their numbers, in the tree's order, and takes steps in the private tree's size. After a fault the
+    /// book is as before, and the lease and the private tree come back.
     pub fn graft(&mut self, lease: Lease, subtree: Subtree) -> Result<Vec<u32>, GraftFault>
         requires cube { subtree.cube ≡ lease.cube }
         requires some { 0 < length subtree.states }

@@ -1,6 +1,6 @@
 //! Claims by number, and allowances.
 
-ghost use Rattle.std.specs.Prelude.{◌≤◌};
+ghost use Rattle.std.specs.Prelude.{◌≡◌, ◌≤◌, [], IfOk};
 
 use std::alloc::{AllocError, Global};
 use std::test::Fail;
@@ -16,6 +16,7 @@ pub fn free_book(
 ) -> Result<Book, AllocError>
     requires inputs { inputs ≤ 100 }
     requires budget { budget ≤ 10000000 }
+    ensures { IfOk result (λ book. book.order ≡ []) }
 {
     Book::new(alloc, Cube::free(alloc, inputs)?, workers, budget)
 }

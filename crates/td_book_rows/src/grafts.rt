@@ -176,8 +176,8 @@ fn settle_all(alloc: Global, book: &mut Book) -> Result<bool, AllocError> {
             return Ok(true);
         };
         let state = match lease.cube.least_free() {
-            Some(position) => State::Split(position as u32),
-            None => State::Closed(Mark::Point, 1, 2),
+            Some(position) if position < 100 => State::Split(position as u32),
+            _ => State::Closed(Mark::Point, 1, 2),
         };
         if !settles(book, lease, state, &mut open)? {
             return Ok(false);

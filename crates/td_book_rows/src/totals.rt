@@ -22,6 +22,13 @@ struct Hand<L: Ledger> {
     ghost one_part: { share.parts ≡ 1 },
 }
 
+// What the threads share: the book under its lock, and the word.
+#[derive(Drop)]
+struct Shared<L: Ledger> {
+    book: Mutex<Counted<L>>,
+    word: Incumbent,
+}
+
 // What a thread promises: its seat, with this offer made.
 #[derive(Drop)]
 struct Promised(Snapshot<Seat>, u64);
@@ -98,21 +105,20 @@ fn close_one<L: Ledger, R: Wait>(
 // Closes one leaf, and makes an offer.
 fn work<L: Ledger, R: Wait>(
     rt: &R,
-    book: &Mutex<Counted<L>>,
-    word: &Incumbent,
+    shared: &Shared<L>,
     hand: Hand<L>,
     worker: u32,
     offer: u64,
 ) -> Hand<L>
-    requires { hand.seat.table ≡ word.now.table }
+    requires { hand.seat.table ≡ shared.now.word.table }
     ensures { result.seat ≡ record hand.seat { seen = result.seat.seen; offer = max hand.seat.offer offer } }
 {
     let Hand {
         mut share,
         mut seat,
     } = hand;
-    let _closed = close_one(rt, book, &mut share, worker);
-    word.raise(&mut seat, offer);
+    let _closed = close_one(rt, &shared.book, &mut share, worker);
+    shared.word.raise(&mut seat, offer);
     Hand { share, seat }
 }
 
@@ -134,8 +140,60 @@ fn audited<L: Ledger, R: Wait>(
     book.lock(rt).audit(&mut all)
 }
 
-// Four threads, all started before one is joined, close a leaf each and make an offer: the number of settlements, and the
-// greatest offer.
+// Four threads, all started before one is joined, close a leaf each and make an offer.
+fn run_four<L: Ledger + Send + Sync, R: Threads + Wait + Sync>(
+    rt: &R,
+    shared: &Shared<L>,
+    first: Hand<L>,
+    second: Hand<L>,
+    third: Hand<L>,
+    fourth: Hand<L>,
+) -> Result<(Hand<L>, Hand<L>, Hand<L>, Hand<L>), AllocError>
+    requires first { first.seat.table ≡ shared.now.word.table }
+    requires second { second.seat.table ≡ shared.now.word.table }
+    requires third { third.seat.table ≡ shared.now.word.table }
+    requires fourth { fourth.seat.table ≡ shared.now.word.table }
+    ensures first { IfOk result (λ r. r.0.seat ≡ record first.seat { seen = r.0.seat.seen; offer = max first.seat.offer 1 }) }
+    ensures second { IfOk result (λ r. r.1.seat ≡ record second.seat { seen = r.1.seat.seen; offer = max second.seat.offer 2 }) }
+    ensures third { IfOk result (λ r. r.2.seat ≡ record third.seat { seen = r.2.seat.seen; offer = max third.seat.offer 3 }) }
+    ensures fourth { IfOk result (λ r. r.3.seat ≡ record fourth.seat { seen = r.3.seat.seen; offer = max fourth.seat.offer 4 }) }
+{
+    thread::scope(
+        thread::scope_env(),
+        rt,
+        |scope| -> Result<(Hand<L>, Hand<L>, Hand<L>, Hand<L>), AllocError>
+            requires first { first.seat.table ≡ shared.now.word.table }
+            requires second { second.seat.table ≡ shared.now.word.table }
+            requires third { third.seat.table ≡ shared.now.word.table }
+            requires fourth { fourth.seat.table ≡ shared.now.word.table }
+            ensures first { IfOk result (λ r. r.0.seat ≡ record first.seat { seen = r.0.seat.seen; offer = max first.seat.offer 1 }) }
+            ensures second { IfOk result (λ r. r.1.seat ≡ record second.seat { seen = r.1.seat.seen; offer = max second.seat.offer 2 }) }
+            ensures third { IfOk result (λ r. r.2.seat ≡ record third.seat { seen = r.2.seat.seen; offer = max third.seat.offer 3 }) }
+            ensures fourth { IfOk result (λ r. r.3.seat ≡ record fourth.seat { seen = r.3.seat.seen; offer = max fourth.seat.offer 4 }) }
+        {
+            let first = scope.spawn_with(Promised(Snapshot::of(&first.seat), 1), move || {
+                work(rt, shared, first, 0, 1)
+            })?;
+            let second = scope.spawn_with(Promised(Snapshot::of(&second.seat), 2), move || {
+                work(rt, shared, second, 1, 2)
+            })?;
+            let third = scope.spawn_with(Promised(Snapshot::of(&third.seat), 3), move || {
+                work(rt, shared, third, 2, 3)
+            })?;
+            let fourth = scope.spawn_with(Promised(Snapshot::of(&fourth.seat), 4), move || {
+                work(rt, shared, fourth, 3, 4)
+            })?;
+            Ok((
+                first.join(rt),
+                second.join(rt),
+                third.join(rt),
+                fourth.join(rt),
+            ))
+        },
+    )
+}
+
+// The number of settlements, and the greatest offer, once four threads have closed a leaf each and made an offer.
 fn totals<L: Ledger + Send + Sync, R: Threads + Wait + Sync>(
     rt: &R,
     alloc: Global,
@@ -162,7 +220,10 @@ fn totals<L: Ledger + Send + Sync, R: Threads + Wait + Sync>(
     let Some(first) = seats.pop() else {
         return Ok(None);
     };
-    let book = Mutex::new(book);
+    let shared = Shared {
+        book: Mutex::new(book),
+        word,
+    };
     let second = Hand {
         share: all.split_off(1, 0),
         seat: second,
@@ -179,40 +240,8 @@ fn totals<L: Ledger + Send + Sync, R: Threads + Wait + Sync>(
         share: all,
         seat: first,
     };
-    let (shared, seen) = (&book, &word);
-    let (one, two, three, four) = thread::scope(
-        thread::scope_env(),
-        rt,
-        |scope| -> Result<(Hand<L>, Hand<L>, Hand<L>, Hand<L>), AllocError>
-            requires first { first.seat.table ≡ seen.now.table }
-            requires second { second.seat.table ≡ seen.now.table }
-            requires third { third.seat.table ≡ seen.now.table }
-            requires fourth { fourth.seat.table ≡ seen.now.table }
-            ensures first { IfOk result (λ r. r.0.seat ≡ record first.seat { seen = r.0.seat.seen; offer = max first.seat.offer 1 }) }
-            ensures second { IfOk result (λ r. r.1.seat ≡ record second.seat { seen = r.1.seat.seen; offer = max second.seat.offer 2 }) }
-            ensures third { IfOk result (λ r. r.2.seat ≡ record third.seat { seen = r.2.seat.seen; offer = max third.seat.offer 3 }) }
-            ensures fourth { IfOk result (λ r. r.3.seat ≡ record fourth.seat { seen = r.3.seat.seen; offer = max fourth.seat.offer 4 }) }
-        {
-            let first = scope.spawn_with(Promised(Snapshot::of(&first.seat), 1), move || {
-                work(rt, shared, seen, first, 0, 1)
-            })?;
-            let second = scope.spawn_with(Promised(Snapshot::of(&second.seat), 2), move || {
-                work(rt, shared, seen, second, 1, 2)
-            })?;
-            let third = scope.spawn_with(Promised(Snapshot::of(&third.seat), 3), move || {
-                work(rt, shared, seen, third, 2, 3)
-            })?;
-            let fourth = scope.spawn_with(Promised(Snapshot::of(&fourth.seat), 4), move || {
-                work(rt, shared, seen, fourth, 3, 4)
-            })?;
-            Ok((
-                first.join(rt),
-                second.join(rt),
-                third.join(rt),
-                fourth.join(rt),
-            ))
-        },
-    )?;
+    let (one, two, three, four) = run_four(rt, &shared, first, second, third, fourth)?;
+    let Shared { book, word } = shared;
     let pair = word.join(one.seat, two.seat);
     let triple = word.join(pair, three.seat);
     let seat = word.join(triple, four.seat);
