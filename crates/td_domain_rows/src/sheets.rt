@@ -1,12 +1,12 @@
 //! Sheets: how many gates a narrowing evaluates, and the bounds on the way.
 
-use crate::rows::{circuit, gate, hidden_pulse, numbered_cube, reconvergent, slow_arm};
+use crate::rows::{bound_in, circuit, gate, hidden_pulse, numbered_cube, reconvergent, slow_arm};
 use std::alloc::Global;
 use std::process::Abort;
 use std::test::*;
 use td_arrival::Arrival;
 use td_circuit::Circuit;
-use td_domain::{Both, Cube, Domain, Sheet, bound, bound_together, move_to};
+use td_domain::{Both, Cube, Domain, Sheet, bound_together, move_to};
 use td_gates::Kind;
 use td_ternary::Possible;
 
@@ -57,27 +57,40 @@ fn gates_evaluated(rt: HostRuntime) -> Result<(), Fail> {
     Ok(())
 }
 
-/// Takes sheets through the cubes of a circuit with two inputs, and compares them with `bound`.
+/// The bounds of a cube by arrivals, by possible levels and by both, from sheets that come from another cube.
+fn bounds_by_sheets(
+    rt: &impl Abort,
+    alloc: Global,
+    circuit: &Circuit,
+    from: &Cube,
+    to: &Cube,
+) -> Result<[Option<u64>; 3], Fail> {
+    assert_eq!(rt; from.len(), 2 * circuit.input_count());
+    assert_eq!(rt; to.len(), 2 * circuit.input_count());
+    let mut arrival = Sheet::<Arrival>::new(alloc, circuit, from)?;
+    move_to(alloc, circuit, &mut arrival, to)?;
+    let mut possible = Sheet::<Possible>::new(alloc, circuit, from)?;
+    move_to(alloc, circuit, &mut possible, to)?;
+    Ok([
+        arrival.bound(),
+        possible.bound(),
+        bound_together(circuit, &arrival, &possible),
+    ])
+}
+
+/// Takes sheets from each cube of two inputs to another one, and compares the bounds.
 fn walk(rt: &impl Abort, alloc: Global, circuit: &Circuit) -> Result<(), Fail> {
-    let free = Cube::free(alloc, circuit.input_count())?;
-    let mut arrival = Sheet::<Arrival>::new(alloc, circuit, &free)?;
-    let mut possible = Sheet::<Possible>::new(alloc, circuit, &free)?;
     for number in 0..81 {
-        let cube = numbered_cube(alloc, 2, number)?;
-        assert_eq!(rt; cube.len(), 2 * circuit.input_count());
-        move_to(alloc, circuit, &mut arrival, &cube)?;
-        move_to(alloc, circuit, &mut possible, &cube)?;
-        assert_eq!(rt; arrival.bound(), bound::<Arrival>(alloc, circuit, &cube)?);
-        assert_eq!(rt; possible.bound(), bound::<Possible>(alloc, circuit, &cube)?);
+        let from = numbered_cube(alloc, 2, number)?;
+        let to = numbered_cube(alloc, 2, 80 - number)?;
+        let found = bounds_by_sheets(rt, alloc, circuit, &from, &to)?;
+        assert_eq!(rt; found[0], bound_in::<Arrival>(rt, alloc, circuit, &to)?);
+        assert_eq!(rt; found[1], bound_in::<Possible>(rt, alloc, circuit, &to)?);
         assert_eq!(rt;
-            bound_together(circuit, &arrival, &possible),
-            bound::<Both<Arrival, Possible>>(alloc, circuit, &cube)?
+            found[2],
+            bound_in::<Both<Arrival, Possible>>(rt, alloc, circuit, &to)?
         );
     }
-    while arrival.widen() {
-        assert_eq!(rt; arrival.redone(), 0);
-    }
-    assert_eq!(rt; arrival.bound(), bound::<Arrival>(alloc, circuit, &free)?);
     Ok(())
 }
 
