@@ -9,6 +9,6 @@ returns-in_default-clause-kept g c = none_kept g.F.Files.did g.met.F.Files.did_n
 pub returns-in-Ok-clause-kept : goal.returns-in-Ok-clause-kept
 returns-in-Ok-clause-kept g c = one_kept _ _ _ _ (ap dump_files c.in-Some.is) c.in-Ok.ensures.written
 
-pub returns-clause-lost : goal.returns-clause-lost
-returns-clause-lost g c =
+pub returns-in-Err-clause-lost : goal.returns-in-Err-clause-lost
+returns-in-Err-clause-lost g c =
     one_not_kept _ _ _ c.in-Err.fault _ _ _ (ap dump_files c.in-Some.is) c.in-Err.ensures.left c.tell_unwritten.ensures.told
