@@ -22,7 +22,6 @@ use Rattle.td_cli.specs.Files.{FileStep, Made, Ended, FileText, HasBeginning, Is
 use Rattle.td_cli.specs.declared.asking.QuestionWords.{QuestionWords}
 use Rattle.td_cli.specs.Vectors.{words_of}
 use Rattle.td_cli.specs.Refusals.{unwritten_text}
-use Rattle.td_cli.specs.Outcomes.{HasNoAnswer}
 use Rattle.td_cli.specs.Reports.{IsSimReport}
 use Rattle.td_cli.specs.WorstReports.{IsWorstReport}
 use Rattle.td_command.specs.CommandLine.{kinds_of}
