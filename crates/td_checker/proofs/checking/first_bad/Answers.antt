@@ -40,6 +40,7 @@ loop-place-preserved c =
     record {
       walk = passed certificate place cube c.pass.new.self.cube path (reverse c.pass.new.self.path.items) here
           c.loop-place.invariant.walk at c.in_ok-pass.ensures.next c.in_ok-pass.ensures.inside c.in_ok-pass.ensures.length;
+      scratch = c.judge.ensures.scratch;
       good = good_more given certificate place cube path here c.loop-place.invariant.walk at
           (is_good given certificate.question.admit certificate.time (with_cube cube here) c.in_ok-flaw.field-0 judged c.in_default.is)
           c.loop-place.invariant.good;

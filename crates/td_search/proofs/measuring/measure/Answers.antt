@@ -19,4 +19,4 @@ delay_of-requires-clause-second_fits c =
 pub returns-clause-measured : goal.returns-clause-measured
 returns-clause-measured c =
     subst (λ (pair : Pair). IsMeasured (problem c.args.circuit.now c.args.admit.now) pair c.in_ok-time.time) c.in_ok-pair.ensures.pair
-    (record { is = (c.in_ok-pair.ensures.admitted, c.in_ok-time.ensures.delay); only = λ other h. c.in_ok-time.ensures.only other h.1; })
+    (record { is = (c.in_ok-pair.ensures.admitted, c.in_ok-time.ensures.delay); only = λ other h. c.in_ok-time.ensures.only other h.1 })
