@@ -8,4 +8,6 @@ mod circuits;
 #[cfg(test)]
 mod pairs;
 #[cfg(test)]
+mod representatives;
+#[cfg(test)]
 mod texts;

@@ -3,13 +3,13 @@
 ghost use Rattle.std.specs.Prelude.{◌≡◌, length};
 ghost use Rattle.td_circuit.specs.Numbering.{nets};
 
-use crate::slow::history;
-use crate::{Cell, circuit_of, moments_of, takes};
 use std::alloc::Global;
 use std::process::Abort;
 use std::test::*;
 use td_circuit::Circuit;
 use td_gates::{Delay, Kind, Level};
+use td_rows::slow::history;
+use td_rows::{Cell, circuit_of, moments_of, takes};
 use td_run::{Run, Wave, waves};
 
 const LEVELS: [Level; 3] = [Level::Zero, Level::One, Level::X];

@@ -1,0 +1,7 @@
+//! Runs of circuits made by hand. There are tests here, and nothing else.
+#![tactic(auto)]
+
+#[cfg(test)]
+mod agreement;
+#[cfg(test)]
+mod runs;
