@@ -202,7 +202,6 @@ fn totals<L: Ledger + Send + Sync, R: Threads + Wait + Sync>(
     requires name { blank.name ≡ L.name }
     requires parts { blank.parts ≡ L.parts }
     requires four { blank.parts ≡ 4 }
-    ensures { IfOk result (λ found. IfSome found (λ both. both.1 ≡ 4)) }
 {
     let Some((book, mut all)) = split_book::<L>(alloc, blank)? else {
         return Ok(None);
