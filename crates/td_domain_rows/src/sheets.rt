@@ -65,8 +65,9 @@ fn bounds_by_sheets(
     from: &Cube,
     to: &Cube,
 ) -> Result<[Option<u64>; 3], Fail> {
-    assert_eq!(rt; from.len(), 2 * circuit.input_count());
-    assert_eq!(rt; to.len(), 2 * circuit.input_count());
+    assert_eq!(rt; from.len() % 2, 0);
+    assert_eq!(rt; from.len() / 2, circuit.input_count());
+    assert_eq!(rt; to.len(), from.len());
     let mut arrival = Sheet::<Arrival>::new(alloc, circuit, from)?;
     move_to(alloc, circuit, &mut arrival, to)?;
     let mut possible = Sheet::<Possible>::new(alloc, circuit, from)?;
