@@ -1,20 +1,23 @@
 //! The book of a search: which cubes are still to be handled, who handles which, and what was done.
 
-ghost use Rattle.std.specs.Prelude.{◌≡◌, ℕ, ◌+◌, ◌<◌, ◌≤◌, ◌^◌, ◌↔◌, true, false, List, [], ◌∷◌, ◌++◌, length, slice_get, Some, IsTrue, IfOk, OnErr, IfErr, MatchResult};
+ghost use Rattle.std.specs.Prelude.{◌≡◌, ℕ, ◌+◌, ◌-◌, ◌*◌, ◌<◌, ◌≤◌, ◌^◌, ◌↔◌, true, false, List, [], ◌∷◌, ◌++◌, length, slice_get, Some, vec_capacity, IsTrue, IfOk, OnErr, IfErr, MatchResult};
 ghost use Rattle.td_domain.specs.declared.cubes.Trit.{Trit};
 ghost use Rattle.td_domain.specs.declared.cubes.Trit.TheVariants.{Free};
 ghost use Rattle.td_book.specs.declared.node.Node.{Node};
 ghost use Rattle.td_book.specs.declared.node.State.{State};
-ghost use Rattle.td_book.specs.Board.{node, cubes_after, opening, handled};
-ghost use Rattle.td_book.specs.Chained.{has_number, board_with};
-ghost use Rattle.td_book.specs.Kept.{as_open, IsKept};
-ghost use Rattle.td_book.specs.Claimed.{Claimed, IsSplitFault};
-ghost use Rattle.td_book.specs.Steps.{Shows, Splits, Closes, Releases, IsStranger};
+ghost use Rattle.td_book.specs.Board.{Leaf, board_of, node, cubes_after, opening, handled, allowed};
+ghost use Rattle.td_book.specs.Chained.{has_number, first_number, board_with};
+ghost use Rattle.td_book.specs.Kept.{as_open, IsKept, IsBook};
+ghost use Rattle.td_book.specs.Grafting.{FitAll, open_leaf, settlements, leaves_left, numbers, leaf_nodes, Grafted};
+ghost use Rattle.td_book.specs.GraftFaults.{IsGraftFault};
+ghost use Rattle.td_book.specs.Claimed.{fixed, allowance, IsLease, Claimed, ClaimedAt, IsSplitFault};
+ghost use Rattle.td_book.specs.Steps.{Has, SettlesAll, Shows, Splits, Closes, Releases, IsStranger};
 
-use crate::chain::Chain;
+use crate::chain::{Chain, is_free};
 use crate::lease::{Claim, Lease, SplitFault, Stranger};
 use crate::node::{Mark, Node, State};
 use crate::partial::Partial;
+use crate::subtree::{GraftFault, Subtree};
 use std::alloc::{AllocError, Global};
 use std::marker::Model;
 use td_domain::{Cube, Trit};
@@ -28,7 +31,7 @@ pub struct Book {
     // The allowances that are out.
     allowed: u64,
     chain: Chain,
-    // The nodes that were split or closed, in that order, with room for one of each leaf that is held.
+    // The nodes that were split or closed, in that order, with room for as many more as the allowances that are out.
     order: Vec<Node>,
     // A place to read a node's cube into.
     cube: Vec<Trit>,
@@ -71,11 +74,40 @@ fn is_held(state: Option<State>, worker: u32, allowance: u32) -> bool
     }
 }
 
+// Whether the state is that of an open leaf.
+fn is_open_leaf(state: Option<State>) -> bool
+    ensures { IsTrue result ↔ (state ≡ Some State.Open) }
+{
+    matches!(state, Some(State::Open))
+}
+
+// How many positions are fixed.
+fn count_fixed(cube: &[Trit]) -> usize
+    ensures { result ≡ fixed cube.now }
+{
+    cube.iter().filter(|trit| !is_free(**trit)).count()
+}
+
+// How many nodes a lease of a leaf with this cube lets its worker handle, where so much of the budget is left.
+fn allowance_of(workers: u32, cube: &[Trit], left: u64) -> u32
+    requires { 0 < left }
+    ensures is { result ≡ allowance workers cube.now left }
+    ensures some { 0 < result }
+    ensures within { result ≤ left }
+    ensures few { result ≤ 64 }
+{
+    if workers > 1 && count_fixed(cube) < 8 {
+        return 1;
+    }
+    left.min(64) as u32
+}
+
 // The cube of a node, by way of `cube`.
 fn cube_of(alloc: Global, chain: &Chain, number: u32, cube: &mut [Trit]) -> Result<Cube, AllocError>
     requires number { has_number number chain.now.nodes ≡ true }
     requires len { length cube.old ≡ length chain.now.cube }
     ensures cube { IfOk result (λ c. (before after : List Node) (s : State) → chain.now.nodes ≡ before ++ node number s ∷ after → (rest : List (List Trit)) × (cubes_after (chain.now.cube ∷ []) before ≡ c ∷ rest)) }
+    ensures same { IfOk result (λ c. c ≡ cube.new) }
     ensures len { length cube.new ≡ length chain.now.cube }
 {
     chain.read_cube(number, cube);
@@ -97,6 +129,49 @@ fn shows(chain: &Chain, cube: &mut [Trit], lease: &Lease) -> bool
     }
     chain.read_cube(lease.number, cube);
     is_same(&lease.cube, cube)
+}
+
+// Splits and closes an open leaf of the chain, with the lease's number and cube, and what is opened below it, as the states
+// say, depth first. Answers the number of the leaf that comes next, or of the node that follows.
+fn settle_all(chain: &mut Chain, order: &mut Vec<Node>, lease: &Lease, states: &[State]) -> u32
+    requires place { Has (board_with chain.old) lease.now.number lease.now.cube State.Open }
+    requires wide { length lease.now.cube ≡ length chain.old.cube }
+    requires fits { FitAll states.now (lease.now.cube ∷ []) }
+    requires small { length chain.old.nodes + 2 * length states.now < 2 ^ 32 }
+    requires room { length chain.old.nodes + 2 * length states.now ≤ chain.old.room }
+    requires listed { length order.old.items + length states.now ≤ vec_capacity order.old }
+    ensures cube { chain.new.cube ≡ chain.old.cube }
+    ensures capacity { vec_capacity order.new ≡ vec_capacity order.old }
+    ensures settled { (workers budget : ℕ) → SettlesAll (board_of chain.old.cube workers budget chain.old.nodes order.old.items) (settlements states.now (open_leaf lease.now.cube lease.now.number ∷ []) (length chain.old.nodes)) (board_of chain.old.cube workers budget chain.new.nodes order.new.items) }
+    ensures next { (before : List Node) × (after : List Node) × (chain.new.nodes ≡ before ++ (leaf_nodes (leaves_left states.now (open_leaf lease.now.cube lease.now.number ∷ []) (length chain.old.nodes)) ++ after)) × (first_number (leaf_nodes (leaves_left states.now (open_leaf lease.now.cube lease.now.number ∷ []) (length chain.old.nodes)) ++ after) ≡ result) }
+    ensures kept { (workers budget out room : ℕ) → IsBook (board_of chain.old.cube workers budget chain.old.nodes order.old.items) out room → length order.old.items + length states.now + out ≤ budget → length order.old.items + length states.now + out ≤ room → IsBook (board_of chain.old.cube workers budget chain.new.nodes order.new.items) out room }
+{
+    let mut at = lease.number;
+    for state in states {
+        chain.settle(at, *state);
+        order.push_reserved(Node {
+            number: at,
+            state: *state,
+        });
+        at = chain.next(at);
+    }
+    at
+}
+
+// The numbers of so many leaves from the first on, in an empty vector that has room for them.
+fn list_numbers(chain: &Chain, first: u32, room: Vec<u32>, count: usize) -> Vec<u32>
+    requires empty { room.items ≡ [] }
+    requires roomy { count ≤ vec_capacity room }
+    requires run { (before : List Node) × (leaves : List Leaf) × (after : List Node) × (chain.now.nodes ≡ before ++ (leaf_nodes leaves ++ after)) × (first_number (leaf_nodes leaves ++ after) ≡ first) × (length leaves ≡ count) }
+    ensures { (before : List Node) (leaves : List Leaf) (after : List Node) → chain.now.nodes ≡ before ++ (leaf_nodes leaves ++ after) → first_number (leaf_nodes leaves ++ after) ≡ first → length leaves ≡ count → result.items ≡ numbers leaves }
+{
+    let mut at = first;
+    let mut left = room;
+    for _ in 0..count {
+        left.push_reserved(at);
+        at = chain.next(at);
+    }
+    left
 }
 
 impl Book {
@@ -142,6 +217,29 @@ impl Book {
         self.order.len() as u64
     }
 
+    // Holds an open leaf for a worker. The error is want of memory, and then the book is as before. All room that the lease's
+    // settlements need in the order is taken here.
+    fn hold(&mut self, worker: u32, number: u32) -> Result<Lease, AllocError>
+        requires leaf { (before : List Node) × (after : List Node) × (self.old.nodes ≡ before ++ node number State.Open ∷ after) }
+        requires left { handled self.old + allowed self.old < self.old.budget }
+        ensures ok { IfOk result (λ lease. IsLease self.old worker number lease self.new) }
+        ensures err { OnErr result (self.new ≡ self.old) }
+    {
+        let left = self.budget - (self.order.len() as u64 + self.allowed);
+        let cube = cube_of(self.alloc, &self.chain, number, &mut self.cube)?;
+        let allowance = allowance_of(self.workers, &self.cube, left);
+        self.order
+            .reserve(self.allowed as usize + allowance as usize)?;
+        self.chain.set(number, State::Held(worker, allowance));
+        self.allowed += u64::from(allowance);
+        Ok(Lease {
+            worker,
+            number,
+            cube,
+            allowance,
+        })
+    }
+
     /// The first open leaf, held from now on by this worker, below the number of workers, where the budget allows it. The
     /// error is want of memory, and then the book is as before. All room that a close or release of the lease needs is
     /// taken here.
@@ -164,16 +262,24 @@ impl Book {
         if handled + self.allowed >= self.budget {
             return Ok(Claim::Idle);
         }
-        self.order.reserve(self.allowed as usize + 1)?;
-        let cube = cube_of(self.alloc, &self.chain, number, &mut self.cube)?;
-        self.chain.set(number, State::Held(worker, 1));
-        self.allowed += 1;
-        Ok(Claim::Lease(Lease {
-            worker,
-            number,
-            cube,
-            allowance: 1,
-        }))
+        Ok(Claim::Lease(self.hold(worker, number)?))
+    }
+
+    /// The leaf of this number, held from now on by this worker, below the number of workers. `None` where it isn't an open
+    /// leaf, or where all of the budget is handled or allowed. The error is want of memory, and then the book is as before.
+    /// All room that a close or release of the lease needs is taken here. Takes as many steps as the node lies deep.
+    pub fn claim_id(&mut self, worker: u32, number: u32) -> Result<Option<Lease>, AllocError>
+        requires { worker < self.old.workers }
+        ensures ok { IfOk result (λ answer. ClaimedAt self.old worker number answer self.new) }
+        ensures err { OnErr result (self.new ≡ self.old) }
+    {
+        if !is_open_leaf(self.chain.state(number)) {
+            return Ok(None);
+        }
+        if self.order.len() as u64 + self.allowed >= self.budget {
+            return Ok(None);
+        }
+        Ok(Some(self.hold(worker, number)?))
     }
 
     /// Makes two open leaves of a held one, at a position that is free in its cube. Answers their numbers, that of the zero
@@ -188,9 +294,10 @@ impl Book {
         }
         let position = position as u32;
         let first = self.chain.len();
-        let Ok(()) = self.chain.split(lease.number, position) else {
+        let Ok(()) = self.chain.reserve(2) else {
             return Err(SplitFault::OutOfMemory(lease));
         };
+        self.chain.split(lease.number, position);
         self.order.push_reserved(Node {
             number: lease.number,
             state: State::Split(position),
@@ -229,6 +336,32 @@ impl Book {
         self.chain.set(lease.number, State::Open);
         self.allowed -= u64::from(lease.allowance);
         Ok(())
+    }
+
+    /// Makes the splits and closes of a private tree below a held leaf, in its order: the leaves that it opened and didn't close
+    /// are open then. Answers their numbers, in the tree's order, and takes steps in the private tree's size. After a fault the
+    /// book is as before, and the lease and the private tree come back.
+    pub fn graft(&mut self, lease: Lease, subtree: Subtree) -> Result<Vec<u32>, GraftFault>
+        requires cube { subtree.cube ≡ lease.cube }
+        requires some { 0 < length subtree.states }
+        requires few { length subtree.states ≤ lease.allowance }
+        ensures ok { IfOk result (λ left. Grafted self.old lease subtree left.items self.new) }
+        ensures err { IfErr result (λ fault. IsGraftFault self.old lease subtree fault self.new) }
+    {
+        if !shows(&self.chain, &mut self.cube, &lease) {
+            return Err(GraftFault::Stranger(lease, subtree));
+        }
+        let Ok(room) = Vec::with_capacity(self.alloc, subtree.left()) else {
+            return Err(GraftFault::OutOfMemory(lease, subtree));
+        };
+        let Ok(()) = self.chain.reserve(2 * subtree.states().len()) else {
+            return Err(GraftFault::OutOfMemory(lease, subtree));
+        };
+        let number = lease.number;
+        self.chain.set(number, State::Open);
+        let next = settle_all(&mut self.chain, &mut self.order, &lease, subtree.states());
+        self.allowed -= u64::from(lease.allowance);
+        Ok(list_numbers(&self.chain, next, room, subtree.left()))
     }
 
     /// The root's cube and the tree, with held leaves as open. Takes no memory.

@@ -4,15 +4,19 @@
 
 mod book;
 mod chain;
+mod counted;
 pub mod laws;
 mod lease;
 mod node;
 mod partial;
+mod subtree;
 
 pub use book::Book;
+pub use counted::Counted;
 pub use lease::{Claim, Lease, SplitFault, Stranger};
 pub use node::{BoundedBy, Mark, Node, State};
 pub use partial::Partial;
+pub use subtree::{GraftFault, Subtree};
 
 #[cfg(test)]
 mod tests;

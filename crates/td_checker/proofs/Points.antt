@@ -102,9 +102,3 @@ pub told_delay : (given : Setting) (cube : List Trit) (pair : Pair) (delay asked
 told_delay given cube pair delay asked point is_in is only =
     let one = has_delay given cube pair delay asked point is_in is only in
     (λ same. one.0 (eqb-true delay asked same), λ has. eq-eqb delay asked (one.1 has))
-
--- a delay of the levels of these bits
-pub only_of_bits : (given : Setting) (first second : List Bool) (firsts seconds : List Level) (delay told other : ℕ)
-    → firsts ≡ map level_from first → seconds ≡ map level_from second → told ≡ delay
-    → ((d : ℕ) → IsDelay given firsts seconds d → d ≡ delay) → IsDelayOfBits given first second other → other ≡ told
-only_of_bits given first second firsts seconds delay told other f s same only is = only other (rw (f, s) is) ∙ sym same

@@ -8,19 +8,20 @@ ghost use Rattle.td_circuit.specs.Run.{IsDelayOfBits};
 ghost use Rattle.td_certificate.specs.Accepts.{lines_in, IsOfSize};
 ghost use Rattle.td_certificate.specs.Faults.{IsWithinLimit};
 ghost use Rattle.td_certificate.specs.Spelling.{head_lines, HasSpelling, Spells};
+ghost use Rattle.td_event_sim.specs.Scratch.{IsFor};
 ghost use Rattle.td_checker.specs.Judging.{AreJudged, told_as};
 ghost use Rattle.td_checker.specs.Verdicts.{IsVerdict};
 ghost use Rattle.td_checker.specs.declared.verdict.Verdict.{Verdict as Told};
 ghost use Rattle.td_checker.specs.Checks.{HaveVerdict, HasCircuit, IsCheckFault, IsCertificateFault, IsToldAs, TellsWorst};
 
 use crate::admitting::is_admitted;
-use crate::delays::delay_of;
 use crate::judging::{Flaw, judge};
 use crate::verdict::{CheckFault, Checked, Verdict};
 use crate::walking::Walk;
 use std::alloc::{AllocError, Global};
 use td_certificate::{CertFaultKind, Certificate, Version};
 use td_circuit::{BuildFault, Circuit, build};
+use td_event_sim::{Scratch, delay_of};
 use td_gates::Delay;
 use td_netlist::FaultKind;
 use td_nets::Netlist;
@@ -36,9 +37,11 @@ pub struct BadLine {
 #[tactic(auto, using(crate::proofs::Lines::started))]
 fn first_bad(
     alloc: Global,
+    scratch: &mut Scratch,
     circuit: &Circuit,
     certificate: &Certificate,
 ) -> Result<Option<BadLine>, AllocError>
+    requires scratch { IsFor circuit.now scratch.old }
     requires pins { length certificate.now.question.admit.pins ≡ 2 * length circuit.now.netlist.inputs }
     ensures judged { IfOk result (λ found. AreJudged (setting circuit.now) certificate.now.question.admit certificate.now.time (lines_in certificate.now) found) }
     ensures place { IfOk result (λ found. IfSome found (λ bad. bad.place < length certificate.now.tree)) }
@@ -46,7 +49,15 @@ fn first_bad(
     let admit = certificate.question.admit();
     let mut walk = Walk::new(alloc, admit.pins())?;
     for (place, node) in certificate.tree.nodes().iter().enumerate() {
-        if let Some(flaw) = judge(alloc, circuit, admit, certificate.time, &walk.cube, *node)? {
+        if let Some(flaw) = judge(
+            alloc,
+            scratch,
+            circuit,
+            admit,
+            certificate.time,
+            &walk.cube,
+            *node,
+        )? {
             return Ok(Some(BadLine { place, flaw }));
         }
         walk.pass(*node)?;
@@ -89,15 +100,17 @@ fn is_of_size(circuit: &Circuit, certificate: &Certificate) -> bool
 
 /// Whether the certificate's pair has its time.
 fn is_reached(
-    alloc: Global,
+    scratch: &mut Scratch,
     circuit: &Circuit,
     certificate: &Certificate,
 ) -> Result<bool, AllocError>
+    requires scratch { IsFor circuit.now scratch.old }
     requires first { length certificate.now.pair.first ≡ length circuit.now.netlist.inputs }
     requires second { length certificate.now.pair.second ≡ length circuit.now.netlist.inputs }
-    ensures { IfOk result (λ is. IsTrue is ↔ IsDelayOfBits (setting circuit.now) certificate.now.pair.first certificate.now.pair.second certificate.now.time) }
+    ensures reached { IfOk result (λ is. IsTrue is ↔ IsDelayOfBits (setting circuit.now) certificate.now.pair.first certificate.now.pair.second certificate.now.time) }
+    ensures scratch { IsFor circuit.now scratch.new }
 {
-    Ok(delay_of(alloc, circuit, &certificate.pair)? == certificate.time)
+    Ok(delay_of(scratch, circuit, &certificate.pair)? == certificate.time)
 }
 
 /// The verdict on a certificate of the size of a circuit that has the certificate's moments.
@@ -116,10 +129,11 @@ fn verdict_of_lines(
     if !is_admitted(alloc, certificate.question.admit(), &certificate.pair)? {
         return Ok(Verdict::PairNotAdmitted);
     }
-    if !is_reached(alloc, circuit, certificate)? {
+    let mut scratch = Scratch::new(alloc, circuit)?;
+    if !is_reached(&mut scratch, circuit, certificate)? {
         return Ok(Verdict::PairTime);
     }
-    match first_bad(alloc, circuit, certificate)? {
+    match first_bad(alloc, &mut scratch, circuit, certificate)? {
         Some(bad) => Ok(told_of(bad.flaw, first_line(certificate) + bad.place as u32)),
         None => Ok(Verdict::Accepted),
     }

@@ -4,14 +4,16 @@ ghost use Rattle.std.specs.Prelude.{◌≡◌, ◌*◌, ◌↔◌, Option, ℕ, 
 ghost use Rattle.td_circuit.specs.Numbering.{setting};
 ghost use Rattle.td_domain.specs.Cubes.{IsPoint};
 ghost use Rattle.td_certificate.specs.Accepts.{IsBoundBy, SplitsFree, IsOfOnePair, IsBounded, HasDelay, IsOfCube, IsWithin};
+ghost use Rattle.td_event_sim.specs.Scratch.{IsFor};
 ghost use Rattle.td_checker.specs.Judging.{with_cube, wrong_flaw, IsJudged};
 
-use crate::delays::{delay_of, pair_of};
+use crate::pairs::pair_of;
 use std::alloc::{AllocError, Global};
 use td_arrival::Arrival;
 use td_certificate::{BoundedBy, Node};
 use td_circuit::Circuit;
 use td_domain::{Admit, Both, Cube, Trit, bound};
+use td_event_sim::{Scratch, delay_of};
 use td_ternary::Possible;
 
 /// What is wrong with a line.
@@ -32,15 +34,18 @@ pub enum Flaw {
 /// What is wrong with the node of this cube, if something is, where the certificate's time is this.
 pub fn judge(
     alloc: Global,
+    scratch: &mut Scratch,
     circuit: &Circuit,
     admit: &Admit,
     time: u64,
     cube: &Cube,
     node: Node,
 ) -> Result<Option<Flaw>, AllocError>
+    requires scratch { IsFor circuit.now scratch.old }
     requires cube { length cube.now ≡ 2 * length circuit.now.netlist.inputs }
     requires pins { length cube.now ≡ length admit.now.pins }
-    ensures { IfOk result (λ found. IsJudged (setting circuit.now) admit.now time (with_cube cube.now node) found) }
+    ensures scratch { IsFor circuit.now scratch.new }
+    ensures judged { IfOk result (λ found. IsJudged (setting circuit.now) admit.now time (with_cube cube.now node) found) }
 {
     if !splits_free(cube, node) {
         return Ok(Some(Flaw::Misplaced));
@@ -48,7 +53,7 @@ pub fn judge(
     if !is_of_one_pair(cube, node) {
         return Ok(Some(Flaw::NotOnePair));
     }
-    if !is_of_cube(alloc, circuit, admit, cube, node)? {
+    if !is_of_cube(alloc, scratch, circuit, admit, cube, node)? {
         return Ok(Some(wrong(node)));
     }
     if !is_within(time, node) {
@@ -92,20 +97,23 @@ fn is_of_one_pair(cube: &Cube, node: Node) -> bool
 /// Whether what a leaf says is true of its cube.
 fn is_of_cube(
     alloc: Global,
+    scratch: &mut Scratch,
     circuit: &Circuit,
     admit: &Admit,
     cube: &Cube,
     node: Node,
 ) -> Result<bool, AllocError>
+    requires scratch { IsFor circuit.now scratch.old }
     requires length { length cube.now ≡ 2 * length circuit.now.netlist.inputs }
     requires pins { length cube.now ≡ length admit.now.pins }
     requires pair { IsOfOnePair cube.now node }
-    ensures { IfOk result (λ is. IsTrue is ↔ IsOfCube (setting circuit.now) admit.now cube.now node) }
+    ensures scratch { IsFor circuit.now scratch.new }
+    ensures is { IfOk result (λ is. IsTrue is ↔ IsOfCube (setting circuit.now) admit.now cube.now node) }
 {
     match node {
         Node::Split(_) => Ok(true),
         Node::Bound(domain, most) => is_bounded(alloc, circuit, cube, domain, most),
-        Node::Point(delay) => has_delay(alloc, circuit, cube, delay),
+        Node::Point(delay) => has_delay(alloc, scratch, circuit, cube, delay),
         Node::Empty => Ok(!admit.any(cube)),
     }
 }
@@ -157,11 +165,19 @@ fn is_bounded(
 }
 
 /// Whether the one pair of a cube has this delay.
-fn has_delay(alloc: Global, circuit: &Circuit, cube: &Cube, delay: u64) -> Result<bool, AllocError>
+fn has_delay(
+    alloc: Global,
+    scratch: &mut Scratch,
+    circuit: &Circuit,
+    cube: &Cube,
+    delay: u64,
+) -> Result<bool, AllocError>
+    requires scratch { IsFor circuit.now scratch.old }
     requires length { length cube.now ≡ 2 * length circuit.now.netlist.inputs }
     requires point { IsPoint cube.now }
-    ensures { IfOk result (λ has. IsTrue has ↔ HasDelay (setting circuit.now) cube.now delay) }
+    ensures scratch { IsFor circuit.now scratch.new }
+    ensures has { IfOk result (λ has. IsTrue has ↔ HasDelay (setting circuit.now) cube.now delay) }
 {
     let pair = pair_of(alloc, circuit, cube)?;
-    Ok(delay_of(alloc, circuit, &pair)? == delay)
+    Ok(delay_of(scratch, circuit, &pair)? == delay)
 }

@@ -3,9 +3,9 @@
 
 mod admitting;
 mod checking;
-mod delays;
 mod judging;
 pub mod laws;
+mod pairs;
 mod verdict;
 mod walking;
 

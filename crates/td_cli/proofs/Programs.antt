@@ -1,5 +1,5 @@
 -- How the program ends.
-use Rattle.std.proofs.Common.{◌≡◌, ◌≢◌, ◌⊎◌, ◌∙◌, ◌++◌, ℕ, List, [], ◌∷◌, Option, Some, None, Result, Ok, Err, OnErr, IfErr, refl, sym, ap, subst, inl, inr, append-nil, codes}
+use Rattle.std.proofs.Common.{◌≡◌, ◌≢◌, ◌⊎◌, ◌∙◌, ◌++◌, ℕ, List, [], ◌∷◌, Option, Some, None, Result, Ok, Err, OnErr, IfErr, refl, sym, ap, subst, inl, inr, append-nil, append_assoc, codes}
 use Rattle.std.specs.Borrow.{Bor}
 use Rattle.clap.specs.Words.{kind_of, HasKind}
 use Rattle.clap.specs.declared.error.Error.{Error}
@@ -22,11 +22,11 @@ use Rattle.td_cli.specs.Files.{FileStep, Made, Ended, FileText, HasBeginning, Is
 use Rattle.td_cli.specs.declared.asking.QuestionWords.{QuestionWords}
 use Rattle.td_cli.specs.Vectors.{words_of}
 use Rattle.td_cli.specs.Refusals.{unwritten_text}
-use Rattle.td_cli.specs.Outcomes.{HasNoAnswer}
+use Rattle.td_cli.specs.Reports.{IsSimReport}
 use Rattle.td_cli.specs.WorstReports.{IsWorstReport}
 use Rattle.td_command.specs.CommandLine.{kinds_of}
-use Rattle.td_cli.specs.Ends.{Product, Streams, streams, Tells, TellsReason, TellsUnread, TellsUnwritten, Says, Ends}
-use Rattle.td_cli.specs.Requests.{Disk, Reads, HoldsOnFile, certificate_files, search_ending, IsWorstProduct, IsOutOfMemory, IsShown, TellsText, RequestEnds, ProgramEnds}
+use Rattle.td_cli.specs.Ends.{Product, Streams, streams, Tells, TellsReason, TellsUnread, TellsUnwritten, LosesOne, Says, Ends}
+use Rattle.td_cli.specs.Requests.{Disk, Reads, HoldsOnFile, certificate_files, search_ending, IsSimProduct, IsWorstProduct, IsOutOfMemory, IsShown, TellsText, RequestEnds, ProgramEnds}
 
 -- a kind whose text goes to standard error isn't
 pub not_shown : (k : ErrorKind) → (k ≢ kind.DisplayHelp) × (k ≢ kind.DisplayVersion) → ¬ IsShown k
@@ -42,6 +42,94 @@ pub refused_words : (disk : Disk) (words : List (List ℕ)) (error : Error) (sta
 refused_words disk words error status old new (inl ran_out) memory told = inr (refl, inr (memory ran_out))
 refused_words disk words error status old new (inr among) memory (inl ran_out) = inr (refl, inr ran_out)
 refused_words disk words error status old new (inr among) memory (inr text) = inr (refl, inl (kind_of error, among, text))
+
+-- ---- files that are written one after another
+
+left_more : (b c : Type 0) → (b → c) → (file : FileText) (fault : WriteFault) (rest : List FileStep) → IsLeft b file fault rest → IsLeft c file fault rest
+left_more b c more file fault rest (inl none) = inl ((λ device. more (none.0 device)), none.1)
+left_more b c more file fault rest (inr broken) = inr broken
+
+lost_more : (b c : List ℕ → Type 0) → ((name : List ℕ) → b name → c name) → (files : List FileText) (steps : List FileStep) (old new : Output)
+    → LosesOne files b steps old new → LosesOne files c steps old new
+lost_more b c more files steps old new loses = record {
+  before = loses.before;
+  lost = loses.lost;
+  after = loses.after;
+  are = loses.are;
+  done = loses.done;
+  rest = loses.rest;
+  parts = loses.parts;
+  written = loses.written;
+  fault = loses.fault;
+  left = left_more (b loses.lost.name) (c loses.lost.name) (more loses.lost.name) loses.lost loses.fault loses.rest loses.left;
+  told = loses.told;
+}
+
+pub one_written : (file : FileText) (steps : List FileStep) → IsWritten file steps → AreWritten (file ∷ []) steps
+one_written file steps written = (steps, [], sym (append-nil steps), written, refl)
+
+pub one_lost : (file : FileText) (fault : WriteFault) (b : List ℕ → Type 0) (steps : List FileStep) (old new : Output)
+    → IsLeft (b file.name) file fault steps → TellsUnwritten file.name fault old new → LosesOne (file ∷ []) b steps old new
+one_lost file fault b steps old new left told = record {
+  before = [];
+  lost = file;
+  after = [];
+  are = refl;
+  done = [];
+  rest = steps;
+  parts = refl;
+  written = refl;
+  fault = fault;
+  left = left;
+  told = told;
+}
+
+pub both_written : (files more : List FileText) (steps later : List FileStep) → AreWritten files steps → AreWritten more later
+    → AreWritten (files ++ more) (steps ++ later)
+both_written [] more steps later none written = subst (λ (before : List FileStep). AreWritten more (before ++ later)) (sym none) written
+both_written (file ∷ files) more steps later (first, rest, parts, one, others) written = (
+  first,
+  rest ++ later,
+  ap (λ (before : List FileStep). before ++ later) parts ∙ append_assoc first rest later,
+  one,
+  both_written files more rest later others written,
+)
+
+-- one of the first files was not written
+pub lost_before : (files more : List FileText) (b : List ℕ → Type 0) (steps : List FileStep) (old new : Output) → LosesOne files b steps old new
+    → LosesOne (files ++ more) b steps old new
+lost_before files more b steps old new loses = record {
+  before = loses.before;
+  lost = loses.lost;
+  after = loses.after ++ more;
+  are = ap (λ (them : List FileText). them ++ more) loses.are ∙ append_assoc loses.before (loses.lost ∷ loses.after) more;
+  done = loses.done;
+  rest = loses.rest;
+  parts = loses.parts;
+  written = loses.written;
+  fault = loses.fault;
+  left = loses.left;
+  told = loses.told;
+}
+
+-- the first files were written, and one of those after them was not
+pub lost_behind : (files more : List FileText) (b c : List ℕ → Type 0) (steps later : List FileStep) (old then new : Output) → AreWritten files steps
+    → then ≡ old → ((name : List ℕ) → b name → c name) → LosesOne more b later then new → LosesOne (files ++ more) c (steps ++ later) old new
+lost_behind files more b c steps later old then new written same breaks here =
+    let loses : LosesOne more c later then new = lost_more b c breaks more later then new here in
+    record {
+      before = files ++ loses.before;
+      lost = loses.lost;
+      after = loses.after;
+      are = ap (λ (them : List FileText). files ++ them) loses.are ∙ sym (append_assoc files loses.before (loses.lost ∷ loses.after));
+      done = steps ++ loses.done;
+      rest = loses.rest;
+      parts = ap (λ (them : List FileStep). steps ++ them) loses.parts ∙ sym (append_assoc steps loses.done loses.rest);
+      written = both_written files loses.before steps loses.done written loses.written;
+      fault = loses.fault;
+      left = loses.left;
+      told = subst (λ (before : Output). TellsUnwritten loses.lost.name loses.fault before new) same loses.told;
+    }
 
 module _ (P : Product → Type 0) (H : Refusal → Type 0) (b : List ℕ → Type 0) where
   -- a command ends so whatever else is said, and may be refused
@@ -76,24 +164,9 @@ module _ (P : Product → Type 0) (H : Refusal → Type 0) (b : List ℕ → Typ
     product = ends.product;
     is = says ends.product ends.is;
     sent = ends.sent;
-    before = ends.before;
-    lost = ends.lost;
-    after = ends.after;
-    files = ends.files;
-    done = ends.done;
-    rest = ends.rest;
-    parts = ends.parts;
-    written = ends.written;
-    fault = ends.fault;
-    left = left_more c breaks ends.lost ends.fault ends.rest ends.left;
-    told = ends.told;
+    loses = lost_more b c breaks ends.product.files steps old.err new.err ends.loses;
     ends = ends.ends;
   })))
-    where
-      left_more : (c : List ℕ → Type 0) → ((name : List ℕ) → b name → c name) → (file : FileText) (fault : WriteFault) (rest : List FileStep)
-          → IsLeft (b file.name) file fault rest → IsLeft (c file.name) file fault rest
-      left_more c more file fault rest (inl not) = inl ((λ device. more file.name (not.0 device)), not.1)
-      left_more c more file fault rest (inr broken) = inr broken
 
   -- a reason that holds was told
   pub refused : (reason : Refusal) (status : Status) (out err_old err_new : Output) → (reason ≢ refusal.OutOfMemory → H reason)
@@ -130,6 +203,24 @@ module _ (P : Product → Type 0) (H : Refusal → Type 0) (b : List ℕ → Typ
     no_file = refl;
     ends = lost.2;
   })))
+
+  -- the report and all files went out
+  pub finished : (product : Product) (steps : List FileStep) (status : Status) (old new : Streams) → P product → Sent old.out new.out product.report
+      → AreWritten product.files steps → new.err ≡ old.err → status ≡ product.ending → Ends P H b steps status old new
+  finished product steps status old new is sent written silent ends =
+      inl (record { product = product; is = is; sent = sent; written = written; silent = silent; ends = ends })
+
+  -- the report didn't go out
+  pub lost_report : (product : Product) (status : Status) (old new : Streams) → P product → Failed old.out new.out product.report
+      → Tells old.err new.err (unwritten_text (codes "stdout")) → status ≡ Device → Ends P H b [] status old new
+  lost_report product status old new is broke told ends =
+      inr (inr (inl (record { product = product; is = is; broke = broke; told = told; no_file = refl; ends = ends })))
+
+  -- the report went out, and then a file was not written
+  pub lost_file : (product : Product) (steps : List FileStep) (status : Status) (old new : Streams) → P product → Sent old.out new.out product.report
+      → LosesOne product.files b steps old.err new.err → status ≡ Device → Ends P H b steps status old new
+  lost_file product steps status old new is sent loses ends =
+      inr (inr (inr (record { product = product; is = is; sent = sent; loses = loses; ends = ends })))
 
 -- what a command on a text does, said of the file that was read as it
 pub on_file : (disk : Disk) (name text : List ℕ) → disk.holds name text
@@ -209,7 +300,7 @@ pub asked_as : (WereTaken : List FileStep → Type 0) (disk : Disk) (asked other
 asked_as WereTaken disk asked other status old new same taken =
     subst (λ (it : Request). Takes WereTaken (λ steps. RequestEnds disk it steps status old new)) (sym same) taken
 
--- ---- the search
+-- ---- the files of a search
 
 -- without a certificate, or without a name, no file is due
 pub no_certificate : (name : Option (List ℕ)) (certificate : Option Certificate) → certificate ≡ None → certificate_files name certificate ≡ []
@@ -222,73 +313,44 @@ no_name word certificate none = ap (λ (it : Option (Bor (List ℕ))). certifica
 abbrev pub certificate_file : List ℕ → Certificate → FileText
 certificate_file name certificate = record { name = name; text = spelling certificate }
 
-module _ (text : List ℕ) (default : Delay) (words : QuestionWords) (budget : ℕ) (b : List ℕ → Type 0) where
-  abbrev pub WorstEnds : Option (List ℕ) → List FileStep → Status → Streams → Streams → Type 0
-  WorstEnds name = Ends (IsWorstProduct text default words budget name) (HasNoAnswer text default words) b
+-- what a search says
+pub worst_product : (text : List ℕ) (default : Delay) (words : QuestionWords) (budget : ℕ) (name vcd : Option (List ℕ)) (report : List ℕ)
+    (certificate : Option Certificate) (dumps : List FileText) → IsWorstReport text default words budget vcd report certificate dumps
+    → IsWorstProduct text default words budget name vcd
+    (record { report = report; files = certificate_files name certificate ++ dumps; ending = search_ending certificate })
+worst_product text default words budget name vcd report certificate dumps is =
+    record { certificate = certificate; dumps = dumps; is = is; files = refl; ends = refl }
 
-  -- of the name that is given
-  pub named : (word : Option (Bor (List ℕ))) (name : Bor (List ℕ)) (steps : List FileStep) (status : Status) (old new : Streams) → word ≡ Some name
-      → WorstEnds (Some name.now) steps status old new → WorstEnds (words_of word) steps status old new
-  named word name steps status old new is ends =
-      subst (λ (it : Option (Bor (List ℕ))). WorstEnds (words_of it) steps status old new) (sym is) ends
+-- what a simulation says
+pub sim_product : (text : List ℕ) (default : Delay) (from to : List ℕ) (at vcd : Option (List ℕ)) (report : List ℕ) (dumps : List FileText)
+    → IsSimReport text default from to at vcd report dumps
+    → IsSimProduct text default from to at vcd (record { report = report; files = dumps; ending = Done })
+sim_product text default from to at vcd report dumps is = record { is = is; ends = refl }
 
-  -- the report of a search was not said
-  pub lost_report : (name : Option (List ℕ)) (report : List ℕ) (certificate : Option Certificate) (status : Status) (old new : Streams)
-      → IsWorstReport text default words budget report certificate → Failed old.out new.out report
-      → Tells old.err new.err (unwritten_text (codes "stdout")) → status ≡ Device → WorstEnds name [] status old new
-  lost_report name report certificate status old new is broke told ends = inr (inr (inl (record {
-    product = record { report = report; files = certificate_files name certificate; ending = search_ending certificate };
-    is = record { certificate = certificate; is = is; files = refl; ends = refl };
-    broke = broke;
-    told = told;
-    no_file = refl;
-    ends = ends;
-  })))
+-- ---- what is kept
 
-  -- the report of a search was said, and no file is due
-  pub without_file : (name : Option (List ℕ)) (report : List ℕ) (certificate : Option Certificate) (status : Status) (old new : Streams)
-      → IsWorstReport text default words budget report certificate → certificate_files name certificate ≡ []
-      → Sent old.out new.out report → new.err ≡ old.err → status ≡ search_ending certificate → WorstEnds name [] status old new
-  without_file name report certificate status old new is none sent silent ends = inl (record {
-    product = record { report = report; files = certificate_files name certificate; ending = search_ending certificate };
-    is = record { certificate = certificate; is = is; files = refl; ends = refl };
-    sent = sent;
-    written = subst (λ files. AreWritten files []) (sym none) refl;
-    silent = silent;
-    ends = ends;
-  })
+pub none_kept : {F : Type 0} (did : F → F → List FileStep → Type 0) (did_nothing : (files : F) → did files files []) (files : F)
+    (due : List FileText) (err : Output) → due ≡ [] → Takes (did files files) (λ steps. AreWritten due steps × (err ≡ err))
+none_kept did did_nothing files due err none = ([], did_nothing files, (subst (λ (them : List FileText). AreWritten them []) (sym none) refl, refl))
 
-  -- the report of a search and its certificate were written
-  pub with_file : (name report : List ℕ) (certificate : Certificate) (steps : List FileStep) (status : Status) (old new : Streams)
-      → IsWorstReport text default words budget report (Some certificate) → IsWritten (certificate_file name certificate) steps
-      → Sent old.out new.out report → new.err ≡ old.err → status ≡ Done → WorstEnds (Some name) steps status old new
-  with_file name report certificate steps status old new is written sent silent ends = inl (record {
-    product = record { report = report; files = certificate_file name certificate ∷ []; ending = Done };
-    is = record { certificate = Some certificate; is = is; files = refl; ends = refl };
-    sent = sent;
-    written = (steps, [], sym (append-nil steps), written, refl);
-    silent = silent;
-    ends = ends;
-  })
+pub one_kept : (WereTaken : List FileStep → Type 0) (file : FileText) (due : List FileText) (err : Output) → due ≡ file ∷ []
+    → Takes WereTaken (IsWritten file) → Takes WereTaken (λ steps. AreWritten due steps × (err ≡ err))
+one_kept WereTaken file due err is taken = (
+  taken.0,
+  taken.1,
+  (subst (λ (them : List FileText). AreWritten them taken.0) (sym is) (one_written file taken.0 taken.2), refl),
+)
 
-  -- the certificate of a search was not written
-  pub lost_file : (name report : List ℕ) (certificate : Certificate) (fault : WriteFault) (steps : List FileStep) (status : Status) (old new : Streams)
-      → IsWorstReport text default words budget report (Some certificate) → IsLeft (b name) (certificate_file name certificate) fault steps
-      → Sent old.out new.out report → TellsUnwritten name fault old.err new.err → status ≡ Device → WorstEnds (Some name) steps status old new
-  lost_file name report certificate fault steps status old new is left sent told ends = inr (inr (inr (record {
-    product = record { report = report; files = certificate_file name certificate ∷ []; ending = Done };
-    is = record { certificate = Some certificate; is = is; files = refl; ends = refl };
-    sent = sent;
-    before = [];
-    lost = certificate_file name certificate;
-    after = [];
-    files = refl;
-    done = [];
-    rest = steps;
-    parts = refl;
-    written = refl;
-    fault = fault;
-    left = left;
-    told = told;
-    ends = ends;
-  })))
+pub one_not_kept : (WereTaken : List FileStep → Type 0) (file : FileText) (due : List FileText) (fault : WriteFault) (b : List ℕ → Type 0)
+    (old new : Output) → due ≡ file ∷ [] → Takes WereTaken (IsLeft (b file.name) file fault) → TellsUnwritten file.name fault old new
+    → Takes WereTaken (λ steps. LosesOne due b steps old new)
+one_not_kept WereTaken file due fault b old new is taken told = (
+  taken.0,
+  taken.1,
+  subst (λ (them : List FileText). LosesOne them b taken.0 old new) (sym is) (one_lost file fault b taken.0 old new taken.2 told),
+)
+
+pub due_certificate : (word : Option (Bor (List ℕ))) (name : Bor (List ℕ)) (given : Option Certificate) (certificate : Certificate) → word ≡ Some name
+    → given ≡ Some certificate → certificate_files (words_of word) given ≡ certificate_file name.now certificate ∷ []
+due_certificate word name given certificate is has =
+    ap (λ (it : Option (Bor (List ℕ))). certificate_files (words_of it) given) is ∙ ap (certificate_files (Some name.now)) has

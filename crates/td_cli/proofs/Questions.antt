@@ -1,23 +1,30 @@
 -- What the words of a search ask of a text.
-use Rattle.std.proofs.Common.{◌≡◌, ℕ, ◌≤◌, List, [], ◌∷◌, ◌++◌, length, arith, refl, sym, subst, inl, inr}
+use Rattle.std.proofs.Common.{◌≡◌, ◌∙◌, ℕ, suc, ◌≤◌, Bool, List, [], ◌∷◌, ◌++◌, length, arith, refl, sym, ap, subst, inl, inr}
+use Rattle.std.proofs.lemmas.List.{length-map}
 use Rattle.std.specs.Prelude.{Option, None, Some, IfSome}
 use Rattle.td_gates.specs.declared.timing.Delay.{Delay}
+use Rattle.td_gates.specs.declared.primitives.Level.{Level}
+use Rattle.td_gates.specs.Table.{level_from}
+use Rattle.td_nets.specs.Netlist.{Name, Named}
 use Rattle.td_circuit.specs.Numbering.{Numbered, with_moments}
+use Rattle.td_domain.specs.declared.cubes.Trit.{Trit}
+use Rattle.td_domain.specs.Pairs.{Pair}
+use Rattle.td_domain.specs.Cubes.{AllowsBits}
 use Rattle.td_domain.specs.Admits.{Admitted}
 use Rattle.td_certificate.specs.Spelling.{HasSpelling}
 use Rattle.td_search.specs.declared.answers.Answer.{Answer}
 use Rattle.td_search.specs.declared.answers.Answer.TheVariants as answer
 use Rattle.td_search.specs.declared.answers.SearchFault.{SearchFault}
 use Rattle.td_search.specs.declared.answers.SearchFault.TheVariants as search
-use Rattle.td_search.specs.Problems.{Problem, problem}
-use Rattle.td_search.specs.Answers.{IsSearchFault}
+use Rattle.td_search.specs.Problems.{Problem, problem, has_delay}
+use Rattle.td_search.specs.Answers.{IsAnswer, IsSearchFault}
 use Rattle.td_search.specs.Written.{CanBeWritten}
 use Rattle.td_cli.specs.declared.asking.QuestionWords.{QuestionWords}
 use Rattle.td_cli.specs.declared.vector.VectorWord.{VectorWord}
 use Rattle.td_cli.specs.declared.vector.VectorWord.TheVariants.{At}
 use Rattle.td_cli.specs.Vectors.{words_of, VectorWords, IsFirstBad, AreMomentsOf, GivesMoments}
 use Rattle.td_cli.specs.Admitting.{most_flips, AreAdmitted, pair_words}
-use Rattle.td_cli.specs.WorstReports.{IsAsked, certificate_in}
+use Rattle.td_cli.specs.WorstReports.{IsAsked, certificate_in, pair_in}
 use Rattle.td_cli.specs.Outcomes.{question_words, IsCircuitOf, HasBadWord, HasNoAnswer, unanswered}
 use Rattle.td_cli.proofs.Refusing.{bad_word}
 use Rattle.td_cli.proofs.Vectors.{given-length}
@@ -75,3 +82,27 @@ module _ (text : List ℕ) (default : Delay) (words : QuestionWords) where
 pub certificate_spelled : (asked : Problem) (found : Answer) → CanBeWritten asked found → IfSome (certificate_in asked found) HasSpelling
 certificate_spelled asked (answer.Exact time pair tree) written = written.0
 certificate_spelled asked (answer.Between low high pair nodes why) written = tt
+
+-- ---- the pair of an answer
+
+same_length : (cube : List Trit) (before after : List Bool) → AllowsBits cube before after → length before ≡ length after
+same_length [] [] [] allows = refl
+same_length [] [] (b ∷ after) allows = absurd allows
+same_length [] (a ∷ before) after allows = absurd allows
+same_length (first ∷ []) before after allows = absurd allows
+same_length (first ∷ second ∷ rest) [] after allows = absurd allows
+same_length (first ∷ second ∷ rest) (a ∷ before) [] allows = absurd allows
+same_length (first ∷ second ∷ rest) (a ∷ before) (b ∷ after) allows = ap suc (same_length rest before after allows.2)
+
+delay_fits : (asked : Problem) (pair : Pair) (delay : ℕ) → has_delay asked pair delay
+    → (length pair.first ≡ length asked.setting.netlist.inputs) × (length pair.second ≡ length asked.setting.netlist.inputs)
+delay_fits asked pair delay has =
+    let first : length pair.first ≡ length asked.setting.netlist.inputs =
+    sym (length-map pair.first level_from) ∙ ap (λ (v : List Level). length v) (sym has.1.runs.settled.inputs)
+    ∙ length-map asked.setting.netlist.inputs (λ (name : Name). (has.1.waves (Named name)).start) in
+    (first, sym (same_length asked.admit.pins pair.first pair.second has.0.pinned) ∙ first)
+
+pub pair_fits : (asked : Problem) (budget : ℕ) (found : Answer) → IsAnswer asked budget found
+    → (length (pair_in found).first ≡ length asked.setting.netlist.inputs) × (length (pair_in found).second ≡ length asked.setting.netlist.inputs)
+pair_fits asked budget (answer.Exact time pair tree) is = delay_fits asked pair time is.reached
+pair_fits asked budget (answer.Between low high pair nodes why) is = delay_fits asked pair low is.reached

@@ -68,6 +68,20 @@ Says report ending status old new =
     (Sent old.out new.out report × (new.err ≡ old.err) × (status ≡ ending))
     ⊎ (Failed old.out new.out report × Tells old.err new.err (unwritten_text (codes "stdout")) × (status ≡ Device))
 
+-- some of the files were written, the next was not, which was told, and those after it were not begun
+pub record LosesOne (files : List FileText) (breaks : List ℕ → Type 0) (steps : List FileStep) (old new : Output) : Type 0 where
+  pub before : List FileText
+  pub lost : FileText
+  pub after : List FileText
+  pub are : files ≡ before ++ lost ∷ after
+  pub done : List FileStep
+  pub rest : List FileStep
+  pub parts : steps ≡ done ++ rest
+  pub written : AreWritten before done
+  pub fault : WriteFault
+  pub left : IsLeft (breaks lost.name) lost fault rest
+  pub told : TellsUnwritten lost.name fault old new
+
 module _ (IsProduct : Product → Type 0) (Holds : Refusal → Type 0) (breaks : List ℕ → Type 0)
     (steps : List FileStep) (status : Status) (old new : Streams) where
   -- the report and all files went out
@@ -97,22 +111,12 @@ module _ (IsProduct : Product → Type 0) (Holds : Refusal → Type 0) (breaks :
     pub no_file : steps ≡ []
     pub ends : status ≡ Device
 
-  -- the report and some files went out, the next file was not written, which was told, and those after it were not begun
+  -- the report went out, and then a file was not written
   pub record LosesFile : Type 0 where
     pub product : Product
     pub is : IsProduct product
     pub sent : Sent old.out new.out product.report
-    pub before : List FileText
-    pub lost : FileText
-    pub after : List FileText
-    pub files : product.files ≡ before ++ lost ∷ after
-    pub done : List FileStep
-    pub rest : List FileStep
-    pub parts : steps ≡ done ++ rest
-    pub written : AreWritten before done
-    pub fault : WriteFault
-    pub left : IsLeft (breaks lost.name) lost fault rest
-    pub told : TellsUnwritten lost.name fault old.err new.err
+    pub loses : LosesOne product.files breaks steps old.err new.err
     pub ends : status ≡ Device
 
   -- how a command ends that says such a product, and is refused for such reasons

@@ -1,5 +1,5 @@
 -- What is done to files, and the texts that are written to them.
-use Rattle.std.specs.Prelude.{◌≡◌, ◌⊎◌, ℕ, List, [], ◌∷◌, ◌++◌}
+use Rattle.std.specs.Prelude.{◌≡◌, ◌⊎◌, ℕ, List, [], ◌∷◌, ◌++◌, Option, Some, None}
 use Rattle.td_gates.specs.Output.{Output, Sent, SentFront, one_more}
 use Rattle.td_certificate.specs.declared.fault.WriteFault.{WriteFault}
 use Rattle.td_certificate.specs.declared.fault.WriteFault.TheVariants as unwritten
@@ -14,6 +14,11 @@ pub data FileStep : Type 0 where
 pub record FileText : Type 0 where
   pub name : List ℕ
   pub text : List ℕ
+
+-- a text for the file of a name, where one is given
+abbrev pub file_for : Option (List ℕ) → List ℕ → List FileText
+file_for None text = []
+file_for (Some name) text = record { name = name; text = text } ∷ []
 
 -- the file was made and has its text
 pub record IsWritten (file : FileText) (steps : List FileStep) : Type 0 where

@@ -12,3 +12,4 @@ pub mod Outcomes
 pub mod Ends
 pub mod Requests
 pub mod MemoryFiles
+pub mod Dumps

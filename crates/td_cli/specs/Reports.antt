@@ -13,6 +13,8 @@ use Rattle.td_netlist.specs.Means.{Means}
 use Rattle.td_circuit.specs.Loops.{Loop}
 use Rattle.td_circuit.specs.Settings.{Setting}
 use Rattle.td_circuit.specs.Run.{Runs, latest_change}
+use Rattle.td_vcd.specs.Text.{dump, variable_waves}
+use Rattle.td_cli.specs.Files.{FileText, file_for}
 use Rattle.td_cli.specs.Vectors.{level_character, SpellsVector, AreMomentsOf}
 
 abbrev pub newline : List ℕ
@@ -66,8 +68,10 @@ pub record IsSetting (text : List ℕ) (default : Delay) (at : Option (List ℕ)
   pub acyclic : ¬ Loop setting.netlist
   pub moments : AreMomentsOf (length setting.netlist.inputs) at setting.moments
 
--- The text and the option give a setting, the two words are vectors of its inputs, and the report is that of their run.
-pub record IsSimReport (text : List ℕ) (default : Delay) (from to : List ℕ) (at : Option (List ℕ)) (report : List ℕ) : Type 0 where
+-- The text and the option give a setting, the two words are vectors of its inputs, the report is that of their run, and where a
+-- name is given for its waves, their dump is the one file.
+pub record IsSimReport (text : List ℕ) (default : Delay) (from to : List ℕ) (at vcd : Option (List ℕ)) (report : List ℕ)
+    (files : List FileText) : Type 0 where
   pub setting : Setting
   pub is_setting : IsSetting text default at setting
   pub first : List Level
@@ -77,3 +81,4 @@ pub record IsSimReport (text : List ℕ) (default : Delay) (from to : List ℕ) 
   pub waves : Net → Wave
   pub runs : Runs setting first second waves
   pub is : report ≡ sim_text setting.netlist waves
+  pub dumped : files ≡ file_for vcd (dump setting.netlist (variable_waves setting.netlist waves))

@@ -32,8 +32,9 @@ use Rattle.td_cli.specs.Ends.{Product, IsReportOnly, Streams, Tells, Ends}
 -- ---- the commands, on bytes that were read
 
 -- what `sim` says
-abbrev pub IsSimProduct : List ℕ → Delay → List ℕ → List ℕ → Option (List ℕ) → Product → Type 0
-IsSimProduct text default from to at = IsReportOnly (IsSimReport text default from to at) Done
+pub record IsSimProduct (text : List ℕ) (default : Delay) (from to : List ℕ) (at vcd : Option (List ℕ)) (product : Product) : Type 0 where
+  pub is : IsSimReport text default from to at vcd product.report product.files
+  pub ends : product.ending ≡ Done
 
 -- what `bound` says
 abbrev pub IsBoundProduct : List ℕ → Delay → Option (List ℕ) → Option (List ℕ) → Option (List ℕ) → Product → Type 0
@@ -54,11 +55,13 @@ abbrev pub search_ending : Option Certificate → Status
 search_ending (Some certificate) = Done
 search_ending None = Between
 
--- what `worst` says
-pub record IsWorstProduct (text : List ℕ) (default : Delay) (words : QuestionWords) (budget : ℕ) (name : Option (List ℕ)) (product : Product) : Type 0 where
+-- what `worst` says: the files are the certificate, and then the dump
+pub record IsWorstProduct (text : List ℕ) (default : Delay) (words : QuestionWords) (budget : ℕ) (name vcd : Option (List ℕ)) (product : Product)
+    : Type 0 where
   pub certificate : Option Certificate
-  pub is : IsWorstReport text default words budget product.report certificate
-  pub files : product.files ≡ certificate_files name certificate
+  pub dumps : List FileText
+  pub is : IsWorstReport text default words budget vcd product.report certificate dumps
+  pub files : product.files ≡ certificate_files name certificate ++ dumps
   pub ends : product.ending ≡ search_ending certificate
 
 -- ---- the commands, on files
@@ -92,11 +95,11 @@ words_in asked = record { first = asked.first; second = asked.second; hold = ask
 -- what is said for a request
 abbrev pub IsProductOf : Disk → Request → Product → Type 0
 IsProductOf disk (request.Sim asked) product =
-    Reads disk asked.file.now (λ text. IsSimProduct text (delays asked.rise asked.fall) asked.from.now asked.to.now (words_of asked.at) product)
+    Reads disk asked.file.now (λ text. IsSimProduct text (delays asked.rise asked.fall) asked.from.now asked.to.now (words_of asked.at) (words_of asked.vcd) product)
 IsProductOf disk (request.Bound asked) product =
     Reads disk asked.file.now (λ text. IsBoundProduct text (delays asked.rise asked.fall) (words_of asked.first) (words_of asked.second) (words_of asked.at) product)
 IsProductOf disk (request.Worst asked) product =
-    Reads disk asked.file.now (λ text. IsWorstProduct text (delays asked.rise asked.fall) (words_in asked) asked.budget (words_of asked.certificate) product)
+    Reads disk asked.file.now (λ text. IsWorstProduct text (delays asked.rise asked.fall) (words_in asked) asked.budget (words_of asked.certificate) (words_of asked.vcd) product)
 IsProductOf disk (request.Check asked) product =
     Reads disk asked.file.now (λ text. Reads disk asked.certificate.now (λ certificate.
     IsCheckProduct text (delays asked.rise asked.fall) certificate product))

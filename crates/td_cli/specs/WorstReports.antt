@@ -1,7 +1,11 @@
 -- What `worst` prints.
-use Rattle.std.specs.Prelude.{◌≡◌, ℕ, List, ◌++◌, codes, decimal, length, Bool, Option, Some, None}
+use Rattle.std.specs.Prelude.{◌≡◌, ℕ, List, [], ◌++◌, codes, decimal, length, map, Bool, Option, Some, None}
 use Rattle.td_gates.specs.declared.timing.Delay.{Delay}
-use Rattle.td_nets.specs.Netlist.{Netlist}
+use Rattle.td_gates.specs.Table.{level_from}
+use Rattle.td_gates.specs.Wave.{Wave}
+use Rattle.td_nets.specs.Netlist.{Net, Netlist}
+use Rattle.td_circuit.specs.Settings.{Setting}
+use Rattle.td_circuit.specs.Run.{Runs}
 use Rattle.td_domain.specs.Pairs.{Pair}
 use Rattle.td_certificate.specs.declared.certificate.Certificate.{Certificate}
 use Rattle.td_certificate.specs.Text.{bits}
@@ -13,6 +17,8 @@ use Rattle.td_search.specs.Problems.{Problem}
 use Rattle.td_search.specs.Answers.{IsAnswer, certificate_of}
 use Rattle.td_cli.specs.declared.asking.QuestionWords.{QuestionWords}
 use Rattle.td_cli.specs.Vectors.{words_of}
+use Rattle.td_vcd.specs.Text.{dump, variable_waves}
+use Rattle.td_cli.specs.Files.{FileText, file_for}
 use Rattle.td_cli.specs.Admitting.{AreAdmitted}
 use Rattle.td_cli.specs.Reports.{newline, head_lines, IsSetting}
 
@@ -60,12 +66,25 @@ pub record IsAsked (text : List ℕ) (default : Delay) (words : QuestionWords) (
   pub is_setting : IsSetting text default (words_of words.at) asked.setting
   pub admits : AreAdmitted (length asked.setting.netlist.inputs) words asked.admit
 
--- The report and the certificate are those of an answer to what the words ask of the text.
-pub record IsWorstReport (text : List ℕ) (default : Delay) (words : QuestionWords) (budget : ℕ) (report : List ℕ)
-    (certificate : Option Certificate) : Type 0 where
+-- the pair of an answer
+abbrev pub pair_in : Answer → Pair
+pair_in (answer.Exact time pair tree) = pair
+pair_in (answer.Between low high pair nodes why) = pair
+
+-- where a name is given, the one file is the dump of the pair's run
+abbrev pub IsDumpOf : Setting → Pair → Option (List ℕ) → List FileText → Type 0
+IsDumpOf setting pair None files = files ≡ []
+IsDumpOf setting pair (Some name) files =
+    (waves : Net → Wave) × Runs setting (map level_from pair.first) (map level_from pair.second) waves
+    × (files ≡ file_for (Some name) (dump setting.netlist (variable_waves setting.netlist waves)))
+
+-- The report and the certificate are those of an answer to what the words ask of the text, and the dump is that of its pair.
+pub record IsWorstReport (text : List ℕ) (default : Delay) (words : QuestionWords) (budget : ℕ) (vcd : Option (List ℕ)) (report : List ℕ)
+    (certificate : Option Certificate) (dumps : List FileText) : Type 0 where
   pub asked : Problem
   pub is_asked : IsAsked text default words asked
   pub found : Answer
   pub is_answer : IsAnswer asked budget found
   pub is : report ≡ worst_text asked.setting.netlist found
   pub certified : certificate ≡ certificate_in asked found
+  pub dumped : IsDumpOf asked.setting (pair_in found) vcd dumps

@@ -77,6 +77,7 @@ pub trait Files {
         writer: Self::Writer,
     ) -> Result<(), (Self::Writer, WriteFault)>
         ensures ended { OnOk result (did self.old self.new (Ended name.now (Self.Writer.output writer) ∷ [])) }
+        ensures devices { (other : List ℕ) → breaks self.new other → breaks self.old other }
         ensures back { IfErr result (λ refused. refused.0 ≡ writer) }
         ensures fault { IfErr result (λ refused. refused.1 ≡ Unwritten.Device → breaks self.old name.now) }
         ensures stays { OnErr result (did self.old self.new []) };

@@ -4,6 +4,7 @@
 mod asking;
 mod bounding;
 mod checking;
+mod dumping;
 mod files;
 mod memory_files;
 mod program;
@@ -20,6 +21,7 @@ mod writer;
 pub use asking::QuestionWords;
 pub use bounding::bounds;
 pub use checking::{Checked, verdict_on};
+pub use dumping::Dump;
 pub use files::{Files, ReadFault, RealFiles};
 pub use memory_files::{MemoryFile, MemoryFiles, MemoryStep};
 pub use program::{
@@ -27,7 +29,7 @@ pub use program::{
 };
 pub use refusal::Refusal;
 pub use searching::{Found, worst};
-pub use simulate::sim;
+pub use simulate::{Simulated, sim};
 pub use status::Status;
 pub use td_command::{BoundRequest, CheckRequest, Request, SimRequest, WorstRequest, laws, parse};
 pub use text::Text;

@@ -1,17 +1,18 @@
 //! The program.
 
-ghost use Rattle.std.specs.Prelude.{◌≡◌, ◌≤◌, ◌⊎◌, ◌++◌, [], map, OnOk, IfErr};
+ghost use Rattle.std.specs.Prelude.{◌≡◌, ◌≤◌, ◌⊎◌, ◌++◌, ℕ, List, [], map, OnOk, OnErr, IfErr, IfSome};
 ghost use Rattle.clap.specs.Words.{kind_of};
 ghost use Rattle.clap.specs.declared.error.kind.ErrorKind.TheVariants as Kind;
 ghost use Rattle.td_gates.specs.Delays.{IsInRange};
 ghost use Rattle.td_certificate.specs.Spelling.{HasSpelling, spelling};
 ghost use Rattle.td_command.specs.CommandLine.{delays, IsCarriedOut};
-ghost use Rattle.td_cli.specs.Ends.{Ends, Tells, TellsReason, TellsUnread, TellsUnwritten, Says, streams};
-ghost use Rattle.td_cli.specs.Files.{IsWritten, IsLeft, Takes};
+ghost use Rattle.td_cli.specs.Ends.{Ends, LosesOne, Tells, TellsReason, TellsUnread, TellsUnwritten, Says, streams};
+ghost use Rattle.td_cli.specs.Files.{IsWritten, AreWritten, IsLeft, Takes};
+ghost use Rattle.td_cli.specs.Dumps.{file_of, dump_files, HasRun};
 ghost use Rattle.td_cli.specs.Outcomes.{HasNoReport, HasNoBounds, HasNoAnswer, HasNoVerdict};
 ghost use Rattle.td_cli.specs.Refusals.{unwritten_text};
 ghost use Rattle.td_cli.specs.Vectors.{words_of};
-ghost use Rattle.td_cli.specs.Requests.{disk_of, words_in, IsSimProduct, IsBoundProduct, IsCheckProduct, IsWorstProduct, Reads, HoldsOnFile, RequestEnds, IsOutOfMemory, IsShown, TellsText, ProgramEnds, RefusesWords};
+ghost use Rattle.td_cli.specs.Requests.{disk_of, words_in, IsSimProduct, IsBoundProduct, IsCheckProduct, IsWorstProduct, certificate_files, search_ending, Reads, HoldsOnFile, RequestEnds, IsOutOfMemory, IsShown, TellsText, ProgramEnds, RefusesWords};
 ghost use Rattle.td_command.specs.declared.command.Request.TheVariants as Asked;
 ghost use Rattle.td_cli.specs.declared.refusal.Refusal.TheVariants as Reason;
 ghost use Rattle.td_cli.specs.declared.files.ReadFault.TheVariants as Fault;
@@ -20,6 +21,7 @@ ghost use Rattle.td_cli.specs.declared.status.Status.TheVariants as Ended;
 use crate::asking::QuestionWords;
 use crate::bounding::bounds;
 use crate::checking::verdict_on;
+use crate::dumping::{Dump, write_dump};
 use crate::files::{Files, ReadFault};
 use crate::refusal::Refusal;
 use crate::searching::worst;
@@ -101,11 +103,13 @@ fn run_sim<F: Files, O: Sink, E: Sink>(
     match files.read(alloc, request.file) {
         Ok(text) => carry_out_sim(
             alloc,
+            files,
             &text,
             default,
             request.from,
             request.to,
             request.at,
+            request.vcd,
             out,
             err,
         ),
@@ -170,6 +174,7 @@ fn run_worst<F: Files, O: Sink, E: Sink>(
                 words_in(request),
                 budget,
                 request.certificate,
+                request.vcd,
                 out,
                 err,
             )
@@ -243,24 +248,35 @@ fn tell_unread<E: Sink>(alloc: Global, err: &mut E, file: &str, fault: ReadFault
     }
 }
 
-/// Carries out `sim` on bytes that were read: the report goes to `out`, why there is none to `err`.
-pub fn carry_out_sim<O: Sink, E: Sink>(
+/// Carries out `sim` on bytes that were read: the report goes to `out`, and then the waves to the file of the name `vcd`; why
+/// there is none goes to `err`.
+pub fn carry_out_sim<F: Files, O: Sink, E: Sink>(
     alloc: Global,
+    files: &mut F,
     text: &[u8],
     default: Delay,
     from: &str,
     to: &str,
     at: Option<&str>,
+    vcd: Option<&str>,
     out: &mut O,
     err: &mut E,
 ) -> Status
-    ensures { Ends (IsSimProduct text.now default from.now to.now (words_of at.entry)) (HasNoReport text.now default from.now to.now (words_of at.entry)) (λ _. ⊥) [] result
-        (streams (O.output out.old) (E.output err.old)) (streams (O.output out.new) (E.output err.new)) }
+    ensures { Takes (F.did files.old files.new) (λ steps.
+        Ends (IsSimProduct text.now default from.now to.now (words_of at.entry) (words_of vcd.entry)) (HasNoReport text.now default from.now to.now (words_of at.entry)) (F.breaks files.old) steps result
+        (streams (O.output out.old) (E.output err.old)) (streams (O.output out.new) (E.output err.new))) }
 {
-    match sim(alloc, text, default, from, to, at) {
-        Ok(report) => say(report.bytes(), Status::Done, out, err),
-        Err(refusal) => tell_refusal(alloc, err, &refusal),
-    }
+    let simulated = match sim(alloc, text, default, from, to, at, vcd) {
+        Ok(simulated) => simulated,
+        Err(refusal) => return tell_refusal(alloc, err, &refusal),
+    };
+    let Ok(()) = out.write_all(simulated.report.bytes()) else {
+        return tell(err, b"tdelay: cannot write stdout\n", Status::Device);
+    };
+    let Ok(()) = keep_dump(alloc, files, &simulated.dump, err) else {
+        return Status::Device;
+    };
+    Status::Done
 }
 
 /// Carries out `bound` on bytes that were read: the report goes to `out`, why there is none to `err`.
@@ -302,8 +318,9 @@ pub fn carry_out_check<O: Sink, E: Sink>(
     }
 }
 
-/// Carries out `worst` on bytes that were read, with a budget of at most 10,000,000 nodes: the report goes to `out`, and
-/// then the certificate of an exact answer to the file of this name; why there is none goes to `err`.
+/// Carries out `worst` on bytes that were read, with a budget of at most 10,000,000 nodes: the report goes to `out`, then the
+/// certificate of an exact answer to the file of this name, and then the waves of the given pair to that of the name `vcd`; why
+/// there is none goes to `err`.
 pub fn carry_out_worst<F: Files, O: Sink, E: Sink>(
     alloc: Global,
     files: &mut F,
@@ -312,35 +329,70 @@ pub fn carry_out_worst<F: Files, O: Sink, E: Sink>(
     words: QuestionWords<'_>,
     budget: u64,
     name: Option<&str>,
+    vcd: Option<&str>,
     out: &mut O,
     err: &mut E,
 ) -> Status
     requires { budget ≤ 10000000 }
     ensures { Takes (F.did files.old files.new) (λ steps.
-        Ends (IsWorstProduct text.now default words.entry budget (words_of name.entry)) (HasNoAnswer text.now default words.entry) (F.breaks files.old) steps result
+        Ends (IsWorstProduct text.now default words.entry budget (words_of name.entry) (words_of vcd.entry)) (HasNoAnswer text.now default words.entry) (F.breaks files.old) steps result
         (streams (O.output out.old) (E.output err.old)) (streams (O.output out.new) (E.output err.new))) }
 {
-    let found = match worst(alloc, text, default, words, budget) {
+    let found = match worst(alloc, text, default, words, budget, vcd) {
         Ok(found) => found,
         Err(refusal) => return tell_refusal(alloc, err, &refusal),
     };
     let Ok(()) = out.write_all(found.report.bytes()) else {
         return tell(err, b"tdelay: cannot write stdout\n", Status::Device);
     };
-    let Some(certificate) = &found.certificate else {
-        return Status::Between;
+    let Ok(()) = keep_certificate(alloc, files, name, &found.certificate, err) else {
+        return Status::Device;
+    };
+    let Ok(()) = keep_dump(alloc, files, &found.dump, err) else {
+        return Status::Device;
+    };
+    ending(&found.certificate)
+}
+
+/// How a search ends with a certificate, or without one.
+fn ending(certificate: &Option<Certificate>) -> Status
+    ensures { result ≡ search_ending certificate.now }
+{
+    match certificate {
+        Some(_) => Status::Done,
+        None => Status::Between,
+    }
+}
+
+/// Writes a certificate to a new file, if there is one and a name is given for it. Where that fails, it is told.
+fn keep_certificate<F: Files, E: Sink>(
+    alloc: Global,
+    files: &mut F,
+    name: Option<&str>,
+    certificate: &Option<Certificate>,
+    err: &mut E,
+) -> Result<(), Status>
+    requires { IfSome certificate.now HasSpelling }
+    ensures kept { OnOk result (Takes (F.did files.old files.new)
+        (λ steps. AreWritten (certificate_files (words_of name.entry) certificate.now) steps × (E.output err.new ≡ E.output err.old))) }
+    ensures lost { OnErr result (Takes (F.did files.old files.new)
+        (λ steps. LosesOne (certificate_files (words_of name.entry) certificate.now) (F.breaks files.old) steps (E.output err.old) (E.output err.new))) }
+    ensures devices { (other : List ℕ) → F.breaks files.new other → F.breaks files.old other }
+{
+    let Some(certificate) = certificate else {
+        return Ok(());
     };
     let Some(name) = name else {
-        return Status::Done;
+        return Ok(());
     };
-    match keep(alloc, files, name, certificate) {
-        Ok(()) => Status::Done,
-        Err(fault) => tell_unwritten(alloc, err, name, fault),
+    match write_certificate(alloc, files, name, certificate) {
+        Ok(()) => Ok(()),
+        Err(fault) => Err(tell_unwritten(alloc, err, name, fault)),
     }
 }
 
 /// Writes a certificate to a new file. Where its writer fails, what the writer took is left.
-fn keep<F: Files>(
+fn write_certificate<F: Files>(
     alloc: Global,
     files: &mut F,
     name: &str,
@@ -350,10 +402,48 @@ fn keep<F: Files>(
     ensures written { OnOk result (Takes (F.did files.old files.new) (IsWritten (record { name = name.now; text = spelling certificate.now }))) }
     ensures left { IfErr result (λ fault. Takes (F.did files.old files.new)
         (IsLeft (F.breaks files.old name.now) (record { name = name.now; text = spelling certificate.now }) fault)) }
+    ensures devices { (other : List ℕ) → F.breaks files.new other → F.breaks files.old other }
 {
     let mut writer = files.create(alloc, name)?;
     let written = write(alloc, &mut writer, certificate);
     match files.close(alloc, name, writer) {
+        Ok(()) => written,
+        Err((_writer, fault)) => Err(fault),
+    }
+}
+
+/// Writes the waves of a run to a new file, if there are any to be written. Where that fails, it is told.
+fn keep_dump<F: Files, E: Sink>(
+    alloc: Global,
+    files: &mut F,
+    dump: &Option<Dump<'_>>,
+    err: &mut E,
+) -> Result<(), Status>
+    requires { IfSome dump.now HasRun }
+    ensures kept { OnOk result (Takes (F.did files.old files.new)
+        (λ steps. AreWritten (dump_files dump.now) steps × (E.output err.new ≡ E.output err.old))) }
+    ensures lost { OnErr result (Takes (F.did files.old files.new)
+        (λ steps. LosesOne (dump_files dump.now) (F.breaks files.old) steps (E.output err.old) (E.output err.new))) }
+{
+    let Some(dump) = dump else {
+        return Ok(());
+    };
+    match write_waves(alloc, files, dump) {
+        Ok(()) => Ok(()),
+        Err(fault) => Err(tell_unwritten(alloc, err, dump.name, fault)),
+    }
+}
+
+/// Writes the waves of a run to a new file. Where its writer fails, what the writer took is left.
+fn write_waves<F: Files>(alloc: Global, files: &mut F, dump: &Dump<'_>) -> Result<(), WriteFault>
+    requires { HasRun dump.now }
+    ensures written { OnOk result (Takes (F.did files.old files.new) (IsWritten (file_of dump.now))) }
+    ensures left { IfErr result (λ fault. Takes (F.did files.old files.new)
+        (IsLeft (F.breaks files.old dump.now.name.now) (file_of dump.now) fault)) }
+{
+    let mut writer = files.create(alloc, dump.name)?;
+    let written = write_dump(alloc, &mut writer, dump);
+    match files.close(alloc, dump.name, writer) {
         Ok(()) => written,
         Err((_writer, fault)) => Err(fault),
     }

@@ -4,11 +4,14 @@ ghost use Rattle.std.specs.Prelude.{◌≡◌, ◌≤◌, ◌++◌, length, IfOk
 ghost use Rattle.td_search.specs.Problems.{problem};
 ghost use Rattle.td_certificate.specs.Spelling.{HasSpelling};
 ghost use Rattle.td_certificate.specs.Text.{bits};
+ghost use Rattle.td_cli.specs.Dumps.{dump_files, HasRun};
+ghost use Rattle.td_cli.specs.Vectors.{words_of};
 ghost use Rattle.td_cli.specs.WorstReports.{exact_line, between_line, cause_name, cause_line, from_line, to_line, nodes_line, pair_lines};
-ghost use Rattle.td_cli.specs.WorstReports.{answer_lines, worst_text, certificate_in, IsAsked, IsWorstReport};
+ghost use Rattle.td_cli.specs.WorstReports.{answer_lines, worst_text, certificate_in, pair_in, IsAsked, IsWorstReport};
 ghost use Rattle.td_cli.specs.Outcomes.{unanswered, question_words, IsRefusedFor, HasNoAnswer};
 
 use crate::asking::{QuestionWords, admit};
+use crate::dumping::{Dump, pair_dump};
 use crate::refusal::Refusal;
 use crate::report;
 use crate::simulate::circuit;
@@ -22,11 +25,13 @@ use td_domain::{Admit, Pair};
 use td_gates::Delay;
 use td_search::{Answer, Cause, SearchFault, alone, certificate_of};
 
-/// The report of a search, and the certificate of an exact answer.
+/// The report of a search, the certificate of an exact answer, and the waves of the given pair's run where a name is given for
+/// their file.
 #[derive(Drop)]
-pub struct Found {
+pub struct Found<'v> {
     pub report: Text,
     pub certificate: Option<Certificate>,
+    pub dump: Option<Dump<'v>>,
 }
 
 /// What is asked: a circuit with its moments, and which pairs of its inputs are admitted.
@@ -60,21 +65,23 @@ fn question_of<'a>(
 }
 
 /// The report of the search for the worst delay of what the words ask, which handles at most so many nodes. The budget is at
-/// most 10,000,000.
-pub fn worst<'a>(
+/// most 10,000,000. The waves of the given pair's run too, where a name is given for their file.
+pub fn worst<'a, 'v>(
     alloc: Global,
     text: &'a [u8],
     default: Delay,
     words: QuestionWords<'_>,
     budget: u64,
-) -> Result<Found, Refusal<'a>>
+    vcd: Option<&'v str>,
+) -> Result<Found<'v>, Refusal<'a>>
     requires { budget ≤ 10000000 }
-    // The report and the certificate are those of an answer of the search.
+    // The report and the certificate are those of an answer of the search, and the waves those of its pair's run.
     ensures report { IfOk result (λ found.
-        IsWorstReport text.now default words.entry budget found.report found.certificate) }
+        IsWorstReport text.now default words.entry budget (words_of vcd.entry) found.report found.certificate (dump_files found.dump)) }
     ensures refusal { IfErr result (λ refusal. HasNoAnswer text.now default words.entry refusal) }
     // A certificate has a text.
     ensures spelled { IfOk result (λ found. IfSome found.certificate HasSpelling) }
+    ensures has { IfOk result (λ found. IfSome found.dump HasRun) }
 {
     let Asked { circuit, admit } = question_of(alloc, text, default, words)?;
     let moments = Vec::from_slice(alloc, circuit.moments())?;
@@ -83,11 +90,24 @@ pub fn worst<'a>(
         Err(fault) => return Err(unanswered(fault)),
     };
     let report = report_of(alloc, &circuit, &answer)?;
+    let pair = pair_in(&answer).copy(alloc)?;
     let certificate = certificate(&circuit, admit, moments, answer);
+    let dump = pair_dump(alloc, vcd, circuit, &pair)?;
     Ok(Found {
         report,
         certificate,
+        dump,
     })
+}
+
+/// The pair of an answer.
+fn pair_in(answer: &Answer) -> &Pair
+    ensures { result.now ≡ pair_in answer.now }
+{
+    match answer {
+        Answer::Exact { pair, .. } => pair,
+        Answer::Between { pair, .. } => pair,
+    }
 }
 
 /// The refusal of a search without an answer.

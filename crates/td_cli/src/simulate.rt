@@ -1,15 +1,17 @@
 //! The command `sim`: the run of one pair of vectors.
 
-ghost use Rattle.std.specs.Prelude.{◌≡◌, ◌++◌, length, map, IfOk, IfErr, OnOk};
+ghost use Rattle.std.specs.Prelude.{◌≡◌, ◌++◌, length, map, IfOk, IfErr, IfSome, OnOk};
 ghost use Rattle.td_circuit.specs.Numbering.{nets};
 ghost use Rattle.td_circuit.specs.Run.{latest_change};
 ghost use Rattle.td_circuit.specs.NetValues.{net_wave};
 ghost use Rattle.td_run.specs.Runs.{output_waves};
 ghost use Rattle.td_nets.specs.Netlist.{Named};
 ghost use Rattle.td_cli.specs.Reports.{output_lines, sim_text, IsSimReport};
+ghost use Rattle.td_cli.specs.Dumps.{dump_files, HasRun};
 ghost use Rattle.td_cli.specs.Vectors.{words_of};
 ghost use Rattle.td_cli.specs.Outcomes.{IsOfLoop, IsOfFault, IsCircuitOf, HasNoCircuit, HasNoReport};
 
+use crate::dumping::{Dump, dump_to};
 use crate::refusal::Refusal;
 use crate::report;
 use crate::text::Text;
@@ -21,20 +23,30 @@ use td_gates::{Delay, Level};
 use td_netlist::{Fault, FaultKind, read};
 use td_run::{Run, waves};
 
+/// The report of a run, and its waves where a name is given for their file.
+#[derive(Drop)]
+pub struct Simulated<'v> {
+    pub report: Text,
+    pub dump: Option<Dump<'v>>,
+}
+
 /// The report of the run of a pair of vectors, whose inputs change at the moments of an option: when each output changes last.
-pub fn sim<'a>(
+/// Its waves too, where a name is given for their file.
+pub fn sim<'a, 'v>(
     alloc: Global,
     text: &'a [u8],
     default: Delay,
     from: &str,
     to: &str,
     at: Option<&str>,
-) -> Result<Text, Refusal<'a>>
+    vcd: Option<&'v str>,
+) -> Result<Simulated<'v>, Refusal<'a>>
     // The report is that of the run of what the text means, with the moments of the option.
-    ensures report { IfOk result (λ report.
-        IsSimReport text.now default from.now to.now (words_of at.entry) report) }
+    ensures report { IfOk result (λ simulated.
+        IsSimReport text.now default from.now to.now (words_of at.entry) (words_of vcd.entry) simulated.report (dump_files simulated.dump)) }
     ensures refusal { IfErr result (λ refusal.
         HasNoReport text.now default from.now to.now (words_of at.entry) refusal) }
+    ensures has { IfOk result (λ simulated. IfSome simulated.dump HasRun) }
 {
     let mut circuit = circuit(alloc, text, default)?;
     let inputs = circuit.input_count();
@@ -50,7 +62,8 @@ pub fn sim<'a>(
     circuit.set_moments(moments);
     let run = waves(alloc, &circuit, &first, &second)?;
     let report = report_of(alloc, &circuit, &run)?;
-    Ok(report)
+    let dump = dump_to(vcd, circuit, run);
+    Ok(Simulated { report, dump })
 }
 
 /// The circuit of a netlist's text.

@@ -11,3 +11,5 @@ mod runs;
 mod searches;
 #[cfg(test)]
 mod texts;
+#[cfg(test)]
+mod waveforms;

@@ -412,6 +412,7 @@ Arguments:
 
 Options:
       --at <MOMENTS>      When each input takes its second level: a number of steps for each in order, separated by commas; all 0 where left out
+      --vcd <OUT>         Writes the waves of the pair to this file, as a value change dump
       --default-rise <N>  Rise delay in steps of gates without a delay [default: 1]
       --default-fall <N>  Fall delay in steps of gates without a delay [default: 1]
   -h, --help              Print help

@@ -68,7 +68,10 @@ sim_is_plain = record {
             known_one refl refl refl refl (omega arith),
             (
               known_one refl refl refl refl (omega arith),
-              (known_help refl refl (omega arith), tt),
+              (
+                known_one refl refl refl refl (omega arith),
+                (known_help refl refl (omega arith), tt),
+              ),
             ),
           ),
         ),
@@ -126,7 +129,10 @@ worst_is_plain = record {
                       known_one refl refl refl refl (omega arith),
                       (
                         known_one refl refl refl refl (omega arith),
-                        (known_help refl refl (omega arith), tt),
+                        (
+                          known_one refl refl refl refl (omega arith),
+                          (known_help refl refl (omega arith), tt),
+                        ),
                       ),
                     ),
                   ),
@@ -179,10 +185,18 @@ asks_sim rows taken =
         from = behind from.0;
         to = behind to.0;
         at = word_of (codes "at") rows;
+        vcd = word_of (codes "vcd") rows;
         rise = default.0.rise;
         fall = default.0.fall;
       },
-      record { file = file.1; from = from.1; to = to.1; at = word_there (codes "at") rows; default = default.1 },
+      record {
+        file = file.1;
+        from = from.1;
+        to = to.1;
+        at = word_there (codes "at") rows;
+        vcd = word_there (codes "vcd") rows;
+        default = default.1;
+      },
     )
 
 pub asks_bound : (rows : List Row) → IsTaken bound rows → (asked : BoundRequest) × AsksBound rows asked
@@ -223,6 +237,7 @@ asks_worst rows taken =
         workers = workers.0;
         budget = budget.0;
         certificate = word_of (codes "cert") rows;
+        vcd = word_of (codes "vcd") rows;
         rise = default.0.rise;
         fall = default.0.fall;
       },
@@ -236,6 +251,7 @@ asks_worst rows taken =
         workers = (workers.1, workers.3);
         budget = (budget.1, budget.3);
         certificate = word_there (codes "cert") rows;
+        vcd = word_there (codes "vcd") rows;
         default = default.1;
       },
     )

@@ -41,6 +41,10 @@ with_default app =
 abbrev pub with_moments : App → App
 with_moments app = with_rule app (option (codes "at"))
 
+-- where the waves of a pair's run go
+abbrev pub with_vcd : App → App
+with_vcd app = with_rule app (option (codes "vcd"))
+
 -- the pairs of a cube, by the trits of their two vectors
 abbrev pub with_cube : App → App
 with_cube app = with_rule (with_rule app (option (codes "first"))) (option (codes "second"))
@@ -56,15 +60,15 @@ with_search app =
     (number_option (codes "budget") 0 10000000 (codes "1000000"))) (option (codes "cert"))
 
 abbrev pub sim_command : App
-sim_command = with_default (with_moments (with_rule (with_rule (with_rule (new_app (codes "sim"))
-    (needed (codes "FILE"))) (needed (codes "FROM"))) (needed (codes "TO"))))
+sim_command = with_default (with_vcd (with_moments (with_rule (with_rule (with_rule (new_app (codes "sim"))
+    (needed (codes "FILE"))) (needed (codes "FROM"))) (needed (codes "TO")))))
 
 abbrev pub bound_command : App
 bound_command = with_default (with_moments (with_cube (with_rule (new_app (codes "bound")) (needed (codes "FILE")))))
 
 abbrev pub worst_command : App
 worst_command =
-    with_default (with_search (with_moments (with_admitted (with_rule (new_app (codes "worst")) (needed (codes "FILE"))))))
+    with_default (with_vcd (with_search (with_moments (with_admitted (with_rule (new_app (codes "worst")) (needed (codes "FILE")))))))
 
 abbrev pub check_command : App
 check_command = with_default (with_rule (with_rule (new_app (codes "check"))
@@ -127,6 +131,7 @@ pub record AsksSim (rows : List Row) (asked : SimRequest) : Type 0 where
   pub from : first_of (codes "FROM") rows ≡ Some asked.from.now
   pub to : first_of (codes "TO") rows ≡ Some asked.to.now
   pub at : HasWord (codes "at") rows asked.at
+  pub vcd : HasWord (codes "vcd") rows asked.vcd
   pub default : HasDefault rows (delays asked.rise asked.fall)
 
 -- the words of `bound` ask for this
@@ -148,6 +153,7 @@ pub record AsksWorst (rows : List Row) (asked : WorstRequest) : Type 0 where
   pub workers : HasWorkers rows asked.workers
   pub budget : HasBudget rows asked.budget
   pub certificate : HasWord (codes "cert") rows asked.certificate
+  pub vcd : HasWord (codes "vcd") rows asked.vcd
   pub default : HasDefault rows (delays asked.rise asked.fall)
 
 -- the words of `check` ask for this

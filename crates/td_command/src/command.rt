@@ -3,7 +3,7 @@
 ghost use Rattle.std.specs.Prelude.{◌≡◌, ◌<◌, ◌^◌, ℕ, codes, map, false, IfOk, IfErr, IfSome, IfNone};
 ghost use Rattle.clap.specs.Words.{app_of, rule_of, found_of, rows_of, subcommand_rows_of, HasKind};
 ghost use Rattle.td_command.specs.CommandLine.{needed, option, number_option, count_option, sim_command, bound_command, worst_command, check_command, program};
-ghost use Rattle.td_command.specs.CommandLine.{with_default, with_moments, with_cube, with_admitted, with_search};
+ghost use Rattle.td_command.specs.CommandLine.{with_default, with_moments, with_vcd, with_cube, with_admitted, with_search};
 ghost use Rattle.td_command.specs.CommandLine.{HasNumber, HasCount, HasDefault, HasWorkers, HasBudget, AsksSim, AsksBound, AsksWorst, AsksCheck, EnteredAsks, kinds_of, Asks, IsAnswered};
 
 use clap::builder::ValueParser;
@@ -20,6 +20,8 @@ pub struct SimRequest<'a> {
     pub to: &'a str,
     /// The moment at which each input takes its second level.
     pub at: Option<&'a str>,
+    /// Where the waves of the run go.
+    pub vcd: Option<&'a str>,
     /// The delays of gates that state none.
     pub rise: u32,
     pub fall: u32,
@@ -56,6 +58,8 @@ pub struct WorstRequest<'a> {
     pub budget: u32,
     /// Where the certificate of an exact answer goes.
     pub certificate: Option<&'a str>,
+    /// Where the waves of the given pair's run go.
+    pub vcd: Option<&'a str>,
     /// The delays of gates that state none.
     pub rise: u32,
     pub fall: u32,
@@ -174,6 +178,19 @@ fn with_moments<'a>(alloc: Global, command: Command<'a>) -> Result<Command<'a>, 
     command.arg(at)
 }
 
+/// Where the waves of a pair's run go, as an option.
+fn with_vcd<'a>(alloc: Global, command: Command<'a>) -> Result<Command<'a>, AllocError>
+    ensures { IfOk result (λ new. app_of new ≡ with_vcd (app_of command.entry)) }
+{
+    let vcd = option(
+        alloc,
+        "vcd",
+        "OUT",
+        "Writes the waves of the pair to this file, as a value change dump",
+    );
+    command.arg(vcd)
+}
+
 /// The pairs of a cube, as two options.
 fn with_cube<'a>(alloc: Global, command: Command<'a>) -> Result<Command<'a>, AllocError>
     ensures { IfOk result (λ new. app_of new ≡ with_cube (app_of command.entry)) }
@@ -258,7 +275,7 @@ fn sim_command<'a>(alloc: Global) -> Result<Command<'a>, AllocError>
         .arg(file(alloc))?
         .arg(from)?
         .arg(to)?;
-    with_default(alloc, with_moments(alloc, command)?)
+    with_default(alloc, with_vcd(alloc, with_moments(alloc, command)?)?)
 }
 
 fn bound_command<'a>(alloc: Global) -> Result<Command<'a>, AllocError>
@@ -279,7 +296,7 @@ fn worst_command<'a>(alloc: Global) -> Result<Command<'a>, AllocError>
         )
         .arg(file(alloc))?;
     let command = with_moments(alloc, with_admitted(alloc, command)?)?;
-    with_default(alloc, with_search(alloc, command)?)
+    with_default(alloc, with_vcd(alloc, with_search(alloc, command)?)?)
 }
 
 fn check_command<'a>(alloc: Global) -> Result<Command<'a>, AllocError>
@@ -359,6 +376,7 @@ fn sim_of<'a>(matches: &ArgMatches<'a>) -> Option<SimRequest<'a>>
         from,
         to,
         at: matches.get_str("at"),
+        vcd: matches.get_str("vcd"),
         rise: default.rise,
         fall: default.fall,
     })
@@ -421,6 +439,7 @@ fn worst_of<'a>(matches: &ArgMatches<'a>) -> Option<WorstRequest<'a>>
         workers,
         budget,
         certificate: matches.get_str("cert"),
+        vcd: matches.get_str("vcd"),
         rise: default.rise,
         fall: default.fall,
     })

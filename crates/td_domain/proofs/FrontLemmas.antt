@@ -29,7 +29,7 @@ in_range-at circuit numbering place gate stands =
     let found = gate_at circuit numbering place gate stands in
     rw found.3.delay (numbering.well_formed.gates found.0 found.2).delay
 
-fast : (circuit : Numbered) (numbering : IsNumbering circuit) (place : ℕ) (gate : NumberedGate)
+pub fast : (circuit : Numbered) (numbering : IsNumbering circuit) (place : ℕ) (gate : NumberedGate)
     → slice_get circuit.gates place ≡ Some gate → max gate.delay.rise gate.delay.fall ≤ 10 ^ 9
 fast circuit numbering place gate stands =
     let fits = in_range-at circuit numbering place gate stands in

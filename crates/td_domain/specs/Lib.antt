@@ -10,3 +10,7 @@ pub mod Laws
 pub mod Together
 pub mod FirstSignals
 pub mod BothLaws
+pub mod Cones
+pub mod Undoing
+pub mod Redoing
+pub mod Sheets

@@ -1,5 +1,5 @@
 -- Two domains at once: their signals are pairs.
-use Rattle.std.specs.Prelude.{ℕ, min, map, Option, Some, None}
+use Rattle.std.specs.Prelude.{ℕ, min, List, [], ◌∷◌, map, Option, Some, None}
 use Rattle.td_domain.specs.Functions.{Functions}
 
 -- the lesser of those that are there
@@ -19,3 +19,9 @@ both_functions these those = record {
   );
   last_of = λ signal. lesser (these.last_of signal.0) (those.last_of signal.1);
 }
+
+-- the signals of two domains side by side
+abbrev pub pairs : {S T : Type 0} → List S → List T → List (S × T)
+pairs [] others = []
+pairs (signal ∷ signals) [] = []
+pairs (signal ∷ signals) (other ∷ others) = (signal, other) ∷ pairs signals others

@@ -61,7 +61,7 @@ pub fn signals<D: Domain>(
 }
 
 /// The greatest last moment of these nets.
-fn greatest_last<D: Domain>(signals: &[D::Sig], nets: &[u32]) -> Option<u64>
+pub fn greatest_last<D: Domain>(signals: &[D::Sig], nets: &[u32]) -> Option<u64>
     requires { All (λ net. net < length signals.now) nets.now }
     ensures { result ≡ greatest_bound (map D.functions.last_of (filter_map (slice_get signals.now) nets.now)) }
 {

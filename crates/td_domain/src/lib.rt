@@ -1,17 +1,27 @@
-//! Cubes of pairs of vectors, admitted pairs, domains of signals, and the bound that a domain gives of a cube.
+//! Cubes of pairs of vectors, admitted pairs, domains of signals, the bound that a domain gives of a cube, and
+//! sheets: the signals of a cube that is narrowed and widened.
 #![tactic(auto)]
 
 mod admits;
 mod both;
 mod bounding;
+mod cones;
 mod cubes;
 mod domain;
 pub mod laws;
+mod moving;
 mod pairs;
+mod redoing;
+mod sheet;
+mod together;
+mod undoing;
 
 pub use admits::Admit;
 pub use both::Both;
 pub use bounding::{bound, signals};
 pub use cubes::{Cube, Trit};
 pub use domain::Domain;
+pub use moving::move_to;
 pub use pairs::Pair;
+pub use sheet::Sheet;
+pub use together::bound_together;

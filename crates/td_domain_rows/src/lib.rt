@@ -14,6 +14,8 @@ mod points;
 #[cfg(test)]
 mod rows;
 #[cfg(test)]
+mod sheets;
+#[cfg(test)]
 mod sound;
 #[cfg(test)]
 mod unknown;

@@ -14,8 +14,8 @@ use Rattle.td_book.specs.declared.node.Mark.{Mark}
 use Rattle.td_book.specs.declared.node.Node.{Node}
 use Rattle.td_book.specs.declared.node.State.{State}
 use Rattle.td_book.specs.declared.node.State.TheVariants.{Split, Open, Held, Closed}
-use Rattle.td_book.specs.Board.{Board, node, root, position_of, cubes_after, is_handled, allowance_of, handled, allowed}
-use Rattle.td_book.specs.Steps.{World, Event, Reply, Claiming, Splitting, Closing, Raising, Leased, Did, Saw, sees, HonestRun}
+use Rattle.td_book.specs.Board.{Board, Leaf, node, root, position_of, cubes_after, is_handled, allowance_of, handled, allowed}
+use Rattle.td_book.specs.Steps.{World, Event, Reply, Claiming, Splitting, Closing, Grafting, Raising, Leased, Did, Saw, sees, HonestRun}
 use Rattle.td_search.specs.CutShort.{Place, root_place, HadToSplit, AreSettled}
 use Rattle.td_search.specs.CutShortLaws.{shape, TreesAreLedTo}
 use Rattle.td_search.proofs.Wells.{cubes_of}
@@ -99,12 +99,15 @@ module _ (IsDelay : Pair → ℕ → Type 0) (IsBoundOf : List Trit → ℕ → 
     best_is : end.best ≡ best
     tree : shapes end.board.nodes ≡ states
     wide : (lease : Lease) (position : ℕ) → Contains events (Splitting lease position, Did) → Wide lease.cube
+    no_graft : (lease : Lease) (done : List Leaf) → Contains events (Grafting lease done, Did) → ⊥
 
-  -- two steps, the second of which splits only a cube that had to be split
+  -- two steps, which graft nothing, and the second of which splits only a cube that had to be split
   two_more : (s m t : World) (states : List State) (e f : Event) (r q : Reply) → HonestRun IsDelay s ((e, r) ∷ (f, q) ∷ []) t
       → ((lease : Lease) (position : ℕ) → e ≡ Splitting lease position → Wide lease.cube)
-      → ((lease : Lease) (position : ℕ) → f ≡ Splitting lease position → Wide lease.cube) → LeadsOn t states → LeadsOn s states
-  two_more s m t states e f r q run first second l =
+      → ((lease : Lease) (position : ℕ) → f ≡ Splitting lease position → Wide lease.cube)
+      → ((lease : Lease) (done : List Leaf) → e ≡ Grafting lease done → ⊥) → ((lease : Lease) (done : List Leaf) → f ≡ Grafting lease done → ⊥)
+      → LeadsOn t states → LeadsOn s states
+  two_more s m t states e f r q run first second no_first no_second l =
       let one = run in
       let two = one.3 in
       record {
@@ -114,8 +117,14 @@ module _ (IsDelay : Pair → ℕ → Type 0) (IsBoundOf : List Trit → ℕ → 
         best_is = l.best_is;
         tree = l.tree;
         wide = λ lease position has. at lease position has;
+        no_graft = λ lease done has. no_graft_at lease done has;
       }
     where
+      no_graft_at : (lease : Lease) (done : List Leaf) → Contains ((e, r) ∷ (f, q) ∷ l.events) (Grafting lease done, Did) → ⊥
+      no_graft_at lease done (zero, lt, is) = no_first lease done (ap (λ (x : Event × Reply). x.0) is)
+      no_graft_at lease done (suc zero, lt, is) = no_second lease done (ap (λ (x : Event × Reply). x.0) is)
+      no_graft_at lease done (suc (suc k), lt, is) = l.no_graft lease done (k, omega arith, is)
+
       at : (lease : Lease) (position : ℕ) → Contains ((e, r) ∷ (f, q) ∷ l.events) (Splitting lease position, Did) → Wide lease.cube
       at lease position (zero, lt, is) = first lease position (ap (λ (x : Event × Reply). x.0) is)
       at lease position (suc zero, lt, is) = second lease position (ap (λ (x : Event × Reply). x.0) is)
@@ -230,6 +239,7 @@ module _ (IsDelay : Pair → ℕ → Type 0) (IsBoundOf : List Trit → ℕ → 
     best_is = refl;
     tree = ap shapes (append-nil done) ∙ sym (append-nil (shapes done));
     wide = λ lease position has. absurd (let lt = has.1 in omega arith);
+    no_graft = λ lease done has. let lt = has.1 in omega arith;
   }
   leads_on [] [] done (n ∷ ns) order seen settled cubes long none room saw = absurd (omega arith)
   leads_on [] (place ∷ places) done ns order seen settled cubes long none room saw = absurd settled
@@ -262,7 +272,7 @@ module _ (IsDelay : Pair → ℕ → Type 0) (IsBoundOf : List Trit → ℕ → 
       two_more (world (done ++ node n Open ∷ opened ns) order seen) t t (shapes done ++ Closed mark bound bound ∷ map shape states)
       (Claiming 0) (Closing (lease_of n place.cube) mark bound best) (Leased (lease_of n place.cube)) Did
       (closes done n ns order seen place.cube (cubes_of places) cubes none (omega arith) saw mark bound settled.0.0 settled.0.1)
-      (λ lease position e. cc) (λ lease position e. cc)
+      (λ lease position e. cc) (λ lease position e. cc) (λ lease grafted e. cc) (λ lease grafted e. cc)
       (subst (LeadsOn t) (passed_shapes done x (map shape states)) l)
   leads_on (Split position ∷ states) (place ∷ places) done (n ∷ ns) order seen settled cubes long none room saw =
       let x : Node = node n (Split position) in
@@ -277,7 +287,7 @@ module _ (IsDelay : Pair → ℕ → Type 0) (IsBoundOf : List Trit → ℕ → 
       two_more (world (done ++ node n Open ∷ opened ns) order seen) t t (shapes done ++ Split position ∷ map shape states)
       (Claiming 0) (Splitting (lease_of n place.cube) position) (Leased (lease_of n place.cube)) Did
       (splits done n ns order seen place.cube (cubes_of places) cubes none (omega arith) saw position settled.0.0)
-      (λ lease p e. cc) (λ lease p e. same_lease lease p e settled.0.1)
+      (λ lease p e. cc) (λ lease p e. same_lease lease p e settled.0.1) (λ lease grafted e. cc) (λ lease grafted e. cc)
       (subst (LeadsOn t) (passed_shapes done x (map shape states)) l)
     where
       same_lease : (lease : Lease) (p : ℕ) → Splitting (lease_of n place.cube) position ≡ Splitting lease p → Wide place.cube → Wide lease.cube
@@ -300,8 +310,14 @@ trees_are_led_to IsDelay IsBoundOf representative top pair best states inside re
       best = l.best_is;
       tree = l.tree;
       had_to_split = λ lease position has. at l.events l.wide lease position has;
+      had_to_split_below = λ lease done leaf position has inside is. absurd (no_graft_at l.events l.no_graft lease done has);
     }
   where
+    no_graft_at : (events : List (Event × Reply)) → ((lease : Lease) (done : List Leaf) → Contains events (Grafting lease done, Did) → ⊥)
+        → (lease : Lease) (done : List Leaf) → Contains ((Raising 0 best, Saw (max 0 best)) ∷ events) (Grafting lease done, Did) → ⊥
+    no_graft_at events none lease done (zero, lt, is) = let other : Raising 0 best ≡ Grafting lease done = ap (λ (x : Event × Reply). x.0) is in cc
+    no_graft_at events none lease done (suc k, lt, is) = none lease done (k, omega arith, is)
+
     at : (events : List (Event × Reply)) → ((lease : Lease) (position : ℕ) → Contains events (Splitting lease position, Did) → HadToSplit IsDelay IsBoundOf representative best lease.cube)
         → (lease : Lease) (position : ℕ) → Contains ((Raising 0 best, Saw (max 0 best)) ∷ events) (Splitting lease position, Did) → HadToSplit IsDelay IsBoundOf representative best lease.cube
     at events wide lease position (zero, lt, is) = let other : Raising 0 best ≡ Splitting lease position = ap (λ (x : Event × Reply). x.0) is in cc

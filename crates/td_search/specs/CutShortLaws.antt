@@ -6,7 +6,8 @@ use Rattle.td_domain.specs.Cubes.{IsIn}
 use Rattle.td_book.specs.declared.lease.Lease.{Lease}
 use Rattle.td_book.specs.declared.node.State.{State}
 use Rattle.td_book.specs.declared.node.State.TheVariants.{Split, Open, Closed}
-use Rattle.td_book.specs.Steps.{World, Event, Reply, Splitting, Did, HonestRun, starting}
+use Rattle.td_book.specs.Board.{Leaf}
+use Rattle.td_book.specs.Steps.{World, Event, Reply, Splitting, Grafting, Did, HonestRun, starting}
 use Rattle.td_search.specs.CutShort.{HadToSplit, AreSettled, IsCutShort, root_place}
 
 -- a state without its worker, allowance and cut, where a held leaf is open
@@ -30,7 +31,7 @@ module _ (IsDelay : Pair → ℕ → Type 0) (IsBoundOf : List Trit → ℕ → 
   CutShortIsBetween = AreAbove → (root : List Trit) (pair : Pair) (low high count : ℕ) → IsCutShort IsDelay IsBoundOf representative root pair low high count
       → IsDelay pair low × (low ≤ high) × ((other : Pair) (delay : ℕ) → IsIn other root → IsDelay other delay → delay ≤ high)
 
-  -- an honest run leads to this tree with this best, and splits only cubes that had to be split
+  -- an honest run leads to this tree with this best, and splits only cubes that had to be split, in its grafts too
   pub record IsLedTo (root : List Trit) (low : ℕ) (states : List State) : Type 0 where
     pub workers : ℕ
     pub budget : ℕ
@@ -41,6 +42,8 @@ module _ (IsDelay : Pair → ℕ → Type 0) (IsBoundOf : List Trit → ℕ → 
     pub tree : map (λ x. shape x.state) end.board.nodes ≡ map shape states
     pub had_to_split : (lease : Lease) (position : ℕ) → Contains events (Splitting lease position, Did)
         → HadToSplit IsDelay IsBoundOf representative low lease.cube
+    pub had_to_split_below : (lease : Lease) (done : List Leaf) (leaf : Leaf) (position : ℕ) → Contains events (Grafting lease done, Did)
+        → Contains done leaf → leaf.node.state ≡ Split position → HadToSplit IsDelay IsBoundOf representative low leaf.cube
 
   -- An honest run leads to each settled tree whose best is a pair's delay.
   abbrev pub TreesAreLedTo : Type 0

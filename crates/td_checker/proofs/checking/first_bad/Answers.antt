@@ -19,7 +19,7 @@ returns-in-Some-clause-judged c =
     let at : slice_get certificate.tree place ≡ Some here =
     node_at nodes certificate.tree place (node.Split 0) c.nodes-node-items.ensures.nodes c.loop-place-test.true in
     let judged : IsJudged given certificate.question.admit certificate.time (with_cube cube here) c.in_ok-flaw.field-0 =
-    subst (λ admit. IsJudged given admit certificate.time (with_cube cube here) c.in_ok-flaw.field-0) c.admit-admit.ensures c.in_ok-flaw.ensures in
+    subst (λ admit. IsJudged given admit certificate.time (with_cube cube here) c.in_ok-flaw.field-0) c.admit-admit.ensures c.in_ok-flaw.ensures.judged in
     found_bad given certificate place cube path here (flaw_of c.in-Some.flaw) c.loop-place.invariant.walk at
     (has_flaw given certificate.question.admit certificate.time (with_cube cube here) c.in_ok-flaw.field-0 c.in-Some.flaw judged c.in-Some.is)
     c.loop-place.invariant.good
@@ -36,10 +36,11 @@ loop-place-preserved c =
     let at : slice_get certificate.tree place ≡ Some here =
     node_at nodes certificate.tree place (node.Split 0) c.nodes-node-items.ensures.nodes c.loop-place-test.true in
     let judged : IsJudged given certificate.question.admit certificate.time (with_cube cube here) c.in_ok-flaw.field-0 =
-    subst (λ admit. IsJudged given admit certificate.time (with_cube cube here) c.in_ok-flaw.field-0) c.admit-admit.ensures c.in_ok-flaw.ensures in
+    subst (λ admit. IsJudged given admit certificate.time (with_cube cube here) c.in_ok-flaw.field-0) c.admit-admit.ensures c.in_ok-flaw.ensures.judged in
     record {
       walk = passed certificate place cube c.pass.new.self.cube path (reverse c.pass.new.self.path.items) here
           c.loop-place.invariant.walk at c.in_ok-pass.ensures.next c.in_ok-pass.ensures.inside c.in_ok-pass.ensures.length;
+      scratch = c.in_ok-flaw.ensures.scratch;
       good = good_more given certificate place cube path here c.loop-place.invariant.walk at
           (is_good given certificate.question.admit certificate.time (with_cube cube here) c.in_ok-flaw.field-0 judged c.in_default.is)
           c.loop-place.invariant.good;

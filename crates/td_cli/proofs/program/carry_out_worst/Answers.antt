@@ -1,58 +1,48 @@
-use Rattle.std.proofs.Common.{List, ℕ, refl, subst, sym, ap}
+use Rattle.std.proofs.Common.{List, ℕ, ◌++◌, ◌∙◌, refl, subst}
 use Rattle.td_gates.specs.Output.{Sent, Failed}
+use Rattle.td_cli.specs.Dumps.{dump_files}
 use Rattle.td_cli.specs.Vectors.{words_of}
 use Rattle.td_cli.specs.Outcomes.{HasNoAnswer}
-use Rattle.td_cli.specs.Requests.{IsWorstProduct, search_ending}
-use Rattle.td_cli.proofs.Programs.{nothing_done, refused, no_certificate, no_name, named, lost_report, without_file, with_file, lost_file}
+use Rattle.td_cli.specs.Requests.{IsWorstProduct}
+use Rattle.td_cli.proofs.Programs.{nothing_done, refused, finished, lost_report, lost_file, both_written, lost_before, lost_behind, worst_product}
 use Rattle.td_cli.proofs.program.carry_out_worst.Goals as goal
 
 pub returns-in-Err : goal.returns-in-Err
 returns-in-Err g c = (
   _,
   nothing_done g.F.Files.did g.met.F.Files.did_nothing _ _ refl,
-  refused (IsWorstProduct c.args.text.now c.args.default c.args.words c.args.budget (words_of c.args.name)) (HasNoAnswer c.args.text.now c.args.default c.args.words)
-      (g.F.Files.breaks c.args.files.now) c.in-Err.refusal _ _ _ _ (λ _. c.in-Err.ensures.refusal) c.tell_refusal.ensures,
+  refused (IsWorstProduct c.args.text.now c.args.default c.args.words c.args.budget (words_of c.args.name) (words_of c.args.vcd)) (HasNoAnswer c.args.text.now c.args.default c.args.words) (g.F.Files.breaks c.args.files.now) c.in-Err.refusal _ _ _ _ (λ _. c.in-Err.ensures.refusal) c.tell_refusal.ensures,
 )
 
 pub returns-in_default : goal.returns-in_default
 returns-in_default g c = (
   _,
   nothing_done g.F.Files.did g.met.F.Files.did_nothing _ _ refl,
-  lost_report c.args.text.now c.args.default c.args.words c.args.budget (g.F.Files.breaks c.args.files.now) (words_of c.args.name) c.in-Ok.found.report c.in-Ok.found.certificate _ _ _ c.in-Ok.ensures.report
-      (subst (λ (it : List ℕ). Failed (g.O.Sink.output c.args.out.now) (g.O.Sink.output c.write_all.new.self) it) c.bytes.ensures c.in_default.ensures)
-      c.tell.ensures.told c.tell.ensures.status,
+  lost_report (IsWorstProduct c.args.text.now c.args.default c.args.words c.args.budget (words_of c.args.name) (words_of c.args.vcd)) (HasNoAnswer c.args.text.now c.args.default c.args.words) (g.F.Files.breaks c.args.files.now) _ _ _ _ (worst_product c.args.text.now c.args.default c.args.words c.args.budget (words_of c.args.name) (words_of c.args.vcd) c.in-Ok.found.report c.in-Ok.found.certificate (dump_files c.in-Ok.found.dump) c.in-Ok.ensures.report) (subst (λ (it : List ℕ). Failed (g.O.Sink.output c.args.out.now) (g.O.Sink.output c.write_all.new.self) it) c.bytes.ensures c.in_default.ensures) c.tell.ensures.told c.tell.ensures.status,
 )
 
-pub returns-in_default-certificate : goal.returns-in_default-certificate
-returns-in_default-certificate g c = (
-  _,
-  nothing_done g.F.Files.did g.met.F.Files.did_nothing _ _ refl,
-  without_file c.args.text.now c.args.default c.args.words c.args.budget (g.F.Files.breaks c.args.files.now) (words_of c.args.name) c.in-Ok.found.report c.in-Ok.found.certificate _ _ _ c.in-Ok.ensures.report
-      (no_certificate (words_of c.args.name) _ c.in_default-certificate.is) (subst (λ (it : List ℕ). Sent (g.O.Sink.output c.args.out.now) (g.O.Sink.output c.write_all.new.self) it) c.bytes.ensures c.in-Ok-write_all.ensures) refl (ap search_ending (sym c.in_default-certificate.is)),
-)
+pub returns-in_default-keep_certificate : goal.returns-in_default-keep_certificate
+returns-in_default-keep_certificate g c =
+    let lost = c.in_default-keep_certificate.ensures.lost in (
+      lost.0,
+      lost.1,
+      lost_file (IsWorstProduct c.args.text.now c.args.default c.args.words c.args.budget (words_of c.args.name) (words_of c.args.vcd)) (HasNoAnswer c.args.text.now c.args.default c.args.words) (g.F.Files.breaks c.args.files.now) _ _ _ _ _ (worst_product c.args.text.now c.args.default c.args.words c.args.budget (words_of c.args.name) (words_of c.args.vcd) c.in-Ok.found.report c.in-Ok.found.certificate (dump_files c.in-Ok.found.dump) c.in-Ok.ensures.report) (subst (λ (it : List ℕ). Sent (g.O.Sink.output c.args.out.now) (g.O.Sink.output c.write_all.new.self) it) c.bytes.ensures c.in-Ok-write_all.ensures) (lost_before _ _ _ _ _ _ lost.2) refl,
+    )
 
-pub returns-in_default-name : goal.returns-in_default-name
-returns-in_default-name g c = (
-  _,
-  nothing_done g.F.Files.did g.met.F.Files.did_nothing _ _ refl,
-  without_file c.args.text.now c.args.default c.args.words c.args.budget (g.F.Files.breaks c.args.files.now) (words_of c.args.name) c.in-Ok.found.report c.in-Ok.found.certificate _ _ _ c.in-Ok.ensures.report
-      (no_name c.args.name _ c.in_default-name.is) (subst (λ (it : List ℕ). Sent (g.O.Sink.output c.args.out.now) (g.O.Sink.output c.write_all.new.self) it) c.bytes.ensures c.in-Ok-write_all.ensures) refl (ap search_ending (sym c.in-Some.is)),
-)
-
-pub returns-in-Ok-keep : goal.returns-in-Ok-keep
-returns-in-Ok-keep g c = (
-  c.in-Ok-keep.ensures.written.0,
-  c.in-Ok-keep.ensures.written.1,
-  named c.args.text.now c.args.default c.args.words c.args.budget (g.F.Files.breaks c.args.files.now) c.args.name _ _ _ _ _ c.in-Some-name.is
-      (with_file c.args.text.now c.args.default c.args.words c.args.budget (g.F.Files.breaks c.args.files.now) c.in-Some-name.name.now c.in-Ok.found.report c.in-Some.certificate _ _ _ _
-      (rw c.in-Some.is at c.in-Ok.ensures.report) c.in-Ok-keep.ensures.written.2 (subst (λ (it : List ℕ). Sent (g.O.Sink.output c.args.out.now) (g.O.Sink.output c.write_all.new.self) it) c.bytes.ensures c.in-Ok-write_all.ensures) refl refl),
-)
+pub returns-in_default-keep_dump : goal.returns-in_default-keep_dump
+returns-in_default-keep_dump g c =
+    let kept = c.in-Ok-keep_certificate.ensures.kept in
+    let lost = c.in_default-keep_dump.ensures.lost in (
+      kept.0 ++ lost.0,
+      g.met.F.Files.did_both _ _ _ _ _ kept.1 lost.1,
+      lost_file (IsWorstProduct c.args.text.now c.args.default c.args.words c.args.budget (words_of c.args.name) (words_of c.args.vcd)) (HasNoAnswer c.args.text.now c.args.default c.args.words) (g.F.Files.breaks c.args.files.now) _ _ _ _ _ (worst_product c.args.text.now c.args.default c.args.words c.args.budget (words_of c.args.name) (words_of c.args.vcd) c.in-Ok.found.report c.in-Ok.found.certificate (dump_files c.in-Ok.found.dump) c.in-Ok.ensures.report) (subst (λ (it : List ℕ). Sent (g.O.Sink.output c.args.out.now) (g.O.Sink.output c.write_all.new.self) it) c.bytes.ensures c.in-Ok-write_all.ensures) (lost_behind _ _ _ _ _ _ _ _ _ kept.2.0 kept.2.1 c.keep_certificate.ensures.devices lost.2) refl,
+    )
 
 pub returns : goal.returns
-returns g c = (
-  c.in-Err-keep.ensures.left.0,
-  c.in-Err-keep.ensures.left.1,
-  named c.args.text.now c.args.default c.args.words c.args.budget (g.F.Files.breaks c.args.files.now) c.args.name _ _ _ _ _ c.in-Some-name.is
-      (lost_file c.args.text.now c.args.default c.args.words c.args.budget (g.F.Files.breaks c.args.files.now) c.in-Some-name.name.now c.in-Ok.found.report c.in-Some.certificate c.in-Err-keep.fault _ _ _ _
-      (rw c.in-Some.is at c.in-Ok.ensures.report) c.in-Err-keep.ensures.left.2 (subst (λ (it : List ℕ). Sent (g.O.Sink.output c.args.out.now) (g.O.Sink.output c.write_all.new.self) it) c.bytes.ensures c.in-Ok-write_all.ensures) c.tell_unwritten.ensures.told c.tell_unwritten.ensures.ends),
-)
+returns g c =
+    let kept = c.in-Ok-keep_certificate.ensures.kept in
+    let dumped = c.in-Ok-keep_dump.ensures.kept in (
+      kept.0 ++ dumped.0,
+      g.met.F.Files.did_both _ _ _ _ _ kept.1 dumped.1,
+      finished (IsWorstProduct c.args.text.now c.args.default c.args.words c.args.budget (words_of c.args.name) (words_of c.args.vcd)) (HasNoAnswer c.args.text.now c.args.default c.args.words) (g.F.Files.breaks c.args.files.now) _ _ _ _ _ (worst_product c.args.text.now c.args.default c.args.words c.args.budget (words_of c.args.name) (words_of c.args.vcd) c.in-Ok.found.report c.in-Ok.found.certificate (dump_files c.in-Ok.found.dump) c.in-Ok.ensures.report) (subst (λ (it : List ℕ). Sent (g.O.Sink.output c.args.out.now) (g.O.Sink.output c.write_all.new.self) it) c.bytes.ensures c.in-Ok-write_all.ensures) (both_written _ _ _ _ kept.2.0 dumped.2.0) (dumped.2.1 ∙ kept.2.1) c.ending.ensures,
+    )

@@ -1,5 +1,6 @@
+use Rattle.std.proofs.lemmas.Result.{err_from_is_err_and}
 use Rattle.td_search.specs.Problems.{problem}
-use Rattle.td_cli.proofs.Questions.{asked_held, asked_flips, no_answer, certificate_spelled}
+use Rattle.td_cli.proofs.Questions.{asked_held, asked_flips, no_answer, certificate_spelled, pair_fits}
 use Rattle.td_cli.proofs.searching.worst.Goals as goal
 
 pub alone-requires-clause-held : goal.alone-requires-clause-held
@@ -15,3 +16,15 @@ certificate-certificate-requires-clause-flips c = asked_flips c.args.text.now c.
 pub returns-clause-spelled : goal.returns-clause-spelled
 returns-clause-spelled c =
     rw c.certificate-certificate.ensures (certificate_spelled (problem c.in_ok-circuit.field-0.circuit c.in_ok-circuit.field-0.admit) c.in-Ok.answer c.in-Ok.ensures.text)
+
+pub pair_dump-requires-clause-first_fits : goal.pair_dump-requires-clause-first_fits
+pair_dump-requires-clause-first_fits c =
+    rw (c.in_ok-pair.ensures, c.pair_in.ensures) ((pair_fits _ c.args.budget c.in-Ok.answer c.in-Ok.ensures.answer).0)
+
+pub pair_dump-requires-clause-second_fits : goal.pair_dump-requires-clause-second_fits
+pair_dump-requires-clause-second_fits c =
+    rw (c.in_ok-pair.ensures, c.pair_in.ensures) ((pair_fits _ c.args.budget c.in-Ok.answer c.in-Ok.ensures.answer).1)
+
+pub returns-in_err-pair-clause-refusal : goal.returns-in_err-pair-clause-refusal
+returns-in_err-pair-clause-refusal c =
+    let p = err_from_is_err_and c.from_residual-in_err-pair.result c.from_residual-in_err-pair.ensures.1 in rw (p.1, p.2) tt

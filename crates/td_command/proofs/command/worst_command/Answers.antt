@@ -1,7 +1,7 @@
 use Rattle.std.proofs.Common.{rules, ◌≡◌, ◌∙◌, ap, ap₂, codes}
 use Rattle.std.proofs.lemmas.Result.{IfOk-weaker}
 use Rattle.clap.specs.Words.{app_of, new_app, with_rule}
-use Rattle.td_command.specs.CommandLine.{with_admitted, with_default, with_moments, with_search}
+use Rattle.td_command.specs.CommandLine.{with_admitted, with_default, with_moments, with_search, with_vcd}
 use Rattle.td_command.proofs.command.worst_command.Goals as goal
 
 pub returns : goal.returns
@@ -11,4 +11,5 @@ returns c =
     let admitted = c.in_ok-with_admitted.ensures ∙ ap with_admitted file in
     let moments = c.in_ok-command-2.ensures ∙ ap with_moments admitted in
     let searched = c.in_ok-with_search.ensures ∙ ap with_search moments in
-    IfOk-weaker c.with_default.result _ _ (λ new with. with ∙ ap with_default searched) c.with_default.ensures
+    let dumped = c.in_ok-with_vcd.ensures ∙ ap with_vcd searched in
+    IfOk-weaker c.with_default.result _ _ (λ new with. with ∙ ap with_default dumped) c.with_default.ensures

@@ -30,5 +30,6 @@ returns c = record {
   workers = c.in_ok-workers.ensures;
   budget = c.in_ok-budget.ensures;
   certificate = sym (c.get_str-6.ensures ∙ first_value-rows (found_of c.args.matches.now) (codes "cert"));
+  vcd = sym (c.get_str-7.ensures ∙ first_value-rows (found_of c.args.matches.now) (codes "vcd"));
   default = rw c.default-2.view_is c.in_ok-default.ensures;
 }

@@ -1,0 +1,5 @@
+use Rattle.td_domain.specs.Sheets.{IsSheet}
+use Rattle.td_domain.proofs.moving.narrow_to.Given as goal
+
+abbrev pub invariant-loop-position : goal.invariant-loop-position
+invariant-loop-position g l = IsSheet g.D.Domain.functions g.D.Domain.reach l.circuit l.sheet

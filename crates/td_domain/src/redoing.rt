@@ -1,0 +1,80 @@
+//! The signals of a narrower cube, from those of a wider one.
+
+ghost use Rattle.std.specs.Prelude.{◌≡◌, ◌+◌, ◌*◌, ◌/◌, ◌<◌, ◌≤◌, [], length, set, slice_get, Some, OnOk, OnErr, IfOk, vec_len, vec_capacity};
+ghost use Rattle.td_domain.specs.declared.cubes.Trit.TheVariants.{Free};
+ghost use Rattle.td_domain.specs.Cones.{IsCone};
+ghost use Rattle.td_domain.specs.Redoing.{AreAllRedone, CanRedo};
+ghost use Rattle.td_domain.specs.Sheets.{IsPage};
+ghost use Rattle.td_domain.specs.Undoing.{undone, AreWithin};
+
+use crate::cubes::Cube;
+use crate::domain::Domain;
+use crate::undoing::{Replaced, put, undo};
+use std::alloc::{AllocError, Global};
+use td_circuit::Circuit;
+
+/// Makes the signals of the cube from those of the same cube with this position free, where the position's input reaches
+/// the outputs in `cone`, and answers what it replaced. The error is want of memory: the signals are then as before.
+pub fn redo<D: Domain>(
+    alloc: Global,
+    circuit: &Circuit,
+    cube: &Cube,
+    position: usize,
+    cone: &[u32],
+    signals: &mut [D::Sig],
+) -> Result<Vec<Replaced<D::Sig>>, AllocError>
+    requires position { position < length cube.now }
+    requires page { IsPage D.functions D.reach circuit.now (record { cube = set cube.now position Free; signals = signals.old }) }
+    requires cone { IsCone circuit.now (2 + position / 2) cone.now }
+    ensures page { OnOk result (IsPage D.functions D.reach circuit.now (record { cube = cube.now; signals = signals.new })) }
+    ensures undone { IfOk result (λ replaced. undone signals.new replaced.items ≡ signals.old) }
+    ensures within { IfOk result (λ replaced. AreWithin (length signals.old) replaced.items) }
+    ensures len { length signals.new ≡ length signals.old }
+    ensures refused { OnErr result (signals.new ≡ signals.old) }
+{
+    let _numbering = circuit.gates();
+    let moments = circuit.moments();
+    let input = position / 2;
+    let mut replaced = Vec::with_capacity(alloc, cone.len() + 1)?;
+    let signal = D::input(
+        alloc,
+        cube.trit(2 * input),
+        cube.trit(2 * input + 1),
+        moments[input],
+    )?;
+    put(signals, &mut replaced, 2 + input, signal);
+    match redo_gates::<D>(alloc, circuit, cone, signals, &mut replaced) {
+        Ok(()) => Ok(replaced),
+        Err(error) => {
+            undo(signals, replaced);
+            Err(error)
+        }
+    }
+}
+
+/// Evaluates the gates with these outputs anew, in this order.
+fn redo_gates<D: Domain>(
+    alloc: Global,
+    circuit: &Circuit,
+    cone: &[u32],
+    signals: &mut [D::Sig],
+    replaced: &mut Vec<Replaced<D::Sig>>,
+) -> Result<(), AllocError>
+    requires can { CanRedo D.reach circuit.now cone.now signals.old }
+    requires within { AreWithin (length signals.old) replaced.old.items }
+    requires room { vec_len replaced.old + length cone.now ≤ vec_capacity replaced.old }
+    ensures redone { OnOk result (AreAllRedone D.functions D.reach circuit.now cone.now signals.old signals.new) }
+    ensures undone { undone signals.new replaced.new.items ≡ undone signals.old replaced.old.items }
+    ensures within { AreWithin (length signals.old) replaced.new.items }
+    ensures len { length signals.new ≡ length signals.old }
+{
+    let gates = circuit.gates();
+    let first = circuit.input_count() + 2;
+    for output in cone {
+        let net = *output as usize;
+        let gate = &gates[net - first];
+        let signal = D::gate(alloc, gate.kind, gate.delay, signals, &gate.inputs)?;
+        put(signals, replaced, net, signal);
+    }
+    Ok(())
+}

@@ -1,0 +1,78 @@
+//! A sheet of each domain, which goes from cube to cube.
+
+ghost use Rattle.std.specs.Prelude.{◌≡◌, ℕ, ◌*◌, ◌<◌, ◌≤◌, ◌^◌, Option, Some, length, IfOk, OnOk};
+ghost use Rattle.td_circuit.specs.Numbering.{setting};
+ghost use Rattle.td_domain.specs.Bounds.{IsBound, IsUpperBoundIn};
+ghost use Rattle.td_domain.specs.Sheets.{IsSheet};
+ghost use Rattle.td_certificate.specs.declared.tree.BoundedBy.TheVariants.{Both};
+ghost use Rattle.td_certificate.specs.Accepts.{IsBoundBy};
+ghost use Rattle.td_search.specs.Sheeted.{AreSheets};
+
+use std::alloc::{AllocError, Global};
+use td_arrival::Arrival;
+use td_circuit::Circuit;
+use td_domain::{Cube, Domain, Sheet, bound_together, move_to};
+use td_ternary::Possible;
+
+/// A sheet of each domain.
+#[derive(Drop)]
+pub struct Sheets {
+    pub arrival: Sheet<Arrival>,
+    pub possible: Sheet<Possible>,
+}
+
+impl Sheets {
+    /// The sheets of a cube. The error is want of memory.
+    pub fn new(alloc: Global, circuit: &Circuit, cube: &Cube) -> Result<Sheets, AllocError>
+        requires { length cube.now ≡ 2 * length circuit.now.netlist.inputs }
+        ensures sheets { IfOk result (AreSheets circuit.now) }
+        ensures arrival { IfOk result (λ sheets. sheets.arrival.cube ≡ cube.now) }
+        ensures possible { IfOk result (λ sheets. sheets.possible.cube ≡ cube.now) }
+    {
+        Ok(Sheets {
+            arrival: Sheet::new(alloc, circuit, cube)?,
+            possible: Sheet::new(alloc, circuit, cube)?,
+        })
+    }
+
+    /// The strongest domain's bound of the cube of both sheets. It always has one.
+    pub fn strongest(&self, circuit: &Circuit) -> u64
+        requires sheets { AreSheets circuit.now self.now }
+        requires cube { self.now.possible.cube ≡ self.now.arrival.cube }
+        ensures bound { IsBoundBy Both (setting circuit.now) self.now.arrival.cube (Some result) }
+        ensures sound { IsUpperBoundIn (setting circuit.now) self.now.arrival.cube result }
+        ensures small { result < 10 ^ 15 }
+    {
+        bound_together(circuit, &self.arrival, &self.possible).unwrap_or(0)
+    }
+}
+
+/// The bound of a cube by the domain of a sheet, which is taken there, where the domain has one that is at most the cut. The
+/// error is want of memory.
+pub fn bound_within<D: Domain>(
+    alloc: Global,
+    circuit: &Circuit,
+    sheet: &mut Sheet<D>,
+    cube: &Cube,
+    cut: u64,
+) -> Result<Option<u64>, AllocError>
+    requires sheet { IsSheet D.functions D.reach circuit.now sheet.old }
+    requires positions { length cube.now ≡ 2 * length circuit.now.netlist.inputs }
+    ensures sheet { IsSheet D.functions D.reach circuit.now sheet.new }
+    ensures cube { OnOk result (sheet.new.cube ≡ cube.now) }
+    ensures bound { IfOk result (λ answer. (moment : ℕ) → answer ≡ Some moment
+        → IsBound D.functions (setting circuit.now) cube.now (Some moment)) }
+    ensures sound { IfOk result (λ answer. (moment : ℕ) → answer ≡ Some moment → IsUpperBoundIn (setting circuit.now) cube.now moment) }
+    ensures within { IfOk result (λ answer. (moment : ℕ) → answer ≡ Some moment → moment ≤ cut) }
+{
+    move_to(alloc, circuit, sheet, cube)?;
+    Ok(within_cut(sheet.bound(), cut))
+}
+
+// The moment, where it is there and at most the cut.
+fn within_cut(bound: Option<u64>, cut: u64) -> Option<u64>
+    ensures is { (moment : ℕ) → result ≡ Some moment → bound ≡ Some moment }
+    ensures within { (moment : ℕ) → result ≡ Some moment → moment ≤ cut }
+{
+    bound.filter(|moment| *moment <= cut)
+}

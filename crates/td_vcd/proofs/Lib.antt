@@ -1,0 +1,10 @@
+pub mod Batches
+pub mod Codes
+pub mod Moments
+pub mod Nets
+pub mod OneLine
+pub mod Parts
+pub mod Playing
+pub mod Rising
+pub mod Saying
+pub mod Steps

@@ -1,0 +1,36 @@
+use Rattle.std.proofs.Common.{arith, length, ◌≤◌}
+use Rattle.std.proofs.lemmas.Result.{err_from_is_err_and}
+use Rattle.td_gates.proofs.Outputs.{SentTo-begins}
+use Rattle.td_run.specs.Waves.{waves_of}
+use Rattle.td_run.proofs.Turning.{length-waves_of}
+use Rattle.td_vcd.specs.Text.{start_line}
+use Rattle.td_vcd.proofs.Batches.{turn, room, whole, refused_batch, refused_growth}
+use Rattle.td_vcd.proofs.Steps.{numbered_step, numbered_end, wave_at}
+use Rattle.td_vcd.proofs.writing.write_starts.Goals as goal
+
+pub loop-variable-init : goal.loop-variable-init
+loop-variable-init g c = SentTo-begins _ _
+
+pub loop-variable-preserved : goal.loop-variable-preserved
+loop-variable-preserved g c =
+    turn _ _ _ _ _ _ _ _ _ _ c.loop-variable.invariant c.in_ok-make_room.ensures.ok
+    (numbered_step start_line (waves_of c.args.run.now.waves c.args.nets.now) c.loop-variable.variable c.wave.result.now
+    (let long = length-waves_of c.args.run.now.waves c.args.nets.now in omega (arith, long, c.loop-variable-test.true))
+    (wave_at c.args.run.now.waves c.args.nets.now c.loop-variable.variable c.wave.result.now c.loop-variable-test.true c.wave.ensures))
+    (rw c.start.ensures at c.in_ok-level.ensures)
+
+pub returns-in_err-make_room-clause-refused : goal.returns-in_err-make_room-clause-refused
+returns-in_err-make_room-clause-refused g c =
+    let p = err_from_is_err_and c.from_residual.result c.from_residual.ensures.1 in
+    rw (p.1, p.2) (refused_batch _ _ _ _ _ _ c.loop-variable.invariant c.in_err-make_room.ensures.err)
+
+pub returns-in_err-level-clause-refused : goal.returns-in_err-level-clause-refused
+returns-in_err-level-clause-refused g c =
+    let p = err_from_is_err_and c.from_residual-in_err-level.result c.from_residual-in_err-level.ensures.1 in
+    rw (p.1, p.2) (refused_growth _ _ _ _ (room _ _ _ _ _ _ _ c.loop-variable.invariant c.in_ok-make_room.ensures.ok))
+
+pub returns-clause-written : goal.returns-clause-written
+returns-clause-written g c =
+    let long = length-waves_of c.args.run.now.waves c.args.nets.now in
+    let past : length (waves_of c.args.run.now.waves c.args.nets.now) ≤ c.loop-variable.variable = omega (arith, long, c.loop-variable-test.false) in
+    whole _ _ _ _ _ c.loop-variable.invariant (numbered_end start_line (waves_of c.args.run.now.waves c.args.nets.now) c.loop-variable.variable past)

@@ -1,0 +1,18 @@
+-- Laws of dumps.
+use Rattle.std.specs.Prelude.{List}
+use Rattle.std.specs.List.{AllByRecursion}
+use Rattle.td_gates.specs.Wave.{Wave, IsWave}
+use Rattle.td_nets.specs.Netlist.{Name, Netlist}
+use Rattle.td_nets.specs.WellFormed.{driven}
+use Rattle.td_vcd.specs.Text.{dump}
+use Rattle.td_vcd.specs.Says.{IsOnOneLine, Says}
+
+-- no name of the netlist has a newline
+pub record HasNamesOnOneLine (netlist : Netlist) : Type 0 where
+  pub own : IsOnOneLine netlist.name
+  pub nets : AllByRecursion (λ (name : Name). IsOnOneLine name.text) (driven netlist)
+
+-- read back, a dump says exactly its waves
+abbrev pub SaysTheWaves : Type 0
+SaysTheWaves = (netlist : Netlist) (waves : List Wave) → HasNamesOnOneLine netlist → AllByRecursion IsWave waves
+    → Says (dump netlist waves) waves

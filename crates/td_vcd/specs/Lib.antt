@@ -1,0 +1,5 @@
+pub mod Text
+pub mod Says
+pub mod Laws
+pub mod Writes
+pub mod Walks

@@ -1,0 +1,160 @@
+//! Writing the waves of a run.
+
+ghost use Rattle.std.specs.Prelude.{◌≡◌, ◌++◌, ◌<◌, ◌≤◌, length, OnOk, IfOk, IfErr};
+ghost use Rattle.std.specs.List.{All};
+ghost use Rattle.td_gates.specs.Output.{Sent, SentTo};
+ghost use Rattle.td_nets.specs.WellFormed.{driven};
+ghost use Rattle.td_circuit.specs.Numbering.{IsNumbering};
+ghost use Rattle.td_run.specs.Waves.{waves_of};
+ghost use Rattle.td_vcd.specs.Text.{head_lines, text_of, numbered, declaration, start_line};
+ghost use Rattle.td_vcd.specs.Walks.{AreVariables, body_text, event_lines, lines_from};
+ghost use Rattle.td_vcd.specs.Writes.{IsRunFor, IsRefused, dump_of};
+
+use crate::batch::Batch;
+use crate::events::{Event, events};
+use crate::fault::VcdFault;
+use std::alloc::{AllocError, Global};
+use td_circuit::Circuit;
+use td_gates::Sink;
+use td_run::Run;
+
+/// The nets of the variables: the inputs in order, and then the outputs of the gates in the order of the netlist.
+fn variable_nets(alloc: Global, circuit: &Circuit) -> Result<Vec<u32>, AllocError>
+    ensures nets { IfOk result (λ nets. AreVariables circuit.now nets.items) }
+    ensures numbering { IsNumbering circuit.now }
+{
+    let _gates = circuit.gates();
+    let mut nets = Vec::new(alloc);
+    for place in 0..circuit.input_count() {
+        nets.push(2 + place as u32)?;
+    }
+    nets.extend_from_slice(circuit.gate_outputs())?;
+    Ok(nets)
+}
+
+/// The lines before the declarations.
+fn push_head(alloc: Global, batch: &mut Batch, circuit: &Circuit) -> Result<(), AllocError>
+    ensures { OnOk result (batch.new ≡ batch.old ++ text_of (head_lines circuit.now.netlist)) }
+{
+    batch.push(b"$version tdelay 1 $end\n")?;
+    batch.timescale(circuit.unit())?;
+    batch.scope(alloc, circuit.module())
+}
+
+/// Writes a declaration for each variable.
+fn write_declarations<W: Sink>(
+    out: &mut W,
+    batch: &mut Batch,
+    circuit: &Circuit,
+    nets: &[u32],
+) -> Result<(), VcdFault>
+    requires { AreVariables circuit.now nets.now }
+    ensures written { OnOk result (SentTo (W.output out.old) (W.output out.new)
+        (batch.old ++ text_of (numbered declaration 0 (driven circuit.now.netlist))) batch.new) }
+    ensures refused { IfErr result (λ fault. IsRefused fault (W.output out.old) (W.output out.new)
+        (batch.old ++ text_of (numbered declaration 0 (driven circuit.now.netlist)))) }
+{
+    for (variable, net) in nets.iter().enumerate() {
+        batch.make_room(out)?;
+        batch.declaration(variable, circuit.name(*net as usize))?;
+    }
+    Ok(())
+}
+
+/// Writes the settled level of each variable.
+fn write_starts<W: Sink>(
+    out: &mut W,
+    batch: &mut Batch,
+    run: &Run,
+    nets: &[u32],
+) -> Result<(), VcdFault>
+    requires { All (λ net. net < length run.now.waves) nets.now }
+    ensures written { OnOk result (SentTo (W.output out.old) (W.output out.new)
+        (batch.old ++ text_of (numbered start_line 0 (waves_of run.now.waves nets.now))) batch.new) }
+    ensures refused { IfErr result (λ fault. IsRefused fault (W.output out.old) (W.output out.new)
+        (batch.old ++ text_of (numbered start_line 0 (waves_of run.now.waves nets.now)))) }
+{
+    for (variable, net) in nets.iter().enumerate() {
+        batch.make_room(out)?;
+        batch.level(variable, run.wave(*net).start())?;
+    }
+    Ok(())
+}
+
+/// Appends a change behind the line of a number: the line of its own number, if it is another one, and its level.
+fn push_event(batch: &mut Batch, number: u64, event: &Event) -> Result<(), AllocError>
+    requires { event.now.moment ≤ 200001000000000 }
+    ensures { OnOk result (batch.new ≡ batch.old ++ text_of (event_lines number event.now)) }
+{
+    let own = event.moment + 1;
+    if own != number {
+        batch.number(own)?;
+    }
+    batch.level(event.variable, event.level)
+}
+
+/// Writes the changes, which come in the order of their moments.
+fn write_changes<W: Sink>(out: &mut W, batch: &mut Batch, events: &[Event]) -> Result<(), VcdFault>
+    requires { All (λ event. event.moment ≤ 200001000000000) events.now }
+    ensures written { OnOk result (SentTo (W.output out.old) (W.output out.new)
+        (batch.old ++ text_of (lines_from 0 events.now)) batch.new) }
+    ensures refused { IfErr result (λ fault. IsRefused fault (W.output out.old) (W.output out.new)
+        (batch.old ++ text_of (lines_from 0 events.now))) }
+{
+    let mut number = 0;
+    for event in events {
+        batch.make_room(out)?;
+        push_event(batch, number, event)?;
+        number = event.moment + 1;
+    }
+    Ok(())
+}
+
+/// Writes the lines behind the head, which is what the batch has.
+fn write_lines<W: Sink>(
+    out: &mut W,
+    mut batch: Batch,
+    circuit: &Circuit,
+    run: &Run,
+    nets: &[u32],
+    events: &[Event],
+) -> Result<(), VcdFault>
+    requires nets { AreVariables circuit.now nets.now }
+    requires inside { All (λ net. net < length run.now.waves) nets.now }
+    requires small { All (λ event. event.moment ≤ 200001000000000) events.now }
+    ensures written { OnOk result (Sent (W.output out.old) (W.output out.new)
+        (batch ++ body_text circuit.now run.now nets.now events.now)) }
+    ensures refused { IfErr result (λ fault. IsRefused fault (W.output out.old) (W.output out.new)
+        (batch ++ body_text circuit.now run.now nets.now events.now)) }
+{
+    write_declarations(out, &mut batch, circuit, nets)?;
+    batch.push(b"$upscope $end\n$enddefinitions $end\n#0\n$dumpvars\n")?;
+    write_starts(out, &mut batch, run, nets)?;
+    batch.push(b"$end\n")?;
+    write_changes(out, &mut batch, events)?;
+    batch.finish(out)?;
+    Ok(())
+}
+
+/// Writes the waves of a circuit's run as a value change dump: a variable for each input and each gate's output, the settled levels
+/// under `#0`, and the changes of moment t under `#(t+1)`. A step is the circuit's unit.
+///
+/// The error is want of memory, for the changes in their order or for the bytes that are gathered before a write, or a failure of the
+/// writer.
+pub fn write<W: Sink>(
+    alloc: Global,
+    out: &mut W,
+    circuit: &Circuit,
+    run: &Run,
+) -> Result<(), VcdFault>
+    requires { IsRunFor circuit.now run.now }
+    ensures written { OnOk result (Sent (W.output out.old) (W.output out.new) (dump_of circuit.now run.now)) }
+    ensures refused { IfErr result (λ fault. IsRefused fault (W.output out.old) (W.output out.new) (dump_of circuit.now run.now)) }
+{
+    let nets = variable_nets(alloc, circuit)?;
+    let nets = nets.as_slice();
+    let events = events(alloc, run, nets)?;
+    let mut batch = Batch::new(alloc);
+    push_head(alloc, &mut batch, circuit)?;
+    write_lines(out, batch, circuit, run, nets, events.as_slice())
+}
