@@ -35,6 +35,24 @@ impl Sheets {
         })
     }
 
+    /// Takes both sheets to a cube and answers the strongest domain's bound of it. The error is want of memory.
+    pub fn strongest_of(
+        &mut self,
+        alloc: Global,
+        circuit: &Circuit,
+        cube: &Cube,
+    ) -> Result<u64, AllocError>
+        requires sheets { AreSheets circuit.now self.old }
+        requires positions { length cube.now ≡ 2 * length circuit.now.netlist.inputs }
+        ensures sheets { AreSheets circuit.now self.new }
+        ensures bound { IfOk result (λ bound. IsBoundBy Both (setting circuit.now) cube.now (Some bound)) }
+        ensures small { IfOk result (λ bound. bound < 10 ^ 15) }
+    {
+        move_to(alloc, circuit, &mut self.arrival, cube)?;
+        move_to(alloc, circuit, &mut self.possible, cube)?;
+        Ok(self.strongest(circuit))
+    }
+
     /// The strongest domain's bound of the cube of both sheets. It always has one.
     pub fn strongest(&self, circuit: &Circuit) -> u64
         requires sheets { AreSheets circuit.now self.now }

@@ -1,0 +1,75 @@
+//! What workers found of cubes, and hand back when they end.
+
+ghost use Rattle.std.specs.Prelude.{◌≡◌, ◌↔◌, IsTrue, IfOk, IfSome};
+ghost use Rattle.td_search.specs.Problems.{problem};
+ghost use Rattle.td_search.specs.Findings.{IsTrueEvidence, IsTrueTrail};
+
+use std::alloc::{AllocError, Global};
+use td_book::Mark;
+use td_circuit::Circuit;
+use td_domain::{Admit, Cube};
+
+/// What was found of a cube. Times are in steps.
+#[derive(Clone, Copy, Debug, Drop)]
+pub enum Finding {
+    /// A bound of the cube, for a leaf that was closed.
+    Closed(Mark, u64),
+    /// For a cube that was split the position, the strongest domain's bound, and the delay of its representative.
+    Split(u32, u64, u64),
+}
+
+/// What a worker found below a leaf that it held: the leaf's number in the shared tree and its cube, and what was found of the
+/// nodes that were split or closed there, one after another, depth first, zero side first. The number only helps to find the
+/// evidence again.
+#[derive(Debug, Drop)]
+pub struct Evidence {
+    pub number: u32,
+    pub cube: Cube,
+    pub findings: Vec<Finding>,
+}
+
+/// Evidence, and by the number of a node the place of its evidence.
+#[derive(Drop)]
+pub struct Trail {
+    pub evidence: Vec<Evidence>,
+    pub places: Vec<Option<u32>>,
+}
+
+impl Trail {
+    /// A trail of a tree with so many nodes. The error is want of memory.
+    pub fn new(alloc: Global, evidence: Vec<Evidence>, nodes: usize) -> Result<Trail, AllocError>
+        ensures { IfOk result (λ trail. trail.evidence.items ≡ evidence.items) }
+    {
+        let mut places = vec![in alloc; None; nodes]?;
+        for (place, piece) in evidence.iter().enumerate() {
+            if let Some(slot) = places.get_mut(piece.number as usize) {
+                *slot = u32::try_from(place).ok();
+            }
+        }
+        Ok(Trail { evidence, places })
+    }
+
+    /// The evidence of the node of this number, if there is some.
+    pub fn evidence_of(&self, circuit: &Circuit, admit: &Admit, number: u32) -> Option<&Evidence>
+        requires { IsTrueTrail (problem circuit.now admit.now) self.now }
+        ensures { IfSome result (λ evidence. IsTrueEvidence (problem circuit.now admit.now) evidence.now) }
+    {
+        let place = (*self.places.get(number as usize)?)?;
+        self.evidence.get(place as usize)
+    }
+}
+
+/// Whether two cubes are the same.
+pub fn is_same(cube: &Cube, other: &Cube) -> bool
+    ensures { IsTrue result ↔ (cube.now ≡ other.now) }
+{
+    if cube.len() != other.len() {
+        return false;
+    }
+    for position in 0..cube.len() {
+        if cube.trit(position) != other.trit(position) {
+            return false;
+        }
+    }
+    true
+}
