@@ -10,7 +10,7 @@ use Rattle.td_search.specs.declared.answers.Cause.{Cause}
 use Rattle.td_search.specs.declared.answers.Cause.TheVariants as cause
 use Rattle.td_search.specs.Answers.{IsBetween}
 use Rattle.td_search.specs.CutShortLaws.{CutShortIsBetween}
-use Rattle.td_search.specs.Problems.{Problem, problem, has_delay, has_bound, IsAbove}
+use Rattle.td_search.specs.Problems.{Problem, problem, has_delay, has_bound}
 use Rattle.td_search.specs.Progress.{IsSearch}
 use Rattle.td_search.specs.Representatives.{representative}
 use Rattle.td_search.proofs.Bounded.{above_bound}

@@ -28,8 +28,9 @@ fn is_free_at(cube: &Cube, position: usize) -> bool
     position < cube.len() && cube.trit(position) == Trit::Free
 }
 
-// Splits or closes the next node of a private tree as it was found, if that is usable under this best time. Answers whether it is.
-fn dig_one(
+/// Splits or closes the next node of a private tree as it was found of its cube, if that is usable under this best time: a bound is
+/// at most the best, and so is the delay of the representative of a cube that is split. Answers whether it is.
+pub fn dig(
     circuit: &Circuit,
     admit: &Admit,
     subtree: &mut Subtree,
@@ -67,7 +68,7 @@ fn dig_again(
 {
     let mut count = 0;
     for finding in findings {
-        if subtree.is_full() || !dig_one(circuit, admit, subtree, *finding, best) {
+        if subtree.is_full() || !dig(circuit, admit, subtree, *finding, best) {
             break;
         }
         count += 1;

@@ -65,6 +65,15 @@ impl Sheets {
     }
 }
 
+/// The strongest domain's bound of a cube, in steps. The error is want of memory.
+pub fn strongest_bound(alloc: Global, circuit: &Circuit, cube: &Cube) -> Result<u64, AllocError>
+    requires { length cube.now ≡ 2 * length circuit.now.netlist.inputs }
+    ensures bound { IfOk result (λ bound. IsBoundBy Both (setting circuit.now) cube.now (Some bound)) }
+    ensures small { IfOk result (λ bound. bound < 10 ^ 15) }
+{
+    Ok(Sheets::new(alloc, circuit, cube)?.strongest(circuit))
+}
+
 /// The bound of a cube by the domain of a sheet, which is taken there, where the domain has one that is at most the cut. The
 /// error is want of memory.
 pub fn bound_within<D: Domain>(

@@ -1,21 +1,18 @@
-use Rattle.std.proofs.Common.{◌≡◌, ℕ, ◌<◌, ◌≤◌, false, length, ◌+◌, ◌∷◌, ◌++◌, [], List, get_or, map, take, refl, sym, ap, subst, ◌∙◌, arith}
+use Rattle.std.proofs.Common.{◌≡◌, ℕ, ◌<◌, ◌≤◌, false, length, ◌+◌, ◌∷◌, ◌++◌, [], List, get_or, map, take, refl, sym, ap, ◌∙◌, arith}
 use Rattle.std.specs.Prelude.{slice_get, Some, IsTrue}
-use Rattle.std.specs.List.{AllByRecursion}
 use Rattle.std.proofs.lemmas.Option.{slice_get-get_or}
-use Rattle.std.proofs.lemmas.List.Elements.{All-from_recursion}
-use Rattle.td_domain.specs.declared.cubes.Trit.{Trit}
 use Rattle.td_book.specs.declared.node.State.{State}
 use Rattle.td_search.specs.declared.findings.Finding.{Finding}
 use Rattle.std.proofs.Math.Nat.{lt_of_not-le}
 use Rattle.std.proofs.lemmas.List.{length-map, length-take-le}
 use Rattle.td_book.specs.Grafting.{PrivateTree, cubes_left}
-use Rattle.td_search.specs.Findings.{IsUsable, state_of}
+use Rattle.td_search.specs.Findings.{state_of}
 use Rattle.td_search.specs.Problems.{problem}
-use Rattle.td_search.proofs.Found.{nothing, IsNext, next_of, states_more, usable_more}
+use Rattle.td_search.proofs.Found.{nothing, next_of, states_more, usable_more}
 use Rattle.td_search.proofs.replaying.dig_again.Goals as goal
 
-pub dig_one-requires-clause-next : goal.dig_one-requires-clause-next
-dig_one-requires-clause-next c =
+pub dig-requires-clause-next : goal.dig-requires-clause-next
+dig-requires-clause-next c =
     let findings = c.args.findings.now in
     let at = slice_get-get_or findings c.loop-finding.finding-index nothing c.loop-finding-test.true in
     let cubes = c.args.subtree.now.cube ∷ [] in
@@ -33,8 +30,8 @@ loop-finding-preserved c =
     let was = c.loop-finding.invariant in
     let best : ℕ = c.args.best in
     let tree : PrivateTree = c.args.subtree.now in
-    let same : c.dig_one.new.subtree ≡ with_states tree (map (state_of best) (take (i + 1) findings)) =
-    c.if-not-dig_one.ensures.done refl ∙ (ap (λ (t : PrivateTree). with_states t (t.states ++ state_of best f ∷ [])) was.subtree
+    let same : c.dig.new.subtree ≡ with_states tree (map (state_of best) (take (i + 1) findings)) =
+    c.if-not-dig.ensures.done refl ∙ (ap (λ (t : PrivateTree). with_states t (t.states ++ state_of best f ∷ [])) was.subtree
     ∙ ap (with_states tree) (sym (states_more best findings i f at))) in
     let allowance : c.loop-finding.subtree.allowance ≡ tree.allowance = ap (λ (t : PrivateTree). t.allowance) was.subtree in
     let states : length c.loop-finding.subtree.states ≡ i =
@@ -44,7 +41,7 @@ loop-finding-preserved c =
     record {
       count = omega arith;
       subtree = same;
-      usable = usable_more best findings i f at was.usable (c.if-not-dig_one.ensures.usable refl);
+      usable = usable_more best findings i f at was.usable (c.if-not-dig.ensures.usable refl);
       few = omega (arith, room, allowance, states, count);
     }
   where

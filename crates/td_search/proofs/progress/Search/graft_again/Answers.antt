@@ -1,4 +1,4 @@
-use Rattle.std.proofs.Common.{List, [], ◌∷◌, take, sym, ap, subst, ◌∙◌}
+use Rattle.std.proofs.Common.{List, [], ◌∷◌, sym, subst}
 use Rattle.td_domain.specs.declared.cubes.Trit.{Trit}
 use Rattle.td_search.specs.declared.findings.Finding.{Finding}
 use Rattle.td_search.specs.Findings.{AreTrue}

@@ -1,0 +1,30 @@
+-- What was found of a cube that is handled as it was decided, and lists of what is true.
+use Rattle.std.proofs.Common.{◌≡◌, ℕ, ◌≤◌, List, [], ◌∷◌, ◌++◌, subst, arith}
+use Rattle.std.specs.List.{AllByRecursion}
+use Rattle.td_domain.specs.declared.cubes.Trit.{Trit}
+use Rattle.td_search.specs.declared.deciding.Decision.{Decision}
+use Rattle.td_search.specs.declared.deciding.Decision.TheVariants as decision
+use Rattle.td_search.specs.Deciding.{IsMeasured, IsDecided}
+use Rattle.td_search.specs.Findings.{IsTrueOf}
+use Rattle.td_search.specs.Problems.{Problem}
+use Rattle.td_search.specs.Representatives.{representative}
+use Rattle.td_pool.specs.Truth.{found_by}
+
+pub true_finding : (asked : Problem) (cube : List Trit) (time cut : ℕ) (d : Decision) → IsMeasured asked (representative asked.admit cube) time → time ≤ cut
+    → IsDecided asked cube cut d → IsTrueOf asked cube (found_by d time)
+true_finding asked cube time cut (decision.Close mark bound) measured low decided = (decided.0, decided.1)
+true_finding asked cube time cut (decision.Split position bound) measured low decided =
+    let above = decided.2 in (decided.0, decided.1, decided.3, measured.is, omega arith)
+
+-- one more
+pub all_push : {X : Type 0} (P : X → Type 0) (xs : List X) (x : X) → AllByRecursion P xs → P x → AllByRecursion P (xs ++ x ∷ [])
+all_push P [] x h p = (p, tt)
+all_push P (y ∷ ys) x h p = (h.0, all_push P ys x h.1 p)
+
+-- all but the last, and the last
+pub all_front : {X : Type 0} (P : X → Type 0) (ys xs : List X) (x : X) → ys ≡ xs ++ x ∷ [] → AllByRecursion P ys → AllByRecursion P xs × P x
+all_front P ys xs x e h = at xs (subst (AllByRecursion P) e h)
+  where
+    at : (zs : List _) → AllByRecursion P (zs ++ x ∷ []) → AllByRecursion P zs × P x
+    at [] k = (tt, k.0)
+    at (z ∷ zs) k = let rest = at zs k.1 in ((k.0, rest.0), rest.1)

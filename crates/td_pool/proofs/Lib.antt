@@ -1,0 +1,2 @@
+pub mod Digs
+pub mod Finds

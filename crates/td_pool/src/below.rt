@@ -1,0 +1,69 @@
+//! What a worker does below a leaf that it holds, before it tells the book.
+
+ghost use Rattle.std.specs.Prelude.{List, IfOk, IfSome};
+ghost use Rattle.td_domain.specs.declared.cubes.Trit.{Trit};
+ghost use Rattle.td_search.specs.Findings.{IsTrueOf};
+ghost use Rattle.td_search.specs.Problems.{problem};
+ghost use Rattle.td_pool.specs.Truth.{IsBelow, IsComing, IsWithin};
+
+use std::alloc::{AllocError, Global};
+use td_book::{Lease, Subtree};
+use td_circuit::Circuit;
+use td_domain::{Admit, Cube};
+use td_search::{Finding, dig};
+
+/// A private tree below a leaf, and what was found of each node that is split or closed in it.
+#[derive(Drop)]
+pub struct Below {
+    pub subtree: Subtree,
+    pub findings: Vec<Finding>,
+}
+
+impl Below {
+    /// Nothing is split or closed yet. All room that the lease's allowance needs is taken here. The error is want of memory.
+    pub fn new(
+        alloc: Global,
+        circuit: &Circuit,
+        admit: &Admit,
+        lease: &Lease,
+    ) -> Result<Below, AllocError>
+        requires { IsWithin (problem circuit.now admit.now) lease.now.cube }
+        ensures { IfOk result (IsBelow (problem circuit.now admit.now) lease.now) }
+    {
+        Ok(Below {
+            subtree: Subtree::new(alloc, lease)?,
+            findings: Vec::with_capacity(alloc, lease.allowance as usize)?,
+        })
+    }
+
+    /// The cube of the leaf that comes next, while the allowance lets it be split or closed.
+    pub fn next(&self, circuit: &Circuit, admit: &Admit, lease: &Lease) -> Option<&Cube>
+        requires { IsBelow (problem circuit.now admit.now) lease.now self.now }
+        ensures { IfSome result (λ cube. IsComing (problem circuit.now admit.now) lease.now self.now cube.now) }
+    {
+        if self.subtree.is_full() {
+            return None;
+        }
+        self.subtree.next()
+    }
+
+    /// Splits or closes the leaf that comes next as it was found of its cube, under this cut. Answers whether it is usable under it.
+    pub fn settle(
+        &mut self,
+        circuit: &Circuit,
+        admit: &Admit,
+        lease: &Lease,
+        finding: Finding,
+        cut: u64,
+    ) -> bool
+        requires below { IsBelow (problem circuit.now admit.now) lease.now self.old }
+        requires next { (cube : List Trit) × IsComing (problem circuit.now admit.now) lease.now self.old cube × IsTrueOf (problem circuit.now admit.now) cube finding }
+        ensures { IsBelow (problem circuit.now admit.now) lease.now self.new }
+    {
+        if !dig(circuit, admit, &mut self.subtree, finding, cut) {
+            return false;
+        }
+        self.findings.push_reserved(finding);
+        true
+    }
+}

@@ -1,0 +1,154 @@
+//! What workers share.
+
+ghost use Rattle.std.specs.Prelude.{◌≡◌, ◌*◌, ◌<◌, ◌≤◌, length, IsTrue, IfOk, IfSome};
+ghost use Rattle.td_search.specs.Problems.{problem};
+ghost use Rattle.td_pool.specs.Truth.{IsWithin, IsBelow};
+ghost use Rattle.td_pool.specs.Turning.{IsTurn};
+
+use std::sync::ledger::{Ledger, Share};
+use std::sync::{Condvar, Mutex, Wait as MayWait};
+use td_book::{Claim, Counted, GraftFault, Lease, Subtree};
+use td_circuit::Circuit;
+use td_domain::{Admit, Cube, Trit};
+use td_incumbent::Incumbent;
+
+/// The book of the search beside its ledger, what wakes those that wait for an open leaf, and the best time.
+#[derive(Drop)]
+pub struct Shared<L: Ledger> {
+    pub book: Mutex<Counted<L>>,
+    pub moved: Condvar,
+    pub word: Incumbent,
+}
+
+/// What a worker is to do next.
+#[derive(Drop)]
+pub enum Turn {
+    /// To handle this leaf.
+    Work(Lease),
+    /// To wait until the book has changed.
+    Wait,
+    /// To end.
+    End,
+}
+
+// Whether a cube is one of the circuit's vectors, and a part of the pins.
+fn is_within(circuit: &Circuit, admit: &Admit, cube: &Cube) -> bool
+    ensures { IsTrue result → IsWithin (problem circuit.now admit.now) cube.now }
+{
+    let pins = admit.pins();
+    if cube.len() != pins.len() {
+        return false;
+    }
+    for position in 0..pins.len() {
+        let pin = pins.trit(position);
+        if pin != Trit::Free && pin != cube.trit(position) {
+            return false;
+        }
+    }
+    true
+}
+
+// What a worker of this search is to do next. Of the book under the lock nothing is known.
+fn next_turn<L: Ledger>(
+    book: &mut Counted<L>,
+    circuit: &Circuit,
+    admit: &Admit,
+    worker: u32,
+) -> Turn
+    ensures { IsTurn (problem circuit.now admit.now) result }
+{
+    if worker >= book.workers() {
+        return Turn::End;
+    }
+    let lease = match book.claim(worker) {
+        Ok(Claim::Lease(lease)) => lease,
+        Ok(Claim::Idle) => return Turn::Wait,
+        Ok(Claim::Done | Claim::Spent) | Err(_) => return Turn::End,
+    };
+    if is_within(circuit, admit, &lease.cube) {
+        return Turn::Work(lease);
+    }
+    let _opened = book.release(lease);
+    Turn::End
+}
+
+impl<L: Ledger> Shared<L> {
+    /// The next leaf for this worker, and none where it is to end.
+    pub fn lease<R: MayWait>(
+        &self,
+        rt: &R,
+        circuit: &Circuit,
+        admit: &Admit,
+        worker: u32,
+    ) -> Option<Lease>
+        ensures { IfSome result (λ lease. IsWithin (problem circuit.now admit.now) lease.cube) }
+    {
+        for _ in rt.forever() {
+            let mut book = self.book.lock(rt);
+            match next_turn(&mut book, circuit, admit, worker) {
+                Turn::Work(lease) => return Some(lease),
+                Turn::Wait => {
+                    let book = self.moved.wait(rt, book);
+                    drop(book);
+                }
+                Turn::End => return None,
+            }
+        }
+        None
+    }
+
+    /// Tells the book what was split and closed below a leaf, under one hold, and wakes those that wait. Where nothing was, or memory
+    /// runs out, the leaf is opened again. Answers whether the worker may go on.
+    pub fn graft<R: MayWait>(
+        &self,
+        rt: &R,
+        lease: Lease,
+        subtree: Subtree,
+        mine: &mut Share<L>,
+    ) -> bool
+        requires cube { subtree.cube ≡ lease.cube }
+        requires few { length subtree.states ≤ lease.allowance }
+        requires part { 0 < mine.old.parts }
+        ensures { mine.new.parts ≡ mine.old.parts }
+    {
+        let mut book = self.book.lock(rt);
+        let goes_on = graft_in(&mut book, lease, subtree, mine);
+        drop(book);
+        self.moved.notify_all();
+        goes_on
+    }
+
+    /// Opens a leaf again, and wakes those that wait.
+    pub fn release<R: MayWait>(&self, rt: &R, lease: Lease) {
+        let mut book = self.book.lock(rt);
+        let _opened = book.release(lease);
+        drop(book);
+        self.moved.notify_all();
+    }
+}
+
+// As `graft`, in the book.
+fn graft_in<L: Ledger>(
+    book: &mut Counted<L>,
+    lease: Lease,
+    subtree: Subtree,
+    mine: &mut Share<L>,
+) -> bool
+    requires cube { subtree.cube ≡ lease.cube }
+    requires few { length subtree.states ≤ lease.allowance }
+    requires part { 0 < mine.old.parts }
+    ensures { mine.new.parts ≡ mine.old.parts }
+{
+    if subtree.states().is_empty() {
+        let _opened = book.release(lease);
+        return false;
+    }
+    match book.graft(lease, subtree, mine) {
+        Ok(_left) => true,
+        Err(GraftFault::OutOfMemory(lease, _subtree)) => {
+            let _opened = book.release(lease);
+            false
+        }
+        Err(GraftFault::Stranger(_lease, _subtree)) => false,
+    }
+}
