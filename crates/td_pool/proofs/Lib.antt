@@ -1,2 +1,3 @@
 pub mod Digs
 pub mod Finds
+pub mod Pins

@@ -1,5 +1,5 @@
 -- What a worker hands back.
-use Rattle.std.specs.Prelude.{◌≡◌, ◌↔◌, ℕ, ◌*◌, ◌<◌, ◌≤◌, List, [], ◌∷◌, length, map, vec_capacity}
+use Rattle.std.specs.Prelude.{◌≡◌, ◌↔◌, ℕ, ◌*◌, ◌<◌, ◌≤◌, ◌^◌, List, [], ◌∷◌, length, map, vec_capacity}
 use Rattle.std.specs.List.{AllByRecursion}
 use Rattle.td_domain.specs.declared.cubes.Trit.{Trit}
 use Rattle.td_book.specs.declared.lease.Lease.{Lease}
@@ -14,6 +14,11 @@ use Rattle.td_search.specs.Findings.{AreTrue, IsTrueEvidence, split_at}
 use Rattle.td_search.specs.Problems.{Problem, has_delay, IsPart}
 use Rattle.td_pool.specs.declared.below.Below.{Below}
 use Rattle.td_pool.specs.declared.found.Found.{Found}
+
+-- a position is one of a cube
+abbrev pub IsPlaced : Decision → Type 0
+IsPlaced (decision.Close mark bound) = Unit {0}
+IsPlaced (decision.Split position bound) = position < 2 ^ 32
 
 -- what was found of a cube whose representative has this delay, and that is handled so
 abbrev pub found_by : Decision → ℕ → Finding

@@ -178,13 +178,28 @@ fn fresh_of(
 {
     let mut all = Vec::with_capacity(alloc, seats.len())?;
     for seat in seats {
-        all.push(Found {
-            evidence: Vec::new(alloc),
-            best: Best::new(alloc, circuit.input_count())?,
-            seat,
-        })?;
+        all.push(fresh(alloc, circuit, admit, word, seat)?)?;
     }
     Ok(all)
+}
+
+// A worker that has found nothing. The error is want of memory.
+fn fresh(
+    alloc: Global,
+    circuit: &Circuit,
+    admit: &Admit,
+    _word: &Incumbent,
+    seat: Seat,
+) -> Result<Found, AllocError>
+    requires held { length admit.now.held ≡ length circuit.now.netlist.inputs }
+    requires seat { IsFresh _word.now seat }
+    ensures { IfOk result (IsStarting (problem circuit.now admit.now) _word.now) }
+{
+    Ok(Found {
+        evidence: Vec::new(alloc),
+        best: Best::new(alloc, circuit.input_count())?,
+        seat,
+    })
 }
 
 // What all workers found: this thread, and another one for each further worker, where a thread can be made.

@@ -3,7 +3,7 @@
 ghost use Rattle.std.specs.Prelude.{◌≡◌, ◌*◌, ◌<◌, ◌≤◌, length, IsTrue, IfOk, IfSome};
 ghost use Rattle.td_search.specs.Problems.{problem};
 ghost use Rattle.td_pool.specs.Truth.{IsWithin, IsBelow};
-ghost use Rattle.td_pool.specs.Turning.{IsTurn};
+ghost use Rattle.td_pool.specs.Turning.{IsPinned, IsTurn};
 
 use std::sync::ledger::{Ledger, Share};
 use std::sync::{Condvar, Mutex, Wait as MayWait};
@@ -40,12 +40,21 @@ fn is_within(circuit: &Circuit, admit: &Admit, cube: &Cube) -> bool
         return false;
     }
     for position in 0..pins.len() {
-        let pin = pins.trit(position);
-        if pin != Trit::Free && pin != cube.trit(position) {
+        if !is_pinned(pins.trit(position), cube.trit(position)) {
             return false;
         }
     }
     true
+}
+
+// Whether a pin allows all bits that a trit allows.
+fn is_pinned(pin: Trit, trit: Trit) -> bool
+    ensures { IsTrue result → IsPinned pin trit }
+{
+    match (pin, trit) {
+        (Trit::Free, _) | (Trit::Zero, Trit::Zero) | (Trit::One, Trit::One) => true,
+        (Trit::Zero | Trit::One, _) => false,
+    }
 }
 
 // What a worker of this search is to do next. Of the book under the lock nothing is known.

@@ -5,7 +5,7 @@ ghost use Rattle.td_search.specs.Deciding.{IsMeasured};
 ghost use Rattle.td_search.specs.Findings.{IsTrueOf};
 ghost use Rattle.td_search.specs.Problems.{problem};
 ghost use Rattle.td_search.specs.Representatives.{representative};
-ghost use Rattle.td_pool.specs.Truth.{IsTrueFound, IsBelow, IsWithin, found_by};
+ghost use Rattle.td_pool.specs.Truth.{IsTrueFound, IsBelow, IsWithin, IsPlaced, found_by};
 
 use crate::below::Below;
 use crate::found::{Found, Report};
@@ -35,6 +35,7 @@ fn offer(
     ensures within { time ≤ result }
     ensures seat { found.new.seat.table ≡ word.now.table }
     ensures found { IsTrueFound (problem circuit.now admit.now) found.new }
+    ensures evidence { found.new.evidence ≡ found.old.evidence }
 {
     let seen = word.look(&mut found.seat);
     if time <= seen {
@@ -46,6 +47,7 @@ fn offer(
 
 // What was found of a cube that is handled so.
 fn finding_of(decision: Decision, time: u64) -> Finding
+    requires { IsPlaced decision }
     ensures { result ≡ found_by decision time }
 {
     match decision {
@@ -74,6 +76,7 @@ fn find<P: Prober>(
     ensures scratch { P.is_for scratch.new circuit.now }
     ensures seat { found.new.seat.table ≡ word.now.table }
     ensures found { IsTrueFound (problem circuit.now admit.now) found.new }
+    ensures evidence { found.new.evidence ≡ found.old.evidence }
     ensures finding { IfOk result (λ answer. IsTrueOf (problem circuit.now admit.now) cube.now answer.0) }
 {
     let _numbering = circuit.gates();
@@ -110,6 +113,7 @@ fn work_below<P: Prober>(
     ensures scratch { P.is_for scratch.new circuit.now }
     ensures seat { found.new.seat.table ≡ word.now.table }
     ensures found { IsTrueFound (problem circuit.now admit.now) found.new }
+    ensures evidence { found.new.evidence ≡ found.old.evidence }
     ensures below { IsBelow (problem circuit.now admit.now) lease.now below.new }
 {
     for _ in 0..lease.allowance {

@@ -25,8 +25,9 @@ impl Model for Best {
 }
 
 impl Best {
-    /// Room for pairs with so many bits in each vector. The error is want of memory.
+    /// Room for pairs with so many bits in each vector, at time 0. The error is want of memory.
     pub fn new(alloc: Global, inputs: usize) -> Result<Self, AllocError>
+        ensures time { IfOk result (λ best. best.time ≡ 0) }
         ensures first { IfOk result (λ best. length best.pair.first ≡ inputs) }
         ensures second { IfOk result (λ best. length best.pair.second ≡ inputs) }
     {
