@@ -1,0 +1,111 @@
+//! Circuits and searches for the tests, in words.
+
+use std::alloc::Global;
+use std::process::Abort;
+use std::sync::Wait;
+use std::test::Fail;
+use std::thread::Threads;
+use td_circuit::{Circuit, build};
+use td_domain::Admit;
+use td_gates::Delay;
+use td_netlist::read;
+use td_pool::worst;
+use td_search::{Answer, Prober, SearchFault, alone};
+
+/// An inverter.
+pub const INVERTER: &str = "not #(2,3) g(y,a);";
+
+/// A pulse that is lost.
+pub const LOST: &str = "not #1 n(b,a); and #2 g(y,a,b);";
+
+/// A signal that meets itself again.
+pub const RECONVERGENT: &str = "buf #1 p1(p,b); buf #1 p2(q,b); xor #3 g(y,a,p,q);";
+
+/// An or with a slow arm.
+pub const SLOW_ARM: &str = "buf #4 s(t,a); or #1 g(y,b,t);";
+
+/// A circuit with these inputs and gates, and the output y.
+pub fn circuit_of(
+    rt: &impl Abort,
+    alloc: Global,
+    inputs: &str,
+    gates: &str,
+) -> Result<Circuit, Fail> {
+    let default = Delay::new(1, 1).expect(rt, "in range");
+    let text = format!(in alloc;
+        "module t ({inputs}, y);\ninput {inputs};\noutput y;\n{gates}\nendmodule\n"
+    )?;
+    let Ok(netlist) = read(alloc, text.as_bytes(), default) else {
+        panic!(rt; "the text is refused");
+    };
+    let Ok(circuit) = build(alloc, netlist) else {
+        panic!(rt; "the netlist has a loop");
+    };
+    Ok(circuit)
+}
+
+/// All pairs of a circuit.
+fn all_of(rt: &impl Abort, alloc: Global, circuit: &Circuit) -> Result<Admit, Fail> {
+    let inputs = circuit.input_count();
+    assert!(rt; inputs <= 4096);
+    Ok(Admit::all(alloc, inputs)?)
+}
+
+/// An answer: its times in words, and the number of its nodes.
+#[derive(Drop)]
+pub struct Told {
+    pub times: String,
+    pub nodes: u64,
+}
+
+fn told(alloc: Global, answer: &Answer) -> Result<Told, Fail> {
+    Ok(match answer {
+        Answer::Exact { time, tree, .. } => Told {
+            times: format!(in alloc; "exact {time}")?,
+            nodes: tree.nodes().len() as u64,
+        },
+        Answer::Between {
+            low, high, nodes, ..
+        } => Told {
+            times: format!(in alloc; "between {low} {high}")?,
+            nodes: *nodes,
+        },
+    })
+}
+
+/// What a search of all pairs by so many workers answers.
+pub fn found<P: Prober + Sync, R: Threads + Wait + Sync + Abort>(
+    rt: &R,
+    alloc: Global,
+    circuit: &Circuit,
+    prober: &P,
+    workers: u32,
+    budget: u64,
+) -> Result<Told, Fail> {
+    let admit = all_of(rt, alloc, circuit)?;
+    assert!(rt; 0 < workers && workers <= 64);
+    assert!(rt; budget <= 10_000_000);
+    assert_eq!(rt; admit.held().len(), circuit.input_count());
+    match worst(rt, alloc, circuit, &admit, prober, workers, budget) {
+        Ok(answer) => told(alloc, &answer),
+        Err(SearchFault::NoPair) => Err(Fail::from("no pair")),
+        Err(SearchFault::OutOfMemory) => Err(Fail::from("out of memory")),
+    }
+}
+
+/// What a search of all pairs in one thread answers.
+pub fn found_alone(
+    rt: &impl Abort,
+    alloc: Global,
+    circuit: &Circuit,
+    budget: u64,
+) -> Result<Told, Fail> {
+    let admit = all_of(rt, alloc, circuit)?;
+    assert!(rt; budget <= 10_000_000);
+    assert_eq!(rt; admit.held().len(), circuit.input_count());
+    match alone(alloc, circuit, &admit, budget) {
+        Ok(answer) => told(alloc, &answer),
+        Err(SearchFault::NoPair) => Err(Fail::from("no pair")),
+        Err(SearchFault::OutOfMemory) => Err(Fail::from("out of memory")),
+    }
+}

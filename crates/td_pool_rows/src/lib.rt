@@ -1,0 +1,9 @@
+//! Searches of worked circuits by several workers. There are tests here, and nothing else.
+#![tactic(auto)]
+
+#[cfg(test)]
+mod circuits;
+#[cfg(test)]
+mod probers;
+#[cfg(test)]
+mod searches;

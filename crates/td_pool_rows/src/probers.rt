@@ -1,0 +1,131 @@
+//! Probers that pass all on to the product's own, and look at what passes.
+
+ghost use Rattle.std.specs.Prelude.{◌≡◌, ℕ, ◌*◌, length, IfOk};
+ghost use Rattle.td_circuit.specs.Numbering.{setting};
+ghost use Rattle.td_circuit.specs.Run.{IsDelayOfBits};
+ghost use Rattle.td_search.specs.Deciding.{IsProbe};
+ghost use Rattle.td_search.specs.Sheeted.{IsScratch};
+
+use std::alloc::{AllocError, Global};
+use std::sync::atomic::{AtomicU64, Ordering};
+use std::thread::yield_now;
+use td_circuit::Circuit;
+use td_domain::{Cube, Pair, Trit};
+use td_search::{Own, Probe, Prober};
+
+/// Counts the pairs that are measured.
+#[derive(Drop)]
+pub struct Counting {
+    pub measured: AtomicU64,
+}
+
+impl Prober for Counting {
+    type Scratch = <Own as Prober>::Scratch;
+
+    ghost is_for = { λ scratch circuit. IsScratch circuit scratch };
+
+    fn scratch(
+        &self,
+        alloc: Global,
+        circuit: &Circuit,
+    ) -> Result<<Own as Prober>::Scratch, AllocError> {
+        Own.scratch(alloc, circuit)
+    }
+
+    fn bound(
+        &self,
+        scratch: &mut <Own as Prober>::Scratch,
+        alloc: Global,
+        circuit: &Circuit,
+        cube: &Cube,
+        cut: u64,
+    ) -> Result<Probe, AllocError> {
+        Own.bound(scratch, alloc, circuit, cube, cut)
+    }
+
+    fn measure(
+        &self,
+        scratch: &mut <Own as Prober>::Scratch,
+        circuit: &Circuit,
+        pair: &Pair,
+    ) -> Result<u64, AllocError> {
+        self.measured.fetch_add(1, Ordering::SeqCst);
+        Own.measure(scratch, circuit, pair)
+    }
+}
+
+/// Lets the first bound of a cube with one fixed position wait until another such cube was bounded.
+#[derive(Drop)]
+pub struct Meeting {
+    pub begun: AtomicU64,
+    pub bounded: AtomicU64,
+    pub missed: AtomicU64,
+}
+
+impl Meeting {
+    fn wait(&self) {
+        if self.begun.fetch_add(1, Ordering::SeqCst) != 0 {
+            return;
+        }
+        for _turn in 0..50_000_000u32 {
+            if self.bounded.load(Ordering::SeqCst) != 0 {
+                return;
+            }
+            yield_now();
+        }
+        self.missed.store(1, Ordering::SeqCst);
+    }
+}
+
+/// How many positions of a cube are fixed.
+fn fixed(cube: &Cube) -> usize {
+    let mut count: usize = 0;
+    for position in 0..cube.len() {
+        if cube.trit(position) != Trit::Free {
+            count = count.saturating_add(1);
+        }
+    }
+    count
+}
+
+impl Prober for Meeting {
+    type Scratch = <Own as Prober>::Scratch;
+
+    ghost is_for = { λ scratch circuit. IsScratch circuit scratch };
+
+    fn scratch(
+        &self,
+        alloc: Global,
+        circuit: &Circuit,
+    ) -> Result<<Own as Prober>::Scratch, AllocError> {
+        Own.scratch(alloc, circuit)
+    }
+
+    fn bound(
+        &self,
+        scratch: &mut <Own as Prober>::Scratch,
+        alloc: Global,
+        circuit: &Circuit,
+        cube: &Cube,
+        cut: u64,
+    ) -> Result<Probe, AllocError> {
+        let meets = fixed(cube) == 1;
+        if meets {
+            self.wait();
+        }
+        let probe = Own.bound(scratch, alloc, circuit, cube, cut)?;
+        if meets {
+            self.bounded.fetch_add(1, Ordering::SeqCst);
+        }
+        Ok(probe)
+    }
+
+    fn measure(
+        &self,
+        scratch: &mut <Own as Prober>::Scratch,
+        circuit: &Circuit,
+        pair: &Pair,
+    ) -> Result<u64, AllocError> {
+        Own.measure(scratch, circuit, pair)
+    }
+}

@@ -1,0 +1,112 @@
+//! Searches of worked circuits, by one worker and by more.
+
+use crate::circuits::{INVERTER, LOST, RECONVERGENT, SLOW_ARM, circuit_of, found, found_alone};
+use crate::probers::{Counting, Meeting};
+use std::alloc::Global;
+use std::process::Abort;
+use std::sync::Wait;
+use std::sync::atomic::{AtomicU64, Ordering};
+use std::test::*;
+use std::thread::Threads;
+use td_search::Own;
+
+/// Checks what searches by 1, 2, 4 and 64 workers answer.
+fn check<R: Threads + Wait + Sync + Abort>(
+    rt: &R,
+    alloc: Global,
+    inputs: &str,
+    gates: &str,
+    wanted: &str,
+) -> Result<(), Fail> {
+    let circuit = circuit_of(rt, alloc, inputs, gates)?;
+    for workers in [1, 2, 4, 64] {
+        let answer = found(rt, alloc, &circuit, &Own, workers, 1_000_000)?;
+        assert_eq!(rt; answer.times.as_str(), wanted);
+    }
+    Ok(())
+}
+
+#[test]
+fn any_number_of_workers(rt: HostRuntime) -> Result<(), Fail> {
+    let alloc = rt.alloc();
+    check(&rt, alloc, "a", INVERTER, "exact 3")?;
+    check(&rt, alloc, "a", LOST, "exact 0")?;
+    check(&rt, alloc, "a, b", RECONVERGENT, "exact 3")?;
+    check(&rt, alloc, "a, b", SLOW_ARM, "exact 5")
+}
+
+/// Checks that a search measures the root's pair and a pair for each node that it handles. Answers how many.
+fn counted<R: Threads + Wait + Sync + Abort>(
+    rt: &R,
+    alloc: Global,
+    gates: &str,
+    workers: u32,
+    wanted: &str,
+) -> Result<u64, Fail> {
+    let circuit = circuit_of(rt, alloc, "a, b", gates)?;
+    let prober = Counting {
+        measured: AtomicU64::new(0),
+    };
+    let answer = found(rt, alloc, &circuit, &prober, workers, 1_000_000)?;
+    let measured = prober.measured.load(Ordering::SeqCst);
+    assert_eq!(rt; answer.times.as_str(), wanted);
+    assert_eq!(rt; measured, answer.nodes.saturating_add(1));
+    Ok(measured)
+}
+
+#[test]
+fn probes_counted(rt: HostRuntime) -> Result<(), Fail> {
+    let alloc = rt.alloc();
+    for workers in [1, 2, 4] {
+        let measured = counted(&rt, alloc, RECONVERGENT, workers, "exact 3")?;
+        assert_eq!(&rt; measured, 32);
+        let measured = counted(&rt, alloc, SLOW_ARM, workers, "exact 5")?;
+        assert!(&rt; measured >= 10);
+    }
+    Ok(())
+}
+
+#[test]
+fn two_probes_at_once(rt: HostRuntime) -> Result<(), Fail> {
+    let alloc = rt.alloc();
+    let circuit = circuit_of(&rt, alloc, "a", LOST)?;
+    let prober = Meeting {
+        begun: AtomicU64::new(0),
+        bounded: AtomicU64::new(0),
+        missed: AtomicU64::new(0),
+    };
+    let answer = found(&rt, alloc, &circuit, &prober, 2, 1_000_000)?;
+    assert_eq!(&rt; answer.times.as_str(), "exact 0");
+    assert_eq!(&rt; answer.nodes, 7);
+    assert_eq!(&rt; prober.missed.load(Ordering::SeqCst), 0);
+    assert_eq!(&rt; prober.bounded.load(Ordering::SeqCst), 2);
+    Ok(())
+}
+
+#[test]
+fn one_worker_answers_as_alone(rt: HostRuntime) -> Result<(), Fail> {
+    let alloc = rt.alloc();
+    let circuit = circuit_of(&rt, alloc, "a, b", SLOW_ARM)?;
+    for budget in 0..10 {
+        let answer = found(&rt, alloc, &circuit, &Own, 1, budget)?;
+        let wanted = found_alone(&rt, alloc, &circuit, budget)?;
+        assert_eq!(&rt; answer.times.as_str(), wanted.times.as_str());
+        assert_eq!(&rt; answer.nodes, wanted.nodes);
+    }
+    Ok(())
+}
+
+#[test]
+fn budgets_are_used_up(rt: HostRuntime) -> Result<(), Fail> {
+    let alloc = rt.alloc();
+    let circuit = circuit_of(&rt, alloc, "e, f, g, a, b", RECONVERGENT)?;
+    for workers in [1, 2, 4] {
+        let answer = found(&rt, alloc, &circuit, &Own, workers, 2046)?;
+        assert_eq!(&rt; answer.times.as_str(), "between 3 4");
+        assert_eq!(&rt; answer.nodes, 2046);
+        let answer = found(&rt, alloc, &circuit, &Own, workers, 2047)?;
+        assert_eq!(&rt; answer.times.as_str(), "exact 3");
+        assert_eq!(&rt; answer.nodes, 2047);
+    }
+    Ok(())
+}
