@@ -58,7 +58,7 @@ pub struct Told {
     pub nodes: u64,
 }
 
-fn told(alloc: Global, answer: &Answer) -> Result<Told, Fail> {
+fn in_words(alloc: Global, answer: &Answer) -> Result<Told, Fail> {
     Ok(match answer {
         Answer::Exact { time, tree, .. } => Told {
             times: format!(in alloc; "exact {time}")?,
@@ -87,7 +87,7 @@ pub fn found<P: Prober + Sync, R: Threads + Wait + Sync + Abort>(
     assert!(rt; budget <= 10_000_000);
     assert_eq!(rt; admit.held().len(), circuit.input_count());
     match worst(rt, alloc, circuit, &admit, prober, workers, budget) {
-        Ok(answer) => told(alloc, &answer),
+        Ok(answer) => in_words(alloc, &answer),
         Err(SearchFault::NoPair) => Err(Fail::from("no pair")),
         Err(SearchFault::OutOfMemory) => Err(Fail::from("out of memory")),
     }
@@ -104,7 +104,7 @@ pub fn found_alone(
     assert!(rt; budget <= 10_000_000);
     assert_eq!(rt; admit.held().len(), circuit.input_count());
     match alone(alloc, circuit, &admit, budget) {
-        Ok(answer) => told(alloc, &answer),
+        Ok(answer) => in_words(alloc, &answer),
         Err(SearchFault::NoPair) => Err(Fail::from("no pair")),
         Err(SearchFault::OutOfMemory) => Err(Fail::from("out of memory")),
     }
