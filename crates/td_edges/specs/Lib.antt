@@ -1,0 +1,5 @@
+pub mod Spans
+pub mod Parting
+pub mod EdgeSignals
+pub mod Coverage
+pub mod WindowLaws
