@@ -232,17 +232,18 @@ is_zero n h = elim (cases_eq n 0) [
   | inr other ↦ (let no = ne_eqb n 0 other in cc)
 ]
 
+-- the output ends where the target does
+pub output_ends : (delay : Delay) → IsInRange delay → (e o : ℕ → Level) → IsDelayed e delay o → (finish : Level) → Ends finish e → Ends finish o
+output_ends delay fits e o is finish final = record {
+  from = suc (final.from + delay_to delay finish);
+  ends = λ n late known. delayed-late e delay fits o is final.from (delay_to delay finish) finish
+      (λ m after. final.ends m (omega arith) known) (omega arith) n (omega arith);
+}
+
 module _ (delay : Delay) (fits : IsInRange delay) (e o : ℕ → Level) (is : IsDelayed e delay o) (start finish : Level) (span : Span)
     (target : IsTarget e start finish span) where
   output_boolean : (n : ℕ) → o n ≢ X
   output_boolean = delayed-boolean e delay fits o is target.boolean
-
-  pub output_ends : Ends finish o
-  output_ends = record {
-    from = suc (target.final.from + delay_to delay finish);
-    ends = λ n late known. delayed-late e delay fits o is target.final.from (delay_to delay finish) finish
-        (λ m after. target.final.ends m (omega arith) known) (omega arith) n (omega arith);
-  }
 
   -- a change away from the finish, kept for its delay, is followed by one back
   away_reaches : (u : ℕ) → Reaches e delay u → e (suc u) ≡ inverse_of finish → u < until finish span - delay_to delay (inverse_of finish)
@@ -305,7 +306,7 @@ module _ (delay : Delay) (fits : IsInRange delay) (e o : ℕ → Level) (is : Is
       at_finish : finish ≢ X → (n : ℕ) → o n ≡ finish
       at_finish known n = elim (cases_level (o n) finish) [
         | inl same ↦ same
-        | inr away ↦ let back = turns_to_end o finish known output_ends n away in
+        | inr away ↦ let back = turns_to_end o finish known (output_ends delay fits e o is finish target.final) n away in
             absurd (none_to finish none back.turn back.after back.before)
       ]
 
