@@ -203,8 +203,8 @@ module _ (first second : Trit) (moment : ℕ) (wave : Wave) (is : IsInputWave fi
       let level : Level = level_from is.after in
       let clear : level ≢ X = bit_boolean is.after in
       let low = input_at (level_of_trit first) (level_of_trit second) moment level clear
-          (agrees_other (level_of_trit first) (level_from is.before) level input_starts (both_differ t differ here) clear)
-          (agrees_other (level_of_trit second) level (inverse_of level) input_ends (not_inverse level clear) (inverse_boolean is.after)) in
+      (agrees_other (level_of_trit first) (level_from is.before) level input_starts (both_differ t differ here) clear)
+      (agrees_other (level_of_trit second) level (inverse_of level) input_ends (not_inverse level clear) (inverse_boolean is.after)) in
       (omega arith, subst (λ (v : Level). t < until v input_span) (sym (late (suc t) (omega arith))) (omega arith))
     where
       inverse_boolean : (bit : Bool) → inverse_of (level_from bit) ≢ X

@@ -111,9 +111,6 @@ abbrev pub odds : Level → List Level → Level
 odds parity [] = parity
 odds parity (level ∷ levels) = odds (odd parity level) levels
 
-
-
-
 parity-suc : (n : ℕ) → (if (1 + n) % 2 == 1 then High else Low) ≡ inverse_of (if n % 2 == 1 then High else Low)
 parity-suc n = let one : 1 + n ≡ suc n = omega arith in rw (one, suc-mod n 2) (by (n % 2) (omega arith))
   where
@@ -225,7 +222,7 @@ parted_low parts e is t differ = elim (cases_lt t parts.others_until) [
     | inr known ↦
         let level : odd parts.others_parity (e (suc t)) ≡ before is.wave (suc t) =
         ap (λ l. odd parts.others_parity l) (is.splits (suc t) ∙ ap (λ l. odd l (before is.wave (suc t))) (others_known late known))
-            ∙ odd-twice parts.others_parity (before is.wave (suc t)) known in
+        ∙ odd-twice parts.others_parity (before is.wave (suc t)) known in
         let low = wave_low late in
         rw level (omega arith)
   ]
@@ -233,7 +230,7 @@ parted_low parts e is t differ = elim (cases_lt t parts.others_until) [
   where
     wave_low : parts.others_until ≤ t → t < until_of (before is.wave (suc t)) parts.latest.changes
     wave_low late = change_low parts.latest.changes is.wave t is.covered.changes (λ same. differ (
-      is.splits (suc t) ∙ ap (λ l. odd l (before is.wave (suc t))) (is.still t late) ∙ ap (λ l. odd (is.others t) l) same ∙ sym (is.splits t)))
+        is.splits (suc t) ∙ ap (λ l. odd l (before is.wave (suc t))) (is.still t late) ∙ ap (λ l. odd (is.others t) l) same ∙ sym (is.splits t)))
 
     stays : parts.others_until ≤ t → (k : ℕ) → is.others (suc t + k) ≡ is.others (suc t)
     stays late zero = let same : suc t + 0 ≡ suc t = omega arith in rw same refl
@@ -249,5 +246,5 @@ pub parity_low : (parity : Level) (signals : List Signal) (ins : List Wave) (e :
 parity_low parity signals ins e covered same t differ =
     subst (λ (v : Level). t < parity_until (parted (no_parts parity) signals) v) (sym (same (suc t)))
     (parted_low (parted (no_parts parity) signals) (λ n. odds parity (levels_before ins n))
-        (with_all (no_parts parity) (λ n. parity) signals ins (none_parted parity) covered) t
-        (λ still. differ (same (suc t) ∙ still ∙ sym (same t))))
+    (with_all (no_parts parity) (λ n. parity) signals ins (none_parted parity) covered) t
+    (λ still. differ (same (suc t) ∙ still ∙ sym (same t))))

@@ -202,7 +202,11 @@ fn filtered(delay: Delay, finish: Level, span: Span) -> Span
     ensures { result ≡ filtered delay finish span }
 {
     let away = finish.inverse();
-    limited(away, span.until(finish).saturating_sub(delay.to(away)), span)
+    limited(
+        away,
+        span.until(finish).saturating_sub(delay.to(away)),
+        span,
+    )
 }
 
 /// The moment, 0 where it isn't behind the earliest.

@@ -1,11 +1,12 @@
-use Rattle.std.proofs.Common.{◌≡◌, ℕ, List, Option, None, ◌∙◌, ap, take_all}
 use Rattle.std.specs.Prelude.{filter_map, slice_get}
+use Rattle.std.proofs.Common.{◌∙◌, ap, take_all}
 use Rattle.td_edges.specs.EdgeSignals.{controlling, settled, kept_by}
 use Rattle.td_edges.proofs.Picks.{kept-none, kept-step}
 use Rattle.td_edges.proofs.gates.kept_by.Goals as goal
 
 pub returns-then-is_none : goal.returns-then-is_none
-returns-then-is_none c = kept-none c.controlling_level-control.result _ _ _ _ c.controlling_level-control.ensures c.if-is_none.ensures
+returns-then-is_none c = kept-none c.controlling_level-control.result (controlling c.args.kind) (settled c.args.kind)
+    (filter_map (slice_get c.args.all.now) c.args.ins.now) c.args.span c.controlling_level-control.ensures c.if-is_none.ensures
 
 pub loop-place-preserved : goal.loop-place-preserved
 loop-place-preserved c =
