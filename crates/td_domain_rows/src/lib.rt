@@ -8,8 +8,6 @@ mod bounds;
 #[cfg(test)]
 mod cubes;
 #[cfg(test)]
-mod edges;
-#[cfg(test)]
 mod named;
 #[cfg(test)]
 mod points;
