@@ -95,9 +95,9 @@ settled kind = X
 
 -- the span whose changes to a known level come before this moment too
 abbrev pub limited : Level → ℕ → Span → Span
-limited Low until span = record span { falls_until = min span.falls_until until }
-limited High until span = record span { rises_until = min span.rises_until until }
-limited X until span = span
+limited Low moment span = record span { falls_until = min span.falls_until moment }
+limited High moment span = record span { rises_until = min span.rises_until moment }
+limited X moment span = span
 
 -- 3. An input that surely finishes at the controlling level keeps the output from its latest change to that level on.
 abbrev pub capped : Option Level → Level → Signal → Span → Span
@@ -118,9 +118,9 @@ kept_by control out (signal ∷ later) span = kept_by control out later (raised 
 abbrev pub filtered : Delay → Level → Span → Span
 filtered delay finish span = limited (inverse_of finish) (until finish span - delay_to delay (inverse_of finish)) span
 
--- 6. No change comes before the earliest.
+-- 6. No change comes before the earliest: of those to a level none is left where the moment for it isn't behind the earliest.
 abbrev pub after_earliest : ℕ → ℕ → ℕ
-after_earliest earliest until = if nat_lt earliest until then until else 0
+after_earliest earliest moment = if nat_lt earliest moment then moment else 0
 
 abbrev pub timely : Span → Span
 timely span = record {
@@ -133,9 +133,9 @@ timely span = record {
 abbrev pub never_changes : Level → Level → Span → Bool
 never_changes start finish span = until finish span == 0 || until (inverse_of start) span == 0
 
--- 8. Changes come later by the delay to their level, the first one leads away from the start.
+-- 8. Changes come later by the delay to their level, and the first one leads away from the start. Where none come, none do.
 abbrev pub put_off : ℕ → ℕ → ℕ
-put_off steps until = if nat_lt 0 until then until + steps else 0
+put_off steps moment = if nat_lt 0 moment then moment + steps else 0
 
 abbrev pub delayed : Delay → Level → Span → Span
 delayed delay start span = record {

@@ -135,19 +135,19 @@ fn settled_level(kind: Kind) -> Level
 }
 
 /// The span where changes to the level come before this moment too.
-fn limited(level: Level, until: u64, span: Span) -> Span
-    ensures { result ≡ limited level until span }
+fn limited(level: Level, moment: u64, span: Span) -> Span
+    ensures { result ≡ limited level moment span }
 {
     match level {
         Level::Zero => Span {
             earliest: span.earliest,
-            falls_until: span.falls_until.min(until),
+            falls_until: span.falls_until.min(moment),
             rises_until: span.rises_until,
         },
         Level::One => Span {
             earliest: span.earliest,
             falls_until: span.falls_until,
-            rises_until: span.rises_until.min(until),
+            rises_until: span.rises_until.min(moment),
         },
         Level::X => span,
     }
@@ -210,10 +210,10 @@ fn filtered(delay: Delay, finish: Level, span: Span) -> Span
 }
 
 /// The moment, 0 where it isn't behind the earliest.
-fn after_earliest(earliest: u64, until: u64) -> u64
-    ensures { result ≡ after_earliest earliest until }
+fn after_earliest(earliest: u64, moment: u64) -> u64
+    ensures { result ≡ after_earliest earliest moment }
 {
-    if earliest < until { until } else { 0 }
+    if earliest < moment { moment } else { 0 }
 }
 
 /// The span without changes before its earliest moment.
@@ -228,11 +228,11 @@ fn timely(span: Span) -> Span
 }
 
 /// The moment put off by the steps, where changes come before it.
-fn put_off(steps: u64, until: u64) -> u64
-    requires { until + steps < 2 ^ 64 }
-    ensures { result ≡ put_off steps until }
+fn put_off(steps: u64, moment: u64) -> u64
+    requires { moment + steps < 2 ^ 64 }
+    ensures { result ≡ put_off steps moment }
 {
-    if until > 0 { until + steps } else { 0 }
+    if moment > 0 { moment + steps } else { 0 }
 }
 
 /// When an output changes whose target changes in the span.

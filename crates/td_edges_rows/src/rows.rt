@@ -51,16 +51,27 @@ fn numbers(alloc: Global, words: &str) -> Result<Vec<u64>, Fail> {
     for word in words.split(' ') {
         numbers.push(word.parse::<u64>().unwrap_or(0))?;
     }
-    Ok(moments_of(alloc, &numbers)?)
+    Ok(numbers)
 }
 
 /// The circuit of a row.
 pub fn made(rt: &impl Abort, alloc: Global, row: &str) -> Result<Circuit, Fail> {
-    let moments = numbers(alloc, part(row, 1))?;
-    let text = module(alloc, part(row, 0), moments.len())?;
-    let mut circuit = circuit_of(rt, alloc, &text)?;
-    assert_eq!(rt; moments.len(), circuit.input_count());
-    circuit.set_moments(moments);
+    let words = numbers(alloc, part(row, 1))?;
+    let text = module(alloc, part(row, 0), words.len())?;
+    let circuit = circuit_of(rt, alloc, &text)?;
+    at(rt, alloc, circuit, &words)
+}
+
+/// The same circuit with inputs that change at these moments.
+fn at(
+    rt: &impl Abort,
+    alloc: Global,
+    mut circuit: Circuit,
+    moments: &[u64],
+) -> Result<Circuit, Fail> {
+    let own = moments_of(alloc, moments)?;
+    assert_eq!(rt; own.len(), circuit.input_count());
+    circuit.set_moments(own);
     Ok(circuit)
 }
 
