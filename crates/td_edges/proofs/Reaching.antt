@@ -1,5 +1,5 @@
 -- How far the changes of a gate's target reach.
-use Rattle.std.proofs.Common.{◌≡◌, ℕ, ◌+◌, ◌-◌, ◌<◌, ◌≤◌, ◌^◌, max, List, [], ◌∷◌, ap, arith, sym, ◌∙◌, Option, Some}
+use Rattle.std.proofs.Common.{◌≡◌, ℕ, ◌+◌, ◌-◌, ◌<◌, ◌≤◌, ◌^◌, List, [], ◌∷◌, ap, arith, sym, ◌∙◌, Option, Some}
 use Rattle.std.proofs.lemmas.List.Elements.{recursion_from_All, All-head}
 use Rattle.std.specs.List.{All, AllByRecursion}
 use Rattle.td_gates.specs.declared.primitives.Kind.{Kind}

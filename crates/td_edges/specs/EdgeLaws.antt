@@ -1,8 +1,8 @@
 -- Internal: proofs of the laws of edges; an impl block takes them from specs/ alone.
-use Rattle.std.proofs.Common.{◌≡◌, ◌≢◌, ℕ, zero, suc, ◌+◌, ◌-◌, ◌<◌, ◌≤◌, ◌^◌, min, max, Bool, true, false, List, [], ◌∷◌, length, map, refl, arith, ap, subst, ◌∙◌, sym, Option, Some, None, ◌⊎◌, inl, inr}
-use Rattle.std.specs.Prelude.{nat_lt, ◌||◌, if◌then◌else◌}
+use Rattle.std.proofs.Common.{◌≡◌, ◌≢◌, ℕ, zero, suc, ◌+◌, ◌-◌, ◌<◌, ◌≤◌, ◌^◌, max, Bool, true, false, List, [], ◌∷◌, length, map, refl, arith, ap, subst, ◌∙◌, sym, Option, Some, None, ◌⊎◌, inl, inr}
+use Rattle.std.specs.Prelude.{nat_lt, ◌||◌}
 use Rattle.std.specs.List.{All, AllZip, AllByRecursion}
-use Rattle.std.proofs.lemmas.Bool.{cases_lt, lt-ltb, le-ltb}
+use Rattle.std.proofs.lemmas.Bool.{cases_lt, lt-ltb}
 use Rattle.std.proofs.lemmas.List.Elements.{recursion_from_All}
 use Rattle.td_gates.specs.declared.primitives.Level.{Level}
 use Rattle.td_gates.specs.declared.primitives.Level.TheVariants.{Zero as Low, One as High, X}
@@ -10,7 +10,7 @@ use Rattle.td_gates.specs.declared.primitives.Kind.{Kind}
 use Rattle.td_gates.specs.declared.primitives.Kind.TheVariants.{And, Nand, Or, Nor, Xor, Xnor, Buf, Not}
 use Rattle.td_gates.specs.declared.timing.Delay.{Delay}
 use Rattle.td_gates.specs.Delays.{IsInRange}
-use Rattle.td_gates.specs.Table.{level_from, table, level_eq, delay_to, inverse_of, TakesInputs}
+use Rattle.td_gates.specs.Table.{level_from, level_eq, delay_to, inverse_of, TakesInputs}
 use Rattle.td_gates.specs.Wave.{Wave, at, before}
 use Rattle.td_gates.specs.Schedule.{Obeys, target_before}
 use Rattle.td_domain.specs.declared.cubes.Trit.{Trit}
@@ -24,10 +24,10 @@ use Rattle.td_edges.specs.declared.signals.Span.{Span}
 use Rattle.td_edges.specs.declared.signals.Signal.{Signal}
 use Rattle.td_edges.specs.declared.parting.Parting.{Parting}
 use Rattle.td_edges.specs.Spans.{until, until_of, earliest_of, moving}
-use Rattle.td_edges.specs.Parting.{odd, no_parts, parted_with, parted, parity_until, parity_span}
-use Rattle.td_edges.specs.EdgeSignals.{input_until, input_changes, input_signal, constant_signal, around, hull, turned, target_span, controlling, controls, settled, limited, capped, raised, kept_by, filtered, after_earliest, timely, never_changes, put_off, output_changes, delayed_changes, gate_changes, gate_start, gate_finish, gate_signal}
+use Rattle.td_edges.specs.Parting.{odd, no_parts, parted_with, parted, parity_span}
+use Rattle.td_edges.specs.EdgeSignals.{input_until, input_changes, input_signal, constant_signal, around, hull, target_span, controlling, controls, settled, limited, capped, raised, kept_by, filtered, after_earliest, timely, never_changes, put_off, output_changes, gate_changes, gate_start, gate_finish, gate_signal}
 use Rattle.td_edges.specs.Coverage.{Agrees, Finishes, ChangesWithin, Covers, IsEnd, HasMoment, span_reach}
-use Rattle.td_edges.specs.WindowLaws.{Ends, IsStill, MovesIn, IsTarget, source, output_ends, delayed_holds}
+use Rattle.td_edges.specs.WindowLaws.{Ends, MovesIn, source, output_ends, delayed_holds}
 use Rattle.td_edges.specs.ParityLaws.{levels_before, Covered, until_greatest, change_low, wave_ends}
 use Rattle.td_edges.specs.TargetLaws.{target_in, target_still, kept_in}
 

@@ -1,12 +1,12 @@
 -- Internal: when the parity of a gate's inputs changes. These proofs stand here for EdgeLaws.
 use Rattle.std.proofs.Common.{◌≡◌, ◌≢◌, ℕ, zero, suc, ◌+◌, ◌<◌, ◌≤◌, max, Bool, true, false, List, [], ◌∷◌, map, refl, arith, ap, subst, ◌∙◌, sym, Option, Some, None, ◌⊎◌, inl, inr}
-use Rattle.std.specs.Prelude.{nat_lt, ◌%◌, ◌==◌, cond, count_by, if◌then◌else◌}
+use Rattle.std.specs.Prelude.{nat_lt, ◌%◌, ◌==◌, if◌then◌else◌}
 use Rattle.std.specs.List.{AllZip, list_any}
 use Rattle.std.proofs.Math.Nat.{suc-mod}
 use Rattle.std.proofs.lemmas.Bool.{cases_lt}
 use Rattle.td_gates.specs.declared.primitives.Level.{Level}
 use Rattle.td_gates.specs.declared.primitives.Level.TheVariants.{Zero as Low, One as High, X}
-use Rattle.td_gates.specs.Table.{table, level_eq, xor_of, inverse_of}
+use Rattle.td_gates.specs.Table.{level_eq, xor_of, inverse_of}
 use Rattle.td_gates.specs.Wave.{Wave, at, before}
 use Rattle.td_gates.proofs.Levels.{cases_level}
 use Rattle.td_gates.proofs.TableLaws.{Booleans}
@@ -14,8 +14,8 @@ use Rattle.td_gates.proofs.CountLaws.{count-passing, passing}
 use Rattle.td_edges.specs.declared.signals.Span.{Span}
 use Rattle.td_edges.specs.declared.signals.Signal.{Signal}
 use Rattle.td_edges.specs.declared.parting.Parting.{Parting}
-use Rattle.td_edges.specs.Spans.{until, until_of}
-use Rattle.td_edges.specs.Parting.{odd, no_parts, parted_with, parted, parity_until, parity_span}
+use Rattle.td_edges.specs.Spans.{until_of}
+use Rattle.td_edges.specs.Parting.{odd, no_parts, parted_with, parted, parity_until}
 use Rattle.td_edges.specs.Coverage.{Agrees, Finishes, ChangesWithin, Covers}
 use Rattle.td_edges.specs.WindowLaws.{Ends}
 

@@ -1,14 +1,14 @@
 -- Internal: when the target of a gate changes. These proofs stand here for EdgeLaws.
-use Rattle.std.proofs.Common.{◌≡◌, ◌≢◌, ℕ, zero, suc, ◌+◌, ◌<◌, ◌≤◌, min, max, Bool, true, false, List, [], ◌∷◌, length, map, refl, arith, ap, subst, ◌∙◌, sym, Option, Some, None, ◌⊎◌, inl, inr}
-use Rattle.std.specs.Prelude.{◌&&◌, ◌||◌, if◌then◌else◌}
-use Rattle.std.specs.List.{All, AllZip, AllByRecursion, list_any, list_all}
+use Rattle.std.proofs.Common.{◌≡◌, ◌≢◌, ℕ, zero, suc, ◌<◌, ◌≤◌, max, Bool, true, false, List, [], ◌∷◌, refl, arith, ap, subst, ◌∙◌, sym, Option, Some, None, ◌⊎◌, inl, inr}
+use Rattle.std.specs.Prelude.{◌&&◌, ◌||◌}
+use Rattle.std.specs.List.{AllByRecursion, list_any, list_all}
 use Rattle.std.proofs.lemmas.Bool.{cases_lt}
 use Rattle.td_gates.specs.declared.primitives.Level.{Level}
 use Rattle.td_gates.specs.declared.primitives.Level.TheVariants.{Zero as Low, One as High, X}
 use Rattle.td_gates.specs.declared.primitives.Kind.{Kind}
 use Rattle.td_gates.specs.declared.primitives.Kind.TheVariants.{And, Nand, Or, Nor, Xor, Xnor, Buf, Not}
 use Rattle.td_gates.specs.Table.{table, level_eq, and_of, or_of, buf_of, inverse_of}
-use Rattle.td_gates.specs.Wave.{Wave, at, before}
+use Rattle.td_gates.specs.Wave.{Wave, before}
 use Rattle.td_gates.specs.Schedule.{target_before}
 use Rattle.td_gates.proofs.Levels.{cases_level, level_eq-same, level_eq-other}
 use Rattle.td_gates.proofs.TableLaws.{Booleans, cases_bool}
@@ -16,9 +16,9 @@ use Rattle.td_edges.specs.declared.signals.Span.{Span}
 use Rattle.td_edges.specs.declared.signals.Signal.{Signal}
 use Rattle.td_edges.specs.Spans.{until, until_of, earliest_of}
 use Rattle.td_edges.specs.Parting.{parity_span, parity_until, parted, no_parts}
-use Rattle.td_edges.specs.EdgeSignals.{around, hull, turned, target_span, controlling, controls, settled, limited, capped, raised, kept_by}
-use Rattle.td_edges.specs.Coverage.{Agrees, Finishes, ChangesWithin, Covers}
-use Rattle.td_edges.specs.WindowLaws.{StaysIn, Ends, turns_to_end, limited_at, limited-earliest}
+use Rattle.td_edges.specs.EdgeSignals.{around, hull, turned, target_span, controlling, controls, settled, capped, raised, kept_by}
+use Rattle.td_edges.specs.Coverage.{ChangesWithin, Covers}
+use Rattle.td_edges.specs.WindowLaws.{StaysIn, turns_to_end, limited_at, limited-earliest}
 use Rattle.td_edges.specs.ParityLaws.{levels_before, Covered, change_low, wave_ends, odds, xor-odds, parity_low}
 
 pub or_left : (a b : Bool) → a ≡ true → a || b ≡ true

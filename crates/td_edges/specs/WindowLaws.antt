@@ -1,7 +1,7 @@
 -- Internal: what the delay of a gate makes of the changes of its target. These proofs stand here for EdgeLaws.
-use Rattle.std.proofs.Common.{◌≡◌, ◌≢◌, ℕ, zero, suc, ◌+◌, ◌-◌, ◌<◌, ◌≤◌, min, max, Bool, true, false, refl, arith, subst, ◌∙◌, sym, Option, Some, None, ◌⊎◌, inl, inr}
-use Rattle.std.specs.Prelude.{nat_lt, ◌||◌, ◌==◌, if◌then◌else◌}
-use Rattle.std.proofs.lemmas.Bool.{cases_lt, cases_eq, lt-ltb, le-ltb, eq-eqb, ne_eqb}
+use Rattle.std.proofs.Common.{◌≡◌, ◌≢◌, ℕ, zero, suc, ◌+◌, ◌-◌, ◌<◌, ◌≤◌, Bool, true, false, refl, arith, subst, ◌∙◌, sym, Option, Some, None, ◌⊎◌, inl, inr}
+use Rattle.std.specs.Prelude.{◌||◌, ◌==◌}
+use Rattle.std.proofs.lemmas.Bool.{cases_lt, cases_eq, lt-ltb, ne_eqb}
 use Rattle.td_gates.specs.declared.primitives.Level.{Level}
 use Rattle.td_gates.specs.declared.primitives.Level.TheVariants.{Zero as Low, One as High, X}
 use Rattle.td_gates.specs.declared.timing.Delay.{Delay}
@@ -13,7 +13,7 @@ use Rattle.td_gates.proofs.Windows.{Held}
 use Rattle.td_gates.proofs.Delays.{IsDelayed, taken_last, delayed-early, delayed-late, delayed-boolean}
 use Rattle.td_edges.specs.declared.signals.Span.{Span}
 use Rattle.td_edges.specs.Spans.{until}
-use Rattle.td_edges.specs.EdgeSignals.{limited, filtered, after_earliest, timely, never_changes, put_off, delayed, output_changes, delayed_changes}
+use Rattle.td_edges.specs.EdgeSignals.{limited, filtered, after_earliest, timely, never_changes, put_off, delayed, delayed_changes}
 use Rattle.td_edges.specs.Coverage.{Agrees}
 
 -- place n is just before moment n, so that a change at moment t leads from place t to place t + 1

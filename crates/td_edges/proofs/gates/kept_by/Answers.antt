@@ -1,6 +1,5 @@
 use Rattle.std.specs.Prelude.{filter_map, slice_get}
-use Rattle.std.proofs.Common.{◌∙◌, ap, take_all}
-use Rattle.td_edges.specs.EdgeSignals.{controlling, settled, kept_by}
+use Rattle.td_edges.specs.EdgeSignals.{controlling, settled}
 use Rattle.td_edges.proofs.Picks.{kept-none, kept-step}
 use Rattle.td_edges.proofs.gates.kept_by.Goals as goal
 
