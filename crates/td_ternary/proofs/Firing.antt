@@ -1,12 +1,10 @@
 -- One level over time: what is scheduled takes place, and the target changes.
-use Rattle.std.proofs.Common.{◌≡◌, ◌≢◌, ℕ, suc, ◌+◌, ◌<◌, ◌≤◌, List, [], ◌∷◌, refl, arith, ap, ◌∙◌, sym, inl, inr, Option, Some, None}
-use Rattle.std.specs.Prelude.{nat_le, if◌then◌else◌}
+use Rattle.std.proofs.Common.{◌≡◌, ◌≢◌, ℕ, suc, ◌<◌, ◌≤◌, List, [], ◌∷◌, refl, arith, ap, ◌∙◌, sym, inl, inr, Option, Some, None}
 use Rattle.std.proofs.lemmas.Bool.{cases_lt, le-leb, lt-leb}
 use Rattle.td_gates.specs.declared.primitives.Level.{Level}
 use Rattle.td_gates.specs.declared.timing.Delay.{Delay}
 use Rattle.td_gates.specs.declared.timing.Change.{Change}
 use Rattle.td_gates.specs.Delays.{IsInRange}
-use Rattle.td_gates.specs.Table.{level_eq, delay_to}
 use Rattle.td_gates.specs.Wave.{Wave, level_after, at, IsRising}
 use Rattle.td_gates.proofs.Levels.{level_eq-same, level_eq-other, cases_level, level_after-early, IsRising-sooner}
 use Rattle.td_gates.proofs.Scheduling.{delivered, delivered-rising, event_of, aim_of, IsReady, IsReady-event_of}
@@ -14,7 +12,7 @@ use Rattle.td_run.specs.Waves.{event_for}
 use Rattle.td_run.proofs.Delayed.{aim-event_for, delivered-none, delivered-early}
 use Rattle.td_ternary.specs.declared.prospects.Prospect.{Prospect}
 use Rattle.td_ternary.specs.Turning.{may_be}
-use Rattle.td_ternary.specs.Prospects.{fired, fired_by, driven}
+use Rattle.td_ternary.specs.Prospects.{fired, driven}
 use Rattle.td_ternary.proofs.Turning.{turns, turns-rising}
 
 -- where nothing is due at a moment, the output changes later

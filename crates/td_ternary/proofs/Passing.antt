@@ -1,27 +1,26 @@
 -- Both levels over time, and the changes of the signal that stands for those that are possible.
-use Rattle.std.proofs.Common.{◌≡◌, ◌≢◌, ℕ, zero, suc, ◌+◌, ◌<◌, ◌≤◌, ◌⊎◌, min, Bool, true, false, List, [], ◌∷◌, ◌++◌, refl, arith, ap, ◌∙◌, sym, inl, inr, Option, Some, None, append-nil, append_assoc, length, drop, get_or, add-one, drop-cons}
+use Rattle.std.proofs.Common.{◌≡◌, ℕ, zero, suc, ◌+◌, ◌<◌, ◌≤◌, ◌⊎◌, min, true, false, List, [], ◌∷◌, ◌++◌, refl, arith, ap, ◌∙◌, sym, inl, inr, Option, Some, None, append-nil, append_assoc, length, drop, get_or, add-one, drop-cons}
 use Rattle.std.proofs.lemmas.List.{drop_all}
-use Rattle.std.specs.Prelude.{nat_le, if◌then◌else◌}
+use Rattle.std.specs.Prelude.{nat_le}
 use Rattle.std.proofs.lemmas.Bool.{cases_lt, le-leb, lt-leb}
 use Rattle.td_gates.specs.declared.primitives.Level.{Level}
 use Rattle.td_gates.specs.declared.primitives.Level.TheVariants.{Zero as Low, One as High}
 use Rattle.td_gates.specs.declared.timing.Delay.{Delay}
 use Rattle.td_gates.specs.declared.timing.Change.{Change}
 use Rattle.td_gates.specs.Delays.{IsInRange}
-use Rattle.td_gates.specs.Table.{level_eq}
 use Rattle.td_gates.specs.Wave.{Wave, level_after, at, before, IsRising, IsWave}
 use Rattle.td_gates.proofs.Levels.{level_eq-same, level_eq-other, cases_level, level_after-early, IsRising-sooner}
-use Rattle.td_gates.proofs.Scheduling.{delivered, aim_of, IsReady}
+use Rattle.td_gates.proofs.Scheduling.{delivered, IsReady}
 use Rattle.td_run.proofs.Delayed.{delayed_wave, delayed_wave-obeys}
 use Rattle.td_ternary.specs.declared.prospects.Prospect.{Prospect}
 use Rattle.td_ternary.specs.declared.prospects.Outlook.{Outlook}
 use Rattle.td_ternary.specs.Possibles.{has, is_possible, change_at}
 use Rattle.td_ternary.specs.PossibleLaws.{cases_bool}
 use Rattle.td_ternary.specs.Turning.{may_be, either, possible_after}
-use Rattle.td_ternary.specs.Prospects.{is_by, due_moment, earlier, next_moment, fired, fired_by, level_of, turned, turn_at, stepped, stepping, settled, settling, driven, at_rest, begun, passed}
+use Rattle.td_ternary.specs.Prospects.{is_by, due_moment, earlier, fired, fired_by, level_of, stepped, stepping, settled, settling, driven, begun, passed}
 use Rattle.td_ternary.proofs.Turning.{turns, turns-rising, turns-after}
 use Rattle.td_ternary.proofs.Computing.{level_of_test, possible-buffered, either-possible}
-use Rattle.td_ternary.proofs.Firing.{IsFollowed, Follows, fire, stays, stays-under, drive}
+use Rattle.td_ternary.proofs.Firing.{Follows, fire, stays, stays-under, drive}
 
 -- ---- what is due
 
@@ -387,20 +386,6 @@ driving wanted target = record { start = may_be wanted target.start; changes = t
 
 abbrev pub buffer : Level → Delay → Wave → Wave
 buffer wanted d target = delayed_wave d (driving wanted target)
-
-pub goes-begin : (falling rising_by : Delay) (fits_zero : IsInRange falling) (fits_one : IsInRange rising_by) (target : Wave) → IsWave target
-    → Goes falling rising_by fits_zero fits_one (buffer Low falling target) (buffer High rising_by target) (begun target.start).level target.changes [] (begun target.start)
-goes-begin falling rising_by fits_zero fits_one target is = record {
-  n = 0;
-  level = target.start;
-  rising = is;
-  way = record {
-    zero_is = record { shows = λ t late. refl; ready = tt; aim = refl; may = refl };
-    one_is = record { shows = λ t late. refl; ready = tt; aim = refl; may = refl };
-    level_is = refl;
-    goes_on = λ later shown. shown;
-  };
-}
 
 drives : (wanted : Level) (target : Wave) → IsWave target → (n : ℕ) → before (driving wanted target) n ≡ may_be wanted (before target n)
 drives wanted target is zero = refl
