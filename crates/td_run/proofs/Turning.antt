@@ -6,7 +6,7 @@ use Rattle.std.specs.List.Sorted.{IsNonDecreasingBy, IsStrictlyIncreasing}
 use Rattle.std.proofs.lemmas.Bool.{cases_lt, cases_eq, le-leb, lt-leb, eq-eqb, eqb-true}
 use Rattle.std.proofs.lemmas.List.{length-map, map-append}
 use Rattle.std.proofs.lemmas.List.Recursion.{is_sum_by}
-use Rattle.std.proofs.lemmas.List.Sorted.{sum_by-IsPermutation, Contains-permutation, IsPermutation-map}
+use Rattle.std.proofs.lemmas.List.Sorted.{sum_by-IsPermutation, Contains-permutation, IsPermutation-map, IsPermutation-sym}
 use Rattle.std.proofs.lemmas.List.Elements.{All-head, All-tail, All-push, All-from_recursion, All-contains_itself}
 use Rattle.td_gates.specs.declared.primitives.Level.{Level}
 use Rattle.td_gates.specs.declared.primitives.Level.TheVariants.{Zero, One, X}
@@ -21,7 +21,7 @@ use Rattle.td_gates.proofs.Levels.{level_eq-same, level_eq-other, cases_level}
 use Rattle.td_gates.proofs.TableLaws.{cases_bool}
 use Rattle.td_gates.proofs.CountLaws.{passing, count-passing, table-counts}
 use Rattle.td_run.specs.declared.samples.Turn.{Turn}
-use Rattle.td_run.specs.Turns.{turns_from, turns_of, moment_of, is_next, samples_from, AreSamples, changing}
+use Rattle.td_run.specs.Turns.{turns_from, turns_of, moment_of, is_next, samples_from, AreSamples, changing, IsSortedFrom}
 use Rattle.td_run.specs.Waves.{AreWithin, change_moments, constant, waves_of}
 use Rattle.td_run.proofs.Sampling.{IsIncreasingFrom, sampled, sampled-is_wave, sampled-shows, sampled-within, change_moments-within, waves_of-more, get_or-any}
 
@@ -50,11 +50,6 @@ total-permutation f these those moved =
     is_sum_by (total f) f refl (λ turn later. refl) those
     ∙ sum_by-IsPermutation f these those moved
     ∙ sym (is_sum_by (total f) f refl (λ turn later. refl) these)
-
--- each turn is at this moment or later, and no earlier than the one before it
-abbrev pub IsSortedFrom : ℕ → List Turn → Type 0
-IsSortedFrom n [] = Unit {0}
-IsSortedFrom n (turn ∷ later) = (n ≤ turn.moment) × IsSortedFrom turn.moment later
 
 IsSortedFrom-sooner : (n m : ℕ) (turns : List Turn) → n ≤ m → IsSortedFrom m turns → IsSortedFrom n turns
 IsSortedFrom-sooner n m [] less sorted = tt
@@ -461,23 +456,56 @@ length-starts waves inputs = length-map (waves_of waves inputs) (λ (wave : Wave
 abbrev pub change_origin : Change
 change_origin = record { moment = 0; level = Zero }
 
-pub changing-skip : (level : Level) (items samples whole : List Change) (i : ℕ) → i < length samples
-    → (get_or samples i change_origin).level ≡ level → items ++ changing level (drop i samples) ≡ whole
-    → items ++ changing level (drop (i + 1) samples) ≡ whole
-changing-skip level items samples whole i within is kept =
-    let next : drop (i + 1) samples ≡ drop (suc i) samples = rw add-one refl in
-    let split : drop i samples ≡ get_or samples i change_origin ∷ drop (i + 1) samples = drop-cons samples i change_origin within ∙ ap (λ ts. get_or samples i change_origin ∷ ts) (sym next) in
-    let opened : items ++ changing level (get_or samples i change_origin ∷ drop (i + 1) samples) ≡ whole = rw split at kept in
-    rw (is, level_eq-same level) at opened
+pub changing-split : (level : Level) (sample : Change) (samples : List Change) → changing level (sample ∷ []) ++ changing sample.level samples ≡ changing level (sample ∷ samples)
+changing-split level sample samples = elim (cases_level sample.level level) [
+  | inl is ↦ rw (is, level_eq-same level) refl
+  | inr differs ↦ rw (level_eq-other sample.level level differs) refl
+]
 
-pub changing-push : (level : Level) (items samples whole : List Change) (i : ℕ) → i < length samples
-    → (get_or samples i change_origin).level ≢ level → items ++ changing level (drop i samples) ≡ whole
-    → (items ++ get_or samples i change_origin ∷ []) ++ changing (get_or samples i change_origin).level (drop (i + 1) samples) ≡ whole
-changing-push level items samples whole i within differs kept =
-    let next : drop (i + 1) samples ≡ drop (suc i) samples = rw add-one refl in
-    let split : drop i samples ≡ get_or samples i change_origin ∷ drop (i + 1) samples = drop-cons samples i change_origin within ∙ ap (λ ts. get_or samples i change_origin ∷ ts) (sym next) in
-    let opened : items ++ changing level (get_or samples i change_origin ∷ drop (i + 1) samples) ≡ whole = rw split at kept in
-    append_assoc items _ _ ∙ rw (level_eq-other (get_or samples i change_origin).level level differs) at opened
+-- a turn that another one of its moment follows
+pub fused-again : (kind : Kind) (entered left : Counts) (level : Level) (items : List Change) (turns : List Turn) (whole : List Change) (i : ℕ) (z : Turn)
+    → i < length turns → is_next (get_or turns i z).moment (drop (i + 1) turns) ≡ true
+    → items ++ changing level (samples_from kind entered left (drop i turns)) ≡ whole
+    → items ++ changing level (samples_from kind (with_one entered (get_or turns i z).to) (with_one left (get_or turns i z).from) (drop (i + 1) turns)) ≡ whole
+fused-again kind entered left level items turns whole i z within again kept =
+    ap (λ samples. items ++ changing level samples) (samples-step kind entered left [] turns _ i z within again refl) ∙ kept
+
+-- the last turn of a moment
+pub fused-last : (kind : Kind) (entered left : Counts) (level : Level) (items : List Change) (turns : List Turn) (whole : List Change) (i : ℕ) (z : Turn)
+    → i < length turns → is_next (get_or turns i z).moment (drop (i + 1) turns) ≡ false
+    → items ++ changing level (samples_from kind entered left (drop i turns)) ≡ whole
+    → (items ++ changing level (record { moment = (get_or turns i z).moment; level = table_by kind (without (with_one entered (get_or turns i z).to) (with_one left (get_or turns i z).from)) } ∷ []))
+    ++ changing (table_by kind (without (with_one entered (get_or turns i z).to) (with_one left (get_or turns i z).from)))
+    (samples_from kind (with_one entered (get_or turns i z).to) (with_one left (get_or turns i z).from) (drop (i + 1) turns)) ≡ whole
+fused-last kind entered left level items turns whole i z within last kept =
+    append_assoc items _ _
+    ∙ ap (λ changes. items ++ changes) (changing-split level
+    (record { moment = (get_or turns i z).moment; level = table_by kind (without (with_one entered (get_or turns i z).to) (with_one left (get_or turns i z).from)) }) _)
+    ∙ ap (λ samples. items ++ changing level samples) (samples-push kind entered left [] turns _ i z within last refl)
+    ∙ kept
+
+-- the samples of turns that are in order
+pub turned-increasing : (kind : Kind) (start : Counts) (turns these : List Turn) → these ≡ turns → IsSortedFrom 0 turns
+    → IsStrictlyIncreasing (map moment_of (samples_from kind start none these))
+turned-increasing kind start turns these is sorted = rw is (samples-strict kind start none turns sorted)
+
+pub turned-keep : (kind : Kind) (start : Counts) (waves : List Wave) (turns these : List Turn) → these ≡ turns → IsPermutation (turns_of waves) turns
+    → (t : ℕ) → Contains (change_moments waves) t → Contains (map moment_of (samples_from kind start none these)) t
+turned-keep kind start waves turns these is moved t found =
+    rw is (samples-keep kind t turns start none (moments-moved t _ _ moved (rw (turn_moments-of waves) found)))
+
+pub turned-add_none : (kind : Kind) (start : Counts) (waves : List Wave) (turns these : List Turn) → these ≡ turns → IsPermutation (turns_of waves) turns
+    → (t : ℕ) → Contains (map moment_of (samples_from kind start none these)) t → Contains (change_moments waves) t
+turned-add_none kind start waves turns these is moved t found =
+    rw (← turn_moments-of waves)
+    (moments-moved t _ _ (IsPermutation-sym _ _ moved) (samples-add_none kind t turns start none (rw is at found)))
+
+pub turned-are : (kind : Kind) (waves : List Wave) (inputs : List ℕ) (start : Counts) (turns these : List Turn) → these ≡ turns
+    → start ≡ counts_of (map (λ (wave : Wave). wave.start) (waves_of waves inputs)) → TakesInputs kind (length inputs)
+    → All IsWave (waves_of waves inputs) → IsPermutation (turns_of (waves_of waves inputs)) turns → IsSortedFrom 0 turns
+    → AreSamples (target_at kind (waves_of waves inputs)) (samples_from kind start none these)
+turned-are kind waves inputs start turns these is start_is takes rising moved sorted = rw (is, start_is)
+    (samples-are kind (waves_of waves inputs) turns rising (rw (← length-waves_of waves inputs) at takes) moved sorted)
 
 -- what the samples that change the level make
 module _ (kind : Kind) (waves : List Wave) (inputs : List ℕ) (start : Level) (samples changes : List Change)

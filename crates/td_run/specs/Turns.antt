@@ -1,5 +1,5 @@
 -- Internal: the turns of waves, and what a gate's target is after the last turn of each moment.
-use Rattle.std.specs.Prelude.{◌≡◌, ℕ, ◌==◌, Bool, false, List, [], ◌∷◌, ◌++◌, if◌then◌else◌}
+use Rattle.std.specs.Prelude.{◌≡◌, ℕ, ◌≤◌, ◌==◌, Bool, false, List, [], ◌∷◌, ◌++◌, if◌then◌else◌}
 use Rattle.std.specs.List.{All}
 use Rattle.td_gates.specs.declared.primitives.Level.{Level}
 use Rattle.td_gates.specs.declared.primitives.Kind.{Kind}
@@ -46,3 +46,8 @@ AreSamples target samples = All (λ sample. sample.level ≡ target sample.momen
 abbrev pub changing : Level → List Change → List Change
 changing level [] = []
 changing level (sample ∷ samples) = if level_eq sample.level level then changing level samples else sample ∷ changing sample.level samples
+
+-- each turn is at this moment or later, and no earlier than the one before it
+abbrev pub IsSortedFrom : ℕ → List Turn → Type 0
+IsSortedFrom n [] = Unit {0}
+IsSortedFrom n (turn ∷ later) = (n ≤ turn.moment) × IsSortedFrom turn.moment later

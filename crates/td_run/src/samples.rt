@@ -1,6 +1,6 @@
 //! The levels of a gate's target at the moments at which an input changes.
 
-ghost use Rattle.std.specs.Prelude.{◌≡◌, ℕ, ◌+◌, ◌<◌, ◌≤◌, ◌^◌, ◌++◌, drop, length, map, IfOk, OnOk, IsPermutation};
+ghost use Rattle.std.specs.Prelude.{◌≡◌, ℕ, ◌+◌, ◌<◌, ◌≤◌, ◌^◌, ◌++◌, [], ◌∷◌, drop, length, map, IfOk, OnOk, IsPermutation};
 ghost use Rattle.std.specs.List.{All, Contains};
 ghost use Rattle.std.specs.List.Sorted.{IsStrictlyIncreasing, IsNonDecreasingBy};
 ghost use Rattle.td_gates.specs.declared.primitives.Level.{Level as LevelModel};
@@ -9,7 +9,7 @@ ghost use Rattle.td_gates.specs.Table.{TakesInputs};
 ghost use Rattle.td_gates.specs.Wave.{IsWave};
 ghost use Rattle.td_gates.specs.Schedule.{target_at};
 ghost use Rattle.td_run.specs.Waves.{waves_of, change_moments};
-ghost use Rattle.td_run.specs.Turns.{turns_from, turns_of, moment_of, is_next, samples_from, AreSamples};
+ghost use Rattle.td_run.specs.Turns.{turns_from, turns_of, is_next, samples_from, changing, IsSortedFrom};
 
 use crate::wave::Wave;
 use std::alloc::{AllocError, Global};
@@ -40,13 +40,24 @@ fn push_turns(turns: &mut Vec<Turn>, wave: &Wave) -> Result<(), AllocError>
     Ok(())
 }
 
+/// How many changes the inputs have.
+fn count_changes(waves: &[Wave], inputs: &[u32]) -> usize
+    requires { All (λ input. input < length waves.now) inputs.now }
+{
+    let mut count: usize = 0;
+    for input in inputs {
+        count = count.saturating_add(waves[*input as usize].changes().len());
+    }
+    count
+}
+
 /// The turns of the inputs, one input after another.
 fn turns(alloc: Global, waves: &[Wave], inputs: &[u32]) -> Result<Vec<Turn>, AllocError>
     requires { All (λ input. input < length waves.now) inputs.now }
     ensures turns { IfOk result (λ turns. turns.items ≡ turns_of (waves_of waves.now inputs.now)) }
     ensures rising { OnOk result (All IsWave (waves_of waves.now inputs.now)) }
 {
-    let mut turns = Vec::new(alloc);
+    let mut turns = Vec::with_capacity(alloc, count_changes(waves, inputs))?;
     for input in inputs {
         push_turns(&mut turns, &waves[*input as usize])?;
     }
@@ -77,53 +88,59 @@ fn is_at(turns: &[Turn], place: usize, moment: u64) -> bool
     }
 }
 
-/// The level of the target after the last turn of each moment.
-fn levels_of(
+/// Adds a change, where it is to another level than this one. Answers the level behind it.
+fn add_change(changes: &mut Vec<Change>, level: Level, change: Change) -> Result<Level, AllocError>
+    ensures level { IfOk result (λ next. next ≡ change.level) }
+    ensures changes { OnOk result (changes.new.items ≡ changes.old.items ++ changing level (change ∷ [])) }
+{
+    if change.level != level {
+        changes.push(change)?;
+    }
+    Ok(change.level)
+}
+
+/// The changes of the target from this level on: its level after the last turn of each moment, where it is another one.
+pub fn changes_of(
     alloc: Global,
     kind: Kind,
     start: Counts,
+    first: Level,
     turns: &[Turn],
 ) -> Result<Vec<Change>, AllocError>
     requires few { (level : LevelModel) → count_at start level ≤ 1024 }
     requires short { length turns.now < 2 ^ 63 }
-    ensures { IfOk result (λ samples. samples.items ≡ samples_from kind start Counts.NONE turns.now) }
+    ensures { IfOk result (λ changes. changes.items ≡ changing first (samples_from kind start Counts.NONE turns.now)) }
 {
     let mut entered = start;
     let mut left = Counts::NONE;
-    let mut samples = Vec::new(alloc);
+    let mut level = first;
+    let mut changes = Vec::with_capacity(alloc, turns.len())?;
     for (i, turn) in turns.iter().enumerate() {
         entered.add(turn.to);
         left.add(turn.from);
         if !is_at(turns, i + 1, turn.moment) {
-            samples.push(Change {
+            let change = Change {
                 moment: turn.moment,
                 level: eval_counts(kind, entered.without(left)),
-            })?;
+            };
+            level = add_change(&mut changes, level, change)?;
         }
     }
-    Ok(samples)
+    Ok(changes)
 }
 
-/// The levels of a gate's target at the moments at which an input changes, each moment once, in order.
-pub fn samples(
+/// The turns of the inputs, in the order of their moments.
+pub fn turns_in_order(
     alloc: Global,
-    kind: Kind,
     waves: &[Wave],
     inputs: &[u32],
-) -> Result<Vec<Change>, AllocError>
+) -> Result<Vec<Turn>, AllocError>
     requires numbers { All (λ input. input < length waves.now) inputs.now }
-    requires few { length inputs.now ≤ 1024 }
-    requires takes { TakesInputs kind (length inputs.now) }
-    ensures increasing { IfOk result (λ samples. IsStrictlyIncreasing (map moment_of samples.items)) }
-    ensures keeps { IfOk result (λ samples. (t : ℕ) → Contains (change_moments (waves_of waves.now inputs.now)) t
-        → Contains (map moment_of samples.items) t) }
-    ensures adds_none { IfOk result (λ samples. (t : ℕ) → Contains (map moment_of samples.items) t
-        → Contains (change_moments (waves_of waves.now inputs.now)) t) }
-    ensures levels { IfOk result (λ samples. AreSamples (target_at kind (waves_of waves.now inputs.now)) samples.items) }
+    ensures sorted { IfOk result (λ turns. IsSortedFrom 0 turns.items) }
+    ensures moved { IfOk result (λ turns. IsPermutation (turns_of (waves_of waves.now inputs.now)) turns.items) }
+    ensures rising { OnOk result (All IsWave (waves_of waves.now inputs.now)) }
 {
-    let start = starts(waves, inputs);
     let mut turns = turns(alloc, waves, inputs)?;
     turns.sort_unstable_by_key(|turn| turn.moment);
-    let samples = levels_of(alloc, kind, start, &turns)?;
-    Ok(samples)
+    Ok(turns)
 }

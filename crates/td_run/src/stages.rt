@@ -7,27 +7,11 @@ ghost use Rattle.td_gates.specs.Table.{TakesInputs};
 ghost use Rattle.td_gates.specs.Wave.{at, before, IsWave};
 ghost use Rattle.td_gates.specs.Schedule.{Obeys, target_before};
 ghost use Rattle.td_run.specs.Waves.{AreWithin, event_for, due, waves_of};
-ghost use Rattle.td_run.specs.Turns.{changing};
 
-use crate::samples::{samples, starts};
+use crate::samples::{changes_of, starts, turns_in_order};
 use crate::wave::Wave;
 use std::alloc::{AllocError, Global};
 use td_gates::{Change, Delay, Kind, Level, eval_counts};
-
-/// The samples that differ from the level before them, from this level on.
-fn changing(alloc: Global, start: Level, samples: &[Change]) -> Result<Vec<Change>, AllocError>
-    ensures { IfOk result (λ changes. changes.items ≡ changing start samples.now) }
-{
-    let mut level = start;
-    let mut changes = Vec::new(alloc);
-    for sample in samples {
-        if sample.level != level {
-            changes.push(*sample)?;
-            level = sample.level;
-        }
-    }
-    Ok(changes)
-}
 
 /// The wave of a gate's target: the table on its inputs' levels, from one change of an input to the next.
 pub fn target(alloc: Global, kind: Kind, waves: &[Wave], inputs: &[u32]) -> Result<Wave, AllocError>
@@ -39,9 +23,10 @@ pub fn target(alloc: Global, kind: Kind, waves: &[Wave], inputs: &[u32]) -> Resu
     ensures within { (bound : ℕ) → All (λ wave. AreWithin bound wave.changes) (waves_of waves.now inputs.now)
         → IfOk result (λ wave. AreWithin bound wave.changes) }
 {
-    let start = eval_counts(kind, starts(waves, inputs));
-    let samples = samples(alloc, kind, waves, inputs)?;
-    let changes = changing(alloc, start, &samples)?;
+    let counts = starts(waves, inputs);
+    let start = eval_counts(kind, counts);
+    let turns = turns_in_order(alloc, waves, inputs)?;
+    let changes = changes_of(alloc, kind, counts, start, &turns)?;
     Ok(Wave::from_changes(start, changes))
 }
 

@@ -1,8 +1,7 @@
 -- How possible levels are computed: a level is possible where a buffer that is driven by "the target may be it" is at 1.
-use Rattle.std.proofs.Common.{◌≡◌, ◌≢◌, ℕ, zero, suc, ◌+◌, ◌-◌, ◌<◌, ◌≤◌, max, Bool, true, false, List, [], ◌∷◌, ◌++◌, length, refl, arith, ap, ◌∙◌, sym, inl, inr, append-nil, get_or}
+use Rattle.std.proofs.Common.{◌≡◌, ◌≢◌, ℕ, zero, suc, ◌+◌, ◌-◌, ◌<◌, ◌≤◌, max, Bool, true, false, List, [], ◌∷◌, ◌++◌, length, refl, arith, ap, ◌∙◌, sym, inl, inr, append-nil}
 use Rattle.std.specs.Prelude.{not, ◌&&◌, ◌||◌, filter_map, slice_get}
-use Rattle.std.specs.List.{All, AllByRecursion, Contains}
-use Rattle.std.specs.List.Sorted.{IsStrictlyIncreasing}
+use Rattle.std.specs.List.{All, AllByRecursion}
 use Rattle.std.proofs.Math.Path.{fun_ext}
 use Rattle.std.proofs.lemmas.List.Elements.{recursion_from_All, All-nil, All-cons, All-weaker}
 use Rattle.std.proofs.lemmas.Option.{slice_get-get_or}
@@ -14,12 +13,11 @@ use Rattle.td_gates.specs.declared.timing.Delay.{Delay}
 use Rattle.td_gates.specs.declared.timing.Change.{Change}
 use Rattle.td_gates.specs.Delays.{IsInRange}
 use Rattle.td_gates.specs.Table.{delay_to, level_eq}
-use Rattle.td_gates.specs.Wave.{Wave, before, at, IsRising, IsWave}
+use Rattle.td_gates.specs.Wave.{Wave, before, IsRising, IsWave}
 use Rattle.td_gates.specs.Schedule.{Obeys}
 use Rattle.td_gates.proofs.Levels.{level_eq-same, level_eq-other, cases_level}
 use Rattle.td_gates.proofs.Obedience.{waves-equal}
-use Rattle.td_run.specs.Waves.{AreWithin, constant, waves_of, change_moments}
-use Rattle.td_run.proofs.Sampling.{sampled, sampled-rising, sampled-levels, levels-stay, IsIncreasingFrom-zero}
+use Rattle.td_run.specs.Waves.{AreWithin, constant, waves_of}
 use Rattle.td_domain.proofs.Lists.{filter_map-all, weaker}
 use Rattle.td_gates.proofs.Windows.{Held}
 use Rattle.td_gates.proofs.Delays.{IsDelayed, delayed, taken_last}
@@ -175,29 +173,6 @@ computed kind delay fits signals shown rising shows =
     same : (n : ℕ) → before shown n ≡ before whole n
     same zero = shows 0
     same (suc t) = shows (suc t) ∙ sym (listed kind delay fits signals t)
-
--- two waves read at all moments at which one of them changes
-module _ (zeros ones : Wave) (moments : List ℕ) (strict : IsStrictlyIncreasing moments)
-    (keeps : (t : ℕ) → Contains (change_moments (zeros ∷ ones ∷ [])) t → Contains moments t) where
-  pub merged-rising : IsRising 0 (either zeros.start ones.start)
-      (sampled (λ u. either (at zeros u) (at ones u)) (either zeros.start ones.start) moments)
-  merged-rising = sampled-rising (λ u. either (at zeros u) (at ones u)) 0 (either zeros.start ones.start) moments (IsIncreasingFrom-zero moments strict)
-
-  abbrev pair : List Level → Level
-  pair levels = either (get_or levels 0 X) (get_or levels 1 X)
-
-  quiet : (u : ℕ) → (Contains moments u → ⊥) → either (at zeros u) (at ones u) ≡ either (before zeros u) (before ones u)
-  quiet u absent = ap pair (levels-stay (zeros ∷ ones ∷ []) u (λ found. absent (keeps u found)))
-
-  pub merged-shows : (t : ℕ)
-      → before (record {
-        start = either zeros.start ones.start;
-        changes = sampled (λ u. either (at zeros u) (at ones u)) (either zeros.start ones.start) moments;
-      }) t
-      ≡ either (before zeros t) (before ones t)
-  merged-shows zero = refl
-  merged-shows (suc t) = sampled-levels (λ u. either (before zeros u) (before ones u)) 0 (either zeros.start ones.start) moments
-      (IsIncreasingFrom-zero moments strict) refl (λ u from absent. quiet u absent) t (omega arith)
 
 -- the signals at places that are there
 pub picked-inputs : (waves : List Wave) (places : List ℕ) → All (λ place. place < length waves) places

@@ -1,5 +1,5 @@
 -- Over time, whether a wave's level may be another.
-use Rattle.std.proofs.Common.{◌≡◌, ℕ, suc, ◌≤◌, List, [], ◌∷◌, refl, arith, ◌∙◌, sym, inl, inr}
+use Rattle.std.proofs.Common.{◌≡◌, ℕ, suc, List, [], ◌∷◌, refl, arith, ◌∙◌, sym, inl, inr}
 use Rattle.std.specs.Prelude.{if◌then◌else◌}
 use Rattle.std.proofs.lemmas.Bool.{cases_lt, le-leb, lt-leb}
 use Rattle.td_gates.specs.declared.primitives.Level.{Level}
@@ -7,8 +7,6 @@ use Rattle.td_gates.specs.declared.timing.Change.{Change}
 use Rattle.td_gates.specs.Table.{level_eq}
 use Rattle.td_gates.specs.Wave.{level_after, IsRising}
 use Rattle.td_gates.proofs.Levels.{level_eq-same, level_eq-other, cases_level, level_after-early, IsRising-sooner}
-use Rattle.std.proofs.lemmas.List.Elements.{All-nil, All-cons, All-head, All-tail}
-use Rattle.td_run.specs.Waves.{AreWithin}
 use Rattle.td_ternary.specs.Turning.{may_be}
 
 -- the changes of whether it may
@@ -47,16 +45,4 @@ turns-after wanted level may n t (change ∷ later) same rising =
         | inr on ↦ rw (le-leb change.moment t on)
             (turns-after wanted change.level (may_be wanted change.level) (suc change.moment) t later refl rising.2)
       ])
-    ]
-
-pub turns-within : (bound : ℕ) (wanted may : Level) (changes : List Change) → AreWithin bound changes → AreWithin bound (turns wanted may changes)
-turns-within bound wanted may [] all = All-nil (λ (change : Change). change.moment ≤ bound)
-turns-within bound wanted may (change ∷ later) all =
-    let here = All-head (λ (change : Change). change.moment ≤ bound) change later all in
-    let rest = All-tail (λ (change : Change). change.moment ≤ bound) change later all in
-    elim (cases_level (may_be wanted change.level) may) [
-      | inl stays ↦ rw (stays, level_eq-same may) (turns-within bound wanted may later rest)
-      | inr turns_to ↦ rw (level_eq-other (may_be wanted change.level) may turns_to)
-          (All-cons (λ (change : Change). change.moment ≤ bound) (record { moment = change.moment; level = may_be wanted change.level }) _ here
-          (turns-within bound wanted (may_be wanted change.level) later rest))
     ]

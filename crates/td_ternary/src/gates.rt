@@ -6,14 +6,15 @@ ghost use Rattle.std.specs.List.Sorted.{IsStrictlyIncreasing};
 ghost use Rattle.td_gates.specs.Delays.{IsInRange};
 ghost use Rattle.td_gates.specs.Table.{TakesInputs};
 ghost use Rattle.td_gates.specs.Wave.{before, IsWave};
-ghost use Rattle.td_run.specs.Waves.{AreWithin, change_moments};
+ghost use Rattle.td_run.specs.Waves.{AreWithin};
 ghost use Rattle.td_ternary.specs.Possibles.{gate_signal, last_change, last_level, change_at, capped};
-ghost use Rattle.td_ternary.specs.Turning.{may_be, either, possible_after};
+ghost use Rattle.td_ternary.specs.Turning.{possible_after};
 
+use crate::prospects::{begun, pass, settle};
 use std::alloc::{AllocError, Global};
 use td_gates::{Change, Delay, Kind, Level};
 use td_run::Wave;
-use td_run::stages::{delayed, target};
+use td_run::stages::target;
 
 const MAX_CHANGES: usize = 512;
 
@@ -45,9 +46,15 @@ fn possible_after(alloc: Global, delay: Delay, target: &Wave) -> Result<Wave, Al
     ensures wave { IfOk result (λ wave. IsWave wave) }
 {
     let reversed = reversed(delay);
-    let zeros = delayed(alloc, reversed, &possibility(alloc, target, Level::Zero)?)?;
-    let ones = delayed(alloc, delay, &possibility(alloc, target, Level::One)?)?;
-    merged(alloc, &zeros, &ones)
+    let start = begun(target.start());
+    let mut now = start;
+    let mut changes = Vec::new(alloc);
+    for change in target.changes() {
+        let next = pass(&mut changes, now, reversed, delay, *change)?;
+        now = next;
+    }
+    let _end = settle(&mut changes, now, None)?;
+    Ok(Wave::from_changes(start.level, changes))
 }
 
 /// The delay with rise and fall exchanged.
@@ -59,96 +66,6 @@ fn reversed(delay: Delay) -> Delay
         rise: delay.fall,
         fall: delay.rise,
     }
-}
-
-/// Over time, whether the target may be the level: 1 where it may, else 0.
-fn possibility(alloc: Global, target: &Wave, level: Level) -> Result<Wave, AllocError>
-    ensures shows { IfOk result (λ wave. (n : ℕ) → before wave n ≡ may_be level (before target.now n)) }
-    ensures within { (bound : ℕ) → AreWithin bound target.now.changes → IfOk result (λ wave. AreWithin bound wave.changes) }
-{
-    let start = may_be(target.start(), level);
-    let mut may = start;
-    let mut changes = Vec::new(alloc);
-    for change in target.changes() {
-        let next = may_be(change.level, level);
-        if next != may {
-            changes.push(Change {
-                moment: change.moment,
-                level: next,
-            })?;
-            may = next;
-        }
-    }
-    Ok(Wave::from_changes(start, changes))
-}
-
-/// 1 where a signal's level stands for this one too, else 0.
-fn may_be(signal: Level, level: Level) -> Level
-    ensures { result ≡ may_be level signal }
-{
-    match (signal, level) {
-        (Level::Zero, Level::Zero) => Level::One,
-        (Level::One, Level::One) => Level::One,
-        (Level::X, Level::Zero) => Level::One,
-        (Level::X, Level::One) => Level::One,
-        (_, _) => Level::Zero,
-    }
-}
-
-/// The level that stands for those whose wave is at 1.
-fn either(zero: Level, one: Level) -> Level
-    ensures { result ≡ either zero one }
-{
-    match (zero, one) {
-        (Level::One, Level::One) => Level::X,
-        (Level::One, _) => Level::Zero,
-        (_, _) => Level::One,
-    }
-}
-
-/// Adds the moments of these changes.
-fn push_moments(moments: &mut Vec<u64>, changes: &[Change]) -> Result<(), AllocError>
-    ensures { OnOk result (moments.new.items ≡ moments.old.items ++ map (λ change. change.moment) changes.now) }
-{
-    for change in changes {
-        moments.push(change.moment)?;
-    }
-    Ok(())
-}
-
-/// The moments at which one of two waves changes, each once, in order.
-fn change_moments(alloc: Global, zeros: &Wave, ones: &Wave) -> Result<Vec<u64>, AllocError>
-    ensures increasing { IfOk result (λ moments. IsStrictlyIncreasing moments.items) }
-    ensures keeps { IfOk result (λ moments. (t : ℕ) → Contains (change_moments (zeros.now ∷ ones.now ∷ [])) t → Contains moments.items t) }
-{
-    let mut moments = Vec::new(alloc);
-    push_moments(&mut moments, zeros.changes())?;
-    push_moments(&mut moments, ones.changes())?;
-    moments.sort_unstable();
-    moments.dedup();
-    Ok(moments)
-}
-
-/// The signal of two waves that are at 1 where 0 and where 1 is possible.
-fn merged(alloc: Global, zeros: &Wave, ones: &Wave) -> Result<Wave, AllocError>
-    ensures shows { IfOk result (λ wave. (n : ℕ) → before wave n ≡ either (before zeros.now n) (before ones.now n)) }
-    ensures wave { IfOk result (λ wave. IsWave wave) }
-{
-    let start = either(zeros.start(), ones.start());
-    let mut level = start;
-    let mut changes = Vec::new(alloc);
-    let moments = change_moments(alloc, zeros, ones)?;
-    for moment in &moments {
-        let next = either(zeros.at(*moment), ones.at(*moment));
-        if next != level {
-            changes.push(Change {
-                moment: *moment,
-                level: next,
-            })?;
-            level = next;
-        }
-    }
-    Ok(Wave::from_changes(start, changes))
 }
 
 /// The level after these changes.

@@ -1,33 +1,32 @@
-use Rattle.std.proofs.Common.{◌≡◌, ◌∙◌, ℕ}
+use Rattle.std.proofs.Common.{◌≡◌, ◌∙◌, ap}
+use Rattle.td_gates.specs.declared.timing.Change.{Change}
+use Rattle.td_gates.specs.declared.primitives.Level.{Level}
 use Rattle.td_gates.specs.declared.primitives.Level.TheVariants.{Zero, One}
-use Rattle.std.proofs.lemmas.Result.{IfOk-weaker}
-use Rattle.td_gates.specs.Delays.{Delays, IsInRange}
-use Rattle.td_gates.specs.Wave.{Wave, before}
-use Rattle.td_ternary.specs.Turning.{either, possible_after}
-use Rattle.td_ternary.proofs.Computing.{possible-buffered, either-possible}
+use Rattle.td_ternary.specs.declared.prospects.Outlook.{Outlook}
+use Rattle.td_ternary.specs.Prospects.{begun}
+use Rattle.td_ternary.proofs.Passing.{IsShown, both, buffer, kept-possible, kept-end, kept-on, kept-rising}
 use Rattle.td_ternary.proofs.gates.possible_after.Goals as goal
 
--- the delay with rise and fall exchanged
-abbrev exchanged : Delays → Delays
-exchanged delay = record { rise = delay.fall; fall = delay.rise }
+abbrev origin : Change
+origin = record { moment = 0; level = Zero }
 
-exchanged-in_range : (delay : Delays) → IsInRange delay → IsInRange (exchanged delay)
-exchanged-in_range delay fits = record {
-  least_rise = fits.least_fall;
-  greatest_rise = fits.greatest_fall;
-  least_fall = fits.least_rise;
-  greatest_fall = fits.greatest_rise;
-}
+pub loop-change-preserved : goal.loop-change-preserved
+loop-change-preserved c = kept-on c.args.delay c.reversed-reversed.result c.args.target.now c.changes-change-items.result.now c.loop-change.changes.items _
+    c.loop-change.now _ c.loop-change.change-index origin c.loop-change-test.true c.loop-change.invariant c.in_ok-next.ensures.changes c.in_ok-next.ensures.outlook
+
+shown : (c : goal.In_ok-_end)
+    → IsShown 0 (begun c.args.target.now.start).level c.settle.new.changes.items
+    (both (buffer Zero c.reversed-reversed.result c.args.target.now) (buffer One c.args.delay c.args.target.now))
+shown c = kept-end c.args.delay c.reversed-reversed.result c.args.target.now c.changes-change-items.result.now c.loop-change.changes.items _
+    c.loop-change.now c.loop-change.change-index c.loop-change-test.false c.reversed-reversed.ensures.in_range c.reversed-reversed.ensures.exchanged
+    c.loop-change.invariant c.in_ok-_end.ensures.changes
+
+start : (c : goal.In_ok-_end) → c.begun-start.result.level ≡ (begun c.args.target.now.start).level
+start c = ap (λ (outlook : Outlook). outlook.level) c.begun-start.ensures ∙ ap (λ (level : Level). (begun level).level) c.start.ensures
+
+pub from_changes-requires : goal.from_changes-requires
+from_changes-requires c = kept-rising c.args.delay c.reversed-reversed.result c.args.target.now c.begun-start.result.level _ (start c) (shown c)
 
 pub returns-clause-shows : goal.returns-clause-shows
-returns-clause-shows c =
-    let zeros : Wave = c.in_ok-zeros.zeros in
-    let ones : Wave = c.in_ok-ones.ones in
-    IfOk-weaker c.merged.result (λ (wave : Wave). (n : ℕ) → before wave n ≡ either (before zeros n) (before ones n))
-    (λ (wave : Wave). (n : ℕ) → before wave n ≡ possible_after c.args.delay (before c.args.target.now) n)
-    (λ (wave : Wave) (h : (n : ℕ) → before wave n ≡ either (before zeros n) (before ones n)) n.
-    h n ∙ either-possible c.args.delay (before c.args.target.now) (before zeros) (before ones)
-    (possible-buffered Zero (exchanged c.args.delay) (exchanged-in_range c.args.delay c.reversed-reversed.ensures.in_range) c.args.target.now
-    c.in_ok-possibility.field-0 zeros c.in_ok-possibility.ensures.shows (rw c.reversed-reversed.ensures.exchanged at c.in_ok-zeros.ensures.obeys))
-    (possible-buffered One c.args.delay c.reversed-reversed.ensures.in_range c.args.target.now c.in_ok-possibility-2.field-0 ones c.in_ok-possibility-2.ensures.shows c.in_ok-ones.ensures.obeys) n)
-    c.merged.ensures.shows
+returns-clause-shows c = kept-possible c.args.delay c.reversed-reversed.result c.args.target.now _ _ _ c.reversed-reversed.ensures.in_range
+    c.changes-change-items.ensures.rising c.reversed-reversed.ensures.exchanged (start c.before) (shown c.before) c.from_changes.ensures
