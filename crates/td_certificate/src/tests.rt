@@ -1,571 +1,466 @@
+ghost use Rattle.std.specs.Prelude.{◌<◌};
+
 use super::*;
+use std::alloc::Global;
 use std::test::*;
 use td_domain::{Admit, Cube, Pair, Trit};
 use td_gates::MemorySink;
 
-/// An inverter's certificate.
-const SMALL: &[u8; 51] = b"tdelay-cert 1\ncircuit 1 1\ntime 3\nfrom 0\nto 1\nb a 3\n";
+/// Certificates, one on each line, with a slash for each end of a line of theirs.
+const CERTIFICATES: &str = "tdelay-cert 1/circuit 1 1/time 3/from 0/to 1/b a 3/
+tdelay-cert 1/circuit 1 2/time 0/from 0/to 1/s 0/s 1/b a 0/b a 0/s 1/b a 0/b a 0/
+tdelay-cert 1/circuit 0 9/time 5/from none/to none/s 7/b t 4/s 10/b m 5/p 20/
+tdelay-cert 3/circuit 1 2/first ./second ./hold ./flips 1/at 7/time 9/from 0/to 1/b a 9/
+tdelay-cert 2/circuit 2 3/first ../second ../hold ../flips 1/time 5/from 01/to 11/s 0/s 1/b a 3/s 2/s 3/b a 0/none/b a 5/b a 5/
+tdelay-cert 2/circuit 3 1/first 0.1/second 1../hold .=./flips 3/time 0/from 000/to 100/none/
+tdelay-cert 3/circuit 3 1/first 0.1/second 1../hold .=./flips 0/at 0 1000000000 0/time 0/from 000/to 100/p 0/
+";
 
-/// The certificate of a circuit that loses a pulse.
-const SPLIT: &[u8; 81] =
-    b"tdelay-cert 1\ncircuit 1 2\ntime 0\nfrom 0\nto 1\ns 0\ns 1\nb a 0\nb a 0\ns 1\nb a 0\nb a 0\n";
-
-/// No inputs, and each kind of leaf.
-const LEAVES: &[u8; 77] =
-    b"tdelay-cert 1\ncircuit 0 9\ntime 5\nfrom none\nto none\ns 7\nb t 4\ns 10\nb m 5\np 20\n";
-
-/// An inverter whose input changes at moment 7.
-const LATER: &[u8; 88] =
-    b"tdelay-cert 3\ncircuit 1 2\nfirst .\nsecond .\nhold .\nflips 1\nat 7\ntime 9\nfrom 0\nto 1\nb a 9\n";
-
-/// Two inputs of which one may differ, and each kind of leaf.
-const ONE_FLIP: &[u8; 127] =
-    b"tdelay-cert 2\ncircuit 2 3\nfirst ..\nsecond ..\nhold ..\nflips 1\ntime 5\nfrom 01\nto 11\ns 0\ns 1\nb a 3\ns 2\ns 3\nb a 0\nnone\nb a 5\nb a 5\n";
-
-/// Pinned bits, and an input that is held.
-const PINNED: &[u8; 92] =
-    b"tdelay-cert 2\ncircuit 3 1\nfirst 0.1\nsecond 1..\nhold .=.\nflips 3\ntime 0\nfrom 000\nto 100\nnone\n";
-
-/// Pinned bits and moments, of which the last is 0.
-const PINNED_LATER: &[u8; 109] =
-    b"tdelay-cert 3\ncircuit 3 1\nfirst 0.1\nsecond 1..\nhold .=.\nflips 0\nat 0 1000000000 0\ntime 0\nfrom 000\nto 100\np 0\n";
-
-fn fault_of(rt: &HostRuntime, text: &[u8]) -> Option<(CertFaultKind, u32)> {
-    match read(rt.alloc(), text) {
-        Ok(_) => None,
-        Err(fault) => Some((fault.kind, fault.line)),
+/// The text of the certificate in a row.
+fn text_of(alloc: Global, row: &str) -> Result<String, Fail> {
+    let mut text = String::new(alloc);
+    for (place, line) in row.split('/').enumerate() {
+        if place > 0 {
+            text.push('\n')?;
+        }
+        text.push_str(line)?;
     }
+    Ok(text)
+}
+
+/// The text of the certificate at this place of the list.
+fn listed(alloc: Global, place: usize) -> Result<String, Fail> {
+    text_of(alloc, CERTIFICATES.lines().nth(place).unwrap_or(""))
+}
+
+/// What stops the reading of a text: the fault's name and its line.
+fn stop_of(alloc: Global, text: &[u8]) -> Result<String, Fail> {
+    let mut told = String::new(alloc);
+    match read(alloc, text) {
+        Ok(_) => told.push_str("read")?,
+        Err(fault) => {
+            let name = fault.kind.name();
+            let line = fault.line;
+            told.push_str(&format!(in alloc; "{name} {line}")?)?;
+        }
+    }
+    Ok(told)
+}
+
+/// The rows again, each with what stops the reading of its text before the text.
+fn stops(alloc: Global, rows: &str) -> Result<String, Fail> {
+    let mut told = String::new(alloc);
+    for row in rows.lines() {
+        let text = match row.split_once('|') {
+            Some((_, text)) => text,
+            None => "",
+        };
+        let stop = stop_of(alloc, text_of(alloc, text)?.as_bytes())?;
+        told.push_str(&format!(in alloc; "{stop}|{text}\n")?)?;
+    }
+    Ok(told)
+}
+
+/// Whether a certificate that is read from a text is written as that text.
+fn is_written_again(alloc: Global, text: &[u8], step: usize) -> Result<bool, Fail>
+    requires { 0 < step }
+{
+    let certificate = read(alloc, text)?;
+    let mut sink = MemorySink::new(alloc, text.len(), step)?;
+    write(alloc, &mut sink, &certificate)?;
+    Ok(sink.bytes() == text)
 }
 
 #[test]
 fn a_certificate_is_read_and_written_again(rt: HostRuntime) -> Result<(), Fail> {
-    let texts = [
-        SMALL.as_slice(),
-        SPLIT.as_slice(),
-        LEAVES.as_slice(),
-        LATER.as_slice(),
-        ONE_FLIP.as_slice(),
-        PINNED.as_slice(),
-        PINNED_LATER.as_slice(),
-    ];
-    for text in texts {
-        let certificate = read(rt.alloc(), text)?;
-        let mut sink = MemorySink::new(rt.alloc(), 1000, 7)?;
-        write(rt.alloc(), &mut sink, &certificate)?;
-        assert_eq!(rt; sink.bytes(), text);
+    for row in CERTIFICATES.lines() {
+        let text = text_of(rt.alloc(), row)?;
+        assert!(rt; is_written_again(rt.alloc(), text.as_bytes(), 7)?, "{row}");
     }
     Ok(())
+}
+
+/// A tree's nodes, each with the number of its sides.
+fn nodes_of(alloc: Global, tree: Tree) -> Result<String, Fail> {
+    let mut told = String::new(alloc);
+    for node in tree.into_nodes() {
+        let sides = node.sides();
+        told.push_str(&format!(in alloc; "{node:?} {sides}, ")?)?;
+    }
+    Ok(told)
+}
+
+/// The numbers of inputs and gates, the time, the pair and the tree of a certificate.
+fn what_is_claimed(alloc: Global, text: &str) -> Result<String, Fail> {
+    let certificate = read(alloc, text.as_bytes())?;
+    let inputs = certificate.question.inputs();
+    let gates = certificate.gates;
+    let time = certificate.time;
+    let first = certificate.pair.first();
+    let second = certificate.pair.second();
+    let front = format!(in alloc; "{inputs} {gates} {time} {first:?} {second:?} ")?;
+    let nodes = nodes_of(alloc, certificate.tree)?;
+    Ok(format!(in alloc; "{front}{nodes}")?)
 }
 
 #[test]
 fn what_was_read(rt: HostRuntime) -> Result<(), Fail> {
-    let certificate = read(rt.alloc(), SPLIT)?;
-    assert_eq!(rt; certificate.question.inputs(), 1);
-    assert_eq!(rt; certificate.gates, 2);
-    assert_eq!(rt; certificate.time, 0);
-    assert_eq!(rt; certificate.pair.first(), [false].as_slice());
-    assert_eq!(rt; certificate.pair.second(), [true].as_slice());
-    let nodes = certificate.tree.into_nodes();
-    assert_eq!(rt; nodes.len(), 7);
-    assert_eq!(rt; nodes[1], Node::Split(1));
-    assert_eq!(rt; nodes[1].sides(), 2);
-    assert_eq!(rt; nodes[6], Node::Bound(BoundedBy::Arrival, 0));
-    assert_eq!(rt; nodes[6].sides(), 0);
-
-    let certificate = read(rt.alloc(), LEAVES)?;
-    assert_eq!(rt; certificate.question.inputs(), 0);
-    assert!(rt; certificate.pair.first().is_empty());
-    let leaves = [
-        Node::Split(7),
-        Node::Bound(BoundedBy::Possible, 4),
-        Node::Split(10),
-        Node::Bound(BoundedBy::Both, 5),
-        Node::Point(20),
-    ];
-    assert_eq!(rt; certificate.tree.nodes(), leaves.as_slice());
+    let split = what_is_claimed(rt.alloc(), &listed(rt.alloc(), 1)?)?;
+    assert_eq!(rt;
+        split.as_str(),
+        "1 2 0 [false] [true] Split(0) 2, Split(1) 2, Bound(Arrival, 0) 0, Bound(Arrival, 0) 0, Split(1) 2, Bound(Arrival, 0) 0, Bound(Arrival, 0) 0, "
+    );
+    let leaves = what_is_claimed(rt.alloc(), &listed(rt.alloc(), 2)?)?;
+    assert_eq!(rt;
+        leaves.as_str(),
+        "0 9 5 [] [] Split(7) 2, Bound(Possible, 4) 0, Split(10) 2, Bound(Both, 5) 0, Point(20) 0, "
+    );
     Ok(())
+}
+
+/// A certificate that was never a text: all pairs of two inputs, at the greatest numbers.
+fn of_parts(alloc: Global) -> Result<Certificate, Fail> {
+    Ok(Certificate {
+        gates: 200_000,
+        question: Question::new(Admit::all(alloc, 2)?, vec![in alloc; 0, 0]?),
+        time: 1_000_000_000_000_000_000,
+        pair: Pair::new(vec![in alloc; false, true]?, vec![in alloc; true, true]?),
+        tree: Tree::from_nodes(vec![in alloc; Node::Point(17)]?),
+    })
 }
 
 #[test]
 fn a_certificate_of_parts_is_written(rt: HostRuntime) -> Result<(), Fail> {
-    let certificate = Certificate {
-        gates: 200_000,
-        question: Question::new(Admit::all(rt.alloc(), 2)?, vec![in rt.alloc(); 0, 0]?),
-        time: 1_000_000_000_000_000_000,
-        pair: Pair::new(
-            vec![in rt.alloc(); false, true]?,
-            vec![in rt.alloc(); true, true]?,
-        ),
-        tree: Tree::from_nodes(vec![in rt.alloc(); Node::Point(17)]?),
-    };
     let mut sink = MemorySink::new(rt.alloc(), 1000, 1000)?;
-    write(rt.alloc(), &mut sink, &certificate)?;
-    let text = b"tdelay-cert 1\ncircuit 2 200000\ntime 1000000000000000000\nfrom 01\nto 11\np 17\n";
-    assert_eq!(rt; sink.bytes(), text.as_slice());
-    assert_eq!(rt; fault_of(&rt, text), None);
+    write(rt.alloc(), &mut sink, &of_parts(rt.alloc())?)?;
+    let text =
+        "tdelay-cert 1\ncircuit 2 200000\ntime 1000000000000000000\nfrom 01\nto 11\np 17\n";
+    assert!(rt; sink.bytes() == text.as_bytes());
+    assert_eq!(rt; stop_of(rt.alloc(), text.as_bytes())?.as_str(), "read");
     Ok(())
 }
 
-#[test]
-fn each_front_ends_too_early(rt: HostRuntime) {
-    let mut line = 1;
-    for len in 0..51usize {
-        assert_eq!(rt;
-            fault_of(&rt, &SMALL[..len]),
-            Some((CertFaultKind::UnexpectedEnd, line)),
-            "at {len}"
-        );
-        if SMALL[len] == b'\n' && line < 7 {
-            line += 1;
+/// What stops the reading of each front of a text, from the empty one to the whole, where it isn't what stopped the front
+/// before: the front's length, and the stop.
+fn stops_of_fronts(alloc: Global, text: &[u8]) -> Result<String, Fail> {
+    let mut told = String::new(alloc);
+    let mut before = String::new(alloc);
+    for len in 0..text.len() {
+        let stop = stop_of(alloc, &text[..len])?;
+        if stop.as_str() != before.as_str() {
+            told.push_str(&format!(in alloc; "{len} {stop}, ")?)?;
         }
+        before = stop;
     }
-    assert_eq!(rt; line, 7);
-    assert_eq!(rt; fault_of(&rt, SMALL), None);
+    let whole = stop_of(alloc, text)?;
+    Ok(format!(in alloc; "{told}{whole}")?)
 }
 
 #[test]
-fn first_lines(rt: HostRuntime) {
-    let cases: [(&[u8], CertFaultKind); 27] = [
-        (b"tdelay-cert 9", CertFaultKind::Version),
-        (b"tdelay-cert 9\n", CertFaultKind::Version),
-        (b"tdelay-cert 4\ncircuit 1 1\n", CertFaultKind::Version),
-        (b"tdelay-cert 20\n", CertFaultKind::Version),
-        (b"tdelay-cert 4x", CertFaultKind::Version),
-        (b"tdelay-cert 0", CertFaultKind::Version),
-        (b"tdelay-cert 10\n", CertFaultKind::Version),
-        (b"tdelay-cert 12", CertFaultKind::Version),
-        (b"tdelay-cert 2x", CertFaultKind::Syntax),
-        (b"tdelay-cert 0x", CertFaultKind::Version),
-        (b"tdelay-cert 1000000000000000000", CertFaultKind::Version),
-        (
-            b"tdelay-cert 1000000000000000001",
-            CertFaultKind::NumberTooLarge,
-        ),
-        (
-            b"tdelay-cert 99999999999999999999999\n",
-            CertFaultKind::NumberTooLarge,
-        ),
-        (
-            b"tdelay-cert 10000000000000000000000",
-            CertFaultKind::NumberTooLarge,
-        ),
-        (b"tdelay-cert 01", CertFaultKind::Syntax),
-        (b"tdelay-cert 09999999999999999999\n", CertFaultKind::Syntax),
-        (b"tdelay-cert 00\n", CertFaultKind::Syntax),
-        (b"tdelay-cert 1x\n", CertFaultKind::Syntax),
-        (b"tdelay-cert 1\r\n", CertFaultKind::Syntax),
-        (b"tdelay-cert 1 \n", CertFaultKind::Syntax),
-        (b"tdelay-cert x\n", CertFaultKind::Syntax),
-        (b"tdelay-cert \n", CertFaultKind::Syntax),
-        (b"tdelay-cert\n", CertFaultKind::Syntax),
-        (b"tdelay-cert  9\n", CertFaultKind::Syntax),
-        (b"Tdelay-cert 9\n", CertFaultKind::Syntax),
-        (b" tdelay-cert 1\n", CertFaultKind::Syntax),
-        (b"\ntdelay-cert 1\n", CertFaultKind::Syntax),
-    ];
-    for (text, kind) in cases {
-        assert_eq!(rt; fault_of(&rt, text), Some((kind, 1)), "{text:?}");
-    }
-    let fronts = [
-        "",
-        "t",
-        "tdelay-cert",
-        "tdelay-cert ",
-        "tdelay-cert 1",
-        "tdelay-cert 2",
-        "tdelay-cert 3",
-    ];
-    for front in fronts {
-        assert_eq!(rt;
-            fault_of(&rt, front.as_bytes()),
-            Some((CertFaultKind::UnexpectedEnd, 1))
-        );
-    }
+fn each_front_ends_too_early(rt: HostRuntime) -> Result<(), Fail> {
+    let stops = stops_of_fronts(rt.alloc(), listed(rt.alloc(), 0)?.as_bytes())?;
+    assert_eq!(rt;
+        stops.as_str(),
+        "0 UnexpectedEnd 1, 14 UnexpectedEnd 2, 26 UnexpectedEnd 3, 33 UnexpectedEnd 4, 40 UnexpectedEnd 5, 45 UnexpectedEnd 6, read"
+    );
+    Ok(())
 }
+
+/// What stops the reading of each text, with a slash for each end of a line.
+const FIRST_LINES: &str = "Version 1|tdelay-cert 9
+Version 1|tdelay-cert 9/
+Version 1|tdelay-cert 4/circuit 1 1/
+Version 1|tdelay-cert 20/
+Version 1|tdelay-cert 4x
+Version 1|tdelay-cert 0
+Version 1|tdelay-cert 10/
+Version 1|tdelay-cert 12
+Syntax 1|tdelay-cert 2x
+Version 1|tdelay-cert 0x
+Version 1|tdelay-cert 1000000000000000000
+NumberTooLarge 1|tdelay-cert 1000000000000000001
+NumberTooLarge 1|tdelay-cert 99999999999999999999999/
+NumberTooLarge 1|tdelay-cert 10000000000000000000000
+Syntax 1|tdelay-cert 01
+Syntax 1|tdelay-cert 09999999999999999999/
+Syntax 1|tdelay-cert 00/
+Syntax 1|tdelay-cert 1x/
+Syntax 1|tdelay-cert 1\r/
+Syntax 1|tdelay-cert 1 /
+Syntax 1|tdelay-cert x/
+Syntax 1|tdelay-cert /
+Syntax 1|tdelay-cert/
+Syntax 1|tdelay-cert  9/
+Syntax 1|Tdelay-cert 9/
+Syntax 1| tdelay-cert 1/
+Syntax 1|/tdelay-cert 1/
+UnexpectedEnd 1|
+UnexpectedEnd 1|t
+UnexpectedEnd 1|tdelay-cert
+UnexpectedEnd 1|tdelay-cert 
+UnexpectedEnd 1|tdelay-cert 1
+UnexpectedEnd 1|tdelay-cert 2
+UnexpectedEnd 1|tdelay-cert 3
+";
+
+#[test]
+fn first_lines(rt: HostRuntime) -> Result<(), Fail> {
+    assert_eq!(rt; stops(rt.alloc(), FIRST_LINES)?.as_str(), FIRST_LINES);
+    Ok(())
+}
+
+/// What stops the reading behind the first line.
+const BEHIND: &str = "UnexpectedEnd 2|tdelay-cert 1/circuit 4096
+NumberTooLarge 2|tdelay-cert 1/circuit 4097
+NumberTooLarge 2|tdelay-cert 1/circuit 40960 1/
+UnexpectedEnd 2|tdelay-cert 1/circuit 1 200000
+NumberTooLarge 2|tdelay-cert 1/circuit 1 200001/
+Syntax 2|tdelay-cert 1/circuit 01 1/
+Syntax 2|tdelay-cert 1/circuit  1/
+Syntax 2|tdelay-cert 1/circuit 1  1/
+Syntax 2|tdelay-cert 1/circuit 1/
+Syntax 2|tdelay-cert 1/circuit -1 1/
+Syntax 3|tdelay-cert 1/circuit 1 1//
+Syntax 3|tdelay-cert 1/circuit 1 1/time 03/
+UnexpectedEnd 3|tdelay-cert 1/circuit 1 1/time 1000000000000000000
+NumberTooLarge 3|tdelay-cert 1/circuit 1 1/time 1000000000000000001/
+Syntax 3|tdelay-cert 1/circuit 1 1/time 3 /
+Syntax 4|tdelay-cert 1/circuit 0 0/time 0/from 0/
+Syntax 4|tdelay-cert 1/circuit 1 1/time 3/from none/
+Syntax 4|tdelay-cert 1/circuit 1 1/time 3/from x/
+Syntax 4|tdelay-cert 1/circuit 2 1/time 3/from 0/
+Syntax 5|tdelay-cert 1/circuit 1 1/time 3/from 0/to 11/
+Syntax 6|tdelay-cert 1/circuit 1 1/time 3/from 0/to 1/b x 3/
+Syntax 6|tdelay-cert 1/circuit 1 1/time 3/from 0/to 1/none/
+Syntax 6|tdelay-cert 1/circuit 1 1/time 3/from 0/to 1/b a 03/
+NumberTooLarge 6|tdelay-cert 1/circuit 1 1/time 3/from 0/to 1/b a 1000000000000000001
+Trailing 7|tdelay-cert 1/circuit 1 1/time 3/from 0/to 1/b a 3/b a 0/
+Trailing 7|tdelay-cert 1/circuit 1 1/time 3/from 0/to 1/b a 3//
+";
 
 #[test]
 fn faults_behind_the_first_line(rt: HostRuntime) -> Result<(), Fail> {
-    let cases: [(&str, CertFaultKind, u32); 26] = [
-        ("circuit 4096", CertFaultKind::UnexpectedEnd, 2),
-        ("circuit 4097", CertFaultKind::NumberTooLarge, 2),
-        ("circuit 40960 1\n", CertFaultKind::NumberTooLarge, 2),
-        ("circuit 1 200000", CertFaultKind::UnexpectedEnd, 2),
-        ("circuit 1 200001\n", CertFaultKind::NumberTooLarge, 2),
-        ("circuit 01 1\n", CertFaultKind::Syntax, 2),
-        ("circuit  1\n", CertFaultKind::Syntax, 2),
-        ("circuit 1  1\n", CertFaultKind::Syntax, 2),
-        ("circuit 1\n", CertFaultKind::Syntax, 2),
-        ("circuit -1 1\n", CertFaultKind::Syntax, 2),
-        ("circuit 1 1\n\n", CertFaultKind::Syntax, 3),
-        ("circuit 1 1\ntime 03\n", CertFaultKind::Syntax, 3),
-        (
-            "circuit 1 1\ntime 1000000000000000000",
-            CertFaultKind::UnexpectedEnd,
-            3,
-        ),
-        (
-            "circuit 1 1\ntime 1000000000000000001\n",
-            CertFaultKind::NumberTooLarge,
-            3,
-        ),
-        ("circuit 1 1\ntime 3 \n", CertFaultKind::Syntax, 3),
-        ("circuit 0 0\ntime 0\nfrom 0\n", CertFaultKind::Syntax, 4),
-        ("circuit 1 1\ntime 3\nfrom none\n", CertFaultKind::Syntax, 4),
-        ("circuit 1 1\ntime 3\nfrom x\n", CertFaultKind::Syntax, 4),
-        ("circuit 2 1\ntime 3\nfrom 0\n", CertFaultKind::Syntax, 4),
-        (
-            "circuit 1 1\ntime 3\nfrom 0\nto 11\n",
-            CertFaultKind::Syntax,
-            5,
-        ),
-        (
-            "circuit 1 1\ntime 3\nfrom 0\nto 1\nb x 3\n",
-            CertFaultKind::Syntax,
-            6,
-        ),
-        (
-            "circuit 1 1\ntime 3\nfrom 0\nto 1\nnone\n",
-            CertFaultKind::Syntax,
-            6,
-        ),
-        (
-            "circuit 1 1\ntime 3\nfrom 0\nto 1\nb a 03\n",
-            CertFaultKind::Syntax,
-            6,
-        ),
-        (
-            "circuit 1 1\ntime 3\nfrom 0\nto 1\nb a 1000000000000000001",
-            CertFaultKind::NumberTooLarge,
-            6,
-        ),
-        (
-            "circuit 1 1\ntime 3\nfrom 0\nto 1\nb a 3\nb a 0\n",
-            CertFaultKind::Trailing,
-            7,
-        ),
-        (
-            "circuit 1 1\ntime 3\nfrom 0\nto 1\nb a 3\n\n",
-            CertFaultKind::Trailing,
-            7,
-        ),
-    ];
-    for (behind, kind, line) in cases {
-        let text = format!(in rt.alloc(); "tdelay-cert 1\n{behind}")?;
-        assert_eq!(rt;
-            fault_of(&rt, text.as_bytes()),
-            Some((kind, line)),
-            "{behind}"
-        );
-    }
+    assert_eq!(rt; stops(rt.alloc(), BEHIND)?.as_str(), BEHIND);
     Ok(())
+}
+
+/// What stops the reading of a question. All pairs are admitted where the first version would say so, and a moment that
+/// isn't 0 is due in the third.
+const QUESTIONS: &str = "Syntax 2|tdelay-cert 2/circuit 0
+Syntax 2|tdelay-cert 3/circuit 0 1/
+UnexpectedEnd 2|tdelay-cert 2/circuit 
+NumberTooLarge 2|tdelay-cert 2/circuit 4097
+NumberTooLarge 2|tdelay-cert 2/circuit 1 200001
+Syntax 3|tdelay-cert 2/circuit 1 1/time
+UnexpectedEnd 3|tdelay-cert 2/circuit 1 1/first .
+Syntax 3|tdelay-cert 2/circuit 1 1/first x
+Syntax 3|tdelay-cert 2/circuit 1 1/first ..
+Syntax 3|tdelay-cert 2/circuit 2 1/first ./
+Syntax 3|tdelay-cert 2/circuit 1 1/first none/
+Syntax 4|tdelay-cert 2/circuit 1 1/first ./second =
+Syntax 5|tdelay-cert 2/circuit 1 1/first ./second ./hold 0
+UnexpectedEnd 6|tdelay-cert 2/circuit 1 1/first ./second ./hold ./flips 
+Syntax 6|tdelay-cert 2/circuit 1 1/first ./second ./hold ./flips 1
+UnexpectedEnd 6|tdelay-cert 2/circuit 12 1/first ............/second ............/hold ............/flips 1
+Syntax 6|tdelay-cert 2/circuit 12 1/first ............/second ............/hold ............/flips 12
+UnexpectedEnd 7|tdelay-cert 2/circuit 12 1/first ............/second ............/hold ............/flips 11/
+UnexpectedEnd 6|tdelay-cert 2/circuit 1 1/first 0/second ./hold ./flips 1
+UnexpectedEnd 7|tdelay-cert 2/circuit 1 1/first ./second ./hold =/flips 1/
+Syntax 6|tdelay-cert 2/circuit 1 1/first 0/second ./hold ./flips 2
+Syntax 6|tdelay-cert 2/circuit 1 1/first 0/second ./hold ./flips 00
+Syntax 6|tdelay-cert 2/circuit 1 1/first 0/second ./hold ./flips 1000000000000000001
+Syntax 7|tdelay-cert 2/circuit 1 1/first 0/second ./hold ./flips 1/at 1/
+Syntax 7|tdelay-cert 3/circuit 1 1/first ./second ./hold ./flips 1/time 1/
+UnexpectedEnd 7|tdelay-cert 3/circuit 1 1/first ./second ./hold ./flips 1/at 
+Syntax 7|tdelay-cert 3/circuit 1 1/first ./second ./hold ./flips 1/at 0
+UnexpectedEnd 7|tdelay-cert 3/circuit 2 1/first ../second ../hold ../flips 1/at 0 
+Syntax 7|tdelay-cert 3/circuit 2 1/first ../second ../hold ../flips 1/at 0 0
+UnexpectedEnd 8|tdelay-cert 3/circuit 2 1/first ../second ../hold ../flips 1/at 1 0/
+Syntax 7|tdelay-cert 3/circuit 2 1/first ../second ../hold ../flips 1/at 1/
+Syntax 7|tdelay-cert 3/circuit 1 1/first ./second ./hold ./flips 1/at 1 1/
+Syntax 7|tdelay-cert 3/circuit 1 1/first ./second ./hold ./flips 1/at 01/
+UnexpectedEnd 7|tdelay-cert 3/circuit 1 1/first ./second ./hold ./flips 1/at 1000000000
+Syntax 7|tdelay-cert 3/circuit 1 1/first ./second ./hold ./flips 1/at 1000000001
+Syntax 7|tdelay-cert 3/circuit 1 1/first ./second ./hold ./flips 1/at 9999999999999999999
+Trailing 11|tdelay-cert 2/circuit 1 1/first ./second ./hold =/flips 1/time 0/from 0/to 0/none/none/
+";
+
+#[test]
+fn faults_of_a_question(rt: HostRuntime) -> Result<(), Fail> {
+    assert_eq!(rt; stops(rt.alloc(), QUESTIONS)?.as_str(), QUESTIONS);
+    Ok(())
+}
+
+/// The trits of a cube.
+fn trits_of(alloc: Global, cube: &Cube) -> Result<String, Fail> {
+    let mut told = String::new(alloc);
+    for position in 0..cube.len() {
+        let trit = cube.trit(position);
+        told.push_str(&format!(in alloc; "{trit:?} ")?)?;
+    }
+    Ok(told)
+}
+
+/// The version, the moments, the flips, the held inputs and the pins of a certificate's question.
+fn what_is_asked(alloc: Global, text: &str) -> Result<String, Fail> {
+    let certificate = read(alloc, text.as_bytes())?;
+    let version = certificate.question.version();
+    let number = version.number();
+    let moments = certificate.question.moments();
+    let admit = certificate.question.admit();
+    let flips = admit.flips();
+    let held = admit.held();
+    let pins = trits_of(alloc, admit.pins())?;
+    Ok(format!(in alloc; "{version:?} {number} {moments:?} {flips} {held:?} {pins}")?)
 }
 
 #[test]
 fn what_was_asked(rt: HostRuntime) -> Result<(), Fail> {
-    let certificate = read(rt.alloc(), PINNED_LATER)?;
-    let question = certificate.question;
-    assert_eq!(rt; question.version(), Version::Third);
-    assert_eq!(rt; question.moments(), [0, 1_000_000_000, 0].as_slice());
-    let admit = question.admit();
-    assert_eq!(rt; admit.flips(), 0);
-    assert_eq!(rt; admit.held(), [false, true, false].as_slice());
-    let pins = admit.pins();
-    assert_eq!(rt; pins.len(), 6);
-    let wanted = [
-        Trit::Zero,
-        Trit::One,
-        Trit::Free,
-        Trit::Free,
-        Trit::One,
-        Trit::Free,
-    ];
-    for (position, trit) in wanted.iter().enumerate() {
-        if position < pins.len() {
-            assert_eq!(rt; pins.trit(position), *trit);
-        }
-    }
-    let certificate = read(rt.alloc(), ONE_FLIP)?;
-    assert_eq!(rt; certificate.question.version().number(), 2);
-    assert_eq!(rt; certificate.question.moments(), [0, 0].as_slice());
-    assert_eq!(rt; certificate.tree.nodes().len(), 9);
-    let certificate = read(rt.alloc(), SMALL)?;
-    assert_eq!(rt; certificate.question.version(), Version::First);
-    assert_eq!(rt; certificate.question.admit().flips(), 1);
+    let pinned = what_is_asked(rt.alloc(), &listed(rt.alloc(), 6)?)?;
+    assert_eq!(rt;
+        pinned.as_str(),
+        "Third 3 [0, 1000000000, 0] 0 [false, true, false] Zero One Free Free One Free "
+    );
+    let one_flip = what_is_asked(rt.alloc(), &listed(rt.alloc(), 4)?)?;
+    assert_eq!(rt;
+        one_flip.as_str(),
+        "Second 2 [0, 0] 1 [false, false] Free Free Free Free "
+    );
+    let small = what_is_asked(rt.alloc(), &listed(rt.alloc(), 0)?)?;
+    assert_eq!(rt; small.as_str(), "First 1 [0] 1 [false] Free Free ");
     Ok(())
+}
+
+/// The lines of a question about one input.
+fn asked(
+    alloc: Global,
+    first: Trit,
+    second: Trit,
+    held: bool,
+    flips: u32,
+    moment: u64,
+) -> Result<String, Fail> {
+    let pins = Cube::new(vec![in alloc; first, second]?);
+    let admit = Admit::new(pins, vec![in alloc; held]?, flips);
+    let question = Question::new(admit, vec![in alloc; moment]?);
+    let mut text = String::new(alloc);
+    push_question(&mut text, &question)?;
+    Ok(text)
 }
 
 #[test]
 fn questions_are_written(rt: HostRuntime) -> Result<(), Fail> {
-    let question = |pins: [Trit; 2], held: bool, flips: u32, moment: u64| -> Result<
-        Question,
-        Fail,
-    > {
-        let cube = Cube::new(Vec::from_slice(rt.alloc(), &pins)?);
-        let admit = Admit::new(cube, vec![in rt.alloc(); held]?, flips);
-        Ok(Question::new(admit, vec![in rt.alloc(); moment]?))
-    };
-    let free = [Trit::Free, Trit::Free];
-    let cases = [
-        (question(free, false, 1, 0)?, ""),
-        (
-            question(free, false, 0, 0)?,
-            "first .\nsecond .\nhold .\nflips 0\n",
-        ),
-        (
-            question(free, true, 1, 0)?,
-            "first .\nsecond .\nhold =\nflips 1\n",
-        ),
-        (
-            question([Trit::Zero, Trit::One], false, 1, 0)?,
-            "first 0\nsecond 1\nhold .\nflips 1\n",
-        ),
-        (
-            question(free, false, 1, 70)?,
-            "first .\nsecond .\nhold .\nflips 1\nat 70\n",
-        ),
-    ];
-    for (question, told) in cases {
-        let mut text = String::new(rt.alloc());
-        push_question(&mut text, &question)?;
-        assert_eq!(rt; text.as_str(), told);
-    }
-    Ok(())
-}
-
-#[test]
-fn faults_of_a_question(rt: HostRuntime) -> Result<(), Fail> {
-    let cases: [(&str, CertFaultKind, u32); 37] = [
-        ("2\ncircuit 0", CertFaultKind::Syntax, 2),
-        ("3\ncircuit 0 1\n", CertFaultKind::Syntax, 2),
-        ("2\ncircuit ", CertFaultKind::UnexpectedEnd, 2),
-        ("2\ncircuit 4097", CertFaultKind::NumberTooLarge, 2),
-        ("2\ncircuit 1 200001", CertFaultKind::NumberTooLarge, 2),
-        ("2\ncircuit 1 1\ntime", CertFaultKind::Syntax, 3),
-        ("2\ncircuit 1 1\nfirst .", CertFaultKind::UnexpectedEnd, 3),
-        ("2\ncircuit 1 1\nfirst x", CertFaultKind::Syntax, 3),
-        ("2\ncircuit 1 1\nfirst ..", CertFaultKind::Syntax, 3),
-        ("2\ncircuit 2 1\nfirst .\n", CertFaultKind::Syntax, 3),
-        ("2\ncircuit 1 1\nfirst none\n", CertFaultKind::Syntax, 3),
-        (
-            "2\ncircuit 1 1\nfirst .\nsecond =",
-            CertFaultKind::Syntax,
-            4,
-        ),
-        (
-            "2\ncircuit 1 1\nfirst .\nsecond .\nhold 0",
-            CertFaultKind::Syntax,
-            5,
-        ),
-        (
-            "2\ncircuit 1 1\nfirst .\nsecond .\nhold .\nflips ",
-            CertFaultKind::UnexpectedEnd,
-            6,
-        ),
-        // All pairs are admitted.
-        (
-            "2\ncircuit 1 1\nfirst .\nsecond .\nhold .\nflips 1",
-            CertFaultKind::Syntax,
-            6,
-        ),
-        (
-            "2\ncircuit 12 1\nfirst ............\nsecond ............\nhold ............\nflips 1",
-            CertFaultKind::UnexpectedEnd,
-            6,
-        ),
-        (
-            "2\ncircuit 12 1\nfirst ............\nsecond ............\nhold ............\nflips 12",
-            CertFaultKind::Syntax,
-            6,
-        ),
-        (
-            "2\ncircuit 12 1\nfirst ............\nsecond ............\nhold ............\nflips 11\n",
-            CertFaultKind::UnexpectedEnd,
-            7,
-        ),
-        (
-            "2\ncircuit 1 1\nfirst 0\nsecond .\nhold .\nflips 1",
-            CertFaultKind::UnexpectedEnd,
-            6,
-        ),
-        (
-            "2\ncircuit 1 1\nfirst .\nsecond .\nhold =\nflips 1\n",
-            CertFaultKind::UnexpectedEnd,
-            7,
-        ),
-        (
-            "2\ncircuit 1 1\nfirst 0\nsecond .\nhold .\nflips 2",
-            CertFaultKind::Syntax,
-            6,
-        ),
-        (
-            "2\ncircuit 1 1\nfirst 0\nsecond .\nhold .\nflips 00",
-            CertFaultKind::Syntax,
-            6,
-        ),
-        (
-            "2\ncircuit 1 1\nfirst 0\nsecond .\nhold .\nflips 1000000000000000001",
-            CertFaultKind::Syntax,
-            6,
-        ),
-        (
-            "2\ncircuit 1 1\nfirst 0\nsecond .\nhold .\nflips 1\nat 1\n",
-            CertFaultKind::Syntax,
-            7,
-        ),
-        (
-            "3\ncircuit 1 1\nfirst .\nsecond .\nhold .\nflips 1\ntime 1\n",
-            CertFaultKind::Syntax,
-            7,
-        ),
-        (
-            "3\ncircuit 1 1\nfirst .\nsecond .\nhold .\nflips 1\nat ",
-            CertFaultKind::UnexpectedEnd,
-            7,
-        ),
-        // A moment that isn't 0 is due.
-        (
-            "3\ncircuit 1 1\nfirst .\nsecond .\nhold .\nflips 1\nat 0",
-            CertFaultKind::Syntax,
-            7,
-        ),
-        (
-            "3\ncircuit 2 1\nfirst ..\nsecond ..\nhold ..\nflips 1\nat 0 ",
-            CertFaultKind::UnexpectedEnd,
-            7,
-        ),
-        (
-            "3\ncircuit 2 1\nfirst ..\nsecond ..\nhold ..\nflips 1\nat 0 0",
-            CertFaultKind::Syntax,
-            7,
-        ),
-        (
-            "3\ncircuit 2 1\nfirst ..\nsecond ..\nhold ..\nflips 1\nat 1 0\n",
-            CertFaultKind::UnexpectedEnd,
-            8,
-        ),
-        (
-            "3\ncircuit 2 1\nfirst ..\nsecond ..\nhold ..\nflips 1\nat 1\n",
-            CertFaultKind::Syntax,
-            7,
-        ),
-        (
-            "3\ncircuit 1 1\nfirst .\nsecond .\nhold .\nflips 1\nat 1 1\n",
-            CertFaultKind::Syntax,
-            7,
-        ),
-        (
-            "3\ncircuit 1 1\nfirst .\nsecond .\nhold .\nflips 1\nat 01\n",
-            CertFaultKind::Syntax,
-            7,
-        ),
-        (
-            "3\ncircuit 1 1\nfirst .\nsecond .\nhold .\nflips 1\nat 1000000000",
-            CertFaultKind::UnexpectedEnd,
-            7,
-        ),
-        (
-            "3\ncircuit 1 1\nfirst .\nsecond .\nhold .\nflips 1\nat 1000000001",
-            CertFaultKind::Syntax,
-            7,
-        ),
-        (
-            "3\ncircuit 1 1\nfirst .\nsecond .\nhold .\nflips 1\nat 9999999999999999999",
-            CertFaultKind::Syntax,
-            7,
-        ),
-        (
-            "2\ncircuit 1 1\nfirst .\nsecond .\nhold =\nflips 1\ntime 0\nfrom 0\nto 0\nnone\nnone\n",
-            CertFaultKind::Trailing,
-            11,
-        ),
-    ];
-    for (behind, kind, line) in cases {
-        let text = format!(in rt.alloc(); "tdelay-cert {behind}")?;
-        assert_eq!(rt;
-            fault_of(&rt, text.as_bytes()),
-            Some((kind, line)),
-            "{behind}"
-        );
-    }
+    let alloc = rt.alloc();
+    let all = asked(alloc, Trit::Free, Trit::Free, false, 1, 0)?;
+    let none = asked(alloc, Trit::Free, Trit::Free, false, 0, 0)?;
+    let held = asked(alloc, Trit::Free, Trit::Free, true, 1, 0)?;
+    let pinned = asked(alloc, Trit::Zero, Trit::One, false, 1, 0)?;
+    let later = asked(alloc, Trit::Free, Trit::Free, false, 1, 70)?;
+    let told = format!(in alloc; "{all}|{none}|{held}|{pinned}|{later}")?;
+    assert_eq!(rt;
+        told.as_str(),
+        "|first .\nsecond .\nhold .\nflips 0\n|first .\nsecond .\nhold =\nflips 1\n|first 0\nsecond 1\nhold .\nflips 1\n|first .\nsecond .\nhold .\nflips 1\nat 70\n"
+    );
     Ok(())
 }
 
 #[test]
 fn a_leaf_is_missing_or_one_too_many(rt: HostRuntime) -> Result<(), Fail> {
-    let without = &SPLIT[..SPLIT.len() - 6];
-    assert_eq!(rt;
-        fault_of(&rt, without),
-        Some((CertFaultKind::UnexpectedEnd, 12))
-    );
-    let mut more = Vec::from_slice(rt.alloc(), SPLIT)?;
-    more.extend_from_slice(b"b a 0\n")?;
-    assert_eq!(rt; fault_of(&rt, &more), Some((CertFaultKind::Trailing, 13)));
+    let alloc = rt.alloc();
+    let split = listed(alloc, 1)?;
+    let without = match split.as_str().strip_suffix("b a 0\n") {
+        Some(front) => stop_of(alloc, front.as_bytes())?,
+        None => String::new(alloc),
+    };
+    let more = format!(in alloc; "{split}b a 0\n")?;
+    let with = stop_of(alloc, more.as_bytes())?;
+    let told = format!(in alloc; "{without}, {with}")?;
+    assert_eq!(rt; told.as_str(), "UnexpectedEnd 12, Trailing 13");
     Ok(())
+}
+
+/// A certificate whose tree goes on below 100,000 splits, but for its last leaf.
+fn deep(alloc: Global) -> Result<Vec<u8>, Fail> {
+    let mut text = Vec::new(alloc);
+    text.extend_from_slice("tdelay-cert 1\ncircuit 1 2\ntime 0\nfrom 0\nto 1\n".as_bytes())?;
+    for _ in 0..100_000 {
+        text.extend_from_slice("s 0\n".as_bytes())?;
+    }
+    for _ in 0..100_000 {
+        text.extend_from_slice("b a 0\n".as_bytes())?;
+    }
+    Ok(text)
+}
+
+/// How many nodes a certificate's tree has.
+fn node_count(alloc: Global, text: &[u8]) -> Result<usize, Fail> {
+    Ok(read(alloc, text)?.tree.nodes().len())
 }
 
 #[test]
 fn a_deep_tree_is_read(rt: HostRuntime) -> Result<(), Fail> {
-    let mut text = Vec::from_slice(
-        rt.alloc(),
-        b"tdelay-cert 1\ncircuit 1 2\ntime 0\nfrom 0\nto 1\n",
-    )?;
-    for _ in 0..100_000 {
-        text.extend_from_slice(b"s 0\n")?;
-    }
-    for _ in 0..100_000 {
-        text.extend_from_slice(b"b a 0\n")?;
-    }
-    assert_eq!(rt;
-        fault_of(&rt, &text),
-        Some((CertFaultKind::UnexpectedEnd, 200_006))
-    );
-    text.extend_from_slice(b"b a 0\n")?;
-    let certificate = read(rt.alloc(), &text)?;
-    assert_eq!(rt; certificate.tree.nodes().len(), 200_001);
-    let mut sink = MemorySink::new(rt.alloc(), text.len(), 100_000)?;
-    write(rt.alloc(), &mut sink, &certificate)?;
-    assert!(rt; sink.bytes() == text.as_slice());
+    let alloc = rt.alloc();
+    let mut text = deep(alloc)?;
+    assert_eq!(rt; stop_of(alloc, &text)?.as_str(), "UnexpectedEnd 200006");
+    text.extend_from_slice("b a 0\n".as_bytes())?;
+    assert_eq!(rt; node_count(alloc, &text)?, 200_001);
+    assert!(rt; is_written_again(alloc, &text, 100_000)?);
     Ok(())
+}
+
+/// A certificate of the most inputs.
+fn wide(alloc: Global) -> Result<String, Fail> {
+    let mut bits = String::new(alloc);
+    for _ in 0..2_048 {
+        bits.push_str("01")?;
+    }
+    Ok(
+        format!(in alloc; "tdelay-cert 1\ncircuit 4096 200000\ntime 0\nfrom {bits}\nto {bits}\np 0\n")?,
+    )
 }
 
 #[test]
 fn the_most_inputs(rt: HostRuntime) -> Result<(), Fail> {
-    let mut bits = String::new(rt.alloc());
-    for _ in 0..2_048 {
-        bits.push_str("01")?;
-    }
-    let text = format!(in rt.alloc();
-        "tdelay-cert 1\ncircuit 4096 200000\ntime 0\nfrom {bits}\nto {bits}\np 0\n"
-    )?;
+    let text = wide(rt.alloc())?;
     let certificate = read(rt.alloc(), text.as_bytes())?;
     assert_eq!(rt; certificate.pair.second().len(), 4_096);
-    let mut sink = MemorySink::new(rt.alloc(), text.len(), 100)?;
-    write(rt.alloc(), &mut sink, &certificate)?;
-    assert!(rt; sink.bytes() == text.as_bytes());
+    assert!(rt; is_written_again(rt.alloc(), text.as_bytes(), 100)?);
     Ok(())
+}
+
+/// Whether a writer that fails after so many bytes, and takes so many at once, has just these.
+fn leaves_a_beginning(alloc: Global, text: &[u8], limit: usize, step: usize) -> Result<bool, Fail>
+    requires { 0 < step }
+{
+    let certificate = read(alloc, text)?;
+    let mut sink = MemorySink::new(alloc, limit, step)?;
+    let wrote = write(alloc, &mut sink, &certificate);
+    Ok(wrote == Err(WriteFault::Device) && Some(sink.bytes()) == text.get(..limit))
 }
 
 #[test]
 fn a_failed_write_leaves_a_beginning(rt: HostRuntime) -> Result<(), Fail> {
-    for text in [SMALL.as_slice(), SPLIT.as_slice()] {
-        let certificate = read(rt.alloc(), text)?;
-        for step in [1, 1000] {
-            for limit in 0..text.len() {
-                let mut sink = MemorySink::new(rt.alloc(), limit, step)?;
-                assert_eq!(rt;
-                    write(rt.alloc(), &mut sink, &certificate),
-                    Err(WriteFault::Device)
-                );
-                assert_eq!(rt; sink.bytes(), &text[..limit]);
-            }
+    for place in 0..2 {
+        let text = listed(rt.alloc(), place)?;
+        for limit in 0..text.len() {
+            assert!(rt; leaves_a_beginning(rt.alloc(), text.as_bytes(), limit, 1)?);
+            assert!(rt; leaves_a_beginning(rt.alloc(), text.as_bytes(), limit, 1000)?);
         }
     }
     Ok(())
 }
 
+/// A kind's number and name.
+fn shown(alloc: Global, kind: CertFaultKind) -> Result<String, Fail> {
+    let number = kind.number();
+    let name = kind.name();
+    Ok(format!(in alloc; "{number} {name}, ")?)
+}
+
 #[test]
 fn numbers_and_names_of_faults(rt: HostRuntime) -> Result<(), Fail> {
-    let kinds = [
+    let mut told = String::new(rt.alloc());
+    for kind in [
         CertFaultKind::OutOfMemory,
         CertFaultKind::Syntax,
         CertFaultKind::UnexpectedEnd,
@@ -573,25 +468,17 @@ fn numbers_and_names_of_faults(rt: HostRuntime) -> Result<(), Fail> {
         CertFaultKind::NumberTooLarge,
         CertFaultKind::Version,
         CertFaultKind::TooLong,
-    ];
-    let mut told = String::new(rt.alloc());
-    for kind in kinds {
-        let number = kind.number();
-        let name = kind.name();
-        told.push_str(&format!(in rt.alloc(); "{number} {name}, ")?)?;
+    ] {
+        told.push_str(&shown(rt.alloc(), kind)?)?;
     }
-    assert_eq!(rt;
-        told.as_str(),
-        "0 OutOfMemory, 1 Syntax, 2 UnexpectedEnd, 3 Trailing, 4 NumberTooLarge, 5 Version, 6 TooLong, "
-    );
     let fault = CertFault {
         kind: CertFaultKind::Trailing,
         line: 13,
     };
-    let shown = format!(in rt.alloc(); "{fault}")?;
+    told.push_str(&format!(in rt.alloc(); "{fault}")?)?;
     assert_eq!(rt;
-        shown.as_str(),
-        "more text after the certificate at line 13"
+        told.as_str(),
+        "0 OutOfMemory, 1 Syntax, 2 UnexpectedEnd, 3 Trailing, 4 NumberTooLarge, 5 Version, 6 TooLong, more text after the certificate at line 13"
     );
     Ok(())
 }
