@@ -133,8 +133,7 @@ fn of_parts(alloc: Global) -> Result<Certificate, Fail> {
 fn a_certificate_of_parts_is_written(rt: HostRuntime) -> Result<(), Fail> {
     let mut sink = MemorySink::new(rt.alloc(), 1000, 1000)?;
     write(rt.alloc(), &mut sink, &of_parts(rt.alloc())?)?;
-    let text =
-        "tdelay-cert 1\ncircuit 2 200000\ntime 1000000000000000000\nfrom 01\nto 11\np 17\n";
+    let text = "tdelay-cert 1\ncircuit 2 200000\ntime 1000000000000000000\nfrom 01\nto 11\np 17\n";
     assert!(rt; sink.bytes() == text.as_bytes());
     assert_eq!(rt; stop_of(rt.alloc(), text.as_bytes())?.as_str(), "read");
     Ok(())
@@ -414,9 +413,9 @@ fn wide(alloc: Global) -> Result<String, Fail> {
     for _ in 0..2_048 {
         bits.push_str("01")?;
     }
-    Ok(
-        format!(in alloc; "tdelay-cert 1\ncircuit 4096 200000\ntime 0\nfrom {bits}\nto {bits}\np 0\n")?,
-    )
+    Ok(format!(in alloc;
+        "tdelay-cert 1\ncircuit 4096 200000\ntime 0\nfrom {bits}\nto {bits}\np 0\n"
+    )?)
 }
 
 #[test]

@@ -6,7 +6,8 @@ use std::test::*;
 
 /// What searches answer, one on each line: a netlist, the lines of the certificate in front of its time, the time, the pair
 /// that has it, and the tree. A slash stands for the end of a line.
-const SEARCHES: &str = "module t(a, y); input a; output y; not #(2,3) g(y,a); endmodule|tdelay-cert 1/circuit 1 1/|3|0|1|b a 3/
+const SEARCHES: &str =
+    "module t(a, y); input a; output y; not #(2,3) g(y,a); endmodule|tdelay-cert 1/circuit 1 1/|3|0|1|b a 3/
 module t(a, y); input a; output y; not #1 n(b,a); and #2 g(y,a,b); endmodule|tdelay-cert 1/circuit 1 2/|0|0|1|s 0/s 1/b a 0/b a 0/s 1/b a 0/b a 0/
 module t(a, y); input a; output y; not #1 n(b,a); and #1 g(y,a,b); endmodule|tdelay-cert 1/circuit 1 2/|2|0|1|b a 2/
 module t(a, y); input a; output y; not #1 n(b,a); and #(1,3) g(y,a,b); endmodule|tdelay-cert 1/circuit 1 2/|4|0|1|b a 4/

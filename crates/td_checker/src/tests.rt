@@ -129,7 +129,8 @@ fn heads_of_certificates(rt: HostRuntime) -> Result<(), Fail> {
 }
 
 /// Certificates of the hidden pulse. The pair is looked at before its time, and both behind the circuit.
-const ONE_FLIP: &str = "Accepted 0|2 4/first ../second ../hold ../flips 1/time 5/from 01/to 11/s 0/s 1/b a 3/s 2/s 3/b a 0/none/b a 5/b a 5/
+const ONE_FLIP: &str =
+    "Accepted 0|2 4/first ../second ../hold ../flips 1/time 5/from 01/to 11/s 0/s 1/b a 3/s 2/s 3/b a 0/none/b a 5/b a 5/
 PairNotAdmitted 0|2 4/first ../second ../hold ../flips 1/time 5/from 00/to 11/s 0/s 1/b a 3/s 2/s 3/b a 0/none/b a 5/b a 5/
 PairNotAdmitted 0|2 4/first ../second ../hold ../flips 1/time 4/from 00/to 11/s 0/s 1/b a 3/s 2/s 3/b a 0/none/b a 5/b a 5/
 PairTime 0|2 4/first ../second ../hold ../flips 1/time 4/from 01/to 11/s 0/s 1/b a 3/s 2/s 3/b a 0/none/b a 5/b a 5/
@@ -179,7 +180,8 @@ fn question_of(alloc: Global, netlist: &str, certificate: &str) -> Result<String
 #[test]
 fn what_was_asked(rt: HostRuntime) -> Result<(), Fail> {
     let alloc = rt.alloc();
-    let row = "tdelay-cert 3/circuit 1 2/first ./second 1/hold ./flips 1/at 7/time 9/from 0/to 1/b a 9/";
+    let row =
+        "tdelay-cert 3/circuit 1 2/first ./second 1/hold ./flips 1/at 7/time 9/from 0/to 1/b a 9/";
     let text = text_of(alloc, row)?;
     let own = question_of(alloc, EQUAL_PULSE, text.as_str())?;
     let other = question_of(alloc, INVERTER, text.as_str())?;
