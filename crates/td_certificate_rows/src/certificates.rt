@@ -1,8 +1,11 @@
 ghost use Rattle.std.specs.Prelude.{◌<◌};
 
-use super::*;
 use std::alloc::Global;
 use std::test::*;
+use td_certificate::{
+    CertFault, CertFaultKind, Certificate, Node, Question, Tree, WriteFault, push_question, read,
+    write,
+};
 use td_domain::{Admit, Cube, Pair, Trit};
 use td_gates::MemorySink;
 

@@ -1,6 +1,6 @@
 //! Certificates of known searches, whole and with a leaf changed.
 
-use crate::tests::told;
+use crate::verdicts::told;
 use std::alloc::Global;
 use std::test::*;
 

@@ -1,7 +1,7 @@
-use super::*;
 use std::alloc::Global;
 use std::test::*;
 use td_certificate::{CertFault, CertFaultKind, push_question};
+use td_checker::{CheckFault, Verdict, check};
 use td_gates::Delay;
 
 /// An inverter with rise delay 2 and fall delay 3.
