@@ -121,23 +121,24 @@ fn what_was_read(rt: HostRuntime) -> Result<(), Fail> {
     Ok(())
 }
 
-/// A certificate that was never a text: all pairs of two inputs, at the greatest numbers.
-fn of_parts(alloc: Global) -> Result<Certificate, Fail> {
-    Ok(Certificate {
+/// What is written of a certificate that was never a text: all pairs of two inputs, at the greatest numbers.
+fn written_parts(alloc: Global) -> Result<MemorySink, Fail> {
+    let certificate = Certificate {
         gates: 200_000,
         question: Question::new(Admit::all(alloc, 2)?, vec![in alloc; 0, 0]?),
         time: 1_000_000_000_000_000_000,
         pair: Pair::new(vec![in alloc; false, true]?, vec![in alloc; true, true]?),
         tree: Tree::from_nodes(vec![in alloc; Node::Point(17)]?),
-    })
+    };
+    let mut sink = MemorySink::new(alloc, 1000, 1000)?;
+    write(alloc, &mut sink, &certificate)?;
+    Ok(sink)
 }
 
 #[test]
 fn a_certificate_of_parts_is_written(rt: HostRuntime) -> Result<(), Fail> {
-    let mut sink = MemorySink::new(rt.alloc(), 1000, 1000)?;
-    write(rt.alloc(), &mut sink, &of_parts(rt.alloc())?)?;
     let text = "tdelay-cert 1\ncircuit 2 200000\ntime 1000000000000000000\nfrom 01\nto 11\np 17\n";
-    assert!(rt; sink.bytes() == text.as_bytes());
+    assert!(rt; written_parts(rt.alloc())?.bytes() == text.as_bytes());
     assert_eq!(rt; stop_of(rt.alloc(), text.as_bytes())?.as_str(), "read");
     Ok(())
 }
