@@ -17,6 +17,3 @@ pub use lease::{Claim, Lease, SplitFault, Stranger};
 pub use node::{BoundedBy, Mark, Node, State};
 pub use partial::Partial;
 pub use subtree::{GraftFault, Subtree};
-
-#[cfg(test)]
-mod tests;

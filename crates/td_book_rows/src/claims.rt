@@ -67,7 +67,7 @@ fn allowances_of_a_root(rt: HostRuntime) -> Result<(), Fail> {
 }
 
 // Splits a leased leaf at its least free position: the numbers of the sides.
-fn split(book: &mut Book, lease: Lease) -> Option<(u32, u32)> {
+pub fn split(book: &mut Book, lease: Lease) -> Option<(u32, u32)> {
     let free = lease.cube.least_free()?;
     book.split(lease, free).ok()
 }

@@ -18,6 +18,3 @@ pub use question::{Question, Version};
 pub use reading::read;
 pub use tree::{BoundedBy, Node, Tree};
 pub use writing::{push_question, write};
-
-#[cfg(test)]
-mod tests;

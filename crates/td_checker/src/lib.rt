@@ -11,8 +11,3 @@ mod walking;
 
 pub use checking::check;
 pub use verdict::{CheckFault, Checked, Verdict};
-
-#[cfg(test)]
-mod searched;
-#[cfg(test)]
-mod tests;
