@@ -23,7 +23,9 @@ use td_book::{Book, Counted};
 use td_circuit::Circuit;
 use td_domain::Admit;
 use td_incumbent::{Incumbent, Seat};
-use td_search::{Answer, Best, Evidence, Prober, SearchFault, finish, representative, strongest_bound};
+use td_search::{
+    Answer, Best, Evidence, Prober, SearchFault, finish, representative, strongest_bound,
+};
 
 /// What a worker promises: all that it hands back is true of the admitted pairs of the circuit.
 #[derive(Drop)]
@@ -113,7 +115,9 @@ fn search_all<L: Ledger + Send + Sync, P: Prober + Sync, R: Threads + Wait + Syn
         moved: Condvar::new(),
         word,
     };
-    let all = found_by_all(rt, alloc, circuit, admit, prober, &shared, workers, found, share)?;
+    let all = found_by_all(
+        rt, alloc, circuit, admit, prober, &shared, workers, found, share,
+    )?;
     let (evidence, best) = gather(alloc, circuit, admit, all, first);
     let Shared { book, .. } = shared;
     let partial = book.into_inner().into_book().into_tree();
@@ -259,7 +263,11 @@ fn found_by_all<L: Ledger + Send + Sync, P: Prober + Sync, R: Threads + Wait + S
                     requires found { IsTrueFound (problem circuit.now admit.now) found }
                     requires part { 0 < share.parts }
                     ensures { IsTrueFound (problem circuit.entry.now admit.entry.now) result.found }
-                { work(rt, alloc, circuit, admit, prober, shared, worker, found, share) };
+                {
+                    work(
+                        rt, alloc, circuit, admit, prober, shared, worker, found, share,
+                    )
+                };
                 let truthful = Truthful {
                     circuit: Snapshot::of(circuit),
                     admit: Snapshot::of(admit),
@@ -269,9 +277,7 @@ fn found_by_all<L: Ledger + Send + Sync, P: Prober + Sync, R: Threads + Wait + S
                 }
             }
             if let Some(found) = next_found(circuit, admit, shared, &mut waiting) {
-                all.push_reserved(work(
-                    rt, alloc, circuit, admit, prober, shared, 0, found, own,
-                ));
+                all.push_reserved(work(rt, alloc, circuit, admit, prober, shared, 0, found, own));
             }
             join_all(rt, circuit, admit, handles, all)
         },

@@ -161,7 +161,15 @@ fn handle<L: Ledger, P: Prober, R: Wait>(
         return false;
     };
     let ample = work_below(
-        alloc, circuit, admit, prober, scratch, &shared.word, found, &lease, &mut below,
+        alloc,
+        circuit,
+        admit,
+        prober,
+        scratch,
+        &shared.word,
+        found,
+        &lease,
+        &mut below,
     );
     let Below { subtree, findings } = below;
     found.evidence.push_reserved(Evidence {
@@ -223,7 +231,16 @@ pub fn work<L: Ledger, P: Prober, R: Wait>(
             break;
         };
         let goes_on = handle(
-            rt, alloc, circuit, admit, prober, &mut scratch, shared, lease, &mut found, &mut share,
+            rt,
+            alloc,
+            circuit,
+            admit,
+            prober,
+            &mut scratch,
+            shared,
+            lease,
+            &mut found,
+            &mut share,
         );
         if !goes_on {
             break;

@@ -65,7 +65,10 @@ fn in_words(alloc: Global, answer: &Answer) -> Result<Told, Fail> {
             nodes: tree.nodes().len() as u64,
         },
         Answer::Between {
-            low, high, nodes, ..
+            low,
+            high,
+            nodes,
+            ..
         } => Told {
             times: format!(in alloc; "between {low} {high}")?,
             nodes: *nodes,

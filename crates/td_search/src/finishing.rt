@@ -50,7 +50,14 @@ pub fn finish(
     };
     let (mut search, mut scratch) = setup.begin(circuit, admit, best, root, budget);
     let _replayed = replay_tree(
-        alloc, circuit, admit, &mut search, &mut scratch, partial, evidence, budget,
+        alloc,
+        circuit,
+        admit,
+        &mut search,
+        &mut scratch,
+        partial,
+        evidence,
+        budget,
     );
     search.run(alloc, &mut scratch, circuit, admit, budget);
     answer(circuit, admit, search, budget)
@@ -82,9 +89,10 @@ fn nothing_handled(circuit: &Circuit, admit: &Admit, best: Best, root: u64, budg
 
 // How many nodes were split or closed.
 fn count_handled(nodes: &[Node]) -> u64 {
-    let handled = nodes
-        .iter()
-        .filter(|node| matches!(node.state, State::Split(_) | State::Closed(_, _, _)));
+    let handled = nodes.iter().filter(|node| matches!(
+        node.state,
+        State::Split(_) | State::Closed(_, _, _)
+    ));
     handled.count() as u64
 }
 

@@ -126,7 +126,14 @@ impl Search {
                 break;
             };
             let count = self.replay_node(
-                alloc, scratch, circuit, admit, number, *node, trail, &mut coming,
+                alloc,
+                scratch,
+                circuit,
+                admit,
+                number,
+                *node,
+                trail,
+                &mut coming,
             )?;
             done = count.saturating_sub(1);
         }
