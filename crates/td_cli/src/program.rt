@@ -1,6 +1,6 @@
 //! The program.
 
-ghost use Rattle.std.specs.Prelude.{◌≡◌, ◌≤◌, ◌⊎◌, ◌++◌, ℕ, List, [], map, OnOk, OnErr, IfErr, IfSome};
+ghost use Rattle.std.specs.Prelude.{◌≡◌, ◌<◌, ◌≤◌, ◌⊎◌, ◌++◌, ℕ, List, [], map, OnOk, OnErr, IfErr, IfSome};
 ghost use Rattle.clap.specs.Words.{kind_of};
 ghost use Rattle.clap.specs.declared.error.kind.ErrorKind.TheVariants as Kind;
 ghost use Rattle.td_gates.specs.Delays.{IsInRange};
@@ -32,13 +32,16 @@ use clap::Error;
 use clap::error::ErrorKind;
 use std::alloc::{AllocError, Global};
 use std::convert::AsStr;
+use std::sync::Wait;
+use std::thread::Threads;
 use td_certificate::{Certificate, WriteFault, write};
 use td_command::{BoundRequest, CheckRequest, Request, SimRequest, WorstRequest, parse};
 use td_gates::{Delay, Sink};
 
 /// Carries out the command that the words ask for: what it answers goes to `out`, why it was refused to `err`. The first
 /// word is the program's name.
-pub fn run<S: AsStr, F: Files, O: Sink, E: Sink>(
+pub fn run<R: Threads + Wait + Sync, S: AsStr, F: Files, O: Sink, E: Sink>(
+    rt: &R,
     alloc: Global,
     words: &[S],
     files: &mut F,
@@ -49,7 +52,7 @@ pub fn run<S: AsStr, F: Files, O: Sink, E: Sink>(
         (streams (O.output out.old) (E.output err.old)) (streams (O.output out.new) (E.output err.new))) }
 {
     match parse(alloc, words) {
-        Ok(request) => carry_out(alloc, files, &request, out, err),
+        Ok(request) => carry_out(rt, alloc, files, &request, out, err),
         Err(error) => tell_error(alloc, error, out, err),
     }
 }
@@ -66,7 +69,8 @@ pub fn refuse_words<E: Sink>(err: &mut E, fault: ReadFault) -> Status
 }
 
 /// Carries out what is asked.
-pub fn carry_out<F: Files, O: Sink, E: Sink>(
+pub fn carry_out<R: Threads + Wait + Sync, F: Files, O: Sink, E: Sink>(
+    rt: &R,
     alloc: Global,
     files: &mut F,
     request: &Request<'_>,
@@ -80,7 +84,7 @@ pub fn carry_out<F: Files, O: Sink, E: Sink>(
     match request {
         Request::Sim(request) => run_sim(alloc, files, *request, out, err),
         Request::Bound(request) => run_bound(alloc, files, *request, out, err),
-        Request::Worst(request) => run_worst(alloc, files, *request, out, err),
+        Request::Worst(request) => run_worst(rt, alloc, files, *request, out, err),
         Request::Check(request) => run_check(alloc, files, *request, out, err),
     }
 }
@@ -148,7 +152,8 @@ fn run_bound<F: Files, O: Sink, E: Sink>(
 }
 
 /// The command `worst`.
-fn run_worst<F: Files, O: Sink, E: Sink>(
+fn run_worst<R: Threads + Wait + Sync, F: Files, O: Sink, E: Sink>(
+    rt: &R,
     alloc: Global,
     files: &mut F,
     request: WorstRequest<'_>,
@@ -157,6 +162,8 @@ fn run_worst<F: Files, O: Sink, E: Sink>(
 ) -> Status
     requires range { IsInRange (delays request.rise request.fall) }
     requires budget { request.budget ≤ 10000000 }
+    requires some { 0 < request.workers }
+    requires few { request.workers ≤ 64 }
     ensures { Takes (F.did files.old files.new) (λ steps. RequestEnds (disk_of (F.holds files.old) (F.fails files.old) (F.breaks files.old)) (Asked.Worst request.entry) steps result
         (streams (O.output out.old) (E.output err.old)) (streams (O.output out.new) (E.output err.new))) }
 {
@@ -167,11 +174,13 @@ fn run_worst<F: Files, O: Sink, E: Sink>(
         Ok(text) => {
             let budget = u64::from(request.budget);
             carry_out_worst(
+                rt,
                 alloc,
                 files,
                 &text,
                 default,
                 words_in(request),
+                request.workers,
                 budget,
                 request.certificate,
                 request.vcd,
@@ -318,27 +327,31 @@ pub fn carry_out_check<O: Sink, E: Sink>(
     }
 }
 
-/// Carries out `worst` on bytes that were read, with a budget of at most 10,000,000 nodes: the report goes to `out`, then the
+/// Carries out `worst` on bytes that were read, with 1 to 64 workers and a budget of at most 10,000,000 nodes: the report goes to `out`, then the
 /// certificate of an exact answer to the file of this name, and then the waves of the given pair to that of the name `vcd`; why
 /// there is none goes to `err`.
-pub fn carry_out_worst<F: Files, O: Sink, E: Sink>(
+pub fn carry_out_worst<R: Threads + Wait + Sync, F: Files, O: Sink, E: Sink>(
+    rt: &R,
     alloc: Global,
     files: &mut F,
     text: &[u8],
     default: Delay,
     words: QuestionWords<'_>,
+    workers: u32,
     budget: u64,
     name: Option<&str>,
     vcd: Option<&str>,
     out: &mut O,
     err: &mut E,
 ) -> Status
-    requires { budget ≤ 10000000 }
+    requires some { 0 < workers }
+    requires few { workers ≤ 64 }
+    requires modest { budget ≤ 10000000 }
     ensures { Takes (F.did files.old files.new) (λ steps.
         Ends (IsWorstProduct text.now default words.entry budget (words_of name.entry) (words_of vcd.entry)) (HasNoAnswer text.now default words.entry) (F.breaks files.old) steps result
         (streams (O.output out.old) (E.output err.old)) (streams (O.output out.new) (E.output err.new))) }
 {
-    let found = match worst(alloc, text, default, words, budget, vcd) {
+    let found = match worst(rt, alloc, text, default, words, workers, budget, vcd) {
         Ok(found) => found,
         Err(refusal) => return tell_refusal(alloc, err, &refusal),
     };

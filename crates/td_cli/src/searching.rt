@@ -1,6 +1,6 @@
 //! The command `worst`: the search for the worst delay.
 
-ghost use Rattle.std.specs.Prelude.{◌≡◌, ◌≤◌, ◌++◌, length, IfOk, IfErr, IfSome, OnOk};
+ghost use Rattle.std.specs.Prelude.{◌≡◌, ◌<◌, ◌≤◌, ◌++◌, length, IfOk, IfErr, IfSome, OnOk};
 ghost use Rattle.td_search.specs.Problems.{problem};
 ghost use Rattle.td_certificate.specs.Spelling.{HasSpelling};
 ghost use Rattle.td_certificate.specs.Text.{bits};
@@ -19,11 +19,14 @@ use crate::text::Text;
 use crate::timing::moments;
 use crate::vector::VectorWord;
 use std::alloc::{AllocError, Global};
+use std::sync::Wait;
+use std::thread::Threads;
 use td_certificate::{Certificate, Question};
 use td_circuit::Circuit;
 use td_domain::{Admit, Pair};
 use td_gates::Delay;
-use td_search::{Answer, Cause, SearchFault, alone, certificate_of};
+use td_pool::worst as search;
+use td_search::{Answer, Cause, Own, SearchFault, certificate_of};
 
 /// The report of a search, the certificate of an exact answer, and the waves of the given pair's run where a name is given for
 /// their file.
@@ -64,17 +67,21 @@ fn question_of<'a>(
     Ok(Asked { circuit, admit })
 }
 
-/// The report of the search for the worst delay of what the words ask, which handles at most so many nodes. The budget is at
-/// most 10,000,000. The waves of the given pair's run too, where a name is given for their file.
-pub fn worst<'a, 'v>(
+/// The report of the search for the worst delay of what the words ask, by so many workers, from 1 to 64, which handles at most so
+/// many nodes. The budget is at most 10,000,000. The waves of the given pair's run too, where a name is given for their file.
+pub fn worst<'a, 'v, R: Threads + Wait + Sync>(
+    rt: &R,
     alloc: Global,
     text: &'a [u8],
     default: Delay,
     words: QuestionWords<'_>,
+    workers: u32,
     budget: u64,
     vcd: Option<&'v str>,
 ) -> Result<Found<'v>, Refusal<'a>>
-    requires { budget ≤ 10000000 }
+    requires some { 0 < workers }
+    requires few { workers ≤ 64 }
+    requires modest { budget ≤ 10000000 }
     // The report and the certificate are those of an answer of the search, and the waves those of its pair's run.
     ensures report { IfOk result (λ found.
         IsWorstReport text.now default words.entry budget (words_of vcd.entry) found.report found.certificate (dump_files found.dump)) }
@@ -85,7 +92,7 @@ pub fn worst<'a, 'v>(
 {
     let Asked { circuit, admit } = question_of(alloc, text, default, words)?;
     let moments = Vec::from_slice(alloc, circuit.moments())?;
-    let answer = match alone(alloc, &circuit, &admit, budget) {
+    let answer = match search(rt, alloc, &circuit, &admit, &Own, workers, budget) {
         Ok(answer) => answer,
         Err(fault) => return Err(unanswered(fault)),
     };

@@ -49,7 +49,7 @@ fn admitted_answers(rt: HostRuntime) -> Result<(), Fail> {
         ),
     ];
     for (words, out) in &cases {
-        let ended = run_words(rt.alloc(), *words)?;
+        let ended = run_words(&rt, rt.alloc(), *words)?;
         assert_eq!(rt; ended.out.bytes(), *out);
         assert_eq!(rt; ended.err.bytes(), b"".as_slice());
         assert_eq!(rt; ended.status, 0);
@@ -102,7 +102,7 @@ fn refused_pairs(rt: HostRuntime) -> Result<(), Fail> {
     for (file, options, err, status) in &cases {
         let mut words = Vec::from_slice(rt.alloc(), &["tdelay", "worst", *file, "--cert", "c"])?;
         words.extend_from_slice(*options)?;
-        let ended = run_words(rt.alloc(), &words)?;
+        let ended = run_words(&rt, rt.alloc(), &words)?;
         assert_eq!(rt; ended.out.bytes(), b"".as_slice());
         assert_eq!(rt; ended.err.bytes(), *err);
         assert_eq!(rt; ended.status, *status);
@@ -132,7 +132,7 @@ fn certificates_of_admitted_pairs(rt: HostRuntime) -> Result<(), Fail> {
     ];
     for (file, option, netlist, certificate, accepted) in &cases {
         let words = ["tdelay", "worst", *file, *option, "--cert", "c"];
-        let ended = run_words(rt.alloc(), &words)?;
+        let ended = run_words(&rt, rt.alloc(), &words)?;
         assert_eq!(rt; ended.status, 0);
         let written = one_file(ended.files.steps(), b"c").ok_or("a certificate")?;
         assert_eq!(rt; written.bytes(), *certificate);

@@ -48,7 +48,7 @@ fn moments_of_inputs(rt: HostRuntime) -> Result<(), Fail> {
         ),
     ];
     for (words, out) in &cases {
-        let ended = run_words(rt.alloc(), *words)?;
+        let ended = run_words(&rt, rt.alloc(), *words)?;
         assert_eq!(rt; ended.out.bytes(), *out);
         assert_eq!(rt; ended.err.bytes(), b"".as_slice());
         assert_eq!(rt; ended.status, 0);
@@ -62,7 +62,7 @@ fn bad_moments(rt: HostRuntime) -> Result<(), Fail> {
     let texts: [&str; 7] = ["1", "0,1,2", "0,x", "0,1000000001", "none", "0,", ""];
     for text in texts {
         let words = ["tdelay", "sim", "skew.v", "01", "10", "--at", text];
-        let ended = run_words(rt.alloc(), &words)?;
+        let ended = run_words(&rt, rt.alloc(), &words)?;
         assert_eq!(rt; ended.out.bytes(), b"".as_slice());
         assert_eq!(rt; ended.err.bytes(), b"tdelay: bad vector at\n".as_slice());
         assert_eq!(rt; ended.status, 2);
@@ -90,7 +90,7 @@ fn bad_moments(rt: HostRuntime) -> Result<(), Fail> {
         ),
     ];
     for (words, err) in &cases {
-        let ended = run_words(rt.alloc(), *words)?;
+        let ended = run_words(&rt, rt.alloc(), *words)?;
         assert_eq!(rt; ended.out.bytes(), b"".as_slice());
         assert_eq!(rt; ended.err.bytes(), *err);
         assert_eq!(rt; ended.status, 2);
@@ -102,7 +102,7 @@ fn bad_moments(rt: HostRuntime) -> Result<(), Fail> {
 #[test]
 fn certificates_of_moments(rt: HostRuntime) -> Result<(), Fail> {
     let words = ["tdelay", "worst", "parted.v", "--at", "7", "--cert", "c"];
-    let ended = run_words(rt.alloc(), &words)?;
+    let ended = run_words(&rt, rt.alloc(), &words)?;
     assert_eq!(rt; ended.status, 0);
     let written = one_file(ended.files.steps(), b"c").ok_or("a certificate")?;
     assert_eq!(rt; written.bytes(), LATE_CERTIFICATE);

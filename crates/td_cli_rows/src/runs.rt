@@ -16,6 +16,7 @@ pub const ROOM: usize = 1 << 16;
 
 /// Carries out a command over files in memory. Standard output takes so many bytes, some at a time.
 pub fn carried_out<'a>(
+    rt: &HostRuntime,
     alloc: Global,
     words: &[&str],
     files: MemoryFiles<'a>,
@@ -24,7 +25,7 @@ pub fn carried_out<'a>(
     let mut files = files;
     let mut out = MemorySink::new(alloc, room, 7)?;
     let mut err = MemorySink::new(alloc, ROOM, 7)?;
-    let status = run(alloc, words, &mut files, &mut out, &mut err);
+    let status = run(rt, alloc, words, &mut files, &mut out, &mut err);
     Ok(Ended {
         status: status.code(),
         out,
@@ -268,6 +269,7 @@ fn printed_runs(rt: HostRuntime) -> Result<(), Fail> {
     ];
     for (words, out, err, status) in &cases {
         let ended = carried_out(
+            &rt,
             rt.alloc(),
             words,
             MemoryFiles::new(rt.alloc(), &FILES),
@@ -295,6 +297,7 @@ fn default_delays(rt: HostRuntime) -> Result<(), Fail> {
         "0",
     ];
     let rise = carried_out(
+        &rt,
         rt.alloc(),
         &words,
         MemoryFiles::new(rt.alloc(), &FILES),
@@ -313,6 +316,7 @@ fn default_delays(rt: HostRuntime) -> Result<(), Fail> {
         "1",
     ];
     let fall = carried_out(
+        &rt,
         rt.alloc(),
         &words,
         MemoryFiles::new(rt.alloc(), &FILES),
@@ -374,6 +378,7 @@ For more information, try '--help'.
     ];
     for (words, err) in &cases {
         let ended = carried_out(
+            &rt,
             rt.alloc(),
             words,
             MemoryFiles::new(rt.alloc(), &FILES),
@@ -422,6 +427,7 @@ Options:
 #[test]
 fn help(rt: HostRuntime) -> Result<(), Fail> {
     let whole = carried_out(
+        &rt,
         rt.alloc(),
         &["tdelay", "--help"],
         MemoryFiles::new(rt.alloc(), &FILES),
@@ -431,6 +437,7 @@ fn help(rt: HostRuntime) -> Result<(), Fail> {
     assert_eq!(rt; whole.err.bytes(), b"".as_slice());
     assert_eq!(rt; whole.status, 0);
     let sim = carried_out(
+        &rt,
         rt.alloc(),
         &["tdelay", "sim", "--help"],
         MemoryFiles::new(rt.alloc(), &FILES),
@@ -448,6 +455,7 @@ fn failing_output(rt: HostRuntime) -> Result<(), Fail> {
     let words = ["tdelay", "sim", "inverter.v", "0", "1"];
     for room in 0..report.len() {
         let ended = carried_out(
+            &rt,
             rt.alloc(),
             &words,
             MemoryFiles::new(rt.alloc(), &FILES),
@@ -468,7 +476,7 @@ fn failing_output(rt: HostRuntime) -> Result<(), Fail> {
 fn failing_reader(rt: HostRuntime) -> Result<(), Fail> {
     let words = ["tdelay", "sim", "inverter.v", "0", "1"];
     let files = MemoryFiles::new(rt.alloc(), &FILES).reading(INVERTER.len() - 1);
-    let ended = carried_out(rt.alloc(), &words, files, ROOM)?;
+    let ended = carried_out(&rt, rt.alloc(), &words, files, ROOM)?;
     assert_eq!(rt; ended.out.bytes(), b"".as_slice());
     assert_eq!(rt;
         ended.err.bytes(),
@@ -493,6 +501,7 @@ fn bounds_of_cubes(rt: HostRuntime) -> Result<(), Fail> {
     for (file, out) in &free {
         let words = ["tdelay", "bound", *file];
         let ended = carried_out(
+            &rt,
             rt.alloc(),
             &words,
             MemoryFiles::new(rt.alloc(), &FILES),
@@ -545,6 +554,7 @@ fn bounds_of_cubes(rt: HostRuntime) -> Result<(), Fail> {
             "tdelay", "bound", *file, "--first", *first, "--second", *second,
         ];
         let ended = carried_out(
+            &rt,
             rt.alloc(),
             &words,
             MemoryFiles::new(rt.alloc(), &FILES),
@@ -557,6 +567,7 @@ fn bounds_of_cubes(rt: HostRuntime) -> Result<(), Fail> {
     // one option alone
     let words = ["tdelay", "bound", "slow.v", "--second", ".1"];
     let ended = carried_out(
+        &rt,
         rt.alloc(),
         &words,
         MemoryFiles::new(rt.alloc(), &FILES),
@@ -590,6 +601,7 @@ fn bad_cubes(rt: HostRuntime) -> Result<(), Fail> {
             "tdelay", "bound", *file, "--first", *first, "--second", *second,
         ];
         let ended = carried_out(
+            &rt,
             rt.alloc(),
             &words,
             MemoryFiles::new(rt.alloc(), &FILES),

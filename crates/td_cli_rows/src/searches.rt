@@ -12,8 +12,8 @@ const LOST_CERTIFICATE: &[u8] =
     b"tdelay-cert 1\ncircuit 1 2\ntime 0\nfrom 0\nto 1\ns 0\ns 1\nb a 0\nb a 0\ns 1\nb a 0\nb a 0\n";
 
 /// Carries out a command over the circuits of the tests.
-pub fn run_words(alloc: Global, words: &[&str]) -> Result<Ended<'static>, Fail> {
-    carried_out(alloc, words, MemoryFiles::new(alloc, &FILES), ROOM)
+pub fn run_words(rt: &HostRuntime, alloc: Global, words: &[&str]) -> Result<Ended<'static>, Fail> {
+    carried_out(rt, alloc, words, MemoryFiles::new(alloc, &FILES), ROOM)
 }
 
 /// The file of this name, where it was made and ended and nothing else was done.
@@ -62,7 +62,7 @@ fn exact_answers(rt: HostRuntime) -> Result<(), Fail> {
         ),
     ];
     for (file, out) in &cases {
-        let ended = run_words(rt.alloc(), &["tdelay", "worst", *file])?;
+        let ended = run_words(&rt, rt.alloc(), &["tdelay", "worst", *file])?;
         assert_eq!(rt; ended.out.bytes(), *out);
         assert_eq!(rt; ended.err.bytes(), b"".as_slice());
         assert_eq!(rt; ended.status, 0);
@@ -92,7 +92,7 @@ fn short_searches(rt: HostRuntime) -> Result<(), Fail> {
     ];
     for (budget, out, status) in &cases {
         let words = ["tdelay", "worst", "lost.v", *budget, "--cert", "c"];
-        let ended = run_words(rt.alloc(), &words)?;
+        let ended = run_words(&rt, rt.alloc(), &words)?;
         assert_eq!(rt; ended.out.bytes(), *out);
         assert_eq!(rt; ended.status, *status);
         assert_eq!(rt; ended.files.steps().is_empty(), *status == 3);
@@ -106,10 +106,10 @@ fn bad_numbers(rt: HostRuntime) -> Result<(), Fail> {
     for option in [
         "--budget=10000001",
         "--workers=0",
-        "--workers=2",
+        "--workers=65",
         "--default-fall=0",
     ] {
-        let ended = run_words(rt.alloc(), &["tdelay", "worst", "lost.v", option])?;
+        let ended = run_words(&rt, rt.alloc(), &["tdelay", "worst", "lost.v", option])?;
         assert_eq!(rt; ended.out.bytes(), b"".as_slice());
         assert_eq!(rt; ended.status, 2);
     }
@@ -129,7 +129,7 @@ fn written_certificates(rt: HostRuntime) -> Result<(), Fail> {
         ("lost.v", LOST, LOST_CERTIFICATE, b"accepted 0\n"),
     ];
     for (file, netlist, certificate, accepted) in &cases {
-        let ended = run_words(rt.alloc(), &["tdelay", "worst", *file, "--cert", "c"])?;
+        let ended = run_words(&rt, rt.alloc(), &["tdelay", "worst", *file, "--cert", "c"])?;
         assert_eq!(rt; ended.status, 0);
         let written = one_file(ended.files.steps(), b"c").ok_or("a certificate")?;
         assert_eq!(rt; written.name(), b"c".as_slice());
@@ -155,7 +155,7 @@ fn failing_certificates(rt: HostRuntime) -> Result<(), Fail> {
     let report = b"unit 1 ns\ndefaulted 0\nexact 3\nfrom 0\nto 1\nnodes 1\n";
     for room in 0..INVERTER_CERTIFICATE.len() {
         let files = MemoryFiles::new(rt.alloc(), &FILES).writing(room);
-        let ended = carried_out(rt.alloc(), &words, files, ROOM)?;
+        let ended = carried_out(&rt, rt.alloc(), &words, files, ROOM)?;
         assert_eq!(rt; ended.out.bytes(), report.as_slice());
         assert_eq!(rt; ended.err.bytes(), b"tdelay: cannot write c\n".as_slice());
         assert_eq!(rt; ended.status, 5);
@@ -165,7 +165,7 @@ fn failing_certificates(rt: HostRuntime) -> Result<(), Fail> {
     // Where standard output fails, the certificate isn't begun.
     for room in 0..report.len() {
         let files = MemoryFiles::new(rt.alloc(), &FILES);
-        let ended = carried_out(rt.alloc(), &words, files, room)?;
+        let ended = carried_out(&rt, rt.alloc(), &words, files, room)?;
         assert_eq!(rt;
             ended.err.bytes(),
             b"tdelay: cannot write stdout\n".as_slice()
@@ -178,7 +178,7 @@ fn failing_certificates(rt: HostRuntime) -> Result<(), Fail> {
 
 /// Checks a certificate's text of a netlist's: what is printed, why none is, and the status.
 pub fn checks(
-    rt: &impl Abort,
+    rt: &HostRuntime,
     alloc: Global,
     netlist: &[u8],
     certificate: &[u8],
@@ -188,7 +188,7 @@ pub fn checks(
 ) -> Result<(), Fail> {
     let both = [("t.v", netlist), ("c", certificate)];
     let files = MemoryFiles::new(alloc, &both);
-    let ended = carried_out(alloc, &["tdelay", "check", "t.v", "c"], files, ROOM)?;
+    let ended = carried_out(rt, alloc, &["tdelay", "check", "t.v", "c"], files, ROOM)?;
     assert_eq!(rt; ended.out.bytes(), out);
     assert_eq!(rt; ended.err.bytes(), err);
     assert_eq!(rt; ended.status, status);
@@ -261,13 +261,13 @@ fn refused_certificates(rt: HostRuntime) -> Result<(), Fail> {
 /// Both files are read before anything is judged.
 #[test]
 fn unread_certificates(rt: HostRuntime) -> Result<(), Fail> {
-    let ended = run_words(rt.alloc(), &["tdelay", "check", "two.v", "absent"])?;
+    let ended = run_words(&rt, rt.alloc(), &["tdelay", "check", "two.v", "absent"])?;
     assert_eq!(rt;
         ended.err.bytes(),
         b"tdelay: cannot read absent\n".as_slice()
     );
     assert_eq!(rt; ended.status, 5);
-    let ended = run_words(rt.alloc(), &["tdelay", "check", "absent.v", "absent"])?;
+    let ended = run_words(&rt, rt.alloc(), &["tdelay", "check", "absent.v", "absent"])?;
     assert_eq!(rt;
         ended.err.bytes(),
         b"tdelay: cannot read absent.v\n".as_slice()

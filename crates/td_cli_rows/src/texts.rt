@@ -8,7 +8,7 @@ use td_cli::MemoryFiles;
 
 /// Carries out a command on a text, the file `t.v`: what is printed, why nothing is, and the status.
 fn prints(
-    rt: &impl Abort,
+    rt: &HostRuntime,
     alloc: Global,
     text: &[u8],
     words: &[&str],
@@ -18,7 +18,7 @@ fn prints(
 ) -> Result<(), Fail> {
     let one = [("t.v", text)];
     let files = MemoryFiles::new(alloc, &one);
-    let ended = carried_out(alloc, words, files, ROOM)?;
+    let ended = carried_out(rt, alloc, words, files, ROOM)?;
     assert_eq!(rt; ended.out.bytes(), out);
     assert_eq!(rt; ended.err.bytes(), err);
     assert_eq!(rt; ended.status, status);

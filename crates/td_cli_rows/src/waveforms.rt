@@ -32,7 +32,7 @@ fn wrote_one(ended: &Ended<'_>, name: &[u8], bytes: &[u8]) -> Option<(u8, bool)>
 #[test]
 fn waves_of_a_run(rt: HostRuntime) -> Result<(), Fail> {
     let words = ["tdelay", "sim", "inverter.v", "0", "1", "--vcd", "o"];
-    let ended = run_words(rt.alloc(), &words)?;
+    let ended = run_words(&rt, rt.alloc(), &words)?;
     assert_eq!(rt; wrote_one(&ended, b"o", RISES), Some((0, true)));
     Ok(())
 }
@@ -40,7 +40,7 @@ fn waves_of_a_run(rt: HostRuntime) -> Result<(), Fail> {
 #[test]
 fn waves_of_an_exact_pair(rt: HostRuntime) -> Result<(), Fail> {
     let words = ["tdelay", "worst", "inverter.v", "--vcd", "o"];
-    let ended = run_words(rt.alloc(), &words)?;
+    let ended = run_words(&rt, rt.alloc(), &words)?;
     assert_eq!(rt; wrote_one(&ended, b"o", RISES), Some((0, true)));
     Ok(())
 }
@@ -58,7 +58,7 @@ fn waves_of_a_pair_between(rt: HostRuntime) -> Result<(), Fail> {
         "--vcd",
         "o",
     ];
-    let ended = run_words(rt.alloc(), &words)?;
+    let ended = run_words(&rt, rt.alloc(), &words)?;
     assert_eq!(rt; wrote_one(&ended, b"o", LOSES), Some((3, true)));
     Ok(())
 }
@@ -67,7 +67,7 @@ fn waves_of_a_pair_between(rt: HostRuntime) -> Result<(), Fail> {
 #[test]
 fn waves_behind_a_certificate(rt: HostRuntime) -> Result<(), Fail> {
     let words = ["tdelay", "worst", "inverter.v", "--cert", "c", "--vcd", "o"];
-    let ended = run_words(rt.alloc(), &words)?;
+    let ended = run_words(&rt, rt.alloc(), &words)?;
     assert_eq!(rt; ended.status, 0);
     let file = second_file(ended.files.steps(), b"c", b"o").ok_or("two files")?;
     assert_eq!(rt; file.bytes(), RISES);
@@ -76,6 +76,7 @@ fn waves_behind_a_certificate(rt: HostRuntime) -> Result<(), Fail> {
 
 /// The status of a run whose files take so many bytes, what it told, and whether its one file has the first bytes of these.
 fn failing(
+    rt: &HostRuntime,
     alloc: Global,
     words: &[&str],
     room: usize,
@@ -83,7 +84,7 @@ fn failing(
     bytes: &[u8],
 ) -> Result<Option<(u8, bool)>, Fail> {
     let files = MemoryFiles::new(alloc, &FILES).writing(room);
-    let ended = carried_out(alloc, words, files, ROOM)?;
+    let ended = carried_out(rt, alloc, words, files, ROOM)?;
     let Some(front) = bytes.get(..room) else {
         return Ok(None);
     };
@@ -96,7 +97,7 @@ fn failing_waves(rt: HostRuntime) -> Result<(), Fail> {
     let words = ["tdelay", "sim", "inverter.v", "0", "1", "--vcd", "o"];
     for room in 0..RISES.len() {
         assert_eq!(rt;
-            failing(rt.alloc(), &words, room, b"o", RISES)?,
+            failing(&rt, rt.alloc(), &words, room, b"o", RISES)?,
             Some((5, true))
         );
     }
@@ -107,7 +108,7 @@ fn failing_waves(rt: HostRuntime) -> Result<(), Fail> {
 fn failing_waves_are_told(rt: HostRuntime) -> Result<(), Fail> {
     let words = ["tdelay", "worst", "inverter.v", "--vcd", "o"];
     let files = MemoryFiles::new(rt.alloc(), &FILES).writing(9);
-    let ended = carried_out(rt.alloc(), &words, files, ROOM)?;
+    let ended = carried_out(&rt, rt.alloc(), &words, files, ROOM)?;
     assert_eq!(rt; ended.err.bytes(), b"tdelay: cannot write o\n".as_slice());
     Ok(())
 }
@@ -117,7 +118,7 @@ fn failing_waves_are_told(rt: HostRuntime) -> Result<(), Fail> {
 fn failing_certificate(rt: HostRuntime) -> Result<(), Fail> {
     let words = ["tdelay", "worst", "inverter.v", "--cert", "c", "--vcd", "o"];
     assert_eq!(rt;
-        failing(rt.alloc(), &words, 5, b"c", b"tdelay-cert")?,
+        failing(&rt, rt.alloc(), &words, 5, b"c", b"tdelay-cert")?,
         Some((5, true))
     );
     Ok(())

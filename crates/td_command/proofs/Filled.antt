@@ -224,7 +224,7 @@ pub asks_worst : (rows : List Row) → IsTaken worst rows → (asked : WorstRequ
 asks_worst rows taken =
     let file = text_there worst.rules (codes "FILE") rows (taken.given.0 refl) taken.rules in
     let flips = count_there worst (codes "flips") rows (has_count_option _ refl refl) taken in
-    let workers = number_there worst (codes "workers") 1 1 rows (has_option _ refl refl refl) taken in
+    let workers = number_there worst (codes "workers") 1 64 rows (has_option _ refl refl refl) taken in
     let budget = number_there worst (codes "budget") 0 10000000 rows (has_option _ refl refl refl) taken in
     let default = default_there worst rows (has_option _ refl refl refl) (has_option _ refl refl refl) taken in (
       record {
@@ -248,7 +248,7 @@ asks_worst rows taken =
         hold = word_there (codes "hold") rows;
         flips = flips.1;
         at = word_there (codes "at") rows;
-        workers = (workers.1, workers.3);
+        workers = (workers.1, workers.2, workers.3);
         budget = (budget.1, budget.3);
         certificate = word_there (codes "cert") rows;
         vcd = word_there (codes "vcd") rows;

@@ -56,7 +56,7 @@ with_admitted app = with_rule (with_rule (with_cube app) (option (codes "hold"))
 -- how a search goes, and where its certificate goes
 abbrev pub with_search : App → App
 with_search app =
-    with_rule (with_rule (with_rule app (number_option (codes "workers") 1 1 (codes "1")))
+    with_rule (with_rule (with_rule app (number_option (codes "workers") 1 64 (codes "1")))
     (number_option (codes "budget") 0 10000000 (codes "1000000"))) (option (codes "cert"))
 
 abbrev pub sim_command : App
@@ -123,7 +123,7 @@ HasBudget rows budget = HasNumber (codes "budget") rows budget × (budget ≤ 10
 
 -- how many threads search
 abbrev pub HasWorkers : List Row → ℕ → Type 0
-HasWorkers rows workers = HasNumber (codes "workers") rows workers × (workers ≤ 1)
+HasWorkers rows workers = HasNumber (codes "workers") rows workers × (0 < workers) × (workers ≤ 64)
 
 -- the words of `sim` ask for this
 pub record AsksSim (rows : List Row) (asked : SimRequest) : Type 0 where
@@ -191,7 +191,8 @@ TakenAsk = (words : List Text) → kinds_of words ≡ [] → (asked : Request) �
 abbrev pub IsCarriedOut : Request → Type 0
 IsCarriedOut (request.Sim asked) = IsInRange (delays asked.rise asked.fall)
 IsCarriedOut (request.Bound asked) = IsInRange (delays asked.rise asked.fall)
-IsCarriedOut (request.Worst asked) = IsInRange (delays asked.rise asked.fall) × (asked.budget ≤ 10000000)
+IsCarriedOut (request.Worst asked) =
+    IsInRange (delays asked.rise asked.fall) × (asked.budget ≤ 10000000) × (0 < asked.workers) × (asked.workers ≤ 64)
 IsCarriedOut (request.Check asked) = IsInRange (delays asked.rise asked.fall)
 
 -- the answer is what is asked, none where nothing is

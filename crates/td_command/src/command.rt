@@ -52,7 +52,7 @@ pub struct WorstRequest<'a> {
     pub flips: Option<u64>,
     /// The moment at which each input takes its second level.
     pub at: Option<&'a str>,
-    /// How many threads search, one for now.
+    /// How many threads search, from 1 to 64.
     pub workers: u32,
     /// The most nodes that the search handles, at most 10,000,000.
     pub budget: u32,
@@ -85,7 +85,7 @@ pub enum Request<'a> {
 }
 
 /// The most threads that may search.
-const MOST_WORKERS: u32 = 1;
+const MOST_WORKERS: u32 = 64;
 
 /// The most nodes that a search may handle.
 const MOST_NODES: u32 = 10_000_000;
@@ -238,7 +238,7 @@ fn with_search<'a>(alloc: Global, command: Command<'a>) -> Result<Command<'a>, A
         1,
         MOST_WORKERS,
         "1",
-        "How many threads search; one for now",
+        "How many threads search, from 1 to 64",
     );
     let budget = number_option(
         alloc,
@@ -402,7 +402,7 @@ fn workers(matches: &ArgMatches<'_>) -> Option<u32>
     ensures { IsAnswered (HasWorkers (rows_of (found_of matches.now))) result }
 {
     let workers = number(matches, "workers")?;
-    if workers <= MOST_WORKERS {
+    if 0 < workers && workers <= MOST_WORKERS {
         Some(workers)
     } else {
         None

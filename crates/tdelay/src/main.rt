@@ -16,7 +16,7 @@ fn main(rt: HostRuntime) -> ExitCode {
         Ok(words) => {
             let mut files = RealFiles::new(&rt);
             let mut out = WriterSink::new(rt.stdout());
-            run(alloc, words.as_slice(), &mut files, &mut out, &mut err)
+            run(&rt, alloc, words.as_slice(), &mut files, &mut out, &mut err)
         }
         Err(error) => refuse_words(&mut err, ReadFault::from(error)),
     };

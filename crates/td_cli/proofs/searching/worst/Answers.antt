@@ -3,28 +3,28 @@ use Rattle.td_search.specs.Problems.{problem}
 use Rattle.td_cli.proofs.Questions.{asked_held, asked_flips, no_answer, certificate_spelled, pair_fits}
 use Rattle.td_cli.proofs.searching.worst.Goals as goal
 
-pub alone-requires-clause-held : goal.alone-requires-clause-held
-alone-requires-clause-held c = asked_held c.args.text.now c.args.default c.args.words _ c.in_ok-circuit.ensures.asked
+pub search-requires-clause-held : goal.search-requires-clause-held
+search-requires-clause-held g c = asked_held c.args.text.now c.args.default c.args.words _ c.in_ok-circuit.ensures.asked
 
 pub returns-in-Err-clause-refusal : goal.returns-in-Err-clause-refusal
-returns-in-Err-clause-refusal c =
+returns-in-Err-clause-refusal g c =
     rw c.unanswered.ensures (no_answer c.args.text.now c.args.default c.args.words _ c.in-Err.fault c.in_ok-circuit.ensures.asked c.in-Err.ensures.fault)
 
 pub certificate-certificate-requires-clause-flips : goal.certificate-certificate-requires-clause-flips
-certificate-certificate-requires-clause-flips c = asked_flips c.args.text.now c.args.default c.args.words _ c.in_ok-circuit.ensures.asked
+certificate-certificate-requires-clause-flips g c = asked_flips c.args.text.now c.args.default c.args.words _ c.in_ok-circuit.ensures.asked
 
 pub returns-clause-spelled : goal.returns-clause-spelled
-returns-clause-spelled c =
+returns-clause-spelled g c =
     rw c.certificate-certificate.ensures (certificate_spelled (problem c.in_ok-circuit.field-0.circuit c.in_ok-circuit.field-0.admit) c.in-Ok.answer c.in-Ok.ensures.text)
 
 pub pair_dump-requires-clause-first_fits : goal.pair_dump-requires-clause-first_fits
-pair_dump-requires-clause-first_fits c =
+pair_dump-requires-clause-first_fits g c =
     rw (c.in_ok-pair.ensures, c.pair_in.ensures) ((pair_fits _ c.args.budget c.in-Ok.answer c.in-Ok.ensures.answer).0)
 
 pub pair_dump-requires-clause-second_fits : goal.pair_dump-requires-clause-second_fits
-pair_dump-requires-clause-second_fits c =
+pair_dump-requires-clause-second_fits g c =
     rw (c.in_ok-pair.ensures, c.pair_in.ensures) ((pair_fits _ c.args.budget c.in-Ok.answer c.in-Ok.ensures.answer).1)
 
 pub returns-in_err-pair-clause-refusal : goal.returns-in_err-pair-clause-refusal
-returns-in_err-pair-clause-refusal c =
+returns-in_err-pair-clause-refusal g c =
     let p = err_from_is_err_and c.from_residual-in_err-pair.result c.from_residual-in_err-pair.ensures.1 in rw (p.1, p.2) tt
