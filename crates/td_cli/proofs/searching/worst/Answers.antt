@@ -3,8 +3,8 @@ use Rattle.td_search.specs.Problems.{problem}
 use Rattle.td_cli.proofs.Questions.{asked_held, asked_flips, no_answer, certificate_spelled, pair_fits}
 use Rattle.td_cli.proofs.searching.worst.Goals as goal
 
-pub search-requires-clause-held : goal.search-requires-clause-held
-search-requires-clause-held g c = asked_held c.args.text.now c.args.default c.args.words _ c.in_ok-circuit.ensures.asked
+pub worst-requires-clause-held : goal.worst-requires-clause-held
+worst-requires-clause-held g c κs within = asked_held c.args.text.now c.args.default c.args.words _ c.in_ok-circuit.ensures.asked
 
 pub returns-in-Err-clause-refusal : goal.returns-in-Err-clause-refusal
 returns-in-Err-clause-refusal g c =
