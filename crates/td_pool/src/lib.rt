@@ -8,6 +8,3 @@ mod shared;
 mod working;
 
 pub use pool::worst;
-
-#[cfg(test)]
-mod tests;
