@@ -1,5 +1,7 @@
 use std::alloc::Global;
+use std::sync::Wait;
 use std::test::*;
+use std::thread::Threads;
 use td_cli::{MemoryFiles, ReadFault, refuse_words, run};
 use td_gates::MemorySink;
 
@@ -15,8 +17,8 @@ pub struct Ended<'a> {
 pub const ROOM: usize = 1 << 16;
 
 /// Carries out a command over files in memory. Standard output takes so many bytes, some at a time.
-pub fn carried_out<'a>(
-    rt: &HostRuntime,
+pub fn carried_out<'a, R: Threads + Wait + Sync>(
+    rt: &R,
     alloc: Global,
     words: &[&str],
     files: MemoryFiles<'a>,

@@ -3,7 +3,9 @@
 use crate::runs::{Ended, FILES, INVERTER, LOST, ROOM, carried_out};
 use std::alloc::Global;
 use std::process::Abort;
+use std::sync::Wait;
 use std::test::*;
+use std::thread::Threads;
 use td_cli::{MemoryFile, MemoryFiles, MemoryStep};
 
 const INVERTER_CERTIFICATE: &[u8] = b"tdelay-cert 1\ncircuit 1 1\ntime 3\nfrom 0\nto 1\nb a 3\n";
@@ -12,7 +14,11 @@ const LOST_CERTIFICATE: &[u8] =
     b"tdelay-cert 1\ncircuit 1 2\ntime 0\nfrom 0\nto 1\ns 0\ns 1\nb a 0\nb a 0\ns 1\nb a 0\nb a 0\n";
 
 /// Carries out a command over the circuits of the tests.
-pub fn run_words(rt: &HostRuntime, alloc: Global, words: &[&str]) -> Result<Ended<'static>, Fail> {
+pub fn run_words<R: Threads + Wait + Sync>(
+    rt: &R,
+    alloc: Global,
+    words: &[&str],
+) -> Result<Ended<'static>, Fail> {
     carried_out(rt, alloc, words, MemoryFiles::new(alloc, &FILES), ROOM)
 }
 
@@ -177,8 +183,8 @@ fn failing_certificates(rt: HostRuntime) -> Result<(), Fail> {
 }
 
 /// Checks a certificate's text of a netlist's: what is printed, why none is, and the status.
-pub fn checks(
-    rt: &HostRuntime,
+pub fn checks<R: Threads + Wait + Sync + Abort>(
+    rt: &R,
     alloc: Global,
     netlist: &[u8],
     certificate: &[u8],

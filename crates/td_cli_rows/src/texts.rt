@@ -3,12 +3,14 @@
 use crate::runs::{ROOM, carried_out};
 use std::alloc::Global;
 use std::process::Abort;
+use std::sync::Wait;
 use std::test::*;
+use std::thread::Threads;
 use td_cli::MemoryFiles;
 
 /// Carries out a command on a text, the file `t.v`: what is printed, why nothing is, and the status.
-fn prints(
-    rt: &HostRuntime,
+fn prints<R: Threads + Wait + Sync + Abort>(
+    rt: &R,
     alloc: Global,
     text: &[u8],
     words: &[&str],

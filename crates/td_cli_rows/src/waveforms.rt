@@ -3,7 +3,9 @@
 use crate::runs::{Ended, FILES, ROOM, carried_out};
 use crate::searches::{one_file, run_words};
 use std::alloc::Global;
+use std::sync::Wait;
 use std::test::*;
+use std::thread::Threads;
 use td_cli::{MemoryFile, MemoryFiles, MemoryStep};
 
 /// The waves of an inverter whose input rises.
@@ -75,8 +77,8 @@ fn waves_behind_a_certificate(rt: HostRuntime) -> Result<(), Fail> {
 }
 
 /// The status of a run whose files take so many bytes, what it told, and whether its one file has the first bytes of these.
-fn failing(
-    rt: &HostRuntime,
+fn failing<R: Threads + Wait + Sync>(
+    rt: &R,
     alloc: Global,
     words: &[&str],
     room: usize,
