@@ -3,7 +3,8 @@
 it, and compares each run with one that has memory enough.
 
 A run may answer the same; or end with status 5, `tdelay: out of memory` and nothing but a beginning of its output; or, a search,
-answer `between` with `cause memory` and two figures around the right one. Prints a line for each command, and ends with status 1
+answer `between` with `cause memory` and two figures around the right one, or `exact` with the right time and a certificate that
+`check` accepts. Prints a line for each command, and ends with status 1
 where a run did anything else. Needs a C compiler, and the program built by `./tdelay`.
 
 usage: checks/refused_growths.py [PROGRAM]
@@ -20,6 +21,7 @@ SHIM = r"""
 #include <stddef.h>
 #include <stdio.h>
 #include <stdlib.h>
+#include <sys/syscall.h>
 #include <unistd.h>
 extern void *__libc_malloc(size_t);
 extern void *__libc_calloc(size_t, size_t);
@@ -32,7 +34,7 @@ __attribute__((constructor)) static void begin(void) {
   first = from ? atol(from) : 0;
   last = to ? atol(to) : -1;
 }
-__attribute__((destructor)) static void end(void) {
+static void tell(void) {
   const char *name = getenv("GROWTHS");
   FILE *file;
   long count = met;
@@ -43,9 +45,16 @@ __attribute__((destructor)) static void end(void) {
     fclose(file);
   }
 }
+__attribute__((destructor)) static void end(void) { tell(); }
+/* A program with threads ends by this, past all destructors. */
+void _exit(int status) {
+  tell();
+  syscall(SYS_exit_group, status);
+  __builtin_unreachable();
+}
 static int refused(void) {
-  met++;
-  return first <= met && met <= last;
+  long now = __atomic_add_fetch(&met, 1, __ATOMIC_SEQ_CST);
+  return first <= now && now <= last;
 }
 void *malloc(size_t size) { return refused() ? NULL : __libc_malloc(size); }
 void *calloc(size_t count, size_t size) { return refused() ? NULL : __libc_calloc(count, size); }
@@ -103,7 +112,15 @@ def lines_of(text):
     return {line.split(" ", 1)[0]: line.split(" ", 1)[-1] for line in text.splitlines()}
 
 
-def is_right(ample, got, worst):
+def is_accepted(program, folder, words, certificate, worst):
+    """Whether `check` accepts a certificate with this time, where one was asked for."""
+    if "--cert" not in words:
+        return certificate is None
+    done = subprocess.run([program, "check", words[1], "out.cert"], cwd=folder, capture_output=True, timeout=60)
+    return certificate is not None and done.stdout.decode().splitlines()[:1] == [f"accepted {worst}"]
+
+
+def is_right(ample, got, worst, accepted):
     """By what a run with refused growths ended, None where it told anything wrong. The worst delay is that of what a search asks."""
     status, out, err, certificate = got
     if got == ample:
@@ -115,6 +132,8 @@ def is_right(ample, got, worst):
     if status == 3 and told.get("cause") == "memory" and err == "" and certificate is None and worst is not None:
         low, high = map(int, told["between"].split())
         return "between" if low <= worst <= high else None
+    if status == 0 and err == "" and worst is not None and told.get("exact") == str(worst) and accepted():
+        return "exact in another way"
     return None
 
 
@@ -163,7 +182,7 @@ def main():
             for first in range(1, growths + 1):
                 for last in (first, 10**9):
                     got = run(program, shim, folder, words, first, last)
-                    how = is_right(ample, got, worst)
+                    how = is_right(ample, got, worst, lambda: is_accepted(program, folder, words, got[3], worst))
                     if how is None:
                         wrong += 1
                         print("wrong:", " ".join(words), first, last, got)
