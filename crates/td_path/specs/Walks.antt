@@ -74,9 +74,9 @@ pub record LeadsFrom (circuit : Numbered) (run : NetWaves) (net moment : ℕ) (l
   pub leads : LeadsOn circuit.netlist (net_wave (nets circuit) run.waves) link others (net_at (nets circuit) net) moment
 
 -- Halfway, at the change of a net at a moment: whatever link is that change, these links, the latest first, lead on from it.
-pub record IsWalking (circuit : Numbered) (run : NetWaves) (net moment number at : ℕ) (links : List code.Link) : Type 0 where
+pub record IsWalking (circuit : Numbered) (run : NetWaves) (net moment number now : ℕ) (links : List code.Link) : Type 0 where
   pub below : number < length (nets circuit)
-  pub changes : ChangesAt (wave_at run.waves number) at
-  pub leads : (link : Link) → link.net ≡ net_at (nets circuit) number → link.moment ≡ at
+  pub changes : ChangesAt (wave_at run.waves number) now
+  pub leads : (link : Link) → link.net ≡ net_at (nets circuit) number → link.moment ≡ now
       → LeadsOn circuit.netlist (net_wave (nets circuit) run.waves) link (map (link_of (nets circuit)) (reverse links))
       (net_at (nets circuit) net) moment

@@ -35,34 +35,34 @@ fn links_back(
     run: &Run,
     places: &[usize],
     last: u32,
-    moment: u64,
+    last_moment: u64,
 ) -> Result<Vec<Link>, AllocError>
     requires run { IsRunFor circuit.now run.now }
     requires numbering { IsNumbering circuit.now }
     requires places { ArePlaces circuit.now places.now }
     requires last { last < length (nets circuit.now) }
-    requires change { ChangesAt (wave_at run.now.waves last) moment }
-    ensures { IfOk result (λ links. LeadsFrom circuit.now run.now last moment links.items) }
+    requires change { ChangesAt (wave_at run.now.waves last) last_moment }
+    ensures { IfOk result (λ links. LeadsFrom circuit.now run.now last last_moment links.items) }
 {
-    let first = circuit.input_count() + 2;
     let gates = circuit.gates();
+    let first = circuit.input_count() + 2;
     let mut links = Vec::new(alloc);
     let mut net = last;
-    let mut at = moment;
+    let mut moment = last_moment;
     while net as usize >= first {
         let place = net as usize - first;
         let gate = &gates[place];
-        let earlier = at - gate.delay.to(run.wave(net).at(at));
+        let earlier = moment - gate.delay.to(run.wave(net).at(moment));
         let terminal = first_change(run, &gate.inputs, earlier);
         let cause = Cause {
             gate: places[place],
             terminal,
         };
-        links.push(link_at(run, net, at, Some(cause)))?;
+        links.push(link_at(run, net, moment, Some(cause)))?;
         net = gate.inputs[terminal];
-        at = earlier;
+        moment = earlier;
     }
-    links.push(link_at(run, net, at, None))?;
+    links.push(link_at(run, net, moment, None))?;
     Ok(links)
 }
 
@@ -82,6 +82,7 @@ pub fn chain_of(
     requires net { net < length (nets circuit.now) }
     ensures { IfOk result (λ chain. Explains circuit.now run.now net chain) }
 {
+    let _gates = circuit.gates();
     let Some(moment) = run.wave(net).last() else {
         return Ok(None);
     };
@@ -101,6 +102,7 @@ pub fn latest_chain(
     requires run { IsRunFor circuit.now run.now }
     ensures { IfOk result (λ chain. ExplainsLatest circuit.now run.now chain) }
 {
+    let _gates = circuit.gates();
     match latest_net(run, circuit.outputs()) {
         Some(net) => chain_of(alloc, circuit, run, net),
         None => Ok(None),

@@ -12,8 +12,9 @@ pub fn places_of(alloc: Global, circuit: &Circuit) -> Result<Vec<usize>, AllocEr
     ensures places { IfOk result (λ places. ArePlaces circuit.now places.items) }
     ensures numbering { IsNumbering circuit.now }
 {
+    let gates = circuit.gates();
     let first = circuit.input_count() + 2;
-    let mut places = vec![in alloc; 0; circuit.gates().len()]?;
+    let mut places = vec![in alloc; 0; gates.len()]?;
     for (place, net) in circuit.gate_outputs().iter().enumerate() {
         places[*net as usize - first] = place;
     }

@@ -1,6 +1,6 @@
 //! Chains of changes, worked by hand. A row has the gates of a module whose output is `y` and perhaps `z`; the moments of its inputs
-//! `a`, `b` and so on; their levels in the first vector and in the second; and the chain of the output that changes last. Of each
-//! change it tells the gate and the terminal that caused it, the net, the moment, and the levels before it and from then on.
+//! `a`, `b` and so on; their levels in the first vector and in the second; and the chain of the output that changes last, or those of
+//! all nets. Of each change are told the gate and the terminal that caused it, the net, the moment, and the levels before and after.
 
 use std::alloc::Global;
 use std::process::Abort;
@@ -10,7 +10,7 @@ use td_gates::{Delay, Level};
 use td_netlist::read;
 use td_path::{Link, chain_of, latest_chain};
 use td_rows::moments_of;
-use td_run::waves;
+use td_run::{Run, waves};
 
 /// A part of a row between two bars.
 fn part(row: &str, place: usize) -> &str {
@@ -92,25 +92,49 @@ fn name(circuit: &Circuit, net: u32) -> &str {
     str::from_utf8(&circuit.name(place).text).unwrap_or("?")
 }
 
+/// A link in words.
+fn push_link(alloc: Global, text: &mut String, circuit: &Circuit, link: &Link) -> Result<(), Fail> {
+    if let Some(cause) = link.cause {
+        let gate = cause.gate;
+        let terminal = cause.terminal;
+        text.push_str(&format!(in alloc; " -> {gate}.{terminal} ")?)?;
+    }
+    let net = name(circuit, link.net);
+    let moment = link.moment;
+    let from = letter(link.from);
+    let to = letter(link.to);
+    text.push_str(&format!(in alloc; "{net} {moment} {from}{to}")?)?;
+    Ok(())
+}
+
 /// A chain in words.
-fn told(alloc: Global, circuit: &Circuit, links: &[Link]) -> Result<String, Fail> {
+fn told(alloc: Global, circuit: &Circuit, chain: Option<Vec<Link>>) -> Result<String, Fail> {
     let mut text = String::new(alloc);
-    for link in links {
-        if let Some(cause) = link.cause {
-            let gate = cause.gate;
-            let terminal = cause.terminal;
-            text.push_str(&format!(in alloc; " -> {gate}.{terminal} ")?)?;
+    match chain {
+        Some(links) => {
+            for link in &links {
+                push_link(alloc, &mut text, circuit, link)?;
+            }
         }
-        let net = name(circuit, link.net);
-        let moment = link.moment;
-        let from = letter(link.from);
-        let to = letter(link.to);
-        text.push_str(&format!(in alloc; "{net} {moment} {from}{to}")?)?;
+        None => text.push_str("none")?,
     }
     Ok(text)
 }
 
-/// The chain of the output that changes last, in words.
+/// The chains of all nets, the constants first.
+fn told_all(alloc: Global, circuit: &Circuit, run: &Run) -> Result<String, Fail> {
+    let mut text = String::new(alloc);
+    for net in 0..circuit.net_count() {
+        if net > 0 {
+            text.push_str("; ")?;
+        }
+        let chain = told(alloc, circuit, chain_of(alloc, circuit, run, net as u32)?)?;
+        text.push_str(&chain)?;
+    }
+    Ok(text)
+}
+
+/// The run of a row, and what is told of it.
 fn found(rt: &impl Abort, alloc: Global, row: &str) -> Result<String, Fail> {
     let circuit = made(rt, alloc, row)?;
     let first = levels(alloc, part(row, 2))?;
@@ -118,9 +142,9 @@ fn found(rt: &impl Abort, alloc: Global, row: &str) -> Result<String, Fail> {
     assert_eq!(rt; first.len(), circuit.input_count());
     assert_eq!(rt; second.len(), circuit.input_count());
     let run = waves(alloc, &circuit, &first, &second)?;
-    match latest_chain(alloc, &circuit, &run)? {
-        Some(links) => told(alloc, &circuit, &links),
-        None => Ok(format!(in alloc; "none")?),
+    match part(row, 4) {
+        "latest" => told(alloc, &circuit, latest_chain(alloc, &circuit, &run)?),
+        _ => told_all(alloc, &circuit, &run),
     }
 }
 
@@ -129,25 +153,79 @@ fn again(rt: &impl Abort, alloc: Global, rows: &str) -> Result<String, Fail> {
     let mut again = String::new(alloc);
     for row in rows.lines() {
         let chain = found(rt, alloc, row)?;
-        let gates = part(row, 0);
-        let moments = part(row, 1);
-        let first = part(row, 2);
-        let second = part(row, 3);
-        again.push_str(&format!(in alloc; "{gates}|{moments}|{first}|{second}|{chain}\n")?)?;
+        let asked = match row.rsplit_once('|') {
+            Some((asked, _)) => asked,
+            None => row,
+        };
+        again.push_str(&format!(in alloc; "{asked}|{chain}\n")?)?;
     }
     Ok(again)
 }
 
 /// A change passes an inverter in the delay of its own direction, and a change to x in the lesser of the two.
-const INVERTER: &str = "not #(2,5) (y,a); buf #1 (z,1'b0);|0|0|1|a 0 01 -> 0.0 y 5 10
-not #(2,5) (y,a); buf #1 (z,1'b0);|0|1|0|a 0 10 -> 0.0 y 2 01
-not #(2,5) (y,a); buf #1 (z,1'b0);|7|1|0|a 7 10 -> 0.0 y 9 01
-not #(2,5) (y,a); buf #1 (z,1'b0);|0|1|x|a 0 1x -> 0.0 y 2 0x
-not #(2,5) (y,a); buf #1 (z,1'b0);|0|1|1|none
+const INVERTER: &str = "not #(2,5) (y,a); buf #1 (z,1'b0);|0|0|1|latest|a 0 01 -> 0.0 y 5 10
+not #(2,5) (y,a); buf #1 (z,1'b0);|0|1|0|latest|a 0 10 -> 0.0 y 2 01
+not #(2,5) (y,a); buf #1 (z,1'b0);|7|1|0|latest|a 7 10 -> 0.0 y 9 01
+not #(2,5) (y,a); buf #1 (z,1'b0);|0|1|x|latest|a 0 1x -> 0.0 y 2 0x
+not #(2,5) (y,a); buf #1 (z,1'b0);|0|x|0|latest|a 0 x0 -> 0.0 y 2 x1
+not #(2,5) (y,a); buf #1 (z,1'b0);|0|1|1|latest|none
 ";
 
 #[test]
 fn inverter(rt: HostRuntime) -> Result<(), Fail> {
     assert_eq!(rt; again(&rt, rt.alloc(), INVERTER)?.as_str(), INVERTER);
+    Ok(())
+}
+
+/// A change that reaches a gate on two ways: the later one is the cause of the last change, unless the pulse is lost.
+const RECONVERGENT: &str = "not #1 (n,c); and #2 (p,a,c); and #2 (q,b,n); or #1 (y,p,q); buf #1 (z,1'b0);|0 0 0|111|110|latest|c 0 10 -> 0.0 n 1 01 -> 2.1 q 3 01 -> 3.1 y 4 01
+not #1 (n,c); and #2 (p,a,c); and #2 (q,b,n); or #(1,2) (y,p,q); buf #1 (z,1'b0);|0 0 0|111|110|latest|none
+buf #3 (n,a); xor #1 (y,a,n); buf #1 (z,1'b0);|0|0|1|latest|a 0 01 -> 0.0 n 3 01 -> 1.1 y 4 10
+buf #3 (n,a); xor #3 (y,a,n); buf #1 (z,1'b0);|0|0|1|latest|a 0 01 -> 0.0 n 3 01 -> 1.1 y 6 10
+buf #3 (n,a); xor #4 (y,a,n); buf #1 (z,1'b0);|0|0|1|latest|none
+not #1 (y,n); not #2 (n,a); buf #1 (z,1'b0);|4|0|1|latest|a 4 01 -> 1.0 n 6 10 -> 0.0 y 7 01
+";
+
+#[test]
+fn reconvergent(rt: HostRuntime) -> Result<(), Fail> {
+    assert_eq!(rt; again(&rt, rt.alloc(), RECONVERGENT)?.as_str(), RECONVERGENT);
+    Ok(())
+}
+
+/// Of several terminals that change at once the first is told, and none that changed at another moment.
+const TERMINALS: &str = "buf #1 (n,a); buf #1 (p,b); buf #1 (q,c); xor #1 (y,n,p,q); buf #1 (z,1'b0);|0 0 0|000|111|latest|a 0 01 -> 0.0 n 1 01 -> 3.0 y 2 01
+buf #1 (n,a); buf #1 (p,b); buf #1 (q,c); and #1 (y,n,p,q); buf #1 (z,1'b0);|0 0 0|100|111|latest|b 0 01 -> 1.0 p 1 01 -> 3.1 y 2 01
+and #1 (y,a,b); buf #1 (z,1'b0);|3 5|00|11|latest|b 5 01 -> 0.1 y 6 01
+and #1 (y,a,b); buf #1 (z,1'b0);|3 5|11|00|latest|a 3 10 -> 0.0 y 4 10
+nand #(3,4) (y,1'b1,a,a); buf #1 (z,1'b0);|2|0|1|latest|a 2 01 -> 0.1 y 6 10
+";
+
+#[test]
+fn terminals(rt: HostRuntime) -> Result<(), Fail> {
+    assert_eq!(rt; again(&rt, rt.alloc(), TERMINALS)?.as_str(), TERMINALS);
+    Ok(())
+}
+
+/// The output that changes last, the first one of several.
+const OUTPUTS: &str = "buf #1 (y,a); buf #4 (z,a);|0|0|1|latest|a 0 01 -> 1.0 z 4 01
+buf #4 (z,a); buf #5 (y,a);|0|0|1|latest|a 0 01 -> 1.0 y 5 01
+buf #2 (z,a); buf #2 (y,a);|0|0|1|latest|a 0 01 -> 1.0 y 2 01
+buf #1 (n,a); buf #1 (z,n); buf #9 (y,b);|0 0|00|10|latest|a 0 01 -> 0.0 n 1 01 -> 1.0 z 2 01
+";
+
+#[test]
+fn outputs(rt: HostRuntime) -> Result<(), Fail> {
+    assert_eq!(rt; again(&rt, rt.alloc(), OUTPUTS)?.as_str(), OUTPUTS);
+    Ok(())
+}
+
+/// Each net has its own chain: the constants, the inputs, and the gates' outputs.
+const NETS: &str = "buf #2 (y,a); and #1 (z,y,b);|3 4|00|10|all|none; none; a 3 01; none; a 3 01 -> 0.0 y 5 01; none
+not #1 (z,a); and #1 (y,a,z);|0|0|1|all|none; none; a 0 01; a 0 01 -> 0.0 z 1 10; a 0 01 -> 0.0 z 1 10 -> 1.1 y 2 10
+";
+
+#[test]
+fn nets(rt: HostRuntime) -> Result<(), Fail> {
+    assert_eq!(rt; again(&rt, rt.alloc(), NETS)?.as_str(), NETS);
     Ok(())
 }
