@@ -1,15 +1,19 @@
 -- What made a gate's output change: some net that it reads changed just the delay before.
-use Rattle.std.proofs.Common.{◌≡◌, ◌≢◌, ℕ, suc, ◌+◌, List, [], ◌∷◌, map, refl, ◌∙◌, sym, ap, inl, inr}
+use Rattle.std.proofs.Common.{◌≡◌, ◌≢◌, ℕ, suc, ◌+◌, ◌<◌, List, [], ◌∷◌, length, map, get_or, refl, arith, ◌∙◌, sym, ap, inl, inr, Some, true, false}
+use Rattle.std.specs.Prelude.{slice_get}
+use Rattle.std.proofs.lemmas.Bool.{cases_lt, cases_eq, cases_Bool}
 use Rattle.td_gates.specs.declared.primitives.Kind.{Kind}
 use Rattle.td_gates.specs.declared.timing.Delay.{Delay}
 use Rattle.td_gates.specs.Delays.{IsInRange}
-use Rattle.td_gates.specs.Table.{table, delay_to}
+use Rattle.td_gates.specs.declared.primitives.Level.{Level}
+use Rattle.td_gates.specs.Table.{level_eq, table, delay_to}
 use Rattle.td_gates.specs.Wave.{Wave, at, before}
 use Rattle.td_gates.specs.Schedule.{target_at, target_before, Obeys}
-use Rattle.td_gates.proofs.Levels.{cases_level}
+use Rattle.td_gates.proofs.Levels.{cases_level, level_eq-same, level_eq-other}
+use Rattle.td_gates.proofs.Places.{some-same, slice_get-some, slice_get-get, get-slice_get}
 use Rattle.td_gates.proofs.Delays.{delayed}
 use Rattle.td_run.specs.Waves.{waves_of}
-use Rattle.td_path.specs.Walks.{wave_at, ChangesAt, SomeChanges}
+use Rattle.td_path.specs.Walks.{wave_at, ChangesAt, SomeChanges, AreKept, IsFirstChange}
 use Rattle.td_path.proofs.Sources.{source}
 
 -- where the levels of these nets differ one of them changes
@@ -24,6 +28,45 @@ some_changes waves (n ∷ numbers) t differ = elim (cases_level (at (wave_at wav
       ∙ ap (λ levels. before (wave_at waves n) t ∷ levels) equal)) in
       record { terminal = suc rest.terminal; number = rest.number; is_number = rest.is_number; changes = rest.changes }
 ]
+
+-- while none before it changes, the one that does is still to come
+pub some_left : (waves : List Wave) (numbers : List ℕ) (moment end : ℕ) → AreKept waves numbers moment end → SomeChanges waves numbers moment
+    → end < length numbers
+some_left waves numbers moment end kept some = elim (cases_lt some.terminal end) [
+  | inl before ↦ absurd (some.changes (kept some.terminal some.number before some.is_number))
+  | inr late ↦ omega (arith, slice_get-some numbers some.terminal some.number some.is_number)
+]
+
+same_level : (this that : Level) → level_eq this that ≡ true → this ≡ that
+same_level this that same = elim (cases_level this that) [
+  | inl equal ↦ equal
+  | inr differ ↦ (let no_way = level_eq-other this that differ in cc)
+]
+
+other_level : (this that : Level) → level_eq this that ≡ false → this ≢ that
+other_level this that differ equal = let same : level_eq this that ≡ true = rw equal (level_eq-same that) in cc
+
+pub kept_more : (waves : List Wave) (numbers : List ℕ) (moment end number : ℕ) → AreKept waves numbers moment end
+    → slice_get numbers end ≡ Some number
+    → level_eq (at (wave_at waves number) moment) (before (wave_at waves number) moment) ≡ true
+    → AreKept waves numbers moment (suc end)
+kept_more waves numbers moment end number kept at_end same k other less at_k = elim (cases_eq k end) [
+  | inl last ↦
+      let equal : other ≡ number = some-same other number (sym at_k ∙ ap (λ n. slice_get numbers n) last ∙ at_end) in
+      rw equal (same_level (at (wave_at waves number) moment) (before (wave_at waves number) moment) same)
+  | inr earlier ↦ kept k other (omega (arith, less, earlier)) at_k
+]
+
+pub first_found : (waves : List Wave) (numbers : List ℕ) (moment end number : ℕ) → AreKept waves numbers moment end
+    → slice_get numbers end ≡ Some number
+    → level_eq (at (wave_at waves number) moment) (before (wave_at waves number) moment) ≡ false
+    → IsFirstChange waves numbers moment end
+first_found waves numbers moment end number kept at_end differ = record {
+  number = number;
+  is_number = at_end;
+  changes = other_level (at (wave_at waves number) moment) (before (wave_at waves number) moment) differ;
+  first = kept;
+}
 
 pub record HasCause (kind : Kind) (delay : Delay) (waves : List Wave) (numbers : List ℕ) (out : Wave) (moment : ℕ) : Type 0 where
   pub earlier : ℕ

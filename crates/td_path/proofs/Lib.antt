@@ -5,4 +5,4 @@ pub mod Lasts
 pub mod Numbers
 pub mod Walking
 pub mod Placing
-pub mod Latest
+pub mod Outputs

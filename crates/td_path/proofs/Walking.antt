@@ -1,26 +1,27 @@
 -- One step of the walk back, and its end at an input.
-use Rattle.std.proofs.Common.{◌≡◌, ◌≢◌, ℕ, zero, suc, ◌+◌, ◌-◌, ◌<◌, List, [], ◌∷◌, ◌++◌, length, map, reverse, refl, arith, subst, ◌∙◌, sym, ap, Some, None}
+use Rattle.std.proofs.Common.{◌≡◌, ◌≢◌, ℕ, zero, suc, ◌+◌, ◌-◌, ◌<◌, ◌≤◌, List, [], ◌∷◌, ◌++◌, length, map, reverse, refl, arith, subst, ◌∙◌, sym, ap, Some, None}
 use Rattle.std.specs.Prelude.{slice_get}
 use Rattle.td_gates.specs.declared.primitives.Level.{Level}
+use Rattle.td_gates.specs.declared.primitives.Level.TheVariants.{X}
 use Rattle.td_gates.specs.declared.primitives.Kind.{Kind}
 use Rattle.td_gates.specs.declared.timing.Delay.{Delay}
 use Rattle.td_gates.specs.Table.{delay_to}
 use Rattle.td_gates.specs.Wave.{Wave, at, before}
 use Rattle.td_gates.specs.Schedule.{target_at, target_before}
-use Rattle.td_gates.proofs.Places.{slice_get-some, slice_get-within, slice_get-Contains}
+use Rattle.td_gates.proofs.Places.{slice_get-some, slice_get-within, slice_get-Contains, slice_get-get}
 use Rattle.td_nets.specs.Netlist.{Name, Net, Low, High, Named, Gate}
 use Rattle.td_circuit.specs.Numbering.{NumberedGate, Numbered, setting, nets, first_output, IsGateAt, IsNumbering}
 use Rattle.td_circuit.specs.NetValues.{net_wave}
 use Rattle.td_circuit.proofs.Looping.{input_number, output_number}
 use Rattle.td_circuit.proofs.Nets.{gate_at}
 use Rattle.td_circuit.proofs.Searching.{reverse_push}
-use Rattle.td_run.specs.Waves.{waves_of}
+use Rattle.td_run.specs.Waves.{constant, waves_of}
 use Rattle.td_run.specs.Runs.{NetWaves}
 use Rattle.td_path.specs.declared.links.Cause.{Cause}
 use Rattle.td_path.specs.declared.links.Link as code
 use Rattle.td_path.specs.Links.{Link, IsChange, IsOfInput, IsCausedBy}
 use Rattle.td_path.specs.Chains.{IsRunFor, net_at, link_of}
-use Rattle.td_path.specs.Walks.{ArePlaces, wave_at, ChangesAt, IsFirstChange, link_by, LeadsOn, LeadsFrom, IsWalking}
+use Rattle.td_path.specs.Walks.{ArePlaces, wave_at, ChangesAt, SomeChanges, IsFirstChange, link_by, LeadsOn, LeadsFrom, IsWalking}
 use Rattle.td_path.proofs.Causes.{HasCause}
 use Rattle.td_path.proofs.Inputs.{input_moment}
 use Rattle.td_path.proofs.Numbers.{net_at-is, named_wave, number_wave, inputs_are, below_all, cause_of}
@@ -35,6 +36,11 @@ target_before-as kind kind' ins ins' t level p q is = rw (← p, q) is
 
 delay_to-as : (delay delay' : Delay) (level : Level) → delay ≡ delay' → delay_to delay level ≡ delay_to delay' level
 delay_to-as delay delay' level same = ap (λ d. delay_to d level) same
+
+pub steps_are : (waves : List Wave) (number now steps : ℕ) (wave : Wave) (level : Level) (delay : Delay) → slice_get waves number ≡ Some wave
+    → level ≡ at wave now → steps ≡ delay_to delay level → steps ≡ delay_to delay (at (wave_at waves number) now)
+steps_are waves number now steps wave level delay at_number is_level are =
+    are ∙ ap (delay_to delay) (is_level ∙ ap (λ w. at w now) (sym (slice_get-get waves number wave (constant X) at_number)))
 
 module _ (circuit : Numbered) (run : NetWaves) (numbering : IsNumbering circuit) (is : IsRunFor circuit run) where
   -- a link by number is a change of its net
@@ -89,6 +95,17 @@ module _ (circuit : Numbered) (run : NetWaves) (numbering : IsNumbering circuit)
             let wave = named_wave circuit run numbering is read.0 other (found.3.inputs.each k read.0 other read.1 at_k) in
             rw (of_moment, wave) (first.first k read.0 less read.1);
       }
+
+  -- the delay of a change leads back to a moment at which a net that the gate reads changes
+  pub back_far : (place number now steps : ℕ) (numbered : NumberedGate) → slice_get circuit.gates place ≡ Some numbered
+      → number ≡ first_output circuit + place → ChangesAt (wave_at run.waves number) now
+      → steps ≡ delay_to numbered.delay (at (wave_at run.waves number) now)
+      → (steps ≤ now) × SomeChanges run.waves numbered.inputs (now - steps)
+  back_far place number now steps numbered at_place here changes far =
+      let cause = cause_of circuit run numbering is place numbered now at_place (rw here at changes) in
+      let own : steps ≡ delay_to numbered.delay (at (wave_at run.waves (first_output circuit + place)) now) = rw here at far in
+      let same : cause.earlier ≡ now - steps = omega (arith, cause.put_off, own) in
+      (omega (arith, cause.put_off, own), rw (← same) cause.some)
 
   pub step_back : (places : List ℕ) → ArePlaces circuit places
       → (net moment number now place index earlier terminal : ℕ) (numbered : NumberedGate) (links : List code.Link)

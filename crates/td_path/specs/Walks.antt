@@ -33,13 +33,17 @@ pub record SomeChanges (waves : List Wave) (numbers : List ℕ) (moment : ℕ) :
   pub is_number : slice_get numbers terminal ≡ Some number
   pub changes : ChangesAt (wave_at waves number) moment
 
+-- none of these nets before this place changes at this moment
+abbrev pub AreKept : List Wave → List ℕ → ℕ → ℕ → Type 0
+AreKept waves numbers moment end = (k other : ℕ) → k < end → slice_get numbers k ≡ Some other
+    → at (wave_at waves other) moment ≡ before (wave_at waves other) moment
+
 -- the first of these nets that changes at this moment stands at this place
 pub record IsFirstChange (waves : List Wave) (numbers : List ℕ) (moment terminal : ℕ) : Type 0 where
   pub number : ℕ
   pub is_number : slice_get numbers terminal ≡ Some number
   pub changes : ChangesAt (wave_at waves number) moment
-  pub first : (k other : ℕ) → k < terminal → slice_get numbers k ≡ Some other
-      → at (wave_at waves other) moment ≡ before (wave_at waves other) moment
+  pub first : AreKept waves numbers moment terminal
 
 -- the first of these nets that changes last at this moment
 abbrev pub IsFirstAt : List Wave → List ℕ → ℕ → Option ℕ → Type 0
