@@ -1,5 +1,5 @@
 -- What made a gate's output change: some net that it reads changed just the delay before.
-use Rattle.std.proofs.Common.{◌≡◌, ◌≢◌, ℕ, suc, ◌+◌, ◌<◌, List, [], ◌∷◌, length, map, get_or, refl, arith, ◌∙◌, sym, ap, inl, inr, Some, true, false}
+use Rattle.std.proofs.Common.{◌≡◌, ◌≢◌, ℕ, suc, ◌+◌, ◌<◌, List, [], ◌∷◌, length, map, get_or, refl, arith, ◌∙◌, sym, ap, inl, inr, Some, Bool, true, false}
 use Rattle.std.specs.Prelude.{slice_get}
 use Rattle.std.proofs.lemmas.Bool.{cases_lt, cases_eq, cases_Bool}
 use Rattle.td_gates.specs.declared.primitives.Kind.{Kind}
@@ -10,9 +10,10 @@ use Rattle.td_gates.specs.Table.{level_eq, table, delay_to}
 use Rattle.td_gates.specs.Wave.{Wave, at, before}
 use Rattle.td_gates.specs.Schedule.{target_at, target_before, Obeys}
 use Rattle.td_gates.proofs.Levels.{cases_level, level_eq-same, level_eq-other}
-use Rattle.td_gates.proofs.Places.{some-same, slice_get-some, slice_get-get, get-slice_get}
+use Rattle.td_gates.proofs.Places.{some-same, slice_get-some, slice_get-within, slice_get-get}
 use Rattle.td_gates.proofs.Delays.{delayed}
-use Rattle.td_run.specs.Waves.{waves_of}
+use Rattle.td_gates.specs.declared.primitives.Level.TheVariants.{X}
+use Rattle.td_run.specs.Waves.{constant, waves_of}
 use Rattle.td_path.specs.Walks.{wave_at, ChangesAt, SomeChanges, AreKept, IsFirstChange}
 use Rattle.td_path.proofs.Sources.{source}
 
@@ -67,6 +68,25 @@ first_found waves numbers moment end number kept at_end differ = record {
   changes = other_level (at (wave_at waves number) moment) (before (wave_at waves number) moment) differ;
   first = kept;
 }
+
+-- the same of a wave that was read and an answer
+pub kept_next : (waves : List Wave) (numbers : List ℕ) (moment end d : ℕ) (wave : Wave) (answer : Bool) → end < length numbers
+    → AreKept waves numbers moment end → slice_get waves (get_or numbers end d) ≡ Some wave
+    → answer ≡ level_eq (at wave moment) (before wave moment) → answer ≡ true → AreKept waves numbers moment (suc end)
+kept_next waves numbers moment end d wave answer below kept read is same =
+    let number = slice_get-within numbers end below in
+    let own : get_or numbers end d ≡ number.0 = slice_get-get numbers end number.0 d number.1 in
+    let equal : wave_at waves number.0 ≡ wave = slice_get-get waves number.0 wave (constant X) (rw own at read) in
+    kept_more waves numbers moment end number.0 kept number.1 (rw equal (sym is ∙ same))
+
+pub found_next : (waves : List Wave) (numbers : List ℕ) (moment end d : ℕ) (wave : Wave) (answer : Bool) → end < length numbers
+    → AreKept waves numbers moment end → slice_get waves (get_or numbers end d) ≡ Some wave
+    → answer ≡ level_eq (at wave moment) (before wave moment) → answer ≡ false → IsFirstChange waves numbers moment end
+found_next waves numbers moment end d wave answer below kept read is differ =
+    let number = slice_get-within numbers end below in
+    let own : get_or numbers end d ≡ number.0 = slice_get-get numbers end number.0 d number.1 in
+    let equal : wave_at waves number.0 ≡ wave = slice_get-get waves number.0 wave (constant X) (rw own at read) in
+    first_found waves numbers moment end number.0 kept number.1 (rw equal (sym is ∙ differ))
 
 pub record HasCause (kind : Kind) (delay : Delay) (waves : List Wave) (numbers : List ℕ) (out : Wave) (moment : ℕ) : Type 0 where
   pub earlier : ℕ

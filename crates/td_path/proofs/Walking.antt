@@ -8,7 +8,7 @@ use Rattle.td_gates.specs.declared.timing.Delay.{Delay}
 use Rattle.td_gates.specs.Table.{delay_to}
 use Rattle.td_gates.specs.Wave.{Wave, at, before}
 use Rattle.td_gates.specs.Schedule.{target_at, target_before}
-use Rattle.td_gates.proofs.Places.{slice_get-some, slice_get-within, slice_get-Contains, slice_get-get}
+use Rattle.td_gates.proofs.Places.{some-same, slice_get-some, slice_get-within, slice_get-Contains, slice_get-get}
 use Rattle.td_nets.specs.Netlist.{Name, Net, Low, High, Named, Gate}
 use Rattle.td_circuit.specs.Numbering.{NumberedGate, Numbered, setting, nets, first_output, IsGateAt, IsNumbering}
 use Rattle.td_circuit.specs.NetValues.{net_wave}
@@ -112,14 +112,15 @@ module _ (circuit : Numbered) (run : NetWaves) (numbering : IsNumbering circuit)
       → IsWalking circuit run net moment number now links → number ≡ first_output circuit + place
       → slice_get circuit.gates place ≡ Some numbered → slice_get places place ≡ Some index
       → earlier ≡ now - delay_to numbered.delay (at (wave_at run.waves number) now)
-      → (first : IsFirstChange run.waves numbered.inputs earlier terminal)
-      → IsWalking circuit run net moment first.number earlier
+      → IsFirstChange run.waves numbered.inputs earlier terminal → (next : ℕ) → slice_get numbered.inputs terminal ≡ Some next
+      → IsWalking circuit run net moment next earlier
       (links ++ link_by run.waves number now (Some (record { gate = index; terminal = terminal })) ∷ [])
-  step_back places are net moment number now place index earlier terminal numbered links walking here at_place at_index back first =
+  step_back places are net moment number now place index earlier terminal numbered links walking here at_place at_index back first next at_next =
       let l : code.Link = link_by run.waves number now (Some (record { gate = index; terminal = terminal })) in
       let found = gate_at circuit numbering place numbered at_place in
       let lower = found.3.lower first.number (slice_get-Contains numbered.inputs terminal first.number first.is_number) in
-      record {
+      let same : first.number ≡ next = some-same first.number next (sym first.is_number ∙ at_next) in
+      rw (← same) (record {
         below = omega (arith, lower, below_all circuit run numbering is place numbered at_place);
         changes = first.changes;
         leads = λ link of_net of_moment.
@@ -134,7 +135,7 @@ module _ (circuit : Numbered) (run : NetWaves) (numbering : IsNumbering circuit)
               is_net = rest.is_net;
               is_moment = rest.is_moment;
             });
-      }
+      })
 
   low_still : (t : ℕ) → ChangesAt (wave_at run.waves 0) t → ⊥
   low_still t changes = still (net_wave (nets circuit) run.waves Low) is.runs.low t (rw (← named_wave circuit run numbering is 0 Low refl) at changes)
