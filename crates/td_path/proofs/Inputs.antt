@@ -37,20 +37,26 @@ parts_of t (m ∷ moments) (a ∷ firsts) (b ∷ seconds) (suc i) level at_i =
       is_second = rest.is_second;
     }
 
+early_level : (u moment : ℕ) (first second : Level) → u < moment → (if nat_lt u moment then first else second) ≡ first
+early_level u moment first second early = rw (lt-ltb u moment early)
+
+late_level : (u moment : ℕ) (first second : Level) → moment ≤ u → (if nat_lt u moment then first else second) ≡ second
+late_level u moment first second late = rw (le-ltb u moment late)
+
 -- a level that is one before a moment and another from then on changes at that moment
 one_change : (wave : Wave) (second : Level) (moment t : ℕ)
     → ((u : ℕ) → at wave u ≡ (if nat_lt u moment then wave.start else second)) → ChangesAt wave t → moment ≡ t
 one_change wave second moment zero each changes = elim (cases_lt 0 moment) [
-  | inl early ↦ absurd (changes (each 0 ∙ rw (lt-ltb 0 moment early) refl))
+  | inl early ↦ absurd (changes (each 0 ∙ early_level 0 moment wave.start second early))
   | inr late ↦ omega arith
 ]
 one_change wave second moment (suc u) each changes = elim (cases_lt (suc u) moment) [
-  | inl early ↦
-      let low : u < moment = omega arith in
-      absurd (changes (each (suc u) ∙ rw (lt-ltb (suc u) moment early) refl ∙ sym (each u ∙ rw (lt-ltb u moment low) refl)))
+  | inl early ↦ absurd (changes
+      (each (suc u) ∙ early_level (suc u) moment wave.start second early ∙ sym (each u ∙ early_level u moment wave.start second (omega arith))))
   | inr late ↦ elim (cases_lt u moment) [
     | inl now ↦ omega arith
-    | inr past ↦ absurd (changes (each (suc u) ∙ rw (le-ltb (suc u) moment late) refl ∙ sym (each u ∙ rw (le-ltb u moment past) refl)))
+    | inr past ↦ absurd (changes
+        (each (suc u) ∙ late_level (suc u) moment wave.start second late ∙ sym (each u ∙ late_level u moment wave.start second past)))
   ]
 ]
 

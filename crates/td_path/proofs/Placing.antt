@@ -1,5 +1,5 @@
 -- The places in the netlist of the gates in the circuit's order.
-use Rattle.std.proofs.Common.{◌≡◌, ℕ, suc, ◌+◌, ◌-◌, ◌<◌, ◌≤◌, List, length, map, refl, arith, ◌∙◌, sym, ap, inl, inr, Some}
+use Rattle.std.proofs.Common.{◌≡◌, ◌≢◌, ℕ, suc, ◌+◌, ◌-◌, ◌<◌, ◌≤◌, List, length, map, refl, arith, ◌∙◌, sym, ap, subst, inl, inr, Some}
 use Rattle.std.specs.Prelude.{slice_get, slice_set}
 use Rattle.std.proofs.lemmas.Bool.{cases_eq}
 use Rattle.std.proofs.lemmas.List.{length-map, length-set}
@@ -75,6 +75,13 @@ module _ (circuit : Numbered) (numbering : IsNumbering circuit) where
             (old.0, rw back (slice_get-set_other places now.i end i other ∙ old.1), old.2)
       ]
 
+  pub placed_next : (places : List ℕ) (end net first more : ℕ) → first ≡ first_output circuit → more ≡ suc end
+      → length places ≡ length circuit.gates → slice_get circuit.gate_outputs end ≡ Some net → PlacedTo circuit places end
+      → PlacedTo circuit (slice_set places (net - first) end) more
+  placed_next places end net first more p q count at_end placed =
+      subst (λ (m : ℕ). PlacedTo circuit (slice_set places (net - first) end) m) (sym q)
+      (subst (λ (f : ℕ). PlacedTo circuit (slice_set places (net - f) end) (suc end)) (sym p) (placed_more places end net count at_end placed))
+
   pub placed_all : (places : List ℕ) (end : ℕ) → length places ≡ length circuit.gates → length circuit.gate_outputs ≤ end
       → PlacedTo circuit places end → ArePlaces circuit places
   placed_all places end count all placed = record {
@@ -88,5 +95,5 @@ module _ (circuit : Numbered) (numbering : IsNumbering circuit) where
         let own : i ≡ placed_there.i = omega (arith, placed_there.number) in
         let equal : placed_there.gate ≡ gate =
         some-same placed_there.gate gate (sym placed_there.ordered ∙ ap (λ n. slice_get circuit.ordered n) (sym own) ∙ at_i) in
-        rw (← same, ← equal) placed_there.is_gate;
+        subst (λ (p : ℕ). slice_get circuit.netlist.gates p ≡ Some gate) same (placed_there.is_gate ∙ ap (λ g. Some g) equal);
   }

@@ -6,7 +6,7 @@ use Rattle.td_gates.specs.declared.primitives.Level.TheVariants.{X}
 use Rattle.td_gates.specs.declared.primitives.Kind.{Kind}
 use Rattle.td_gates.specs.declared.timing.Delay.{Delay}
 use Rattle.td_gates.specs.Table.{delay_to}
-use Rattle.td_gates.specs.Wave.{Wave, at, before}
+use Rattle.td_gates.specs.Wave.{Wave, at, before, last}
 use Rattle.td_gates.specs.Schedule.{target_at, target_before}
 use Rattle.td_gates.proofs.Places.{some-same, slice_get-some, slice_get-within, slice_get-Contains, slice_get-get}
 use Rattle.td_nets.specs.Netlist.{Name, Net, Low, High, Named, Gate}
@@ -19,12 +19,13 @@ use Rattle.td_run.specs.Waves.{constant, waves_of}
 use Rattle.td_run.specs.Runs.{NetWaves}
 use Rattle.td_path.specs.declared.links.Cause.{Cause}
 use Rattle.td_path.specs.declared.links.Link as code
-use Rattle.td_path.specs.Links.{Link, IsChange, IsOfInput, IsCausedBy}
+use Rattle.td_path.specs.Links.{Link, IsChange, IsOfInput, IsCausedBy, IsChain}
 use Rattle.td_path.specs.Chains.{IsRunFor, net_at, link_of}
 use Rattle.td_path.specs.Walks.{ArePlaces, wave_at, ChangesAt, SomeChanges, IsFirstChange, link_by, LeadsOn, LeadsFrom, IsWalking}
 use Rattle.td_path.proofs.Causes.{HasCause}
 use Rattle.td_path.proofs.Inputs.{input_moment}
-use Rattle.td_path.proofs.Numbers.{net_at-is, named_wave, number_wave, inputs_are, below_all, cause_of}
+use Rattle.td_path.proofs.Numbers.{net_at-is, named_wave, number_wave, inputs_are, below_all, cause_of, is_wave}
+use Rattle.td_path.proofs.Lasts.{last_changes, none_changes}
 
 target_at-as : (kind kind' : Kind) (ins ins' : List Wave) (t : ℕ) (level : Level) → kind ≡ kind' → ins' ≡ ins
     → target_at kind ins t ≡ level → target_at kind' ins' t ≡ level
@@ -189,3 +190,25 @@ module _ (circuit : Numbered) (run : NetWaves) (numbering : IsNumbering circuit)
     changes = changes;
     leads = λ link of_net of_moment. record { end = link; leads = refl; is_net = of_net; is_moment = of_moment };
   }
+
+  pub is_chain : (net moment : ℕ) (links found : List code.Link) → net < length (nets circuit)
+      → last (wave_at run.waves net) ≡ Some moment → LeadsFrom circuit run net moment links → found ≡ reverse links
+      → IsChain (setting circuit) (net_wave (nets circuit) run.waves) (net_at (nets circuit) net) (map (link_of (nets circuit)) found)
+  is_chain net moment links found below is_last from turned = record {
+    first = from.link;
+    others = from.others;
+    end = from.leads.end;
+    parts = ap (map (link_of (nets circuit))) turned ∙ from.parts;
+    begins = from.begins;
+    leads = from.leads.leads;
+    ends = from.leads.is_net;
+    is_last = ap last (number_wave circuit run numbering is net below) ∙ is_last ∙ ap (λ m. Some m) (sym from.leads.is_moment);
+  }
+
+  pub no_chain : (net : ℕ) → net < length (nets circuit) → last (wave_at run.waves net) ≡ None
+      → (net_wave (nets circuit) run.waves (net_at (nets circuit) net)).changes ≡ []
+  no_chain net below none = rw (number_wave circuit run numbering is net below) (none_changes (wave_at run.waves net).changes none)
+
+  pub change_at_last : (net moment : ℕ) → net < length (nets circuit) → last (wave_at run.waves net) ≡ Some moment
+      → ChangesAt (wave_at run.waves net) moment
+  change_at_last net moment below is_last = last_changes (wave_at run.waves net) moment (is_wave circuit run numbering is net below) is_last

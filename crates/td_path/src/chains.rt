@@ -5,7 +5,7 @@ ghost use Rattle.td_circuit.specs.Numbering.{nets, IsNumbering};
 ghost use Rattle.td_path.specs.Chains.{IsRunFor, Explains, ExplainsLatest};
 ghost use Rattle.td_path.specs.Walks.{ArePlaces, ChangesAt, LeadsFrom, wave_at, link_by};
 
-use crate::latest::latest_net;
+use crate::latest::{last_of, latest_net};
 use crate::links::{Cause, Link};
 use crate::places::places_of;
 use crate::terminals::{first_change, level_before};
@@ -83,7 +83,7 @@ pub fn chain_of(
     ensures { IfOk result (λ chain. Explains circuit.now run.now net chain) }
 {
     let _gates = circuit.gates();
-    let Some(moment) = run.wave(net).last() else {
+    let Some(moment) = last_of(run, net) else {
         return Ok(None);
     };
     let places = places_of(alloc, circuit)?;

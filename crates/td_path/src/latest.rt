@@ -2,11 +2,20 @@
 
 ghost use Rattle.std.specs.Prelude.{◌≡◌, ◌<◌, length};
 ghost use Rattle.std.specs.List.{All};
+ghost use Rattle.td_gates.specs.Wave.{last};
 ghost use Rattle.td_circuit.specs.Run.{latest_change};
 ghost use Rattle.td_run.specs.Waves.{waves_of};
-ghost use Rattle.td_path.specs.Walks.{IsFirstAt};
+ghost use Rattle.td_path.specs.Walks.{IsFirstAt, wave_at};
 
 use td_run::Run;
+
+/// The moment of a net's last change.
+pub fn last_of(run: &Run, net: u32) -> Option<u64>
+    requires { net < length run.now.waves }
+    ensures { result ≡ last (wave_at run.now.waves net) }
+{
+    run.wave(net).last()
+}
 
 /// The latest moment at which one of these nets changes, 0 where none does.
 fn latest_moment(run: &Run, nets: &[u32]) -> u64
@@ -15,7 +24,7 @@ fn latest_moment(run: &Run, nets: &[u32]) -> u64
 {
     let mut latest = 0;
     for net in nets {
-        latest = latest.max(run.wave(*net).last().unwrap_or(0));
+        latest = latest.max(last_of(run, *net).unwrap_or(0));
     }
     latest
 }
@@ -27,7 +36,7 @@ pub fn latest_net(run: &Run, nets: &[u32]) -> Option<u32>
 {
     let latest = latest_moment(run, nets);
     for net in nets {
-        if run.wave(*net).last() == Some(latest) {
+        if last_of(run, *net) == Some(latest) {
             return Some(*net);
         }
     }
