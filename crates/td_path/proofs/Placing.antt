@@ -72,7 +72,7 @@ module _ (circuit : Numbered) (numbering : IsNumbering circuit) where
             (let twice = some-same (first_output circuit + i) net (sym at_k ∙ ap (λ n. slice_get circuit.gate_outputs n) equal ∙ at_end) in
             other (omega (arith, twice, now.number))) in
             let old = placed i k (omega (arith, less, apart)) at_k in
-            (old.0, rw back (slice_get-set_other places now.i end i other ∙ old.1), old.2)
+            (old.0, subst (λ (p : ℕ). slice_get (slice_set places p end) i ≡ Some old.0) (sym back) (slice_get-set_other places now.i end i other ∙ old.1), old.2)
       ]
 
   pub placed_next : (places : List ℕ) (end net first more : ℕ) → first ≡ first_output circuit → more ≡ suc end
