@@ -3,7 +3,7 @@ use Rattle.std.proofs.Common.{◌≡◌, ℕ, zero, suc, ◌<◌, ◌≤◌, Lis
 use Rattle.std.specs.Prelude.{slice_get, nat_lt, if◌then◌else◌}
 use Rattle.std.proofs.lemmas.Bool.{cases_lt, lt-ltb, le-ltb}
 use Rattle.td_gates.specs.declared.primitives.Level.{Level}
-use Rattle.td_gates.specs.Wave.{Wave, at, before}
+use Rattle.td_gates.specs.Wave.{Wave, at}
 use Rattle.td_gates.proofs.Places.{none-some, some-same, slice_get-map_some}
 use Rattle.td_nets.specs.Netlist.{Name, Net, Named}
 use Rattle.td_circuit.specs.Settings.{Setting}

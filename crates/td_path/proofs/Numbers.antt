@@ -1,7 +1,6 @@
 -- The nets of a run by number and by name.
-use Rattle.std.proofs.Common.{◌≡◌, ℕ, ◌+◌, ◌<◌, List, length, map, get_or, refl, arith, ◌∙◌, sym, ap, Some}
+use Rattle.std.proofs.Common.{◌≡◌, ℕ, ◌+◌, ◌<◌, List, length, map, arith, ◌∙◌, sym, ap, Some}
 use Rattle.std.specs.Prelude.{slice_get}
-use Rattle.std.specs.List.{All, Contains}
 use Rattle.std.proofs.lemmas.List.Elements.{All-contains}
 use Rattle.td_gates.specs.declared.primitives.Level.TheVariants.{X}
 use Rattle.td_gates.specs.declared.primitives.Kind.{Kind}
@@ -10,7 +9,7 @@ use Rattle.td_gates.specs.Wave.{Wave, IsWave}
 use Rattle.td_gates.specs.Schedule.{Obeys}
 use Rattle.td_gates.proofs.Places.{slice_get-some, slice_get-within, slice_get-get}
 use Rattle.td_nets.specs.Netlist.{Net, Low, Named, Gate}
-use Rattle.td_circuit.specs.Numbering.{NumberedGate, Numbered, setting, nets, first_output, IsGateAt, IsNumbering}
+use Rattle.td_circuit.specs.Numbering.{NumberedGate, Numbered, nets, first_output, IsGateAt, IsNumbering}
 use Rattle.td_circuit.specs.NetValues.{net_wave}
 use Rattle.td_circuit.proofs.Looping.{output_number}
 use Rattle.td_circuit.proofs.Nets.{length-nets, gate_at, range-at}

@@ -1,5 +1,5 @@
 -- The output that changes last.
-use Rattle.std.proofs.Common.{◌≡◌, ◌≢◌, ℕ, zero, suc, ◌<◌, ◌≤◌, List, [], ◌∷◌, length, map, max, get_or, refl, arith, ◌∙◌, sym, ap, ◌⊎◌, inl, inr, Some, None}
+use Rattle.std.proofs.Common.{◌≡◌, ℕ, zero, suc, ◌<◌, ◌≤◌, List, [], ◌∷◌, map, max, refl, arith, ◌∙◌, sym, ap, ◌⊎◌, inl, inr, Some, None}
 use Rattle.std.specs.Prelude.{slice_get, unwrap_or, Option, Result, Ok, Err, IfOk}
 use Rattle.std.specs.List.{Contains}
 use Rattle.std.specs.Global.{Vec}
@@ -7,8 +7,8 @@ use Rattle.std.proofs.lemmas.Bool.{cases_lt}
 use Rattle.td_gates.specs.declared.primitives.Level.TheVariants.{X}
 use Rattle.td_gates.specs.Wave.{Wave, last}
 use Rattle.td_gates.proofs.Places.{none-some, slice_get-some, slice_get-within, slice_get-Contains, Contains-slice_get, slice_get-map_some, map-fuse}
-use Rattle.td_nets.specs.Netlist.{Name, Net, Named}
-use Rattle.td_circuit.specs.Numbering.{Numbered, setting, nets, IsNumbering}
+use Rattle.td_nets.specs.Netlist.{Name, Named}
+use Rattle.td_circuit.specs.Numbering.{Numbered, nets, IsNumbering}
 use Rattle.td_circuit.specs.Run.{latest_change}
 use Rattle.td_circuit.specs.NetValues.{net_wave}
 use Rattle.td_circuit.proofs.Values.{named-numbers}
@@ -16,8 +16,7 @@ use Rattle.std.proofs.lemmas.List.{length-map}
 use Rattle.td_run.specs.Waves.{constant, waves_of}
 use Rattle.td_run.specs.Runs.{NetWaves}
 use Rattle.td_path.specs.declared.links.Link as code
-use Rattle.td_path.specs.Links.{IsChain}
-use Rattle.td_path.specs.Chains.{IsRunFor, net_at, link_of, Explains, IsLatest, ExplainsLatest}
+use Rattle.td_path.specs.Chains.{IsRunFor, Explains, IsLatest, ExplainsLatest}
 use Rattle.td_path.specs.Walks.{wave_at, IsFirstAt}
 use Rattle.td_path.proofs.Lasts.{none_changes}
 use Rattle.td_path.proofs.Numbers.{net_at-is, named_wave}
@@ -82,9 +81,6 @@ attained waves (n ∷ numbers) = elim (cases_last (last (wave_at waves n))) [
   ]
 ]
   where
-    latest : ℕ
-    latest = latest_change (waves_of waves numbers)
-
     same_max : last (wave_at waves n) ≡ None → latest_change (waves_of waves numbers) ≡ max (unwrap_or (last (wave_at waves n)) 0) (latest_change (waves_of waves numbers))
     same_max none = rw none (omega arith)
 
@@ -109,18 +105,24 @@ module _ (circuit : Numbered) (run : NetWaves) (numbering : IsNumbering circuit)
   number_of place name at_place =
       let short = slice_get-some circuit.netlist.outputs place name at_place in
       let long = length-map circuit.netlist.outputs (λ (name : Name). Named name) in
-      let number = slice_get-within circuit.outputs place (omega (arith, short, long, numbering.outputs.count)) in
-      (number.0, number.1, numbering.outputs.each place number.0 (Named name) number.1
-          (slice_get-map_some (λ (n : Name). Named n) circuit.netlist.outputs place name at_place))
+      let number = slice_get-within circuit.outputs place (omega (arith, short, long, numbering.outputs.count)) in (
+        number.0,
+        number.1,
+        numbering.outputs.each place number.0 (Named name) number.1
+            (slice_get-map_some (λ (n : Name). Named n) circuit.netlist.outputs place name at_place),
+      )
 
   name_of : (place number : ℕ) → slice_get circuit.outputs place ≡ Some number
       → (name : Name) × (slice_get circuit.netlist.outputs place ≡ Some name) × (slice_get (nets circuit) number ≡ Some (Named name))
   name_of place number at_place =
       let short = slice_get-some circuit.outputs place number at_place in
       let long = length-map circuit.netlist.outputs (λ (name : Name). Named name) in
-      let name = slice_get-within circuit.netlist.outputs place (omega (arith, short, long, numbering.outputs.count)) in
-      (name.0, name.1, numbering.outputs.each place number (Named name.0) at_place
-          (slice_get-map_some (λ (n : Name). Named n) circuit.netlist.outputs place name.0 name.1))
+      let name = slice_get-within circuit.netlist.outputs place (omega (arith, short, long, numbering.outputs.count)) in (
+        name.0,
+        name.1,
+        numbering.outputs.each place number (Named name.0) at_place
+            (slice_get-map_some (λ (n : Name). Named n) circuit.netlist.outputs place name.0 name.1),
+      )
 
   abbrev moment : ℕ
   moment = latest_change (waves_of run.waves circuit.outputs)
@@ -140,16 +142,19 @@ module _ (circuit : Numbered) (run : NetWaves) (numbering : IsNumbering circuit)
       → (output : Name) × (slice_get (nets circuit) number ≡ Some (Named output))
       × IsLatest circuit.netlist (net_wave (nets circuit) run.waves) output
   named_latest number found =
-      let name = name_of found.0 number found.1 in
-      (name.0, name.2, record {
-        place = found.0;
-        is_output = name.1;
-        latest = ap last (named_wave circuit run numbering is number (Named name.0) name.2) ∙ found.2 ∙ ap (λ ws. Some (latest_change ws)) (sym outputs_are);
-        first = λ k other less at_k.
-            let lower = number_of k other at_k in
-            λ equal. found.3 k lower.0 less lower.1
-            (sym (ap last (named_wave circuit run numbering is lower.0 (Named other) lower.2)) ∙ equal ∙ ap (λ ws. Some (latest_change ws)) outputs_are);
-      })
+      let name = name_of found.0 number found.1 in (
+        name.0,
+        name.2,
+        record {
+          place = found.0;
+          is_output = name.1;
+          latest = ap last (named_wave circuit run numbering is number (Named name.0) name.2) ∙ found.2 ∙ ap (λ ws. Some (latest_change ws)) (sym outputs_are);
+          first = λ k other less at_k.
+              let lower = number_of k other at_k in
+              λ equal. found.3 k lower.0 less lower.1
+              (sym (ap last (named_wave circuit run numbering is lower.0 (Named other) lower.2)) ∙ equal ∙ ap (λ ws. Some (latest_change ws)) outputs_are);
+        },
+      )
 
   explains_some : (number : ℕ) → IsFirstAt run.waves circuit.outputs moment (Some number)
       → (chain : Option (Vec code.Link)) → Explains circuit run number chain → ExplainsLatest circuit run chain
@@ -162,8 +167,7 @@ module _ (circuit : Numbered) (run : NetWaves) (numbering : IsNumbering circuit)
       unchanged : (wave : Wave) (m : ℕ) → wave.changes ≡ [] → last wave ≡ Some m → ⊥
       unchanged wave m none is = none-some m (rw none at is)
   explains_some number found (Some links) chain =
-      let named = named_latest number found in
-      (
+      let named = named_latest number found in (
         named.0,
         named.2,
         rw (net_at-is (nets circuit) number (Named named.0) named.1) at chain,

@@ -1,11 +1,11 @@
 -- The places in the netlist of the gates in the circuit's order.
-use Rattle.std.proofs.Common.{◌≡◌, ◌≢◌, ℕ, suc, ◌+◌, ◌-◌, ◌<◌, ◌≤◌, List, length, map, refl, arith, ◌∙◌, sym, ap, subst, inl, inr, Some}
+use Rattle.std.proofs.Common.{◌≡◌, ◌≢◌, ℕ, suc, ◌+◌, ◌-◌, ◌<◌, ◌≤◌, List, length, map, arith, ◌∙◌, sym, ap, subst, inl, inr, Some}
 use Rattle.std.specs.Prelude.{slice_get, slice_set}
 use Rattle.std.proofs.lemmas.Bool.{cases_eq}
-use Rattle.std.proofs.lemmas.List.{length-map, length-set}
+use Rattle.std.proofs.lemmas.List.{length-map}
 use Rattle.td_gates.proofs.Places.{some-same, slice_get-some, slice_get-within, slice_get-Contains, Contains-slice_get, slice_get-map_some, slice_get-set_same, slice_get-set_other}
 use Rattle.td_nets.specs.Netlist.{Named, Gate}
-use Rattle.td_circuit.specs.Numbering.{Numbered, nets, first_output, IsNumbering}
+use Rattle.td_circuit.specs.Numbering.{Numbered, first_output, IsNumbering}
 use Rattle.td_circuit.proofs.Looping.{output_number}
 use Rattle.td_circuit.proofs.Nets.{place_of}
 use Rattle.td_path.specs.Walks.{ArePlaces}

@@ -1,5 +1,5 @@
 -- Where a change of a gate's output comes from: a change of its target, just the delay before.
-use Rattle.std.proofs.Common.{◌≡◌, ◌≢◌, ℕ, zero, suc, ◌+◌, ◌-◌, ◌<◌, ◌≤◌, arith, ◌∙◌, sym, ◌⊎◌, inl, inr}
+use Rattle.std.proofs.Common.{◌≡◌, ◌≢◌, ℕ, zero, suc, ◌+◌, ◌-◌, ◌<◌, ◌≤◌, arith, ◌∙◌, sym, inl, inr}
 use Rattle.std.proofs.lemmas.Bool.{cases_lt, cases_eq}
 use Rattle.td_gates.specs.declared.primitives.Level.{Level}
 use Rattle.td_gates.specs.declared.timing.Delay.{Delay}

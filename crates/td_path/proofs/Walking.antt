@@ -1,5 +1,5 @@
 -- One step of the walk back, and its end at an input.
-use Rattle.std.proofs.Common.{◌≡◌, ◌≢◌, ℕ, zero, suc, ◌+◌, ◌-◌, ◌<◌, ◌≤◌, List, [], ◌∷◌, ◌++◌, length, map, reverse, refl, arith, subst, ◌∙◌, sym, ap, Some, None}
+use Rattle.std.proofs.Common.{◌≡◌, ◌≢◌, ℕ, zero, suc, ◌+◌, ◌-◌, ◌<◌, ◌≤◌, List, [], ◌∷◌, ◌++◌, length, map, reverse, refl, arith, ◌∙◌, sym, ap, Some, None}
 use Rattle.std.specs.Prelude.{slice_get}
 use Rattle.td_gates.specs.declared.primitives.Level.{Level}
 use Rattle.td_gates.specs.declared.primitives.Level.TheVariants.{X}
@@ -9,20 +9,18 @@ use Rattle.td_gates.specs.Table.{delay_to}
 use Rattle.td_gates.specs.Wave.{Wave, at, before, last}
 use Rattle.td_gates.specs.Schedule.{target_at, target_before}
 use Rattle.td_gates.proofs.Places.{some-same, slice_get-some, slice_get-within, slice_get-Contains, slice_get-get}
-use Rattle.td_nets.specs.Netlist.{Name, Net, Low, High, Named, Gate}
-use Rattle.td_circuit.specs.Numbering.{NumberedGate, Numbered, setting, nets, first_output, IsGateAt, IsNumbering}
+use Rattle.td_nets.specs.Netlist.{Low, High, Named, Gate}
+use Rattle.td_circuit.specs.Numbering.{NumberedGate, Numbered, setting, nets, first_output, IsNumbering}
 use Rattle.td_circuit.specs.NetValues.{net_wave}
 use Rattle.td_circuit.proofs.Looping.{input_number, output_number}
 use Rattle.td_circuit.proofs.Nets.{gate_at}
 use Rattle.td_circuit.proofs.Searching.{reverse_push}
 use Rattle.td_run.specs.Waves.{constant, waves_of}
 use Rattle.td_run.specs.Runs.{NetWaves}
-use Rattle.td_path.specs.declared.links.Cause.{Cause}
 use Rattle.td_path.specs.declared.links.Link as code
 use Rattle.td_path.specs.Links.{Link, IsChange, IsOfInput, IsCausedBy, IsChain}
 use Rattle.td_path.specs.Chains.{IsRunFor, net_at, link_of}
-use Rattle.td_path.specs.Walks.{ArePlaces, wave_at, ChangesAt, SomeChanges, IsFirstChange, link_by, LeadsOn, LeadsFrom, IsWalking}
-use Rattle.td_path.proofs.Causes.{HasCause}
+use Rattle.td_path.specs.Walks.{ArePlaces, wave_at, ChangesAt, SomeChanges, IsFirstChange, link_by, LeadsFrom, IsWalking}
 use Rattle.td_path.proofs.Inputs.{input_moment}
 use Rattle.td_path.proofs.Numbers.{net_at-is, named_wave, number_wave, inputs_are, below_all, cause_of, is_wave}
 use Rattle.td_path.proofs.Lasts.{last_changes, none_changes}
@@ -130,7 +128,7 @@ module _ (circuit : Numbered) (run : NetWaves) (numbering : IsNumbering circuit)
               end = rest.end;
               leads = (
                 rw here (caused places are place index now earlier terminal numbered at_place at_index
-                (rw here at walking.changes) (rw here at back) first link of_net of_moment),
+                    (rw here at walking.changes) (rw here at back) first link of_net of_moment),
                 rest.leads,
               );
               is_net = rest.is_net;

@@ -1,5 +1,5 @@
 -- Internal: what the walk back from a change keeps, by the numbers of the nets.
-use Rattle.std.specs.Prelude.{◌≡◌, ◌≢◌, ℕ, ◌<◌, List, [], ◌∷◌, length, map, reverse, slice_get, slice_index_or, Option, Some, None}
+use Rattle.std.specs.Prelude.{◌≡◌, ◌≢◌, ℕ, ◌<◌, List, ◌∷◌, length, map, reverse, slice_get, slice_index_or, Option, Some, None}
 use Rattle.std.specs.List.{Contains}
 use Rattle.td_gates.specs.declared.primitives.Level.TheVariants.{X}
 use Rattle.td_gates.specs.Wave.{Wave, at, before, last}

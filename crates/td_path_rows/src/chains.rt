@@ -24,7 +24,9 @@ fn module(alloc: Global, gates: &str, inputs: usize) -> Result<String, Fail> {
         2 => "a,b",
         _ => "a,b,c",
     };
-    Ok(format!(in alloc; "module t (y,z,{names});\noutput y,z;\ninput {names};\n{gates}\nendmodule\n")?)
+    Ok(format!(in alloc;
+        "module t (y,z,{names});\noutput y,z;\ninput {names};\n{gates}\nendmodule\n"
+    )?)
 }
 
 /// The circuit of a text.
@@ -178,7 +180,8 @@ fn inverter(rt: HostRuntime) -> Result<(), Fail> {
 }
 
 /// A change that reaches a gate on two ways: the later one is the cause of the last change, unless the pulse is lost.
-const RECONVERGENT: &str = "not #1 (n,c); and #2 (p,a,c); and #2 (q,b,n); or #1 (y,p,q); buf #1 (z,1'b0);|0 0 0|111|110|latest|c 0 10 -> 0.0 n 1 01 -> 2.1 q 3 01 -> 3.1 y 4 01
+const RECONVERGENT: &str =
+    "not #1 (n,c); and #2 (p,a,c); and #2 (q,b,n); or #1 (y,p,q); buf #1 (z,1'b0);|0 0 0|111|110|latest|c 0 10 -> 0.0 n 1 01 -> 2.1 q 3 01 -> 3.1 y 4 01
 not #1 (n,c); and #2 (p,a,c); and #2 (q,b,n); or #(1,2) (y,p,q); buf #1 (z,1'b0);|0 0 0|111|110|latest|none
 buf #3 (n,a); xor #1 (y,a,n); buf #1 (z,1'b0);|0|0|1|latest|a 0 01 -> 0.0 n 3 01 -> 1.1 y 4 10
 buf #3 (n,a); xor #3 (y,a,n); buf #1 (z,1'b0);|0|0|1|latest|a 0 01 -> 0.0 n 3 01 -> 1.1 y 6 10
@@ -188,12 +191,16 @@ not #1 (y,n); not #2 (n,a); buf #1 (z,1'b0);|4|0|1|latest|a 4 01 -> 1.0 n 6 10 -
 
 #[test]
 fn reconvergent(rt: HostRuntime) -> Result<(), Fail> {
-    assert_eq!(rt; again(&rt, rt.alloc(), RECONVERGENT)?.as_str(), RECONVERGENT);
+    assert_eq!(rt;
+        again(&rt, rt.alloc(), RECONVERGENT)?.as_str(),
+        RECONVERGENT
+    );
     Ok(())
 }
 
 /// Of several terminals that change at once the first is told, and none that changed at another moment.
-const TERMINALS: &str = "buf #1 (n,a); buf #1 (p,b); buf #1 (q,c); xor #1 (y,n,p,q); buf #1 (z,1'b0);|0 0 0|000|111|latest|a 0 01 -> 0.0 n 1 01 -> 3.0 y 2 01
+const TERMINALS: &str =
+    "buf #1 (n,a); buf #1 (p,b); buf #1 (q,c); xor #1 (y,n,p,q); buf #1 (z,1'b0);|0 0 0|000|111|latest|a 0 01 -> 0.0 n 1 01 -> 3.0 y 2 01
 buf #1 (n,a); buf #1 (p,b); buf #1 (q,c); and #1 (y,n,p,q); buf #1 (z,1'b0);|0 0 0|100|111|latest|b 0 01 -> 1.0 p 1 01 -> 3.1 y 2 01
 and #1 (y,a,b); buf #1 (z,1'b0);|3 5|00|11|latest|b 5 01 -> 0.1 y 6 01
 and #1 (y,a,b); buf #1 (z,1'b0);|3 5|11|00|latest|a 3 10 -> 0.0 y 4 10
@@ -220,7 +227,8 @@ fn outputs(rt: HostRuntime) -> Result<(), Fail> {
 }
 
 /// Each net has its own chain: the constants, the inputs, and the gates' outputs.
-const NETS: &str = "buf #2 (y,a); and #1 (z,y,b);|3 4|00|10|all|none; none; a 3 01; none; a 3 01 -> 0.0 y 5 01; none
+const NETS: &str =
+    "buf #2 (y,a); and #1 (z,y,b);|3 4|00|10|all|none; none; a 3 01; none; a 3 01 -> 0.0 y 5 01; none
 not #1 (z,a); and #1 (y,a,z);|0|0|1|all|none; none; a 0 01; a 0 01 -> 0.0 z 1 10; a 0 01 -> 0.0 z 1 10 -> 1.1 y 2 10
 ";
 

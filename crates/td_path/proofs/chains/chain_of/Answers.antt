@@ -1,4 +1,4 @@
-use Rattle.std.proofs.Common.{sym, ◌∙◌}
+use Rattle.std.proofs.Common.{sym}
 use Rattle.td_path.proofs.Walking.{is_chain, no_chain, change_at_last}
 use Rattle.td_path.proofs.chains.chain_of.Goals as goal
 

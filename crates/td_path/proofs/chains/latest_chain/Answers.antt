@@ -1,4 +1,3 @@
-use Rattle.std.proofs.Common.{length}
 use Rattle.td_circuit.specs.Numbering.{nets}
 use Rattle.td_circuit.proofs.Nets.{numbers-below}
 use Rattle.td_path.proofs.Outputs.{explains, explains_none}

@@ -1,17 +1,13 @@
-use Rattle.std.proofs.Common.{◌≡◌, ◌<◌, ◌≤◌, ◌-◌, ◌+◌, List, length, map, arith, sym, ap, ◌∙◌, refl, Some}
-use Rattle.std.specs.Prelude.{slice_get}
+use Rattle.std.proofs.Common.{◌≡◌, ◌-◌, List, length, map, arith, sym, ap, ◌∙◌, refl}
 use Rattle.std.proofs.lemmas.List.{length-map}
 use Rattle.std.proofs.lemmas.Option.{slice_get_read, slice_get-get_or}
-use Rattle.td_gates.specs.Table.{delay_to}
-use Rattle.td_gates.specs.Wave.{at}
 use Rattle.td_gates.proofs.Places.{slice_get-some, slice_get-get}
 use Rattle.td_circuit.specs.declared.circuit.Gate as code
-use Rattle.td_circuit.specs.Numbering.{NumberedGate, first_output}
+use Rattle.td_circuit.specs.Numbering.{NumberedGate}
 use Rattle.td_circuit.specs.Views.{gate_of}
 use Rattle.td_circuit.proofs.Nets.{lower-at, length-nets}
 use Rattle.td_run.proofs.Gates.{numbered-at}
-use Rattle.td_path.specs.Walks.{wave_at}
-use Rattle.td_path.proofs.Walking.{steps_are, back_far, step_back, ends_back, starts}
+use Rattle.td_path.proofs.Walking.{steps_are, back_far, step_back, ends_back}
 use Rattle.td_path.proofs.chains.links_back.Goals as goal
 
 same_length : (gates : List code.Gate) (of_circuit : List NumberedGate) → map gate_of gates ≡ of_circuit → length gates ≡ length of_circuit
