@@ -2,7 +2,10 @@
 //! `a`, `b` and so on; their levels in the first vector and in the second; and the chain of the output that changes last, or those of
 //! all nets. Of each change are told the gate and the terminal that caused it, the net, the moment, and the levels before and after.
 
-use std::alloc::Global;
+ghost use Rattle.std.specs.Prelude.{◌≡◌, length, IfOk};
+ghost use Rattle.td_path.specs.Chains.{IsRunFor};
+
+use std::alloc::{AllocError, Global};
 use std::process::Abort;
 use std::test::*;
 use td_circuit::{Circuit, build};
@@ -123,15 +126,31 @@ fn told(alloc: Global, circuit: &Circuit, chain: Option<Vec<Link>>) -> Result<St
     Ok(text)
 }
 
+/// A run of a circuit.
+fn run_of(
+    alloc: Global,
+    circuit: &Circuit,
+    first: &[Level],
+    second: &[Level],
+) -> Result<Run, AllocError>
+    requires first { length first.now ≡ length circuit.now.netlist.inputs }
+    requires second { length second.now ≡ length circuit.now.netlist.inputs }
+    ensures { IfOk result (λ run. IsRunFor circuit.now run) }
+{
+    let run = waves(alloc, circuit, first, second)?;
+    Ok(run)
+}
+
 /// The chains of all nets, the constants first.
-fn told_all(alloc: Global, circuit: &Circuit, run: &Run) -> Result<String, Fail> {
+fn told_all(alloc: Global, circuit: &Circuit, run: &Run) -> Result<String, Fail>
+    requires { IsRunFor circuit.now run.now }
+{
     let mut text = String::new(alloc);
-    for net in 0..circuit.net_count() {
-        if net > 0 {
-            text.push_str("; ")?;
+    for place in 0..circuit.net_count() {
+        if let Ok(net) = u32::try_from(place) {
+            let chain = told(alloc, circuit, chain_of(alloc, circuit, run, net)?)?;
+            text.push_str(&format!(in alloc; "{chain}; ")?)?;
         }
-        let chain = told(alloc, circuit, chain_of(alloc, circuit, run, net as u32)?)?;
-        text.push_str(&chain)?;
     }
     Ok(text)
 }
@@ -143,7 +162,7 @@ fn found(rt: &impl Abort, alloc: Global, row: &str) -> Result<String, Fail> {
     let second = levels(alloc, part(row, 3))?;
     assert_eq!(rt; first.len(), circuit.input_count());
     assert_eq!(rt; second.len(), circuit.input_count());
-    let run = waves(alloc, &circuit, &first, &second)?;
+    let run = run_of(alloc, &circuit, &first, &second)?;
     match part(row, 4) {
         "latest" => told(alloc, &circuit, latest_chain(alloc, &circuit, &run)?),
         _ => told_all(alloc, &circuit, &run),
@@ -228,8 +247,8 @@ fn outputs(rt: HostRuntime) -> Result<(), Fail> {
 
 /// Each net has its own chain: the constants, the inputs, and the gates' outputs.
 const NETS: &str =
-    "buf #2 (y,a); and #1 (z,y,b);|3 4|00|10|all|none; none; a 3 01; none; a 3 01 -> 0.0 y 5 01; none
-not #1 (z,a); and #1 (y,a,z);|0|0|1|all|none; none; a 0 01; a 0 01 -> 0.0 z 1 10; a 0 01 -> 0.0 z 1 10 -> 1.1 y 2 10
+    "buf #2 (y,a); and #1 (z,y,b);|3 4|00|10|all|none; none; a 3 01; none; a 3 01 -> 0.0 y 5 01; none; 
+not #1 (z,a); and #1 (y,a,z);|0|0|1|all|none; none; a 0 01; a 0 01 -> 0.0 z 1 10; a 0 01 -> 0.0 z 1 10 -> 1.1 y 2 10; 
 ";
 
 #[test]
