@@ -14,4 +14,4 @@ mod working;
 
 pub use deck::Deck;
 pub use hints::Hints;
-pub use pool::worst;
+pub use pool::{worst, worst_by};
