@@ -69,10 +69,8 @@ pub fn worst<P: Prober + Sync, R: Threads + Wait + Sync>(
     ensures text { IfOk result (CanBeWritten (problem circuit.now admit.now)) }
     ensures fault { IfErr result (IsSearchFault (problem circuit.now admit.now)) }
 {
-    let mut decks = Deck::deal(alloc, workers as usize)?;
-    worst_by(
-        rt, alloc, circuit, admit, prober, &mut decks, workers, budget,
-    )
+    let decks = Deck::deal(alloc, workers as usize)?;
+    worst_by(rt, alloc, circuit, admit, prober, decks, workers, budget)
 }
 
 /// As `worst`, where the workers tell each other by these, one for each worker, which leaves may be open. What these answer has no
@@ -81,13 +79,13 @@ pub fn worst<P: Prober + Sync, R: Threads + Wait + Sync>(
 /// # Errors
 ///
 /// As `worst`.
-pub fn worst_by<P: Prober + Sync, D: Hints + Send, R: Threads + Wait + Sync>(
+pub fn worst_by<P: Prober + Sync, D: Hints + Drop + Send, R: Threads + Wait + Sync>(
     rt: &R,
     alloc: Global,
     circuit: &Circuit,
     admit: &Admit,
     prober: &P,
-    decks: &mut [D],
+    decks: Vec<D>,
     workers: u32,
     budget: u64,
 ) -> Result<Answer, SearchFault>
@@ -95,7 +93,7 @@ pub fn worst_by<P: Prober + Sync, D: Hints + Send, R: Threads + Wait + Sync>(
     requires few { workers ≤ 64 }
     requires modest { budget ≤ 10000000 }
     requires held { length admit.now.held ≡ length circuit.now.netlist.inputs }
-    requires decks { length decks.old ≡ workers }
+    requires decks { length decks.items ≡ workers }
     ensures answer { IfOk result (IsAnswer (problem circuit.now admit.now) budget) }
     ensures text { IfOk result (CanBeWritten (problem circuit.now admit.now)) }
     ensures fault { IfErr result (IsSearchFault (problem circuit.now admit.now)) }
@@ -112,13 +110,18 @@ pub fn worst_by<P: Prober + Sync, D: Hints + Send, R: Threads + Wait + Sync>(
 }
 
 // As `worst`, from what is known of the root, with a part of the ledger for each worker.
-fn search_all<L: Ledger + Send + Sync, P: Prober + Sync, D: Hints + Send, R: Threads + Wait + Sync>(
+fn search_all<
+    L: Ledger + Send + Sync,
+    P: Prober + Sync,
+    D: Hints + Drop + Send,
+    R: Threads + Wait + Sync,
+>(
     rt: &R,
     alloc: Global,
     circuit: &Circuit,
     admit: &Admit,
     prober: &P,
-    decks: &mut [D],
+    decks: Vec<D>,
     workers: u32,
     budget: u64,
     first: Best,
@@ -244,7 +247,7 @@ fn fresh(
 fn found_by_all<
     L: Ledger + Send + Sync,
     P: Prober + Sync,
-    D: Hints + Send,
+    D: Hints + Drop + Send,
     R: Threads + Wait + Sync,
 >(
     rt: &R,
@@ -252,7 +255,7 @@ fn found_by_all<
     circuit: &Circuit,
     admit: &Admit,
     prober: &P,
-    decks: &mut [D],
+    decks: Vec<D>,
     shared: &Shared<L>,
     workers: u32,
     found: Vec<Found>,
@@ -272,7 +275,6 @@ fn found_by_all<
     let Ok(all) = Vec::with_capacity(alloc, found.len()) else {
         return Err(AllocError);
     };
-    let decks = decks.iter_mut();
     Ok(thread::scope(
         thread::scope_env(),
         rt,
@@ -298,7 +300,7 @@ fn found_by_all<
                 let Some(found) = next_found(circuit, admit, shared, &mut waiting) else {
                     break;
                 };
-                let Some(deck) = decks.next() else {
+                let Some(deck) = decks.pop() else {
                     break;
                 };
                 let share = own.split_off(1, 0);
@@ -322,7 +324,7 @@ fn found_by_all<
                 }
             }
             if let Some(found) = next_found(circuit, admit, shared, &mut waiting)
-                && let Some(deck) = decks.next()
+                && let Some(deck) = decks.pop()
             {
                 all.push_reserved(work(
                     rt, alloc, circuit, admit, prober, shared, 0, deck, found, own,

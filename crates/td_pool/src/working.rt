@@ -218,7 +218,7 @@ fn begin(
 }
 
 /// Handles leaves until the book gives none or memory runs out. All that it hands back is true.
-pub fn work<L: Ledger, P: Prober, D: Hints, R: Wait>(
+pub fn work<L: Ledger, P: Prober, D: Hints + Drop, R: Wait>(
     rt: &R,
     alloc: Global,
     circuit: &Circuit,
@@ -226,7 +226,7 @@ pub fn work<L: Ledger, P: Prober, D: Hints, R: Wait>(
     prober: &P,
     shared: &Shared<L>,
     worker: u32,
-    deck: &mut D,
+    deck: D,
     found: Found,
     share: Share<L>,
 ) -> Report<L>
@@ -236,13 +236,14 @@ pub fn work<L: Ledger, P: Prober, D: Hints, R: Wait>(
     requires part { 0 < share.parts }
     ensures { IsTrueFound (problem circuit.now admit.now) result.found }
 {
+    let mut deck = deck;
     let mut found = found;
     let mut share = share;
     let Ok(mut scratch) = prober.scratch(alloc, circuit) else {
         return Report { found, share };
     };
     for _ in rt.forever() {
-        let Some(lease) = shared.lease(rt, circuit, admit, worker, deck) else {
+        let Some(lease) = shared.lease(rt, circuit, admit, worker, &mut deck) else {
             break;
         };
         let goes_on = handle(
@@ -253,7 +254,7 @@ pub fn work<L: Ledger, P: Prober, D: Hints, R: Wait>(
             prober,
             &mut scratch,
             shared,
-            deck,
+            &mut deck,
             lease,
             &mut found,
             &mut share,
