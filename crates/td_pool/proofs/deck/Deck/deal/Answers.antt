@@ -1,4 +1,4 @@
-use Rattle.std.proofs.Common.{◌≡◌, ◌<◌, ◌+◌, List, length, get_or, ap, arith, rules}
+use Rattle.std.proofs.Common.{◌≡◌, ◌<◌, List, length, get_or, ap, arith, rules}
 use Rattle.std.proofs.lemmas.Option.{slice_get_within}
 use Rattle.td_pool.specs.Fair.{Ports, ring}
 use Rattle.td_pool.proofs.Dealing.{own_after, others_after}
