@@ -73,8 +73,8 @@ pub fn worst<P: Prober + Sync, R: Threads + Wait + Sync>(
     worst_by(rt, alloc, circuit, admit, prober, decks, workers, budget)
 }
 
-/// As `worst`, where the workers tell each other by these, one for each worker, which leaves may be open. What these answer has no
-/// part in what is found: the book decides which leaf a worker handles.
+/// As `worst`, where the workers tell each other by these, one for each worker, which leaves may be open. Nothing is asked of the
+/// numbers that come out: the book decides which leaf a worker handles.
 ///
 /// # Errors
 ///
