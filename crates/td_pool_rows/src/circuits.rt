@@ -9,8 +9,8 @@ use td_circuit::{Circuit, build};
 use td_domain::Admit;
 use td_gates::Delay;
 use td_netlist::read;
-use td_pool::worst;
-use td_search::{Answer, Prober, SearchFault, alone};
+use td_pool::{Hints, worst, worst_by};
+use td_search::{Answer, Own, Prober, SearchFault, alone};
 
 /// An inverter.
 pub const INVERTER: &str = "not #(2,3) g(y,a);";
@@ -90,6 +90,25 @@ pub fn found<P: Prober + Sync, R: Threads + Wait + Sync + Abort>(
     assert!(rt; budget <= 10_000_000);
     assert_eq!(rt; admit.held().len(), circuit.input_count());
     match worst(rt, alloc, circuit, &admit, prober, workers, budget) {
+        Ok(answer) => in_words(alloc, &answer),
+        Err(SearchFault::NoPair) => Err(Fail::from("no pair")),
+        Err(SearchFault::OutOfMemory) => Err(Fail::from("out of memory")),
+    }
+}
+
+/// What a search of all pairs answers by a worker for each of these decks.
+pub fn found_by<D: Hints + Drop + Send, R: Threads + Wait + Sync + Abort>(
+    rt: &R,
+    alloc: Global,
+    circuit: &Circuit,
+    decks: Vec<D>,
+    workers: u32,
+) -> Result<Told, Fail> {
+    let admit = all_of(rt, alloc, circuit)?;
+    assert!(rt; 0 < workers && workers <= 64);
+    assert_eq!(rt; decks.len(), workers as usize);
+    assert_eq!(rt; admit.held().len(), circuit.input_count());
+    match worst_by(rt, alloc, circuit, &admit, &Own, decks, workers, 1_000_000) {
         Ok(answer) => in_words(alloc, &answer),
         Err(SearchFault::NoPair) => Err(Fail::from("no pair")),
         Err(SearchFault::OutOfMemory) => Err(Fail::from("out of memory")),

@@ -4,6 +4,8 @@
 #[cfg(test)]
 mod circuits;
 #[cfg(test)]
+mod decks;
+#[cfg(test)]
 mod probers;
 #[cfg(test)]
 mod searches;

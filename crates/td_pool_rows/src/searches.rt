@@ -1,6 +1,9 @@
 //! Searches of worked circuits, by one worker and by more.
 
-use crate::circuits::{INVERTER, LOST, RECONVERGENT, SLOW_ARM, circuit_of, found, found_alone};
+use crate::circuits::{
+    INVERTER, LOST, RECONVERGENT, SLOW_ARM, circuit_of, found, found_alone, found_by,
+};
+use crate::decks::{Passing, Refusing};
 use crate::probers::{Counting, Meeting};
 use std::alloc::Global;
 use std::process::Abort;
@@ -8,6 +11,7 @@ use std::sync::Wait;
 use std::sync::atomic::{AtomicU64, Ordering};
 use std::test::*;
 use std::thread::Threads;
+use td_pool::Deck;
 use td_search::Own;
 
 /// Checks what searches by 1, 2, 4 and 64 workers answer.
@@ -108,5 +112,54 @@ fn budgets_are_used_up(rt: HostRuntime) -> Result<(), Fail> {
         assert_eq!(&rt; answer.times.as_str(), "exact 3");
         assert_eq!(&rt; answer.nodes, 2047);
     }
+    Ok(())
+}
+
+#[test]
+fn numbers_refused(rt: HostRuntime) -> Result<(), Fail> {
+    let alloc = rt.alloc();
+    let circuit = circuit_of(&rt, alloc, "e, f, g, a, b", RECONVERGENT)?;
+    for workers in [1, 2, 4] {
+        let mut decks = Vec::new(alloc);
+        for _ in 0..workers {
+            decks.push(Refusing)?;
+        }
+        let answer = found_by(&rt, alloc, &circuit, decks, workers)?;
+        assert_eq!(&rt; answer.times.as_str(), "exact 3");
+        assert_eq!(&rt; answer.nodes, 2047);
+    }
+    Ok(())
+}
+
+#[test]
+fn numbers_given(rt: HostRuntime) -> Result<(), Fail> {
+    let alloc = rt.alloc();
+    let circuit = circuit_of(&rt, alloc, "e, f, g, a, b", RECONVERGENT)?;
+    let given = AtomicU64::new(0);
+    let mut decks = Vec::new(alloc);
+    for deck in Deck::deal(alloc, 1)? {
+        decks.push(Passing {
+            deck,
+            given: &given,
+        })?;
+    }
+    let answer = found_by(&rt, alloc, &circuit, decks, 1)?;
+    assert_eq!(&rt; answer.times.as_str(), "exact 3");
+    assert_eq!(&rt; answer.nodes, 2047);
+    assert!(&rt; given.load(Ordering::SeqCst) >= 1);
+    Ok(())
+}
+
+#[test]
+fn steals_what_another_put(rt: HostRuntime) -> Result<(), Fail> {
+    let mut decks = Deck::deal(rt.alloc(), 3)?;
+    assert_eq!(&rt; decks.len(), 3);
+    let (Some(mut one), Some(mut other)) = (decks.pop(), decks.pop()) else {
+        return Err(Fail::from("three decks"));
+    };
+    assert!(&rt; one.push(5).is_ok() && one.push(6).is_ok());
+    assert_eq!(&rt; other.steal(), Some(5));
+    assert_eq!(&rt; one.pop(), Some(6));
+    assert!(&rt; other.steal().is_none());
     Ok(())
 }
