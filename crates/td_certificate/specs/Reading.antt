@@ -342,36 +342,40 @@ node_at here bytes = do
   tag ← tag_at here bytes
   behind_tag here tag.0 tag.1
 
--- the leaves of each version
+-- the leaves of a tree, by the version: in the fourth one of them is bounded by edges
 abbrev pub leaves_in : Version → Leaves
 leaves_in First = leaves.First
 leaves_in Second = leaves.Later
 leaves_in Third = leaves.Later
-leaves_in Fourth = leaves.Any
+leaves_in Fourth = leaves.OfEdges
 
--- the leaves that may stand before so many other subtrees: the last one is bounded by edges where none has been that has to be
-abbrev pub leaves_at : Version → Bool → ℕ → Leaves
-leaves_at version owed others = if owed && others == 0 then leaves.OfEdges else leaves_in version
+-- the leaves that may stand before so many other subtrees: where one bounded by edges is still to come, the last one has to be it
+abbrev pub leaves_before : Leaves → ℕ → Leaves
+leaves_before leaves.First others = leaves.First
+leaves_before leaves.Later others = leaves.Later
+leaves_before leaves.Any others = leaves.Any
+leaves_before leaves.OfEdges zero = leaves.OfEdges
+leaves_before leaves.OfEdges (suc others) = leaves.Any
 
--- The nodes of so many subtrees, no more of them than the first number. Where it is owed, one of them is bounded by edges.
-unfoldable pub nodes_within : Version → Bool → ℕ → ℕ → List ℕ → Reading (List Node)
-nodes_within version owed count zero bytes = Ok ([], bytes)
-nodes_within version owed zero (suc pending) bytes = Err Ends
-nodes_within version owed (suc count) (suc pending) bytes = do
-  first ← node_at (leaves_at version owed pending) bytes
-  others ← nodes_within version (owed && not (names_edges first.0)) count (sides first.0 + pending) first.1
+-- the leaves behind a node
+abbrev pub leaves_behind : Leaves → Node → Leaves
+leaves_behind leaves.First n = leaves.First
+leaves_behind leaves.Later n = leaves.Later
+leaves_behind leaves.Any n = leaves.Any
+leaves_behind leaves.OfEdges n = if names_edges n then leaves.Any else leaves.OfEdges
+
+-- the nodes of so many subtrees, no more of them than the first number
+unfoldable pub nodes_within : Leaves → ℕ → ℕ → List ℕ → Reading (List Node)
+nodes_within here count zero bytes = Ok ([], bytes)
+nodes_within here zero (suc pending) bytes = Err Ends
+nodes_within here (suc count) (suc pending) bytes = do
+  first ← node_at (leaves_before here pending) bytes
+  others ← nodes_within (leaves_behind here first.0) count (sides first.0 + pending) first.1
   Ok (first.0 ∷ others.0, others.1)
 
 -- the nodes of so many subtrees
-unfoldable pub nodes_at : Version → Bool → ℕ → List ℕ → Reading (List Node)
-nodes_at version owed pending bytes = nodes_within version owed (length bytes) pending bytes
-
--- in the fourth version some leaf is bounded by edges
-abbrev pub owes_edges : Version → Bool
-owes_edges First = false
-owes_edges Second = false
-owes_edges Third = false
-owes_edges Fourth = true
+unfoldable pub nodes_at : Leaves → ℕ → List ℕ → Reading (List Node)
+nodes_at here pending bytes = nodes_within here (length bytes) pending bytes
 
 abbrev pub with_fields : ℕ → Question → ℕ → List Bool → List Bool → List Node → Certificate
 with_fields gates question time first second tree =
@@ -389,7 +393,7 @@ lines_at version bytes = do
   time ← number_behind (codes "time ") greatest 10 question.1
   first ← row_behind (codes "from ") bit_of inputs.0 time.1
   second ← row_behind (codes "to ") bit_of inputs.0 first.1
-  tree ← nodes_at version (owes_edges version) 1 second.1
+  tree ← nodes_at (leaves_in version) 1 second.1
   Ok (with_fields gates.0 question.0 time.0 first.0 second.0 tree.0, tree.1)
 
 -- a certificate, and the bytes after it

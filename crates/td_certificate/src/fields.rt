@@ -2,7 +2,7 @@
 
 ghost use Rattle.std.specs.Prelude.{◌≡◌, ◌≢◌, ◌≤◌, ◌<◌, ◌+◌, ◌^◌, ◌==◌, ◌||◌, length, codes, IfOk};
 ghost use Rattle.td_certificate.specs.declared.fields.Stop.TheVariants.{OutOfMemory};
-ghost use Rattle.td_certificate.specs.Reading.{Gives, byte_at, literal, digits_at, number_at, number_from, begins_with_zero, domain_of, letter_at, number_behind, behind_tag, BoundTag, PointTag, EmptyTag, node_at, leaves_in, leaves_at};
+ghost use Rattle.td_certificate.specs.Reading.{Gives, byte_at, literal, digits_at, number_at, number_from, begins_with_zero, domain_of, letter_at, number_behind, behind_tag, BoundTag, PointTag, EmptyTag, node_at, leaves_in, leaves_before, leaves_behind};
 
 use crate::question::Version;
 use crate::tree::{BoundedBy, Node};
@@ -43,38 +43,49 @@ impl<T: Drop> From<AllocFailed<T>> for Stop<'_> {
     }
 }
 
-/// Which leaves may stand at a place of a tree.
+/// Which leaves may stand in a tree, from some place on.
 #[derive(Clone, Copy, Debug, PartialEq, Eq, Drop)]
 pub enum Leaves {
     /// Those of the first version: none without an admitted pair, none bounded by edges.
     First,
     /// Those of the second and the third version: none bounded by edges.
     Later,
-    /// All, in the fourth version.
+    /// All, in the fourth version behind a leaf bounded by edges.
     Any,
-    /// Those bounded by edges, where the last leaf of the fourth version has to be.
+    /// Those of the fourth version before that: one bounded by edges is still to come.
     OfEdges,
 }
 
-/// The leaves of a version.
-fn leaves_in(version: Version) -> Leaves
-    ensures { result ≡ leaves_in version }
-{
-    match version {
-        Version::First => Leaves::First,
-        Version::Second | Version::Third => Leaves::Later,
-        Version::Fourth => Leaves::Any,
+impl Leaves {
+    /// The leaves of a version.
+    pub fn of(version: Version) -> Leaves
+        ensures { result ≡ leaves_in version }
+    {
+        match version {
+            Version::First => Leaves::First,
+            Version::Second | Version::Third => Leaves::Later,
+            Version::Fourth => Leaves::OfEdges,
+        }
     }
-}
 
-/// The leaves that may stand before so many other subtrees, where one bounded by edges is still owed or isn't.
-pub fn leaves_at(version: Version, owed: bool, others: u64) -> Leaves
-    ensures { result ≡ leaves_at version owed others }
-{
-    if owed && others == 0 {
-        Leaves::OfEdges
-    } else {
-        leaves_in(version)
+    /// Those that may stand before so many other subtrees. The last leaf has to be bounded by edges where one is still to come.
+    pub fn before(self, others: u64) -> Leaves
+        ensures { result ≡ leaves_before self others }
+    {
+        match self {
+            Leaves::OfEdges if others > 0 => Leaves::Any,
+            leaves => leaves,
+        }
+    }
+
+    /// Those behind a node.
+    pub fn behind(self, node: Node) -> Leaves
+        ensures { result ≡ leaves_behind self node }
+    {
+        match self {
+            Leaves::OfEdges if node.names_edges() => Leaves::Any,
+            leaves => leaves,
+        }
     }
 }
 

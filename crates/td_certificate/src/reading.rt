@@ -1,7 +1,7 @@
 //! Reading a certificate's text.
 
 ghost use Rattle.std.specs.Prelude.{◌≡◌, ◌≤◌, ◌<◌, ◌+◌, ◌-◌, ◌^◌, ◌∷◌, ℕ, take, length, Some, IfOk, IfErr};
-ghost use Rattle.td_certificate.specs.Reading.{Gives, begins_number, front_number, IsUpTo, is_version, version_reason, digit_at, version_at, has_inputs, owes_edges, nodes_at, lines_at, certificate_at};
+ghost use Rattle.td_certificate.specs.Reading.{Gives, begins_number, front_number, IsUpTo, is_version, version_reason, digit_at, version_at, has_inputs, leaves_in, nodes_at, lines_at, certificate_at};
 ghost use Rattle.td_certificate.specs.Spelling.{Spells};
 ghost use Rattle.td_certificate.specs.declared.certificate.Certificate.{Certificate as Contents};
 ghost use Rattle.td_certificate.specs.declared.fault.CertFaultKind.{CertFaultKind as Kind};
@@ -12,7 +12,7 @@ use crate::certificate::Certificate;
 use crate::characters::{Bits, row};
 use crate::fault::{CertFault, CertFaultKind};
 use crate::fields::{
-    GREATEST, Reason, Stop, leaves_at, literal, node, number, number_behind, number_from,
+    GREATEST, Leaves, Reason, Stop, literal, node, number, number_behind, number_from,
 };
 use crate::question::Version;
 use crate::tree::Tree;
@@ -114,28 +114,18 @@ fn version(text: &[u8]) -> Result<(Version, &[u8]), Stop<'_>>
     }
 }
 
-/// Whether some leaf of this version is bounded by edges.
-fn owes_edges(version: Version) -> bool
-    ensures { result ≡ owes_edges version }
-{
-    match version {
-        Version::First | Version::Second | Version::Third => false,
-        Version::Fourth => true,
-    }
-}
-
 /// Takes a tree.
 fn tree(alloc: Global, version: Version, text: &[u8]) -> Result<(Tree, &[u8]), Stop<'_>>
-    ensures { Gives (λ x. (x.0, x.1.now)) result (nodes_at version (owes_edges version) 1 text.now) }
+    ensures { Gives (λ x. (x.0, x.1.now)) result (nodes_at (leaves_in version) 1 text.now) }
 {
     let mut nodes = Vec::new(alloc);
     let mut pending = 1u64;
-    let mut owed = owes_edges(version);
+    let mut leaves = Leaves::of(version);
     let mut rest = text;
     while pending > 0 {
-        let (first, after) = node(leaves_at(version, owed, pending - 1), rest)?;
+        let (first, after) = node(leaves.before(pending - 1), rest)?;
         pending = pending - 1 + first.sides();
-        owed = owed && !first.names_edges();
+        leaves = leaves.behind(first);
         nodes.push(first)?;
         rest = after;
     }
