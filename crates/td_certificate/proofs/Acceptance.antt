@@ -182,7 +182,6 @@ module _ (circuit : Numbered) (numbering : IsNumbering circuit) (fit : AreMoment
       circuit numbering fit cube count of_cube.signals of_cube.are_signals pair is_in is.waves is.runs
       (both_quiet arrival_coverage.Covers possible_coverage.Covers arrival.last_of possible.last_of arrival_laws.quiet_after_last possible_laws.quiet_after_last)
       bound (sym of_cube.is_greatest))
-
   below_bound by.Edges cube count is_in bound of_cube =
       rw is.is_latest (no_later edges_coverage.Covers edges.edge_functions
       edges_laws.covers_input edges_laws.covers_constant edges_laws.covers_gate

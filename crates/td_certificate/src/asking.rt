@@ -110,12 +110,7 @@ fn moments(
 
 /// Takes the line of the moments.
 #[tactic(auto, unfolding(crate::specs::Reading::at_line))]
-fn at(
-    alloc: Global,
-    later: bool,
-    inputs: u32,
-    text: &[u8],
-) -> Result<(Vec<u64>, &[u8]), Stop<'_>>
+fn at(alloc: Global, later: bool, inputs: u32, text: &[u8]) -> Result<(Vec<u64>, &[u8]), Stop<'_>>
     ensures { Gives (λ x. (x.0.items, x.1.now)) result (at_line later inputs text.now) }
 {
     let rest = literal(b"at ", text)?;

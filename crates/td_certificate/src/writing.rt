@@ -94,7 +94,11 @@ fn push_moments(text: &mut String, moments: &[u64]) -> Result<(), AllocError>
 
 /// Puts the lines that tell a question at the end, as they stand in a certificate's text of this version. In the first version
 /// there are none.
-pub fn push_question(text: &mut String, version: Version, question: &Question) -> Result<(), AllocError>
+pub fn push_question(
+    text: &mut String,
+    version: Version,
+    question: &Question,
+) -> Result<(), AllocError>
     ensures { OnOk result (string_bytes text.new ≡ string_bytes text.old ++ question_text version question.now) }
 {
     match version {

@@ -122,7 +122,10 @@ fn what_was_read(rt: HostRuntime) -> Result<(), Fail> {
         "0 9 5 [] [] Split(7) 2, Bound(Possible, 4) 0, Split(10) 2, Bound(Both, 5) 0, Point(20) 0, "
     );
     let edges = what_is_claimed(rt.alloc(), &listed(rt.alloc(), 9)?)?;
-    assert_eq!(rt; edges.as_str(), "0 9 5 [] [] Split(7) 2, Bound(EdgesAndPossible, 4) 0, Empty 0, ");
+    assert_eq!(rt;
+        edges.as_str(),
+        "0 9 5 [] [] Split(7) 2, Bound(EdgesAndPossible, 4) 0, Empty 0, "
+    );
     Ok(())
 }
 
@@ -370,7 +373,10 @@ fn what_was_asked(rt: HostRuntime) -> Result<(), Fail> {
         "Third 3 [0, 1000000000, 0] 0 [false, true, false] Zero One Free Free One Free "
     );
     let edged = what_is_asked(rt.alloc(), &listed(rt.alloc(), 8)?)?;
-    assert_eq!(rt; edged.as_str(), "Fourth 4 [0, 7] 1 [false, false] Free Free Free Free ");
+    assert_eq!(rt;
+        edged.as_str(),
+        "Fourth 4 [0, 7] 1 [false, false] Free Free Free Free "
+    );
     let one_flip = what_is_asked(rt.alloc(), &listed(rt.alloc(), 4)?)?;
     assert_eq!(rt;
         one_flip.as_str(),

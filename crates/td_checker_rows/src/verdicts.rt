@@ -166,10 +166,12 @@ fn moments_of_the_certificate(rt: HostRuntime) -> Result<(), Fail> {
 }
 
 /// Two inverters: a change of the input to either level is one of the output's to the same, which takes 6.
-const BUFFER: &str = "module t(y, a); output y; input a; not #(1,5) n(b,a); not #(1,5) g(y,b); endmodule";
+const BUFFER: &str =
+    "module t(y, a); output y; input a; not #(1,5) n(b,a); not #(1,5) g(y,b); endmodule";
 
 /// By arrivals each inverter may take 5, by edges one of the two takes 1.
-const BY_EDGES: &str = "Accepted 0|4/circuit 1 2/first ./second ./hold ./flips 1/at 0/time 6/from 0/to 1/b e 6/
+const BY_EDGES: &str =
+    "Accepted 0|4/circuit 1 2/first ./second ./hold ./flips 1/at 0/time 6/from 0/to 1/b e 6/
 Accepted 0|4/circuit 1 2/first ./second ./hold ./flips 1/at 0/time 6/from 0/to 1/b n 6/
 Accepted 0|4/circuit 1 2/first ./second ./hold ./flips 1/at 7/time 13/from 0/to 1/b e 13/
 Accepted 0|4/circuit 1 2/first ./second ./hold ./flips 0/at 0/time 0/from 0/to 0/s 0/s 1/b e 0/none/s 1/none/b n 0/
@@ -195,7 +197,8 @@ fn leaves_bounded_by_edges(rt: HostRuntime) -> Result<(), Fail> {
 /// A gate of constants, without an input.
 const CONSTANT: &str = "module t (y); output y; and #1 g(y,1'b1,1'b1); endmodule";
 
-const NO_INPUTS: &str = "Accepted 0|circuit 0 1/first none/second none/hold none/flips 0/at none/time 0/from none/to none/b e 0/
+const NO_INPUTS: &str =
+    "Accepted 0|circuit 0 1/first none/second none/hold none/flips 0/at none/time 0/from none/to none/b e 0/
 LeafAboveTime 11|circuit 0 1/first none/second none/hold none/flips 0/at none/time 0/from none/to none/b n 1/
 ";
 
