@@ -30,21 +30,21 @@ domain_again : (here : Leaves) (x : BoundedBy) → IsDomain here x → domain_of
 domain_again leaves.First Arrival v = refl
 domain_again leaves.First Possible v = refl
 domain_again leaves.First Both v = refl
-domain_again leaves.First Edges v = absurd cc
-domain_again leaves.First EdgesAndPossible v = absurd cc
+domain_again leaves.First Edges v = absurd (let f : true ≡ false = v in cc)
+domain_again leaves.First EdgesAndPossible v = absurd (let f : true ≡ false = v in cc)
 domain_again leaves.Later Arrival v = refl
 domain_again leaves.Later Possible v = refl
 domain_again leaves.Later Both v = refl
-domain_again leaves.Later Edges v = absurd cc
-domain_again leaves.Later EdgesAndPossible v = absurd cc
+domain_again leaves.Later Edges v = absurd (let f : true ≡ false = v in cc)
+domain_again leaves.Later EdgesAndPossible v = absurd (let f : true ≡ false = v in cc)
 domain_again leaves.Any Arrival v = refl
 domain_again leaves.Any Possible v = refl
 domain_again leaves.Any Both v = refl
 domain_again leaves.Any Edges v = refl
 domain_again leaves.Any EdgesAndPossible v = refl
-domain_again leaves.OfEdges Arrival v = absurd cc
-domain_again leaves.OfEdges Possible v = absurd cc
-domain_again leaves.OfEdges Both v = absurd cc
+domain_again leaves.OfEdges Arrival v = absurd (let f : false ≡ true = v in cc)
+domain_again leaves.OfEdges Possible v = absurd (let f : false ≡ true = v in cc)
+domain_again leaves.OfEdges Both v = absurd (let f : false ≡ true = v in cc)
 domain_again leaves.OfEdges Edges v = refl
 domain_again leaves.OfEdges EdgesAndPossible v = refl
 
@@ -383,12 +383,12 @@ is_last node.Empty v = absurd v.tag
 
 pub from_last : (n : Node) → MayStand leaves.Any n → IsLast n → MayStand leaves.OfEdges n
 from_last (node.Split position) v last = record { tag = tt; domain = tt; fits = v.fits }
-from_last (node.Bound domain bound) v (splits e) = absurd (omega (arith, e))
+from_last (node.Bound domain bound) v (splits e) = absurd (let f : 0 ≡ 2 = e in cc)
 from_last (node.Bound domain bound) v (names e) = record { tag = tt; domain = e; fits = v.fits }
-from_last (node.Point time) v (splits e) = absurd (omega (arith, e))
-from_last (node.Point time) v (names e) = absurd cc
-from_last node.Empty v (splits e) = absurd (omega (arith, e))
-from_last node.Empty v (names e) = absurd cc
+from_last (node.Point time) v (splits e) = absurd (let f : 0 ≡ 2 = e in cc)
+from_last (node.Point time) v (names e) = absurd (let f : false ≡ true = e in cc)
+from_last node.Empty v (splits e) = absurd (let f : 0 ≡ 2 = e in cc)
+from_last node.Empty v (names e) = absurd (let f : false ≡ true = e in cc)
 
 -- it may stand where any leaf may
 pub last_any : (n : Node) → MayStand leaves.OfEdges n → MayStand leaves.Any n
