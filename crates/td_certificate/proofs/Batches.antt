@@ -1,5 +1,5 @@
 -- The text of a certificate up to some node.
-use Rattle.std.proofs.Common.{◌≡◌, ℕ, zero, suc, ◌+◌, ◌*◌, ◌/◌, ◌≤◌, ◌<◌, Bool, true, false, Some, List, [], ◌∷◌, ◌++◌, length, take, drop, get_or, refl, sym, ap, subst, ◌∙◌, append_assoc, arith}
+use Rattle.std.proofs.Common.{◌≡◌, ◌≢◌, ℕ, zero, suc, ◌+◌, ◌*◌, ◌/◌, ◌≤◌, ◌<◌, Bool, true, false, Some, List, [], ◌∷◌, ◌++◌, length, take, drop, get_or, refl, sym, ap, subst, ◌∙◌, append_assoc, arith}
 use Rattle.std.specs.Prelude.{map, codes, decimal, slice_get, if◌then◌else◌}
 use Rattle.std.specs.List.{flat_map}
 use Rattle.std.proofs.lemmas.List.{append-nil, take_all, take_more, take-append-drop, map-append}
@@ -163,9 +163,9 @@ moment_pushed ms i d old text new lt before pushed =
     ∙ append_assoc old (codes "at" ++ flat_map behind_at (take i ms)) (behind_at (get_or ms i d))
     ∙ ap (λ (t : List ℕ). old ++ (codes "at" ++ t)) (sym more)
 
-pub moments_pushed : (ms : List ℕ) (i : ℕ) (old text new : List ℕ) → 0 < length ms → length ms ≤ i → text ≡ old ++ (codes "at" ++ flat_map behind_at (take i ms)) → new ≡ text ++ codes "\n"
+pub moments_pushed : (ms : List ℕ) (i : ℕ) (old text new : List ℕ) → length ms ≢ 0 → length ms ≤ i → text ≡ old ++ (codes "at" ++ flat_map behind_at (take i ms)) → new ≡ text ++ codes "\n"
     → new ≡ old ++ ended (codes "at " ++ numbers ms)
-moments_pushed [] i old text new some le before pushed = absurd (omega arith)
+moments_pushed [] i old text new some le before pushed = absurd (some refl)
 moments_pushed (m ∷ ms) i old text new some le before pushed =
     pushed ∙ ap (λ (t : List ℕ). t ++ codes "\n") (before ∙ ap (λ (ns : List ℕ). old ++ (codes "at" ++ flat_map behind_at ns)) (take_all i (m ∷ ms) le) ∙ ap (λ (t : List ℕ). old ++ t) (spaced m ms))
     ∙ append_assoc old (codes "at " ++ numbers (m ∷ ms)) (codes "\n")

@@ -35,7 +35,8 @@ fn side(second: bool) -> usize
     usize::from(second)
 }
 
-/// Puts a character for each first bit of the inputs at the end, or for each second bit.
+/// Puts a character for each first bit of the inputs at the end, or for each second bit, or `none`.
+#[tactic(auto, using(crate::proofs::Batches::none_pushed))]
 fn push_trits(text: &mut String, pins: &Cube, second: bool) -> Result<(), AllocError>
     ensures { OnOk result (string_bytes text.new ≡ string_bytes text.old ++ row trit (if second then second_trits pins.now else first_trits pins.now)) }
 {
