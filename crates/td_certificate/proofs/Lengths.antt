@@ -114,10 +114,9 @@ at_length : (q : Question) → IsAsked q → length (ended (field_line q AtField
 at_length q has =
     omega (arith, length-append (codes "at " ++ numbers q.moments) (10 ∷ []), length-append (codes "at ") (numbers q.moments), numbers_length q.moments has.moments, has.count, has.inputs)
 
-lines_length : (q : Question) (v : Version) → IsAsked q → length (question_text v q) ≤ 78000
-lines_length q First has = omega arith
-lines_length q Second has = omega (arith, admit_length q has)
-lines_length q Third has =
+-- the lines of the third version, which are those of the fourth
+dated_length : (q : Question) → IsAsked q → length (question_text Third q) ≤ 78000
+dated_length q has =
     omega (
       arith,
       ap length (third_parts q),
@@ -125,7 +124,12 @@ lines_length q Third has =
       admit_length q has,
       at_length q has,
     )
-lines_length q Fourth has = lines_length q Third has
+
+lines_length : (q : Question) (v : Version) → IsAsked q → length (question_text v q) ≤ 78000
+lines_length q First has = omega arith
+lines_length q Second has = omega (arith, admit_length q has)
+lines_length q Third has = dated_length q has
+lines_length q Fourth has = dated_length q has
 
 -- ---- the whole
 
