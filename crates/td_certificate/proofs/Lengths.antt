@@ -13,7 +13,7 @@ use Rattle.td_certificate.specs.declared.question.Version.TheVariants.{First, Se
 use Rattle.td_certificate.specs.declared.certificate.Certificate.{Certificate}
 use Rattle.td_certificate.specs.Questions.{Question, inputs_of}
 use Rattle.td_certificate.specs.Text.{bit, row, trit, first_trits, second_trits, hold, numbers}
-use Rattle.td_certificate.specs.Spelling.{inputs, version_in, FirstField, SecondField, HoldField, FlipsField, AtField, fields_of, field_line, ended, text_of, question_text, latest, HasSpelling}
+use Rattle.td_certificate.specs.Spelling.{inputs, version_in, FirstField, SecondField, HoldField, FlipsField, AtField, field_line, ended, question_text, latest, HasSpelling}
 use Rattle.td_certificate.specs.Lengths.{IsShort, SearchedTextsFit}
 use Rattle.td_certificate.proofs.FieldCodes.{number_text}
 use Rattle.td_certificate.proofs.VectorCodes.{vector_text}

@@ -1,5 +1,5 @@
 -- A node's line is a code, by the leaves that may stand there.
-use Rattle.std.proofs.Common.{◌≡◌, ◌≢◌, ℕ, ◌≤◌, Bool, true, false, List, [], ◌∷◌, ◌++◌, Ok, Some, refl, sym, ap, subst, ◌∙◌, arith}
+use Rattle.std.proofs.Common.{◌≡◌, ℕ, ◌≤◌, true, false, List, [], ◌∷◌, ◌++◌, Ok, Some, refl, sym, ap, subst, ◌∙◌, arith}
 use Rattle.std.specs.Prelude.{codes}
 use Rattle.td_certificate.specs.declared.tree.BoundedBy.{BoundedBy}
 use Rattle.td_certificate.specs.declared.tree.BoundedBy.TheVariants.{Arrival, Possible, Both, Edges, EdgesAndPossible}
@@ -14,7 +14,7 @@ use Rattle.td_certificate.specs.Spelling.{ended, greatest, IsNode}
 use Rattle.td_certificate.specs.Text.{letter, node_line}
 use Rattle.td_certificate.specs.Reading.{◌>>=◌, literal, number_behind, written_as, domain_byte, domains, domain_of as domain_of_byte, letter_at, Tag, SplitTag, BoundTag, PointTag, EmptyTag, tag_byte, tags, tag_at, behind_tag, node_at}
 use Rattle.td_certificate.proofs.Codes.{IsCode, IsCode-then, IsCode-done}
-use Rattle.td_certificate.proofs.FieldCodes.{Always, IsLimit, AtMost, number_text}
+use Rattle.td_certificate.proofs.FieldCodes.{IsLimit, AtMost, number_text}
 use Rattle.td_certificate.proofs.VectorCodes.{behind_word, number_behind_code, IsLetter, written_from, char_code, IsCode-as, mapped_code}
 
 -- ---- letters
