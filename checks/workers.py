@@ -15,24 +15,10 @@ import sys
 import tempfile
 import time
 
-KINDS = ["and", "nand", "or", "nor", "xor", "xnor", "buf", "not"]
+from vcd import netlist
+
 # The longest that a command may take, in seconds.
 LONGEST = 60
-
-
-def netlist(rng):
-    """The text of a random circuit, and its number of inputs."""
-    inputs = [f"i{k}" for k in range(rng.randint(1, 5))]
-    nets, lines = list(inputs), []
-    for k in range(rng.randint(1, 16)):
-        kind = rng.choice(KINDS)
-        count = 1 if kind in ("buf", "not") else rng.randint(1, 3)
-        reads = ",".join(rng.choice(nets[-8:]) for _ in range(count))
-        lines.append(f"{kind} #({rng.randint(1, 6)},{rng.randint(1, 6)}) (n{k},{reads});")
-        nets.append(f"n{k}")
-    outputs = nets[-rng.randint(1, min(3, len(lines))):]
-    head = [f"module t ({','.join(inputs + outputs)});", f"input {','.join(inputs)};", f"output {','.join(outputs)};"]
-    return "\n".join(head + lines + ["endmodule\n"]), len(inputs)
 
 
 def options(rng, inputs):
@@ -97,7 +83,7 @@ def main():
     circuits = searches = wrong = 0
     with tempfile.TemporaryDirectory() as folder:
         while time.monotonic() < end:
-            text, inputs = netlist(rng)
+            text, inputs, _ = netlist(rng)
             with open(os.path.join(folder, "t.v"), "w") as file:
                 file.write(text)
             words = options(rng, inputs)
