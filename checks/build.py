@@ -27,9 +27,9 @@ def crates():
 
 
 def seconds_of():
-    """How long the proof of each crate takes at most, by the README's table, which counts the tests of a crate with it."""
+    """How long the proof of each crate takes at most, by the table of docs/FIGURES.md, which counts the tests of a crate with it."""
     table = {}
-    for name, seconds in re.findall(r"^\| `(\w+)` \| (\d+) \|", open(os.path.join(TOP, "README.md")).read(), flags=re.M):
+    for name, seconds in re.findall(r"^\| `(\w+)` \| (\d+) \|", open(os.path.join(TOP, "docs/FIGURES.md")).read(), flags=re.M):
         table[name] = int(seconds)
     return table
 

@@ -1,8 +1,8 @@
 #!/usr/bin/env python3
-"""readme.py PROGRAM: looks that README.md tells the truth where a script can see it.
+"""readme.py PROGRAM: looks that README.md, docs/COMMANDS.md and docs/CONTRACTS.md tell the truth where a script can see it.
 
-Each contract that README.md quotes stands in the sources, word for word, and each command that it shows prints with PROGRAM (a built
-`tdelay`) what README.md shows. Run it at the top of the repository. Exit status 1 where anything differs.
+Each contract that they quote stands in the sources, word for word, and each command that they or examples/README.md show prints with PROGRAM
+(a built `tdelay`) what they show. Run it at the top of the repository. Exit status 1 where anything differs.
 """
 
 import glob
@@ -12,7 +12,8 @@ import subprocess
 import sys
 import tempfile
 
-README = open("README.md").read()
+PAGES = ["README.md", "docs/COMMANDS.md", "docs/CONTRACTS.md"]
+SHOWN = "\n".join(open(page).read() for page in PAGES)
 
 INVERTER = "module t(a, y);\ninput a;\noutput y;\nnot #(2,3) g(y,a);\nendmodule\n"
 LOST = "module t(a, y);\ninput a;\noutput y;\n%s\nendmodule\n"
@@ -27,8 +28,8 @@ def plain(text):
 
 
 def quoted():
-    """The lines of contracts that README.md quotes."""
-    for block in re.findall(r"```\n(pub fn.*?)```", README, flags=re.S):
+    """The lines of contracts that the pages quote."""
+    for block in re.findall(r"```\n(pub fn.*?)```", SHOWN, flags=re.S):
         yield from re.split(r"\n(?=pub fn|    ensures|    requires)", block.strip())
 
 
@@ -49,7 +50,7 @@ def unstated():
 
 
 def shown(folder):
-    """Commands with what README.md shows of them: words, texts that README.md has to have, what is printed, exit status, what is told."""
+    """Commands with what the pages show of them: words, texts that one of them has to have, what is printed, exit status, what is told."""
     with open(os.path.join(folder, "inverter.v"), "w") as file:
         file.write(INVERTER)
     with open(os.path.join(folder, "lost.v"), "w") as file:
@@ -67,6 +68,11 @@ def shown(folder):
     apart = ["--at", "0,2"]
     c17 = os.path.abspath("examples/c17.v")
     yield ["sim", c17, "01010", "01110"], ["./tdelay sim examples/c17.v 01010 01110", run], run, 0, ""
+    changes = "change 0 N3 0 1 input\nchange 1 N11 1 0 nand 1\nchange 2 N16 0 1 nand 1\nchange 3 N22 1 0 nand 1\n"
+    path = "unit 1 ns\ndefaulted 6\n" + changes
+    yield ["path", c17, "01010", "01110"], ["./tdelay path examples/c17.v 01010 01110", path], path, 0, ""
+    other = "tdelay: no output of this name"
+    yield ["path", c17, "01010", "01110", "--output", "N3"], [], "", 2, other + "\n"
     yield ["bound", c17, "--first", "0.0..", "--second", ".1..."], ["./tdelay bound examples/c17.v --first 0.0.. --second .1..."], None, 0, ""
     yield ["bound", "inverter.v"], [INVERTER, "`a 3`, `t none`, `m 3`"], bounds, 0, ""
     yield ["worst", "inverter.v", "--cert", "inverter.cert"], ["./tdelay worst inverter.v --cert inverter.cert", exact], exact, 0, ""
@@ -106,7 +112,7 @@ def misprinted(program):
     with tempfile.TemporaryDirectory() as folder:
         for words, texts, printed, status, told in shown(folder):
             ran = subprocess.run([program] + words, cwd=folder, capture_output=True, text=True)
-            faults = [f"README.md has no {text!r}" for text in texts if text not in README]
+            faults = [f"no page has {text!r}" for text in texts if text not in SHOWN]
             if printed is not None and ran.stdout != printed:
                 faults.append(f"printed {ran.stdout!r}")
             if ran.stderr != told or ran.returncode != status:
@@ -116,10 +122,27 @@ def misprinted(program):
     return wrong
 
 
+def taught():
+    """Each command of examples/README.md, with the block behind it."""
+    text = open("examples/README.md").read()
+    return re.findall(r"```sh\n\./tdelay ([^\n]*)\n```\n\n```\n(.*?)```", text, flags=re.S)
+
+
+def mistaught(program):
+    wrong = 0
+    for line, printed in taught():
+        ran = subprocess.run([program] + line.split(), capture_output=True, text=True)
+        differs = ran.stdout != printed or ran.stderr != "" or ran.returncode != 0
+        print(line + ": " + ("differs" if differs else "as shown"))
+        wrong += differs
+    return wrong
+
+
 def main():
     if len(sys.argv) != 2:
         sys.exit(__doc__)
-    sys.exit(1 if unstated() + misprinted(os.path.abspath(sys.argv[1])) else 0)
+    program = os.path.abspath(sys.argv[1])
+    sys.exit(1 if unstated() + misprinted(program) + mistaught(program) else 0)
 
 
 if __name__ == "__main__":

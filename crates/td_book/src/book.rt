@@ -49,21 +49,6 @@ impl Model for Book {
     ghost invariant = { λ b. IsBook (record { cube = b.chain.cube; workers = b.workers; budget = b.budget; nodes = b.chain.nodes; order = b.order.items }) b.allowed (vec_capacity b.order) × (length b.cube.items ≡ length b.chain.cube) };
 }
 
-// Whether the trits are those of the cube.
-fn is_same(cube: &Cube, trits: &[Trit]) -> bool
-    ensures { IsTrue result ↔ (cube.now ≡ trits.now) }
-{
-    if cube.len() != trits.len() {
-        return false;
-    }
-    for (position, trit) in trits.iter().enumerate() {
-        if cube.trit(position) != *trit {
-            return false;
-        }
-    }
-    true
-}
-
 // Whether this worker holds the node, with this allowance.
 fn is_held(state: Option<State>, worker: u32, allowance: u32) -> bool
     ensures { IsTrue result ↔ (state ≡ Some (State.Held worker allowance)) }
@@ -128,7 +113,7 @@ fn shows(chain: &Chain, cube: &mut [Trit], lease: &Lease) -> bool
         return false;
     }
     chain.read_cube(lease.number, cube);
-    is_same(&lease.cube, cube)
+    lease.cube.has_trits(cube)
 }
 
 // Splits and closes an open leaf of the chain, with the lease's number and cube, and what is opened below it, as the states

@@ -27,6 +27,9 @@ use Rattle.td_arrival.specs.ArrivalLaws as arrival_laws
 use Rattle.td_ternary.specs.Possibles as possible
 use Rattle.td_ternary.specs.Coverage as possible_coverage
 use Rattle.td_ternary.specs.PossibleLaws as possible_laws
+use Rattle.td_edges.specs.EdgeSignals as edges
+use Rattle.td_edges.specs.Coverage as edges_coverage
+use Rattle.td_edges.specs.EdgeLaws as edges_laws
 use Rattle.td_certificate.specs.declared.tree.BoundedBy.{BoundedBy}
 use Rattle.td_certificate.specs.declared.tree.BoundedBy.TheVariants as by
 use Rattle.td_certificate.specs.declared.certificate.Certificate.{Certificate}
@@ -178,6 +181,20 @@ module _ (circuit : Numbered) (numbering : IsNumbering circuit) (fit : AreMoment
       (both_covers_gate arrival_coverage.Covers possible_coverage.Covers arrival.gate_signal possible.gate_signal arrival_laws.covers_gate possible_laws.covers_gate)
       circuit numbering fit cube count of_cube.signals of_cube.are_signals pair is_in is.waves is.runs
       (both_quiet arrival_coverage.Covers possible_coverage.Covers arrival.last_of possible.last_of arrival_laws.quiet_after_last possible_laws.quiet_after_last)
+      bound (sym of_cube.is_greatest))
+  below_bound by.Edges cube count is_in bound of_cube =
+      rw is.is_latest (no_later edges_coverage.Covers edges.edge_functions
+      edges_laws.covers_input edges_laws.covers_constant edges_laws.covers_gate
+      circuit numbering fit cube count of_cube.signals of_cube.are_signals pair is_in is.waves is.runs
+      edges_laws.quiet_after_last bound (sym of_cube.is_greatest))
+  below_bound by.EdgesAndPossible cube count is_in bound of_cube =
+      rw is.is_latest (no_later (λ signal wave. edges_coverage.Covers signal.0 wave × possible_coverage.Covers signal.1 wave)
+      (both_functions edges.edge_functions possible.possible_functions)
+      (λ first second moment wave h. (edges_laws.covers_input first second moment wave h, possible_laws.covers_input first second moment wave h))
+      (λ one wave h. (edges_laws.covers_constant one wave h, possible_laws.covers_constant one wave h))
+      (both_covers_gate edges_coverage.Covers possible_coverage.Covers edges.gate_signal possible.gate_signal edges_laws.covers_gate possible_laws.covers_gate)
+      circuit numbering fit cube count of_cube.signals of_cube.are_signals pair is_in is.waves is.runs
+      (both_quiet edges_coverage.Covers possible_coverage.Covers edges.last_of possible.last_of edges_laws.quiet_after_last possible_laws.quiet_after_last)
       bound (sym of_cube.is_greatest))
 
   -- the delay of a point's pair

@@ -1,5 +1,5 @@
 -- The text of a certificate up to some node.
-use Rattle.std.proofs.Common.{◌≡◌, ℕ, zero, suc, ◌+◌, ◌*◌, ◌/◌, ◌≤◌, ◌<◌, Bool, true, false, Some, List, [], ◌∷◌, ◌++◌, length, take, drop, get_or, refl, sym, ap, subst, ◌∙◌, append_assoc, arith}
+use Rattle.std.proofs.Common.{◌≡◌, ◌≢◌, ℕ, zero, suc, ◌+◌, ◌*◌, ◌/◌, ◌≤◌, ◌<◌, Bool, true, false, Some, List, [], ◌∷◌, ◌++◌, length, take, drop, get_or, refl, sym, ap, subst, ◌∙◌, append_assoc, arith}
 use Rattle.std.specs.Prelude.{map, codes, decimal, slice_get, if◌then◌else◌}
 use Rattle.std.specs.List.{flat_map}
 use Rattle.std.proofs.lemmas.List.{append-nil, take_all, take_more, take-append-drop, map-append}
@@ -9,11 +9,10 @@ use Rattle.td_domain.specs.declared.cubes.Trit.{Trit}
 use Rattle.td_gates.specs.Output.{Output, Sent, SentTo, SentFront, Failed}
 use Rattle.td_gates.proofs.Outputs.{Sent-nothing, SentTo-begins, SentTo-more, SentTo-front, Failed-longer}
 use Rattle.td_certificate.specs.declared.tree.Node.{Node}
-use Rattle.td_certificate.specs.Questions.{version_of}
-use Rattle.td_certificate.specs.Text.{bits, node_line, trit, first_trits, second_trits, numbers}
+use Rattle.td_certificate.specs.Text.{row, bits, node_line, trit, first_trits, second_trits, numbers}
 use Rattle.td_certificate.proofs.CertificateCode.{head_text}
 use Rattle.td_certificate.specs.declared.certificate.Certificate.{Certificate}
-use Rattle.td_certificate.specs.Spelling.{inputs, question_text, version_line, head_lines, ended, text_of, spelling}
+use Rattle.td_certificate.specs.Spelling.{inputs, version_in, question_text, version_line, head_lines, ended, text_of, spelling}
 
 pub up_to : Certificate → ℕ → List ℕ
 up_to c count = text_of (head_lines c) ++ text_of (map node_line (take count c.tree))
@@ -113,9 +112,31 @@ side_length false (p ∷ []) = omega arith
 side_length true (p ∷ q ∷ pins) = omega (arith, side_length true pins)
 side_length false (p ∷ q ∷ pins) = omega (arith, side_length false pins)
 
-pub trits_pushed : (second : Bool) (pins : List Trit) (i count : ℕ) (old text : List ℕ) → count ≡ length pins → count / 2 ≤ i → text ≡ old ++ map trit (take i (side second pins)) → text ≡ old ++ map trit (side second pins)
-trits_pushed second pins i count old text is le before =
+-- where there are characters they are those of the row
+pub row_some : {A : Type 0} (byte : A → ℕ) (xs : List A) → 0 < length xs → row byte xs ≡ map byte xs
+row_some byte [] some = absurd (omega arith)
+row_some byte (x ∷ xs) some = refl
+
+some_side : (second : Bool) (pins : List Trit) → 2 ≤ length pins → 0 < length (side second pins)
+some_side second [] le = absurd (omega arith)
+some_side second (p ∷ []) le = absurd (omega arith)
+some_side true (p ∷ q ∷ pins) le = omega arith
+some_side false (p ∷ q ∷ pins) le = omega arith
+
+no_side : (second : Bool) (pins : List Trit) → length pins < 2 → side second pins ≡ []
+no_side true [] lt = refl
+no_side false [] lt = refl
+no_side true (p ∷ []) lt = refl
+no_side false (p ∷ []) lt = refl
+no_side second (p ∷ q ∷ pins) lt = absurd (omega arith)
+
+pub none_pushed : (second : Bool) (pins : List Trit) (count : ℕ) (old new : List ℕ) → count ≡ length pins → count < 2 → new ≡ old ++ codes "none" → new ≡ old ++ row trit (side second pins)
+none_pushed second pins count old new is lt pushed = pushed ∙ ap (λ (ts : List Trit). old ++ row trit ts) (sym (no_side second pins (omega (arith, is, lt))))
+
+pub trits_pushed : (second : Bool) (pins : List Trit) (i count : ℕ) (old text : List ℕ) → count ≡ length pins → 2 ≤ count → count / 2 ≤ i → text ≡ old ++ map trit (take i (side second pins)) → text ≡ old ++ row trit (side second pins)
+trits_pushed second pins i count old text is some le before =
     before ∙ ap (λ (ts : List Trit). old ++ map trit ts) (take_all i (side second pins) (omega (arith, side_length second pins, is, le)))
+    ∙ ap (λ (ts : List ℕ). old ++ ts) (sym (row_some trit (side second pins) (some_side second pins (omega (arith, is, some)))))
 
 -- ---- moments
 
@@ -142,9 +163,9 @@ moment_pushed ms i d old text new lt before pushed =
     ∙ append_assoc old (codes "at" ++ flat_map behind_at (take i ms)) (behind_at (get_or ms i d))
     ∙ ap (λ (t : List ℕ). old ++ (codes "at" ++ t)) (sym more)
 
-pub moments_pushed : (ms : List ℕ) (i : ℕ) (old text new : List ℕ) → 0 < length ms → length ms ≤ i → text ≡ old ++ (codes "at" ++ flat_map behind_at (take i ms)) → new ≡ text ++ codes "\n"
+pub moments_pushed : (ms : List ℕ) (i : ℕ) (old text new : List ℕ) → length ms ≢ 0 → length ms ≤ i → text ≡ old ++ (codes "at" ++ flat_map behind_at (take i ms)) → new ≡ text ++ codes "\n"
     → new ≡ old ++ ended (codes "at " ++ numbers ms)
-moments_pushed [] i old text new some le before pushed = absurd (omega arith)
+moments_pushed [] i old text new some le before pushed = absurd (some refl)
 moments_pushed (m ∷ ms) i old text new some le before pushed =
     pushed ∙ ap (λ (t : List ℕ). t ++ codes "\n") (before ∙ ap (λ (ns : List ℕ). old ++ (codes "at" ++ flat_map behind_at ns)) (take_all i (m ∷ ms) le) ∙ ap (λ (t : List ℕ). old ++ t) (spaced m ms))
     ∙ append_assoc old (codes "at " ++ numbers (m ∷ ms)) (codes "\n")
@@ -157,13 +178,13 @@ made : (ve ci i sp g q ti t fr f so s nl : List ℕ)
 made ve ci i sp g q ti t fr f so s nl = simp append_assoc
 
 pub head_made : (c : Certificate) (t0 t1 t2 t3 t4 t5 t6 : List ℕ)
-    → t0 ≡ version_line (version_of c.question) ++ (codes "\n" ++ (codes "circuit " ++ (decimal (inputs c) ++ (codes " " ++ (decimal c.gates ++ codes "\n")))))
-    → t1 ≡ t0 ++ question_text c.question → t2 ≡ t1 ++ (codes "time " ++ (decimal c.time ++ codes "\nfrom "))
+    → t0 ≡ version_line (version_in c) ++ (codes "\n" ++ (codes "circuit " ++ (decimal (inputs c) ++ (codes " " ++ (decimal c.gates ++ codes "\n")))))
+    → t1 ≡ t0 ++ question_text (version_in c) c.question → t2 ≡ t1 ++ (codes "time " ++ (decimal c.time ++ codes "\nfrom "))
     → t3 ≡ t2 ++ bits c.pair.first → t4 ≡ t3 ++ codes "\nto " → t5 ≡ t4 ++ bits c.pair.second → t6 ≡ t5 ++ codes "\n" → t6 ≡ text_of (head_lines c)
 head_made c t0 t1 t2 t3 t4 t5 t6 e0 e1 e2 e3 e4 e5 e6 =
     e6 ∙ ap (λ (t : List ℕ). t ++ codes "\n") (e5 ∙ ap (λ (t : List ℕ). t ++ bits c.pair.second) (e4 ∙ ap (λ (t : List ℕ). t ++ codes "\nto ") (e3 ∙ ap (λ (t : List ℕ). t ++ bits c.pair.first)
-    (e2 ∙ ap (λ (t : List ℕ). t ++ (codes "time " ++ (decimal c.time ++ codes "\nfrom "))) (e1 ∙ ap (λ (t : List ℕ). t ++ question_text c.question) e0)))))
-    ∙ made (version_line (version_of c.question)) (codes "circuit ") (decimal (inputs c)) (codes " ") (decimal c.gates) (question_text c.question) (codes "time ") (decimal c.time) (codes "from ") (bits c.pair.first) (codes "to ") (bits c.pair.second) (10 ∷ [])
+    (e2 ∙ ap (λ (t : List ℕ). t ++ (codes "time " ++ (decimal c.time ++ codes "\nfrom "))) (e1 ∙ ap (λ (t : List ℕ). t ++ question_text (version_in c) c.question) e0)))))
+    ∙ made (version_line (version_in c)) (codes "circuit ") (decimal (inputs c)) (codes " ") (decimal c.gates) (question_text (version_in c) c.question) (codes "time ") (decimal c.time) (codes "from ") (bits c.pair.first) (codes "to ") (bits c.pair.second) (10 ∷ [])
     ∙ sym (head_text c)
 
 pub head_begins : (a : Output) (c : Certificate) (batch : List ℕ) → batch ≡ text_of (head_lines c) → SentTo a a (up_to c 0) batch

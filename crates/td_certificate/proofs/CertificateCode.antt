@@ -1,5 +1,5 @@
 -- A certificate's text is a code.
-use Rattle.std.proofs.Common.{◌≡◌, ℕ, ◌≤◌, ◌<◌, Bool, true, List, [], ◌∷◌, ◌++◌, length, Ok, refl, sym, ap, subst, ◌∙◌, append_assoc, arith}
+use Rattle.std.proofs.Common.{◌≡◌, ◌≢◌, ℕ, ◌≤◌, ◌<◌, Bool, true, false, if◌then◌else◌, List, [], ◌∷◌, ◌++◌, length, Ok, refl, sym, ap, subst, ◌∙◌, append_assoc, arith}
 use Rattle.std.specs.Prelude.{codes, decimal, map}
 use Rattle.std.specs.List.{AllByRecursion}
 use Rattle.std.proofs.lemmas.List.{append-nil}
@@ -7,34 +7,43 @@ use Rattle.std.proofs.lemmas.List.Concat.{flat_map-append, flat_map-cons}
 use Rattle.std.proofs.lemmas.Fmt.{decimal_digit}
 use Rattle.td_certificate.specs.declared.tree.Node.{Node}
 use Rattle.td_certificate.specs.declared.question.Version.{Version}
-use Rattle.td_certificate.specs.declared.question.Version.TheVariants.{First, Second, Third}
+use Rattle.td_certificate.specs.declared.question.Version.TheVariants.{First, Second, Third, Fourth}
+use Rattle.td_certificate.specs.declared.fields.Leaves.{Leaves}
 use Rattle.td_certificate.specs.declared.certificate.Certificate.{Certificate}
-use Rattle.td_certificate.specs.Questions.{Question, inputs_of, version_of}
-use Rattle.td_certificate.specs.Spelling.{inputs, question_lines, question_text, version_line, circuit_line, time_line, from_line, to_line, head_lines, ended, text_of, greatest, spelling, IsNode, HasSpelling}
+use Rattle.td_certificate.specs.Questions.{Question, inputs_of, admits_all, is_at_once, version_of}
+use Rattle.td_certificate.specs.Trees.{names_edges, has_edges}
+use Rattle.td_certificate.specs.Spelling.{inputs, version_in, question_lines, question_text, version_line, circuit_line, time_line, from_line, to_line, head_lines, ended, text_of, greatest, spelling, IsNode, HasSpelling}
 use Rattle.td_certificate.specs.Text.{bits, node_line}
-use Rattle.td_certificate.specs.Reading.{Reading, ◌>>=◌, number_at, number_from, number_behind, vector_behind, version_at, has_inputs, question_at, nodes_at, with_fields, lines_at, certificate_at}
+use Rattle.td_certificate.specs.Reading.{Reading, ◌>>=◌, number_at, number_from, number_behind, bit_of, row_behind, version_at, has_inputs, question_at, leaves_in, nodes_at, with_fields, lines_at, certificate_at}
 use Rattle.td_certificate.proofs.Codes.{IsCode, IsCode-then, IsCode-done}
 use Rattle.td_certificate.proofs.FieldCodes.{IsLimit, Always, AtMost, IsFrom, number_text, number_code, number_from_code}
-use Rattle.td_certificate.proofs.VectorCodes.{behind_word, number_behind_code, HasLength, vector_text, vector_behind_code, IsCode-as}
+use Rattle.td_certificate.proofs.VectorCodes.{cases, behind_word, number_behind_code, HasLength, vector_text, vector_behind_code, IsCode-as}
 use Rattle.td_certificate.proofs.VersionCode.{version_text, version_code}
-use Rattle.td_certificate.proofs.QuestionCodes.{IsQuestion, question_code, some_inputs_of}
-use Rattle.td_certificate.proofs.NodeCodes.{greatest_limit}
-use Rattle.td_certificate.proofs.TreeCodes.{AreNodes, nodes_text, nodes_code}
+use Rattle.td_certificate.proofs.QuestionCodes.{IsTold, IsQuestion, question_code, some_inputs_of}
+use Rattle.td_certificate.proofs.NodeCodes.{greatest_limit, IsPlain, MayStand, to_node, from_node, leaves_of}
+use Rattle.td_certificate.proofs.TreeCodes.{IsNamed, among, AreNodes, CanName, nodes_text, nodes_code}
+
+-- a tree has a leaf
+one_tree : (v : Version) → CanName (leaves_in v) 1
+one_tree First = tt
+one_tree Second = tt
+one_tree Third = tt
+one_tree Fourth = omega arith
 
 -- ---- from the last field to the first, where those before are known
 
 abbrev IsFromTree : Version → ℕ → Question → ℕ → List Bool → List Bool → Certificate → Type 0
-IsFromTree v g q t f s c = AreNodes v 1 c.tree × (c ≡ with_fields g q t f s c.tree)
+IsFromTree v g q t f s c = AreNodes (leaves_in v) 1 c.tree × (c ≡ with_fields g q t f s c.tree)
 
-from_tree : (v : Version) (g : ℕ) (q : Question) (t : ℕ) (f s : List Bool) → IsCode (IsFromTree v g q t f s) (λ c. nodes_text c.tree) (λ bytes. nodes_at v 1 bytes >>= λ tree. Ok (with_fields g q t f s tree.0, tree.1))
+from_tree : (v : Version) (g : ℕ) (q : Question) (t : ℕ) (f s : List Bool) → IsCode (IsFromTree v g q t f s) (λ c. nodes_text c.tree) (λ bytes. nodes_at (leaves_in v) 1 bytes >>= λ tree. Ok (with_fields g q t f s tree.0, tree.1))
 from_tree v g q t f s =
-    IsCode-then (λ (c : Certificate). c.tree) (AreNodes v 1) nodes_text (nodes_at v 1) (λ n c. c ≡ with_fields g q t f s n) (λ n c. []) (λ n bytes. Ok (with_fields g q t f s n, bytes)) (IsFromTree v g q t f s) (λ c. nodes_text c.tree) (nodes_code v 1)
+    IsCode-then (λ (c : Certificate). c.tree) (AreNodes (leaves_in v) 1) nodes_text (nodes_at (leaves_in v) 1) (λ n c. c ≡ with_fields g q t f s n) (λ n c. []) (λ n bytes. Ok (with_fields g q t f s n, bytes)) (IsFromTree v g q t f s) (λ c. nodes_text c.tree) (nodes_code (leaves_in v) 1 (one_tree v))
     (λ n u. IsCode-done (with_fields g q t f s n))
     (record {
       down = λ c u. (u.0, u.1, sym (append-nil (nodes_text c.tree)));
       up = λ n c u e.
           let p : c.tree ≡ n = ap (λ (d : Certificate). d.tree) e in
-          ((subst (AreNodes v 1) (sym p) u, e ∙ ap (λ (m : List Node). with_fields g q t f s m) (sym p)), ap nodes_text p ∙ sym (append-nil (nodes_text n)));
+          ((subst (AreNodes (leaves_in v) 1) (sym p) u, e ∙ ap (λ (m : List Node). with_fields g q t f s m) (sym p)), ap nodes_text p ∙ sym (append-nil (nodes_text n)));
     })
 
 abbrev pub text_from_second : Certificate → List ℕ
@@ -42,16 +51,16 @@ text_from_second c = (codes "to " ++ vector_text c.pair.second) ++ nodes_text c.
 
 record IsFromSecond (v : Version) (i g : ℕ) (q : Question) (t : ℕ) (f : List Bool) (c : Certificate) : Type 0 where
   second : length c.pair.second ≡ i
-  nodes : AreNodes v 1 c.tree
+  nodes : AreNodes (leaves_in v) 1 c.tree
   is : c ≡ with_fields g q t f c.pair.second c.tree
 
 abbrev read_second : Version → ℕ → ℕ → Question → ℕ → List Bool → List ℕ → Reading Certificate
-read_second v i g q t f bytes = vector_behind (codes "to ") i bytes >>= λ second. nodes_at v 1 second.1 >>= λ tree. Ok (with_fields g q t f second.0 tree.0, tree.1)
+read_second v i g q t f bytes = row_behind (codes "to ") bit_of i bytes >>= λ second. nodes_at (leaves_in v) 1 second.1 >>= λ tree. Ok (with_fields g q t f second.0 tree.0, tree.1)
 
 from_second : (v : Version) (i g : ℕ) (q : Question) (t : ℕ) (f : List Bool) → IsCode (IsFromSecond v i g q t f) text_from_second (read_second v i g q t f)
 from_second v i g q t f =
-    IsCode-then (λ (c : Certificate). c.pair.second) (HasLength i) (λ bs. codes "to " ++ vector_text bs) (vector_behind (codes "to ") i) (λ s c. IsFromTree v g q t f s c) (λ s c. nodes_text c.tree)
-    (λ s bytes. nodes_at v 1 bytes >>= λ tree. Ok (with_fields g q t f s tree.0, tree.1)) (IsFromSecond v i g q t f) text_from_second (vector_behind_code (codes "to ") i)
+    IsCode-then (λ (c : Certificate). c.pair.second) (HasLength i) (λ bs. codes "to " ++ vector_text bs) (row_behind (codes "to ") bit_of i) (λ s c. IsFromTree v g q t f s c) (λ s c. nodes_text c.tree)
+    (λ s bytes. nodes_at (leaves_in v) 1 bytes >>= λ tree. Ok (with_fields g q t f s tree.0, tree.1)) (IsFromSecond v i g q t f) text_from_second (vector_behind_code (codes "to ") i)
     (λ s u. from_tree v g q t f s)
     (record {
       down = λ c u. (u.second, (u.nodes, u.is), refl);
@@ -66,15 +75,15 @@ text_from_first c = (codes "from " ++ vector_text c.pair.first) ++ text_from_sec
 record IsFromFirst (v : Version) (i g : ℕ) (q : Question) (t : ℕ) (c : Certificate) : Type 0 where
   first : length c.pair.first ≡ i
   second : length c.pair.second ≡ i
-  nodes : AreNodes v 1 c.tree
+  nodes : AreNodes (leaves_in v) 1 c.tree
   is : c ≡ with_fields g q t c.pair.first c.pair.second c.tree
 
 abbrev read_first : Version → ℕ → ℕ → Question → ℕ → List ℕ → Reading Certificate
-read_first v i g q t bytes = vector_behind (codes "from ") i bytes >>= λ first. read_second v i g q t first.0 first.1
+read_first v i g q t bytes = row_behind (codes "from ") bit_of i bytes >>= λ first. read_second v i g q t first.0 first.1
 
 from_first : (v : Version) (i g : ℕ) (q : Question) (t : ℕ) → IsCode (IsFromFirst v i g q t) text_from_first (read_first v i g q t)
 from_first v i g q t =
-    IsCode-then (λ (c : Certificate). c.pair.first) (HasLength i) (λ bs. codes "from " ++ vector_text bs) (vector_behind (codes "from ") i) (λ f c. IsFromSecond v i g q t f c) (λ f c. text_from_second c)
+    IsCode-then (λ (c : Certificate). c.pair.first) (HasLength i) (λ bs. codes "from " ++ vector_text bs) (row_behind (codes "from ") bit_of i) (λ f c. IsFromSecond v i g q t f c) (λ f c. text_from_second c)
     (λ f bytes. read_second v i g q t f bytes) (IsFromFirst v i g q t) text_from_first (vector_behind_code (codes "from ") i)
     (λ f u. from_second v i g q t f)
     (record {
@@ -91,7 +100,7 @@ record IsFromTime (v : Version) (i g : ℕ) (q : Question) (c : Certificate) : T
   time : c.time ≤ greatest
   first : length c.pair.first ≡ i
   second : length c.pair.second ≡ i
-  nodes : AreNodes v 1 c.tree
+  nodes : AreNodes (leaves_in v) 1 c.tree
   is : c ≡ with_fields g q c.time c.pair.first c.pair.second c.tree
 
 abbrev read_time : Version → ℕ → ℕ → Question → List ℕ → Reading Certificate
@@ -111,24 +120,24 @@ from_time v i g q =
           );
     })
 
-abbrev pub text_from_question : Certificate → List ℕ
-text_from_question c = question_text c.question ++ text_from_time c
+abbrev pub text_from_question : Version → Certificate → List ℕ
+text_from_question v c = question_text v c.question ++ text_from_time c
 
 record IsFromQuestion (v : Version) (i g : ℕ) (c : Certificate) : Type 0 where
   question : IsQuestion v i c.question
   time : c.time ≤ greatest
   first : length c.pair.first ≡ i
   second : length c.pair.second ≡ i
-  nodes : AreNodes v 1 c.tree
+  nodes : AreNodes (leaves_in v) 1 c.tree
   is : c ≡ with_fields g c.question c.time c.pair.first c.pair.second c.tree
 
 abbrev read_question : Version → ℕ → ℕ → List ℕ → Reading Certificate
 read_question v i g bytes = question_at v i bytes >>= λ question. read_time v i g question.0 question.1
 
-from_question : (v : Version) (i g : ℕ) → (has_inputs v ≡ true → 0 < i) → i ≤ 4096 → IsCode (IsFromQuestion v i g) text_from_question (read_question v i g)
+from_question : (v : Version) (i g : ℕ) → (has_inputs v ≡ true → 0 < i) → i ≤ 4096 → IsCode (IsFromQuestion v i g) (text_from_question v) (read_question v i g)
 from_question v i g some few =
-    IsCode-then (λ (c : Certificate). c.question) (IsQuestion v i) question_text (question_at v i) (λ q c. IsFromTime v i g q c) (λ q c. text_from_time c)
-    (λ q bytes. read_time v i g q bytes) (IsFromQuestion v i g) text_from_question (question_code v i some few)
+    IsCode-then (λ (c : Certificate). c.question) (IsQuestion v i) (question_text v) (question_at v i) (λ q c. IsFromTime v i g q c) (λ q c. text_from_time c)
+    (λ q bytes. read_time v i g q bytes) (IsFromQuestion v i g) (text_from_question v) (question_code v i some few)
     (λ q u. from_time v i g q)
     (record {
       down = λ c u. (u.question, record { time = u.time; first = u.first; second = u.second; nodes = u.nodes; is = u.is }, refl);
@@ -142,12 +151,12 @@ from_question v i g some few =
               nodes = w.nodes;
               is = w.is ∙ ap (λ (m : Question). with_fields g m c.time c.pair.first c.pair.second c.tree) (sym p);
             },
-            ap (λ (m : Question). question_text m ++ text_from_time c) p,
+            ap (λ (m : Question). question_text v m ++ text_from_time c) p,
           );
     })
 
-abbrev pub text_from_gates : Certificate → List ℕ
-text_from_gates c = number_text 10 c.gates ++ text_from_question c
+abbrev pub text_from_gates : Version → Certificate → List ℕ
+text_from_gates v c = number_text 10 c.gates ++ text_from_question v c
 
 record IsFromGates (v : Version) (i : ℕ) (c : Certificate) : Type 0 where
   gates : c.gates ≤ 200000
@@ -155,7 +164,7 @@ record IsFromGates (v : Version) (i : ℕ) (c : Certificate) : Type 0 where
   time : c.time ≤ greatest
   first : length c.pair.first ≡ i
   second : length c.pair.second ≡ i
-  nodes : AreNodes v 1 c.tree
+  nodes : AreNodes (leaves_in v) 1 c.tree
 
 gates_limit : IsLimit 200000 10
 gates_limit = record { high = omega arith; close_is = refl }
@@ -163,22 +172,22 @@ gates_limit = record { high = omega arith; close_is = refl }
 abbrev read_gates : Version → ℕ → List ℕ → Reading Certificate
 read_gates v i bytes = number_at 200000 10 bytes >>= λ gates. read_question v i gates.0 gates.1
 
-from_gates : (v : Version) (i : ℕ) → (has_inputs v ≡ true → 0 < i) → i ≤ 4096 → IsCode (IsFromGates v i) text_from_gates (read_gates v i)
+from_gates : (v : Version) (i : ℕ) → (has_inputs v ≡ true → 0 < i) → i ≤ 4096 → IsCode (IsFromGates v i) (text_from_gates v) (read_gates v i)
 from_gates v i some few =
-    IsCode-then (λ (c : Certificate). c.gates) (AtMost 200000) (number_text 10) (number_at 200000 10) (λ g c. IsFromQuestion v i g c) (λ g c. text_from_question c)
-    (λ g bytes. read_question v i g bytes) (IsFromGates v i) text_from_gates (number_code 200000 10 gates_limit)
+    IsCode-then (λ (c : Certificate). c.gates) (AtMost 200000) (number_text 10) (number_at 200000 10) (λ g c. IsFromQuestion v i g c) (λ g c. text_from_question v c)
+    (λ g bytes. read_question v i g bytes) (IsFromGates v i) (text_from_gates v) (number_code 200000 10 gates_limit)
     (λ g u. from_question v i g some few)
     (record {
       down = λ c u. (u.gates, record { question = u.question; time = u.time; first = u.first; second = u.second; nodes = u.nodes; is = refl }, refl);
       up = λ g c u w.
           let p : c.gates ≡ g = ap (λ (d : Certificate). d.gates) w.is in (
             record { gates = subst (AtMost 200000) (sym p) u; question = w.question; time = w.time; first = w.first; second = w.second; nodes = w.nodes },
-            ap (λ (m : ℕ). number_text 10 m ++ text_from_question c) p,
+            ap (λ (m : ℕ). number_text 10 m ++ text_from_question v c) p,
           );
     })
 
-abbrev pub text_from_inputs : Certificate → List ℕ
-text_from_inputs c = number_text 32 (inputs c) ++ text_from_gates c
+abbrev pub text_from_inputs : Version → Certificate → List ℕ
+text_from_inputs v c = number_text 32 (inputs c) ++ text_from_gates v c
 
 record IsFromInputs (v : Version) (c : Certificate) : Type 0 where
   inputs : IsFrom (has_inputs v) 4096 (inputs c)
@@ -190,16 +199,16 @@ inputs_limit = record { high = omega arith; close_is = refl }
 abbrev read_inputs : Version → List ℕ → Reading Certificate
 read_inputs v bytes = number_from (has_inputs v) 4096 32 bytes >>= λ inputs. read_gates v inputs.0 inputs.1
 
-from_inputs : (v : Version) → IsCode (IsFromInputs v) text_from_inputs (read_inputs v)
+from_inputs : (v : Version) → IsCode (IsFromInputs v) (text_from_inputs v) (read_inputs v)
 from_inputs v =
-    IsCode-then inputs (IsFrom (has_inputs v) 4096) (number_text 32) (number_from (has_inputs v) 4096 32) (λ i c. IsFromGates v i c) (λ i c. text_from_gates c)
-    (λ i bytes. read_gates v i bytes) (IsFromInputs v) text_from_inputs (number_from_code (has_inputs v) 4096 32 inputs_limit (omega arith))
+    IsCode-then inputs (IsFrom (has_inputs v) 4096) (number_text 32) (number_from (has_inputs v) 4096 32) (λ i c. IsFromGates v i c) (λ i c. text_from_gates v c)
+    (λ i bytes. read_gates v i bytes) (IsFromInputs v) (text_from_inputs v) (number_from_code (has_inputs v) 4096 32 inputs_limit (omega arith))
     (λ i u. from_gates v i u.1 u.0)
     (record {
       down = λ c u. (u.inputs, u.rest, refl);
       up = λ i c u w.
           let p : inputs c ≡ i = w.question.inputs in
-          (record { inputs = subst (IsFrom (has_inputs v) 4096) (sym p) u; rest = subst (λ (n : ℕ). IsFromGates v n c) (sym p) w }, ap (λ (n : ℕ). number_text 32 n ++ text_from_gates c) p);
+          (record { inputs = subst (IsFrom (has_inputs v) 4096) (sym p) u; rest = subst (λ (n : ℕ). IsFromGates v n c) (sym p) w }, ap (λ (n : ℕ). number_text 32 n ++ text_from_gates v c) p);
     })
 
 -- ---- by the version
@@ -207,51 +216,117 @@ from_inputs v =
 -- it has a spelling of this version
 record IsOfVersion (v : Version) (c : Certificate) : Type 0 where
   has : HasSpelling c
-  version : version_of c.question ≡ v
+  version : version_in c ≡ v
+
+are_plain : (v : Version) (nodes : List Node) → AllByRecursion (MayStand (leaves_of v)) nodes → AllByRecursion (IsNode v) nodes × AllByRecursion (IsPlain v) nodes
+are_plain v [] all = (tt, tt)
+are_plain v (n ∷ nodes) all =
+    let first = to_node v n all.0 in
+    let others = are_plain v nodes all.1 in
+    ((first.0, others.0), (first.1, others.1))
+
+may_stand : (v : Version) (nodes : List Node) → AllByRecursion (IsNode v) nodes → AllByRecursion (IsPlain v) nodes → AllByRecursion (MayStand (leaves_of v)) nodes
+may_stand v [] all plain = tt
+may_stand v (n ∷ nodes) all plain = (from_node v n all.0 plain.0, may_stand v nodes all.1 plain.1)
+
+-- in the first three versions no leaf is bounded by edges
+abbrev NoEdges : Node → Type 0
+NoEdges n = names_edges n ≡ false
+
+none_have : (nodes : List Node) → AllByRecursion NoEdges nodes → has_edges nodes ≡ false
+none_have [] all = refl
+none_have (n ∷ nodes) all = rw all.0 (none_have nodes all.1)
+
+have_none : (nodes : List Node) → has_edges nodes ≡ false → AllByRecursion NoEdges nodes
+have_none [] e = tt
+have_none (n ∷ nodes) e = cases (names_edges n) (λ h. absurd (let f : has_edges (n ∷ nodes) ≡ true = rw h refl in cc)) (λ h. (h, have_none nodes (rw h at e)))
+
+any_plain : (nodes : List Node) → AllByRecursion (IsPlain Fourth) nodes
+any_plain [] = tt
+any_plain (n ∷ nodes) = (tt, any_plain nodes)
+
+-- of a version, by its question and its tree
+record IsBy (v : Version) (q : Question) (tree : List Node) : Type 0 where
+  told : IsTold v q
+  plain : AllByRecursion (IsPlain v) tree
+  named : IsNamed (leaves_in v) tree
+
+to_by : (v : Version) (q : Question) (tree : List Node) → IsBy v q tree → (if has_edges tree then Fourth else version_of q) ≡ v
+to_by First q tree u = rw (none_have tree u.plain) u.told
+to_by Second q tree u = rw (none_have tree u.plain) u.told
+to_by Third q tree u = rw (none_have tree u.plain) u.told
+to_by Fourth q tree u = rw u.named refl
+
+not_fourth : (q : Question) → version_of q ≢ Fourth
+not_fourth q e = by_tests (is_at_once q.moments) (admits_all q.admit) e
+  where
+    by_tests : (once all : Bool) → (if once then (if all then First else Second) else Third) ≢ Fourth
+    by_tests true true e = cc
+    by_tests true false e = cc
+    by_tests false all e = cc
+
+from_by : (v : Version) (q : Question) (tree : List Node) → (if has_edges tree then Fourth else version_of q) ≡ v → IsBy v q tree
+from_by First q tree e =
+    cases (has_edges tree) (λ h. absurd (let f : Fourth ≡ First = rw h at e in cc)) (λ h. record { told = rw h at e; plain = have_none tree h; named = tt })
+from_by Second q tree e =
+    cases (has_edges tree) (λ h. absurd (let f : Fourth ≡ Second = rw h at e in cc)) (λ h. record { told = rw h at e; plain = have_none tree h; named = tt })
+from_by Third q tree e =
+    cases (has_edges tree) (λ h. absurd (let f : Fourth ≡ Third = rw h at e in cc)) (λ h. record { told = rw h at e; plain = have_none tree h; named = tt })
+from_by Fourth q tree e =
+    cases (has_edges tree) (λ h. record { told = tt; plain = any_plain tree; named = h }) (λ h. absurd (not_fourth q (rw h at e)))
+
+among_is : (v : Version) → among (leaves_in v) ≡ leaves_of v
+among_is First = refl
+among_is Second = refl
+among_is Third = refl
+among_is Fourth = refl
 
 to_version : (v : Version) (c : Certificate) → IsFromInputs v c → IsOfVersion v c
-to_version v c u = record {
-  has = record {
-    inputs = u.inputs.0;
-    gates = u.rest.gates;
-    pins = u.rest.question.pins;
-    flips = u.rest.question.flips;
-    count = u.rest.question.count;
-    moments = u.rest.question.moments;
-    time = u.rest.time;
-    first = u.rest.first;
-    second = u.rest.second;
-    nodes = subst (λ (w : Version). AllByRecursion (IsNode w) c.tree) (sym u.rest.question.version) u.rest.nodes.each;
-    tree = u.rest.nodes.counted;
-  };
-  version = u.rest.question.version;
-}
-
--- without inputs the version is the first
-some_inputs : (v : Version) (c : Certificate) → HasSpelling c → version_of c.question ≡ v → has_inputs v ≡ true → 0 < inputs c
-some_inputs v c has e some = some_inputs_of v c.question has.pins has.flips has.count e some
+to_version v c u =
+    let nodes = u.rest.nodes in
+    let each = are_plain v c.tree (subst (λ (l : Leaves). AllByRecursion (MayStand l) c.tree) (among_is v) nodes.each) in
+    let version : version_in c ≡ v = to_by v c.question c.tree (record { told = u.rest.question.version; plain = each.1; named = nodes.named }) in
+    record {
+      has = record {
+        inputs = u.inputs.0;
+        gates = u.rest.gates;
+        pins = u.rest.question.pins;
+        flips = u.rest.question.flips;
+        count = u.rest.question.count;
+        moments = u.rest.question.moments;
+        time = u.rest.time;
+        first = u.rest.first;
+        second = u.rest.second;
+        nodes = subst (λ (w : Version). AllByRecursion (IsNode w) c.tree) (sym version) each.0;
+        tree = nodes.counted;
+      };
+      version = version;
+    }
 
 from_version : (v : Version) (c : Certificate) → IsOfVersion v c → IsFromInputs v c
-from_version v c u = record {
-  inputs = (u.has.inputs, some_inputs v c u.has u.version);
-  rest = record {
-    gates = u.has.gates;
-    question = record { version = u.version; inputs = refl; pins = u.has.pins; flips = u.has.flips; count = u.has.count; moments = u.has.moments };
-    time = u.has.time;
-    first = u.has.first;
-    second = u.has.second;
-    nodes = record { each = subst (λ (w : Version). AllByRecursion (IsNode w) c.tree) u.version u.has.nodes; counted = u.has.tree };
-  };
-}
+from_version v c u =
+    let by = from_by v c.question c.tree u.version in
+    let each = may_stand v c.tree (subst (λ (w : Version). AllByRecursion (IsNode w) c.tree) u.version u.has.nodes) by.plain in
+    record {
+      inputs = (u.has.inputs, λ some. some_inputs_of v c.question u.has.pins u.has.flips u.has.count by.told some);
+      rest = record {
+        gates = u.has.gates;
+        question = record { version = by.told; inputs = refl; pins = u.has.pins; flips = u.has.flips; count = u.has.count; moments = u.has.moments };
+        time = u.has.time;
+        first = u.has.first;
+        second = u.has.second;
+        nodes = record { each = subst (λ (l : Leaves). AllByRecursion (MayStand l) c.tree) (sym (among_is v)) each; counted = u.has.tree; named = by.named };
+      };
+    }
 
-abbrev pub lines_text : Certificate → List ℕ
-lines_text c = codes "circuit " ++ text_from_inputs c
+abbrev pub lines_text : Version → Certificate → List ℕ
+lines_text v c = codes "circuit " ++ text_from_inputs v c
 
-lines_code : (v : Version) → IsCode (IsOfVersion v) lines_text (lines_at v)
+lines_code : (v : Version) → IsCode (IsOfVersion v) (lines_text v) (lines_at v)
 unfolding lines_at
 lines_code v =
-    IsCode-as (IsFromInputs v) (IsOfVersion v) lines_text lines_text (lines_at v) (to_version v) (from_version v) (λ c u. refl)
-    (behind_word (codes "circuit ") (IsFromInputs v) text_from_inputs (read_inputs v) (from_inputs v))
+    IsCode-as (IsFromInputs v) (IsOfVersion v) (lines_text v) (lines_text v) (lines_at v) (to_version v) (from_version v) (λ c u. refl)
+    (behind_word (codes "circuit ") (IsFromInputs v) (text_from_inputs v) (read_inputs v) (from_inputs v))
 
 -- ---- the whole
 
@@ -261,33 +336,34 @@ regroup : (ve ci i sp g q ti t fr f so s nl n : List ℕ)
 regroup ve ci i sp g q ti t fr f so s nl n = simp append_assoc
 
 -- the text of the lines before the tree
-pub head_text : (c : Certificate) → text_of (head_lines c) ≡ ended (version_line (version_of c.question)) ++ (ended (circuit_line c) ++ (question_text c.question ++ (ended (time_line c) ++ (ended (from_line c) ++ ended (to_line c)))))
+pub head_text : (c : Certificate) → text_of (head_lines c) ≡ ended (version_line (version_in c)) ++ (ended (circuit_line c) ++ (question_text (version_in c) c.question ++ (ended (time_line c) ++ (ended (from_line c) ++ ended (to_line c)))))
 head_text c =
     let last : text_of (time_line c ∷ from_line c ∷ to_line c ∷ []) ≡ ended (time_line c) ++ (ended (from_line c) ++ ended (to_line c)) =
     flat_map-cons ended (time_line c) (from_line c ∷ to_line c ∷ []) ∙ ap (λ (t : List ℕ). ended (time_line c) ++ t) (flat_map-cons ended (from_line c) (to_line c ∷ []) ∙ ap (λ (t : List ℕ). ended (from_line c) ++ t) (flat_map-cons ended (to_line c) [] ∙ append-nil (ended (to_line c)))) in
-    flat_map-cons ended (version_line (version_of c.question)) (circuit_line c ∷ (question_lines c.question ++ time_line c ∷ from_line c ∷ to_line c ∷ []))
-    ∙ ap (λ (t : List ℕ). ended (version_line (version_of c.question)) ++ t) (flat_map-cons ended (circuit_line c) (question_lines c.question ++ time_line c ∷ from_line c ∷ to_line c ∷ [])
-    ∙ ap (λ (t : List ℕ). ended (circuit_line c) ++ t) (flat_map-append ended (question_lines c.question) (time_line c ∷ from_line c ∷ to_line c ∷ []) ∙ ap (λ (t : List ℕ). question_text c.question ++ t) last))
+    flat_map-cons ended (version_line (version_in c)) (circuit_line c ∷ (question_lines (version_in c) c.question ++ time_line c ∷ from_line c ∷ to_line c ∷ []))
+    ∙ ap (λ (t : List ℕ). ended (version_line (version_in c)) ++ t) (flat_map-cons ended (circuit_line c) (question_lines (version_in c) c.question ++ time_line c ∷ from_line c ∷ to_line c ∷ [])
+    ∙ ap (λ (t : List ℕ). ended (circuit_line c) ++ t) (flat_map-append ended (question_lines (version_in c) c.question) (time_line c ∷ from_line c ∷ to_line c ∷ []) ∙ ap (λ (t : List ℕ). question_text (version_in c) c.question ++ t) last))
 
 version_line_text : (v : Version) → ended (version_line v) ≡ version_text v
 version_line_text First = ap (λ (t : List ℕ). ended (codes "tdelay-cert " ++ t)) (decimal_digit 1 (omega arith))
 version_line_text Second = ap (λ (t : List ℕ). ended (codes "tdelay-cert " ++ t)) (decimal_digit 2 (omega arith))
 version_line_text Third = ap (λ (t : List ℕ). ended (codes "tdelay-cert " ++ t)) (decimal_digit 3 (omega arith))
+version_line_text Fourth = ap (λ (t : List ℕ). ended (codes "tdelay-cert " ++ t)) (decimal_digit 4 (omega arith))
 
-pub spelling_is : (c : Certificate) → spelling c ≡ version_text (version_of c.question) ++ lines_text c
+pub spelling_is : (c : Certificate) → spelling c ≡ version_text (version_in c) ++ lines_text (version_in c) c
 unfolding spelling
 spelling_is c =
     flat_map-append ended (head_lines c) (map node_line c.tree)
     ∙ ap (λ (t : List ℕ). t ++ nodes_text c.tree) (head_text c)
-    ∙ regroup (version_line (version_of c.question)) (codes "circuit ") (decimal (inputs c)) (codes " ") (decimal c.gates) (question_text c.question) (codes "time ") (decimal c.time) (codes "from ") (bits c.pair.first) (codes "to ") (bits c.pair.second) (10 ∷ []) (nodes_text c.tree)
-    ∙ ap (λ (t : List ℕ). t ++ lines_text c) (version_line_text (version_of c.question))
+    ∙ regroup (version_line (version_in c)) (codes "circuit ") (decimal (inputs c)) (codes " ") (decimal c.gates) (question_text (version_in c) c.question) (codes "time ") (decimal c.time) (codes "from ") (bits c.pair.first) (codes "to ") (bits c.pair.second) (10 ∷ []) (nodes_text c.tree)
+    ∙ ap (λ (t : List ℕ). t ++ lines_text (version_in c) c) (version_line_text (version_in c))
 
 pub certificate_code : IsCode HasSpelling spelling certificate_at
 unfolding certificate_at
 certificate_code =
-    IsCode-then (λ (c : Certificate). version_of c.question) Always version_text version_at (λ v c. IsOfVersion v c) (λ v c. lines_text c) lines_at HasSpelling spelling version_code
+    IsCode-then (λ (c : Certificate). version_in c) Always version_text version_at (λ v c. IsOfVersion v c) (λ v c. lines_text v c) lines_at HasSpelling spelling version_code
     (λ v u. lines_code v)
     (record {
       down = λ c u. (tt, record { has = u; version = refl }, spelling_is c);
-      up = λ v c u w. (w.has, spelling_is c ∙ ap (λ (x : Version). version_text x ++ lines_text c) w.version);
+      up = λ v c u w. (w.has, spelling_is c ∙ ap (λ (x : Version). version_text x ++ lines_text x c) w.version);
     })

@@ -5,15 +5,15 @@ use Rattle.std.specs.List.{AllByRecursion}
 use Rattle.std.proofs.lemmas.List.{length-map}
 use Rattle.std.proofs.lemmas.Fmt.{length-decimal-le}
 use Rattle.td_domain.specs.declared.cubes.Trit.{Trit}
-use Rattle.td_certificate.specs.declared.tree.BoundedBy.TheVariants.{Arrival, Possible, Both}
+use Rattle.td_certificate.specs.declared.tree.BoundedBy.TheVariants.{Arrival, Possible, Both, Edges, EdgesAndPossible}
 use Rattle.td_certificate.specs.declared.tree.Node.{Node}
 use Rattle.td_certificate.specs.declared.tree.Node.TheVariants as node
 use Rattle.td_certificate.specs.declared.question.Version.{Version}
-use Rattle.td_certificate.specs.declared.question.Version.TheVariants.{First, Second, Third}
+use Rattle.td_certificate.specs.declared.question.Version.TheVariants.{First, Second, Third, Fourth}
 use Rattle.td_certificate.specs.declared.certificate.Certificate.{Certificate}
-use Rattle.td_certificate.specs.Questions.{Question, inputs_of, version_of}
-use Rattle.td_certificate.specs.Text.{bit, trit, first_trits, second_trits, hold, numbers}
-use Rattle.td_certificate.specs.Spelling.{inputs, FirstField, SecondField, HoldField, FlipsField, AtField, fields_of, field_line, ended, text_of, question_text, latest, HasSpelling}
+use Rattle.td_certificate.specs.Questions.{Question, inputs_of}
+use Rattle.td_certificate.specs.Text.{bit, row, trit, first_trits, second_trits, hold, numbers}
+use Rattle.td_certificate.specs.Spelling.{inputs, version_in, FirstField, SecondField, HoldField, FlipsField, AtField, field_line, ended, question_text, latest, HasSpelling}
 use Rattle.td_certificate.specs.Lengths.{IsShort, SearchedTextsFit}
 use Rattle.td_certificate.proofs.FieldCodes.{number_text}
 use Rattle.td_certificate.proofs.VectorCodes.{vector_text}
@@ -35,6 +35,8 @@ node_length (node.Split position) small = let here = line_length (codes "s ") po
 node_length (node.Bound Arrival bound) small = let here = line_length (codes "b a ") bound small in omega (arith, here)
 node_length (node.Bound Possible bound) small = let here = line_length (codes "b t ") bound small in omega (arith, here)
 node_length (node.Bound Both bound) small = let here = line_length (codes "b m ") bound small in omega (arith, here)
+node_length (node.Bound Edges bound) small = let here = line_length (codes "b e ") bound small in omega (arith, here)
+node_length (node.Bound EdgesAndPossible bound) small = let here = line_length (codes "b n ") bound small in omega (arith, here)
 node_length (node.Point time) small = let here = line_length (codes "p ") time small in omega (arith, here)
 node_length node.Empty small = omega arith
 
@@ -69,10 +71,14 @@ second_few (p ∷ []) count e = omega arith
 second_few (p ∷ q ∷ pins) zero e = absurd (omega (arith, e))
 second_few (p ∷ q ∷ pins) (suc count) e = let rest = second_few pins count (omega (arith, e)) in omega (arith, rest)
 
-chars_length : {A : Type 0} (word : List ℕ) (byte : A → ℕ) (xs : List A) → length (ended (word ++ map byte xs)) ≡ length word + length xs + 1
-chars_length word byte xs = omega (arith, length-append (word ++ map byte xs) (10 ∷ []), length-append word (map byte xs), length-map xs byte)
+row_few : {A : Type 0} (byte : A → ℕ) (xs : List A) → length (row byte xs) ≤ length xs + 4
+row_few byte [] = omega arith
+row_few byte (x ∷ xs) = omega (arith, length-map xs byte)
 
-numbers_length : (ms : List ℕ) → AllByRecursion (λ moment. moment ≤ latest) ms → length (numbers ms) ≤ 16 * length ms
+row_length : {A : Type 0} (word : List ℕ) (byte : A → ℕ) (xs : List A) → length (ended (word ++ row byte xs)) ≤ length word + length xs + 5
+row_length word byte xs = omega (arith, length-append (word ++ row byte xs) (10 ∷ []), length-append word (row byte xs), row_few byte xs)
+
+numbers_length : (ms : List ℕ) → AllByRecursion (λ moment. moment ≤ latest) ms → length (numbers ms) ≤ 16 * length ms + 4
 numbers_length [] within = omega arith
 numbers_length (m ∷ []) within = omega (arith, short m (omega (arith, within.0)))
 numbers_length (m ∷ n ∷ ms) within =
@@ -88,16 +94,16 @@ record IsAsked (q : Question) : Type 0 where
 four_length : (a b c d : List ℕ) → length (a ++ (b ++ (c ++ d))) ≡ length a + length b + length c + length d
 four_length a b c d = omega (arith, length-append a (b ++ (c ++ d)), length-append b (c ++ d), length-append c d)
 
-admit_length : (q : Question) → IsAsked q → length (text_of (map (field_line q) (fields_of Second))) ≤ 12400
+admit_length : (q : Question) → IsAsked q → length (question_text Second q) ≤ 12400
 admit_length q has =
     let a = q.admit in
     omega (
       arith,
       ap length (four_text (field_line q FirstField) (field_line q SecondField) (field_line q HoldField) (field_line q FlipsField)),
       four_length (ended (field_line q FirstField)) (ended (field_line q SecondField)) (ended (field_line q HoldField)) (ended (field_line q FlipsField)),
-      chars_length (codes "first ") trit (first_trits a.pins),
-      chars_length (codes "second ") trit (second_trits a.pins),
-      chars_length (codes "hold ") hold a.held,
+      row_length (codes "first ") trit (first_trits a.pins),
+      row_length (codes "second ") trit (second_trits a.pins),
+      row_length (codes "hold ") hold a.held,
       line_length (codes "flips ") a.flips (omega (arith, has.flips, has.inputs)),
       first_few a.pins (inputs_of q) has.pins,
       second_few a.pins (inputs_of q) has.pins,
@@ -108,17 +114,22 @@ at_length : (q : Question) → IsAsked q → length (ended (field_line q AtField
 at_length q has =
     omega (arith, length-append (codes "at " ++ numbers q.moments) (10 ∷ []), length-append (codes "at ") (numbers q.moments), numbers_length q.moments has.moments, has.count, has.inputs)
 
-lines_length : (q : Question) (v : Version) → IsAsked q → length (text_of (map (field_line q) (fields_of v))) ≤ 78000
-lines_length q First has = omega arith
-lines_length q Second has = omega (arith, admit_length q has)
-lines_length q Third has =
+-- the lines of the third version, which are those of the fourth
+dated_length : (q : Question) → IsAsked q → length (question_text Third q) ≤ 78000
+dated_length q has =
     omega (
       arith,
       ap length (third_parts q),
-      length-append (text_of (map (field_line q) (fields_of Second))) (ended (field_line q AtField)),
+      length-append (question_text Second q) (ended (field_line q AtField)),
       admit_length q has,
       at_length q has,
     )
+
+lines_length : (q : Question) (v : Version) → IsAsked q → length (question_text v q) ≤ 78000
+lines_length q First has = omega arith
+lines_length q Second has = omega (arith, admit_length q has)
+lines_length q Third has = dated_length q has
+lines_length q Fourth has = dated_length q has
 
 -- ---- the whole
 
@@ -126,11 +137,12 @@ version_length : (v : Version) → length (version_text v) ≤ 20
 version_length First = omega arith
 version_length Second = omega arith
 version_length Third = omega arith
+version_length Fourth = omega arith
 
-head_length : (c : Certificate) → HasSpelling c → c.time < 10 ^ 15 → length (lines_text c) ≤ 90000 + length (nodes_text c.tree)
-head_length c has small =
-    let question : length (question_text c.question) ≤ 78000 =
-    lines_length c.question (version_of c.question) (record { inputs = has.inputs; pins = has.pins; flips = has.flips; count = has.count; moments = has.moments }) in
+head_length : (v : Version) (c : Certificate) → HasSpelling c → c.time < 10 ^ 15 → length (lines_text v c) ≤ 90000 + length (nodes_text c.tree)
+head_length v c has small =
+    let question : length (question_text v c.question) ≤ 78000 =
+    lines_length c.question v (record { inputs = has.inputs; pins = has.pins; flips = has.flips; count = has.count; moments = has.moments }) in
     let inputs_short : length (number_text 32 (inputs c)) ≤ 16 = number_length [] 32 (inputs c) (omega (arith, has.inputs)) in
     let gates : length (number_text 10 c.gates) ≤ 16 = number_length [] 10 c.gates (omega (arith, has.gates)) in
     let time : length (codes "time " ++ number_text 10 c.time) ≤ 21 = number_length (codes "time ") 10 c.time small in
@@ -138,10 +150,10 @@ head_length c has small =
     let second : length (codes "to " ++ vector_text c.pair.second) ≤ 8 + length c.pair.second = omega (arith, behind_length (codes "to ") c.pair.second) in
     omega (
       arith,
-      length-append (codes "circuit ") (text_from_inputs c),
-      length-append (number_text 32 (inputs c)) (text_from_gates c),
-      length-append (number_text 10 c.gates) (text_from_question c),
-      length-append (question_text c.question) (text_from_time c),
+      length-append (codes "circuit ") (text_from_inputs v c),
+      length-append (number_text 32 (inputs c)) (text_from_gates v c),
+      length-append (number_text 10 c.gates) (text_from_question v c),
+      length-append (question_text v c.question) (text_from_time c),
       length-append (codes "time " ++ number_text 10 c.time) (text_from_first c),
       length-append (codes "from " ++ vector_text c.pair.first) (text_from_second c),
       length-append (codes "to " ++ vector_text c.pair.second) (nodes_text c.tree),
@@ -161,8 +173,8 @@ searched_texts_fit c has small short few =
     omega (
       arith,
       ap length (spelling_is c),
-      length-append (version_text (version_of c.question)) (lines_text c),
-      version_length (version_of c.question),
-      head_length c has small,
+      length-append (version_text (version_in c)) (lines_text (version_in c) c),
+      version_length (version_in c),
+      head_length (version_in c) c has small,
       nodes_length c.tree short,
     )

@@ -1,91 +1,152 @@
--- A node's line is a code, by the version.
-use Rattle.std.proofs.Common.{◌≡◌, ◌≢◌, ℕ, ◌≤◌, List, [], ◌∷◌, ◌++◌, Ok, Some, refl, sym, ap, subst, ◌∙◌, arith}
+-- A node's line is a code, by the leaves that may stand there.
+use Rattle.std.proofs.Common.{◌≡◌, ℕ, ◌≤◌, true, false, List, [], ◌∷◌, ◌++◌, Ok, Some, refl, sym, ap, subst, ◌∙◌, arith}
 use Rattle.std.specs.Prelude.{codes}
 use Rattle.td_certificate.specs.declared.tree.BoundedBy.{BoundedBy}
-use Rattle.td_certificate.specs.declared.tree.BoundedBy.TheVariants.{Arrival, Possible, Both}
+use Rattle.td_certificate.specs.declared.tree.BoundedBy.TheVariants.{Arrival, Possible, Both, Edges, EdgesAndPossible}
 use Rattle.td_certificate.specs.declared.tree.Node.{Node}
 use Rattle.td_certificate.specs.declared.tree.Node.TheVariants as node
 use Rattle.td_certificate.specs.declared.question.Version.{Version}
-use Rattle.td_certificate.specs.declared.question.Version.TheVariants.{First, Second, Third}
+use Rattle.td_certificate.specs.declared.question.Version.TheVariants.{First, Second, Third, Fourth}
+use Rattle.td_certificate.specs.declared.fields.Leaves.{Leaves}
+use Rattle.td_certificate.specs.declared.fields.Leaves.TheVariants as leaves
+use Rattle.td_certificate.specs.Trees.{is_of_edges, names_edges, sides}
 use Rattle.td_certificate.specs.Spelling.{ended, greatest, IsNode}
 use Rattle.td_certificate.specs.Text.{letter, node_line}
-use Rattle.td_certificate.specs.Reading.{◌>>=◌, literal, number_behind, written_as, domain_byte, letter_at, Tag, SplitTag, BoundTag, PointTag, EmptyTag, tag_byte, tags, tag_at, behind_tag, node_at}
+use Rattle.td_certificate.specs.Reading.{◌>>=◌, literal, number_behind, written_as, domain_byte, domains, domain_of as domain_of_byte, letter_at, Tag, SplitTag, BoundTag, PointTag, EmptyTag, tag_byte, tags, tag_at, behind_tag, node_at}
 use Rattle.td_certificate.proofs.Codes.{IsCode, IsCode-then, IsCode-done}
-use Rattle.td_certificate.proofs.FieldCodes.{Always, IsLimit, AtMost, number_text}
+use Rattle.td_certificate.proofs.FieldCodes.{IsLimit, AtMost, number_text}
 use Rattle.td_certificate.proofs.VectorCodes.{behind_word, number_behind_code, IsLetter, written_from, char_code, IsCode-as, mapped_code}
 
 -- ---- letters
 
-domain_again : (x : BoundedBy) → written_as domain_byte (Arrival ∷ Possible ∷ Both ∷ []) (domain_byte x) ≡ Some x
-domain_again Arrival = refl
-domain_again Possible = refl
-domain_again Both = refl
+-- the domains that a leaf may name
+abbrev pub IsDomain : Leaves → BoundedBy → Type 0
+IsDomain leaves.First domain = is_of_edges domain ≡ false
+IsDomain leaves.Later domain = is_of_edges domain ≡ false
+IsDomain leaves.Any domain = Unit {0}
+IsDomain leaves.OfEdges domain = is_of_edges domain ≡ true
 
-domain_letter : IsLetter Always (λ b. written_as domain_byte (Arrival ∷ Possible ∷ Both ∷ []) b) domain_byte
-domain_letter = record {
+domain_again : (here : Leaves) (x : BoundedBy) → IsDomain here x → domain_of_byte here (domain_byte x) ≡ Some x
+domain_again leaves.First Arrival v = refl
+domain_again leaves.First Possible v = refl
+domain_again leaves.First Both v = refl
+domain_again leaves.First Edges v = absurd (let f : true ≡ false = v in cc)
+domain_again leaves.First EdgesAndPossible v = absurd (let f : true ≡ false = v in cc)
+domain_again leaves.Later Arrival v = refl
+domain_again leaves.Later Possible v = refl
+domain_again leaves.Later Both v = refl
+domain_again leaves.Later Edges v = absurd (let f : true ≡ false = v in cc)
+domain_again leaves.Later EdgesAndPossible v = absurd (let f : true ≡ false = v in cc)
+domain_again leaves.Any Arrival v = refl
+domain_again leaves.Any Possible v = refl
+domain_again leaves.Any Both v = refl
+domain_again leaves.Any Edges v = refl
+domain_again leaves.Any EdgesAndPossible v = refl
+domain_again leaves.OfEdges Arrival v = absurd (let f : false ≡ true = v in cc)
+domain_again leaves.OfEdges Possible v = absurd (let f : false ≡ true = v in cc)
+domain_again leaves.OfEdges Both v = absurd (let f : false ≡ true = v in cc)
+domain_again leaves.OfEdges Edges v = refl
+domain_again leaves.OfEdges EdgesAndPossible v = refl
+
+domain_letter : (here : Leaves) → IsLetter (IsDomain here) (domain_of_byte here) domain_byte
+domain_letter leaves.First = record {
+  some = Arrival;
+  some_valid = refl;
+  again = domain_again leaves.First;
+  from = λ b x e. written_from (IsDomain leaves.First) domain_byte (domains leaves.First) (refl, (refl, (refl, tt))) b x e;
+}
+domain_letter leaves.Later = record {
+  some = Arrival;
+  some_valid = refl;
+  again = domain_again leaves.Later;
+  from = λ b x e. written_from (IsDomain leaves.Later) domain_byte (domains leaves.Later) (refl, (refl, (refl, tt))) b x e;
+}
+domain_letter leaves.Any = record {
   some = Arrival;
   some_valid = tt;
-  again = λ x v. domain_again x;
-  from = λ b x e. written_from Always domain_byte (Arrival ∷ Possible ∷ Both ∷ []) (tt, (tt, (tt, tt))) b x e;
+  again = domain_again leaves.Any;
+  from = λ b x e. written_from (IsDomain leaves.Any) domain_byte (domains leaves.Any) (tt, (tt, (tt, (tt, (tt, tt))))) b x e;
+}
+domain_letter leaves.OfEdges = record {
+  some = Edges;
+  some_valid = refl;
+  again = domain_again leaves.OfEdges;
+  from = λ b x e. written_from (IsDomain leaves.OfEdges) domain_byte (domains leaves.OfEdges) (refl, (refl, tt)) b x e;
 }
 
 letter_text : (x : BoundedBy) → letter x ≡ domain_byte x ∷ []
 letter_text Arrival = refl
 letter_text Possible = refl
 letter_text Both = refl
+letter_text Edges = refl
+letter_text EdgesAndPossible = refl
 
-pub letter_code : IsCode Always letter letter_at
+pub letter_code : (here : Leaves) → IsCode (IsDomain here) letter (letter_at here)
 unfolding letter_at
-letter_code =
-    IsCode-as Always Always (λ x. domain_byte x ∷ []) letter letter_at (λ x v. tt) (λ x v. tt) (λ x v. letter_text x)
-    (char_code Always (λ b. written_as domain_byte (Arrival ∷ Possible ∷ Both ∷ []) b) domain_byte domain_letter)
+letter_code here =
+    IsCode-as (IsDomain here) (IsDomain here) (λ x. domain_byte x ∷ []) letter (letter_at here) (λ x v. v) (λ x v. v) (λ x v. letter_text x)
+    (char_code (IsDomain here) (domain_of_byte here) domain_byte (domain_letter here))
 
--- no leaf of the first version is empty
-abbrev pub IsTag : Version → Tag → Type 0
-IsTag First EmptyTag = ⊥
-IsTag First SplitTag = Unit {0}
-IsTag First BoundTag = Unit {0}
-IsTag First PointTag = Unit {0}
-IsTag Second tag = Unit {0}
-IsTag Third tag = Unit {0}
+-- no leaf of the first version is empty, and the last one is a bound where it has to be
+abbrev pub IsTag : Leaves → Tag → Type 0
+IsTag leaves.First EmptyTag = ⊥
+IsTag leaves.First SplitTag = Unit {0}
+IsTag leaves.First BoundTag = Unit {0}
+IsTag leaves.First PointTag = Unit {0}
+IsTag leaves.Later tag = Unit {0}
+IsTag leaves.Any tag = Unit {0}
+IsTag leaves.OfEdges SplitTag = Unit {0}
+IsTag leaves.OfEdges BoundTag = Unit {0}
+IsTag leaves.OfEdges PointTag = ⊥
+IsTag leaves.OfEdges EmptyTag = ⊥
 
-tag_again : (version : Version) (x : Tag) → IsTag version x → written_as tag_byte (tags version) (tag_byte x) ≡ Some x
-tag_again First SplitTag v = refl
-tag_again First BoundTag v = refl
-tag_again First PointTag v = refl
-tag_again First EmptyTag v = absurd v
-tag_again Second SplitTag v = refl
-tag_again Second BoundTag v = refl
-tag_again Second PointTag v = refl
-tag_again Second EmptyTag v = refl
-tag_again Third SplitTag v = refl
-tag_again Third BoundTag v = refl
-tag_again Third PointTag v = refl
-tag_again Third EmptyTag v = refl
+tag_again : (here : Leaves) (x : Tag) → IsTag here x → written_as tag_byte (tags here) (tag_byte x) ≡ Some x
+tag_again leaves.First SplitTag v = refl
+tag_again leaves.First BoundTag v = refl
+tag_again leaves.First PointTag v = refl
+tag_again leaves.First EmptyTag v = absurd v
+tag_again leaves.Later SplitTag v = refl
+tag_again leaves.Later BoundTag v = refl
+tag_again leaves.Later PointTag v = refl
+tag_again leaves.Later EmptyTag v = refl
+tag_again leaves.Any SplitTag v = refl
+tag_again leaves.Any BoundTag v = refl
+tag_again leaves.Any PointTag v = refl
+tag_again leaves.Any EmptyTag v = refl
+tag_again leaves.OfEdges SplitTag v = refl
+tag_again leaves.OfEdges BoundTag v = refl
+tag_again leaves.OfEdges PointTag v = absurd v
+tag_again leaves.OfEdges EmptyTag v = absurd v
 
-tag_letter : (version : Version) → IsLetter (IsTag version) (λ b. written_as tag_byte (tags version) b) tag_byte
-tag_letter First = record {
+tag_letter : (here : Leaves) → IsLetter (IsTag here) (λ b. written_as tag_byte (tags here) b) tag_byte
+tag_letter leaves.First = record {
   some = SplitTag;
   some_valid = tt;
-  again = tag_again First;
-  from = λ b x e. written_from (IsTag First) tag_byte (tags First) (tt, (tt, (tt, tt))) b x e;
+  again = tag_again leaves.First;
+  from = λ b x e. written_from (IsTag leaves.First) tag_byte (tags leaves.First) (tt, (tt, (tt, tt))) b x e;
 }
-tag_letter Second = record {
+tag_letter leaves.Later = record {
   some = SplitTag;
   some_valid = tt;
-  again = tag_again Second;
-  from = λ b x e. written_from (IsTag Second) tag_byte (tags Second) (tt, (tt, (tt, (tt, tt)))) b x e;
+  again = tag_again leaves.Later;
+  from = λ b x e. written_from (IsTag leaves.Later) tag_byte (tags leaves.Later) (tt, (tt, (tt, (tt, tt)))) b x e;
 }
-tag_letter Third = record {
+tag_letter leaves.Any = record {
   some = SplitTag;
   some_valid = tt;
-  again = tag_again Third;
-  from = λ b x e. written_from (IsTag Third) tag_byte (tags Third) (tt, (tt, (tt, (tt, tt)))) b x e;
+  again = tag_again leaves.Any;
+  from = λ b x e. written_from (IsTag leaves.Any) tag_byte (tags leaves.Any) (tt, (tt, (tt, (tt, tt)))) b x e;
+}
+tag_letter leaves.OfEdges = record {
+  some = SplitTag;
+  some_valid = tt;
+  again = tag_again leaves.OfEdges;
+  from = λ b x e. written_from (IsTag leaves.OfEdges) tag_byte (tags leaves.OfEdges) (tt, (tt, tt)) b x e;
 }
 
-tag_code : (version : Version) → IsCode (IsTag version) (λ x. tag_byte x ∷ []) (tag_at version)
+tag_code : (here : Leaves) → IsCode (IsTag here) (λ x. tag_byte x ∷ []) (tag_at here)
 unfolding tag_at
-tag_code version = char_code (IsTag version) (λ b. written_as tag_byte (tags version) b) tag_byte (tag_letter version)
+tag_code here = char_code (IsTag here) (λ b. written_as tag_byte (tags here) b) tag_byte (tag_letter here)
 
 -- ---- nodes
 
@@ -119,37 +180,45 @@ tail_text (node.Bound domain bound) = codes " " ++ (letter domain ++ (codes " " 
 tail_text (node.Point time) = codes " " ++ number_text 10 time
 tail_text node.Empty = codes "one\n"
 
+-- the domain of a bound may stand there
+abbrev HasDomain : Leaves → Node → Type 0
+HasDomain here (node.Split position) = Unit {0}
+HasDomain here (node.Bound domain bound) = IsDomain here domain
+HasDomain here (node.Point time) = Unit {0}
+HasDomain here node.Empty = Unit {0}
+
 -- the number is within its limit
-record HasTag (tag : Tag) (n : Node) : Type 0 where
+record HasTag (here : Leaves) (tag : Tag) (n : Node) : Type 0 where
   fits : value_of n ≤ greatest
+  domain : HasDomain here n
   tag_is : tag_of n ≡ tag
 
-split_to : (n : Node) → (value_of n ≤ greatest) × (n ≡ node.Split (value_of n)) → HasTag SplitTag n
-split_to (node.Split position) v = record { fits = v.0; tag_is = refl }
-split_to (node.Bound domain bound) v = absurd (let e : node.Bound domain bound ≡ node.Split bound = v.1 in cc)
-split_to (node.Point time) v = absurd (let e : node.Point time ≡ node.Split time = v.1 in cc)
-split_to node.Empty v = absurd (let e : node.Empty ≡ node.Split 0 = v.1 in cc)
+split_to : (here : Leaves) (n : Node) → (value_of n ≤ greatest) × (n ≡ node.Split (value_of n)) → HasTag here SplitTag n
+split_to here (node.Split position) v = record { fits = v.0; domain = tt; tag_is = refl }
+split_to here (node.Bound domain bound) v = absurd (let e : node.Bound domain bound ≡ node.Split bound = v.1 in cc)
+split_to here (node.Point time) v = absurd (let e : node.Point time ≡ node.Split time = v.1 in cc)
+split_to here node.Empty v = absurd (let e : node.Empty ≡ node.Split 0 = v.1 in cc)
 
-split_from : (n : Node) → HasTag SplitTag n → (value_of n ≤ greatest) × (n ≡ node.Split (value_of n))
-split_from (node.Split position) v = (v.fits, refl)
-split_from (node.Bound domain bound) v = absurd (let e : BoundTag ≡ SplitTag = v.tag_is in cc)
-split_from (node.Point time) v = absurd (let e : PointTag ≡ SplitTag = v.tag_is in cc)
-split_from node.Empty v = absurd (let e : EmptyTag ≡ SplitTag = v.tag_is in cc)
+split_from : (here : Leaves) (n : Node) → HasTag here SplitTag n → (value_of n ≤ greatest) × (n ≡ node.Split (value_of n))
+split_from here (node.Split position) v = (v.fits, refl)
+split_from here (node.Bound domain bound) v = absurd (let e : BoundTag ≡ SplitTag = v.tag_is in cc)
+split_from here (node.Point time) v = absurd (let e : PointTag ≡ SplitTag = v.tag_is in cc)
+split_from here node.Empty v = absurd (let e : EmptyTag ≡ SplitTag = v.tag_is in cc)
 
 split_text : (n : Node) → (value_of n ≤ greatest) × (n ≡ node.Split (value_of n)) → tail_text n ≡ codes " " ++ number_text 10 (value_of n)
 split_text n v = ap tail_text v.1
 
-point_to : (n : Node) → (value_of n ≤ greatest) × (n ≡ node.Point (value_of n)) → HasTag PointTag n
-point_to (node.Point time) v = record { fits = v.0; tag_is = refl }
-point_to (node.Bound domain bound) v = absurd (let e : node.Bound domain bound ≡ node.Point bound = v.1 in cc)
-point_to (node.Split position) v = absurd (let e : node.Split position ≡ node.Point position = v.1 in cc)
-point_to node.Empty v = absurd (let e : node.Empty ≡ node.Point 0 = v.1 in cc)
+point_to : (here : Leaves) (n : Node) → (value_of n ≤ greatest) × (n ≡ node.Point (value_of n)) → HasTag here PointTag n
+point_to here (node.Point time) v = record { fits = v.0; domain = tt; tag_is = refl }
+point_to here (node.Bound domain bound) v = absurd (let e : node.Bound domain bound ≡ node.Point bound = v.1 in cc)
+point_to here (node.Split position) v = absurd (let e : node.Split position ≡ node.Point position = v.1 in cc)
+point_to here node.Empty v = absurd (let e : node.Empty ≡ node.Point 0 = v.1 in cc)
 
-point_from : (n : Node) → HasTag PointTag n → (value_of n ≤ greatest) × (n ≡ node.Point (value_of n))
-point_from (node.Point time) v = (v.fits, refl)
-point_from (node.Bound domain bound) v = absurd (let e : BoundTag ≡ PointTag = v.tag_is in cc)
-point_from (node.Split position) v = absurd (let e : SplitTag ≡ PointTag = v.tag_is in cc)
-point_from node.Empty v = absurd (let e : EmptyTag ≡ PointTag = v.tag_is in cc)
+point_from : (here : Leaves) (n : Node) → HasTag here PointTag n → (value_of n ≤ greatest) × (n ≡ node.Point (value_of n))
+point_from here (node.Point time) v = (v.fits, refl)
+point_from here (node.Bound domain bound) v = absurd (let e : BoundTag ≡ PointTag = v.tag_is in cc)
+point_from here (node.Split position) v = absurd (let e : SplitTag ≡ PointTag = v.tag_is in cc)
+point_from here node.Empty v = absurd (let e : EmptyTag ≡ PointTag = v.tag_is in cc)
 
 point_text : (n : Node) → (value_of n ≤ greatest) × (n ≡ node.Point (value_of n)) → tail_text n ≡ codes " " ++ number_text 10 (value_of n)
 point_text n v = ap tail_text v.1
@@ -158,65 +227,65 @@ record IsBoundBy (domain : BoundedBy) (n : Node) : Type 0 where
   within : value_of n ≤ greatest
   made : n ≡ node.Bound domain (value_of n)
 
-bound_from : (n : Node) → HasTag BoundTag n → IsBoundBy (domain_of n) n
-bound_from (node.Bound domain bound) v = record { within = v.fits; made = refl }
-bound_from (node.Split position) v = absurd (let e : SplitTag ≡ BoundTag = v.tag_is in cc)
-bound_from (node.Point time) v = absurd (let e : PointTag ≡ BoundTag = v.tag_is in cc)
-bound_from node.Empty v = absurd (let e : EmptyTag ≡ BoundTag = v.tag_is in cc)
+bound_from : (here : Leaves) (n : Node) → HasTag here BoundTag n → IsDomain here (domain_of n) × IsBoundBy (domain_of n) n
+bound_from here (node.Bound domain bound) v = (v.domain, record { within = v.fits; made = refl })
+bound_from here (node.Split position) v = absurd (let e : SplitTag ≡ BoundTag = v.tag_is in cc)
+bound_from here (node.Point time) v = absurd (let e : PointTag ≡ BoundTag = v.tag_is in cc)
+bound_from here node.Empty v = absurd (let e : EmptyTag ≡ BoundTag = v.tag_is in cc)
 
-bound_to : (domain : BoundedBy) (n : Node) → IsBoundBy domain n → HasTag BoundTag n
-bound_to domain n v = subst (λ (m : Node). HasTag BoundTag m) (sym v.made) (record { fits = v.within; tag_is = refl })
+bound_to : (here : Leaves) (domain : BoundedBy) (n : Node) → IsDomain here domain → IsBoundBy domain n → HasTag here BoundTag n
+bound_to here domain n u v = subst (λ (m : Node). HasTag here BoundTag m) (sym v.made) (record { fits = v.within; domain = u; tag_is = refl })
 
 abbrev bound_tail : Node → List ℕ
 bound_tail n = letter (domain_of n) ++ (codes " " ++ number_text 10 (value_of n))
 
-bound_behind : IsCode (λ n. HasTag BoundTag n) bound_tail (λ bytes. letter_at bytes >>= λ domain. number_behind (codes " ") greatest 10 domain.1 >>= λ bound. Ok (node.Bound domain.0 bound.0, bound.1))
-bound_behind =
-    IsCode-then domain_of Always letter letter_at (λ domain n. IsBoundBy domain n) (λ domain n. codes " " ++ number_text 10 (value_of n))
-    (λ domain bytes. number_behind (codes " ") greatest 10 bytes >>= λ bound. Ok (node.Bound domain bound.0, bound.1)) (λ n. HasTag BoundTag n) bound_tail
-    letter_code
+bound_behind : (here : Leaves) → IsCode (λ n. HasTag here BoundTag n) bound_tail (λ bytes. letter_at here bytes >>= λ domain. number_behind (codes " ") greatest 10 domain.1 >>= λ bound. Ok (node.Bound domain.0 bound.0, bound.1))
+bound_behind here =
+    IsCode-then domain_of (IsDomain here) letter (letter_at here) (λ domain n. IsBoundBy domain n) (λ domain n. codes " " ++ number_text 10 (value_of n))
+    (λ domain bytes. number_behind (codes " ") greatest 10 bytes >>= λ bound. Ok (node.Bound domain bound.0, bound.1)) (λ n. HasTag here BoundTag n) bound_tail
+    (letter_code here)
     (λ domain u. IsCode-as (λ n. AtMost greatest (value_of n) × (n ≡ node.Bound domain (value_of n))) (λ n. IsBoundBy domain n) (λ n. codes " " ++ number_text 10 (value_of n)) (λ n. codes " " ++ number_text 10 (value_of n))
     (λ bytes. number_behind (codes " ") greatest 10 bytes >>= λ bound. Ok (node.Bound domain bound.0, bound.1))
     (λ n v. record { within = v.0; made = v.1 }) (λ n v. (v.within, v.made)) (λ n v. refl)
     (mapped_code (λ bound. node.Bound domain bound) value_of (AtMost greatest) (λ n. codes " " ++ number_text 10 n) (number_behind (codes " ") greatest 10) (λ n. refl) last_number))
     (record {
-      down = λ n v. (tt, bound_from n v, refl);
-      up = λ domain n u v. (bound_to domain n v, ap (λ (d : BoundedBy). letter d ++ (codes " " ++ number_text 10 (value_of n))) (ap domain_of v.made));
+      down = λ n v. let p = bound_from here n v in (p.0, p.1, refl);
+      up = λ domain n u v. (bound_to here domain n u v, ap (λ (d : BoundedBy). letter d ++ (codes " " ++ number_text 10 (value_of n))) (ap domain_of v.made));
     })
 
-bound_tail_is : (n : Node) → HasTag BoundTag n → tail_text n ≡ codes " " ++ bound_tail n
-bound_tail_is (node.Bound domain bound) v = refl
-bound_tail_is (node.Split position) v = absurd (let e : SplitTag ≡ BoundTag = v.tag_is in cc)
-bound_tail_is (node.Point time) v = absurd (let e : PointTag ≡ BoundTag = v.tag_is in cc)
-bound_tail_is node.Empty v = absurd (let e : EmptyTag ≡ BoundTag = v.tag_is in cc)
+bound_tail_is : (here : Leaves) (n : Node) → HasTag here BoundTag n → tail_text n ≡ codes " " ++ bound_tail n
+bound_tail_is here (node.Bound domain bound) v = refl
+bound_tail_is here (node.Split position) v = absurd (let e : SplitTag ≡ BoundTag = v.tag_is in cc)
+bound_tail_is here (node.Point time) v = absurd (let e : PointTag ≡ BoundTag = v.tag_is in cc)
+bound_tail_is here node.Empty v = absurd (let e : EmptyTag ≡ BoundTag = v.tag_is in cc)
 
-empty_to : (n : Node) → n ≡ node.Empty → HasTag EmptyTag n
-empty_to n e = subst (λ (m : Node). HasTag EmptyTag m) (sym e) (record { fits = omega arith; tag_is = refl })
+empty_to : (here : Leaves) (n : Node) → n ≡ node.Empty → HasTag here EmptyTag n
+empty_to here n e = subst (λ (m : Node). HasTag here EmptyTag m) (sym e) (record { fits = omega arith; domain = tt; tag_is = refl })
 
-empty_from : (n : Node) → HasTag EmptyTag n → n ≡ node.Empty
-empty_from (node.Split position) v = absurd (let e : SplitTag ≡ EmptyTag = v.tag_is in cc)
-empty_from (node.Bound domain bound) v = absurd (let e : BoundTag ≡ EmptyTag = v.tag_is in cc)
-empty_from (node.Point time) v = absurd (let e : PointTag ≡ EmptyTag = v.tag_is in cc)
-empty_from node.Empty v = refl
+empty_from : (here : Leaves) (n : Node) → HasTag here EmptyTag n → n ≡ node.Empty
+empty_from here (node.Split position) v = absurd (let e : SplitTag ≡ EmptyTag = v.tag_is in cc)
+empty_from here (node.Bound domain bound) v = absurd (let e : BoundTag ≡ EmptyTag = v.tag_is in cc)
+empty_from here (node.Point time) v = absurd (let e : PointTag ≡ EmptyTag = v.tag_is in cc)
+empty_from here node.Empty v = refl
 
-behind_tag_code : (tag : Tag) → IsCode (λ n. HasTag tag n) tail_text (behind_tag tag)
+behind_tag_code : (here : Leaves) (tag : Tag) → IsCode (λ n. HasTag here tag n) tail_text (behind_tag here tag)
 unfolding behind_tag
-behind_tag_code SplitTag =
-    IsCode-as (λ n. AtMost greatest (value_of n) × (n ≡ node.Split (value_of n))) (λ n. HasTag SplitTag n) (λ n. codes " " ++ number_text 10 (value_of n)) tail_text
-    (λ bytes. number_behind (codes " ") greatest 10 bytes >>= λ position. Ok (node.Split position.0, position.1)) split_to split_from split_text
+behind_tag_code here SplitTag =
+    IsCode-as (λ n. AtMost greatest (value_of n) × (n ≡ node.Split (value_of n))) (λ n. HasTag here SplitTag n) (λ n. codes " " ++ number_text 10 (value_of n)) tail_text
+    (λ bytes. number_behind (codes " ") greatest 10 bytes >>= λ position. Ok (node.Split position.0, position.1)) (split_to here) (split_from here) split_text
     (mapped_code (λ position. node.Split position) value_of (AtMost greatest) (λ n. codes " " ++ number_text 10 n) (number_behind (codes " ") greatest 10) (λ n. refl) last_number)
-behind_tag_code BoundTag =
-    IsCode-as (λ n. HasTag BoundTag n) (λ n. HasTag BoundTag n) (λ n. codes " " ++ bound_tail n) tail_text
-    (λ bytes. literal (codes " ") bytes >>= λ space. letter_at space.1 >>= λ domain. number_behind (codes " ") greatest 10 domain.1 >>= λ bound. Ok (node.Bound domain.0 bound.0, bound.1))
-    (λ n v. v) (λ n v. v) bound_tail_is
-    (behind_word (codes " ") (λ n. HasTag BoundTag n) bound_tail (λ bytes. letter_at bytes >>= λ domain. number_behind (codes " ") greatest 10 domain.1 >>= λ bound. Ok (node.Bound domain.0 bound.0, bound.1)) bound_behind)
-behind_tag_code PointTag =
-    IsCode-as (λ n. AtMost greatest (value_of n) × (n ≡ node.Point (value_of n))) (λ n. HasTag PointTag n) (λ n. codes " " ++ number_text 10 (value_of n)) tail_text
-    (λ bytes. number_behind (codes " ") greatest 10 bytes >>= λ time. Ok (node.Point time.0, time.1)) point_to point_from point_text
+behind_tag_code here BoundTag =
+    IsCode-as (λ n. HasTag here BoundTag n) (λ n. HasTag here BoundTag n) (λ n. codes " " ++ bound_tail n) tail_text
+    (λ bytes. literal (codes " ") bytes >>= λ space. letter_at here space.1 >>= λ domain. number_behind (codes " ") greatest 10 domain.1 >>= λ bound. Ok (node.Bound domain.0 bound.0, bound.1))
+    (λ n v. v) (λ n v. v) (bound_tail_is here)
+    (behind_word (codes " ") (λ n. HasTag here BoundTag n) bound_tail (λ bytes. letter_at here bytes >>= λ domain. number_behind (codes " ") greatest 10 domain.1 >>= λ bound. Ok (node.Bound domain.0 bound.0, bound.1)) (bound_behind here))
+behind_tag_code here PointTag =
+    IsCode-as (λ n. AtMost greatest (value_of n) × (n ≡ node.Point (value_of n))) (λ n. HasTag here PointTag n) (λ n. codes " " ++ number_text 10 (value_of n)) tail_text
+    (λ bytes. number_behind (codes " ") greatest 10 bytes >>= λ time. Ok (node.Point time.0, time.1)) (point_to here) (point_from here) point_text
     (mapped_code (λ time. node.Point time) value_of (AtMost greatest) (λ n. codes " " ++ number_text 10 n) (number_behind (codes " ") greatest 10) (λ n. refl) last_number)
-behind_tag_code EmptyTag =
-    IsCode-as (λ n. n ≡ node.Empty) (λ n. HasTag EmptyTag n) (λ n. codes "one\n" ++ []) tail_text (λ bytes. literal (codes "one\n") bytes >>= λ word. Ok (node.Empty, word.1))
-    empty_to empty_from (λ n e. ap tail_text e)
+behind_tag_code here EmptyTag =
+    IsCode-as (λ n. n ≡ node.Empty) (λ n. HasTag here EmptyTag n) (λ n. codes "one\n" ++ []) tail_text (λ bytes. literal (codes "one\n") bytes >>= λ word. Ok (node.Empty, word.1))
+    (empty_to here) (empty_from here) (λ n e. ap tail_text e)
     (behind_word (codes "one\n") (λ n. n ≡ node.Empty) (λ n. []) (λ bytes. Ok (node.Empty, bytes)) (IsCode-done node.Empty))
 
 abbrev pub node_text : Node → List ℕ
@@ -227,46 +296,103 @@ node_parts (node.Split position) = refl
 node_parts (node.Bound Arrival bound) = refl
 node_parts (node.Bound Possible bound) = refl
 node_parts (node.Bound Both bound) = refl
+node_parts (node.Bound Edges bound) = refl
+node_parts (node.Bound EdgesAndPossible bound) = refl
 node_parts (node.Point time) = refl
 node_parts node.Empty = refl
 
--- a node of a version has one of its tags, and its number is within the limit
-record IsTagged (version : Version) (n : Node) : Type 0 where
-  tag : IsTag version (tag_of n)
-  fits : value_of n ≤ greatest
+-- a node that may stand there has one of its tags and domains, and its number is within the limit
+pub record MayStand (here : Leaves) (n : Node) : Type 0 where
+  pub tag : IsTag here (tag_of n)
+  pub domain : HasDomain here n
+  pub fits : value_of n ≤ greatest
 
-tag_of_node : (version : Version) (n : Node) → IsNode version n → IsTagged version n
-tag_of_node First (node.Split position) v = record { tag = tt; fits = v }
-tag_of_node Second (node.Split position) v = record { tag = tt; fits = v }
-tag_of_node Third (node.Split position) v = record { tag = tt; fits = v }
-tag_of_node First (node.Bound domain bound) v = record { tag = tt; fits = v }
-tag_of_node Second (node.Bound domain bound) v = record { tag = tt; fits = v }
-tag_of_node Third (node.Bound domain bound) v = record { tag = tt; fits = v }
-tag_of_node First (node.Point time) v = record { tag = tt; fits = v }
-tag_of_node Second (node.Point time) v = record { tag = tt; fits = v }
-tag_of_node Third (node.Point time) v = record { tag = tt; fits = v }
-tag_of_node First node.Empty v = absurd (v refl)
-tag_of_node Second node.Empty v = record { tag = tt; fits = omega arith }
-tag_of_node Third node.Empty v = record { tag = tt; fits = omega arith }
-
-restricted : (version : Version) → IsTag version EmptyTag → version ≢ First
-restricted First v = absurd v
-restricted Second v = λ e. cc
-restricted Third v = λ e. cc
-
-node_of_tag : (version : Version) (n : Node) → IsTag version (tag_of n) → value_of n ≤ greatest → IsNode version n
-node_of_tag version (node.Split position) v fits = fits
-node_of_tag version (node.Bound domain bound) v fits = fits
-node_of_tag version (node.Point time) v fits = fits
-node_of_tag version node.Empty v fits = restricted version v
-
-pub node_code : (version : Version) → IsCode (IsNode version) node_text (node_at version)
+pub node_code : (here : Leaves) → IsCode (MayStand here) node_text (node_at here)
 unfolding node_at
-node_code version =
-    IsCode-then tag_of (IsTag version) (λ x. tag_byte x ∷ []) (tag_at version) (λ tag n. HasTag tag n) (λ tag n. tail_text n) behind_tag (IsNode version) node_text (tag_code version)
-    (λ tag u. behind_tag_code tag)
+node_code here =
+    IsCode-then tag_of (IsTag here) (λ x. tag_byte x ∷ []) (tag_at here) (λ tag n. HasTag here tag n) (λ tag n. tail_text n) (behind_tag here) (MayStand here) node_text (tag_code here)
+    (λ tag u. behind_tag_code here tag)
     (record {
-      down = λ n v. let t = tag_of_node version n v in (t.tag, record { fits = t.fits; tag_is = refl }, node_parts n);
+      down = λ n v. (v.tag, record { fits = v.fits; domain = v.domain; tag_is = refl }, node_parts n);
       up = λ tag n u v.
-          (node_of_tag version n (subst (IsTag version) (sym v.tag_is) u) v.fits, node_parts n ∙ ap (λ (t : Tag). (tag_byte t ∷ []) ++ tail_text n) v.tag_is);
+          (record { tag = subst (IsTag here) (sym v.tag_is) u; domain = v.domain; fits = v.fits }, node_parts n ∙ ap (λ (t : Tag). (tag_byte t ∷ []) ++ tail_text n) v.tag_is);
     })
+
+-- ---- the nodes of a version
+
+-- nothing is bounded by edges before the fourth version
+abbrev pub IsPlain : Version → Node → Type 0
+IsPlain First n = names_edges n ≡ false
+IsPlain Second n = names_edges n ≡ false
+IsPlain Third n = names_edges n ≡ false
+IsPlain Fourth n = Unit {0}
+
+-- those of its nodes
+abbrev pub leaves_of : Version → Leaves
+leaves_of First = leaves.First
+leaves_of Second = leaves.Later
+leaves_of Third = leaves.Later
+leaves_of Fourth = leaves.Any
+
+pub to_node : (version : Version) (n : Node) → MayStand (leaves_of version) n → IsNode version n × IsPlain version n
+to_node First (node.Split position) v = (v.fits, refl)
+to_node Second (node.Split position) v = (v.fits, refl)
+to_node Third (node.Split position) v = (v.fits, refl)
+to_node Fourth (node.Split position) v = (v.fits, tt)
+to_node First (node.Bound domain bound) v = (v.fits, v.domain)
+to_node Second (node.Bound domain bound) v = (v.fits, v.domain)
+to_node Third (node.Bound domain bound) v = (v.fits, v.domain)
+to_node Fourth (node.Bound domain bound) v = (v.fits, tt)
+to_node First (node.Point time) v = (v.fits, refl)
+to_node Second (node.Point time) v = (v.fits, refl)
+to_node Third (node.Point time) v = (v.fits, refl)
+to_node Fourth (node.Point time) v = (v.fits, tt)
+to_node First node.Empty v = absurd v.tag
+to_node Second node.Empty v = (λ e. cc, refl)
+to_node Third node.Empty v = (λ e. cc, refl)
+to_node Fourth node.Empty v = (λ e. cc, tt)
+
+pub from_node : (version : Version) (n : Node) → IsNode version n → IsPlain version n → MayStand (leaves_of version) n
+from_node First (node.Split position) v p = record { tag = tt; domain = tt; fits = v }
+from_node Second (node.Split position) v p = record { tag = tt; domain = tt; fits = v }
+from_node Third (node.Split position) v p = record { tag = tt; domain = tt; fits = v }
+from_node Fourth (node.Split position) v p = record { tag = tt; domain = tt; fits = v }
+from_node First (node.Bound domain bound) v p = record { tag = tt; domain = p; fits = v }
+from_node Second (node.Bound domain bound) v p = record { tag = tt; domain = p; fits = v }
+from_node Third (node.Bound domain bound) v p = record { tag = tt; domain = p; fits = v }
+from_node Fourth (node.Bound domain bound) v p = record { tag = tt; domain = tt; fits = v }
+from_node First (node.Point time) v p = record { tag = tt; domain = tt; fits = v }
+from_node Second (node.Point time) v p = record { tag = tt; domain = tt; fits = v }
+from_node Third (node.Point time) v p = record { tag = tt; domain = tt; fits = v }
+from_node Fourth (node.Point time) v p = record { tag = tt; domain = tt; fits = v }
+from_node First node.Empty v p = absurd (v refl)
+from_node Second node.Empty v p = record { tag = tt; domain = tt; fits = omega arith }
+from_node Third node.Empty v p = record { tag = tt; domain = tt; fits = omega arith }
+from_node Fourth node.Empty v p = record { tag = tt; domain = tt; fits = omega arith }
+
+-- what may stand as the last one in the fourth version is a split, or is bounded by edges
+pub data IsLast (n : Node) : Type 0 where
+  splits : sides n ≡ 2 → IsLast n
+  names : names_edges n ≡ true → IsLast n
+
+pub is_last : (n : Node) → MayStand leaves.OfEdges n → IsLast n
+is_last (node.Split position) v = splits refl
+is_last (node.Bound domain bound) v = names v.domain
+is_last (node.Point time) v = absurd v.tag
+is_last node.Empty v = absurd v.tag
+
+pub from_last : (n : Node) → MayStand leaves.Any n → IsLast n → MayStand leaves.OfEdges n
+from_last (node.Split position) v last = record { tag = tt; domain = tt; fits = v.fits }
+from_last (node.Bound domain bound) v (splits e) = absurd (let f : 0 ≡ 2 = e in cc)
+from_last (node.Bound domain bound) v (names e) = record { tag = tt; domain = e; fits = v.fits }
+from_last (node.Point time) v (splits e) = absurd (let f : 0 ≡ 2 = e in cc)
+from_last (node.Point time) v (names e) = absurd (let f : false ≡ true = e in cc)
+from_last node.Empty v (splits e) = absurd (let f : 0 ≡ 2 = e in cc)
+from_last node.Empty v (names e) = absurd (let f : false ≡ true = e in cc)
+
+-- it may stand where any leaf may
+pub last_any : (n : Node) → MayStand leaves.OfEdges n → MayStand leaves.Any n
+last_any (node.Split position) v = record { tag = tt; domain = tt; fits = v.fits }
+last_any (node.Bound domain bound) v = record { tag = tt; domain = tt; fits = v.fits }
+last_any (node.Point time) v = absurd v.tag
+last_any node.Empty v = absurd v.tag

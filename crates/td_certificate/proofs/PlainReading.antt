@@ -4,7 +4,8 @@ use Rattle.std.specs.Prelude.{codes, replicate, ◌&&◌, ◌==◌}
 use Rattle.std.specs.Char.{is_ascii_digit}
 use Rattle.td_certificate.specs.declared.tree.Node.TheVariants as node
 use Rattle.td_certificate.specs.declared.question.Version.{Version}
-use Rattle.td_certificate.specs.declared.question.Version.TheVariants.{First, Second, Third}
+use Rattle.td_certificate.specs.declared.question.Version.TheVariants.{First, Second, Third, Fourth}
+use Rattle.td_certificate.specs.declared.fields.Leaves.{Leaves}
 use Rattle.td_certificate.specs.declared.certificate.Certificate.{Certificate}
 use Rattle.td_certificate.specs.declared.fields.Reason.TheVariants.{Syntax, NumberTooLarge}
 use Rattle.td_certificate.specs.declared.fields.Reason.TheVariants as reason
@@ -12,7 +13,7 @@ use Rattle.td_certificate.specs.Trees.{sides}
 use Rattle.td_certificate.specs.Questions.{Question, all_at_once}
 use Rattle.td_certificate.specs.Text.{weave}
 use Rattle.td_certificate.specs.Spelling.{greatest, latest}
-use Rattle.td_certificate.specs.Reading.{Ends, Wrong, Reading, ◌>>=◌, literal, digits_at, number_at, begins_with_zero, number_from, taken, char_at, chars_at, trit_of, hold_of, bit_of, chars_behind, letter_at, number_behind, vector_behind, because, has_inputs, most_flips, flips_at, with_pins, admit_at, close_of, moment_at, moments_at, at_line, asked, question_at, Tag, SplitTag, BoundTag, PointTag, EmptyTag, tag_at, behind_tag, node_at, nodes_within, nodes_at, with_fields, lines_at}
+use Rattle.td_certificate.specs.Reading.{Ends, Wrong, Reading, ◌>>=◌, literal, digits_at, number_at, begins_with_zero, number_from, taken, char_at, chars_at, trit_of, hold_of, bit_of, chars_behind, letter_at, number_behind, row_behind, because, has_inputs, most_flips, flips_at, with_pins, admit_at, close_of, moment_at, moments_at, at_line, asked, dated_at, question_at, Tag, SplitTag, BoundTag, PointTag, EmptyTag, tag_at, behind_tag, node_at, leaves_in, leaves_before, leaves_behind, nodes_within, nodes_at, with_fields, lines_at}
 use Rattle.td_certificate.proofs.Loops.{done}
 use Rattle.td_certificate.proofs.Codes.{bind_err}
 use Rattle.td_certificate.proofs.FieldCodes.{ends, wrong}
@@ -101,12 +102,12 @@ chars_behind_plain word value count bytes =
     (λ behind. plain_then (chars_at value count behind.1) (λ chars. literal (codes "\n") chars.1 >>= λ end. Ok (chars.0, end.1)) (chars_plain value count behind.1)
     (λ chars. plain_then (literal (codes "\n") chars.1) (λ end. Ok (chars.0, end.1)) (literal_plain (codes "\n") chars.1) (λ end. plain_ok (chars.0, end.1))))
 
-vector_behind_plain : (word : List ℕ) (count : ℕ) (bytes : List ℕ) → Plain (vector_behind word count bytes)
-unfolding vector_behind
-vector_behind_plain word zero bytes =
+row_behind_plain : {A : Type 0} (word : List ℕ) (value : ℕ → Option A) (count : ℕ) (bytes : List ℕ) → Plain (row_behind word value count bytes)
+unfolding row_behind
+row_behind_plain word value zero bytes =
     plain_then (literal word bytes) (λ behind. literal (codes "none\n") behind.1 >>= λ none. Ok ([], none.1)) (literal_plain word bytes)
     (λ behind. plain_then (literal (codes "none\n") behind.1) (λ none. Ok ([], none.1)) (literal_plain (codes "none\n") behind.1) (λ none. plain_ok ([], none.1)))
-vector_behind_plain word (suc count) bytes = chars_behind_plain word bit_of (suc count) bytes
+row_behind_plain word value (suc count) bytes = chars_behind_plain word value (suc count) bytes
 
 number_behind_plain : (word : List ℕ) (most close : ℕ) (bytes : List ℕ) → Plain (number_behind word most close bytes)
 unfolding number_behind
@@ -121,15 +122,15 @@ flips_plain most bytes = syntax_plain (number_behind (codes "flips ") most 10 by
 admit_plain : (v : Version) (i : ℕ) (bytes : List ℕ) → Plain (admit_at v i bytes)
 unfolding admit_at
 admit_plain v i bytes =
-    plain_then (chars_behind (codes "first ") trit_of i bytes)
-    (λ firsts. chars_behind (codes "second ") trit_of i firsts.1 >>= λ seconds. chars_behind (codes "hold ") hold_of i seconds.1 >>= λ held. flips_at (most_flips v (weave firsts.0 seconds.0) held.0) held.1 >>= λ flips. Ok (with_pins firsts.0 seconds.0 held.0 flips.0, flips.1))
-    (chars_behind_plain (codes "first ") trit_of i bytes)
-    (λ firsts. plain_then (chars_behind (codes "second ") trit_of i firsts.1)
-    (λ seconds. chars_behind (codes "hold ") hold_of i seconds.1 >>= λ held. flips_at (most_flips v (weave firsts.0 seconds.0) held.0) held.1 >>= λ flips. Ok (with_pins firsts.0 seconds.0 held.0 flips.0, flips.1))
-    (chars_behind_plain (codes "second ") trit_of i firsts.1)
-    (λ seconds. plain_then (chars_behind (codes "hold ") hold_of i seconds.1)
+    plain_then (row_behind (codes "first ") trit_of i bytes)
+    (λ firsts. row_behind (codes "second ") trit_of i firsts.1 >>= λ seconds. row_behind (codes "hold ") hold_of i seconds.1 >>= λ held. flips_at (most_flips v (weave firsts.0 seconds.0) held.0) held.1 >>= λ flips. Ok (with_pins firsts.0 seconds.0 held.0 flips.0, flips.1))
+    (row_behind_plain (codes "first ") trit_of i bytes)
+    (λ firsts. plain_then (row_behind (codes "second ") trit_of i firsts.1)
+    (λ seconds. row_behind (codes "hold ") hold_of i seconds.1 >>= λ held. flips_at (most_flips v (weave firsts.0 seconds.0) held.0) held.1 >>= λ flips. Ok (with_pins firsts.0 seconds.0 held.0 flips.0, flips.1))
+    (row_behind_plain (codes "second ") trit_of i firsts.1)
+    (λ seconds. plain_then (row_behind (codes "hold ") hold_of i seconds.1)
     (λ held. flips_at (most_flips v (weave firsts.0 seconds.0) held.0) held.1 >>= λ flips. Ok (with_pins firsts.0 seconds.0 held.0 flips.0, flips.1))
-    (chars_behind_plain (codes "hold ") hold_of i seconds.1)
+    (row_behind_plain (codes "hold ") hold_of i seconds.1)
     (λ held. plain_then (flips_at (most_flips v (weave firsts.0 seconds.0) held.0) held.1) (λ flips. Ok (with_pins firsts.0 seconds.0 held.0 flips.0, flips.1))
     (flips_plain (most_flips v (weave firsts.0 seconds.0) held.0) held.1) (λ flips. plain_ok (with_pins firsts.0 seconds.0 held.0 flips.0, flips.1)))))
 
@@ -141,79 +142,89 @@ moments_plain at_once (suc count) bytes =
     (syntax_plain (number_from (at_once && count == 0) latest (close_of count) bytes))
     (λ first. plain_then (moments_at (at_once && first.0 == 0) count first.1) (λ others. Ok (first.0 ∷ others.0, others.1)) (moments_plain (at_once && first.0 == 0) count first.1) (λ others. plain_ok (first.0 ∷ others.0, others.1)))
 
-at_plain : (i : ℕ) (bytes : List ℕ) → Plain (at_line i bytes)
+at_plain : (later : Bool) (i : ℕ) (bytes : List ℕ) → Plain (at_line later i bytes)
 unfolding at_line
-at_plain i bytes = plain_then (literal (codes "at ") bytes) (λ behind. moments_at true i behind.1) (literal_plain (codes "at ") bytes) (λ behind. moments_plain true i behind.1)
+at_plain later zero bytes =
+    plain_then (literal (codes "at ") bytes) (λ behind. literal (codes "none\n") behind.1 >>= λ none. Ok ([], none.1)) (literal_plain (codes "at ") bytes)
+    (λ behind. plain_then (literal (codes "none\n") behind.1) (λ none. Ok ([], none.1)) (literal_plain (codes "none\n") behind.1) (λ none. plain_ok ([], none.1)))
+at_plain later (suc count) bytes =
+    plain_then (literal (codes "at ") bytes) (λ behind. moments_at later (suc count) behind.1) (literal_plain (codes "at ") bytes) (λ behind. moments_plain later (suc count) behind.1)
+
+dated_plain : (v : Version) (later : Bool) (i : ℕ) (bytes : List ℕ) → Plain (dated_at v later i bytes)
+unfolding dated_at
+dated_plain v later i bytes =
+    plain_then (admit_at v i bytes) (λ admit. at_line later i admit.1 >>= λ moments. Ok (asked admit.0 moments.0, moments.1)) (admit_plain v i bytes)
+    (λ admit. plain_then (at_line later i admit.1) (λ moments. Ok (asked admit.0 moments.0, moments.1)) (at_plain later i admit.1) (λ moments. plain_ok (asked admit.0 moments.0, moments.1)))
 
 question_plain : (v : Version) (i : ℕ) (bytes : List ℕ) → Plain (question_at v i bytes)
 unfolding question_at
 question_plain First i bytes = plain_ok (all_at_once i, bytes)
 question_plain Second i bytes =
     plain_then (admit_at Second i bytes) (λ admit. Ok (asked admit.0 (replicate i 0), admit.1)) (admit_plain Second i bytes) (λ admit. plain_ok (asked admit.0 (replicate i 0), admit.1))
-question_plain Third i bytes =
-    plain_then (admit_at Third i bytes) (λ admit. at_line i admit.1 >>= λ moments. Ok (asked admit.0 moments.0, moments.1)) (admit_plain Third i bytes)
-    (λ admit. plain_then (at_line i admit.1) (λ moments. Ok (asked admit.0 moments.0, moments.1)) (at_plain i admit.1) (λ moments. plain_ok (asked admit.0 moments.0, moments.1)))
+question_plain Third i bytes = dated_plain Third true i bytes
+question_plain Fourth i bytes = dated_plain Fourth false i bytes
 
 -- ---- the tree
 
-letter_plain : (bytes : List ℕ) → Plain (letter_at bytes)
+letter_plain : (here : Leaves) (bytes : List ℕ) → Plain (letter_at here bytes)
 unfolding letter_at
-letter_plain bytes = char_plain _ bytes
+letter_plain here bytes = char_plain _ bytes
 
-tag_plain : (v : Version) (bytes : List ℕ) → Plain (tag_at v bytes)
+tag_plain : (here : Leaves) (bytes : List ℕ) → Plain (tag_at here bytes)
 unfolding tag_at
-tag_plain v bytes = char_plain _ bytes
+tag_plain here bytes = char_plain _ bytes
 
 last_plain : (bytes : List ℕ) → Plain (number_behind (codes " ") greatest 10 bytes)
 last_plain bytes = number_behind_plain (codes " ") greatest 10 bytes
 
-behind_tag_plain : (tag : Tag) (bytes : List ℕ) → Plain (behind_tag tag bytes)
+behind_tag_plain : (here : Leaves) (tag : Tag) (bytes : List ℕ) → Plain (behind_tag here tag bytes)
 unfolding behind_tag
-behind_tag_plain SplitTag bytes =
+behind_tag_plain here SplitTag bytes =
     plain_then (number_behind (codes " ") greatest 10 bytes) (λ position. Ok (node.Split position.0, position.1)) (last_plain bytes) (λ position. plain_ok (node.Split position.0, position.1))
-behind_tag_plain BoundTag bytes =
-    plain_then (literal (codes " ") bytes) (λ space. letter_at space.1 >>= λ domain. number_behind (codes " ") greatest 10 domain.1 >>= λ bound. Ok (node.Bound domain.0 bound.0, bound.1)) (literal_plain (codes " ") bytes)
-    (λ space. plain_then (letter_at space.1) (λ domain. number_behind (codes " ") greatest 10 domain.1 >>= λ bound. Ok (node.Bound domain.0 bound.0, bound.1)) (letter_plain space.1)
+behind_tag_plain here BoundTag bytes =
+    plain_then (literal (codes " ") bytes) (λ space. letter_at here space.1 >>= λ domain. number_behind (codes " ") greatest 10 domain.1 >>= λ bound. Ok (node.Bound domain.0 bound.0, bound.1)) (literal_plain (codes " ") bytes)
+    (λ space. plain_then (letter_at here space.1) (λ domain. number_behind (codes " ") greatest 10 domain.1 >>= λ bound. Ok (node.Bound domain.0 bound.0, bound.1)) (letter_plain here space.1)
     (λ domain. plain_then (number_behind (codes " ") greatest 10 domain.1) (λ bound. Ok (node.Bound domain.0 bound.0, bound.1)) (last_plain domain.1) (λ bound. plain_ok (node.Bound domain.0 bound.0, bound.1))))
-behind_tag_plain PointTag bytes =
+behind_tag_plain here PointTag bytes =
     plain_then (number_behind (codes " ") greatest 10 bytes) (λ time. Ok (node.Point time.0, time.1)) (last_plain bytes) (λ time. plain_ok (node.Point time.0, time.1))
-behind_tag_plain EmptyTag bytes =
+behind_tag_plain here EmptyTag bytes =
     plain_then (literal (codes "one\n") bytes) (λ word. Ok (node.Empty, word.1)) (literal_plain (codes "one\n") bytes) (λ word. plain_ok (node.Empty, word.1))
 
-node_plain : (v : Version) (bytes : List ℕ) → Plain (node_at v bytes)
+node_plain : (here : Leaves) (bytes : List ℕ) → Plain (node_at here bytes)
 unfolding node_at
-node_plain v bytes = plain_then (tag_at v bytes) (λ tag. behind_tag tag.0 tag.1) (tag_plain v bytes) (λ tag. behind_tag_plain tag.0 tag.1)
+node_plain here bytes = plain_then (tag_at here bytes) (λ tag. behind_tag here tag.0 tag.1) (tag_plain here bytes) (λ tag. behind_tag_plain here tag.0 tag.1)
 
-within_plain : (v : Version) (count pending : ℕ) (bytes : List ℕ) → Plain (nodes_within v count pending bytes)
+within_plain : (here : Leaves) (count pending : ℕ) (bytes : List ℕ) → Plain (nodes_within here count pending bytes)
 unfolding nodes_within
-within_plain v zero zero bytes = plain_ok ([], bytes)
-within_plain v (suc count) zero bytes = plain_ok ([], bytes)
-within_plain v zero (suc pending) bytes = plain_ends
-within_plain v (suc count) (suc pending) bytes =
-    plain_then (node_at v bytes) (λ first. nodes_within v count (sides first.0 + pending) first.1 >>= λ others. Ok (first.0 ∷ others.0, others.1)) (node_plain v bytes)
-    (λ first. plain_then (nodes_within v count (sides first.0 + pending) first.1) (λ others. Ok (first.0 ∷ others.0, others.1)) (within_plain v count (sides first.0 + pending) first.1) (λ others. plain_ok (first.0 ∷ others.0, others.1)))
+within_plain here zero zero bytes = plain_ok ([], bytes)
+within_plain here (suc count) zero bytes = plain_ok ([], bytes)
+within_plain here zero (suc pending) bytes = plain_ends
+within_plain here (suc count) (suc pending) bytes =
+    plain_then (node_at (leaves_before here pending) bytes) (λ first. nodes_within (leaves_behind here first.0) count (sides first.0 + pending) first.1 >>= λ others. Ok (first.0 ∷ others.0, others.1)) (node_plain (leaves_before here pending) bytes)
+    (λ first. plain_then (nodes_within (leaves_behind here first.0) count (sides first.0 + pending) first.1) (λ others. Ok (first.0 ∷ others.0, others.1)) (within_plain (leaves_behind here first.0) count (sides first.0 + pending) first.1)
+    (λ others. plain_ok (first.0 ∷ others.0, others.1)))
 
-nodes_plain : (v : Version) (pending : ℕ) (bytes : List ℕ) → Plain (nodes_at v pending bytes)
+nodes_plain : (here : Leaves) (pending : ℕ) (bytes : List ℕ) → Plain (nodes_at here pending bytes)
 unfolding nodes_at
-nodes_plain v pending bytes = within_plain v _ pending bytes
+nodes_plain here pending bytes = within_plain here _ pending bytes
 
 -- ---- the lines behind the first
 
 abbrev behind_second : Version → ℕ → ℕ → Question → ℕ → List Bool → List ℕ → Reading Certificate
-behind_second v i g q t f bytes = vector_behind (codes "to ") i bytes >>= λ second. nodes_at v 1 second.1 >>= λ tree. Ok (with_fields g q t f second.0 tree.0, tree.1)
+behind_second v i g q t f bytes = row_behind (codes "to ") bit_of i bytes >>= λ second. nodes_at (leaves_in v) 1 second.1 >>= λ tree. Ok (with_fields g q t f second.0 tree.0, tree.1)
 
 second_plain : (v : Version) (i g : ℕ) (q : Question) (t : ℕ) (f : List Bool) (bytes : List ℕ) → Plain (behind_second v i g q t f bytes)
 second_plain v i g q t f bytes =
-    plain_then (vector_behind (codes "to ") i bytes) (λ second. nodes_at v 1 second.1 >>= λ tree. Ok (with_fields g q t f second.0 tree.0, tree.1)) (vector_behind_plain (codes "to ") i bytes)
-    (λ second. plain_then (nodes_at v 1 second.1) (λ tree. Ok (with_fields g q t f second.0 tree.0, tree.1)) (nodes_plain v 1 second.1) (λ tree. plain_ok (with_fields g q t f second.0 tree.0, tree.1)))
+    plain_then (row_behind (codes "to ") bit_of i bytes) (λ second. nodes_at (leaves_in v) 1 second.1 >>= λ tree. Ok (with_fields g q t f second.0 tree.0, tree.1)) (row_behind_plain (codes "to ") bit_of i bytes)
+    (λ second. plain_then (nodes_at (leaves_in v) 1 second.1) (λ tree. Ok (with_fields g q t f second.0 tree.0, tree.1)) (nodes_plain (leaves_in v) 1 second.1) (λ tree. plain_ok (with_fields g q t f second.0 tree.0, tree.1)))
 
 abbrev behind_question : Version → ℕ → ℕ → Question → List ℕ → Reading Certificate
-behind_question v i g q bytes = number_behind (codes "time ") greatest 10 bytes >>= λ time. vector_behind (codes "from ") i time.1 >>= λ first. behind_second v i g q time.0 first.0 first.1
+behind_question v i g q bytes = number_behind (codes "time ") greatest 10 bytes >>= λ time. row_behind (codes "from ") bit_of i time.1 >>= λ first. behind_second v i g q time.0 first.0 first.1
 
 time_plain : (v : Version) (i g : ℕ) (q : Question) (bytes : List ℕ) → Plain (behind_question v i g q bytes)
 time_plain v i g q bytes =
-    plain_then (number_behind (codes "time ") greatest 10 bytes) (λ time. vector_behind (codes "from ") i time.1 >>= λ first. behind_second v i g q time.0 first.0 first.1) (number_behind_plain (codes "time ") greatest 10 bytes)
-    (λ time. plain_then (vector_behind (codes "from ") i time.1) (λ first. behind_second v i g q time.0 first.0 first.1) (vector_behind_plain (codes "from ") i time.1) (λ first. second_plain v i g q time.0 first.0 first.1))
+    plain_then (number_behind (codes "time ") greatest 10 bytes) (λ time. row_behind (codes "from ") bit_of i time.1 >>= λ first. behind_second v i g q time.0 first.0 first.1) (number_behind_plain (codes "time ") greatest 10 bytes)
+    (λ time. plain_then (row_behind (codes "from ") bit_of i time.1) (λ first. behind_second v i g q time.0 first.0 first.1) (row_behind_plain (codes "from ") bit_of i time.1) (λ first. second_plain v i g q time.0 first.0 first.1))
 
 abbrev behind_inputs : Version → ℕ → List ℕ → Reading Certificate
 behind_inputs v i bytes = number_at 200000 10 bytes >>= λ gates. question_at v i gates.1 >>= λ question. behind_question v i gates.0 question.0 question.1

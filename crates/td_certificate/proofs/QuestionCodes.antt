@@ -9,16 +9,16 @@ use Rattle.td_domain.specs.declared.cubes.Trit.{Trit}
 use Rattle.td_domain.specs.declared.cubes.Trit.TheVariants.{Zero, One, Free}
 use Rattle.td_domain.specs.Admits.{Admitted, all_pairs}
 use Rattle.td_certificate.specs.declared.question.Version.{Version}
-use Rattle.td_certificate.specs.declared.question.Version.TheVariants.{First, Second, Third}
+use Rattle.td_certificate.specs.declared.question.Version.TheVariants.{First, Second, Third, Fourth}
 use Rattle.td_certificate.specs.declared.fields.Reason.TheVariants.{Syntax}
 use Rattle.td_certificate.specs.Questions.{Question, inputs_of, is_free, holds_none, admits_all, is_at_once, version_of, all_at_once}
-use Rattle.td_certificate.specs.Text.{trit, first_trits, second_trits, weave, hold, numbers}
+use Rattle.td_certificate.specs.Text.{row, trit, first_trits, second_trits, weave, hold, numbers}
 use Rattle.td_certificate.specs.Spelling.{FlipsField, AtField, fields_of, field_line, ended, text_of, question_text, latest}
-use Rattle.td_certificate.specs.Reading.{◌>>=◌, number_behind, number_from, trit_of, hold_of, chars_behind, has_inputs, most_flips, flips_at, with_pins, admit_at, close_of, moment_at, moments_at, at_line, asked, question_at}
+use Rattle.td_certificate.specs.Reading.{◌>>=◌, number_behind, number_from, trit_of, hold_of, row_behind, has_inputs, most_flips, flips_at, with_pins, admit_at, close_of, moment_at, moments_at, at_line, asked, dated_at, question_at}
 use Rattle.td_certificate.proofs.Loops.{done, done_is, weave-length}
 use Rattle.td_certificate.proofs.Codes.{IsCode, IsCode-then, IsCode-done}
 use Rattle.td_certificate.proofs.FieldCodes.{IsLimit, AtMost, IsFrom, number_text, number_from_code, both}
-use Rattle.td_certificate.proofs.VectorCodes.{behind_word, number_behind_code, same_code, HasLength, HasFirst, first_of, tail_of, pushed_code, trit_letter, hold_letter, chars_line, chars_behind_code, IsCode-as, mapped_code}
+use Rattle.td_certificate.proofs.VectorCodes.{behind_word, number_behind_code, same_code, HasLength, HasFirst, first_of, tail_of, pushed_code, trit_letter, hold_letter, row_text, row_behind_code, none_code, IsCode-as, mapped_code}
 use Rattle.td_certificate.proofs.VersionCode.{because_code}
 
 -- ---- woven trits
@@ -51,9 +51,14 @@ woven (suc count) (p ∷ q ∷ pins) e =
 
 -- ---- the lines `first` to `flips`
 
+-- a line of a word and a row
+abbrev pub row_line : {A : Type 0} → List ℕ → (A → ℕ) → List A → List ℕ
+row_line word byte xs = word ++ row_text byte xs
+
 most_within : (version : Version) (pins : List Trit) (held : List Bool) → most_flips version pins held ≤ length held
 most_within First pins held = omega arith
 most_within Third pins held = omega arith
+most_within Fourth pins held = omega arith
 most_within Second pins held =
     elim (list_all is_free pins && holds_none held) as (λ t. cond t (length held - 1) (length held) ≤ length held) [ true ↦ omega arith | false ↦ omega arith ]
 
@@ -76,7 +81,7 @@ from_flips v f s h few =
     (flips_code (most_flips v (weave f s) h) (omega (arith, few, most_within v (weave f s) h)))
 
 abbrev text_from_held : Admitted → List ℕ
-text_from_held a = chars_line (codes "hold ") hold a.held ++ text_from_flips a
+text_from_held a = row_line (codes "hold ") hold a.held ++ text_from_flips a
 
 record IsFromHeld (v : Version) (i : ℕ) (f s : List Trit) (a : Admitted) : Type 0 where
   held : length a.held ≡ i
@@ -84,11 +89,11 @@ record IsFromHeld (v : Version) (i : ℕ) (f s : List Trit) (a : Admitted) : Typ
   is : a ≡ with_pins f s a.held a.flips
 
 from_held : (v : Version) (i : ℕ) (f s : List Trit) → i ≤ 4096 → IsCode (IsFromHeld v i f s) text_from_held
-    (λ bytes. chars_behind (codes "hold ") hold_of i bytes >>= λ held. flips_at (most_flips v (weave f s) held.0) held.1 >>= λ flips. Ok (with_pins f s held.0 flips.0, flips.1))
+    (λ bytes. row_behind (codes "hold ") hold_of i bytes >>= λ held. flips_at (most_flips v (weave f s) held.0) held.1 >>= λ flips. Ok (with_pins f s held.0 flips.0, flips.1))
 from_held v i f s few =
-    IsCode-then (λ (a : Admitted). a.held) (HasLength i) (chars_line (codes "hold ") hold) (chars_behind (codes "hold ") hold_of i) (λ h a. IsFromFlips v f s h a) (λ h a. text_from_flips a)
+    IsCode-then (λ (a : Admitted). a.held) (HasLength i) (row_line (codes "hold ") hold) (row_behind (codes "hold ") hold_of i) (λ h a. IsFromFlips v f s h a) (λ h a. text_from_flips a)
     (λ h bytes. flips_at (most_flips v (weave f s) h) bytes >>= λ flips. Ok (with_pins f s h flips.0, flips.1)) (IsFromHeld v i f s) text_from_held
-    (chars_behind_code (codes "hold ") hold_of hold hold_letter i)
+    (row_behind_code (codes "hold ") hold_of hold hold_letter i)
     (λ h u. from_flips v f s h (omega (arith, few, u)))
     (record {
       down = λ a u. (u.held, (u.flips, u.is), refl);
@@ -99,12 +104,12 @@ from_held v i f s few =
               flips = subst (λ (m : List Bool). a.flips ≤ most_flips v (weave f s) m) (sym p) w.0;
               is = w.1 ∙ ap (λ (m : List Bool). with_pins f s m a.flips) (sym p);
             },
-            ap (λ (m : List Bool). chars_line (codes "hold ") hold m ++ text_from_flips a) p,
+            ap (λ (m : List Bool). row_line (codes "hold ") hold m ++ text_from_flips a) p,
           );
     })
 
 abbrev text_from_second : Admitted → List ℕ
-text_from_second a = chars_line (codes "second ") trit (second_trits a.pins) ++ text_from_held a
+text_from_second a = row_line (codes "second ") trit (second_trits a.pins) ++ text_from_held a
 
 record IsFromSecond (v : Version) (i : ℕ) (f : List Trit) (a : Admitted) : Type 0 where
   second : length (second_trits a.pins) ≡ i
@@ -113,12 +118,12 @@ record IsFromSecond (v : Version) (i : ℕ) (f : List Trit) (a : Admitted) : Typ
   is : a ≡ with_pins f (second_trits a.pins) a.held a.flips
 
 from_second : (v : Version) (i : ℕ) (f : List Trit) → i ≤ 4096 → length f ≡ i → IsCode (IsFromSecond v i f) text_from_second
-    (λ bytes. chars_behind (codes "second ") trit_of i bytes >>= λ seconds. chars_behind (codes "hold ") hold_of i seconds.1 >>= λ held. flips_at (most_flips v (weave f seconds.0) held.0) held.1 >>= λ flips.
+    (λ bytes. row_behind (codes "second ") trit_of i bytes >>= λ seconds. row_behind (codes "hold ") hold_of i seconds.1 >>= λ held. flips_at (most_flips v (weave f seconds.0) held.0) held.1 >>= λ flips.
     Ok (with_pins f seconds.0 held.0 flips.0, flips.1))
 from_second v i f few long =
-    IsCode-then (λ (a : Admitted). second_trits a.pins) (HasLength i) (chars_line (codes "second ") trit) (chars_behind (codes "second ") trit_of i) (λ s a. IsFromHeld v i f s a) (λ s a. text_from_held a)
-    (λ s bytes. chars_behind (codes "hold ") hold_of i bytes >>= λ held. flips_at (most_flips v (weave f s) held.0) held.1 >>= λ flips. Ok (with_pins f s held.0 flips.0, flips.1)) (IsFromSecond v i f) text_from_second
-    (chars_behind_code (codes "second ") trit_of trit trit_letter i)
+    IsCode-then (λ (a : Admitted). second_trits a.pins) (HasLength i) (row_line (codes "second ") trit) (row_behind (codes "second ") trit_of i) (λ s a. IsFromHeld v i f s a) (λ s a. text_from_held a)
+    (λ s bytes. row_behind (codes "hold ") hold_of i bytes >>= λ held. flips_at (most_flips v (weave f s) held.0) held.1 >>= λ flips. Ok (with_pins f s held.0 flips.0, flips.1)) (IsFromSecond v i f) text_from_second
+    (row_behind_code (codes "second ") trit_of trit trit_letter i)
     (λ s u. from_held v i f s few)
     (record {
       down = λ a u. (u.second, record { held = u.held; flips = u.flips; is = u.is }, refl);
@@ -130,12 +135,12 @@ from_second v i f few long =
               flips = subst (λ (m : List Trit). a.flips ≤ most_flips v (weave f m) a.held) (sym p) w.flips;
               is = w.is ∙ ap (λ (m : List Trit). with_pins f m a.held a.flips) (sym p);
             },
-            ap (λ (m : List Trit). chars_line (codes "second ") trit m ++ text_from_held a) p,
+            ap (λ (m : List Trit). row_line (codes "second ") trit m ++ text_from_held a) p,
           );
     })
 
 abbrev pub admit_text : Admitted → List ℕ
-admit_text a = chars_line (codes "first ") trit (first_trits a.pins) ++ text_from_second a
+admit_text a = row_line (codes "first ") trit (first_trits a.pins) ++ text_from_second a
 
 record IsFromFirst (v : Version) (i : ℕ) (a : Admitted) : Type 0 where
   first : length (first_trits a.pins) ≡ i
@@ -147,10 +152,10 @@ record IsFromFirst (v : Version) (i : ℕ) (a : Admitted) : Type 0 where
 from_first : (v : Version) (i : ℕ) → i ≤ 4096 → IsCode (IsFromFirst v i) admit_text (admit_at v i)
 unfolding admit_at
 from_first v i few =
-    IsCode-then (λ (a : Admitted). first_trits a.pins) (HasLength i) (chars_line (codes "first ") trit) (chars_behind (codes "first ") trit_of i) (λ f a. IsFromSecond v i f a) (λ f a. text_from_second a)
-    (λ f bytes. chars_behind (codes "second ") trit_of i bytes >>= λ seconds. chars_behind (codes "hold ") hold_of i seconds.1 >>= λ held. flips_at (most_flips v (weave f seconds.0) held.0) held.1 >>= λ flips.
+    IsCode-then (λ (a : Admitted). first_trits a.pins) (HasLength i) (row_line (codes "first ") trit) (row_behind (codes "first ") trit_of i) (λ f a. IsFromSecond v i f a) (λ f a. text_from_second a)
+    (λ f bytes. row_behind (codes "second ") trit_of i bytes >>= λ seconds. row_behind (codes "hold ") hold_of i seconds.1 >>= λ held. flips_at (most_flips v (weave f seconds.0) held.0) held.1 >>= λ flips.
     Ok (with_pins f seconds.0 held.0 flips.0, flips.1)) (IsFromFirst v i) admit_text
-    (chars_behind_code (codes "first ") trit_of trit trit_letter i)
+    (row_behind_code (codes "first ") trit_of trit trit_letter i)
     (λ f u. from_second v i f few u)
     (record {
       down = λ a u. (u.first, record { second = u.second; held = u.held; flips = u.flips; is = u.is }, refl);
@@ -163,7 +168,7 @@ from_first v i few =
               flips = subst (λ (m : List Trit). a.flips ≤ most_flips v (weave m (second_trits a.pins)) a.held) (sym p) w.flips;
               is = w.is ∙ ap (λ (m : List Trit). with_pins m (second_trits a.pins) a.held a.flips) (sym p);
             },
-            ap (λ (m : List Trit). chars_line (codes "first ") trit m ++ text_from_second a) p,
+            ap (λ (m : List Trit). row_line (codes "first ") trit m ++ text_from_second a) p,
           );
     })
 
@@ -305,12 +310,28 @@ moments_code at_once (suc count) can =
       up = λ m ms u v. behind_first at_once count m ms u v;
     }))
 
-abbrev at_text : List ℕ → List ℕ
-at_text ms = codes "at " ++ moments_text ms
+abbrev pub at_text : List ℕ → List ℕ
+at_text ms = codes "at " ++ (numbers ms ++ codes "\n")
 
-at_code : (i : ℕ) → 0 < i → IsCode (AreMoments true i) at_text (at_line i)
+numbers_text : (m : ℕ) (ms : List ℕ) → numbers (m ∷ ms) ++ codes "\n" ≡ moments_text (m ∷ ms)
+numbers_text m [] = sym (append-nil (number_text 10 m))
+numbers_text m (n ∷ ms) =
+    append_assoc (decimal m ++ codes " ") (numbers (n ∷ ms)) (codes "\n") ∙ ap (λ (t : List ℕ). (decimal m ++ codes " ") ++ t) (numbers_text n ms)
+
+some_moments : (count : ℕ) (ms : List ℕ) → length ms ≡ suc count → at_text ms ≡ codes "at " ++ moments_text ms
+some_moments count [] e = absurd (omega (arith, e))
+some_moments count (m ∷ ms) e = ap (λ (t : List ℕ). codes "at " ++ t) (numbers_text m ms)
+
+at_code : (later : Bool) (i : ℕ) → CanChange later i → IsCode (AreMoments later i) at_text (at_line later i)
 unfolding at_line
-at_code i some = behind_word (codes "at ") (AreMoments true i) moments_text (moments_at true i) (moments_code true i (λ e. some))
+at_code later zero can =
+    IsCode-as (λ (ms : List ℕ). ms ≡ []) (AreMoments later 0) (λ ms. codes "at " ++ (codes "none\n" ++ [])) at_text (at_line later zero)
+    (λ ms e. subst (AreMoments later 0) (sym e) (record { long = refl; within = tt; later = none_later later can })) (λ ms v. nil_from_length ms v.long) (λ ms e. ap at_text e)
+    (none_code (codes "at "))
+at_code later (suc count) can =
+    IsCode-as (AreMoments later (suc count)) (AreMoments later (suc count)) (λ ms. codes "at " ++ moments_text ms) at_text (at_line later (suc count))
+    (λ ms v. v) (λ ms v. v) (λ ms v. some_moments count ms v.long)
+    (behind_word (codes "at ") (AreMoments later (suc count)) moments_text (moments_at later (suc count)) (moments_code later (suc count) can))
 
 -- ---- all trits free, no input held, all moments 0
 
@@ -361,9 +382,16 @@ pin_count (suc count) = ap suc (pin_count count)
 
 -- ---- questions
 
+-- the question is told in this version: in the fourth any is
+abbrev pub IsTold : Version → Question → Type 0
+IsTold First q = version_of q ≡ First
+IsTold Second q = version_of q ≡ Second
+IsTold Third q = version_of q ≡ Third
+IsTold Fourth q = Unit {0}
+
 -- what can be asked in a text of this version, of a circuit with so many inputs
 pub record IsQuestion (v : Version) (i : ℕ) (q : Question) : Type 0 where
-  pub version : version_of q ≡ v
+  pub version : IsTold v q
   pub inputs : inputs_of q ≡ i
   pub pins : length q.admit.pins ≡ 2 * i
   pub flips : q.admit.flips ≤ i
@@ -398,14 +426,6 @@ to_third at_once all e = rw e refl
 all_tests : (a b c : Bool) → a ≡ true → b ≡ true → c ≡ true → (a && (b && c)) ≡ true
 all_tests a b c e f g = rw (e, f, g) refl
 
--- the text of a question's lines, by its version
-lines_text : Question → Version → List ℕ
-lines_text q v = text_of (map (field_line q) (fields_of v))
-
-text_by : (q : Question) (v : Version) → version_of q ≡ v → question_text q ≡ lines_text q v
-unfolding lines_text
-text_by q v e = ap (λ (w : Version). text_of (map (field_line q) (fields_of w))) e
-
 -- a line of a word and others behind it
 line_text : (word chars rest : List ℕ) → ended (word ++ chars) ++ rest ≡ (word ++ (chars ++ codes "\n")) ++ rest
 line_text word chars rest = ap (λ (t : List ℕ). t ++ rest) (append_assoc word chars (10 ∷ []))
@@ -415,31 +435,24 @@ four_text a b c d =
     flat_map-cons ended a (b ∷ c ∷ d ∷ [])
     ∙ ap (λ (t : List ℕ). ended a ++ t) (flat_map-cons ended b (c ∷ d ∷ []) ∙ ap (λ (t : List ℕ). ended b ++ t) (flat_map-cons ended c (d ∷ []) ∙ ap (λ (t : List ℕ). ended c ++ t) (flat_map-cons ended d [] ∙ append-nil (ended d))))
 
-pub second_text : (q : Question) → text_of (map (field_line q) (fields_of Second)) ≡ admit_text q.admit
+pub second_text : (q : Question) → question_text Second q ≡ admit_text q.admit
 second_text q =
     let a = q.admit in
-    four_text (codes "first " ++ map trit (first_trits a.pins)) (codes "second " ++ map trit (second_trits a.pins)) (codes "hold " ++ map hold a.held) (field_line q FlipsField)
-    ∙ line_text (codes "first ") (map trit (first_trits a.pins)) (ended (codes "second " ++ map trit (second_trits a.pins)) ++ (ended (codes "hold " ++ map hold a.held) ++ ended (field_line q FlipsField)))
-    ∙ ap (λ (t : List ℕ). chars_line (codes "first ") trit (first_trits a.pins) ++ t)
-    (line_text (codes "second ") (map trit (second_trits a.pins)) (ended (codes "hold " ++ map hold a.held) ++ ended (field_line q FlipsField))
-    ∙ ap (λ (t : List ℕ). chars_line (codes "second ") trit (second_trits a.pins) ++ t) (line_text (codes "hold ") (map hold a.held) (ended (field_line q FlipsField))))
+    four_text (codes "first " ++ row trit (first_trits a.pins)) (codes "second " ++ row trit (second_trits a.pins)) (codes "hold " ++ row hold a.held) (field_line q FlipsField)
+    ∙ line_text (codes "first ") (row trit (first_trits a.pins)) (ended (codes "second " ++ row trit (second_trits a.pins)) ++ (ended (codes "hold " ++ row hold a.held) ++ ended (field_line q FlipsField)))
+    ∙ ap (λ (t : List ℕ). row_line (codes "first ") trit (first_trits a.pins) ++ t)
+    (line_text (codes "second ") (row trit (second_trits a.pins)) (ended (codes "hold " ++ row hold a.held) ++ ended (field_line q FlipsField))
+    ∙ ap (λ (t : List ℕ). row_line (codes "second ") trit (second_trits a.pins) ++ t) (line_text (codes "hold ") (row hold a.held) (ended (field_line q FlipsField))))
 
-numbers_text : (m : ℕ) (ms : List ℕ) → numbers (m ∷ ms) ++ codes "\n" ≡ moments_text (m ∷ ms)
-numbers_text m [] = sym (append-nil (number_text 10 m))
-numbers_text m (n ∷ ms) =
-    append_assoc (decimal m ++ codes " ") (numbers (n ∷ ms)) (codes "\n") ∙ ap (λ (t : List ℕ). (decimal m ++ codes " ") ++ t) (numbers_text n ms)
-
-pub some_numbers : (ms : List ℕ) → 0 < length ms → ended (codes "at " ++ numbers ms) ≡ at_text ms
-some_numbers [] some = absurd (omega arith)
-some_numbers (m ∷ ms) some = append_assoc (codes "at ") (numbers (m ∷ ms)) (10 ∷ []) ∙ ap (λ (t : List ℕ). codes "at " ++ t) (numbers_text m ms)
-
-pub third_parts : (q : Question) → text_of (map (field_line q) (fields_of Third)) ≡ text_of (map (field_line q) (fields_of Second)) ++ ended (field_line q AtField)
+pub third_parts : (q : Question) → question_text Third q ≡ question_text Second q ++ ended (field_line q AtField)
 third_parts q =
     flat_map-append ended (map (field_line q) (fields_of Second)) (field_line q AtField ∷ [])
-    ∙ ap (λ (t : List ℕ). text_of (map (field_line q) (fields_of Second)) ++ t) (flat_map-cons ended (field_line q AtField) [] ∙ append-nil (ended (field_line q AtField)))
+    ∙ ap (λ (t : List ℕ). question_text Second q ++ t) (flat_map-cons ended (field_line q AtField) [] ∙ append-nil (ended (field_line q AtField)))
 
-third_text : (q : Question) → 0 < length q.moments → text_of (map (field_line q) (fields_of Third)) ≡ admit_text q.admit ++ at_text q.moments
-third_text q some = third_parts q ∙ ap (λ (t : List ℕ). t ++ ended (field_line q AtField)) (second_text q) ∙ ap (λ (t : List ℕ). admit_text q.admit ++ t) (some_numbers q.moments some)
+third_text : (q : Question) → question_text Third q ≡ admit_text q.admit ++ at_text q.moments
+third_text q =
+    third_parts q ∙ ap (λ (t : List ℕ). t ++ ended (field_line q AtField)) (second_text q)
+    ∙ ap (λ (t : List ℕ). admit_text q.admit ++ t) (append_assoc (codes "at ") (numbers q.moments) (10 ∷ []))
 
 -- ---- version 1
 
@@ -474,11 +487,11 @@ to_all i q v =
     (eqb-true q.admit.flips (length q.admit.held) none.1 ∙ v.inputs)
     (once_is q.moments t.0 ∙ ap (λ (n : ℕ). replicate n 0) v.count)
 
-first_code : (i : ℕ) → IsCode (IsQuestion First i) question_text (question_at First i)
-unfolding question_at lines_text
+first_code : (i : ℕ) → IsCode (IsQuestion First i) (question_text First) (question_at First i)
+unfolding question_at
 first_code i =
-    IsCode-as (λ q. q ≡ all_at_once i) (IsQuestion First i) (λ q. []) question_text (question_at First i)
-    (λ q e. subst (IsQuestion First i) (sym e) (all_is i)) (to_all i) (λ q e. text_by q First (subst (IsQuestion First i) (sym e) (all_is i)).version)
+    IsCode-as (λ q. q ≡ all_at_once i) (IsQuestion First i) (λ q. []) (question_text First) (question_at First i)
+    (λ q e. subst (IsQuestion First i) (sym e) (all_is i)) (to_all i) (λ q e. refl)
     (IsCode-done (all_at_once i))
 
 -- ---- version 2
@@ -523,58 +536,88 @@ from_second_question i q v =
       ap (λ (m : List ℕ). asked q.admit m) ms,
     )
 
-second_code : (i : ℕ) → 0 < i → i ≤ 4096 → IsCode (IsQuestion Second i) question_text (question_at Second i)
-unfolding question_at lines_text
+second_code : (i : ℕ) → 0 < i → i ≤ 4096 → IsCode (IsQuestion Second i) (question_text Second) (question_at Second i)
+unfolding question_at
 second_code i some few =
-    IsCode-as (IsSecond i) (IsQuestion Second i) (λ q. admit_text q.admit) question_text (question_at Second i)
-    (to_second_question i some) (from_second_question i) (λ q v. text_by q Second (to_second_question i some q v).version ∙ second_text q)
+    IsCode-as (IsSecond i) (IsQuestion Second i) (λ q. admit_text q.admit) (question_text Second) (question_at Second i)
+    (to_second_question i some) (from_second_question i) (λ q v. second_text q)
     (mapped_code (λ a. asked a (replicate i 0)) (λ (q : Question). q.admit) (IsAdmit Second i) admit_text (admit_at Second i) (λ a. refl) (admit_code Second i few))
 
--- ---- version 3
+-- ---- versions 3 and 4
 
-abbrev IsThird : ℕ → Question → Type 0
-IsThird i q = IsAdmit Third i q.admit × AreMoments true i q.moments
+record IsDated (v : Version) (later : Bool) (i : ℕ) (q : Question) : Type 0 where
+  admit : IsAdmit v i q.admit
+  moments : AreMoments later i q.moments
 
-to_third_question : (i : ℕ) (q : Question) → IsThird i q → IsQuestion Third i q
+from_at : (later : Bool) (i : ℕ) → CanChange later i → (a : Admitted) → IsCode (λ q. AreMoments later i q.moments × (q ≡ asked a q.moments)) (λ q. at_text q.moments)
+    (λ bytes. at_line later i bytes >>= λ moments. Ok (asked a moments.0, moments.1))
+from_at later i can a = mapped_code (asked a) (λ (q : Question). q.moments) (AreMoments later i) at_text (at_line later i) (λ ms. refl) (at_code later i can)
+
+dated_code : (v : Version) (later : Bool) (i : ℕ) → CanChange later i → i ≤ 4096 → IsCode (IsDated v later i) (λ q. admit_text q.admit ++ at_text q.moments) (dated_at v later i)
+unfolding dated_at
+dated_code v later i can few =
+    IsCode-then (λ (q : Question). q.admit) (IsAdmit v i) admit_text (admit_at v i) (λ a q. AreMoments later i q.moments × (q ≡ asked a q.moments)) (λ a q. at_text q.moments)
+    (λ a bytes. at_line later i bytes >>= λ moments. Ok (asked a moments.0, moments.1)) (IsDated v later i) (λ q. admit_text q.admit ++ at_text q.moments)
+    (admit_code v i few)
+    (λ a u. from_at later i can a)
+    (record {
+      down = λ q u. (u.admit, (u.moments, refl), refl);
+      up = λ a q u w.
+          let p : q.admit ≡ a = ap (λ (r : Question). r.admit) w.1 in
+          (record { admit = subst (IsAdmit v i) (sym p) u; moments = w.0 }, ap (λ (b : Admitted). admit_text b ++ at_text q.moments) p);
+    })
+
+to_third_question : (i : ℕ) (q : Question) → IsDated Third true i q → IsQuestion Third i q
 to_third_question i q v = record {
-  version = to_third (is_at_once q.moments) (admits_all q.admit) v.1.later;
-  inputs = v.0.held;
-  pins = v.0.pins;
-  flips = omega (arith, v.0.flips, v.0.held);
-  count = v.1.long;
-  moments = v.1.within;
+  version = to_third (is_at_once q.moments) (admits_all q.admit) v.moments.later;
+  inputs = v.admit.held;
+  pins = v.admit.pins;
+  flips = omega (arith, v.admit.flips, v.admit.held);
+  count = v.moments.long;
+  moments = v.moments.within;
 }
 
-from_third_question : (i : ℕ) (q : Question) → IsQuestion Third i q → IsThird i q
-from_third_question i q v = (
-  record { pins = v.pins; held = v.inputs; flips = omega (arith, v.flips, v.inputs) },
-  record { long = v.count; within = v.moments; later = tests_third (is_at_once q.moments) (admits_all q.admit) v.version },
-)
+from_third_question : (i : ℕ) (q : Question) → IsQuestion Third i q → IsDated Third true i q
+from_third_question i q v = record {
+  admit = record { pins = v.pins; held = v.inputs; flips = omega (arith, v.flips, v.inputs) };
+  moments = record { long = v.count; within = v.moments; later = tests_third (is_at_once q.moments) (admits_all q.admit) v.version };
+}
 
-from_at : (i : ℕ) → 0 < i → (a : Admitted) → IsCode (λ q. AreMoments true i q.moments × (q ≡ asked a q.moments)) (λ q. at_text q.moments)
-    (λ bytes. at_line i bytes >>= λ moments. Ok (asked a moments.0, moments.1))
-from_at i some a = mapped_code (asked a) (λ (q : Question). q.moments) (AreMoments true i) at_text (at_line i) (λ ms. refl) (at_code i some)
-
-third_code : (i : ℕ) → 0 < i → i ≤ 4096 → IsCode (IsQuestion Third i) question_text (question_at Third i)
-unfolding question_at lines_text
+third_code : (i : ℕ) → 0 < i → i ≤ 4096 → IsCode (IsQuestion Third i) (question_text Third) (question_at Third i)
+unfolding question_at
 third_code i some few =
-    IsCode-as (IsThird i) (IsQuestion Third i) (λ q. admit_text q.admit ++ at_text q.moments) question_text (question_at Third i)
-    (to_third_question i) (from_third_question i) (λ q v. text_by q Third (to_third_question i q v).version ∙ third_text q (omega (arith, some, v.1.long)))
-    (IsCode-then (λ (q : Question). q.admit) (IsAdmit Third i) admit_text (admit_at Third i) (λ a q. AreMoments true i q.moments × (q ≡ asked a q.moments)) (λ a q. at_text q.moments)
-    (λ a bytes. at_line i bytes >>= λ moments. Ok (asked a moments.0, moments.1)) (IsThird i) (λ q. admit_text q.admit ++ at_text q.moments)
-    (admit_code Third i few)
-    (λ a v. from_at i some a)
-    (record {
-      down = λ q v. (v.0, (v.1, refl), refl);
-      up = λ a q v w.
-          let p : q.admit ≡ a = ap (λ (r : Question). r.admit) w.1 in
-          ((subst (IsAdmit Third i) (sym p) v, w.0), ap (λ (b : Admitted). admit_text b ++ at_text q.moments) p);
-    }))
+    IsCode-as (IsDated Third true i) (IsQuestion Third i) (λ q. admit_text q.admit ++ at_text q.moments) (question_text Third) (question_at Third i)
+    (to_third_question i) (from_third_question i) (λ q v. third_text q)
+    (dated_code Third true i (λ e. some) few)
 
-pub question_code : (v : Version) (i : ℕ) → (has_inputs v ≡ true → 0 < i) → i ≤ 4096 → IsCode (IsQuestion v i) question_text (question_at v i)
+to_fourth_question : (i : ℕ) (q : Question) → IsDated Fourth false i q → IsQuestion Fourth i q
+to_fourth_question i q v = record {
+  version = tt;
+  inputs = v.admit.held;
+  pins = v.admit.pins;
+  flips = omega (arith, v.admit.flips, v.admit.held);
+  count = v.moments.long;
+  moments = v.moments.within;
+}
+
+from_fourth_question : (i : ℕ) (q : Question) → IsQuestion Fourth i q → IsDated Fourth false i q
+from_fourth_question i q v = record {
+  admit = record { pins = v.pins; held = v.inputs; flips = omega (arith, v.flips, v.inputs) };
+  moments = record { long = v.count; within = v.moments; later = refl };
+}
+
+fourth_code : (i : ℕ) → i ≤ 4096 → IsCode (IsQuestion Fourth i) (question_text Fourth) (question_at Fourth i)
+unfolding question_at
+fourth_code i few =
+    IsCode-as (IsDated Fourth false i) (IsQuestion Fourth i) (λ q. admit_text q.admit ++ at_text q.moments) (question_text Fourth) (question_at Fourth i)
+    (to_fourth_question i) (from_fourth_question i) (λ q v. third_text q)
+    (dated_code Fourth false i (λ e. absurd cc) few)
+
+pub question_code : (v : Version) (i : ℕ) → (has_inputs v ≡ true → 0 < i) → i ≤ 4096 → IsCode (IsQuestion v i) (question_text v) (question_at v i)
 question_code First i some few = first_code i
 question_code Second i some few = second_code i (some refl) few
 question_code Third i some few = third_code i (some refl) few
+question_code Fourth i some few = fourth_code i few
 
 -- without inputs the version is the first
 none_first : (q : Question) → length q.admit.pins ≡ 2 * inputs_of q → q.admit.flips ≤ inputs_of q → length q.moments ≡ inputs_of q → inputs_of q ≡ 0 → version_of q ≡ First
@@ -590,12 +633,13 @@ zero_or_some : {X : Type 0} (n : ℕ) → (n ≡ 0 → X) → (0 < n → X) → 
 zero_or_some zero f g = f refl
 zero_or_some (suc n) f g = g (omega arith)
 
-no_version : {X : Type 0} (v : Version) → has_inputs v ≡ true → v ≡ First → X
-no_version First some e = absurd cc
-no_version Second some e = absurd cc
-no_version Third some e = absurd cc
+no_version : {X : Type 0} (v : Version) (q : Question) → has_inputs v ≡ true → IsTold v q → version_of q ≡ First → X
+no_version First q some told e = absurd cc
+no_version Second q some told e = absurd (let h : First ≡ Second = sym e ∙ told in cc)
+no_version Third q some told e = absurd (let h : First ≡ Third = sym e ∙ told in cc)
+no_version Fourth q some told e = absurd cc
 
 pub some_inputs_of : (v : Version) (q : Question) → length q.admit.pins ≡ 2 * inputs_of q → q.admit.flips ≤ inputs_of q → length q.moments ≡ inputs_of q
-    → version_of q ≡ v → has_inputs v ≡ true → 0 < inputs_of q
-some_inputs_of v q pins flips count e some =
-    zero_or_some (inputs_of q) (λ none. no_version v some (sym e ∙ none_first q pins flips count none)) (λ is. is)
+    → IsTold v q → has_inputs v ≡ true → 0 < inputs_of q
+some_inputs_of v q pins flips count told some =
+    zero_or_some (inputs_of q) (λ none. no_version v q some told (none_first q pins flips count none)) (λ is. is)

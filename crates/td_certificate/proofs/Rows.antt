@@ -28,8 +28,9 @@ use Rattle.td_arrival.specs.declared.signals.Signal.{Signal}
 use Rattle.td_certificate.specs.declared.tree.BoundedBy.TheVariants as by
 use Rattle.td_certificate.specs.declared.tree.Node.TheVariants as node
 use Rattle.td_certificate.specs.declared.certificate.Certificate.{Certificate}
-use Rattle.td_certificate.specs.declared.question.Version.TheVariants.{First, Second, Third}
+use Rattle.td_certificate.specs.declared.question.Version.TheVariants.{First, Second, Third, Fourth}
 use Rattle.td_certificate.specs.Questions.{Question, version_of, all_at_once}
+use Rattle.td_certificate.specs.Spelling.{version_in}
 use Rattle.td_certificate.specs.Accepts.{IsBounded, IsGood, Accepts}
 
 abbrev delay : Delay
@@ -211,6 +212,22 @@ certificate bound = record {
 -- all pairs are admitted, so that its text is of the first version
 is_first : version_of question ≡ First
 is_first = refl
+
+in_first : version_in (certificate 3) ≡ First
+in_first = refl
+
+-- with a leaf bounded by edges it is of the fourth, whatever is asked
+abbrev edged : Certificate
+edged = record {
+  gates = 1;
+  question = question;
+  time = 3;
+  pair = record { first = false ∷ []; second = true ∷ [] };
+  tree = node.Bound by.Edges 3 ∷ [];
+}
+
+in_fourth : version_in edged ≡ Fourth
+in_fourth = refl
 
 -- with 3 it is accepted
 accepted : Accepts inverter (certificate 3)

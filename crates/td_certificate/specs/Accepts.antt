@@ -16,6 +16,7 @@ use Rattle.td_domain.specs.Together.{both_functions}
 use Rattle.td_domain.specs.Worst.{IsWorst}
 use Rattle.td_arrival.specs.Arrivals.{arrival_functions}
 use Rattle.td_ternary.specs.Possibles.{possible_functions}
+use Rattle.td_edges.specs.EdgeSignals.{edge_functions}
 use Rattle.td_certificate.specs.declared.tree.BoundedBy.{BoundedBy}
 use Rattle.td_certificate.specs.declared.tree.BoundedBy.TheVariants as by
 use Rattle.td_certificate.specs.declared.tree.Node.{Node}
@@ -30,6 +31,8 @@ abbrev pub IsBoundBy : BoundedBy → Setting → List Trit → Option ℕ → Ty
 IsBoundBy by.Arrival setting cube answer = IsBound arrival_functions setting cube answer
 IsBoundBy by.Possible setting cube answer = IsBound possible_functions setting cube answer
 IsBoundBy by.Both setting cube answer = IsBound (both_functions arrival_functions possible_functions) setting cube answer
+IsBoundBy by.Edges setting cube answer = IsBound edge_functions setting cube answer
+IsBoundBy by.EdgesAndPossible setting cube answer = IsBound (both_functions edge_functions possible_functions) setting cube answer
 
 -- ---- what holds of a line
 

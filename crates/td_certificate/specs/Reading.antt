@@ -6,17 +6,19 @@ use Rattle.td_domain.specs.declared.cubes.Trit.{Trit}
 use Rattle.td_domain.specs.declared.cubes.Trit.TheVariants.{Zero, One, Free}
 use Rattle.td_domain.specs.Admits.{Admitted}
 use Rattle.td_certificate.specs.declared.tree.BoundedBy.{BoundedBy}
-use Rattle.td_certificate.specs.declared.tree.BoundedBy.TheVariants.{Arrival, Possible, Both}
+use Rattle.td_certificate.specs.declared.tree.BoundedBy.TheVariants.{Arrival, Possible, Both, Edges, EdgesAndPossible}
 use Rattle.td_certificate.specs.declared.tree.Node.{Node}
 use Rattle.td_certificate.specs.declared.tree.Node.TheVariants as node
 use Rattle.td_certificate.specs.declared.question.Version.{Version}
-use Rattle.td_certificate.specs.declared.question.Version.TheVariants.{First, Second, Third}
+use Rattle.td_certificate.specs.declared.question.Version.TheVariants.{First, Second, Third, Fourth}
 use Rattle.td_certificate.specs.declared.fields.Reason.{Reason}
 use Rattle.td_certificate.specs.declared.fields.Reason.TheVariants.{Syntax, NumberTooLarge}
 use Rattle.td_certificate.specs.declared.fields.Reason.TheVariants as reason
+use Rattle.td_certificate.specs.declared.fields.Leaves.{Leaves}
+use Rattle.td_certificate.specs.declared.fields.Leaves.TheVariants as leaves
 use Rattle.td_certificate.specs.declared.fields.Stop as code_stop
 use Rattle.td_certificate.specs.declared.fields.Stop.TheVariants as code
-use Rattle.td_certificate.specs.Trees.{sides}
+use Rattle.td_certificate.specs.Trees.{sides, names_edges}
 use Rattle.td_certificate.specs.declared.certificate.Certificate.{Certificate}
 use Rattle.td_certificate.specs.Questions.{Question, is_free, holds_none, all_at_once}
 use Rattle.td_certificate.specs.Text.{bit, trit, weave, hold}
@@ -124,13 +126,13 @@ chars_behind word value count bytes = do
   end ← literal (codes "\n") chars.1
   Ok (chars.0, end.1)
 
--- a word, the bits of a vector, or `none`, and the newline
-unfoldable pub vector_behind : List ℕ → ℕ → List ℕ → Reading (List Bool)
-vector_behind word zero bytes = do
+-- a word, a character for each input, or `none`, and the newline
+unfoldable pub row_behind : {A : Type 0} → List ℕ → (ℕ → Option A) → ℕ → List ℕ → Reading (List A)
+row_behind word value zero bytes = do
   behind ← literal word bytes
   none ← literal (codes "none\n") behind.1
   Ok ([], none.1)
-vector_behind word (suc count) bytes = chars_behind word bit_of (suc count) bytes
+row_behind word value (suc count) bytes = chars_behind word value (suc count) bytes
 
 -- a word, a number and the byte that closes it
 unfoldable pub number_behind : List ℕ → ℕ → ℕ → List ℕ → Reading ℕ
@@ -158,7 +160,7 @@ IsUpTo most number None = most < number
 
 -- one of the versions has this number
 abbrev pub is_version : ℕ → Bool
-is_version number = number == 1 || (number == 2 || number == 3)
+is_version number = number == 1 || (number == 2 || (number == 3 || number == 4))
 
 -- Why no version stands here: another number is another version, or passes the greatest; with no other it is the syntax.
 unfoldable pub version_reason : List ℕ → Reason
@@ -177,9 +179,10 @@ abbrev pub version_digit : Version → ℕ
 version_digit First = 49
 version_digit Second = 50
 version_digit Third = 51
+version_digit Fourth = 52
 
 abbrev pub version_of_digit : ℕ → Option Version
-version_of_digit b = written_as version_digit (First ∷ Second ∷ Third ∷ []) b
+version_of_digit b = written_as version_digit (First ∷ Second ∷ Third ∷ Fourth ∷ []) b
 
 -- a version's digit and the newline
 unfoldable pub digit_at : List ℕ → Reading Version
@@ -196,11 +199,12 @@ version_at bytes = do
 
 -- ---- the question
 
--- From the second version on there is at least one input: without inputs all pairs are admitted and nothing changes later.
+-- In the second and the third version there is at least one input: without inputs all pairs are admitted and nothing changes later.
 abbrev pub has_inputs : Version → Bool
 has_inputs First = false
 has_inputs Second = true
 has_inputs Third = true
+has_inputs Fourth = false
 
 -- the greatest number of flips: in the second version one less where nothing is pinned or held
 abbrev pub most_flips : Version → List Trit → List Bool → ℕ
@@ -217,9 +221,9 @@ with_pins firsts seconds held flips = record { pins = weave firsts seconds; held
 -- the lines `first` to `flips`
 unfoldable pub admit_at : Version → ℕ → List ℕ → Reading Admitted
 admit_at version inputs bytes = do
-  firsts ← chars_behind (codes "first ") trit_of inputs bytes
-  seconds ← chars_behind (codes "second ") trit_of inputs firsts.1
-  held ← chars_behind (codes "hold ") hold_of inputs seconds.1
+  firsts ← row_behind (codes "first ") trit_of inputs bytes
+  seconds ← row_behind (codes "second ") trit_of inputs firsts.1
+  held ← row_behind (codes "hold ") hold_of inputs seconds.1
   flips ← flips_at (most_flips version (weave firsts.0 seconds.0) held.0) held.1
   Ok (with_pins firsts.0 seconds.0 held.0 flips.0, flips.1)
 
@@ -240,14 +244,25 @@ moments_at at_once (suc count) bytes = do
   others ← moments_at (at_once && first.0 == 0) count first.1
   Ok (first.0 ∷ others.0, others.1)
 
--- the line `at`
-unfoldable pub at_line : ℕ → List ℕ → Reading (List ℕ)
-at_line inputs bytes = do
+-- the line `at`, with a moment that isn't 0 where one has to be later
+unfoldable pub at_line : Bool → ℕ → List ℕ → Reading (List ℕ)
+at_line later zero bytes = do
   behind ← literal (codes "at ") bytes
-  moments_at true inputs behind.1
+  none ← literal (codes "none\n") behind.1
+  Ok ([], none.1)
+at_line later (suc count) bytes = do
+  behind ← literal (codes "at ") bytes
+  moments_at later (suc count) behind.1
 
 abbrev pub asked : Admitted → List ℕ → Question
 asked admit moments = record { admit = admit; moments = moments }
+
+-- the lines `first` to `at`, with a moment that isn't 0 where one has to be later
+unfoldable pub dated_at : Version → Bool → ℕ → List ℕ → Reading Question
+dated_at version later inputs bytes = do
+  admit ← admit_at version inputs bytes
+  moments ← at_line later inputs admit.1
+  Ok (asked admit.0 moments.0, moments.1)
 
 -- the lines of a question
 unfoldable pub question_at : Version → ℕ → List ℕ → Reading Question
@@ -255,10 +270,8 @@ question_at First inputs bytes = Ok (all_at_once inputs, bytes)
 question_at Second inputs bytes = do
   admit ← admit_at Second inputs bytes
   Ok (asked admit.0 (replicate inputs 0), admit.1)
-question_at Third inputs bytes = do
-  admit ← admit_at Third inputs bytes
-  moments ← at_line inputs admit.1
-  Ok (asked admit.0 moments.0, moments.1)
+question_at Third inputs bytes = dated_at Third true inputs bytes
+question_at Fourth inputs bytes = dated_at Fourth false inputs bytes
 
 -- ---- the tree
 
@@ -267,9 +280,21 @@ abbrev pub domain_byte : BoundedBy → ℕ
 domain_byte Arrival = 97
 domain_byte Possible = 116
 domain_byte Both = 109
+domain_byte Edges = 101
+domain_byte EdgesAndPossible = 110
 
-unfoldable pub letter_at : List ℕ → Reading BoundedBy
-letter_at bytes = char_at (λ b. written_as domain_byte (Arrival ∷ Possible ∷ Both ∷ []) b) bytes
+-- the domains that a leaf may name
+abbrev pub domains : Leaves → List BoundedBy
+domains leaves.First = Arrival ∷ Possible ∷ Both ∷ []
+domains leaves.Later = Arrival ∷ Possible ∷ Both ∷ []
+domains leaves.Any = Arrival ∷ Possible ∷ Both ∷ Edges ∷ EdgesAndPossible ∷ []
+domains leaves.OfEdges = Edges ∷ EdgesAndPossible ∷ []
+
+abbrev pub domain_of : Leaves → ℕ → Option BoundedBy
+domain_of here b = written_as domain_byte (domains here) b
+
+unfoldable pub letter_at : Leaves → List ℕ → Reading BoundedBy
+letter_at here bytes = char_at (domain_of here) bytes
 
 -- how a node's line begins
 pub data Tag : Type 0 where
@@ -285,48 +310,72 @@ tag_byte PointTag = 112
 tag_byte EmptyTag = 110
 
 -- in the first version each leaf has an admitted pair
-abbrev pub tags : Version → List Tag
-tags First = SplitTag ∷ BoundTag ∷ PointTag ∷ []
-tags version = SplitTag ∷ BoundTag ∷ PointTag ∷ EmptyTag ∷ []
+abbrev pub tags : Leaves → List Tag
+tags leaves.First = SplitTag ∷ BoundTag ∷ PointTag ∷ []
+tags leaves.Later = SplitTag ∷ BoundTag ∷ PointTag ∷ EmptyTag ∷ []
+tags leaves.Any = SplitTag ∷ BoundTag ∷ PointTag ∷ EmptyTag ∷ []
+tags leaves.OfEdges = SplitTag ∷ BoundTag ∷ []
 
-unfoldable pub tag_at : Version → List ℕ → Reading Tag
-tag_at version bytes = char_at (λ b. written_as tag_byte (tags version) b) bytes
+unfoldable pub tag_at : Leaves → List ℕ → Reading Tag
+tag_at here bytes = char_at (λ b. written_as tag_byte (tags here) b) bytes
 
 -- what stands behind the first byte of a node
-unfoldable pub behind_tag : Tag → List ℕ → Reading Node
-behind_tag SplitTag bytes = do
+unfoldable pub behind_tag : Leaves → Tag → List ℕ → Reading Node
+behind_tag here SplitTag bytes = do
   position ← number_behind (codes " ") greatest 10 bytes
   Ok (node.Split position.0, position.1)
-behind_tag BoundTag bytes = do
+behind_tag here BoundTag bytes = do
   space ← literal (codes " ") bytes
-  domain ← letter_at space.1
+  domain ← letter_at here space.1
   bound ← number_behind (codes " ") greatest 10 domain.1
   Ok (node.Bound domain.0 bound.0, bound.1)
-behind_tag PointTag bytes = do
+behind_tag here PointTag bytes = do
   time ← number_behind (codes " ") greatest 10 bytes
   Ok (node.Point time.0, time.1)
-behind_tag EmptyTag bytes = do
+behind_tag here EmptyTag bytes = do
   word ← literal (codes "one\n") bytes
   Ok (node.Empty, word.1)
 
 -- a node's line
-unfoldable pub node_at : Version → List ℕ → Reading Node
-node_at version bytes = do
-  tag ← tag_at version bytes
-  behind_tag tag.0 tag.1
+unfoldable pub node_at : Leaves → List ℕ → Reading Node
+node_at here bytes = do
+  tag ← tag_at here bytes
+  behind_tag here tag.0 tag.1
+
+-- the leaves of a tree, by the version: in the fourth one of them is bounded by edges
+abbrev pub leaves_in : Version → Leaves
+leaves_in First = leaves.First
+leaves_in Second = leaves.Later
+leaves_in Third = leaves.Later
+leaves_in Fourth = leaves.OfEdges
+
+-- the leaves that may stand before so many other subtrees: where one bounded by edges is still to come, the last one has to be it
+abbrev pub leaves_before : Leaves → ℕ → Leaves
+leaves_before leaves.First others = leaves.First
+leaves_before leaves.Later others = leaves.Later
+leaves_before leaves.Any others = leaves.Any
+leaves_before leaves.OfEdges zero = leaves.OfEdges
+leaves_before leaves.OfEdges (suc others) = leaves.Any
+
+-- the leaves behind a node
+abbrev pub leaves_behind : Leaves → Node → Leaves
+leaves_behind leaves.First n = leaves.First
+leaves_behind leaves.Later n = leaves.Later
+leaves_behind leaves.Any n = leaves.Any
+leaves_behind leaves.OfEdges n = if names_edges n then leaves.Any else leaves.OfEdges
 
 -- the nodes of so many subtrees, no more of them than the first number
-unfoldable pub nodes_within : Version → ℕ → ℕ → List ℕ → Reading (List Node)
-nodes_within version count zero bytes = Ok ([], bytes)
-nodes_within version zero (suc pending) bytes = Err Ends
-nodes_within version (suc count) (suc pending) bytes = do
-  first ← node_at version bytes
-  others ← nodes_within version count (sides first.0 + pending) first.1
+unfoldable pub nodes_within : Leaves → ℕ → ℕ → List ℕ → Reading (List Node)
+nodes_within here count zero bytes = Ok ([], bytes)
+nodes_within here zero (suc pending) bytes = Err Ends
+nodes_within here (suc count) (suc pending) bytes = do
+  first ← node_at (leaves_before here pending) bytes
+  others ← nodes_within (leaves_behind here first.0) count (sides first.0 + pending) first.1
   Ok (first.0 ∷ others.0, others.1)
 
 -- the nodes of so many subtrees
-unfoldable pub nodes_at : Version → ℕ → List ℕ → Reading (List Node)
-nodes_at version pending bytes = nodes_within version (length bytes) pending bytes
+unfoldable pub nodes_at : Leaves → ℕ → List ℕ → Reading (List Node)
+nodes_at here pending bytes = nodes_within here (length bytes) pending bytes
 
 abbrev pub with_fields : ℕ → Question → ℕ → List Bool → List Bool → List Node → Certificate
 with_fields gates question time first second tree =
@@ -342,9 +391,9 @@ lines_at version bytes = do
   gates ← number_at 200000 10 inputs.1
   question ← question_at version inputs.0 gates.1
   time ← number_behind (codes "time ") greatest 10 question.1
-  first ← vector_behind (codes "from ") inputs.0 time.1
-  second ← vector_behind (codes "to ") inputs.0 first.1
-  tree ← nodes_at version 1 second.1
+  first ← row_behind (codes "from ") bit_of inputs.0 time.1
+  second ← row_behind (codes "to ") bit_of inputs.0 first.1
+  tree ← nodes_at (leaves_in version) 1 second.1
   Ok (with_fields gates.0 question.0 time.0 first.0 second.0 tree.0, tree.1)
 
 -- a certificate, and the bytes after it

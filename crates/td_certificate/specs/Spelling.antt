@@ -1,20 +1,24 @@
 -- Certificates and their one spelling: lines, each ended by a newline.
-use Rattle.std.specs.Prelude.{◌≡◌, ◌≢◌, ℕ, ◌*◌, ◌≤◌, ◌^◌, List, [], ◌∷◌, ◌++◌, length, map, codes, decimal}
+use Rattle.std.specs.Prelude.{◌≡◌, ◌≢◌, ℕ, ◌*◌, ◌≤◌, ◌^◌, if◌then◌else◌, List, [], ◌∷◌, ◌++◌, length, map, codes, decimal}
 use Rattle.std.specs.List.{flat_map, AllByRecursion}
 use Rattle.td_certificate.specs.declared.tree.Node.{Node}
 use Rattle.td_certificate.specs.declared.tree.Node.TheVariants as node
 use Rattle.td_certificate.specs.declared.question.Version.{Version}
-use Rattle.td_certificate.specs.declared.question.Version.TheVariants.{First, Second, Third}
+use Rattle.td_certificate.specs.declared.question.Version.TheVariants.{First, Second, Third, Fourth}
 use Rattle.td_certificate.specs.declared.certificate.Certificate.{Certificate}
 use Rattle.td_certificate.specs.Questions.{Question, inputs_of, version_of, version_number}
-use Rattle.td_certificate.specs.Trees.{IsTree}
-use Rattle.td_certificate.specs.Text.{bits, node_line, trit, first_trits, second_trits, hold, numbers}
+use Rattle.td_certificate.specs.Trees.{IsTree, has_edges}
+use Rattle.td_certificate.specs.Text.{row, bits, node_line, trit, first_trits, second_trits, hold, numbers}
 
 -- ---- the lines
 
 -- the number of inputs of the circuit
 abbrev pub inputs : Certificate → ℕ
 inputs c = inputs_of c.question
+
+-- the version of its text: the fourth where a leaf is bounded by edges, else that of the question
+abbrev pub version_in : Certificate → Version
+version_in c = if has_edges c.tree then Fourth else version_of c.question
 
 -- what the lines of a question tell, each one of these
 pub data Field : Type 0 where
@@ -29,16 +33,17 @@ abbrev pub fields_of : Version → List Field
 fields_of First = []
 fields_of Second = FirstField ∷ SecondField ∷ HoldField ∷ FlipsField ∷ []
 fields_of Third = FirstField ∷ SecondField ∷ HoldField ∷ FlipsField ∷ AtField ∷ []
+fields_of Fourth = FirstField ∷ SecondField ∷ HoldField ∷ FlipsField ∷ AtField ∷ []
 
 abbrev pub field_line : Question → Field → List ℕ
-field_line question FirstField = codes "first " ++ map trit (first_trits question.admit.pins)
-field_line question SecondField = codes "second " ++ map trit (second_trits question.admit.pins)
-field_line question HoldField = codes "hold " ++ map hold question.admit.held
+field_line question FirstField = codes "first " ++ row trit (first_trits question.admit.pins)
+field_line question SecondField = codes "second " ++ row trit (second_trits question.admit.pins)
+field_line question HoldField = codes "hold " ++ row hold question.admit.held
 field_line question FlipsField = codes "flips " ++ decimal question.admit.flips
 field_line question AtField = codes "at " ++ numbers question.moments
 
-abbrev pub question_lines : Question → List (List ℕ)
-question_lines question = map (field_line question) (fields_of (version_of question))
+abbrev pub question_lines : Version → Question → List (List ℕ)
+question_lines version question = map (field_line question) (fields_of version)
 
 abbrev pub version_line : Version → List ℕ
 version_line version = codes "tdelay-cert " ++ decimal (version_number version)
@@ -58,7 +63,7 @@ to_line c = codes "to " ++ bits c.pair.second
 -- the lines before the tree
 abbrev pub head_lines : Certificate → List (List ℕ)
 head_lines c =
-    version_line (version_of c.question) ∷ circuit_line c ∷ (question_lines c.question ++ time_line c ∷ from_line c ∷ to_line c ∷ [])
+    version_line (version_in c) ∷ circuit_line c ∷ (question_lines (version_in c) c.question ++ time_line c ∷ from_line c ∷ to_line c ∷ [])
 
 -- a line and its newline
 abbrev pub ended : List ℕ → List ℕ
@@ -68,9 +73,9 @@ ended line = line ++ 10 ∷ []
 abbrev pub text_of : List (List ℕ) → List ℕ
 text_of lines = flat_map ended lines
 
--- the text of a question's lines
-abbrev pub question_text : Question → List ℕ
-question_text question = text_of (question_lines question)
+-- the text of a question's lines in this version
+abbrev pub question_text : Version → Question → List ℕ
+question_text version question = text_of (question_lines version question)
 
 unfoldable pub spelling : Certificate → List ℕ
 spelling c = text_of (head_lines c ++ map node_line c.tree)
@@ -85,7 +90,7 @@ greatest = 10 ^ 18
 abbrev pub latest : ℕ
 latest = 1000000000
 
--- a node of a text of this version: numbers up to the greatest, and leaves without an admitted pair only where pairs are restricted
+-- a node of a text of this version: numbers up to the greatest, and leaves without an admitted pair only from the second version on
 abbrev pub IsNode : Version → Node → Type 0
 IsNode version (node.Split position) = position ≤ greatest
 IsNode version (node.Bound domain bound) = bound ≤ greatest
@@ -104,7 +109,7 @@ pub record HasSpelling (c : Certificate) : Type 0 where
   pub time : c.time ≤ greatest
   pub first : length c.pair.first ≡ inputs_of c.question
   pub second : length c.pair.second ≡ inputs_of c.question
-  pub nodes : AllByRecursion (IsNode (version_of c.question)) c.tree
+  pub nodes : AllByRecursion (IsNode (version_in c)) c.tree
   pub tree : IsTree c.tree
 
 -- the certificate is spelled so

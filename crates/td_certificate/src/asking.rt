@@ -2,9 +2,9 @@
 
 ghost use Rattle.std.specs.Prelude.{◌≡◌, ◌≤◌, ◌<◌, ◌^◌, ◌==◌, ◌&&◌, length, true, IfOk};
 ghost use Rattle.td_certificate.specs.Text.{weave};
-ghost use Rattle.td_certificate.specs.Reading.{Gives, most_flips, flips_at, admit_at, moment_at, moments_at, at_line, question_at};
+ghost use Rattle.td_certificate.specs.Reading.{Gives, most_flips, flips_at, admit_at, moment_at, moments_at, at_line, dated_at, question_at};
 
-use crate::characters::{Holds, Trits, line};
+use crate::characters::{Holds, Trits, row};
 use crate::fields::{Reason, Stop, literal, number_behind, number_from};
 use crate::question::{Question, Version, are_free, holds_none};
 use std::alloc::{AllocError, Global};
@@ -40,7 +40,7 @@ fn most_flips(version: Version, pins: &Cube, held: &[bool]) -> u64
                 inputs
             }
         }
-        Version::First | Version::Third => inputs,
+        Version::First | Version::Third | Version::Fourth => inputs,
     }
 }
 
@@ -68,9 +68,9 @@ fn admit(
     requires { inputs ≤ 4096 }
     ensures { Gives (λ x. (x.0, x.1.now)) result (admit_at version inputs text.now) }
 {
-    let (firsts, rest) = line::<Trits>(alloc, b"first ", inputs, text)?;
-    let (seconds, rest) = line::<Trits>(alloc, b"second ", inputs, rest)?;
-    let (held, rest) = line::<Holds>(alloc, b"hold ", inputs, rest)?;
+    let (firsts, rest) = row::<Trits>(alloc, b"first ", inputs, text)?;
+    let (seconds, rest) = row::<Trits>(alloc, b"second ", inputs, rest)?;
+    let (held, rest) = row::<Holds>(alloc, b"hold ", inputs, rest)?;
     let pins = weave(alloc, &firsts, &seconds)?;
     let (flips, rest) = flips(most_flips(version, &pins, &held), rest)?;
     Ok((Admit::new(pins, held, flips as u32), rest))
@@ -87,12 +87,17 @@ fn moment(at_once: bool, others: u32, text: &[u8]) -> Result<(u64, &[u8]), Stop<
     }
 }
 
-/// Takes a moment for each input, not all of them 0.
-fn moments(alloc: Global, inputs: u32, text: &[u8]) -> Result<(Vec<u64>, &[u8]), Stop<'_>>
-    ensures { Gives (λ x. (x.0.items, x.1.now)) result (moments_at true inputs text.now) }
+/// Takes a moment for each input, not all of them 0 where one has to be later.
+fn moments(
+    alloc: Global,
+    later: bool,
+    inputs: u32,
+    text: &[u8],
+) -> Result<(Vec<u64>, &[u8]), Stop<'_>>
+    ensures { Gives (λ x. (x.0.items, x.1.now)) result (moments_at later inputs text.now) }
 {
     let mut moments = Vec::new(alloc);
-    let mut at_once = true;
+    let mut at_once = later;
     let mut rest = text;
     for input in 0..inputs {
         let (next, after) = moment(at_once, inputs - input - 1, rest)?;
@@ -103,8 +108,38 @@ fn moments(alloc: Global, inputs: u32, text: &[u8]) -> Result<(Vec<u64>, &[u8]),
     Ok((moments, rest))
 }
 
+/// Takes the line of the moments.
+#[tactic(auto, unfolding(crate::specs::Reading::at_line))]
+fn at(alloc: Global, later: bool, inputs: u32, text: &[u8]) -> Result<(Vec<u64>, &[u8]), Stop<'_>>
+    ensures { Gives (λ x. (x.0.items, x.1.now)) result (at_line later inputs text.now) }
+{
+    let rest = literal(b"at ", text)?;
+    if inputs == 0 {
+        let rest = literal(b"none\n", rest)?;
+        return Ok((Vec::new(alloc), rest));
+    }
+    moments(alloc, later, inputs, rest)
+}
+
+/// Takes the lines from `first` to `at`.
+#[tactic(auto, unfolding(crate::specs::Reading::dated_at))]
+fn dated(
+    alloc: Global,
+    version: Version,
+    later: bool,
+    inputs: u32,
+    text: &[u8],
+) -> Result<(Question, &[u8]), Stop<'_>>
+    requires { inputs ≤ 4096 }
+    ensures { Gives (λ x. (x.0, x.1.now)) result (dated_at version later inputs text.now) }
+{
+    let (admit, rest) = admit(alloc, version, inputs, text)?;
+    let (moments, rest) = at(alloc, later, inputs, rest)?;
+    Ok((Question::new(admit, moments), rest))
+}
+
 /// Takes the lines of a question.
-#[tactic(auto, unfolding(crate::specs::Reading::question_at, crate::specs::Reading::at_line))]
+#[tactic(auto, unfolding(crate::specs::Reading::question_at))]
 pub fn question(
     alloc: Global,
     version: Version,
@@ -125,11 +160,7 @@ pub fn question(
             let moments = vec![in alloc; 0u64; inputs as usize]?;
             Ok((Question::new(admit, moments), rest))
         }
-        Version::Third => {
-            let (admit, rest) = admit(alloc, version, inputs, text)?;
-            let rest = literal(b"at ", rest)?;
-            let (moments, rest) = moments(alloc, inputs, rest)?;
-            Ok((Question::new(admit, moments), rest))
-        }
+        Version::Third => dated(alloc, version, true, inputs, text),
+        Version::Fourth => dated(alloc, version, false, inputs, text),
     }
 }

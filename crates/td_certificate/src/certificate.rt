@@ -1,6 +1,9 @@
 //! Certificates.
 
-use crate::question::Question;
+ghost use Rattle.std.specs.Prelude.{◌≡◌};
+ghost use Rattle.td_certificate.specs.Spelling.{version_in};
+
+use crate::question::{Question, Version};
 use crate::tree::Tree;
 use td_domain::Pair;
 
@@ -13,4 +16,17 @@ pub struct Certificate {
     pub time: u64,
     pub pair: Pair,
     pub tree: Tree,
+}
+
+impl Certificate {
+    /// The version of its text: the fourth where a leaf is bounded by edges, else the first that can tell the question.
+    pub fn version(&self) -> Version
+        ensures { result ≡ version_in self.now }
+    {
+        if self.tree.has_edges() {
+            Version::Fourth
+        } else {
+            self.question.version()
+        }
+    }
 }

@@ -1,7 +1,7 @@
 //! Characters of a certificate's lines, one for each input.
 
 ghost use Rattle.std.specs.Prelude.{◌≡◌, ℕ, Option, length, IfOk};
-ghost use Rattle.td_certificate.specs.Reading.{Gives, char_at, chars_at, bit_of, trit_of, hold_of, chars_behind, vector_behind};
+ghost use Rattle.td_certificate.specs.Reading.{Gives, char_at, chars_at, bit_of, trit_of, hold_of, chars_behind, row_behind};
 
 use crate::fields::{Reason, Stop, literal};
 use std::alloc::Global;
@@ -105,7 +105,7 @@ fn characters<A: Alphabet>(
 
 /// Takes a word, so many characters and the newline.
 #[tactic(auto, unfolding(crate::specs::Reading::chars_behind))]
-pub fn line<'a, A: Alphabet>(
+fn line<'a, A: Alphabet>(
     alloc: Global,
     word: &[u8],
     count: u32,
@@ -120,20 +120,21 @@ pub fn line<'a, A: Alphabet>(
     Ok((values, rest))
 }
 
-/// Takes a word, the bits of a vector, or `none` where there are no inputs, and the newline.
-#[tactic(auto, unfolding(crate::specs::Reading::vector_behind))]
-pub fn vector<'a>(
+/// Takes a word, a character for each input, or `none` where there are no inputs, and the newline.
+#[tactic(auto, unfolding(crate::specs::Reading::row_behind))]
+pub fn row<'a, A: Alphabet>(
     alloc: Global,
     word: &[u8],
-    count: u32,
+    inputs: u32,
     text: &'a [u8],
-) -> Result<(Vec<bool>, &'a [u8]), Stop<'a>>
-    ensures { Gives (λ x. (x.0.items, x.1.now)) result (vector_behind word.now count text.now) }
+) -> Result<(Vec<A::Value>, &'a [u8]), Stop<'a>>
+    ensures read { Gives (λ x. (x.0.items, x.1.now)) result (row_behind word.now A.value_of inputs text.now) }
+    ensures count { IfOk result (λ x. length x.0.items ≡ inputs) }
 {
-    if count == 0 {
+    if inputs == 0 {
         let rest = literal(word, text)?;
         let rest = literal(b"none\n", rest)?;
         return Ok((Vec::new(alloc), rest));
     }
-    line::<Bits>(alloc, word, count, text)
+    line::<A>(alloc, word, inputs, text)
 }

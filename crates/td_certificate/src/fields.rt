@@ -2,7 +2,7 @@
 
 ghost use Rattle.std.specs.Prelude.{◌≡◌, ◌≢◌, ◌≤◌, ◌<◌, ◌+◌, ◌^◌, ◌==◌, ◌||◌, length, codes, IfOk};
 ghost use Rattle.td_certificate.specs.declared.fields.Stop.TheVariants.{OutOfMemory};
-ghost use Rattle.td_certificate.specs.Reading.{Gives, byte_at, literal, digits_at, number_at, number_from, begins_with_zero, letter_at, number_behind, behind_tag, BoundTag, EmptyTag, node_at};
+ghost use Rattle.td_certificate.specs.Reading.{Gives, byte_at, literal, digits_at, number_at, number_from, begins_with_zero, domain_of, letter_at, number_behind, behind_tag, BoundTag, PointTag, EmptyTag, node_at, leaves_in, leaves_before, leaves_behind};
 
 use crate::question::Version;
 use crate::tree::{BoundedBy, Node};
@@ -40,6 +40,52 @@ impl<T: Drop> From<AllocFailed<T>> for Stop<'_> {
 
     fn from(_e: AllocFailed<T>) -> Self {
         Stop::OutOfMemory
+    }
+}
+
+/// Which leaves may stand in a tree, from some place on.
+#[derive(Clone, Copy, Debug, PartialEq, Eq, Drop)]
+pub enum Leaves {
+    /// Those of the first version: none without an admitted pair, none bounded by edges.
+    First,
+    /// Those of the second and the third version: none bounded by edges.
+    Later,
+    /// All, in the fourth version behind a leaf bounded by edges.
+    Any,
+    /// Those of the fourth version before that: one bounded by edges is still to come.
+    OfEdges,
+}
+
+impl Leaves {
+    /// The leaves of a version.
+    pub fn of(version: Version) -> Leaves
+        ensures { result ≡ leaves_in version }
+    {
+        match version {
+            Version::First => Leaves::First,
+            Version::Second | Version::Third => Leaves::Later,
+            Version::Fourth => Leaves::OfEdges,
+        }
+    }
+
+    /// Those that may stand before so many other subtrees. The last leaf has to be bounded by edges where one is still to come.
+    pub fn before(self, others: u64) -> Leaves
+        ensures { result ≡ leaves_before self others }
+    {
+        match self {
+            Leaves::OfEdges if others > 0 => Leaves::Any,
+            leaves => leaves,
+        }
+    }
+
+    /// Those behind a node.
+    pub fn behind(self, node: Node) -> Leaves
+        ensures { result ≡ leaves_behind self node }
+    {
+        match self {
+            Leaves::OfEdges if node.names_edges() => Leaves::Any,
+            leaves => leaves,
+        }
     }
 }
 
@@ -128,16 +174,43 @@ pub fn number_from<'a>(
     number(most, close, text)
 }
 
+/// The domain with this letter, where a leaf may name it.
+fn domain(leaves: Leaves, letter: u8) -> Option<BoundedBy>
+    ensures { result ≡ domain_of leaves letter }
+{
+    match leaves {
+        Leaves::First | Leaves::Later => match letter {
+            b'a' => Some(BoundedBy::Arrival),
+            b't' => Some(BoundedBy::Possible),
+            b'm' => Some(BoundedBy::Both),
+            _ => None,
+        },
+        Leaves::Any => match letter {
+            b'a' => Some(BoundedBy::Arrival),
+            b't' => Some(BoundedBy::Possible),
+            b'm' => Some(BoundedBy::Both),
+            b'e' => Some(BoundedBy::Edges),
+            b'n' => Some(BoundedBy::EdgesAndPossible),
+            _ => None,
+        },
+        Leaves::OfEdges => match letter {
+            b'e' => Some(BoundedBy::Edges),
+            b'n' => Some(BoundedBy::EdgesAndPossible),
+            _ => None,
+        },
+    }
+}
+
 #[tactic(auto, unfolding(crate::specs::Reading::letter_at))]
-fn letter(text: &[u8]) -> Result<(BoundedBy, &[u8]), Stop<'_>>
-    ensures { Gives (λ x. (x.0, x.1.now)) result (letter_at text.now) }
+fn letter(leaves: Leaves, text: &[u8]) -> Result<(BoundedBy, &[u8]), Stop<'_>>
+    ensures { Gives (λ x. (x.0, x.1.now)) result (letter_at leaves text.now) }
 {
     match text {
         [] => Err(Stop::Ends),
-        [b'a', rest @ ..] => Ok((BoundedBy::Arrival, rest)),
-        [b't', rest @ ..] => Ok((BoundedBy::Possible, rest)),
-        [b'm', rest @ ..] => Ok((BoundedBy::Both, rest)),
-        [_, ..] => Err(Stop::Wrong(Reason::Syntax, text)),
+        [byte, rest @ ..] => match domain(leaves, *byte) {
+            Some(domain) => Ok((domain, rest)),
+            None => Err(Stop::Wrong(Reason::Syntax, text)),
+        },
     }
 }
 
@@ -165,19 +238,28 @@ fn last_number(text: &[u8]) -> Result<(u64, &[u8]), Stop<'_>>
 }
 
 #[tactic(auto, unfolding(crate::specs::Reading::behind_tag))]
-fn bound(text: &[u8]) -> Result<(Node, &[u8]), Stop<'_>>
-    ensures { Gives (λ x. (x.0, x.1.now)) result (behind_tag BoundTag text.now) }
+fn bound(leaves: Leaves, text: &[u8]) -> Result<(Node, &[u8]), Stop<'_>>
+    ensures { Gives (λ x. (x.0, x.1.now)) result (behind_tag leaves BoundTag text.now) }
 {
     let rest = literal(b" ", text)?;
-    let (domain, rest) = letter(rest)?;
+    let (domain, rest) = letter(leaves, rest)?;
     let (bound, rest) = last_number(rest)?;
     Ok((Node::Bound(domain, bound), rest))
 }
 
-/// Takes what follows the first byte of a leaf without an admitted pair, which the first version doesn't have.
+/// Takes what follows the first byte of a leaf of one pair.
 #[tactic(auto, unfolding(crate::specs::Reading::behind_tag))]
-fn empty(text: &[u8]) -> Result<(Node, &[u8]), Stop<'_>>
-    ensures { Gives (λ x. (x.0, x.1.now)) result (behind_tag EmptyTag text.now) }
+fn point(leaves: Leaves, text: &[u8]) -> Result<(Node, &[u8]), Stop<'_>>
+    ensures { Gives (λ x. (x.0, x.1.now)) result (behind_tag leaves PointTag text.now) }
+{
+    let (time, rest) = last_number(text)?;
+    Ok((Node::Point(time), rest))
+}
+
+/// Takes what follows the first byte of a leaf without an admitted pair.
+#[tactic(auto, unfolding(crate::specs::Reading::behind_tag))]
+fn empty(leaves: Leaves, text: &[u8]) -> Result<(Node, &[u8]), Stop<'_>>
+    ensures { Gives (λ x. (x.0, x.1.now)) result (behind_tag leaves EmptyTag text.now) }
 {
     let rest = literal(b"one\n", text)?;
     Ok((Node::Empty, rest))
@@ -185,8 +267,8 @@ fn empty(text: &[u8]) -> Result<(Node, &[u8]), Stop<'_>>
 
 /// Takes a node's line.
 #[tactic(auto, unfolding(crate::specs::Reading::node_at, crate::specs::Reading::tag_at, crate::specs::Reading::behind_tag))]
-pub fn node(version: Version, text: &[u8]) -> Result<(Node, &[u8]), Stop<'_>>
-    ensures { Gives (λ x. (x.0, x.1.now)) result (node_at version text.now) }
+pub fn node(leaves: Leaves, text: &[u8]) -> Result<(Node, &[u8]), Stop<'_>>
+    ensures { Gives (λ x. (x.0, x.1.now)) result (node_at leaves text.now) }
 {
     match text {
         [] => Err(Stop::Ends),
@@ -194,14 +276,14 @@ pub fn node(version: Version, text: &[u8]) -> Result<(Node, &[u8]), Stop<'_>>
             let (position, rest) = last_number(rest)?;
             Ok((Node::Split(position), rest))
         }
-        [b'b', rest @ ..] => bound(rest),
-        [b'p', rest @ ..] => {
-            let (time, rest) = last_number(rest)?;
-            Ok((Node::Point(time), rest))
-        }
-        [b'n', rest @ ..] => match version {
-            Version::First => Err(Stop::Wrong(Reason::Syntax, text)),
-            Version::Second | Version::Third => empty(rest),
+        [b'b', rest @ ..] => bound(leaves, rest),
+        [b'p', rest @ ..] => match leaves {
+            Leaves::OfEdges => Err(Stop::Wrong(Reason::Syntax, text)),
+            Leaves::First | Leaves::Later | Leaves::Any => point(leaves, rest),
+        },
+        [b'n', rest @ ..] => match leaves {
+            Leaves::First | Leaves::OfEdges => Err(Stop::Wrong(Reason::Syntax, text)),
+            Leaves::Later | Leaves::Any => empty(leaves, rest),
         },
         [_, ..] => Err(Stop::Wrong(Reason::Syntax, text)),
     }

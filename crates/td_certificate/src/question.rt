@@ -8,12 +8,13 @@ use std::marker::Model;
 use td_domain::{Admit, Cube, Trit};
 
 /// The versions of a certificate's text. The first is about all pairs of vectors, with all inputs changing at moment 0; in
-/// the second pairs are restricted; in the third an input changes later.
+/// the second pairs are restricted; in the third an input changes later. In the fourth a leaf is bounded by edges, whatever is asked.
 #[derive(Clone, Copy, Debug, PartialEq, Eq, Drop)]
 pub enum Version {
     First,
     Second,
     Third,
+    Fourth,
 }
 
 impl Version {
@@ -25,6 +26,7 @@ impl Version {
             Version::First => 1,
             Version::Second => 2,
             Version::Third => 3,
+            Version::Fourth => 4,
         }
     }
 }
@@ -74,7 +76,7 @@ impl Question {
         self.admit.held().len()
     }
 
-    /// The version of the text that can say it.
+    /// The version of a text that tells it, where no leaf is bounded by edges.
     pub fn version(&self) -> Version
         ensures { result ≡ version_of self.now }
     {

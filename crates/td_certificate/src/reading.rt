@@ -1,7 +1,7 @@
 //! Reading a certificate's text.
 
 ghost use Rattle.std.specs.Prelude.{◌≡◌, ◌≤◌, ◌<◌, ◌+◌, ◌-◌, ◌^◌, ◌∷◌, ℕ, take, length, Some, IfOk, IfErr};
-ghost use Rattle.td_certificate.specs.Reading.{Gives, begins_number, front_number, IsUpTo, is_version, version_reason, digit_at, version_at, has_inputs, nodes_at, lines_at, certificate_at};
+ghost use Rattle.td_certificate.specs.Reading.{Gives, begins_number, front_number, IsUpTo, is_version, version_reason, digit_at, version_at, has_inputs, leaves_in, nodes_at, lines_at, certificate_at};
 ghost use Rattle.td_certificate.specs.Spelling.{Spells};
 ghost use Rattle.td_certificate.specs.declared.certificate.Certificate.{Certificate as Contents};
 ghost use Rattle.td_certificate.specs.declared.fault.CertFaultKind.{CertFaultKind as Kind};
@@ -9,9 +9,11 @@ ghost use Rattle.td_certificate.specs.Faults.{IsFault, kind_of, kind_in, IsWithi
 
 use crate::asking::question;
 use crate::certificate::Certificate;
-use crate::characters::vector;
+use crate::characters::{Bits, row};
 use crate::fault::{CertFault, CertFaultKind};
-use crate::fields::{GREATEST, Reason, Stop, literal, node, number, number_behind, number_from};
+use crate::fields::{
+    GREATEST, Leaves, Reason, Stop, literal, node, number, number_behind, number_from,
+};
 use crate::question::Version;
 use crate::tree::Tree;
 use std::alloc::Global;
@@ -60,7 +62,7 @@ fn front_number(bytes: &[u8]) -> Option<u64>
 fn is_version(number: u64) -> bool
     ensures { result ≡ is_version number }
 {
-    number == 1 || number == 2 || number == 3
+    number == 1 || number == 2 || number == 3 || number == 4
 }
 
 /// What is wrong with a first line that isn't that of a version, from the byte behind its word and space on.
@@ -93,6 +95,7 @@ fn digit(text: &[u8]) -> Result<(Version, &[u8]), Stop<'_>>
         [b'1', rest @ ..] => (Version::First, rest),
         [b'2', rest @ ..] => (Version::Second, rest),
         [b'3', rest @ ..] => (Version::Third, rest),
+        [b'4', rest @ ..] => (Version::Fourth, rest),
         [_, ..] => return Err(Stop::Wrong(Reason::Syntax, text)),
     };
     let rest = literal(b"\n", rest)?;
@@ -113,26 +116,28 @@ fn version(text: &[u8]) -> Result<(Version, &[u8]), Stop<'_>>
 
 /// Takes a tree.
 fn tree(alloc: Global, version: Version, text: &[u8]) -> Result<(Tree, &[u8]), Stop<'_>>
-    ensures { Gives (λ x. (x.0, x.1.now)) result (nodes_at version 1 text.now) }
+    ensures { Gives (λ x. (x.0, x.1.now)) result (nodes_at (leaves_in version) 1 text.now) }
 {
     let mut nodes = Vec::new(alloc);
     let mut pending = 1u64;
+    let mut leaves = Leaves::of(version);
     let mut rest = text;
     while pending > 0 {
-        let (first, after) = node(version, rest)?;
+        let (first, after) = node(leaves.before(pending - 1), rest)?;
         pending = pending - 1 + first.sides();
+        leaves = leaves.behind(first);
         nodes.push(first)?;
         rest = after;
     }
     Ok((Tree::from_nodes(nodes), rest))
 }
 
-/// Whether a circuit has inputs where a text of this version is about it.
+/// Whether a circuit surely has inputs where a text of this version is about it.
 fn has_inputs(version: Version) -> bool
     ensures { result ≡ has_inputs version }
 {
     match version {
-        Version::First => false,
+        Version::First | Version::Fourth => false,
         Version::Second | Version::Third => true,
     }
 }
@@ -147,8 +152,8 @@ fn lines(alloc: Global, version: Version, text: &[u8]) -> Result<(Certificate, &
     let (gates, rest) = number(MAX_GATES, b'\n', rest)?;
     let (question, rest) = question(alloc, version, inputs as u32, rest)?;
     let (time, rest) = number_behind(b"time ", GREATEST, b'\n', rest)?;
-    let (first, rest) = vector(alloc, b"from ", inputs as u32, rest)?;
-    let (second, rest) = vector(alloc, b"to ", inputs as u32, rest)?;
+    let (first, rest) = row::<Bits>(alloc, b"from ", inputs as u32, rest)?;
+    let (second, rest) = row::<Bits>(alloc, b"to ", inputs as u32, rest)?;
     let (tree, rest) = tree(alloc, version, rest)?;
     let certificate = Certificate {
         gates: gates as u32,

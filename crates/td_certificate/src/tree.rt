@@ -1,18 +1,32 @@
 //! Trees of splits and leaves, kept as their nodes in pre-order.
 
 ghost use Rattle.std.specs.Prelude.{◌≡◌, Some};
-ghost use Rattle.td_certificate.specs.Trees.{IsTree, sides};
+ghost use Rattle.td_certificate.specs.Trees.{IsTree, sides, is_of_edges, names_edges, has_edges};
 ghost use Rattle.td_certificate.specs.Text.{letter, node_line};
 
 use std::fmt;
 use std::marker::Model;
 
-/// The domain that bounds a leaf: arrival windows, possible levels, or both at once.
+/// The domain that bounds a leaf: arrival windows, possible levels, or both at once; edges, or edges and possible levels at once.
 #[derive(Clone, Copy, Debug, PartialEq, Eq, Drop)]
 pub enum BoundedBy {
     Arrival,
     Possible,
     Both,
+    Edges,
+    EdgesAndPossible,
+}
+
+impl BoundedBy {
+    /// Whether it is edges, or edges and another domain at once.
+    pub fn is_of_edges(self) -> bool
+        ensures { result ≡ is_of_edges self }
+    {
+        match self {
+            BoundedBy::Edges | BoundedBy::EdgesAndPossible => true,
+            BoundedBy::Arrival | BoundedBy::Possible | BoundedBy::Both => false,
+        }
+    }
 }
 
 /// A node of a tree: a split at a position of its cube, a leaf with a domain's bound of its cube, a leaf of one pair with
@@ -35,6 +49,16 @@ impl Node {
             Node::Bound(_, _) | Node::Point(_) | Node::Empty => 0,
         }
     }
+
+    /// Whether the node is a leaf that is bounded by edges.
+    pub fn names_edges(self) -> bool
+        ensures { result ≡ names_edges self }
+    {
+        match self {
+            Node::Bound(domain, _) => domain.is_of_edges(),
+            Node::Split(_) | Node::Point(_) | Node::Empty => false,
+        }
+    }
 }
 
 impl fmt::Display for BoundedBy {
@@ -45,6 +69,8 @@ impl fmt::Display for BoundedBy {
             BoundedBy::Arrival => write!(f, "a"),
             BoundedBy::Possible => write!(f, "t"),
             BoundedBy::Both => write!(f, "m"),
+            BoundedBy::Edges => write!(f, "e"),
+            BoundedBy::EdgesAndPossible => write!(f, "n"),
         }
     }
 }
@@ -96,6 +122,13 @@ impl Tree {
         ensures tree { IsTree self.now }
     {
         &self.nodes
+    }
+
+    /// Whether some leaf is bounded by edges.
+    pub fn has_edges(&self) -> bool
+        ensures { result ≡ has_edges self.now }
+    {
+        self.nodes.iter().any(|node| node.names_edges())
     }
 
     /// The nodes, without a copy.

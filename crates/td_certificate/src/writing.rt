@@ -1,11 +1,11 @@
 //! Writing a certificate's text.
 
 ghost use Rattle.std.specs.Char.{encode_utf8};
-ghost use Rattle.std.specs.Prelude.{◌≡◌, ◌++◌, ◌∷◌, [], ◌<◌, if◌then◌else◌, length, map, codes, OnOk, OnErr, IfOk, IfErr, string_bytes};
+ghost use Rattle.std.specs.Prelude.{◌≡◌, ◌++◌, ◌∷◌, [], if◌then◌else◌, length, map, codes, OnOk, OnErr, IfOk, IfErr, string_bytes};
 ghost use Rattle.td_gates.specs.Output.{Sent, SentTo, SentFront, Failed, one_more};
 ghost use Rattle.td_certificate.specs.declared.question.Version.TheVariants as of_version;
 ghost use Rattle.td_certificate.specs.Spelling.{fields_of, field_line, ended, question_text, head_lines, text_of, HasSpelling, spelling};
-ghost use Rattle.td_certificate.specs.Text.{bits, trit, first_trits, second_trits, hold, numbers};
+ghost use Rattle.td_certificate.specs.Text.{row, bits, trit, first_trits, second_trits, hold, numbers};
 
 use crate::certificate::Certificate;
 use crate::fault::WriteFault;
@@ -35,10 +35,14 @@ fn side(second: bool) -> usize
     usize::from(second)
 }
 
-/// Puts a character for each first bit of the inputs at the end, or for each second bit.
+/// Puts a character for each first bit of the inputs at the end, or for each second bit, or `none`.
+#[tactic(auto, using(crate::proofs::Batches::none_pushed))]
 fn push_trits(text: &mut String, pins: &Cube, second: bool) -> Result<(), AllocError>
-    ensures { OnOk result (string_bytes text.new ≡ string_bytes text.old ++ map trit (if second then second_trits pins.now else first_trits pins.now)) }
+    ensures { OnOk result (string_bytes text.new ≡ string_bytes text.old ++ row trit (if second then second_trits pins.now else first_trits pins.now)) }
 {
+    if pins.len() < 2 {
+        return text.push_str("none");
+    }
     for input in 0..pins.len() / 2 {
         text.push(trit_character(pins.trit(2 * input + side(second))))?;
     }
@@ -47,8 +51,11 @@ fn push_trits(text: &mut String, pins: &Cube, second: bool) -> Result<(), AllocE
 
 /// Puts a character for each input at the end, which tells whether it is held.
 fn push_holds(text: &mut String, held: &[bool]) -> Result<(), AllocError>
-    ensures { OnOk result (string_bytes text.new ≡ string_bytes text.old ++ map hold held.now) }
+    ensures { OnOk result (string_bytes text.new ≡ string_bytes text.old ++ row hold held.now) }
 {
+    if held.is_empty() {
+        return text.push_str("none");
+    }
     for held in held {
         text.push(if *held { '=' } else { '.' })?;
     }
@@ -73,9 +80,11 @@ fn push_admit(text: &mut String, question: &Question) -> Result<(), AllocError>
 
 /// Puts the line `at` of these moments at the end.
 fn push_moments(text: &mut String, moments: &[u64]) -> Result<(), AllocError>
-    requires { 0 < length moments.now }
     ensures { OnOk result (string_bytes text.new ≡ string_bytes text.old ++ ended (codes "at " ++ numbers moments.now)) }
 {
+    if moments.is_empty() {
+        return text.push_str("at none\n");
+    }
     text.push_str("at")?;
     for moment in moments {
         write!(text, " {moment}")?;
@@ -84,14 +93,19 @@ fn push_moments(text: &mut String, moments: &[u64]) -> Result<(), AllocError>
     Ok(())
 }
 
-/// Puts the lines that tell a question at the end, as they stand in a certificate's text. In the first version there are none.
-pub fn push_question(text: &mut String, question: &Question) -> Result<(), AllocError>
-    ensures { OnOk result (string_bytes text.new ≡ string_bytes text.old ++ question_text question.now) }
+/// Puts the lines that tell a question at the end, as they stand in a certificate's text of this version. In the first version
+/// there are none.
+pub fn push_question(
+    text: &mut String,
+    version: Version,
+    question: &Question,
+) -> Result<(), AllocError>
+    ensures { OnOk result (string_bytes text.new ≡ string_bytes text.old ++ question_text version question.now) }
 {
-    match question.version() {
+    match version {
         Version::First => Ok(()),
         Version::Second => push_admit(text, question),
-        Version::Third => {
+        Version::Third | Version::Fourth => {
             push_admit(text, question)?;
             push_moments(text, question.moments())
         }
@@ -115,12 +129,13 @@ fn push_bits(text: &mut String, vector: &[bool]) -> Result<(), AllocError>
 fn head(alloc: Global, certificate: &Certificate) -> Result<String, AllocError>
     ensures { IfOk result (λ text. string_bytes text ≡ text_of (head_lines certificate.now)) }
 {
-    let version = certificate.question.version().number();
+    let version = certificate.version();
+    let number = version.number();
     let inputs = certificate.question.inputs();
     let gates = certificate.gates;
     let time = certificate.time;
-    let mut text = format!(in alloc; "tdelay-cert {version}\ncircuit {inputs} {gates}\n")?;
-    push_question(&mut text, &certificate.question)?;
+    let mut text = format!(in alloc; "tdelay-cert {number}\ncircuit {inputs} {gates}\n")?;
+    push_question(&mut text, version, &certificate.question)?;
     write!(text, "time {time}\nfrom ")?;
     push_bits(&mut text, certificate.pair.first())?;
     text.push_str("\nto ")?;

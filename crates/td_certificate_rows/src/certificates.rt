@@ -17,6 +17,9 @@ tdelay-cert 3/circuit 1 2/first ./second ./hold ./flips 1/at 7/time 9/from 0/to 
 tdelay-cert 2/circuit 2 3/first ../second ../hold ../flips 1/time 5/from 01/to 11/s 0/s 1/b a 3/s 2/s 3/b a 0/none/b a 5/b a 5/
 tdelay-cert 2/circuit 3 1/first 0.1/second 1../hold .=./flips 3/time 0/from 000/to 100/none/
 tdelay-cert 3/circuit 3 1/first 0.1/second 1../hold .=./flips 0/at 0 1000000000 0/time 0/from 000/to 100/p 0/
+tdelay-cert 4/circuit 1 1/first ./second ./hold ./flips 1/at 0/time 3/from 0/to 1/b e 3/
+tdelay-cert 4/circuit 2 3/first ../second ../hold ../flips 1/at 0 7/time 5/from 01/to 11/s 0/s 1/b a 3/s 2/p 2/b n 4/s 3/none/b e 5/
+tdelay-cert 4/circuit 0 9/first none/second none/hold none/flips 0/at none/time 5/from none/to none/s 7/b n 4/none/
 ";
 
 /// The text of the certificate in a row.
@@ -118,6 +121,11 @@ fn what_was_read(rt: HostRuntime) -> Result<(), Fail> {
         leaves.as_str(),
         "0 9 5 [] [] Split(7) 2, Bound(Possible, 4) 0, Split(10) 2, Bound(Both, 5) 0, Point(20) 0, "
     );
+    let edges = what_is_claimed(rt.alloc(), &listed(rt.alloc(), 9)?)?;
+    assert_eq!(rt;
+        edges.as_str(),
+        "0 9 5 [] [] Split(7) 2, Bound(EdgesAndPossible, 4) 0, Empty 0, "
+    );
     Ok(())
 }
 
@@ -172,13 +180,14 @@ fn each_front_ends_too_early(rt: HostRuntime) -> Result<(), Fail> {
 /// What stops the reading of each text, with a slash for each end of a line.
 const FIRST_LINES: &str = "Version 1|tdelay-cert 9
 Version 1|tdelay-cert 9/
-Version 1|tdelay-cert 4/circuit 1 1/
+Version 1|tdelay-cert 5/circuit 1 1/
 Version 1|tdelay-cert 20/
-Version 1|tdelay-cert 4x
+Version 1|tdelay-cert 5x
 Version 1|tdelay-cert 0
 Version 1|tdelay-cert 10/
 Version 1|tdelay-cert 12
 Syntax 1|tdelay-cert 2x
+Syntax 1|tdelay-cert 4x
 Version 1|tdelay-cert 0x
 Version 1|tdelay-cert 1000000000000000000
 NumberTooLarge 1|tdelay-cert 1000000000000000001
@@ -204,6 +213,7 @@ UnexpectedEnd 1|tdelay-cert
 UnexpectedEnd 1|tdelay-cert 1
 UnexpectedEnd 1|tdelay-cert 2
 UnexpectedEnd 1|tdelay-cert 3
+UnexpectedEnd 1|tdelay-cert 4
 ";
 
 #[test]
@@ -294,6 +304,44 @@ fn faults_of_a_question(rt: HostRuntime) -> Result<(), Fail> {
     Ok(())
 }
 
+/// What stops the reading where a leaf may be bounded by edges. In the first three versions none may; in the fourth the last one
+/// has to be where none has been.
+const EDGES: &str = "Syntax 6|tdelay-cert 1/circuit 1 1/time 3/from 0/to 1/b e
+Syntax 6|tdelay-cert 1/circuit 1 1/time 3/from 0/to 1/b n
+Syntax 10|tdelay-cert 2/circuit 1 1/first ./second ./hold ./flips 0/time 0/from 0/to 0/b e
+Syntax 11|tdelay-cert 3/circuit 1 1/first ./second ./hold ./flips 1/at 7/time 3/from 0/to 1/b n
+Syntax 3|tdelay-cert 4/circuit 1 1/time
+UnexpectedEnd 2|tdelay-cert 4/circuit 0 
+Syntax 3|tdelay-cert 4/circuit 0 1/first /
+UnexpectedEnd 7|tdelay-cert 4/circuit 0 1/first none/second none/hold none/flips 0/at n
+Syntax 7|tdelay-cert 4/circuit 0 1/first none/second none/hold none/flips 0/at 0
+Syntax 3|tdelay-cert 4/circuit 1 1/first none
+Syntax 6|tdelay-cert 4/circuit 1 1/first ./second ./hold ./flips 2
+UnexpectedEnd 7|tdelay-cert 4/circuit 1 1/first ./second ./hold ./flips 1/at 0
+Syntax 7|tdelay-cert 4/circuit 1 1/first ./second ./hold ./flips 1/at none
+Syntax 7|tdelay-cert 4/circuit 1 1/first ./second ./hold ./flips 1/time
+UnexpectedEnd 11|tdelay-cert 4/circuit 1 1/first ./second ./hold ./flips 1/at 0/time 3/from 0/to 1/b 
+Syntax 11|tdelay-cert 4/circuit 1 1/first ./second ./hold ./flips 1/at 0/time 3/from 0/to 1/b a
+Syntax 11|tdelay-cert 4/circuit 1 1/first ./second ./hold ./flips 1/at 0/time 3/from 0/to 1/p
+Syntax 11|tdelay-cert 4/circuit 1 1/first ./second ./hold ./flips 1/at 0/time 3/from 0/to 1/n
+Syntax 11|tdelay-cert 4/circuit 1 1/first ./second ./hold ./flips 1/at 0/time 3/from 0/to 1/b x
+UnexpectedEnd 13|tdelay-cert 4/circuit 1 1/first ./second ./hold ./flips 1/at 0/time 3/from 0/to 1/s 0/b a 3/
+Syntax 13|tdelay-cert 4/circuit 1 1/first ./second ./hold ./flips 1/at 0/time 3/from 0/to 1/s 0/b a 3/b m
+Syntax 13|tdelay-cert 4/circuit 1 1/first ./second ./hold ./flips 1/at 0/time 3/from 0/to 1/s 0/none/none/
+UnexpectedEnd 14|tdelay-cert 4/circuit 1 1/first ./second ./hold ./flips 1/at 0/time 3/from 0/to 1/s 0/b t 3/s 1/
+Syntax 15|tdelay-cert 4/circuit 1 1/first ./second ./hold ./flips 1/at 0/time 3/from 0/to 1/s 0/b t 3/s 1/p 0/p 3/
+read|tdelay-cert 4/circuit 1 1/first ./second ./hold ./flips 1/at 0/time 3/from 0/to 1/s 0/b n 3/none/
+read|tdelay-cert 4/circuit 1 1/first ./second ./hold ./flips 1/at 0/time 3/from 0/to 1/s 0/p 3/b e 3/
+Trailing 12|tdelay-cert 4/circuit 1 1/first ./second ./hold ./flips 1/at 0/time 3/from 0/to 1/b e 3/b e 3/
+NumberTooLarge 11|tdelay-cert 4/circuit 1 1/first ./second ./hold ./flips 1/at 0/time 3/from 0/to 1/b e 1000000000000000001
+";
+
+#[test]
+fn leaves_bounded_by_edges(rt: HostRuntime) -> Result<(), Fail> {
+    assert_eq!(rt; stops(rt.alloc(), EDGES)?.as_str(), EDGES);
+    Ok(())
+}
+
 /// The trits of a cube.
 fn trits_of(alloc: Global, cube: &Cube) -> Result<String, Fail> {
     let mut told = String::new(alloc);
@@ -307,7 +355,7 @@ fn trits_of(alloc: Global, cube: &Cube) -> Result<String, Fail> {
 /// The version, the moments, the flips, the held inputs and the pins of a certificate's question.
 fn what_is_asked(alloc: Global, text: &str) -> Result<String, Fail> {
     let certificate = read(alloc, text.as_bytes())?;
-    let version = certificate.question.version();
+    let version = certificate.version();
     let number = version.number();
     let moments = certificate.question.moments();
     let admit = certificate.question.admit();
@@ -323,6 +371,11 @@ fn what_was_asked(rt: HostRuntime) -> Result<(), Fail> {
     assert_eq!(rt;
         pinned.as_str(),
         "Third 3 [0, 1000000000, 0] 0 [false, true, false] Zero One Free Free One Free "
+    );
+    let edged = what_is_asked(rt.alloc(), &listed(rt.alloc(), 8)?)?;
+    assert_eq!(rt;
+        edged.as_str(),
+        "Fourth 4 [0, 7] 1 [false, false] Free Free Free Free "
     );
     let one_flip = what_is_asked(rt.alloc(), &listed(rt.alloc(), 4)?)?;
     assert_eq!(rt;
@@ -347,7 +400,7 @@ fn asked(
     let admit = Admit::new(pins, vec![in alloc; held]?, flips);
     let question = Question::new(admit, vec![in alloc; moment]?);
     let mut text = String::new(alloc);
-    push_question(&mut text, &question)?;
+    push_question(&mut text, question.version(), &question)?;
     Ok(text)
 }
 

@@ -6,10 +6,10 @@ use Rattle.td_circuit.specs.Settings.{Setting}
 use Rattle.td_circuit.specs.Run.{IsDelayOfBits}
 use Rattle.td_certificate.specs.declared.certificate.Certificate.{Certificate}
 use Rattle.td_certificate.specs.declared.question.Version.{Version}
-use Rattle.td_certificate.specs.declared.question.Version.TheVariants.{First, Second, Third}
-use Rattle.td_certificate.specs.Questions.{Question, version_of}
+use Rattle.td_certificate.specs.declared.question.Version.TheVariants.{First, Second, Third, Fourth}
+use Rattle.td_certificate.specs.Questions.{Question}
 use Rattle.td_certificate.specs.Trees.{IsTree}
-use Rattle.td_certificate.specs.Spelling.{version_line, circuit_line, time_line, from_line, to_line, head_lines, fields_of, field_line, HasSpelling}
+use Rattle.td_certificate.specs.Spelling.{version_in, version_line, circuit_line, time_line, from_line, to_line, head_lines, fields_of, field_line, HasSpelling}
 use Rattle.td_certificate.specs.Accepts.{lines_in, IsGood, IsOfSize, setting_of, IsReached, Accepts}
 use Rattle.td_checker.specs.declared.judging.Flaw as code_flaw
 use Rattle.td_checker.specs.declared.judging.Flaw.TheVariants as code
@@ -90,12 +90,14 @@ abbrev pub first_of : Version → ℕ
 first_of First = 6
 first_of Second = 10
 first_of Third = 11
+first_of Fourth = 11
 
 counted : (version : Version) (question : Question) (a b x y z : List ℕ)
     → first_of version ≡ 1 + length (a ∷ b ∷ (map (field_line question) (fields_of version) ++ x ∷ y ∷ z ∷ []))
 counted First question a b x y z = refl
 counted Second question a b x y z = refl
 counted Third question a b x y z = refl
+counted Fourth question a b x y z = refl
 
-pub head_count : (c : Certificate) → first_of (version_of c.question) ≡ 1 + length (head_lines c)
-head_count c = counted (version_of c.question) c.question (version_line (version_of c.question)) (circuit_line c) (time_line c) (from_line c) (to_line c)
+pub head_count : (c : Certificate) → first_of (version_in c) ≡ 1 + length (head_lines c)
+head_count c = counted (version_in c) c.question (version_line (version_in c)) (circuit_line c) (time_line c) (from_line c) (to_line c)

@@ -24,15 +24,16 @@ use Rattle.td_certificate.specs.declared.tree.Node.{Node}
 use Rattle.td_certificate.specs.Cubes.{cubes_past}
 use Rattle.td_certificate.specs.Trees.{pending_after}
 use Rattle.td_certificate.specs.Walks.{position_of, lines_from}
-use Rattle.td_certificate.specs.Spelling.{IsNode, HasSpelling, spelling}
+use Rattle.td_certificate.specs.Spelling.{version_in, IsNode, HasSpelling, spelling}
 use Rattle.td_certificate.specs.Lengths.{IsShort}
 use Rattle.td_certificate.specs.Faults.{IsWithinLimit}
 use Rattle.td_certificate.specs.declared.tree.Node.TheVariants as node
 use Rattle.td_certificate.specs.Accepts.{IsGood, setting_of}
 use Rattle.td_certificate.proofs.Lengths.{searched_texts_fit}
 use Rattle.td_certificate.proofs.Acceptance.{cube_fits, vector_fits}
-use Rattle.td_certificate.proofs.FirstVersion.{has_admitted}
+use Rattle.td_certificate.proofs.FirstVersion.{first_asked, has_admitted}
 use Rattle.td_certificate.specs.declared.question.Version.{Version}
+use Rattle.td_certificate.specs.declared.question.Version.TheVariants.{First}
 use Rattle.td_certificate.specs.Questions.{Question, inputs_of, version_of}
 use Rattle.td_domain.specs.Admits.{Admitted}
 use Rattle.td_checker.specs.Written.{AcceptedIsWritten}
@@ -91,13 +92,13 @@ short_node given admit most cube (node.Bound domain bound) small few good = omeg
 short_node given admit most cube (node.Point time) small few good = omega (arith, good.within)
 short_node given admit most cube node.Empty small few good = tt
 
--- a leaf without an admitted pair stands only where pairs are restricted
-written_node : (given : Setting) (question : Question) (most : ℕ) (cube : List Trit) (n : Node) → length question.admit.pins ≡ 2 * inputs_of question
-    → length cube ≡ length question.admit.pins → IsShort n → IsGood given question.admit most (record { cube = cube; node = n }) → IsNode (version_of question) n
-written_node given question most cube (node.Split position) pins same short good = omega (arith, short)
-written_node given question most cube (node.Bound domain bound) pins same short good = omega (arith, short)
-written_node given question most cube (node.Point time) pins same short good = omega (arith, short)
-written_node given question most cube node.Empty pins same short good = λ first. good.of_cube (has_admitted question cube first pins (same ∙ pins))
+-- a leaf without an admitted pair doesn't stand where the first version tells what is asked
+written_node : (given : Setting) (question : Question) (version : Version) (most : ℕ) (cube : List Trit) (n : Node) → (version ≡ First → version_of question ≡ First) → length question.admit.pins ≡ 2 * inputs_of question
+    → length cube ≡ length question.admit.pins → IsShort n → IsGood given question.admit most (record { cube = cube; node = n }) → IsNode version n
+written_node given question version most cube (node.Split position) asked pins same short good = omega (arith, short)
+written_node given question version most cube (node.Bound domain bound) asked pins same short good = omega (arith, short)
+written_node given question version most cube (node.Point time) asked pins same short good = omega (arith, short)
+written_node given question version most cube node.Empty asked pins same short good = λ first. good.of_cube (has_admitted question cube (asked first) pins (same ∙ pins))
 
 abbrev AllLong : ℕ → List (List Trit) → Type 0
 AllLong count cubes = AllByRecursion (λ cube. length cube ≡ count) cubes
@@ -111,16 +112,16 @@ long_past count cube node.Empty cubes long all = all
 abbrev IsWritten : Version → Node → Type 0
 IsWritten version n = IsShort n × IsNode version n
 
-written_nodes : (given : Setting) (question : Question) (most : ℕ) (nodes : List Node) (cubes : List (List Trit)) → most < 10 ^ 15 → length question.admit.pins ≤ 8192
+written_nodes : (given : Setting) (question : Question) (version : Version) (most : ℕ) (nodes : List Node) (cubes : List (List Trit)) → (version ≡ First → version_of question ≡ First) → most < 10 ^ 15 → length question.admit.pins ≤ 8192
     → length question.admit.pins ≡ 2 * inputs_of question → AllLong (length question.admit.pins) cubes
     → pending_after (length cubes) nodes ≡ Some 0 → AllByRecursion (IsGood given question.admit most) (lines_from cubes nodes)
-    → AllByRecursion (IsWritten (version_of question)) nodes
-written_nodes given question most [] cubes small few pins long tree good = tt
-written_nodes given question most (n ∷ nodes) [] small few pins long tree good = cc
-written_nodes given question most (n ∷ nodes) (cube ∷ cubes) small few pins long tree good =
+    → AllByRecursion (IsWritten version) nodes
+written_nodes given question version most [] cubes asked small few pins long tree good = tt
+written_nodes given question version most (n ∷ nodes) [] asked small few pins long tree good = cc
+written_nodes given question version most (n ∷ nodes) (cube ∷ cubes) asked small few pins long tree good =
     let short = short_node given question.admit most cube n small (omega (arith, long.0, few)) good.0 in (
-      (short, written_node given question most cube n pins long.0 short good.0),
-      written_nodes given question most nodes (cubes_past cube (position_of n) cubes) small few pins (long_past (length question.admit.pins) cube n cubes long.0 long.1)
+      (short, written_node given question version most cube n asked pins long.0 short good.0),
+      written_nodes given question version most nodes (cubes_past cube (position_of n) cubes) asked small few pins (long_past (length question.admit.pins) cube n cubes long.0 long.1)
           (ap (λ (k : ℕ). pending_after k nodes) (count_behind cube n cubes) ∙ tree) good.1,
     )
 
@@ -144,8 +145,8 @@ accepted_is_written netlist_text default netlist c means acyclic fit flips accep
     let small : c.time < 10 ^ 15 = small_delay given acyclic fit c.pair.first c.pair.second c.time first second accepts.reached in
     let inputs : inputs_of c.question ≤ 4096 = omega (arith, size, acyclic.well_formed.few_inputs) in
     let pins : length c.question.admit.pins ≡ 2 * inputs_of c.question = omega (arith, long.0, first, size) in
-    let written = written_nodes given c.question c.time c.tree (c.question.admit.pins ∷ []) small (omega (arith, pins, inputs)) pins (refl, tt) accepts.tree accepts.good in
-    let short : AllByRecursion IsShort c.tree = are_short (version_of c.question) c.tree written in
+    let written = written_nodes given c.question (version_in c) c.time c.tree (c.question.admit.pins ∷ []) (first_asked c) small (omega (arith, pins, inputs)) pins (refl, tt) accepts.tree accepts.good in
+    let short : AllByRecursion IsShort c.tree = are_short (version_in c) c.tree written in
     let has : HasSpelling c = record {
       inputs = inputs;
       gates = omega (arith, accepts.size.gates, acyclic.well_formed.few_gates);
@@ -156,7 +157,7 @@ accepted_is_written netlist_text default netlist c means acyclic fit flips accep
       time = omega (arith, small);
       first = first ∙ size;
       second = second ∙ size;
-      nodes = are_nodes (version_of c.question) c.tree written;
+      nodes = are_nodes (version_in c) c.tree written;
       tree = accepts.tree;
     } in
     let within : IsWithinLimit (spelling c) = searched_texts_fit c has small short few in

@@ -70,10 +70,10 @@ fn first_line(certificate: &Certificate) -> u32
     ensures line { result ≡ 1 + length (head_lines certificate.now) }
     ensures small { result ≤ 11 }
 {
-    match certificate.question.version() {
+    match certificate.version() {
         Version::First => 6,
         Version::Second => 10,
-        Version::Third => 11,
+        Version::Third | Version::Fourth => 11,
     }
 }
 

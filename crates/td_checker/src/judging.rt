@@ -13,6 +13,7 @@ use td_arrival::Arrival;
 use td_certificate::{BoundedBy, Node};
 use td_circuit::Circuit;
 use td_domain::{Admit, Both, Cube, Trit, bound};
+use td_edges::Edges;
 use td_event_sim::{Scratch, delay_of};
 use td_ternary::Possible;
 
@@ -144,6 +145,8 @@ fn bound_by(
         BoundedBy::Arrival => bound::<Arrival>(alloc, circuit, cube),
         BoundedBy::Possible => bound::<Possible>(alloc, circuit, cube),
         BoundedBy::Both => bound::<Both<Arrival, Possible>>(alloc, circuit, cube),
+        BoundedBy::Edges => bound::<Edges>(alloc, circuit, cube),
+        BoundedBy::EdgesAndPossible => bound::<Both<Edges, Possible>>(alloc, circuit, cube),
     }
 }
 

@@ -165,12 +165,59 @@ fn moments_of_the_certificate(rt: HostRuntime) -> Result<(), Fail> {
     Ok(())
 }
 
+/// Two inverters: a change of the input to either level is one of the output's to the same, which takes 6.
+const BUFFER: &str =
+    "module t(y, a); output y; input a; not #(1,5) n(b,a); not #(1,5) g(y,b); endmodule";
+
+/// By arrivals each inverter may take 5, by edges one of the two takes 1.
+const BY_EDGES: &str =
+    "Accepted 0|4/circuit 1 2/first ./second ./hold ./flips 1/at 0/time 6/from 0/to 1/b e 6/
+Accepted 0|4/circuit 1 2/first ./second ./hold ./flips 1/at 0/time 6/from 0/to 1/b n 6/
+Accepted 0|4/circuit 1 2/first ./second ./hold ./flips 1/at 7/time 13/from 0/to 1/b e 13/
+Accepted 0|4/circuit 1 2/first ./second ./hold ./flips 0/at 0/time 0/from 0/to 0/s 0/s 1/b e 0/none/s 1/none/b n 0/
+LeafBound 11|4/circuit 1 2/first ./second ./hold ./flips 1/at 0/time 6/from 0/to 1/b e 5/
+LeafBound 11|4/circuit 1 2/first ./second ./hold ./flips 1/at 0/time 6/from 0/to 1/b n 5/
+LeafAboveTime 11|4/circuit 1 2/first ./second ./hold ./flips 1/at 0/time 6/from 0/to 1/b e 7/
+LeafBound 13|4/circuit 1 2/first ./second ./hold ./flips 1/at 0/time 6/from 0/to 1/s 0/b e 6/b a 6/
+LeafNotEmpty 13|4/circuit 1 2/first ./second ./hold ./flips 1/at 0/time 6/from 0/to 1/s 0/b e 6/none/
+BadPosition 12|4/circuit 1 2/first ./second ./hold ./flips 1/at 0/time 6/from 0/to 1/s 0/s 0/b e 6/b e 6/b e 6/
+PairTime 0|4/circuit 1 2/first ./second ./hold ./flips 1/at 0/time 7/from 0/to 1/b e 7/
+PairNotAdmitted 0|4/circuit 1 2/first 1/second ./hold ./flips 1/at 0/time 6/from 0/to 1/b e 6/
+OtherCircuit 0|4/circuit 0 2/first none/second none/hold none/flips 0/at none/time 0/from none/to none/b e 0/
+LeafBound 6|1/circuit 1 2/time 6/from 0/to 1/b a 6/
+";
+
+#[test]
+fn leaves_bounded_by_edges(rt: HostRuntime) -> Result<(), Fail> {
+    let again = verdicts(rt.alloc(), BUFFER, "tdelay-cert ", BY_EDGES)?;
+    assert_eq!(rt; again.as_str(), BY_EDGES);
+    Ok(())
+}
+
+/// A gate of constants, without an input.
+const CONSTANT: &str = "module t (y); output y; and #1 g(y,1'b1,1'b1); endmodule";
+
+const NO_INPUTS: &str =
+    "Accepted 0|circuit 0 1/first none/second none/hold none/flips 0/at none/time 0/from none/to none/b e 0/
+LeafAboveTime 11|circuit 0 1/first none/second none/hold none/flips 0/at none/time 0/from none/to none/b n 1/
+";
+
+#[test]
+fn edges_without_inputs(rt: HostRuntime) -> Result<(), Fail> {
+    let again = verdicts(rt.alloc(), CONSTANT, "tdelay-cert 4/", NO_INPUTS)?;
+    assert_eq!(rt; again.as_str(), NO_INPUTS);
+    Ok(())
+}
+
 /// What the certificate asks that the checker hands on.
 fn question_of(alloc: Global, netlist: &str, certificate: &str) -> Result<String, Fail> {
     let mut text = String::new(alloc);
     let default = Delay { rise: 1, fall: 1 };
     match check(alloc, netlist.as_bytes(), default, certificate.as_bytes()) {
-        Ok(checked) => push_question(&mut text, &checked.certificate.question)?,
+        Ok(checked) => {
+            let certificate = checked.certificate;
+            push_question(&mut text, certificate.version(), &certificate.question)?;
+        }
         Err(_) => text.push_str("refused")?,
     }
     Ok(text)

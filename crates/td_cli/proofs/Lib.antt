@@ -4,4 +4,5 @@ pub mod Outputs
 pub mod Programs
 pub mod Missing
 pub mod Moments
+pub mod Paths
 pub mod Questions

@@ -20,7 +20,7 @@ pub record OutputAt (circuit : Numbered) (i : ℕ) : Type 0 where
   pub no_constant : 1 < get_or circuit.outputs i 0
   pub within : get_or circuit.outputs i 0 < length (nets circuit)
 
-no_low : (circuit : Numbered) (n : ℕ) (name : Name) → slice_get (nets circuit) n ≡ Some (Named name) → 1 < n
+pub no_low : (circuit : Numbered) (n : ℕ) (name : Name) → slice_get (nets circuit) n ≡ Some (Named name) → 1 < n
 no_low circuit zero name at = (let wrong : Low ≡ Named name = some-same Low (Named name) at in absurd cc)
 no_low circuit (suc zero) name at = (let wrong : High ≡ Named name = some-same High (Named name) at in absurd cc)
 no_low circuit (suc (suc n)) name at = omega arith
@@ -49,7 +49,7 @@ flat_map-more f (first ∷ names) (suc i) name at =
     let next : suc i + 1 ≡ suc (i + 1) = omega arith in
     rw (next, rest) (sym (append_assoc (f first) (flat_map f (take i names)) (f name)))
 
-named_same : (a b : Name) → Named a ≡ Named b → a ≡ b
+pub named_same : (a b : Name) → Named a ≡ Named b → a ≡ b
 named_same a b h = Prim.cc
 
 -- the line of an output

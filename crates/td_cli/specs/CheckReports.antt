@@ -2,7 +2,7 @@
 use Rattle.std.specs.Prelude.{◌≡◌, ℕ, List, [], ◌++◌, codes, decimal, Option, Some, None}
 use Rattle.td_gates.specs.declared.timing.Delay.{Delay}
 use Rattle.td_certificate.specs.declared.certificate.Certificate.{Certificate}
-use Rattle.td_certificate.specs.Spelling.{Spells, question_text}
+use Rattle.td_certificate.specs.Spelling.{Spells, version_in, question_text}
 use Rattle.td_checker.specs.declared.verdict.Verdict.{Verdict}
 use Rattle.td_checker.specs.declared.verdict.Verdict.TheVariants.{Accepted}
 use Rattle.td_checker.specs.Verdicts.{verdict_number, verdict_name, verdict_line}
@@ -14,7 +14,7 @@ use Rattle.td_cli.specs.Reports.{newline}
 -- the time of a certificate that is accepted, and the lines of its text that tell what it is about, which the first version of
 -- the text hasn't
 abbrev pub accepted_text : Certificate → List ℕ
-accepted_text certificate = codes "accepted " ++ decimal certificate.time ++ newline ++ question_text certificate.question
+accepted_text certificate = codes "accepted " ++ decimal certificate.time ++ newline ++ question_text (version_in certificate) certificate.question
 
 -- the line of the certificate's text that a verdict is about, where it is about one
 abbrev pub place_text : Option ℕ → List ℕ

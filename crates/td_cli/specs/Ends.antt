@@ -39,6 +39,7 @@ abbrev pub status_of : Refusal → Status
 status_of refusal.OutOfMemory = Device
 status_of (refusal.Unreadable name) = Device
 status_of (refusal.BadVector word) = BadCommand
+status_of refusal.NoOutput = BadCommand
 status_of reason = Refused
 
 -- a line was told: all of it went out, or the writer failed behind a beginning of it

@@ -2,6 +2,9 @@ pub mod Statuses
 pub mod Vectors
 pub mod Admitting
 pub mod Reports
+pub mod Simulations
+pub mod PathReports
+pub mod Paths
 pub mod BoundReports
 pub mod CheckReports
 pub mod WorstReports

@@ -1,5 +1,5 @@
 -- When a command is refused, and why.
-use Rattle.std.specs.Prelude.{◌≡◌, ◌≢◌, ℕ, List, [], ◌∷◌, ◌++◌, length, ◌⊎◌, Option}
+use Rattle.std.specs.Prelude.{◌≡◌, ◌≢◌, ℕ, List, [], ◌∷◌, ◌++◌, length, ◌⊎◌, Option, Some}
 use Rattle.td_gates.specs.declared.timing.Delay.{Delay}
 use Rattle.td_netlist.specs.declared.fault.Fault.{Fault}
 use Rattle.td_netlist.specs.declared.fault.FaultKind.TheVariants as kind
@@ -27,6 +27,7 @@ use Rattle.td_checker.specs.Checks.{IsCheckFault}
 use Rattle.td_cli.specs.Vectors.{words_of, VectorWords, IsFirstBad, SpellsLevels, GivesTrits, GivesMoments}
 use Rattle.td_cli.specs.Admitting.{pair_words}
 use Rattle.td_cli.specs.WorstReports.{IsAsked}
+use Rattle.td_cli.specs.PathReports.{NamesNoOutput}
 
 -- the refusal tells this fault of a circuit
 abbrev pub IsOfLoop : BuildFault → Refusal → Type 0
@@ -72,6 +73,11 @@ HasNoCircuit text default = IsRefusedFor text default []
 abbrev pub HasNoReport : List ℕ → Delay → List ℕ → List ℕ → Option (List ℕ) → Refusal → Type 0
 HasNoReport text default from to at =
     IsRefusedFor text default ((vector.From, SpellsLevels from) ∷ (vector.To, SpellsLevels to) ∷ (vector.At, GivesMoments at) ∷ [])
+
+-- why `path` has no report
+abbrev pub HasNoPath : List ℕ → Delay → List ℕ → List ℕ → Option (List ℕ) → Option (List ℕ) → Refusal → Type 0
+HasNoPath text default from to at (Some word) refusal.NoOutput = NamesNoOutput text default from to at word
+HasNoPath text default from to at output other = HasNoReport text default from to at other
 
 -- why `bound` has no report
 abbrev pub HasNoBounds : List ℕ → Delay → Option (List ℕ) → Option (List ℕ) → Option (List ℕ) → Refusal → Type 0

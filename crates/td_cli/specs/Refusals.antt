@@ -11,7 +11,7 @@ use Rattle.td_certificate.specs.Kinds.{kind_number, kind_name}
 use Rattle.td_cli.specs.declared.vector.VectorWord.{VectorWord}
 use Rattle.td_cli.specs.declared.vector.VectorWord.TheVariants as vector
 use Rattle.td_cli.specs.declared.refusal.Refusal.{Refusal}
-use Rattle.td_cli.specs.declared.refusal.Refusal.TheVariants.{OutOfMemory, Unreadable, Netlist, Loop, Certificate, BadVector, NoPair}
+use Rattle.td_cli.specs.declared.refusal.Refusal.TheVariants.{OutOfMemory, Unreadable, Netlist, Loop, Certificate, BadVector, NoOutput, NoPair}
 use Rattle.td_cli.specs.Reports.{newline}
 
 abbrev pub vector_word : VectorWord → List ℕ
@@ -51,6 +51,7 @@ refusal_text (Netlist fault) = codes "tdelay: netlist fault " ++ fault_text faul
 refusal_text (Loop name) = codes "tdelay: circuit fault 1 Loop on " ++ printed (name_of name) ++ newline
 refusal_text (Certificate fault) = codes "tdelay: certificate fault " ++ certificate_fault_text fault ++ newline
 refusal_text (BadVector word) = codes "tdelay: bad vector " ++ vector_word word ++ newline
+refusal_text NoOutput = codes "tdelay: no output of this name" ++ newline
 refusal_text NoPair = codes "tdelay: no admitted pair" ++ newline
 
 -- the line that tells a file that can't be written

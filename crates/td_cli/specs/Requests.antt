@@ -21,11 +21,12 @@ use Rattle.td_command.specs.CommandLine.{delays, kinds_of, Asks}
 use Rattle.td_cli.specs.declared.asking.QuestionWords.{QuestionWords}
 use Rattle.td_cli.specs.Vectors.{words_of}
 use Rattle.td_cli.specs.Reports.{newline, IsSimReport}
+use Rattle.td_cli.specs.PathReports.{IsPathReport}
 use Rattle.td_cli.specs.BoundReports.{IsBoundReport}
 use Rattle.td_cli.specs.CheckReports.{IsCheckReport}
 use Rattle.td_cli.specs.WorstReports.{IsWorstReport}
 use Rattle.td_cli.specs.Refusals.{refusal_text, unwritten_text}
-use Rattle.td_cli.specs.Outcomes.{HasNoReport, HasNoBounds, HasNoAnswer, HasNoVerdict}
+use Rattle.td_cli.specs.Outcomes.{HasNoReport, HasNoPath, HasNoBounds, HasNoAnswer, HasNoVerdict}
 use Rattle.td_cli.specs.Files.{FileStep, FileText}
 use Rattle.td_cli.specs.Ends.{Product, IsReportOnly, Streams, Tells, Ends}
 
@@ -35,6 +36,10 @@ use Rattle.td_cli.specs.Ends.{Product, IsReportOnly, Streams, Tells, Ends}
 pub record IsSimProduct (text : List ℕ) (default : Delay) (from to : List ℕ) (at vcd : Option (List ℕ)) (product : Product) : Type 0 where
   pub is : IsSimReport text default from to at vcd product.report product.files
   pub ends : product.ending ≡ Done
+
+-- what `path` says
+abbrev pub IsPathProduct : List ℕ → Delay → List ℕ → List ℕ → Option (List ℕ) → Option (List ℕ) → Product → Type 0
+IsPathProduct text default from to at output = IsReportOnly (IsPathReport text default from to at output) Done
 
 -- what `bound` says
 abbrev pub IsBoundProduct : List ℕ → Delay → Option (List ℕ) → Option (List ℕ) → Option (List ℕ) → Product → Type 0
@@ -96,6 +101,8 @@ words_in asked = record { first = asked.first; second = asked.second; hold = ask
 abbrev pub IsProductOf : Disk → Request → Product → Type 0
 IsProductOf disk (request.Sim asked) product =
     Reads disk asked.file.now (λ text. IsSimProduct text (delays asked.rise asked.fall) asked.from.now asked.to.now (words_of asked.at) (words_of asked.vcd) product)
+IsProductOf disk (request.Path asked) product =
+    Reads disk asked.file.now (λ text. IsPathProduct text (delays asked.rise asked.fall) asked.from.now asked.to.now (words_of asked.at) (words_of asked.output) product)
 IsProductOf disk (request.Bound asked) product =
     Reads disk asked.file.now (λ text. IsBoundProduct text (delays asked.rise asked.fall) (words_of asked.first) (words_of asked.second) (words_of asked.at) product)
 IsProductOf disk (request.Worst asked) product =
@@ -108,6 +115,8 @@ IsProductOf disk (request.Check asked) product =
 abbrev pub HoldsOf : Disk → Request → Refusal → Type 0
 HoldsOf disk (request.Sim asked) =
     HoldsOnFile disk asked.file.now (λ text. HasNoReport text (delays asked.rise asked.fall) asked.from.now asked.to.now (words_of asked.at))
+HoldsOf disk (request.Path asked) =
+    HoldsOnFile disk asked.file.now (λ text. HasNoPath text (delays asked.rise asked.fall) asked.from.now asked.to.now (words_of asked.at) (words_of asked.output))
 HoldsOf disk (request.Bound asked) =
     HoldsOnFile disk asked.file.now (λ text. HasNoBounds text (delays asked.rise asked.fall) (words_of asked.first) (words_of asked.second) (words_of asked.at))
 HoldsOf disk (request.Worst asked) = HoldsOnFile disk asked.file.now (λ text. HasNoAnswer text (delays asked.rise asked.fall) (words_in asked))

@@ -1,7 +1,7 @@
 //! The command `check`: the verdict on a certificate.
 
 ghost use Rattle.std.specs.Prelude.{◌≡◌, ◌++◌, ℕ, List, IfOk, IfErr, OnOk};
-ghost use Rattle.td_certificate.specs.Spelling.{question_text};
+ghost use Rattle.td_certificate.specs.Spelling.{version_in, question_text};
 ghost use Rattle.td_checker.specs.Checks.{HaveVerdict, TellsWorst};
 ghost use Rattle.td_checker.specs.declared.verdict.Verdict.TheVariants as Told;
 ghost use Rattle.td_cli.specs.CheckReports.{accepted_text, refused_text, place_text, verdict_text, ending_of, IsCheckReport};
@@ -11,7 +11,7 @@ use crate::refusal::Refusal;
 use crate::status::Status;
 use crate::text::Text;
 use std::alloc::{AllocError, Global};
-use td_certificate::{Certificate, Question, push_question};
+use td_certificate::{Certificate, push_question};
 use td_checker::{CheckFault, Verdict, check};
 use td_gates::Delay;
 
@@ -88,15 +88,15 @@ fn accepted(alloc: Global, text: &mut Text, certificate: &Certificate) -> Result
     text.push(b"accepted ")?;
     text.number(certificate.time)?;
     text.push(b"\n")?;
-    about(alloc, text, &certificate.question)
+    about(alloc, text, certificate)
 }
 
 /// Appends the lines that tell what a certificate is about, as they stand in its text.
-fn about(alloc: Global, text: &mut Text, question: &Question) -> Result<(), AllocError>
-    ensures { OnOk result (text.new ≡ text.old ++ question_text question.now) }
+fn about(alloc: Global, text: &mut Text, certificate: &Certificate) -> Result<(), AllocError>
+    ensures { OnOk result (text.new ≡ text.old ++ question_text (version_in certificate.now) certificate.now.question) }
 {
     let mut lines = String::new(alloc);
-    push_question(&mut lines, question)?;
+    push_question(&mut lines, certificate.version(), &certificate.question)?;
     text.push(lines.as_bytes())
 }
 

@@ -5,6 +5,7 @@ mod asking;
 mod bounding;
 mod checking;
 mod dumping;
+mod explaining;
 mod files;
 mod memory_files;
 mod program;
@@ -22,16 +23,20 @@ pub use asking::QuestionWords;
 pub use bounding::bounds;
 pub use checking::{Checked, verdict_on};
 pub use dumping::Dump;
+pub use explaining::path;
 pub use files::{Files, ReadFault, RealFiles};
 pub use memory_files::{MemoryFile, MemoryFiles, MemoryStep};
 pub use program::{
-    carry_out, carry_out_bound, carry_out_check, carry_out_sim, carry_out_worst, refuse_words, run,
+    carry_out, carry_out_bound, carry_out_check, carry_out_path, carry_out_sim, carry_out_worst,
+    refuse_words, run,
 };
 pub use refusal::Refusal;
 pub use searching::{Found, worst};
 pub use simulate::{Simulated, sim};
 pub use status::Status;
-pub use td_command::{BoundRequest, CheckRequest, Request, SimRequest, WorstRequest, laws, parse};
+pub use td_command::{
+    BoundRequest, CheckRequest, PathRequest, Request, SimRequest, WorstRequest, laws, parse,
+};
 pub use text::Text;
 pub use vector::Symbol;
 pub use writer::WriterSink;

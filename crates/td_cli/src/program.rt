@@ -9,10 +9,10 @@ ghost use Rattle.td_command.specs.CommandLine.{delays, IsCarriedOut};
 ghost use Rattle.td_cli.specs.Ends.{Ends, LosesOne, Tells, TellsReason, TellsUnread, TellsUnwritten, Says, streams};
 ghost use Rattle.td_cli.specs.Files.{IsWritten, AreWritten, IsLeft, Takes};
 ghost use Rattle.td_cli.specs.Dumps.{file_of, dump_files, HasRun};
-ghost use Rattle.td_cli.specs.Outcomes.{HasNoReport, HasNoBounds, HasNoAnswer, HasNoVerdict};
+ghost use Rattle.td_cli.specs.Outcomes.{HasNoReport, HasNoPath, HasNoBounds, HasNoAnswer, HasNoVerdict};
 ghost use Rattle.td_cli.specs.Refusals.{unwritten_text};
 ghost use Rattle.td_cli.specs.Vectors.{words_of};
-ghost use Rattle.td_cli.specs.Requests.{disk_of, words_in, IsSimProduct, IsBoundProduct, IsCheckProduct, IsWorstProduct, certificate_files, search_ending, Reads, HoldsOnFile, RequestEnds, IsOutOfMemory, IsShown, TellsText, ProgramEnds, RefusesWords};
+ghost use Rattle.td_cli.specs.Requests.{disk_of, words_in, IsSimProduct, IsPathProduct, IsBoundProduct, IsCheckProduct, IsWorstProduct, certificate_files, search_ending, Reads, HoldsOnFile, RequestEnds, IsOutOfMemory, IsShown, TellsText, ProgramEnds, RefusesWords};
 ghost use Rattle.td_command.specs.declared.command.Request.TheVariants as Asked;
 ghost use Rattle.td_cli.specs.declared.refusal.Refusal.TheVariants as Reason;
 ghost use Rattle.td_cli.specs.declared.files.ReadFault.TheVariants as Fault;
@@ -22,6 +22,7 @@ use crate::asking::QuestionWords;
 use crate::bounding::bounds;
 use crate::checking::verdict_on;
 use crate::dumping::{Dump, write_dump};
+use crate::explaining::path;
 use crate::files::{Files, ReadFault};
 use crate::refusal::Refusal;
 use crate::searching::worst;
@@ -35,7 +36,9 @@ use std::convert::AsStr;
 use std::sync::Wait;
 use std::thread::Threads;
 use td_certificate::{Certificate, WriteFault, write};
-use td_command::{BoundRequest, CheckRequest, Request, SimRequest, WorstRequest, parse};
+use td_command::{
+    BoundRequest, CheckRequest, PathRequest, Request, SimRequest, WorstRequest, parse,
+};
 use td_gates::{Delay, Sink};
 
 /// Carries out the command that the words ask for: what it answers goes to `out`, why it was refused to `err`. The first
@@ -83,6 +86,7 @@ pub fn carry_out<R: Threads + Wait + Sync, F: Files, O: Sink, E: Sink>(
 {
     match request {
         Request::Sim(request) => run_sim(alloc, files, *request, out, err),
+        Request::Path(request) => run_path(alloc, files, *request, out, err),
         Request::Bound(request) => run_bound(alloc, files, *request, out, err),
         Request::Worst(request) => run_worst(rt, alloc, files, *request, out, err),
         Request::Check(request) => run_check(alloc, files, *request, out, err),
@@ -114,6 +118,37 @@ fn run_sim<F: Files, O: Sink, E: Sink>(
             request.to,
             request.at,
             request.vcd,
+            out,
+            err,
+        ),
+        Err(fault) => tell_unread(alloc, err, request.file, fault),
+    }
+}
+
+/// The command `path`.
+fn run_path<F: Files, O: Sink, E: Sink>(
+    alloc: Global,
+    files: &mut F,
+    request: PathRequest<'_>,
+    out: &mut O,
+    err: &mut E,
+) -> Status
+    requires { IsInRange (delays request.rise request.fall) }
+    ensures { Takes (F.did files.old files.new) (λ steps. RequestEnds (disk_of (F.holds files.old) (F.fails files.old) (F.breaks files.old)) (Asked.Path request.entry) steps result
+        (streams (O.output out.old) (E.output err.old)) (streams (O.output out.new) (E.output err.new))) }
+{
+    let Some(default) = Delay::new(request.rise, request.fall) else {
+        return Status::BadCommand;
+    };
+    match files.read(alloc, request.file) {
+        Ok(text) => carry_out_path(
+            alloc,
+            &text,
+            default,
+            request.from,
+            request.to,
+            request.at,
+            request.output,
             out,
             err,
         ),
@@ -286,6 +321,28 @@ pub fn carry_out_sim<F: Files, O: Sink, E: Sink>(
         return Status::Device;
     };
     Status::Done
+}
+
+/// Carries out `path` on bytes that were read: the report goes to `out`, why there is none to `err`.
+pub fn carry_out_path<O: Sink, E: Sink>(
+    alloc: Global,
+    text: &[u8],
+    default: Delay,
+    from: &str,
+    to: &str,
+    at: Option<&str>,
+    output: Option<&str>,
+    out: &mut O,
+    err: &mut E,
+) -> Status
+    ensures { Ends (IsPathProduct text.now default from.now to.now (words_of at.entry) (words_of output.entry))
+        (HasNoPath text.now default from.now to.now (words_of at.entry) (words_of output.entry)) (λ _. ⊥) [] result
+        (streams (O.output out.old) (E.output err.old)) (streams (O.output out.new) (E.output err.new)) }
+{
+    match path(alloc, text, default, from, to, at, output) {
+        Ok(report) => say(report.bytes(), Status::Done, out, err),
+        Err(refusal) => tell_refusal(alloc, err, &refusal),
+    }
 }
 
 /// Carries out `bound` on bytes that were read: the report goes to `out`, why there is none to `err`.

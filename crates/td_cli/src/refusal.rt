@@ -26,6 +26,8 @@ pub enum Refusal<'a> {
     Certificate(CertFault),
     /// This word gives nothing for the circuit's inputs.
     BadVector(VectorWord),
+    /// No output has the name that is asked about.
+    NoOutput,
     /// No pair of vectors is admitted.
     NoPair,
 }
@@ -53,6 +55,7 @@ impl<'a> Refusal<'a> {
             Refusal::Loop(_) => Status::Refused,
             Refusal::Certificate(_) => Status::Refused,
             Refusal::BadVector(_) => Status::BadCommand,
+            Refusal::NoOutput => Status::BadCommand,
             Refusal::NoPair => Status::Refused,
         }
     }
@@ -82,6 +85,7 @@ impl<'a> Refusal<'a> {
                 text.push(b"tdelay: bad vector ")?;
                 text.push(word.word())?;
             }
+            Refusal::NoOutput => text.push(b"tdelay: no output of this name")?,
             Refusal::NoPair => text.push(b"tdelay: no admitted pair")?,
         }
         text.push(b"\n")

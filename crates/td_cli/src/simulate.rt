@@ -6,6 +6,8 @@ ghost use Rattle.td_circuit.specs.Run.{latest_change};
 ghost use Rattle.td_circuit.specs.NetValues.{net_wave};
 ghost use Rattle.td_run.specs.Runs.{output_waves};
 ghost use Rattle.td_nets.specs.Netlist.{Named};
+ghost use Rattle.td_vcd.specs.Writes.{IsRunFor};
+ghost use Rattle.td_cli.specs.Simulations.{IsSimulation};
 ghost use Rattle.td_cli.specs.Reports.{output_lines, sim_text, IsSimReport};
 ghost use Rattle.td_cli.specs.Dumps.{dump_files, HasRun};
 ghost use Rattle.td_cli.specs.Vectors.{words_of};
@@ -48,6 +50,34 @@ pub fn sim<'a, 'v>(
         HasNoReport text.now default from.now to.now (words_of at.entry) refusal) }
     ensures has { IfOk result (λ simulated. IfSome simulated.dump HasRun) }
 {
+    let simulation = simulated_run(alloc, text, default, from, to, at)?;
+    let report = report_of(alloc, &simulation.circuit, &simulation.run)?;
+    let dump = dump_to(vcd, simulation.circuit, simulation.run);
+    Ok(Simulated { report, dump })
+}
+
+/// A circuit whose inputs have their moments, and its run under a pair of vectors.
+#[derive(Drop)]
+pub struct Simulation {
+    pub circuit: Circuit,
+    pub run: Run,
+}
+
+/// The circuit of a netlist's text, with the moments of an option, and its run under a pair of vectors.
+pub fn simulated_run<'a>(
+    alloc: Global,
+    text: &'a [u8],
+    default: Delay,
+    from: &str,
+    to: &str,
+    at: Option<&str>,
+) -> Result<Simulation, Refusal<'a>>
+    ensures is { IfOk result (λ simulation.
+        IsSimulation text.now default from.now to.now (words_of at.entry) simulation.circuit simulation.run) }
+    ensures has { IfOk result (λ simulation. IsRunFor simulation.circuit simulation.run) }
+    ensures refusal { IfErr result (λ refusal.
+        HasNoReport text.now default from.now to.now (words_of at.entry) refusal) }
+{
     let mut circuit = circuit(alloc, text, default)?;
     let inputs = circuit.input_count();
     let Some(first) = vector::<Level>(alloc, from, inputs)? else {
@@ -61,9 +91,7 @@ pub fn sim<'a, 'v>(
     };
     circuit.set_moments(moments);
     let run = waves(alloc, &circuit, &first, &second)?;
-    let report = report_of(alloc, &circuit, &run)?;
-    let dump = dump_to(vcd, circuit, run);
-    Ok(Simulated { report, dump })
+    Ok(Simulation { circuit, run })
 }
 
 /// The circuit of a netlist's text.

@@ -6,6 +6,8 @@ mod admitted;
 #[cfg(test)]
 mod moments;
 #[cfg(test)]
+mod paths;
+#[cfg(test)]
 mod runs;
 #[cfg(test)]
 mod searches;

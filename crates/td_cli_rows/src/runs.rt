@@ -399,6 +399,7 @@ Usage: tdelay <COMMAND>
 
 Commands:
   sim    Simulates one pair of vectors: when each output changes last
+  path   Tells why an output changes last when it does: the changes that lead there from an input
   bound  Bounds the delay of all pairs of vectors that two patterns allow
   worst  Searches for the worst delay of the admitted pairs of vectors, and a pair that has it
   check  Checks the certificate of a worst delay, and trusts nothing else

@@ -8,8 +8,9 @@ use Rattle.clap.specs.Simple.{App, Shape, built_leaf, inherited, marked_built, w
 use Rattle.clap.specs.declared.builder.value_parser.ValueParser.TheVariants.{Signed, Unsigned}
 use Rattle.clap.specs.Walk.{Row, Rule, Text, action_of, arg_by_id, first_of, most_values}
 use Rattle.clap.specs.declared.builder.action.ArgAction.TheVariants.{Set, Help}
-use Rattle.td_command.specs.CommandLine.{AsksBound, AsksCheck, AsksSim, AsksWorst, HasWord, bound_command, check_command, program, sim_command, worst_command}
+use Rattle.td_command.specs.CommandLine.{AsksBound, AsksCheck, AsksPath, AsksSim, AsksWorst, HasWord, bound_command, check_command, path_command, program, sim_command, worst_command}
 use Rattle.td_command.specs.declared.command.SimRequest.{SimRequest}
+use Rattle.td_command.specs.declared.command.PathRequest.{PathRequest}
 use Rattle.td_command.specs.declared.command.BoundRequest.{BoundRequest}
 use Rattle.td_command.specs.declared.command.WorstRequest.{WorstRequest}
 use Rattle.td_command.specs.declared.command.CheckRequest.{CheckRequest}
@@ -24,6 +25,9 @@ filled_in app = built_leaf (inherited (with_leaf_noted (marked_built program.top
 
 abbrev pub sim : Shape
 sim = filled_in sim_command
+
+abbrev pub path : Shape
+path = filled_in path_command
 
 abbrev pub bound : Shape
 bound = filled_in bound_command
@@ -56,6 +60,33 @@ has_count_option rule named parser = record { rule = rule; named = named; parser
 
 pub sim_is_plain : IsPlainLeaf sim
 sim_is_plain = record {
+  known = (
+    known_one refl refl refl refl (omega arith),
+    (
+      known_one refl refl refl refl (omega arith),
+      (
+        known_one refl refl refl refl (omega arith),
+        (
+          known_one refl refl refl refl (omega arith),
+          (
+            known_one refl refl refl refl (omega arith),
+            (
+              known_one refl refl refl refl (omega arith),
+              (
+                known_one refl refl refl refl (omega arith),
+                (known_help refl refl (omega arith), tt),
+              ),
+            ),
+          ),
+        ),
+      ),
+    ),
+  );
+  once = refl;
+}
+
+pub path_is_plain : IsPlainLeaf path
+path_is_plain = record {
   known = (
     known_one refl refl refl refl (omega arith),
     (
@@ -195,6 +226,31 @@ asks_sim rows taken =
         to = to.1;
         at = word_there (codes "at") rows;
         vcd = word_there (codes "vcd") rows;
+        default = default.1;
+      },
+    )
+
+pub asks_path : (rows : List Row) → IsTaken path rows → (asked : PathRequest) × AsksPath rows asked
+asks_path rows taken =
+    let file = text_there path.rules (codes "FILE") rows (taken.given.0 refl) taken.rules in
+    let from = text_there path.rules (codes "FROM") rows (taken.given.1.0 refl) taken.rules in
+    let to = text_there path.rules (codes "TO") rows (taken.given.1.1.0 refl) taken.rules in
+    let default = default_there path rows (has_option _ refl refl refl) (has_option _ refl refl refl) taken in (
+      record {
+        file = behind file.0;
+        from = behind from.0;
+        to = behind to.0;
+        at = word_of (codes "at") rows;
+        output = word_of (codes "output") rows;
+        rise = default.0.rise;
+        fall = default.0.fall;
+      },
+      record {
+        file = file.1;
+        from = from.1;
+        to = to.1;
+        at = word_there (codes "at") rows;
+        output = word_there (codes "output") rows;
         default = default.1;
       },
     )

@@ -15,7 +15,7 @@ use Rattle.td_command.specs.declared.command.Request.TheVariants as request
 use Rattle.td_command.proofs.Rows.{found_has, neither}
 use Rattle.td_command.proofs.Turns.{IsNoHelp, walk_stops}
 use Rattle.td_command.proofs.Levels.{checked, level_taken}
-use Rattle.td_command.proofs.Filled.{asks_bound, asks_check, asks_sim, asks_worst, bound, bound_is_plain, check, check_is_plain, sim, sim_is_plain, worst, worst_is_plain}
+use Rattle.td_command.proofs.Filled.{asks_bound, asks_check, asks_path, asks_sim, asks_worst, bound, bound_is_plain, check, check_is_plain, path, path_is_plain, sim, sim_is_plain, worst, worst_is_plain}
 
 -- ---- the words before a command, and its name
 
@@ -59,6 +59,11 @@ sim_asks : AsksWhereTaken sim
 sim_asks name words answers other none =
     let asked = asks_sim (rows_after sim.rules [] words) (level_taken sim words sim_is_plain none) in
     (request.Sim asked.0, (refl, asked.1))
+
+path_asks : AsksWhereTaken path
+path_asks name words answers other none =
+    let asked = asks_path (rows_after path.rules [] words) (level_taken path words path_is_plain none) in
+    (request.Path asked.0, (refl, asked.1))
 
 bound_asks : AsksWhereTaken bound
 bound_asks name words answers other none =
@@ -111,5 +116,5 @@ words_that_are_taken_ask words taken =
     let app = built program in
     let stops = top_stops (built program) (argument_words program words) refl refl taken in
     let asked = entered_asks (built program) (walk app.top.rules (names_of app) nothing_held (argument_words program words)).stopped
-    (sim_asks, (bound_asks, (worst_asks, (check_asks, (help_asks _ refl refl, tt))))) stops in
+    (sim_asks, (path_asks, (bound_asks, (worst_asks, (check_asks, (help_asks _ refl refl, tt)))))) stops in
     (asked.0, record { taken = taken; asks = asked.1 })

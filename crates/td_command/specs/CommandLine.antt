@@ -6,6 +6,7 @@ use Rattle.clap.specs.Words.{App, Kinds, Row, Rule, Text, fault_of, first_of, ne
 use Rattle.clap.specs.declared.builder.value_parser.ValueParser.TheVariants.{Signed, Unsigned}
 use Rattle.td_gates.specs.Delays.{Delays, IsInRange}
 use Rattle.td_command.specs.declared.command.SimRequest.{SimRequest}
+use Rattle.td_command.specs.declared.command.PathRequest.{PathRequest}
 use Rattle.td_command.specs.declared.command.BoundRequest.{BoundRequest}
 use Rattle.td_command.specs.declared.command.WorstRequest.{WorstRequest}
 use Rattle.td_command.specs.declared.command.CheckRequest.{CheckRequest}
@@ -45,6 +46,14 @@ with_moments app = with_rule app (option (codes "at"))
 abbrev pub with_vcd : App → App
 with_vcd app = with_rule app (option (codes "vcd"))
 
+-- the output that is asked about
+abbrev pub with_output : App → App
+with_output app = with_rule app (option (codes "output"))
+
+-- a netlist and a pair of vectors
+abbrev pub with_pair : App → App
+with_pair app = with_rule (with_rule (with_rule app (needed (codes "FILE"))) (needed (codes "FROM"))) (needed (codes "TO"))
+
 -- the pairs of a cube, by the trits of their two vectors
 abbrev pub with_cube : App → App
 with_cube app = with_rule (with_rule app (option (codes "first"))) (option (codes "second"))
@@ -60,8 +69,10 @@ with_search app =
     (number_option (codes "budget") 0 10000000 (codes "1000000"))) (option (codes "cert"))
 
 abbrev pub sim_command : App
-sim_command = with_default (with_vcd (with_moments (with_rule (with_rule (with_rule (new_app (codes "sim"))
-    (needed (codes "FILE"))) (needed (codes "FROM"))) (needed (codes "TO")))))
+sim_command = with_default (with_vcd (with_moments (with_pair (new_app (codes "sim")))))
+
+abbrev pub path_command : App
+path_command = with_default (with_output (with_moments (with_pair (new_app (codes "path")))))
 
 abbrev pub bound_command : App
 bound_command = with_default (with_moments (with_cube (with_rule (new_app (codes "bound")) (needed (codes "FILE")))))
@@ -76,8 +87,8 @@ check_command = with_default (with_rule (with_rule (new_app (codes "check"))
 
 abbrev pub with_commands : App → App
 with_commands app =
-    with_subcommand (with_subcommand (with_subcommand (with_subcommand app sim_command.top) bound_command.top) worst_command.top)
-    check_command.top
+    with_subcommand (with_subcommand (with_subcommand (with_subcommand (with_subcommand app sim_command.top) path_command.top) bound_command.top)
+    worst_command.top) check_command.top
 
 abbrev pub named : App
 named = new_app (codes "tdelay")
@@ -134,6 +145,15 @@ pub record AsksSim (rows : List Row) (asked : SimRequest) : Type 0 where
   pub vcd : HasWord (codes "vcd") rows asked.vcd
   pub default : HasDefault rows (delays asked.rise asked.fall)
 
+-- the words of `path` ask for this
+pub record AsksPath (rows : List Row) (asked : PathRequest) : Type 0 where
+  pub file : first_of (codes "FILE") rows ≡ Some asked.file.now
+  pub from : first_of (codes "FROM") rows ≡ Some asked.from.now
+  pub to : first_of (codes "TO") rows ≡ Some asked.to.now
+  pub at : HasWord (codes "at") rows asked.at
+  pub output : HasWord (codes "output") rows asked.output
+  pub default : HasDefault rows (delays asked.rise asked.fall)
+
 -- the words of `bound` ask for this
 pub record AsksBound (rows : List Row) (asked : BoundRequest) : Type 0 where
   pub file : first_of (codes "FILE") rows ≡ Some asked.file.now
@@ -165,6 +185,7 @@ pub record AsksCheck (rows : List Row) (asked : CheckRequest) : Type 0 where
 -- the command of this name, with these words, asks for this
 abbrev pub CommandAsks : Text → List Row → Request → Type 0
 CommandAsks name rows (request.Sim asked) = (name ≡ codes "sim") × AsksSim rows asked
+CommandAsks name rows (request.Path asked) = (name ≡ codes "path") × AsksPath rows asked
 CommandAsks name rows (request.Bound asked) = (name ≡ codes "bound") × AsksBound rows asked
 CommandAsks name rows (request.Worst asked) = (name ≡ codes "worst") × AsksWorst rows asked
 CommandAsks name rows (request.Check asked) = (name ≡ codes "check") × AsksCheck rows asked
@@ -190,6 +211,7 @@ TakenAsk = (words : List Text) → kinds_of words ≡ [] → (asked : Request) �
 -- the numbers that were asked for are in range
 abbrev pub IsCarriedOut : Request → Type 0
 IsCarriedOut (request.Sim asked) = IsInRange (delays asked.rise asked.fall)
+IsCarriedOut (request.Path asked) = IsInRange (delays asked.rise asked.fall)
 IsCarriedOut (request.Bound asked) = IsInRange (delays asked.rise asked.fall)
 IsCarriedOut (request.Worst asked) =
     IsInRange (delays asked.rise asked.fall) × (asked.budget ≤ 10000000) × (0 < asked.workers) × (asked.workers ≤ 64)

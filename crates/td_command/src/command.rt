@@ -2,9 +2,9 @@
 
 ghost use Rattle.std.specs.Prelude.{◌≡◌, ◌<◌, ◌^◌, ℕ, codes, map, false, IfOk, IfErr, IfSome, IfNone};
 ghost use Rattle.clap.specs.Words.{app_of, rule_of, found_of, rows_of, subcommand_rows_of, HasKind};
-ghost use Rattle.td_command.specs.CommandLine.{needed, option, number_option, count_option, sim_command, bound_command, worst_command, check_command, program};
-ghost use Rattle.td_command.specs.CommandLine.{with_default, with_moments, with_vcd, with_cube, with_admitted, with_search};
-ghost use Rattle.td_command.specs.CommandLine.{HasNumber, HasCount, HasDefault, HasWorkers, HasBudget, AsksSim, AsksBound, AsksWorst, AsksCheck, EnteredAsks, kinds_of, Asks, IsAnswered};
+ghost use Rattle.td_command.specs.CommandLine.{needed, option, number_option, count_option, sim_command, path_command, bound_command, worst_command, check_command, program};
+ghost use Rattle.td_command.specs.CommandLine.{with_pair, with_default, with_moments, with_vcd, with_output, with_cube, with_admitted, with_search};
+ghost use Rattle.td_command.specs.CommandLine.{HasNumber, HasCount, HasDefault, HasWorkers, HasBudget, AsksSim, AsksPath, AsksBound, AsksWorst, AsksCheck, EnteredAsks, kinds_of, Asks, IsAnswered};
 
 use clap::builder::ValueParser;
 use clap::{Arg, ArgMatches, Command, Error};
@@ -22,6 +22,21 @@ pub struct SimRequest<'a> {
     pub at: Option<&'a str>,
     /// Where the waves of the run go.
     pub vcd: Option<&'a str>,
+    /// The delays of gates that state none.
+    pub rise: u32,
+    pub fall: u32,
+}
+
+/// Why an output changes last when it does, in the run of a pair of vectors.
+#[derive(Clone, Copy, Debug)]
+pub struct PathRequest<'a> {
+    pub file: &'a str,
+    pub from: &'a str,
+    pub to: &'a str,
+    /// The moment at which each input takes its second level.
+    pub at: Option<&'a str>,
+    /// The output that is asked about; the one that changes last where there is none.
+    pub output: Option<&'a str>,
     /// The delays of gates that state none.
     pub rise: u32,
     pub fall: u32,
@@ -79,6 +94,7 @@ pub struct CheckRequest<'a> {
 #[derive(Clone, Copy, Debug)]
 pub enum Request<'a> {
     Sim(SimRequest<'a>),
+    Path(PathRequest<'a>),
     Bound(BoundRequest<'a>),
     Worst(WorstRequest<'a>),
     Check(CheckRequest<'a>),
@@ -191,6 +207,36 @@ fn with_vcd<'a>(alloc: Global, command: Command<'a>) -> Result<Command<'a>, Allo
     command.arg(vcd)
 }
 
+/// Which output is asked about, as an option.
+fn with_output<'a>(alloc: Global, command: Command<'a>) -> Result<Command<'a>, AllocError>
+    ensures { IfOk result (λ new. app_of new ≡ with_output (app_of command.entry)) }
+{
+    let output = option(
+        alloc,
+        "output",
+        "NAME",
+        "The output, as the report of `sim` names it; the one that changes last where left out",
+    );
+    command.arg(output)
+}
+
+/// The netlist and a pair of vectors, as three words.
+fn with_pair<'a>(alloc: Global, command: Command<'a>) -> Result<Command<'a>, AllocError>
+    ensures { IfOk result (λ new. app_of new ≡ with_pair (app_of command.entry)) }
+{
+    let from = needed(
+        alloc,
+        "FROM",
+        "The first vector: 0, 1 or x for each input in order, or `none`",
+    );
+    let to = needed(
+        alloc,
+        "TO",
+        "The second vector, which the inputs take from moment 0 or those of --at on",
+    );
+    command.arg(file(alloc))?.arg(from)?.arg(to)
+}
+
 /// The pairs of a cube, as two options.
 fn with_cube<'a>(alloc: Global, command: Command<'a>) -> Result<Command<'a>, AllocError>
     ensures { IfOk result (λ new. app_of new ≡ with_cube (app_of command.entry)) }
@@ -260,22 +306,21 @@ fn with_search<'a>(alloc: Global, command: Command<'a>) -> Result<Command<'a>, A
 fn sim_command<'a>(alloc: Global) -> Result<Command<'a>, AllocError>
     ensures { IfOk result (λ new. app_of new ≡ sim_command) }
 {
-    let from = needed(
-        alloc,
-        "FROM",
-        "The first vector: 0, 1 or x for each input in order, or `none`",
+    let command = Command::new(alloc, "sim").about(
+        "Simulates one pair of vectors: when each output changes last",
     );
-    let to = needed(
-        alloc,
-        "TO",
-        "The second vector, which the inputs take from moment 0 or those of --at on",
+    let command = with_moments(alloc, with_pair(alloc, command)?)?;
+    with_default(alloc, with_vcd(alloc, command)?)
+}
+
+fn path_command<'a>(alloc: Global) -> Result<Command<'a>, AllocError>
+    ensures { IfOk result (λ new. app_of new ≡ path_command) }
+{
+    let command = Command::new(alloc, "path").about(
+        "Tells why an output changes last when it does: the changes that lead there from an input",
     );
-    let command = Command::new(alloc, "sim")
-        .about("Simulates one pair of vectors: when each output changes last")
-        .arg(file(alloc))?
-        .arg(from)?
-        .arg(to)?;
-    with_default(alloc, with_vcd(alloc, with_moments(alloc, command)?)?)
+    let command = with_moments(alloc, with_pair(alloc, command)?)?;
+    with_default(alloc, with_output(alloc, command)?)
 }
 
 fn bound_command<'a>(alloc: Global) -> Result<Command<'a>, AllocError>
@@ -321,6 +366,7 @@ fn command<'a>(alloc: Global) -> Result<Command<'a>, AllocError>
         .about("Worst transition delay of a netlist of Verilog gate primitives")
         .subcommand_required(true)
         .subcommand(sim_command(alloc)?)?
+        .subcommand(path_command(alloc)?)?
         .subcommand(bound_command(alloc)?)?
         .subcommand(worst_command(alloc)?)?
         .subcommand(check_command(alloc)?)
@@ -377,6 +423,24 @@ fn sim_of<'a>(matches: &ArgMatches<'a>) -> Option<SimRequest<'a>>
         to,
         at: matches.get_str("at"),
         vcd: matches.get_str("vcd"),
+        rise: default.rise,
+        fall: default.fall,
+    })
+}
+
+fn path_of<'a>(matches: &ArgMatches<'a>) -> Option<PathRequest<'a>>
+    ensures { IsAnswered (AsksPath (rows_of (found_of matches.now))) result }
+{
+    let file = matches.get_str("FILE")?;
+    let from = matches.get_str("FROM")?;
+    let to = matches.get_str("TO")?;
+    let default = default(matches)?;
+    Some(PathRequest {
+        file,
+        from,
+        to,
+        at: matches.get_str("at"),
+        output: matches.get_str("output"),
         rise: default.rise,
         fall: default.fall,
     })
@@ -465,6 +529,7 @@ fn request_of<'a>(matches: &ArgMatches<'a>) -> Option<Request<'a>>
     let (name, matches) = matches.subcommand()?;
     match name {
         "sim" => Some(Request::Sim(sim_of(matches)?)),
+        "path" => Some(Request::Path(path_of(matches)?)),
         "bound" => Some(Request::Bound(bound_of(matches)?)),
         "worst" => Some(Request::Worst(worst_of(matches)?)),
         "check" => Some(Request::Check(check_of(matches)?)),

@@ -4,4 +4,6 @@
 mod command;
 pub mod laws;
 
-pub use command::{BoundRequest, CheckRequest, Request, SimRequest, WorstRequest, parse};
+pub use command::{
+    BoundRequest, CheckRequest, PathRequest, Request, SimRequest, WorstRequest, parse,
+};

@@ -1,6 +1,6 @@
 //! From cube to cube.
 
-ghost use Rattle.std.specs.Prelude.{◌≡◌, ◌*◌, ◌↔◌, length, IsTrue, OnOk};
+ghost use Rattle.std.specs.Prelude.{◌≡◌, ◌*◌, length, OnOk};
 ghost use Rattle.td_circuit.specs.Numbering.{Numbered};
 ghost use Rattle.td_domain.specs.Sheets.{IsSheet};
 
@@ -26,7 +26,7 @@ pub fn move_to<D: Domain>(
 {
     widen_to(sheet, cube);
     narrow_to(circuit, sheet, cube)?;
-    if !is_same(sheet.cube(), cube) {
+    if !sheet.cube().is_same(cube) {
         *sheet = Sheet::new(alloc, circuit, cube)?;
     }
     Ok(())
@@ -69,21 +69,6 @@ fn is_wider(wide: &Cube, cube: &Cube) -> bool {
     for position in 0..wide.len().min(cube.len()) {
         let trit = wide.trit(position);
         if trit != Trit::Free && trit != cube.trit(position) {
-            return false;
-        }
-    }
-    true
-}
-
-/// Whether two cubes are the same.
-fn is_same(cube: &Cube, other: &Cube) -> bool
-    ensures { IsTrue result ↔ (cube.now ≡ other.now) }
-{
-    if cube.len() != other.len() {
-        return false;
-    }
-    for position in 0..cube.len() {
-        if cube.trit(position) != other.trit(position) {
             return false;
         }
     }

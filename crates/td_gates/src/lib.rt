@@ -15,6 +15,3 @@ pub use primitives::{Kind, Level};
 pub use sink::{DeviceFault, Sink};
 pub use tables::eval;
 pub use timing::{Change, Delay};
-
-#[cfg(test)]
-mod tests;

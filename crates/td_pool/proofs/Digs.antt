@@ -1,19 +1,17 @@
 -- A private tree that grows with what is found of its nodes.
-use Rattle.std.proofs.Common.{◌≡◌, ℕ, ◌+◌, ◌*◌, ◌<◌, ◌≤◌, Option, Some, None, List, [], ◌∷◌, ◌++◌, length, map, refl, sym, ap, subst, ◌∙◌, length-append, arith}
-use Rattle.std.specs.Prelude.{slice_get}
+use Rattle.std.proofs.Common.{◌≡◌, ℕ, Option, List, [], ◌∷◌, ◌++◌, map, sym, ap, subst, ◌∙◌}
 use Rattle.std.specs.List.{AllByRecursion}
-use Rattle.std.proofs.lemmas.List.{length-set, map-append}
+use Rattle.std.proofs.lemmas.List.{length-set}
 use Rattle.td_domain.specs.declared.cubes.Trit.{Trit}
-use Rattle.td_domain.specs.declared.cubes.Trit.TheVariants.{Zero, One, Free}
+use Rattle.td_domain.specs.declared.cubes.Trit.TheVariants.{Zero, One}
 use Rattle.td_certificate.specs.Cubes.{cubes_past}
 use Rattle.td_book.specs.declared.node.State.{State}
 use Rattle.td_book.specs.Board.{position_of}
 use Rattle.td_book.specs.Grafting.{cubes_left}
 use Rattle.td_search.specs.declared.findings.Finding.{Finding}
 use Rattle.td_search.specs.declared.findings.Finding.TheVariants.{Closed, Split}
-use Rattle.td_search.specs.Findings.{IsTrueOf, AreTrue, split_at, state_of}
+use Rattle.td_search.specs.Findings.{IsTrueOf, AreTrue, split_at}
 use Rattle.td_search.specs.Problems.{Problem}
-use Rattle.td_search.proofs.Found.{state_splits}
 use Rattle.td_search.proofs.Going.{side_inside}
 use Rattle.td_pool.specs.Truth.{IsWithin}
 

@@ -1,2 +1,3 @@
+pub mod Fair
 pub mod Turning
 pub mod Truth

@@ -1,8 +1,8 @@
 //! What a worker does below a leaf that it holds, before it tells the book.
 
-ghost use Rattle.std.specs.Prelude.{List, IfOk, IfSome};
+ghost use Rattle.std.specs.Prelude.{◌↔◌, List, IsTrue, IfOk, IfSome};
 ghost use Rattle.td_domain.specs.declared.cubes.Trit.{Trit};
-ghost use Rattle.td_search.specs.Findings.{IsTrueOf};
+ghost use Rattle.td_search.specs.Findings.{IsTrueOf, IsUsable};
 ghost use Rattle.td_search.specs.Problems.{problem};
 ghost use Rattle.td_pool.specs.Truth.{IsBelow, IsComing, IsWithin};
 
@@ -58,7 +58,8 @@ impl Below {
     ) -> bool
         requires below { IsBelow (problem circuit.now admit.now) lease.now self.old }
         requires next { (cube : List Trit) × IsComing (problem circuit.now admit.now) lease.now self.old cube × IsTrueOf (problem circuit.now admit.now) cube finding }
-        ensures { IsBelow (problem circuit.now admit.now) lease.now self.new }
+        ensures below { IsBelow (problem circuit.now admit.now) lease.now self.new }
+        ensures usable { IsTrue result ↔ IsUsable cut finding }
     {
         if !dig(circuit, admit, &mut self.subtree, finding, cut) {
             return false;

@@ -2,9 +2,16 @@
 #![tactic(auto)]
 
 mod below;
+mod deck;
+mod ends;
 mod found;
+mod hand;
+mod hints;
+pub mod laws;
 mod pool;
 mod shared;
 mod working;
 
-pub use pool::worst;
+pub use deck::Deck;
+pub use hints::Hints;
+pub use pool::{worst, worst_by};

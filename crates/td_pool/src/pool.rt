@@ -9,7 +9,9 @@ ghost use Rattle.td_search.specs.Written.{CanBeWritten};
 ghost use Rattle.td_domain.specs.Admits.{HasAdmitted};
 ghost use Rattle.td_pool.specs.Truth.{IsTrueFound, IsFresh, IsStarting};
 
+use crate::deck::Deck;
 use crate::found::{Found, Report};
+use crate::hints::Hints;
 use crate::shared::Shared;
 use crate::working::work;
 use std::alloc::{AllocError, Global};
@@ -67,24 +69,59 @@ pub fn worst<P: Prober + Sync, R: Threads + Wait + Sync>(
     ensures text { IfOk result (CanBeWritten (problem circuit.now admit.now)) }
     ensures fault { IfErr result (IsSearchFault (problem circuit.now admit.now)) }
 {
-    if !admit.any(admit.pins()) {
-        return Err(SearchFault::NoPair);
-    }
-    let (first, root) = measure_root(alloc, circuit, admit, prober)?;
-    let blank = Blank::new(u64::from(workers));
-    let answer = search_all::<Brand, _, _>(
-        rt, alloc, circuit, admit, prober, workers, budget, first, root, blank,
-    )?;
-    Ok(answer)
+    let decks = Deck::deal(alloc, workers as usize)?;
+    worst_by(rt, alloc, circuit, admit, prober, decks, workers, budget)
 }
 
-// As `worst`, from what is known of the root, with a part of the ledger for each worker.
-fn search_all<L: Ledger + Send + Sync, P: Prober + Sync, R: Threads + Wait + Sync>(
+/// As `worst`, where the workers tell each other by these, one for each worker, which leaves may be open. Nothing is asked of the
+/// numbers that come out: the book decides which leaf a worker handles.
+///
+/// # Errors
+///
+/// As `worst`.
+pub fn worst_by<P: Prober + Sync, D: Hints + Drop + Send, R: Threads + Wait + Sync>(
     rt: &R,
     alloc: Global,
     circuit: &Circuit,
     admit: &Admit,
     prober: &P,
+    decks: Vec<D>,
+    workers: u32,
+    budget: u64,
+) -> Result<Answer, SearchFault>
+    requires some { 0 < workers }
+    requires few { workers ≤ 64 }
+    requires modest { budget ≤ 10000000 }
+    requires held { length admit.now.held ≡ length circuit.now.netlist.inputs }
+    requires decks { length decks.items ≡ workers }
+    ensures answer { IfOk result (IsAnswer (problem circuit.now admit.now) budget) }
+    ensures text { IfOk result (CanBeWritten (problem circuit.now admit.now)) }
+    ensures fault { IfErr result (IsSearchFault (problem circuit.now admit.now)) }
+{
+    if !admit.any(admit.pins()) {
+        return Err(SearchFault::NoPair);
+    }
+    let (first, root) = measure_root(alloc, circuit, admit, prober)?;
+    let blank = Blank::new(u64::from(workers));
+    let answer = search_all::<Brand, _, _, _>(
+        rt, alloc, circuit, admit, prober, decks, workers, budget, first, root, blank,
+    )?;
+    Ok(answer)
+}
+
+// As `worst`, from what is known of the root, with a part of the ledger for each worker.
+fn search_all<
+    L: Ledger + Send + Sync,
+    P: Prober + Sync,
+    D: Hints + Drop + Send,
+    R: Threads + Wait + Sync,
+>(
+    rt: &R,
+    alloc: Global,
+    circuit: &Circuit,
+    admit: &Admit,
+    prober: &P,
+    decks: Vec<D>,
     workers: u32,
     budget: u64,
     first: Best,
@@ -116,7 +153,7 @@ fn search_all<L: Ledger + Send + Sync, P: Prober + Sync, R: Threads + Wait + Syn
         word,
     };
     let all = found_by_all(
-        rt, alloc, circuit, admit, prober, &shared, workers, found, share,
+        rt, alloc, circuit, admit, prober, decks, &shared, workers, found, share,
     )?;
     let (evidence, best) = gather(alloc, circuit, admit, all, first);
     let Shared { book, .. } = shared;
@@ -207,12 +244,18 @@ fn fresh(
 }
 
 // What all workers found: this thread, and another one for each further worker, where a thread can be made.
-fn found_by_all<L: Ledger + Send + Sync, P: Prober + Sync, R: Threads + Wait + Sync>(
+fn found_by_all<
+    L: Ledger + Send + Sync,
+    P: Prober + Sync,
+    D: Hints + Drop + Send,
+    R: Threads + Wait + Sync,
+>(
     rt: &R,
     alloc: Global,
     circuit: &Circuit,
     admit: &Admit,
     prober: &P,
+    decks: Vec<D>,
     shared: &Shared<L>,
     workers: u32,
     found: Vec<Found>,
@@ -252,8 +295,12 @@ fn found_by_all<L: Ledger + Send + Sync, P: Prober + Sync, R: Threads + Wait + S
             let mut all = all;
             let mut own = share;
             let mut waiting = found;
+            let mut decks = decks;
             for worker in 1..workers {
                 let Some(found) = next_found(circuit, admit, shared, &mut waiting) else {
+                    break;
+                };
+                let Some(deck) = decks.pop() else {
                     break;
                 };
                 let share = own.split_off(1, 0);
@@ -265,7 +312,7 @@ fn found_by_all<L: Ledger + Send + Sync, P: Prober + Sync, R: Threads + Wait + S
                     ensures { IsTrueFound (problem circuit.entry.now admit.entry.now) result.found }
                 {
                     work(
-                        rt, alloc, circuit, admit, prober, shared, worker, found, share,
+                        rt, alloc, circuit, admit, prober, shared, worker, deck, found, share,
                     )
                 };
                 let truthful = Truthful {
@@ -276,8 +323,12 @@ fn found_by_all<L: Ledger + Send + Sync, P: Prober + Sync, R: Threads + Wait + S
                     handles.push_reserved(handle);
                 }
             }
-            if let Some(found) = next_found(circuit, admit, shared, &mut waiting) {
-                all.push_reserved(work(rt, alloc, circuit, admit, prober, shared, 0, found, own));
+            if let Some(found) = next_found(circuit, admit, shared, &mut waiting)
+                && let Some(deck) = decks.pop()
+            {
+                all.push_reserved(work(
+                    rt, alloc, circuit, admit, prober, shared, 0, deck, found, own,
+                ));
             }
             join_all(rt, circuit, admit, handles, all)
         },

@@ -5,6 +5,7 @@ ghost use Rattle.td_search.specs.Problems.{problem};
 ghost use Rattle.td_pool.specs.Truth.{IsWithin, IsBelow};
 ghost use Rattle.td_pool.specs.Turning.{IsPinned, IsTurn};
 
+use crate::hints::Hints;
 use std::sync::ledger::{Ledger, Share};
 use std::sync::{Condvar, Mutex, Wait as MayWait};
 use td_book::{Claim, Counted, GraftFault, Lease, Subtree};
@@ -25,6 +26,8 @@ pub struct Shared<L: Ledger> {
 pub enum Turn {
     /// To handle this leaf.
     Work(Lease),
+    /// To look for another leaf.
+    Seek,
     /// To wait until the book has changed.
     Wait,
     /// To end.
@@ -57,7 +60,23 @@ fn is_pinned(pin: Trit, trit: Trit) -> bool
     }
 }
 
-// What a worker of this search is to do next. Of the book under the lock nothing is known.
+// To handle this leaf, which the book just gave, if it is one of this search.
+fn turn_with<L: Ledger>(
+    book: &mut Counted<L>,
+    circuit: &Circuit,
+    admit: &Admit,
+    lease: Lease,
+) -> Turn
+    ensures { IsTurn (problem circuit.now admit.now) result }
+{
+    if is_within(circuit, admit, &lease.cube) {
+        return Turn::Work(lease);
+    }
+    let _opened = book.release(lease);
+    Turn::End
+}
+
+// What a worker of this search is to do next, by the book alone. Of the book under the lock nothing is known.
 fn next_turn<L: Ledger>(
     book: &mut Counted<L>,
     circuit: &Circuit,
@@ -69,33 +88,63 @@ fn next_turn<L: Ledger>(
     if worker >= book.workers() {
         return Turn::End;
     }
-    let lease = match book.claim(worker) {
-        Ok(Claim::Lease(lease)) => lease,
-        Ok(Claim::Idle) => return Turn::Wait,
-        Ok(Claim::Done | Claim::Spent) | Err(_) => return Turn::End,
-    };
-    if is_within(circuit, admit, &lease.cube) {
-        return Turn::Work(lease);
+    match book.claim(worker) {
+        Ok(Claim::Lease(lease)) => turn_with(book, circuit, admit, lease),
+        Ok(Claim::Idle) => Turn::Wait,
+        Ok(Claim::Done | Claim::Spent) | Err(_) => Turn::End,
     }
-    let _opened = book.release(lease);
-    Turn::End
+}
+
+// As `next_turn`, where a leaf of this number may be open.
+fn hinted_turn<L: Ledger>(
+    book: &mut Counted<L>,
+    circuit: &Circuit,
+    admit: &Admit,
+    worker: u32,
+    number: u32,
+) -> Turn
+    ensures { IsTurn (problem circuit.now admit.now) result }
+{
+    if worker >= book.workers() {
+        return Turn::End;
+    }
+    match book.claim_id(worker, number) {
+        Ok(Some(lease)) => turn_with(book, circuit, admit, lease),
+        Ok(None) => Turn::Seek,
+        Err(_) => Turn::End,
+    }
+}
+
+// A number from the worker's own place, else from another's.
+fn hint_from<D: Hints>(deck: &mut D) -> Option<u32> {
+    if let Some(number) = deck.pop() {
+        return Some(number);
+    }
+    deck.steal()
 }
 
 impl<L: Ledger> Shared<L> {
-    /// The next leaf for this worker, and none where it is to end.
-    pub fn lease<R: MayWait>(
+    /// The next leaf for this worker, and none where it is to end. A number from its deck comes first, then the first open leaf.
+    pub fn lease<D: Hints, R: MayWait>(
         &self,
         rt: &R,
         circuit: &Circuit,
         admit: &Admit,
         worker: u32,
+        deck: &mut D,
     ) -> Option<Lease>
         ensures { IfSome result (λ lease. IsWithin (problem circuit.now admit.now) lease.cube) }
     {
         for _ in rt.forever() {
+            let hint = hint_from(deck);
             let mut book = self.book.lock(rt);
-            match next_turn(&mut book, circuit, admit, worker) {
+            let turn = match hint {
+                Some(number) => hinted_turn(&mut book, circuit, admit, worker, number),
+                None => next_turn(&mut book, circuit, admit, worker),
+            };
+            match turn {
                 Turn::Work(lease) => return Some(lease),
+                Turn::Seek => drop(book),
                 Turn::Wait => {
                     let book = self.moved.wait(rt, book);
                     drop(book);
@@ -107,24 +156,25 @@ impl<L: Ledger> Shared<L> {
     }
 
     /// Tells the book what was split and closed below a leaf, under one hold, and wakes those that wait. Where nothing was, or memory
-    /// runs out, the leaf is opened again. Answers whether the worker may go on.
+    /// runs out, the leaf is opened again. Answers the numbers of the leaves that are left open there, in the tree's order, and
+    /// none where the worker is to end.
     pub fn graft<R: MayWait>(
         &self,
         rt: &R,
         lease: Lease,
         subtree: Subtree,
         mine: &mut Share<L>,
-    ) -> bool
+    ) -> Option<Vec<u32>>
         requires cube { subtree.cube ≡ lease.cube }
         requires few { length subtree.states ≤ lease.allowance }
         requires part { 0 < mine.old.parts }
         ensures { mine.new.parts ≡ mine.old.parts }
     {
         let mut book = self.book.lock(rt);
-        let goes_on = graft_in(&mut book, lease, subtree, mine);
+        let left = graft_in(&mut book, lease, subtree, mine);
         drop(book);
         self.moved.notify_all();
-        goes_on
+        left
     }
 
     /// Opens a leaf again, and wakes those that wait.
@@ -142,7 +192,7 @@ fn graft_in<L: Ledger>(
     lease: Lease,
     subtree: Subtree,
     mine: &mut Share<L>,
-) -> bool
+) -> Option<Vec<u32>>
     requires cube { subtree.cube ≡ lease.cube }
     requires few { length subtree.states ≤ lease.allowance }
     requires part { 0 < mine.old.parts }
@@ -150,14 +200,14 @@ fn graft_in<L: Ledger>(
 {
     if subtree.states().is_empty() {
         let _opened = book.release(lease);
-        return false;
+        return None;
     }
     match book.graft(lease, subtree, mine) {
-        Ok(_left) => true,
+        Ok(left) => Some(left),
         Err(GraftFault::OutOfMemory(lease, _subtree)) => {
             let _opened = book.release(lease);
-            false
+            None
         }
-        Err(GraftFault::Stranger(_lease, _subtree)) => false,
+        Err(GraftFault::Stranger(_lease, _subtree)) => None,
     }
 }

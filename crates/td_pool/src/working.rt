@@ -9,6 +9,7 @@ ghost use Rattle.td_pool.specs.Truth.{IsTrueFound, IsBelow, IsWithin, IsPlaced, 
 
 use crate::below::Below;
 use crate::found::{Found, Report};
+use crate::hints::Hints;
 use crate::shared::Shared;
 use std::alloc::{AllocError, Global};
 use std::sync::Wait;
@@ -131,9 +132,17 @@ fn work_below<P: Prober>(
     true
 }
 
-// Handles a leaf, and as much below it as its lease allows, and tells the book under one hold of the lock. What was found becomes
-// evidence. No lock is held meanwhile. Answers whether the worker may go on: not at want of memory.
-fn handle<L: Ledger, P: Prober, R: Wait>(
+// Puts the numbers of these open leaves into the worker's own place, the last one first, so that it takes the first one first. Of a
+// number that is refused nothing is kept: the book has the leaf.
+fn tell<D: Hints>(deck: &mut D, opened: &[u32]) {
+    for number in opened.iter().rev() {
+        let _told = deck.push(*number);
+    }
+}
+
+// Handles a leaf, and as much below it as its lease allows, and tells the book under one hold of the lock, then the worker's deck. What
+// was found becomes evidence. No lock is held meanwhile. Answers whether the worker may go on: not at want of memory.
+fn handle<L: Ledger, P: Prober, D: Hints, R: Wait>(
     rt: &R,
     alloc: Global,
     circuit: &Circuit,
@@ -141,6 +150,7 @@ fn handle<L: Ledger, P: Prober, R: Wait>(
     prober: &P,
     scratch: &mut P::Scratch,
     shared: &Shared<L>,
+    deck: &mut D,
     lease: Lease,
     found: &mut Found,
     share: &mut Share<L>,
@@ -177,7 +187,11 @@ fn handle<L: Ledger, P: Prober, R: Wait>(
         cube,
         findings,
     });
-    shared.graft(rt, lease, subtree, share) && ample
+    let Some(opened) = shared.graft(rt, lease, subtree, share) else {
+        return false;
+    };
+    tell(deck, &opened);
+    ample
 }
 
 // A private tree below a leaf, a copy of its cube, and room for the evidence. The error is want of memory.
@@ -204,7 +218,7 @@ fn begin(
 }
 
 /// Handles leaves until the book gives none or memory runs out. All that it hands back is true.
-pub fn work<L: Ledger, P: Prober, R: Wait>(
+pub fn work<L: Ledger, P: Prober, D: Hints + Drop, R: Wait>(
     rt: &R,
     alloc: Global,
     circuit: &Circuit,
@@ -212,6 +226,7 @@ pub fn work<L: Ledger, P: Prober, R: Wait>(
     prober: &P,
     shared: &Shared<L>,
     worker: u32,
+    deck: D,
     found: Found,
     share: Share<L>,
 ) -> Report<L>
@@ -221,13 +236,14 @@ pub fn work<L: Ledger, P: Prober, R: Wait>(
     requires part { 0 < share.parts }
     ensures { IsTrueFound (problem circuit.now admit.now) result.found }
 {
+    let mut deck = deck;
     let mut found = found;
     let mut share = share;
     let Ok(mut scratch) = prober.scratch(alloc, circuit) else {
         return Report { found, share };
     };
     for _ in rt.forever() {
-        let Some(lease) = shared.lease(rt, circuit, admit, worker) else {
+        let Some(lease) = shared.lease(rt, circuit, admit, worker, &mut deck) else {
             break;
         };
         let goes_on = handle(
@@ -238,6 +254,7 @@ pub fn work<L: Ledger, P: Prober, R: Wait>(
             prober,
             &mut scratch,
             shared,
+            &mut deck,
             lease,
             &mut found,
             &mut share,

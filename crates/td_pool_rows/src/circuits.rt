@@ -1,16 +1,17 @@
 //! Circuits and searches for the tests, in words.
 
-use std::alloc::Global;
+use std::alloc::{AllocError, Global};
 use std::process::Abort;
 use std::sync::Wait;
 use std::test::Fail;
 use std::thread::Threads;
+use td_certificate::{BoundedBy, Node, Tree};
 use td_circuit::{Circuit, build};
 use td_domain::Admit;
 use td_gates::Delay;
 use td_netlist::read;
-use td_pool::worst;
-use td_search::{Answer, Prober, SearchFault, alone};
+use td_pool::{Hints, worst, worst_by};
+use td_search::{Answer, Own, Prober, SearchFault, alone};
 
 /// An inverter.
 pub const INVERTER: &str = "not #(2,3) g(y,a);";
@@ -24,38 +25,42 @@ pub const RECONVERGENT: &str = "buf #1 p1(p,b); buf #1 p2(q,b); xor #3 g(y,a,p,q
 /// An or with a slow arm.
 pub const SLOW_ARM: &str = "buf #4 s(t,a); or #1 g(y,b,t);";
 
-/// A circuit with these inputs and gates, and the output y.
-pub fn circuit_of(
-    rt: &impl Abort,
-    alloc: Global,
-    inputs: &str,
-    gates: &str,
-) -> Result<Circuit, Fail> {
-    let default = Delay::new(1, 1).expect(rt, "in range");
+/// A circuit with these inputs and gates, and the output y. The error is want of memory, or a text that is refused.
+pub fn circuit_of(alloc: Global, inputs: &str, gates: &str) -> Result<Circuit, AllocError> {
+    let unit = Delay { rise: 1, fall: 1 };
     let text = format!(in alloc;
         "module t ({inputs}, y);\ninput {inputs};\noutput y;\n{gates}\nendmodule\n"
     )?;
-    let Ok(netlist) = read(alloc, text.as_bytes(), default) else {
-        panic!(rt; "the text is refused");
+    let Ok(netlist) = read(alloc, text.as_bytes(), unit) else {
+        return Err(AllocError);
     };
-    let Ok(circuit) = build(alloc, netlist) else {
-        panic!(rt; "the netlist has a loop");
-    };
-    Ok(circuit)
+    match build(alloc, netlist) {
+        Ok(circuit) => Ok(circuit),
+        Err(_) => Err(AllocError),
+    }
 }
 
 /// All pairs of a circuit.
-fn all_of(rt: &impl Abort, alloc: Global, circuit: &Circuit) -> Result<Admit, Fail> {
+pub fn all_of(rt: &impl Abort, alloc: Global, circuit: &Circuit) -> Result<Admit, AllocError> {
     let inputs = circuit.input_count();
     assert!(rt; inputs <= 4096);
-    Ok(Admit::all(alloc, inputs)?)
+    Admit::all(alloc, inputs)
 }
 
-/// An answer: its times in words, and the number of its nodes.
+/// An answer: its times in words, the number of its nodes, and how many leaves of its tree are bounded by both domains at once.
 #[derive(Drop)]
 pub struct Told {
     pub times: String,
     pub nodes: u64,
+    pub by_both: usize,
+}
+
+// How many leaves of a tree are bounded by both domains at once.
+fn by_both(tree: &Tree) -> usize {
+    let leaves = tree.nodes().iter();
+    leaves
+        .filter(|node| matches!(node, Node::Bound(BoundedBy::Both, _)))
+        .count()
 }
 
 fn in_words(alloc: Global, answer: &Answer) -> Result<Told, Fail> {
@@ -63,6 +68,7 @@ fn in_words(alloc: Global, answer: &Answer) -> Result<Told, Fail> {
         Answer::Exact { time, tree, .. } => Told {
             times: format!(in alloc; "exact {time}")?,
             nodes: tree.nodes().len() as u64,
+            by_both: by_both(tree),
         },
         Answer::Between {
             low,
@@ -72,6 +78,7 @@ fn in_words(alloc: Global, answer: &Answer) -> Result<Told, Fail> {
         } => Told {
             times: format!(in alloc; "between {low} {high}")?,
             nodes: *nodes,
+            by_both: 0,
         },
     })
 }
@@ -90,6 +97,25 @@ pub fn found<P: Prober + Sync, R: Threads + Wait + Sync + Abort>(
     assert!(rt; budget <= 10_000_000);
     assert_eq!(rt; admit.held().len(), circuit.input_count());
     match worst(rt, alloc, circuit, &admit, prober, workers, budget) {
+        Ok(answer) => in_words(alloc, &answer),
+        Err(SearchFault::NoPair) => Err(Fail::from("no pair")),
+        Err(SearchFault::OutOfMemory) => Err(Fail::from("out of memory")),
+    }
+}
+
+/// What a search of all pairs answers by a worker for each of these decks.
+pub fn found_by<D: Hints + Drop + Send, R: Threads + Wait + Sync + Abort>(
+    rt: &R,
+    alloc: Global,
+    circuit: &Circuit,
+    decks: Vec<D>,
+    workers: u32,
+) -> Result<Told, Fail> {
+    let admit = all_of(rt, alloc, circuit)?;
+    assert!(rt; 0 < workers && workers <= 64);
+    assert_eq!(rt; decks.len(), workers as usize);
+    assert_eq!(rt; admit.held().len(), circuit.input_count());
+    match worst_by(rt, alloc, circuit, &admit, &Own, decks, workers, 1_000_000) {
         Ok(answer) => in_words(alloc, &answer),
         Err(SearchFault::NoPair) => Err(Fail::from("no pair")),
         Err(SearchFault::OutOfMemory) => Err(Fail::from("out of memory")),

@@ -4,6 +4,10 @@
 #[cfg(test)]
 mod circuits;
 #[cfg(test)]
+mod decks;
+#[cfg(test)]
 mod probers;
+#[cfg(test)]
+mod refusals;
 #[cfg(test)]
 mod searches;

@@ -54,6 +54,44 @@ impl Prober for Counting {
     }
 }
 
+/// Asks for each cube's strongest bound, whatever the cut.
+#[derive(Drop)]
+pub struct Strongest;
+
+impl Prober for Strongest {
+    type Scratch = <Own as Prober>::Scratch;
+
+    ghost is_for = { λ scratch circuit. IsScratch circuit scratch };
+
+    fn scratch(
+        &self,
+        alloc: Global,
+        circuit: &Circuit,
+    ) -> Result<<Own as Prober>::Scratch, AllocError> {
+        Own.scratch(alloc, circuit)
+    }
+
+    fn bound(
+        &self,
+        scratch: &mut <Own as Prober>::Scratch,
+        alloc: Global,
+        circuit: &Circuit,
+        cube: &Cube,
+        _cut: u64,
+    ) -> Result<Probe, AllocError> {
+        Own.bound(scratch, alloc, circuit, cube, 0)
+    }
+
+    fn measure(
+        &self,
+        scratch: &mut <Own as Prober>::Scratch,
+        circuit: &Circuit,
+        pair: &Pair,
+    ) -> Result<u64, AllocError> {
+        Own.measure(scratch, circuit, pair)
+    }
+}
+
 /// Lets the first bound of a cube with one fixed position wait until another such cube was bounded.
 #[derive(Drop)]
 pub struct Meeting {
@@ -126,6 +164,58 @@ impl Prober for Meeting {
         circuit: &Circuit,
         pair: &Pair,
     ) -> Result<u64, AllocError> {
+        Own.measure(scratch, circuit, pair)
+    }
+}
+
+/// Answers want of memory where a pair is measured or a cube is bounded for the so many-th time.
+#[derive(Drop)]
+pub struct Failing {
+    pub calls: AtomicU64,
+    pub fails: u64,
+}
+
+impl Failing {
+    fn call(&self) -> Result<(), AllocError> {
+        if self.calls.fetch_add(1, Ordering::SeqCst).saturating_add(1) == self.fails {
+            return Err(AllocError);
+        }
+        Ok(())
+    }
+}
+
+impl Prober for Failing {
+    type Scratch = <Own as Prober>::Scratch;
+
+    ghost is_for = { λ scratch circuit. IsScratch circuit scratch };
+
+    fn scratch(
+        &self,
+        alloc: Global,
+        circuit: &Circuit,
+    ) -> Result<<Own as Prober>::Scratch, AllocError> {
+        Own.scratch(alloc, circuit)
+    }
+
+    fn bound(
+        &self,
+        scratch: &mut <Own as Prober>::Scratch,
+        alloc: Global,
+        circuit: &Circuit,
+        cube: &Cube,
+        cut: u64,
+    ) -> Result<Probe, AllocError> {
+        self.call()?;
+        Own.bound(scratch, alloc, circuit, cube, cut)
+    }
+
+    fn measure(
+        &self,
+        scratch: &mut <Own as Prober>::Scratch,
+        circuit: &Circuit,
+        pair: &Pair,
+    ) -> Result<u64, AllocError> {
+        self.call()?;
         Own.measure(scratch, circuit, pair)
     }
 }

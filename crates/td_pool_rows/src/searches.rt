@@ -1,14 +1,20 @@
 //! Searches of worked circuits, by one worker and by more.
 
-use crate::circuits::{INVERTER, LOST, RECONVERGENT, SLOW_ARM, circuit_of, found, found_alone};
-use crate::probers::{Counting, Meeting};
+use crate::circuits::{
+    INVERTER, LOST, RECONVERGENT, SLOW_ARM, all_of, circuit_of, found, found_alone, found_by,
+};
+use crate::decks::{Passing, Refusing};
+use crate::probers::{Counting, Failing, Meeting, Strongest};
 use std::alloc::Global;
+use std::ops::Range;
 use std::process::Abort;
 use std::sync::Wait;
 use std::sync::atomic::{AtomicU64, Ordering};
 use std::test::*;
 use std::thread::Threads;
-use td_search::Own;
+use td_circuit::Circuit;
+use td_pool::{Deck, worst};
+use td_search::{Answer, Own};
 
 /// Checks what searches by 1, 2, 4 and 64 workers answer.
 fn check<R: Threads + Wait + Sync + Abort>(
@@ -18,7 +24,7 @@ fn check<R: Threads + Wait + Sync + Abort>(
     gates: &str,
     wanted: &str,
 ) -> Result<(), Fail> {
-    let circuit = circuit_of(rt, alloc, inputs, gates)?;
+    let circuit = circuit_of(alloc, inputs, gates)?;
     for workers in [1, 2, 4, 64] {
         let answer = found(rt, alloc, &circuit, &Own, workers, 1_000_000)?;
         assert_eq!(rt; answer.times.as_str(), wanted);
@@ -43,7 +49,7 @@ fn counted<R: Threads + Wait + Sync + Abort>(
     workers: u32,
     wanted: &str,
 ) -> Result<u64, Fail> {
-    let circuit = circuit_of(rt, alloc, "a, b", gates)?;
+    let circuit = circuit_of(alloc, "a, b", gates)?;
     let prober = Counting {
         measured: AtomicU64::new(0),
     };
@@ -69,7 +75,7 @@ fn probes_counted(rt: HostRuntime) -> Result<(), Fail> {
 #[test]
 fn two_probes_at_once(rt: HostRuntime) -> Result<(), Fail> {
     let alloc = rt.alloc();
-    let circuit = circuit_of(&rt, alloc, "a", LOST)?;
+    let circuit = circuit_of(alloc, "a", LOST)?;
     let prober = Meeting {
         begun: AtomicU64::new(0),
         bounded: AtomicU64::new(0),
@@ -86,7 +92,7 @@ fn two_probes_at_once(rt: HostRuntime) -> Result<(), Fail> {
 #[test]
 fn one_worker_answers_as_alone(rt: HostRuntime) -> Result<(), Fail> {
     let alloc = rt.alloc();
-    let circuit = circuit_of(&rt, alloc, "a, b", SLOW_ARM)?;
+    let circuit = circuit_of(alloc, "a, b", SLOW_ARM)?;
     for budget in 0..10 {
         let answer = found(&rt, alloc, &circuit, &Own, 1, budget)?;
         let wanted = found_alone(&rt, alloc, &circuit, budget)?;
@@ -99,7 +105,7 @@ fn one_worker_answers_as_alone(rt: HostRuntime) -> Result<(), Fail> {
 #[test]
 fn budgets_are_used_up(rt: HostRuntime) -> Result<(), Fail> {
     let alloc = rt.alloc();
-    let circuit = circuit_of(&rt, alloc, "e, f, g, a, b", RECONVERGENT)?;
+    let circuit = circuit_of(alloc, "e, f, g, a, b", RECONVERGENT)?;
     for workers in [1, 2, 4] {
         let answer = found(&rt, alloc, &circuit, &Own, workers, 2046)?;
         assert_eq!(&rt; answer.times.as_str(), "between 3 4");
@@ -107,6 +113,120 @@ fn budgets_are_used_up(rt: HostRuntime) -> Result<(), Fail> {
         let answer = found(&rt, alloc, &circuit, &Own, workers, 2047)?;
         assert_eq!(&rt; answer.times.as_str(), "exact 3");
         assert_eq!(&rt; answer.nodes, 2047);
+    }
+    Ok(())
+}
+
+#[test]
+fn findings_are_taken_over(rt: HostRuntime) -> Result<(), Fail> {
+    let alloc = rt.alloc();
+    let circuit = circuit_of(alloc, "a, b", SLOW_ARM)?;
+    // A search in one thread closes a leaf by one domain where that is enough.
+    let answer = found_alone(&rt, alloc, &circuit, 1_000_000)?;
+    assert_eq!(&rt; answer.times.as_str(), "exact 5");
+    assert_eq!(&rt; answer.by_both, 0);
+    for workers in [1, 2, 4] {
+        let answer = found(&rt, alloc, &circuit, &Strongest, workers, 1_000_000)?;
+        assert_eq!(&rt; answer.times.as_str(), "exact 5");
+        assert!(&rt; answer.by_both >= 1);
+    }
+    Ok(())
+}
+
+#[test]
+fn numbers_refused(rt: HostRuntime) -> Result<(), Fail> {
+    let alloc = rt.alloc();
+    let circuit = circuit_of(alloc, "e, f, g, a, b", RECONVERGENT)?;
+    for workers in [1, 2, 4] {
+        let mut decks = Vec::new(alloc);
+        for _ in 0..workers {
+            decks.push(Refusing)?;
+        }
+        let answer = found_by(&rt, alloc, &circuit, decks, workers)?;
+        assert_eq!(&rt; answer.times.as_str(), "exact 3");
+        assert_eq!(&rt; answer.nodes, 2047);
+    }
+    Ok(())
+}
+
+#[test]
+fn numbers_given(rt: HostRuntime) -> Result<(), Fail> {
+    let alloc = rt.alloc();
+    let circuit = circuit_of(alloc, "e, f, g, a, b", RECONVERGENT)?;
+    let given = AtomicU64::new(0);
+    let mut decks = Vec::new(alloc);
+    for deck in Deck::deal(alloc, 1)? {
+        decks.push(Passing {
+            deck,
+            given: &given,
+        })?;
+    }
+    let answer = found_by(&rt, alloc, &circuit, decks, 1)?;
+    assert_eq!(&rt; answer.times.as_str(), "exact 3");
+    assert_eq!(&rt; answer.nodes, 2047);
+    assert!(&rt; given.load(Ordering::SeqCst) >= 1);
+    Ok(())
+}
+
+#[test]
+fn steals_what_another_put(rt: HostRuntime) -> Result<(), Fail> {
+    let mut decks = Deck::deal(rt.alloc(), 3)?;
+    assert_eq!(&rt; decks.len(), 3);
+    let (Some(mut one), Some(mut other)) = (decks.pop(), decks.pop()) else {
+        return Err(Fail::from("three decks"));
+    };
+    assert!(&rt; one.push(5).is_ok() && one.push(6).is_ok());
+    assert_eq!(&rt; other.steal(), Some(5));
+    assert_eq!(&rt; one.pop(), Some(6));
+    assert!(&rt; other.steal().is_none());
+    Ok(())
+}
+
+/// Checks what a search by one worker answers within each of these budgets, and that it uses them up.
+fn check_budgets<R: Threads + Wait + Sync + Abort>(
+    rt: &R,
+    alloc: Global,
+    circuit: &Circuit,
+    budgets: Range<u64>,
+    wanted: &str,
+) -> Result<(), Fail> {
+    for budget in budgets {
+        let answer = found(rt, alloc, circuit, &Own, 1, budget)?;
+        assert_eq!(rt; answer.times.as_str(), wanted, "{budget}");
+        assert_eq!(rt; answer.nodes, budget);
+    }
+    Ok(())
+}
+
+#[test]
+fn budgets_one_by_one(rt: HostRuntime) -> Result<(), Fail> {
+    let alloc = rt.alloc();
+    let lost = circuit_of(alloc, "a", LOST)?;
+    check_budgets(&rt, alloc, &lost, 0..7, "between 0 3")?;
+    check_budgets(&rt, alloc, &lost, 7..8, "exact 0")?;
+    let slow = circuit_of(alloc, "a, b", SLOW_ARM)?;
+    check_budgets(&rt, alloc, &slow, 0..6, "between 1 5")?;
+    check_budgets(&rt, alloc, &slow, 6..9, "between 5 5")?;
+    check_budgets(&rt, alloc, &slow, 9..10, "exact 5")
+}
+
+/// Without the root's delay or bound there is no answer; any other that is refused is found in one thread at the end.
+#[test]
+fn refused_once(rt: HostRuntime) -> Result<(), Fail> {
+    let alloc = rt.alloc();
+    let circuit = circuit_of(alloc, "a, b", RECONVERGENT)?;
+    let admit = all_of(&rt, alloc, &circuit)?;
+    assert_eq!(&rt; admit.held().len(), circuit.input_count());
+    for fails in 1..41 {
+        let prober = Failing {
+            calls: AtomicU64::new(0),
+            fails,
+        };
+        match worst(&rt, alloc, &circuit, &admit, &prober, 1, 1_000_000) {
+            Ok(Answer::Exact { time, .. }) => assert!(&rt; fails > 2 && time == 3, "{fails}"),
+            Ok(Answer::Between { .. }) => panic!(&rt; "no exact answer: {fails}"),
+            Err(_) => assert!(&rt; fails <= 2, "{fails}"),
+        }
     }
     Ok(())
 }

@@ -63,7 +63,8 @@ fn name_at(alloc: Global, place: u32) -> Name
     }
 }
 
-fn takes(kind: Kind, count: usize) -> bool
+/// Whether a gate of this kind can have so many inputs.
+pub fn takes(kind: Kind, count: usize) -> bool
     ensures { IsTrue result ↔ TakesInputs kind count }
 {
     match kind {
@@ -185,8 +186,3 @@ pub fn moments_of(alloc: Global, moments: &[u64]) -> Result<Vec<u64>, AllocError
     }
     Ok(own)
 }
-
-#[cfg(test)]
-mod agreement;
-#[cfg(test)]
-mod tests;

@@ -1,6 +1,6 @@
 //! What workers found of cubes, and hand back when they end.
 
-ghost use Rattle.std.specs.Prelude.{◌≡◌, ◌↔◌, IsTrue, IfOk, IfSome};
+ghost use Rattle.std.specs.Prelude.{◌≡◌, IfOk, IfSome};
 ghost use Rattle.td_search.specs.Problems.{problem};
 ghost use Rattle.td_search.specs.Findings.{IsTrueEvidence, IsTrueTrail};
 
@@ -57,19 +57,4 @@ impl Trail {
         let place = (*self.places.get(number as usize)?)?;
         self.evidence.get(place as usize)
     }
-}
-
-/// Whether two cubes are the same.
-pub fn is_same(cube: &Cube, other: &Cube) -> bool
-    ensures { IsTrue result ↔ (cube.now ≡ other.now) }
-{
-    if cube.len() != other.len() {
-        return false;
-    }
-    for position in 0..cube.len() {
-        if cube.trit(position) != other.trit(position) {
-            return false;
-        }
-    }
-    true
 }

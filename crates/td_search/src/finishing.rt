@@ -11,7 +11,7 @@ ghost use Rattle.td_search.specs.Written.{CanBeWritten};
 
 use crate::answers::{Answer, cause_of};
 use crate::best::Best;
-use crate::findings::{Evidence, Trail, is_same};
+use crate::findings::{Evidence, Trail};
 use crate::laws::cut_short_is_between;
 use crate::progress::{Search, Setup};
 use crate::scratch::Scratch;
@@ -114,7 +114,7 @@ fn replay_tree(
     ensures search { IsUnderWay (problem circuit.now admit.now) budget search.new }
     ensures scratch { IsScratch circuit.now scratch.new }
 {
-    if !is_same(partial.cube(), admit.pins()) {
+    if !partial.cube().is_same(admit.pins()) {
         return Ok(());
     }
     let nodes = partial.nodes(alloc)?;

@@ -1,6 +1,6 @@
 //! Does again in a search what workers did in a shared one, as far as their evidence shows it.
 
-ghost use Rattle.std.specs.Prelude.{◌≡◌, ℕ, ◌*◌, ◌<◌, ◌≤◌, ◌^◌, false, List, [], ◌∷◌, ◌++◌, length, map, take, slice_get, Some, IsTrue, IfOk, IfSome};
+ghost use Rattle.std.specs.Prelude.{◌≡◌, ℕ, ◌*◌, ◌<◌, ◌≤◌, ◌^◌, false, List, [], ◌∷◌, ◌++◌, length, map, take, slice_get, Some, ◌↔◌, IsTrue, IfOk, IfSome};
 ghost use Rattle.std.specs.List.{All};
 ghost use Rattle.td_domain.specs.declared.cubes.Trit.{Trit};
 ghost use Rattle.td_domain.specs.declared.cubes.Trit.TheVariants.{Free};
@@ -12,7 +12,7 @@ ghost use Rattle.td_search.specs.Progress.{IsUnderWay};
 ghost use Rattle.td_search.specs.Representatives.{representative};
 ghost use Rattle.td_search.specs.Sheeted.{IsScratch};
 
-use crate::findings::{Evidence, Finding, Trail, is_same};
+use crate::findings::{Evidence, Finding, Trail};
 use crate::measuring::measure;
 use crate::progress::Search;
 use crate::scratch::Scratch;
@@ -39,7 +39,7 @@ pub fn dig(
 ) -> bool
     requires next { (cube : List Trit) × (rest : List (List Trit)) × (cubes_left subtree.old.states (subtree.old.cube ∷ []) ≡ cube ∷ rest) × IsTrueOf (problem circuit.now admit.now) cube finding }
     requires room { length subtree.old.states < subtree.old.allowance }
-    ensures usable { IsTrue result → IsUsable best finding }
+    ensures usable { IsTrue result ↔ IsUsable best finding }
     ensures done { IsTrue result → subtree.new ≡ record subtree.old { states = subtree.old.states ++ state_of best finding ∷ [] } }
     ensures same { result ≡ false → subtree.new ≡ subtree.old }
 {
@@ -164,7 +164,7 @@ impl Search {
             return pass(coming, node.state);
         };
         if let Some(evidence) = trail.evidence_of(circuit, admit, node.number)
-            && is_same(&evidence.cube, &lease.cube)
+            && evidence.cube.is_same(&lease.cube)
         {
             return self.graft_again(alloc, circuit, admit, lease, evidence, coming);
         }

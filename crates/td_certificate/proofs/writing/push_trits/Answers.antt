@@ -8,4 +8,4 @@ loop-input-preserved c =
     c.trit.ensures c.loop-input.invariant (rw c.trit_character.ensures at c.in_ok-push.ensures.bytes)
 
 pub returns : goal.returns
-returns c = trits_pushed c.args.second c.args.pins.now c.loop-input.input c.len-input-end.result _ _ c.len-input-end.ensures (omega arith) c.loop-input.invariant
+returns c = trits_pushed c.args.second c.args.pins.now c.loop-input.input c.len-input-end.result _ _ c.len-input-end.ensures (omega (arith, c.len-input-end.ensures)) (omega arith) c.loop-input.invariant

@@ -4,6 +4,9 @@ use Rattle.td_cli.proofs.program.carry_out.Goals as goal
 pub returns-in-Sim : goal.returns-in-Sim
 returns-in-Sim g c = asked_as _ _ _ _ _ _ _ c.in-Sim.is c.run_sim.ensures
 
+pub returns-in-Path : goal.returns-in-Path
+returns-in-Path g c = asked_as _ _ _ _ _ _ _ c.in-Path.is c.run_path.ensures
+
 pub returns-in-Bound : goal.returns-in-Bound
 returns-in-Bound g c = asked_as _ _ _ _ _ _ _ c.in-Bound.is c.run_bound.ensures
 

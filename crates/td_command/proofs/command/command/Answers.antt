@@ -10,11 +10,13 @@ returns c =
     let bare_is : app_of c.subcommand_required.result ≡ bare = search rules in
     let sim = c.in_ok-subcommand.ensures.shape (third_of_plain _ _ _ _ (ap (λ (app : App). app.top.is_plain) c.in_ok-sim_command.ensures))
     ∙ ap₂ with_subcommand bare_is (ap (λ (app : App). app.top) c.in_ok-sim_command.ensures) in
-    let bound = c.in_ok-subcommand-2.ensures.shape (third_of_plain _ _ _ _ (ap (λ (app : App). app.top.is_plain) c.in_ok-bound_command.ensures))
-    ∙ ap₂ with_subcommand sim (ap (λ (app : App). app.top) c.in_ok-bound_command.ensures) in
-    let worst = c.in_ok-subcommand-3.ensures.shape (third_of_plain _ _ _ _ (ap (λ (app : App). app.top.is_plain) c.in_ok-worst_command.ensures))
+    let path = c.in_ok-subcommand-2.ensures.shape (third_of_plain _ _ _ _ (ap (λ (app : App). app.top.is_plain) c.in_ok-path_command.ensures))
+    ∙ ap₂ with_subcommand sim (ap (λ (app : App). app.top) c.in_ok-path_command.ensures) in
+    let bound = c.in_ok-subcommand-3.ensures.shape (third_of_plain _ _ _ _ (ap (λ (app : App). app.top.is_plain) c.in_ok-bound_command.ensures))
+    ∙ ap₂ with_subcommand path (ap (λ (app : App). app.top) c.in_ok-bound_command.ensures) in
+    let worst = c.in_ok-subcommand-4.ensures.shape (third_of_plain _ _ _ _ (ap (λ (app : App). app.top.is_plain) c.in_ok-worst_command.ensures))
     ∙ ap₂ with_subcommand bound (ap (λ (app : App). app.top) c.in_ok-worst_command.ensures) in
-    IfOk-weaker c.subcommand-4.result _ _
+    IfOk-weaker c.subcommand-5.result _ _
     (λ new added. added.shape (third_of_plain _ _ _ _ (ap (λ (app : App). app.top.is_plain) c.in_ok-check_command.ensures))
     ∙ ap₂ with_subcommand worst (ap (λ (app : App). app.top) c.in_ok-check_command.ensures))
-    c.subcommand-4.ensures
+    c.subcommand-5.ensures

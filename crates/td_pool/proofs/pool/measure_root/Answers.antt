@@ -1,5 +1,4 @@
-use Rattle.std.proofs.Common.{◌≡◌, ◌*◌, length, sym, ap, ◌∙◌}
-use Rattle.td_domain.specs.Cubes.{IsIn}
+use Rattle.std.proofs.Common.{◌*◌, length, ap, ◌∙◌}
 use Rattle.td_search.proofs.Bounded.{vectors_inside}
 use Rattle.td_pool.proofs.pool.measure_root.Goals as goal
 

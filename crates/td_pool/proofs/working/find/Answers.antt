@@ -1,12 +1,10 @@
-use Rattle.std.proofs.Common.{◌≡◌, ◌*◌, ◌<◌, ◌≤◌, ◌^◌, ℕ, List, length, Some, sym, ap, subst, ◌∙◌, arith}
-use Rattle.std.specs.Prelude.{slice_get}
+use Rattle.std.proofs.Common.{◌≡◌, ◌*◌, ◌<◌, ◌^◌, ℕ, List, length, sym, ap, subst, ◌∙◌, arith}
 use Rattle.std.proofs.lemmas.Option.{slice_get_within}
 use Rattle.td_domain.specs.declared.cubes.Trit.{Trit}
 use Rattle.td_domain.specs.declared.cubes.Trit.TheVariants.{Free}
 use Rattle.td_domain.specs.Pairs.{Pair}
 use Rattle.td_search.specs.declared.deciding.Decision.{Decision}
 use Rattle.td_search.specs.declared.deciding.Decision.TheVariants as decision
-use Rattle.td_search.specs.declared.findings.Finding.{Finding}
 use Rattle.td_search.specs.Deciding.{IsMeasured, IsDecided}
 use Rattle.td_search.specs.Findings.{IsTrueOf}
 use Rattle.td_search.specs.Problems.{Problem, problem}

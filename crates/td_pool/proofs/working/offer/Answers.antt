@@ -1,4 +1,4 @@
-use Rattle.std.proofs.Common.{◌≡◌, ◌<◌, ◌≤◌, ℕ, max, length, sym, ap, subst, ◌∙◌, arith}
+use Rattle.std.proofs.Common.{◌≡◌, ℕ, max, length, sym, ap, subst, ◌∙◌, arith}
 use Rattle.td_domain.specs.Pairs.{Pair}
 use Rattle.td_search.specs.Best.{Found as Best}
 use Rattle.td_search.specs.Problems.{Problem, problem, has_delay}

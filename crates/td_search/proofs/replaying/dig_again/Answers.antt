@@ -41,7 +41,7 @@ loop-finding-preserved c =
     record {
       count = omega arith;
       subtree = same;
-      usable = usable_more best findings i f at was.usable (c.if-not-dig.ensures.usable refl);
+      usable = usable_more best findings i f at was.usable (c.if-not-dig.ensures.usable.0 refl);
       few = omega (arith, room, allowance, states, count);
     }
   where

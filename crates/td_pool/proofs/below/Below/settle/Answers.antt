@@ -1,5 +1,4 @@
-use Rattle.std.proofs.Common.{◌≡◌, ◌+◌, ◌<◌, ◌≤◌, ℕ, Option, List, [], ◌∷◌, ◌++◌, length, map, refl, sym, ap, subst, ◌∙◌, length-append, arith}
-use Rattle.std.specs.Prelude.{vec_capacity}
+use Rattle.std.proofs.Common.{◌≡◌, ℕ, Option, List, [], ◌∷◌, ◌++◌, length, map, refl, sym, ap, subst, ◌∙◌, length-append, arith}
 use Rattle.std.specs.List.{AllByRecursion}
 use Rattle.std.proofs.lemmas.List.{map-append}
 use Rattle.td_domain.specs.declared.cubes.Trit.{Trit}
@@ -15,8 +14,8 @@ use Rattle.td_pool.specs.Truth.{IsWithin}
 use Rattle.td_pool.proofs.Digs.{true_more, left_more, within_past}
 use Rattle.td_pool.proofs.below.Below.settle.Goals as goal
 
-pub returns : goal.returns
-returns c =
+pub returns-clause-below : goal.returns-clause-below
+returns-clause-below c =
     let asked : Problem = problem c.args.circuit.now c.args.admit.now in
     let old = c.args.self.now in
     let was = c.requires.below in

@@ -1,5 +1,4 @@
-use Rattle.std.proofs.Common.{rules, ◌≡◌, ◌+◌, ◌≤◌, [], ◌∷◌, length, sym, ap, subst, ◌∙◌, arith}
-use Rattle.std.specs.Prelude.{vec_capacity}
+use Rattle.std.proofs.Common.{rules, sym, subst, arith}
 use Rattle.std.specs.List.{AllByRecursion}
 use Rattle.td_pool.proofs.Finds.{all_push, one_longer}
 use Rattle.td_pool.proofs.pool.fn.found_by_all.scope.Goals as goal

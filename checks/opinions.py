@@ -1,0 +1,445 @@
+#!/usr/bin/env python3
+"""opinions.py PROGRAM --seconds N --seed S [--keep DIR]: compares PROGRAM's `check`, `sim` and `bound` with checks/second_opinion.py.
+
+Makes random circuits and for each of them questions, certificates and pairs of vectors: certificates that `PROGRAM worst` writes, trees of its
+own for all four versions (right ones, by the bounds of second_opinion.py, and wrong ones), and both with bytes and lines mutated. Compared are the
+exit status, standard output, and of faults the kind, and the line of those of certificates. Prints counts at the end, and with status 1 the
+first difference, whose files are left in DIR (/tmp/opinions where left out). Uses one processor.
+"""
+
+import argparse
+import itertools
+import os
+import random
+import re
+import subprocess
+import sys
+import time
+from collections import Counter
+
+import second_opinion as opinion
+from second_opinion import X
+
+SYMBOLS = {"first": "01.", "second": "01.", "hold": ".=", "from": "01", "to": "01"}
+
+
+class Differs(Exception):
+    """The two say different things: the command's words and both answers."""
+
+
+# ---- Circuits ----
+
+
+def delay_text(rng, largest):
+    """A delay as a text, perhaps none."""
+    rise, fall = rng.randint(1, largest), rng.randint(1, largest)
+    return rng.choice(["", f"#{rise}", f"#({fall})", f"#({rise},{fall})", f"#({rise},{fall})", f"# (\t{rise} , {fall}_ )"])
+
+
+def names_of(rng, count, letter):
+    """Names for nets: simple, escaped, or bits of a vector, with the text that declares them."""
+    form = rng.random()
+    if count and form < 0.2:
+        left, right = rng.choice([(count - 1, 0), (0, count - 1), (7, 8 - count)])
+        low, high = sorted((left, right))
+        bits = range(left, right + (1 if right >= left else -1), 1 if right >= left else -1)
+        return [letter], f"[{left}:{right}] {letter}", [f"{letter}[{bit}]" for bit in bits]
+    names = [f"{letter}{k}" if form < 0.8 else f"\\{letter}.{k}$ " for k in range(count)]
+    return names, ",".join(names), names
+
+
+def gate_lines(rng, inputs, outputs, largest):
+    """Gate statements that drive the outputs and some more nets, in any order."""
+    count = max(len(outputs), rng.randint(1, 14))
+    made = [f"n{k}" for k in range(count - len(outputs))] + outputs
+    rng.shuffle(made)
+    constants = rng.choice([0, 0, 0.15])
+    nets, lines = list(inputs), []
+    while made:
+        kind = rng.choice(opinion.KINDS)
+        single = kind in ("buf", "not")
+        drives = [made.pop() for _ in range(min(len(made), rng.choice([1, 1, 1, 2]) if single else 1))]
+        pool = nets[-rng.choice([3, 8, 99]) :]
+        reads = [rng.choice(pool) if pool and rng.random() >= constants else rng.choice(["1'b0", "1'b1"]) for _ in range(1 if single else rng.choice([1, 2, 2, 2, 3, 4]))]
+        name = rng.choice(["", f"g{len(lines)} "])
+        lines.append(f"{kind} {delay_text(rng, largest)} {name}({','.join(drives + reads)});")
+        nets += drives
+    rng.shuffle(lines)
+    return lines
+
+
+def random_circuit(rng):
+    """The text of a random circuit."""
+    names, inputs, input_nets = names_of(rng, rng.choice([0, 1, 1, 2, 2, 2, 3, 3, 3, 4, 5, 7]), "i")
+    ports, outputs, output_nets = names_of(rng, rng.choice([0, 1, 1, 1, 1, 2, 3]), "y")
+    lines = gate_lines(rng, input_nets, output_nets, rng.choice([1, 2, 3, 3, 6, 6, 20, 1_000_000_000]))
+    head = rng.choice(["", "", "", "`timescale 1 ns/1ns\n", "`timescale 10ns / 1 ps // a step\n", "/* */ (* keep *) `celldefine\n"])
+    items = [f"input {inputs};"] * bool(names) + [f"output {outputs};"] * bool(ports) + lines
+    if "ps" in head:
+        items = [line.replace("#", "#0.0") if "#(" not in line and "# (" not in line and "00000" not in line else line for line in items]
+    return head + "\n".join([f"module t ({','.join(names + ports)});", *items, "endmodule\n"])
+
+
+def rippling_circuit(rng):
+    """A circuit in which nets change some 512 times, where the possible levels are capped."""
+    count, most_of = rng.randint(508, 516), rng.choice(["a", "aaaaaaab"])
+    delays = rng.sample(range(1, 520), count)
+    delayed = [f"buf #{2 * delay} (d{delay},{rng.choice(most_of)});" for delay in delays]
+    taps = ",".join(f"d{delay}" for delay in delays)
+    rise, fall = rng.choice([(1, 1), (2, 2), (1, 2), (2, 1)])
+    kind, last = rng.choice(["xor", "xnor"]), rng.choice(["xor", "or", "and", "nand", "buf"])
+    gates = [f"{kind} #({rise},{fall}) (w,{taps});", f"buf #{rng.randint(1, 1100)} (l,b);", f"{last} (y,{'w' if last == 'buf' else 'w,l'});"]
+    return "\n".join(["module t (a,b,y,w);", "input a,b;", "output y,w;", *delayed, *gates, "endmodule\n"])
+
+
+def broken(rng, text):
+    """The text with a small change, which it may mean a netlist without, or have a loop by."""
+    words = text.split(" ")
+    if rng.random() < 0.5:
+        one, other = rng.randrange(len(words)), rng.randrange(len(words))
+        words[one], words[other] = words[other], words[one]
+        return " ".join(words)
+    if rng.random() < 0.3:
+        return re.sub(r"\bn[0-9]\b", lambda found: f"n{rng.randint(0, 9)}" if rng.random() < 0.1 else found[0], text)
+    place = rng.randrange(len(text))
+    return text[:place] + rng.choice(["", ",", "n0", "y", "i0", "1'b1", "#1", ";", "1", "["]) + text[place + rng.choice([0, 1]) :]
+
+
+# ---- Questions and trees ----
+
+
+def trits(rng, count, free):
+    return "".join("." if rng.random() < free else rng.choice("01") for _ in range(count))
+
+
+def random_question(rng, count):
+    """The words of a question, None for an option that is left out: first, second, hold, flips, at."""
+    free = rng.choice([0.4, 0.8, 1])
+    words = {name: None for name in ("first", "second", "hold", "flips", "at")}
+    if rng.random() < 0.6:
+        words["first"] = rng.choice([None, trits(rng, count, free)])
+        words["second"] = rng.choice([None, trits(rng, count, free)])
+        words["hold"] = rng.choice([None, None, "".join(rng.choice("...=") for _ in range(count))])
+        words["flips"] = rng.choice([None, None, rng.randint(0, count + 1)])
+    if rng.random() < 0.4:
+        words["at"] = [rng.choice([0, 0, 1, 2, 3, 7, rng.randint(0, 40), 1_000_000_000]) for _ in range(count)]
+    return words
+
+
+def question_of(words, count):
+    first, second = words["first"] or "." * count, words["second"] or "." * count
+    flips = count if words["flips"] is None else min(count, words["flips"])
+    held = [symbol == "=" for symbol in words["hold"] or "." * count]
+    return opinion.Question(opinion.woven(opinion.levels_of(first), opinion.levels_of(second)), held, flips, words["at"] or [0] * count)
+
+
+def version_of(question):
+    if any(question.moments):
+        return 3
+    free = set(question.pins) <= {X} and not any(question.held) and question.flips == len(question.held)
+    return 1 if free else 2
+
+
+def admitted_pairs(rng, question):
+    """Admitted pairs, each as a cube: all of them where there are few."""
+    choices = [(0, 1) if pin == X else (pin,) for pin in question.pins]
+    if sum(len(choice) == 2 for choice in choices) <= 6:
+        pairs = itertools.product(*choices)
+    else:
+        pairs = ([rng.choice(choice) for choice in choices] for _ in range(40))
+    return [list(pair) for pair in pairs if opinion.has_admitted(question, list(pair))]
+
+
+def timed(circuit, question, pair):
+    return opinion.delay_of_pair(circuit, pair[::2], pair[1::2], question.moments)
+
+
+def tree_lines(rng, circuit, question, time, letters, with_none, most):
+    """A tree that shows that no admitted pair has a delay greater than the time, or which ends where too many lines stand."""
+    cubes, lines = [question.pins], []
+    while cubes and len(lines) < most:
+        cube = cubes.pop()
+        free = [position for position, level in enumerate(cube) if level == X]
+        line, letter = None, rng.choice(letters)
+        if with_none and rng.random() < 0.8 and not opinion.has_admitted(question, cube):
+            line = "none"
+        elif rng.random() < 0.9 or not free:
+            bound = opinion.bound(letter, circuit, cube, question.moments)
+            if bound is not None and bound <= time and (free or rng.random() < 0.6):
+                line = f"b {letter} {rng.choice([bound, bound, rng.randint(bound, time)])}"
+            elif not free:
+                line = f"p {timed(circuit, question, cube)}"
+        if line is None:
+            position = rng.choice(free)
+            line = f"s {position}"
+            cubes += [cube[:position] + [side] + cube[position + 1 :] for side in (1, 0)]
+        lines.append(line)
+    return lines
+
+
+def one_leaf(rng, circuit, question, letter):
+    """A tree of one leaf with the least number that its bound lets pass, or one less; the greatest one where there is no bound."""
+    bound = opinion.bound(letter, circuit, question.pins, question.moments)
+    return [f"b {letter} {opinion.LARGEST if bound is None else max(0, bound - rng.randint(0, 1))}"]
+
+
+def symbols_of(levels):
+    return "".join("01."[level] for level in levels) or "none"
+
+
+def own_certificate(rng, circuit, question):
+    """The lines of a certificate with a tree of its own, of version 4 or of the version of its question; a list, or None without a pair."""
+    pairs = admitted_pairs(rng, question)
+    if not pairs:
+        return None
+    pair = max(pairs, key=lambda pair: timed(circuit, question, pair))
+    time, version = timed(circuit, question, pair), rng.choice([version_of(question), 4, 4])
+    letters = rng.choice(["a", "t", "m", "atm"]) if version < 4 else rng.choice(["e", "n", "en", "atmen"])
+    if rng.random() < 0.6:
+        tree = tree_lines(rng, circuit, question, time, letters, version > 1, 400)
+    else:
+        tree = one_leaf(rng, circuit, question, rng.choice(letters))
+    count = circuit.inputs
+    lines = [f"tdelay-cert {version}", f"circuit {count} {len(circuit.gates)}"]
+    if version > 1:
+        lines += [f"first {symbols_of(question.pins[::2])}", f"second {symbols_of(question.pins[1::2])}"]
+        lines += ["hold " + ("".join(".="[held] for held in question.held) or "none"), f"flips {question.flips}"]
+    if version > 2:
+        lines.append("at " + (" ".join(map(str, question.moments)) or "none"))
+    return lines + [f"time {time}", f"from {symbols_of(pair[::2])}", f"to {symbols_of(pair[1::2])}"] + tree
+
+
+# ---- Mutations ----
+
+
+def changed_number(rng, line):
+    """The line with its last number changed a little, or much."""
+    words = line.split(" ")
+    if words[-1].isdigit():
+        number = int(words[-1])
+        near = [number - 1, number + 1, rng.randint(0, 2 * number)] if number else [1, 2, 3]
+        far = [0, number * 10, 10**18, 10**18 + 1, 999_999_999, 10**9 + 1]
+        words[-1] = str(rng.choice(near if rng.random() < 0.8 else far))
+    return " ".join(words)
+
+
+def changed_line(rng, line):
+    """The line with another letter, number or symbol."""
+    words = line.split(" ")
+    if words[0] == "b" and len(words) == 3 and rng.random() < 0.5:
+        return f"b {rng.choice('atmenx')} {words[2]}"
+    if words[0] in ("b", "p", "none") and rng.random() < 0.4:
+        number = words[-1] if words[1:] else str(rng.randint(0, 9))
+        return rng.choice(["none", "none", f"p {number}", f"b {rng.choice('atmen')} {number}", f"s {rng.randint(0, 9)}", "b a", "n", ""])
+    if words[0] in SYMBOLS and words[1:] and words[1]:
+        place = rng.randrange(len(words[1]))
+        symbol = rng.choice(SYMBOLS[words[0]] if rng.random() < 0.9 else "01.=x ")
+        return f"{words[0]} {words[1][:place]}{symbol}{words[1][place + 1:]}"
+    if words[0] == "at" and words[1:]:
+        words[rng.randrange(1, len(words))] = rng.choice(["0", "1", "00", "1000000000", "1000000001", "none", "5"])
+        return " ".join(words)
+    return changed_number(rng, line)
+
+
+def by_lines(rng, lines):
+    """The lines with a few of them changed, taken away, doubled, exchanged or cut off."""
+    lines = list(lines)
+    for _ in range(rng.choice([1, 1, 1, 2])):
+        place = rng.randrange(len(lines))
+        way = rng.random()
+        if way < 0.8:
+            lines[place] = changed_line(rng, lines[place])
+        elif way < 0.85:
+            lines[place : place + 1] = []
+        elif way < 0.9:
+            lines.insert(place, rng.choice(lines))
+        elif way < 0.95:
+            other = rng.randrange(len(lines))
+            lines[place], lines[other] = lines[other], lines[place]
+        else:
+            lines[place:] = []
+        if not lines:
+            break
+    return lines
+
+
+def by_bytes(rng, text):
+    """The bytes with one of them changed, taken away or put in, or cut off."""
+    place = rng.randrange(len(text) + 1) if rng.random() < 0.5 else rng.randrange(min(len(text), 120) + 1)
+    byte = rng.choice([*b"0123456789", *b" \n\r\tatmenpbs.=x-+", 0, 255, rng.randrange(256)])
+    run = bytes(rng.choice(b"0123456789") for _ in range(rng.choice([1, 9, 18, 30])))
+    return rng.choice(
+        [
+            text[:place],
+            text[:place] + text[place + 1 :],
+            text[:place] + bytes([byte]) + text[place + 1 :],
+            text[:place] + bytes([byte]) + text[place + 1 :],
+            text[:place] + bytes([byte]) + text[place:],
+            text[:place] + run + text[place:],
+            text + bytes([byte]),
+        ]
+    )
+
+
+# ---- Comparing ----
+
+
+def program(words):
+    """What the program says: standard output, standard error and the exit status."""
+    done = subprocess.run(words, stdin=subprocess.DEVNULL, capture_output=True)
+    return done.stdout.decode("latin-1"), done.stderr.decode("latin-1"), done.returncode
+
+
+def comparable(answer):
+    """An answer without what second_opinion.py tells in its own words."""
+    out, fault, status = answer
+    for kind in ("tdelay: netlist fault", "tdelay: circuit fault 1 Loop"):
+        if fault.startswith(kind):
+            fault = kind
+    return out, fault, status
+
+
+def compare(words, theirs, ours):
+    if comparable(theirs) != comparable(ours):
+        raise Differs(" ".join(map(str, words)), theirs, ours)
+
+
+def write(name, text):
+    with open(name, "wb") as file:
+        file.write(text)
+    return name
+
+
+def compare_check(setup, netlist, circuit, certificate, counts, origin):
+    """Compares `check` of a certificate, and counts its version and what is said of it."""
+    words = [setup.program, "check", setup.netlist, write(setup.certificate, certificate), *setup.defaults]
+    theirs = program(words)
+    ours = opinion.told(lambda: opinion.check_circuit(circuit, certificate)) if circuit else opinion.check(netlist, certificate, setup.steps)
+    compare(words, theirs, ours)
+    head = certificate.split(b"\n", 1)[0]
+    version = head[-1:].decode() if head in (b"tdelay-cert 1", b"tdelay-cert 2", b"tdelay-cert 3", b"tdelay-cert 4") else "none"
+    said = theirs[0].split("\n")[0].split(" ")[:3] if theirs[0] else theirs[1].split(" ")[1:5]
+    verdict = "accepted" if said[0] == "accepted" else said[2] if theirs[0] else " ".join(said)
+    counts[f"check, version {version}", verdict.split(" at ")[0].strip()] += 1
+    counts["certificates", origin] += 1
+
+
+def compare_sim(setup, netlist, circuit, rng, counts):
+    """Compares `sim` of a random pair, with a moment for each input or without, and now and then with words that give nothing."""
+    inputs = circuit.inputs if circuit else rng.randint(0, 3)
+    letters = rng.choice(["01", "01", "01x", "01x", "01x2"] if rng.random() < 0.2 else ["01", "01x"])
+    first, second = ("".join(rng.choice(letters) for _ in range(max(0, inputs + rng.choice([0] * 30 + [1, -1])))) or "none" for _ in range(2))
+    moments = [str(rng.choice([0, 0, 1, 2, 5, rng.randint(0, 30), 1_000_000_000])) for _ in range(inputs)]
+    if rng.random() < 0.05:
+        moments.append(rng.choice(["1", "", "1000000001", "007", "+1", "x"]))
+        rng.shuffle(moments)
+    if rng.random() < 0.05:
+        moments = moments[1:]
+    at = rng.choice([None, ",".join(moments) or "none", ",".join(moments) or "none"])
+    words = [setup.program, "sim", setup.netlist, first, second, *setup.defaults] + ([f"--at={at}"] if at is not None else [])
+    theirs = program(words)
+    ours = opinion.sim(netlist, first, second, at, setup.steps)
+    compare(words, theirs, ours)
+    counts["sim", "run" if theirs[2] == 0 else theirs[1].split(" at ")[0].strip()[:22]] += 1
+
+
+def compare_bounds(setup, circuit, question, counts):
+    """Compares the bounds of the pins with those that `bound` tells by three of the letters."""
+    if circuit.inputs == 0:
+        return
+    pins = [f"--{name}={symbols_of(question.pins[side::2])}" for side, name in enumerate(("first", "second"))]
+    words = [setup.program, "bound", setup.netlist, *pins, "--at=" + ",".join(map(str, question.moments)), *setup.defaults]
+    theirs = program(words)
+    bounds = [(letter, opinion.bound(letter, circuit, question.pins, question.moments)) for letter in "atm"]
+    lines = [f"{letter} {'none' if bound is None else bound}" for letter, bound in bounds]
+    compare(words, theirs, (opinion.report([f"unit {circuit.unit}", f"defaulted {circuit.defaulted}", *lines]), "", 0))
+    counts["bound", "compared"] += 1
+
+
+class Setup:
+    """Where a circuit's files stand, and its default delays."""
+
+    def __init__(self, program, folder, rng):
+        self.program, self.netlist, self.certificate = program, os.path.join(folder, "netlist.v"), os.path.join(folder, "certificate")
+        self.written = os.path.join(folder, "written")
+        self.steps = opinion.Delays(rng.randint(1, 4), rng.randint(1, 4)) if rng.random() < 0.4 else opinion.Delays(1, 1)
+        self.defaults = [f"--default-rise={self.steps.rise}", f"--default-fall={self.steps.fall}"] if max(self.steps) > 1 else []
+
+
+def worst(setup, words, budget):
+    """The certificate that `worst` writes, or None where it has no exact answer."""
+    options = [f"--{name}={value}" for name, value in words.items() if value not in (None, "") and name != "at"]
+    if words["at"]:
+        options.append("--at=" + ",".join(map(str, words["at"])))
+    if os.path.exists(setup.written):
+        os.remove(setup.written)
+    program([setup.program, "worst", setup.netlist, *options, "--budget", str(budget), "--cert", setup.written, *setup.defaults])
+    return open(setup.written, "rb").read() if os.path.exists(setup.written) else None
+
+
+def compare_mutated(setup, netlist, circuit, rng, certificate, counts, origin, times):
+    """Compares `check` of a certificate and of some mutated ones."""
+    compare_check(setup, netlist, circuit, certificate, counts, origin)
+    for _ in range(times):
+        lines = certificate.decode("latin-1").rstrip("\n").split("\n")
+        mutated = by_bytes(rng, certificate) if rng.random() < 0.3 else ("\n".join(by_lines(rng, lines)) + "\n").encode("latin-1")
+        compare_check(setup, netlist, circuit, mutated, counts, origin + ", mutated")
+
+
+def circuit_or_none(netlist, steps):
+    try:
+        return opinion.circuit_of(opinion.read_netlist(netlist, steps))
+    except (opinion.NetlistFault, opinion.LoopFault):
+        return None
+
+
+def compare_circuit(setup, rng, counts):
+    """Makes a circuit and compares what is said of it."""
+    kind = rng.random()
+    text = rippling_circuit(rng) if kind < 0.01 else random_circuit(rng)
+    text = broken(rng, text) if kind > 0.93 else text
+    netlist = text.encode("latin-1")
+    write(setup.netlist, netlist)
+    circuit = circuit_or_none(netlist, setup.steps)
+    counts["circuits", "taken" if circuit else "refused"] += 1
+    for _ in range(5):
+        compare_sim(setup, netlist, circuit, rng, counts)
+    if circuit is None:
+        return compare_check(setup, netlist, circuit, b"tdelay-cert 1\n", counts, "own")
+    for _ in range(3):
+        words = random_question(rng, circuit.inputs)
+        written = worst(setup, words, rng.choice([1, 50, 300, 1000]))
+        if written:
+            compare_mutated(setup, netlist, circuit, rng, written, counts, "worst", 2)
+        question = question_of(words, circuit.inputs)
+        compare_bounds(setup, circuit, question, counts)
+        for times in (0, 0, 3):
+            own = own_certificate(rng, circuit, question)
+            if own:
+                compare_mutated(setup, netlist, circuit, rng, ("\n".join(own) + "\n").encode(), counts, "own", times)
+
+
+def main():
+    parser = argparse.ArgumentParser(description=__doc__.split("\n", 1)[0])
+    parser.add_argument("PROGRAM")
+    parser.add_argument("--seconds", type=float, default=60)
+    parser.add_argument("--seed", type=int, default=0)
+    parser.add_argument("--keep", default="/tmp/opinions")
+    asked = parser.parse_args()
+    os.makedirs(asked.keep, exist_ok=True)
+    counts, end, which, status = Counter(), time.monotonic() + asked.seconds, 0, 0
+    while time.monotonic() < end and status == 0:
+        rng = random.Random(f"{asked.seed} {which}")
+        try:
+            compare_circuit(Setup(asked.PROGRAM, asked.keep, rng), rng, counts)
+        except Differs as difference:
+            print(f"circuit {which} of seed {asked.seed}:", *difference.args, sep="\n  ")
+            status = 1
+        which += 1
+    for (what, said), count in sorted(counts.items()):
+        print(f"{what}: {said} {count}")
+    return status
+
+
+if __name__ == "__main__":
+    sys.exit(main())

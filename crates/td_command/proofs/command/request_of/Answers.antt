@@ -1,0 +1,7 @@
+use Rattle.clap.specs.Words.{found_of, rows_of}
+use Rattle.td_command.proofs.CommandLines.{no_check}
+use Rattle.td_command.proofs.command.request_of.Goals as goal
+
+pub returns-in_err-check_of-in-check : goal.returns-in_err-check_of-in-check
+returns-in_err-check_of-in-check c = rw c.from_residual-in_err-check_of-in-check.ensures
+    (no_check c.args.matches.now c.in_ok-name.name.now (rows_of (found_of c.in_ok-name.matches.now)) c.in_ok-name.ensures.name c.in_ok-name.ensures.rows c.in-check.is c.in_err-check_of-in-check.ensures)

@@ -1,0 +1,213 @@
+//! A climb from pair to pair, towards one with a great delay.
+
+ghost use Rattle.std.specs.Prelude.{◌≡◌, ◌<◌, ◌≤◌, length, IfOk};
+ghost use Rattle.td_circuit.specs.Numbering.{setting};
+ghost use Rattle.td_domain.specs.Admits.{IsAdmitted};
+ghost use Rattle.td_event_sim.specs.Scratch.{IsFor};
+ghost use Rattle.td_lead.specs.Bits.{AreAdmitted};
+ghost use Rattle.td_lead.specs.Climbing.{IsTimed, tries_of};
+
+use crate::bits::Bits;
+use crate::draws::Draws;
+use crate::timed::Timed;
+use std::alloc::{AllocError, Global};
+use td_circuit::Circuit;
+use td_domain::{Admit, Pair};
+use td_event_sim::{Scratch, delay_of};
+
+/// How a climb goes: the numbers that it draws follow from the seed, and it ends after so many tries, or once it stands at a
+/// pair whose delay is enough.
+#[derive(Clone, Copy, Debug, Drop)]
+pub struct Plan {
+    pub seed: u64,
+    pub tries: u32,
+    pub enough: u64,
+}
+
+/// How often a climb in this circuit tries: 10,000 times, and less where there are more than 1,000 gates.
+pub fn tries_for(circuit: &Circuit) -> u32
+    ensures { result ≡ tries_of (length circuit.now.gates) }
+{
+    let gates = circuit.gates().len() as u32;
+    (10_000_000 / gates.max(1)).min(10_000)
+}
+
+/// Climbs from an admitted pair among the admitted pairs, by moves that change a few inputs and don't lessen the delay, and from
+/// another pair after a long while without a gain. Answers the first pair of the greatest delay that was met, of all the
+/// moves that were taken. Where memory runs out, it ends with what was met so far.
+pub fn climb(
+    alloc: Global,
+    scratch: &mut Scratch,
+    circuit: &Circuit,
+    admit: &Admit,
+    start: Timed,
+    plan: Plan,
+) -> Timed
+    requires scratch { IsFor circuit.now scratch.old }
+    requires held { length admit.now.held ≡ length circuit.now.netlist.inputs }
+    requires start { IsTimed (setting circuit.now) admit.now start }
+    ensures timed { IsTimed (setting circuit.now) admit.now result }
+    ensures no_less { start.time ≤ result.time }
+    ensures scratch { IsFor circuit.now scratch.new }
+{
+    let mut best = start;
+    let _end = climb_on(alloc, scratch, circuit, admit, &mut best, plan);
+    best
+}
+
+/// Climbs from the best pair, and keeps a better one in its place. The error is want of memory.
+fn climb_on(
+    alloc: Global,
+    scratch: &mut Scratch,
+    circuit: &Circuit,
+    admit: &Admit,
+    best: &mut Timed,
+    plan: Plan,
+) -> Result<(), AllocError>
+    requires scratch { IsFor circuit.now scratch.old }
+    requires held { length admit.now.held ≡ length circuit.now.netlist.inputs }
+    requires best { IsTimed (setting circuit.now) admit.now best.old }
+    ensures best { IsTimed (setting circuit.now) admit.now best.new }
+    ensures no_less { best.old.time ≤ best.new.time }
+    ensures scratch { IsFor circuit.now scratch.new }
+{
+    let _numbering = circuit.gates();
+    let inputs = circuit.input_count();
+    if inputs == 0 {
+        return Ok(());
+    }
+    let patience = 40 * inputs as u32;
+    let mut draws = Draws { state: plan.seed };
+    let mut here = best.copy(alloc)?;
+    let mut grown = 0;
+    for attempt in 0..plan.tries {
+        if best.time >= plan.enough {
+            break;
+        }
+        let is_stuck = attempt.saturating_sub(grown) > patience;
+        let (next, is_gain) = step(
+            alloc, scratch, circuit, admit, best, here, &mut draws, is_stuck,
+        )?;
+        here = next;
+        if is_gain {
+            grown = attempt;
+        }
+    }
+    Ok(())
+}
+
+/// The pair from which a climb goes on, and whether it has a greater delay or is drawn anew: a pair one move away, if its delay
+/// isn't less, else one drawn anew if the climb is stuck, else the same. The error is want of memory.
+fn step(
+    alloc: Global,
+    scratch: &mut Scratch,
+    circuit: &Circuit,
+    admit: &Admit,
+    best: &mut Timed,
+    here: Timed,
+    draws: &mut Draws,
+    is_stuck: bool,
+) -> Result<(Timed, bool), AllocError>
+    requires scratch { IsFor circuit.now scratch.old }
+    requires held { length admit.now.held ≡ length circuit.now.netlist.inputs }
+    requires some { 0 < length circuit.now.netlist.inputs }
+    requires best { IsTimed (setting circuit.now) admit.now best.old }
+    requires here { IsTimed (setting circuit.now) admit.now here }
+    ensures timed { IfOk result (λ next. IsTimed (setting circuit.now) admit.now next.0) }
+    ensures best { IsTimed (setting circuit.now) admit.now best.new }
+    ensures no_less { best.old.time ≤ best.new.time }
+    ensures scratch { IsFor circuit.now scratch.new }
+{
+    let _numbering = circuit.gates();
+    let pair = moved(alloc, admit, &here.pair, draws)?;
+    let next = timed(scratch, circuit, admit, pair)?;
+    if next.time >= here.time {
+        let is_gain = next.time > here.time;
+        return Ok((kept(alloc, circuit, admit, best, next)?, is_gain));
+    }
+    if !is_stuck {
+        return Ok((here, false));
+    }
+    let pair = anywhere(alloc, admit, &here.pair, draws)?;
+    Ok((timed(scratch, circuit, admit, pair)?, true))
+}
+
+/// An admitted pair with its delay. The error is want of memory.
+fn timed(
+    scratch: &mut Scratch,
+    circuit: &Circuit,
+    admit: &Admit,
+    pair: Pair,
+) -> Result<Timed, AllocError>
+    requires scratch { IsFor circuit.now scratch.old }
+    requires held { length admit.now.held ≡ length circuit.now.netlist.inputs }
+    requires admitted { IsAdmitted admit.now pair }
+    ensures timed { IfOk result (IsTimed (setting circuit.now) admit.now) }
+    ensures scratch { IsFor circuit.now scratch.new }
+{
+    let _pins = admit.pins();
+    let time = delay_of(scratch, circuit, &pair)?;
+    Ok(Timed { pair, time })
+}
+
+/// The pair again, which is also put in the place of the best where it has a greater delay. The error is want of memory, and
+/// then the best is there.
+fn kept(
+    alloc: Global,
+    circuit: &Circuit,
+    admit: &Admit,
+    best: &mut Timed,
+    next: Timed,
+) -> Result<Timed, AllocError>
+    requires best { IsTimed (setting circuit.now) admit.now best.old }
+    requires next { IsTimed (setting circuit.now) admit.now next }
+    ensures same { IfOk result (λ again. again ≡ next) }
+    ensures best { IsTimed (setting circuit.now) admit.now best.new }
+    ensures no_less { best.old.time ≤ best.new.time }
+    ensures reached { next.time ≤ best.new.time }
+{
+    if next.time <= best.time {
+        return Ok(next);
+    }
+    *best = next;
+    best.copy(alloc)
+}
+
+/// A pair that is one move from an admitted one: one to four times, an input's first bit, its second or both are flipped, where
+/// the pair stays admitted. The error is want of memory.
+fn moved(alloc: Global, admit: &Admit, pair: &Pair, draws: &mut Draws) -> Result<Pair, AllocError>
+    requires some { 0 < length admit.now.held }
+    requires few { length admit.now.held ≤ 4096 }
+    requires admitted { IsAdmitted admit.now pair.now }
+    ensures { IfOk result (IsAdmitted admit.now) }
+{
+    let mut bits = Bits::of(alloc, admit, pair)?;
+    for _ in 0..1 + draws.below(4) {
+        let input = draws.below(admit.held().len());
+        let which = draws.below(3);
+        let before = bits.first[input] != (which != 1);
+        let after = bits.second[input] != (which != 0);
+        bits.put(admit, input, before, after);
+    }
+    Ok(bits.into_pair())
+}
+
+/// A pair whose bits are drawn, input by input where the pair stays admitted. The error is want of memory.
+fn anywhere(
+    alloc: Global,
+    admit: &Admit,
+    pair: &Pair,
+    draws: &mut Draws,
+) -> Result<Pair, AllocError>
+    requires few { length admit.now.held ≤ 4096 }
+    requires admitted { IsAdmitted admit.now pair.now }
+    ensures { IfOk result (IsAdmitted admit.now) }
+{
+    let mut bits = Bits::of(alloc, admit, pair)?;
+    for input in 0..admit.held().len() {
+        let before = draws.below(2) == 1;
+        let after = draws.below(2) == 1;
+        bits.put(admit, input, before, after);
+    }
+    Ok(bits.into_pair())
+}

@@ -1,0 +1,86 @@
+-- What the users of a deque put and take.
+use Rattle.std.specs.Prelude.{◌≡◌, ℕ, ◌+◌, ◌≤◌, ◌==◌, List, [], ◌∷◌, ◌++◌, map, take, drop, slice_get, slice_set, Some, count_by, sum_by}
+use Rattle.td_pool.specs.declared.hand.Hand.{Hand}
+
+abbrev pub hand : List ℕ → List ℕ → Hand
+hand put taken = record { put = put; taken = taken }
+
+abbrev pub empty_hand : Hand
+empty_hand = hand [] []
+
+abbrev pub times : ℕ → List ℕ → ℕ
+times x xs = count_by (λ y. x == y) xs
+
+-- how often these users put, and took, the number
+abbrev pub times_put : ℕ → List Hand → ℕ
+times_put x hands = sum_by (λ h. times x h.put) hands
+
+abbrev pub times_taken : ℕ → List Hand → ℕ
+times_taken x hands = sum_by (λ h. times x h.taken) hands
+
+-- these users put nothing
+abbrev pub PutNothing : List Hand → Type 0
+PutNothing [] = Unit {0}
+PutNothing (h ∷ hands) = (h.put ≡ []) × PutNothing hands
+
+-- the first user alone puts
+abbrev pub OwnerPuts : List Hand → Type 0
+OwnerPuts [] = ⊥
+OwnerPuts (owner ∷ guests) = PutNothing guests
+
+-- the rule: the owner of a deque alone puts, and each number was taken, or is in the deque, as often as it was put
+pub record IsFair (items : List ℕ) (hands : List Hand) : Type 0 where
+  pub owner : OwnerPuts hands
+  pub balanced : (x : ℕ) → times_put x hands ≡ times_taken x hands + times x items
+
+-- each number that this user took was put by it, at least as often
+abbrev pub TookItsOwn : Hand → Type 0
+TookItsOwn h = (x : ℕ) → times x h.taken ≤ times x h.put
+
+-- under the rule no number was taken more often than it was put
+abbrev pub TakenWasPut : Type 0
+TakenWasPut = (items : List ℕ) (hands : List Hand) (x : ℕ) → IsFair items hands → times_taken x hands ≤ times_put x hands
+
+-- a user of the deque of this identity, and what it has put and taken
+pub record Port : Type 0 where
+  pub deque : ℕ × ℕ
+  pub hand : Hand
+
+-- a worker's own deque, and those of others
+pub record Ports : Type 0 where
+  pub own : Port
+  pub others : List Port
+
+-- a user who put and took nothing yet
+abbrev pub fresh : ℕ × ℕ → Port
+fresh deque = record { deque = deque; hand = empty_hand }
+
+abbrev pub puts : Port → ℕ → Port
+puts p number = record { deque = p.deque; hand = hand (p.hand.put ++ number ∷ []) p.hand.taken }
+
+abbrev pub takes : Port → ℕ → Port
+takes p number = record { deque = p.deque; hand = hand p.hand.put (p.hand.taken ++ number ∷ []) }
+
+-- a fresh user of a seat's own deque
+abbrev pub fresh_other : Ports → Port
+fresh_other s = fresh s.own.deque
+
+-- fresh users of the own deques of all seats but that at k, first of those behind it
+abbrev pub ring : List Ports → ℕ → List Port
+ring seats k = map fresh_other (drop (k + 1) seats) ++ map fresh_other (take k seats)
+
+-- nothing was put or taken yet, and each steals from the deques of all others
+pub record AreDealt (seats : List Ports) : Type 0 where
+  pub own : (k : ℕ) (s : Ports) → slice_get seats k ≡ Some s → s.own ≡ fresh s.own.deque
+  pub others : (k : ℕ) (s : Ports) → slice_get seats k ≡ Some s → s.others ≡ ring seats k
+
+-- the number was taken from one of these deques, and nothing else changed
+pub record StealsAt (old : List Port) (number : ℕ) (new : List Port) : Type 0 where
+  pub place : ℕ
+  pub port : Port
+  pub was : slice_get old place ≡ Some port
+  pub now : new ≡ slice_set old place (takes port number)
+
+-- the number was taken from the deque of one of the others, and nothing else changed
+abbrev pub Steals : Ports → ℕ → Ports → Type 0
+Steals old number new = StealsAt old.others number new.others × (new.own ≡ old.own)
