@@ -1,12 +1,15 @@
 #!/usr/bin/env python3
 """build.py: proves and builds the program `tdelay`, crate by crate, and says on standard error how far it is.
 
-Crates that don't need each other are proved side by side, as many as there are processors and memory for. What was proved stays, so an
-interrupted build goes on where it stopped. Exit status 0 where the program is built, else 5, with what the toolchain said.
+Crates that don't need each other are proved side by side, as many as there are processors and memory for, each in a folder of links, since
+a run of the toolchain locks the folders of all crates that it reads. What was proved stays, so an interrupted build goes on where it
+stopped. Exit status 0 where the program is built, else 5, with what the toolchain said.
 """
 
+import fcntl
 import os
 import re
+import shutil
 import subprocess
 import sys
 import tempfile
@@ -49,12 +52,28 @@ def left(uses, table, done):
     return chain[PROGRAM]
 
 
+def link(folder, lane, ignored=None):
+    """Makes a folder in a lane, of links to its files."""
+    shutil.copytree(os.path.join(TOP, folder), os.path.join(lane, folder), ignore=ignored, copy_function=os.link)
+
+
+def move(folder, to):
+    """Moves a folder, if there is one."""
+    if os.path.isdir(folder):
+        shutil.rmtree(to, ignore_errors=True)
+        os.rename(folder, to)
+
+
 class Build:
     def __init__(self):
         self.uses = crates()
         self.table = seconds_of()
         self.began = time.monotonic()
         self.done, self.running = [], {}
+        self.lanes = os.path.join(TOP, "out/lanes")
+        os.makedirs(self.lanes, exist_ok=True)
+        self.take_all_back()
+        os.makedirs(self.lanes)
         self.terminal = sys.stderr.isatty()
 
     def start(self, crate):
@@ -62,7 +81,36 @@ class Build:
         # Building the program ends with a run of it on an empty command line, which fails.
         words = ["rt", "run"] if crate == PROGRAM else ["rt", "lib"]
         folder = os.path.join(TOP, "crates", crate)
-        self.running[crate] = subprocess.Popen(words, cwd=folder, stdin=subprocess.DEVNULL, stdout=log, stderr=log), log
+        locked = os.open(folder, os.O_RDONLY)
+        fcntl.flock(locked, fcntl.LOCK_EX)
+        lane = self.lane_of(crate)
+        self.running[crate] = subprocess.Popen(words, cwd=lane, stdin=subprocess.DEVNULL, stdout=log, stderr=log), log, locked
+
+    def lane_of(self, crate):
+        """Makes the folder in which a crate is built: links to its text and that of all crates beside it, its own work so far, and the
+        libraries that it stands on."""
+        lane = os.path.join(self.lanes, crate)
+        os.makedirs(lane)
+        os.link(os.path.join(TOP, "crates.txt"), os.path.join(lane, "crates.txt"))
+        for low in uses_of(TOP):
+            link(os.path.join("crates", low), lane, shutil.ignore_patterns("out"))
+        for low in lower_first(self.uses, [crate])[:-1]:
+            link(os.path.join("crates", low, "out/rlib"), lane)
+        move(os.path.join(TOP, "crates", crate, "out"), os.path.join(lane, "crates", crate, "out"))
+        return os.path.join(lane, "crates", crate)
+
+    def take_back(self, crate):
+        """Moves what a crate's lane has of it to where it belongs."""
+        move(os.path.join(self.lanes, crate, "crates", crate, "out"), os.path.join(TOP, "crates", crate, "out"))
+
+    def take_all_back(self):
+        """Ends what runs, and takes back what it has, also what an earlier build left that was killed."""
+        for process, *_ in self.running.values():
+            process.terminate()
+            process.wait()
+        for crate in os.listdir(self.lanes):
+            self.take_back(crate)
+        shutil.rmtree(self.lanes)
 
     def say(self, crate):
         so_far = int(time.monotonic() - self.began)
@@ -86,11 +134,14 @@ class Build:
                 if waits and len(self.running) < most and all(low in self.done for low in lows):
                     self.start(crate)
                     self.say(crate)
-            for crate, (process, log) in list(self.running.items()):
+            for crate, (process, log, locked) in list(self.running.items()):
                 status = process.poll()
                 if status is None:
                     continue
                 del self.running[crate]
+                self.take_back(crate)
+                shutil.rmtree(os.path.join(self.lanes, crate))
+                os.close(locked)
                 if not self.is_right(crate, status):
                     self.fail(crate, log)
                 self.done.append(crate)
@@ -101,12 +152,18 @@ class Build:
             sys.stderr.write("\r\033[K")
 
     def fail(self, crate, log):
-        for process, _ in self.running.values():
-            process.terminate()
         log.seek(0)
         sys.stderr.write("\n" + log.read().decode(errors="replace") + f"tdelay: the build of {crate} failed\n")
         sys.exit(5)
 
 
+def main():
+    build = Build()
+    try:
+        build.run()
+    finally:
+        build.take_all_back()
+
+
 if __name__ == "__main__":
-    Build().run()
+    main()
