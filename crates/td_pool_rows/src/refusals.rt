@@ -215,13 +215,14 @@ fn bounds<D: Domain>(rt: &impl Abort, alloc: Global) -> Result<(), AllocError> {
     let free = Cube::free(alloc, circuit.input_count())?;
     let mut sheet = Sheet::<D>::new(alloc, &circuit, &free)?;
     let whole = sheet.bound();
-    for (position, bit) in [false, false, false, true].iter().enumerate() {
-        narrow_again(rt, &circuit, &mut sheet, position, *bit)?;
-    }
+    narrow_again(rt, &circuit, &mut sheet, 0, false)?;
+    narrow_again(rt, &circuit, &mut sheet, 1, false)?;
+    narrow_again(rt, &circuit, &mut sheet, 2, false)?;
+    narrow_again(rt, &circuit, &mut sheet, 3, true)?;
     assert_eq!(rt; sheet.bound(), Some(1));
-    for _ in 0..4 {
-        assert!(rt; sheet.widen());
-    }
+    let both_positions = sheet.widen() && sheet.widen();
+    let all_positions = sheet.widen() && sheet.widen();
+    assert!(rt; both_positions && all_positions && !sheet.widen());
     assert_eq!(rt; sheet.bound(), whole);
     Ok(())
 }
