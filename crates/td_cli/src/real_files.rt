@@ -60,25 +60,7 @@ impl<'r, R: rt::Files + Input + AllocGlobal> RealFiles<'r, R> {
         RealFiles { rt }
     }
 
-    /// The name of the file that is to be replaced or made, behind symbolic links; none where the name is of no file, as of a device.
-    fn target(&self, alloc: Global, name: &str) -> io::Result<Option<String>> {
-        match fs::metadata(self.rt, name) {
-            Ok(found) if found.is_file() => {
-                let path = fs::canonicalize(self.rt, name)?;
-                Ok(Some(path.into_string()))
-            }
-            Ok(_) => Ok(None),
-            Err(error) => {
-                if error.kind() != io::ErrorKind::NotFound {
-                    return Err(error);
-                }
-                let target = String::from_str(alloc, name)?;
-                Ok(Some(target))
-            }
-        }
-    }
-
-    /// A new file beside this one, which no file had been before.
+    /// A new file beside this one.
     fn beside(&self, alloc: Global, target: String) -> io::Result<RealWriter<R::File>> {
         for number in 0..TRIES {
             let part = format!(in alloc; "{target}.part{number}")?;
@@ -98,13 +80,29 @@ impl<'r, R: rt::Files + Input + AllocGlobal> RealFiles<'r, R> {
         Err(io::Error::from(io::ErrorKind::AlreadyExists))
     }
 
+    /// A writer in the place of a file that is there, behind symbolic links, with the permissions of the old one.
+    fn in_place(&self, alloc: Global, name: &str, old: &Metadata) -> io::Result<RealWriter<R::File>> {
+        let path = fs::canonicalize(self.rt, name)?;
+        let writer = self.beside(alloc, path.into_string())?;
+        if let Some(place) = &writer.place {
+            let _kept = fs::set_permissions(self.rt, place.part.as_str(), old.permissions());
+        }
+        Ok(writer)
+    }
+
     /// A writer for this name.
     fn writer(&self, alloc: Global, name: &str) -> io::Result<RealWriter<R::File>> {
-        match self.target(alloc, name)? {
-            Some(target) => self.beside(alloc, target),
-            None => {
+        match fs::metadata(self.rt, name) {
+            Ok(old) if old.is_file() => self.in_place(alloc, name, &old),
+            Ok(_) => {
                 let sink = WriterSink::new(fs::create(self.rt, name)?);
                 Ok(RealWriter { sink, place: None })
+            }
+            Err(error) => {
+                if error.kind() != io::ErrorKind::NotFound {
+                    return Err(error);
+                }
+                self.beside(alloc, String::from_str(alloc, name)?)
             }
         }
     }
