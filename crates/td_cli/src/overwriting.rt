@@ -27,8 +27,8 @@ pub fn overwriting<'a, F: Files>(files: &mut F, request: &Request<'a>) -> Option
 
 /// The waves of `sim` in place of its netlist.
 fn over_netlist<'a, F: Files>(files: &mut F, request: SimRequest<'a>) -> Option<Refusal<'a>>
-    ensures some { IfSome result (λ reason. Overwrites (disk_of (F.holds files.old) (F.fails files.old) (F.breaks files.old) (F.is_one files.old)) (Asked.Sim request) reason) }
-    ensures none { IfNone result (KeepsFiles (disk_of (F.holds files.old) (F.fails files.old) (F.breaks files.old) (F.is_one files.old)) (Asked.Sim request)) }
+    ensures some { IfSome result (λ reason. Overwrites (disk_of (F.holds files.old) (F.fails files.old) (F.breaks files.old) (F.is_one files.old)) (Asked.Sim request.entry) reason) }
+    ensures none { IfNone result (KeepsFiles (disk_of (F.holds files.old) (F.fails files.old) (F.breaks files.old) (F.is_one files.old)) (Asked.Sim request.entry)) }
     ensures stays { files.new ≡ files.old }
 {
     over(files, request.vcd, Some(request.file))
@@ -36,8 +36,8 @@ fn over_netlist<'a, F: Files>(files: &mut F, request: SimRequest<'a>) -> Option<
 
 /// The certificate or the waves of `worst` in place of its netlist, or the waves in place of the certificate.
 fn over_another<'a, F: Files>(files: &mut F, request: WorstRequest<'a>) -> Option<Refusal<'a>>
-    ensures some { IfSome result (λ reason. Overwrites (disk_of (F.holds files.old) (F.fails files.old) (F.breaks files.old) (F.is_one files.old)) (Asked.Worst request) reason) }
-    ensures none { IfNone result (KeepsFiles (disk_of (F.holds files.old) (F.fails files.old) (F.breaks files.old) (F.is_one files.old)) (Asked.Worst request)) }
+    ensures some { IfSome result (λ reason. Overwrites (disk_of (F.holds files.old) (F.fails files.old) (F.breaks files.old) (F.is_one files.old)) (Asked.Worst request.entry) reason) }
+    ensures none { IfNone result (KeepsFiles (disk_of (F.holds files.old) (F.fails files.old) (F.breaks files.old) (F.is_one files.old)) (Asked.Worst request.entry)) }
     ensures stays { files.new ≡ files.old }
 {
     if let Some(refusal) = over(files, request.certificate, Some(request.file)) {
@@ -51,8 +51,8 @@ fn over_another<'a, F: Files>(files: &mut F, request: WorstRequest<'a>) -> Optio
 
 /// One file in place of another, where both are named.
 fn over<'a, F: Files>(files: &mut F, out: Option<&'a str>, file: Option<&'a str>) -> Option<Refusal<'a>>
-    ensures some { IfSome result (λ reason. IsOverwritten (disk_of (F.holds files.old) (F.fails files.old) (F.breaks files.old) (F.is_one files.old)) (words_of out) (words_of file) reason) }
-    ensures none { IfNone result (AreApart (disk_of (F.holds files.old) (F.fails files.old) (F.breaks files.old) (F.is_one files.old)) (words_of out) (words_of file)) }
+    ensures some { IfSome result (λ reason. IsOverwritten (disk_of (F.holds files.old) (F.fails files.old) (F.breaks files.old) (F.is_one files.old)) (words_of out.entry) (words_of file.entry) reason) }
+    ensures none { IfNone result (AreApart (disk_of (F.holds files.old) (F.fails files.old) (F.breaks files.old) (F.is_one files.old)) (words_of out.entry) (words_of file.entry)) }
     ensures stays { files.new ≡ files.old }
 {
     let (Some(out), Some(file)) = (out, file) else {
