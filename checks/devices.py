@@ -2,11 +2,14 @@
 """devices.py [PROGRAM]: runs `tdelay` on devices that fail, and compares how it ends with docs/OUTPUT.md.
 
 Standard input and output closed, a full disk (/dev/full), a directory as FILE, a name that is no UTF-8, FIFOs, an output in a folder that
-isn't there or that is a directory, a file that may not be read, standard output that is closed in the midst. Prints a line for each case that
+isn't there or that is a directory, a file that may not be read, standard output that is closed in the midst, outputs that are
+the netlist or each other, and files that are cut off. Prints a line for each case that
 ends in another way, and their number. Exit status 1 where there is one. As root, files that may not be read are left out.
 """
 
 import os
+import resource
+import stat
 import subprocess
 import sys
 import tempfile
@@ -17,6 +20,7 @@ TOP = os.path.dirname(os.path.dirname(os.path.abspath(__file__)))
 LONGEST = 30
 REPORT = b"unit 1 ns\ndefaulted 0\nlast y 3\ntime 3\n"
 WORST = b"unit 1 ns\ndefaulted 0\nexact 3\nfrom 0\nto 1\nnodes 1\n"
+CERTIFICATE = b"tdelay-cert 1\ncircuit 1 1\ntime 3\nfrom 0\nto 1\nb a 3\n"
 
 
 def unread(name):
@@ -82,7 +86,7 @@ class Cases:
         reader.start()
         self.run("a FIFO as OUT", ["worst", "t.v", "--cert", "out"], (0, WORST, b""))
         reader.join()
-        self.expect("what the FIFO has", [b"tdelay-cert 1\ncircuit 1 1\ntime 3\nfrom 0\nto 1\nb a 3\n"], told)
+        self.expect("what the FIFO has", [CERTIFICATE], told)
 
     def standard_output(self):
         """Standard output that can't be written."""
@@ -112,6 +116,46 @@ class Cases:
         self.expect("/dev/null is a device", False, os.path.isfile("/dev/null"))
 
 
+    def over_others(self):
+        """Outputs that are the netlist, or each other."""
+        with open(self.path("t.v"), "rb") as file:
+            text = file.read()
+        os.link(self.path("t.v"), self.path("hard.v"))
+        os.symlink("t.v", self.path("soft.v"))
+        sim, worst = ["sim", "t.v", "0", "1"], ["worst", "t.v"]
+        for name in ("t.v", "./t.v", "hard.v", "soft.v"):
+            told = 2, b"", f"tdelay: {name} is t.v\n".encode()
+            self.run(f"waveform over the netlist as {name}", [*sim, "--vcd", name], told)
+            self.run(f"certificate over the netlist as {name}", [*worst, "--cert", name], told)
+        self.run("one new file for both", [*worst, "--cert", "one", "--vcd", "./one"], (2, b"", b"tdelay: ./one is one\n"))
+        self.expect("no such file", False, os.path.exists(self.path("one")))
+        with open(self.path("t.v"), "rb") as file:
+            self.run("over standard input", ["worst", "stdin", "--cert", "t.v"], (2, b"", b"tdelay: t.v is stdin\n"), stdin=file)
+        self.run("a device for both", [*worst, "--cert", "/dev/null", "--vcd", "/dev/null"], (0, WORST, b""))
+        with open(self.path("t.v"), "rb") as file:
+            self.expect("the netlist", text, file.read())
+
+    def whole_or_nothing(self):
+        """Outputs in the place of files, written in full and cut off."""
+        with open(self.path("old"), "w") as file:
+            file.write("old")
+        os.chmod(self.path("old"), 0o640)
+        os.symlink("old", self.path("link"))
+        cut = {"preexec_fn": lambda: resource.setrlimit(resource.RLIMIT_FSIZE, (20, 20)), "restore_signals": False}
+        for name in ("old", "link", "fresh"):
+            wanted = unwritten(name.encode(), WORST)
+            self.run(f"a file cut off at 20 bytes as {name}", ["worst", "t.v", "--cert", name], wanted, **cut)
+        with open(self.path("old")) as file:
+            self.expect("the old file", "old", file.read())
+        self.expect("no new file", False, os.path.exists(self.path("fresh")))
+        self.run("in the place of a file, through a link", ["worst", "t.v", "--cert", "link"], (0, WORST, b""))
+        with open(self.path("old"), "rb") as file:
+            self.expect("the new file", CERTIFICATE, file.read())
+        self.expect("its permissions", 0o640, stat.S_IMODE(os.stat(self.path("old")).st_mode))
+        self.expect("the link is one", True, os.path.islink(self.path("link")))
+        self.expect("nothing else is left", [], [name for name in os.listdir(self.folder) if ".part" in name])
+
+
 def main():
     program = os.path.abspath(sys.argv[1]) if len(sys.argv) > 1 else os.path.join(TOP, "crates/tdelay/out/tdelay")
     with tempfile.TemporaryDirectory() as folder:
@@ -122,6 +166,8 @@ def main():
         cases.fifos()
         cases.standard_output()
         cases.outputs()
+        cases.over_others()
+        cases.whole_or_nothing()
     print(f"{cases.count} cases, {cases.wrong} wrong")
     return 1 if cases.wrong else 0
 

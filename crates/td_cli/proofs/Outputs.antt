@@ -84,3 +84,10 @@ three_pushed old front name line_end first second new is_first is_second is_new 
 -- a text to which two were appended in turn
 pub two_pushed : (old front name first new : List ℕ) → first ≡ old ++ front → new ≡ first ++ name → new ≡ old ++ (front ++ name)
 two_pushed old front name first new is_first is_new = rw (is_new, is_first, append_assoc old front name) refl
+
+-- a text to which four were appended in turn
+pub four_pushed : (old front name middle other first second third new : List ℕ) → first ≡ old ++ front → second ≡ first ++ name
+    → third ≡ second ++ middle → new ≡ third ++ other → new ≡ old ++ (front ++ ((name ++ middle) ++ other))
+four_pushed old front name middle other first second third new is_first is_second is_third is_new =
+    rw (is_new, is_third, is_second, is_first, append_assoc ((old ++ front) ++ name) middle other, append_assoc (old ++ front) name (middle ++ other),
+    append_assoc old front (name ++ (middle ++ other)), append_assoc name middle other) refl

@@ -1,5 +1,5 @@
 -- What `path` tells, by the numbers of the nets and by their names.
-use Rattle.std.proofs.Common.{◌≡◌, ◌≢◌, ◌⊎◌, ℕ, zero, suc, ◌+◌, ◌<◌, List, [], ◌∷◌, ◌++◌, length, take, map, get_or, refl, arith, ◌∙◌, sym, ap, subst, inl, inr, codes, decimal, append-nil, append_assoc, Option, Some, None, Bool, true, false, true≢false, ◌≤◌}
+use Rattle.std.proofs.Common.{◌≡◌, ◌≢◌, ℕ, zero, suc, ◌+◌, ◌<◌, List, [], ◌∷◌, ◌++◌, length, take, map, get_or, refl, arith, ◌∙◌, sym, ap, subst, inl, inr, codes, decimal, append-nil, append_assoc, Option, Some, None, Bool, true, false, true≢false, ◌≤◌}
 use Rattle.std.specs.Prelude.{slice_get}
 use Rattle.std.specs.List.{Contains, flat_map}
 use Rattle.std.proofs.lemmas.Bool.{cases_eq, cases_lt}

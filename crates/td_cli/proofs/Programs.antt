@@ -26,7 +26,7 @@ use Rattle.td_cli.specs.Reports.{IsSimReport}
 use Rattle.td_cli.specs.WorstReports.{IsWorstReport}
 use Rattle.td_command.specs.CommandLine.{kinds_of}
 use Rattle.td_cli.specs.Ends.{Product, Streams, streams, Tells, TellsReason, TellsUnread, TellsUnwritten, LosesOne, Says, Ends}
-use Rattle.td_cli.specs.Requests.{Disk, Reads, HoldsOnFile, certificate_files, search_ending, IsSimProduct, IsWorstProduct, IsOutOfMemory, IsShown, TellsText, RequestEnds, ProgramEnds}
+use Rattle.td_cli.specs.Requests.{Disk, Reads, HoldsOnFile, certificate_files, search_ending, IsSimProduct, IsWorstProduct, IsOutOfMemory, IsShown, TellsText, IsProductOf, HoldsOf, KeepsFiles, Overwrites, RequestRuns, RequestEnds, ProgramEnds}
 
 -- a kind whose text goes to standard error isn't
 pub not_shown : (k : ErrorKind) → (k ≢ kind.DisplayHelp) × (k ≢ kind.DisplayVersion) → ¬ IsShown k
@@ -272,19 +272,19 @@ refused_with (Err fault) one other goal = goal fault one other
 module _ {F : Type 0} (did : F → F → List FileStep → Type 0)
     (both : (first then last : F) (steps more : List FileStep) → did first then steps → did then last more → did first last (steps ++ more))
     (first then : F) (name text : List ℕ) (begun : Output) (made : did first then (Made name begun ∷ [])) where
-  -- a file was made and written
+  -- a file was begun and put under its name
   pub wrote : (last : F) (ended : Output) → did then last (Ended name ended ∷ []) → Sent begun ended text
       → Takes (did first last) (IsWritten (record { name = name; text = text }))
   wrote last ended done sent =
       (_, both first then last _ _ made done, record { begun = begun; ended = ended; sent = sent; are = refl })
 
-  -- a file was made, and its writer failed or memory ran out
-  pub broke : (breaks : Type 0) (fault : WriteFault) (last : F) (ended : Output) → did then last (Ended name ended ∷ [])
+  -- a file was begun, and given up since its writer failed or memory ran out
+  pub broke : (breaks : Type 0) (fault : WriteFault) (last : F) (ended : Output) → did then last []
       → HasBeginning begun ended text fault → Takes (did first last) (IsLeft breaks (record { name = name; text = text }) fault)
-  broke breaks fault last ended done has =
-      (_, both first then last _ _ made done, inr (record { begun = begun; ended = ended; has = has; are = refl }))
+  broke breaks fault last ended stays has =
+      (_, both first then last _ _ made stays, inr (record { begun = begun; ended = ended; has = has; are = refl }))
 
-  -- a file was made, and its writing couldn't be ended
+  -- a file was begun, and couldn't be put under its name
   pub unended : (breaks : Type 0) (fault : WriteFault) (last : F) → did then last [] → (fault ≡ unwritten.Device → breaks)
       → Takes (did first last) (IsLeft breaks (record { name = name; text = text }) fault)
   unended breaks fault last stays may = (_, both first then last _ _ made stays, inl (may, inr (begun, refl)))
@@ -296,9 +296,27 @@ nothing_done did did_nothing first last same = subst (λ end. did first end []) 
 
 -- how a command ends, by what was asked
 pub asked_as : (WereTaken : List FileStep → Type 0) (disk : Disk) (asked other : Request) (status : Status) (old new : Streams) → other ≡ asked
-    → Takes WereTaken (λ steps. RequestEnds disk asked steps status old new) → Takes WereTaken (λ steps. RequestEnds disk other steps status old new)
+    → Takes WereTaken (λ steps. RequestRuns disk asked steps status old new) → Takes WereTaken (λ steps. RequestRuns disk other steps status old new)
 asked_as WereTaken disk asked other status old new same taken =
-    subst (λ (it : Request). Takes WereTaken (λ steps. RequestEnds disk it steps status old new)) (sym same) taken
+    subst (λ (it : Request). Takes WereTaken (λ steps. RequestRuns disk it steps status old new)) (sym same) taken
+
+-- how a command ends that keeps its files
+pub runs_apart : (WereTaken : List FileStep → Type 0) (disk : Disk) (asked : Request) (status : Status) (old new : Streams) → KeepsFiles disk asked
+    → Takes WereTaken (λ steps. RequestRuns disk asked steps status old new) → Takes WereTaken (λ steps. RequestEnds disk asked steps status old new)
+runs_apart WereTaken disk asked status old new keeps taken = (
+  taken.0,
+  taken.1,
+  lifted (IsProductOf disk asked) (HoldsOf disk asked) disk.breaks (λ product. KeepsFiles disk asked × IsProductOf disk asked product)
+  (λ reason. Overwrites disk asked reason ⊎ HoldsOf disk asked reason) disk.breaks (λ product is. (keeps, is)) (λ reason holds. inr holds)
+  (λ name may. may) taken.0 status old new taken.2,
+)
+
+-- a command that would overwrite a file is refused
+pub refused_over : (disk : Disk) (asked : Request) (reason : Refusal) (status : Status) (out err_old err_new : Output) → Overwrites disk asked reason
+    → TellsReason reason status err_old err_new → RequestEnds disk asked [] status (streams out err_old) (streams out err_new)
+refused_over disk asked reason status out err_old err_new over told =
+    refused (λ product. KeepsFiles disk asked × IsProductOf disk asked product) (λ reason. Overwrites disk asked reason ⊎ HoldsOf disk asked reason) disk.breaks
+    reason status out err_old err_new (λ other. inl over) told
 
 -- ---- the files of a search
 

@@ -40,6 +40,7 @@ status_of refusal.OutOfMemory = Device
 status_of (refusal.Unreadable name) = Device
 status_of (refusal.BadVector word) = BadCommand
 status_of refusal.NoOutput = BadCommand
+status_of (refusal.OneFile out file) = BadCommand
 status_of reason = Refused
 
 -- a line was told: all of it went out, or the writer failed behind a beginning of it

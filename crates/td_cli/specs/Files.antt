@@ -4,8 +4,8 @@ use Rattle.td_gates.specs.Output.{Output, Sent, SentFront, one_more}
 use Rattle.td_certificate.specs.declared.fault.WriteFault.{WriteFault}
 use Rattle.td_certificate.specs.declared.fault.WriteFault.TheVariants as unwritten
 
--- A file was made with a writer of its own, which empties the file that had its name. The writing of a file ended: it has what
--- its writer took.
+-- A new file was begun for a name, with a writer of its own, and what has the name stayed as it was. The writing ended: what the
+-- writer took is the file of this name now, in place of the one that had it.
 pub data FileStep : Type 0 where
   Made : (name : List ℕ) (begun : Output) → FileStep
   Ended : (name : List ℕ) (output : Output) → FileStep
@@ -20,7 +20,7 @@ abbrev pub file_for : Option (List ℕ) → List ℕ → List FileText
 file_for None text = []
 file_for (Some name) text = record { name = name; text = text } ∷ []
 
--- the file was made and has its text
+-- the file was begun, and then put whole under its name
 pub record IsWritten (file : FileText) (steps : List FileStep) : Type 0 where
   pub begun : Output
   pub ended : Output
@@ -33,24 +33,24 @@ AreWritten [] steps = steps ≡ []
 AreWritten (file ∷ files) steps =
     (first rest : List FileStep) × (steps ≡ first ++ rest) × IsWritten file first × AreWritten files rest
 
--- a file has a beginning of its text, and where a device's failure is told its writer failed once
+-- a writer took a beginning of a text, and where a device's failure is told it failed once
 pub record HasBeginning (begun ended : Output) (text : List ℕ) (fault : WriteFault) : Type 0 where
   pub front : SentFront begun ended text
   pub failed : fault ≡ unwritten.Device → ended.failures ≡ one_more begun.failures
 
--- the file was made, and has a beginning of its text
+-- the file was begun, its writer took a beginning of the text and no more, and nothing was put under the name
 pub record IsBroken (file : FileText) (fault : WriteFault) (steps : List FileStep) : Type 0 where
   pub begun : Output
   pub ended : Output
   pub has : HasBeginning begun ended file.text fault
-  pub are : steps ≡ Made file.name begun ∷ Ended file.name ended ∷ []
+  pub are : steps ≡ Made file.name begun ∷ []
 
 -- a device is told as the fault only where one may fail to make or to end the file
 abbrev pub MayBreak : Type 0 → WriteFault → Type 0
 MayBreak breaks fault = fault ≡ unwritten.Device → breaks
 
--- What is left of a file that was not written: it was not made, or it was made and its writing couldn't be ended, or it has a
--- beginning of its text.
+-- A file was not written, and what has its name is as it was: it was not begun, or it couldn't be put under its name, or its
+-- writer took a beginning of the text alone.
 abbrev pub IsLeft : Type 0 → FileText → WriteFault → List FileStep → Type 0
 IsLeft breaks file fault steps =
     (MayBreak breaks fault × ((steps ≡ []) ⊎ ((begun : Output) × (steps ≡ Made file.name begun ∷ [])))) ⊎ IsBroken file fault steps

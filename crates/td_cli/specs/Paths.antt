@@ -1,5 +1,5 @@
 -- Internal: what the functions behind `path` tell, by the numbers of the nets.
-use Rattle.std.specs.Prelude.{◌≡◌, ◌≢◌, ◌⊎◌, ℕ, List, [], ◌∷◌, ◌++◌, codes, decimal, map, slice_get, Option, Some, None}
+use Rattle.std.specs.Prelude.{◌≡◌, ◌≢◌, ℕ, List, [], ◌∷◌, ◌++◌, codes, decimal, slice_get, Option, Some, None}
 use Rattle.std.specs.List.{flat_map, Contains}
 use Rattle.td_nets.specs.Netlist.{Name, Named}
 use Rattle.td_nets.specs.Printed.{printed}

@@ -11,7 +11,7 @@ use Rattle.td_certificate.specs.Kinds.{kind_number, kind_name}
 use Rattle.td_cli.specs.declared.vector.VectorWord.{VectorWord}
 use Rattle.td_cli.specs.declared.vector.VectorWord.TheVariants as vector
 use Rattle.td_cli.specs.declared.refusal.Refusal.{Refusal}
-use Rattle.td_cli.specs.declared.refusal.Refusal.TheVariants.{OutOfMemory, Unreadable, Netlist, Loop, Certificate, BadVector, NoOutput, NoPair}
+use Rattle.td_cli.specs.declared.refusal.Refusal.TheVariants.{OutOfMemory, Unreadable, Netlist, Loop, Certificate, BadVector, NoOutput, NoPair, OneFile}
 use Rattle.td_cli.specs.Reports.{newline}
 
 abbrev pub vector_word : VectorWord → List ℕ
@@ -43,6 +43,10 @@ certificate_fault_text fault =
 unfoldable pub unreadable_text : List ℕ → List ℕ
 unreadable_text name = codes "tdelay: cannot read " ++ name
 
+-- the line, but for its end, that tells a file that would be written over another
+unfoldable pub one_file_text : List ℕ → List ℕ → List ℕ
+one_file_text out file = codes "tdelay: " ++ out ++ codes " is " ++ file
+
 -- the line that tells why a command wasn't carried out
 abbrev pub refusal_text : Refusal → List ℕ
 refusal_text OutOfMemory = codes "tdelay: out of memory" ++ newline
@@ -53,6 +57,7 @@ refusal_text (Certificate fault) = codes "tdelay: certificate fault " ++ certifi
 refusal_text (BadVector word) = codes "tdelay: bad vector " ++ vector_word word ++ newline
 refusal_text NoOutput = codes "tdelay: no output of this name" ++ newline
 refusal_text NoPair = codes "tdelay: no admitted pair" ++ newline
+refusal_text (OneFile out file) = one_file_text out.now file.now ++ newline
 
 -- the line that tells a file that can't be written
 abbrev pub unwritten_text : List ℕ → List ℕ

@@ -1,5 +1,5 @@
 -- How each command and the program end.
-use Rattle.std.specs.Prelude.{◌≡◌, ℕ, List, [], ◌∷◌, ◌++◌, ◌⊎◌, Option, Some, None, codes}
+use Rattle.std.specs.Prelude.{◌≡◌, ℕ, Bool, true, false, List, [], ◌∷◌, ◌++◌, ◌⊎◌, Option, Some, None, ⊤, codes}
 use Rattle.std.specs.Borrow.{Bor}
 use Rattle.clap.specs.Words.{IsAmong}
 use Rattle.clap.specs.declared.error.kind.ErrorKind.{ErrorKind}
@@ -71,15 +71,16 @@ pub record IsWorstProduct (text : List ℕ) (default : Delay) (words : QuestionW
 
 -- ---- the commands, on files
 
--- what is known of files: the bytes that a read of a name may give, which names a device may fail to read, and of which it may
--- fail to make or end a file
+-- what is known of files: the bytes that a read of a name may give, which names a device may fail to read, of which it may fail to
+-- make or end a file, and what may be answered where it is asked whether two names are of one file
 pub record Disk : Type 1 where
   pub holds : List ℕ → List ℕ → Type 0
   pub fails : List ℕ → Type 0
   pub breaks : List ℕ → Type 0
+  pub is_one : List ℕ → List ℕ → Bool → Type 0
 
-abbrev pub disk_of : (List ℕ → List ℕ → Type 0) → (List ℕ → Type 0) → (List ℕ → Type 0) → Disk
-disk_of holds fails breaks = record { holds = holds; fails = fails; breaks = breaks }
+abbrev pub disk_of : (List ℕ → List ℕ → Type 0) → (List ℕ → Type 0) → (List ℕ → Type 0) → (List ℕ → List ℕ → Bool → Type 0) → Disk
+disk_of holds fails breaks is_one = record { holds = holds; fails = fails; breaks = breaks; is_one = is_one }
 
 -- the file of this name was read, as bytes of which this holds
 abbrev pub Reads : Disk → List ℕ → (List ℕ → Type 0) → Type 0
@@ -123,9 +124,45 @@ HoldsOf disk (request.Worst asked) = HoldsOnFile disk asked.file.now (λ text. H
 HoldsOf disk (request.Check asked) =
     HoldsOnFile disk asked.file.now (λ text. HoldsOnFile disk asked.certificate.now (HasNoVerdict text (delays asked.rise asked.fall)))
 
--- how the command that is asked for ends
+-- how the command that is asked for ends, once it is known that no file of it is written over another
+abbrev pub RequestRuns : Disk → Request → List FileStep → Status → Streams → Streams → Type 0
+RequestRuns disk asked = Ends (IsProductOf disk asked) (HoldsOf disk asked) disk.breaks
+
+-- the names that are given are of different files
+abbrev pub AreApart : Disk → Option (List ℕ) → Option (List ℕ) → Type 0
+AreApart disk (Some out) (Some file) = disk.is_one out file false
+AreApart disk _ _ = ⊤
+
+-- the names that are given are of one file, which the reason tells
+pub record IsOverwritten (disk : Disk) (out file : Option (List ℕ)) (reason : Refusal) : Type 0 where
+  pub written : Bor (List ℕ)
+  pub lost : Bor (List ℕ)
+  pub out_is : out ≡ Some written.now
+  pub file_is : file ≡ Some lost.now
+  pub one : disk.is_one written.now lost.now true
+  pub told : reason ≡ refusal.OneFile written lost
+
+-- no file that a command writes is its netlist, or another file that it writes
+abbrev pub KeepsFiles : Disk → Request → Type 0
+KeepsFiles disk (request.Sim asked) = AreApart disk (words_of asked.vcd) (Some asked.file.now)
+KeepsFiles disk (request.Worst asked) =
+    AreApart disk (words_of asked.certificate) (Some asked.file.now) × AreApart disk (words_of asked.vcd) (Some asked.file.now)
+    × AreApart disk (words_of asked.vcd) (words_of asked.certificate)
+KeepsFiles disk other = ⊤
+
+-- a file that a command would write is its netlist, or another file that it would write
+abbrev pub Overwrites : Disk → Request → Refusal → Type 0
+Overwrites disk (request.Sim asked) reason = IsOverwritten disk (words_of asked.vcd) (Some asked.file.now) reason
+Overwrites disk (request.Worst asked) reason =
+    IsOverwritten disk (words_of asked.certificate) (Some asked.file.now) reason
+    ⊎ (IsOverwritten disk (words_of asked.vcd) (Some asked.file.now) reason
+    ⊎ IsOverwritten disk (words_of asked.vcd) (words_of asked.certificate) reason)
+Overwrites disk other reason = ⊥
+
+-- how the command that is asked for ends: none that says something writes one of its files over another
 abbrev pub RequestEnds : Disk → Request → List FileStep → Status → Streams → Streams → Type 0
-RequestEnds disk asked = Ends (IsProductOf disk asked) (HoldsOf disk asked) disk.breaks
+RequestEnds disk asked =
+    Ends (λ product. KeepsFiles disk asked × IsProductOf disk asked product) (λ reason. Overwrites disk asked reason ⊎ HoldsOf disk asked reason) disk.breaks
 
 -- ---- the program
 

@@ -8,7 +8,9 @@ mod dumping;
 mod explaining;
 mod files;
 mod memory_files;
+mod overwriting;
 mod program;
+mod real_files;
 mod refusal;
 mod report;
 mod searching;
@@ -24,12 +26,13 @@ pub use bounding::bounds;
 pub use checking::{Checked, verdict_on};
 pub use dumping::Dump;
 pub use explaining::path;
-pub use files::{Files, ReadFault, RealFiles};
+pub use files::{Files, ReadFault};
 pub use memory_files::{MemoryFile, MemoryFiles, MemoryStep};
 pub use program::{
     carry_out, carry_out_bound, carry_out_check, carry_out_path, carry_out_sim, carry_out_worst,
     refuse_words, run,
 };
+pub use real_files::{RealFiles, RealWriter};
 pub use refusal::Refusal;
 pub use searching::{Found, worst};
 pub use simulate::{Simulated, sim};

@@ -34,14 +34,14 @@ impl MemoryFile {
 /// What was done to a file.
 #[derive(Drop)]
 pub enum MemoryStep {
-    /// A file of this name was made.
+    /// A file for this name was begun.
     Made(Vec<u8>),
-    /// The writing of a file ended.
+    /// A file was put under its name.
     Ended(MemoryFile),
 }
 
 impl MemoryStep {
-    /// The name of a file that was made.
+    /// The name of a file that was begun.
     pub fn made(&self) -> Option<&[u8]>
         ensures { option_map (λ name. name.now) result ≡ made_name self.now }
     {
@@ -51,7 +51,7 @@ impl MemoryStep {
         }
     }
 
-    /// The file whose writing ended.
+    /// The file that was put under its name.
     pub fn ended(&self) -> Option<&MemoryFile>
         ensures { option_map (λ file. file.now) result ≡ ended_file self.now }
     {
@@ -135,7 +135,7 @@ fn found<'a>(files: &[(&'a str, &'a [u8])], name: &str) -> Option<&'a [u8]>
 }
 
 impl<'a> Files for MemoryFiles<'a> {
-    ghost use Rattle.std.specs.Prelude.{◌≡◌, ◌++◌, map};
+    ghost use Rattle.std.specs.Prelude.{◌≡◌, ◌↔◌, ◌++◌, IsTrue, map};
     ghost use Rattle.td_cli.specs.MemoryFiles.{HasFile, FailsOn, IsAfter, after_nothing, after_both};
 
     /// A file of this name has these bytes.
@@ -146,6 +146,9 @@ impl<'a> Files for MemoryFiles<'a> {
 
     /// Only its writer fails, and want of memory.
     ghost breaks = { λ _ _. ⊥ };
+
+    /// Two names are of one file where they are the same.
+    ghost is_one = { λ _ one other answer. IsTrue answer ↔ one ≡ other };
 
     ghost did = { λ old new steps. IsAfter old.steps.items new.steps.items steps };
 
@@ -164,6 +167,10 @@ impl<'a> Files for MemoryFiles<'a> {
         }
     }
 
+    fn are_one(&mut self, one: &str, other: &str) -> bool {
+        one == other
+    }
+
     fn create(&mut self, alloc: Global, name: &str) -> Result<MemorySink, WriteFault> {
         let sink = MemorySink::new(alloc, self.writable, usize::MAX)?;
         let name = copied(alloc, name.as_bytes())?;
@@ -172,20 +179,13 @@ impl<'a> Files for MemoryFiles<'a> {
         Ok(sink)
     }
 
-    fn close(
-        &mut self,
-        alloc: Global,
-        name: &str,
-        writer: MemorySink,
-    ) -> Result<(), (MemorySink, WriteFault)> {
-        let Ok(name) = copied(alloc, name.as_bytes()) else {
-            return Err((writer, WriteFault::OutOfMemory));
-        };
-        if self.steps.reserve(1).is_err() {
-            return Err((writer, WriteFault::OutOfMemory));
-        }
+    fn close(&mut self, alloc: Global, name: &str, writer: MemorySink) -> Result<(), WriteFault> {
+        let name = copied(alloc, name.as_bytes())?;
+        self.steps.reserve(1)?;
         let file = MemoryFile { name, sink: writer };
         self.steps.push_reserved(MemoryStep::Ended(file));
         Ok(())
     }
+
+    fn discard(&mut self, _writer: MemorySink) {}
 }

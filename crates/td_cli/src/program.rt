@@ -12,7 +12,7 @@ ghost use Rattle.td_cli.specs.Dumps.{file_of, dump_files, HasRun};
 ghost use Rattle.td_cli.specs.Outcomes.{HasNoReport, HasNoPath, HasNoBounds, HasNoAnswer, HasNoVerdict};
 ghost use Rattle.td_cli.specs.Refusals.{unwritten_text};
 ghost use Rattle.td_cli.specs.Vectors.{words_of};
-ghost use Rattle.td_cli.specs.Requests.{disk_of, words_in, IsSimProduct, IsPathProduct, IsBoundProduct, IsCheckProduct, IsWorstProduct, certificate_files, search_ending, Reads, HoldsOnFile, RequestEnds, IsOutOfMemory, IsShown, TellsText, ProgramEnds, RefusesWords};
+ghost use Rattle.td_cli.specs.Requests.{disk_of, words_in, IsSimProduct, IsPathProduct, IsBoundProduct, IsCheckProduct, IsWorstProduct, certificate_files, search_ending, Reads, HoldsOnFile, RequestRuns, RequestEnds, IsOutOfMemory, IsShown, TellsText, ProgramEnds, RefusesWords};
 ghost use Rattle.td_command.specs.declared.command.Request.TheVariants as Asked;
 ghost use Rattle.td_cli.specs.declared.refusal.Refusal.TheVariants as Reason;
 ghost use Rattle.td_cli.specs.declared.files.ReadFault.TheVariants as Fault;
@@ -24,6 +24,7 @@ use crate::checking::verdict_on;
 use crate::dumping::{Dump, write_dump};
 use crate::explaining::path;
 use crate::files::{Files, ReadFault};
+use crate::overwriting::overwriting;
 use crate::refusal::Refusal;
 use crate::searching::worst;
 use crate::simulate::sim;
@@ -51,7 +52,7 @@ pub fn run<R: Threads + Wait + Sync, S: AsStr, F: Files, O: Sink, E: Sink>(
     out: &mut O,
     err: &mut E,
 ) -> Status
-    ensures { Takes (F.did files.old files.new) (λ steps. ProgramEnds (disk_of (F.holds files.old) (F.fails files.old) (F.breaks files.old)) (map S.text words.now) steps result
+    ensures { Takes (F.did files.old files.new) (λ steps. ProgramEnds (disk_of (F.holds files.old) (F.fails files.old) (F.breaks files.old) (F.is_one files.old)) (map S.text words.now) steps result
         (streams (O.output out.old) (E.output err.old)) (streams (O.output out.new) (E.output err.new))) }
 {
     match parse(alloc, words) {
@@ -81,7 +82,26 @@ pub fn carry_out<R: Threads + Wait + Sync, F: Files, O: Sink, E: Sink>(
     err: &mut E,
 ) -> Status
     requires { IsCarriedOut request.now }
-    ensures { Takes (F.did files.old files.new) (λ steps. RequestEnds (disk_of (F.holds files.old) (F.fails files.old) (F.breaks files.old)) request.now steps result
+    ensures { Takes (F.did files.old files.new) (λ steps. RequestEnds (disk_of (F.holds files.old) (F.fails files.old) (F.breaks files.old) (F.is_one files.old)) request.now steps result
+        (streams (O.output out.old) (E.output err.old)) (streams (O.output out.new) (E.output err.new))) }
+{
+    match overwriting(files, request) {
+        Some(refusal) => tell_refusal(alloc, err, &refusal),
+        None => run_request(rt, alloc, files, request, out, err),
+    }
+}
+
+/// Carries out what is asked, where no file of it is written over another.
+fn run_request<R: Threads + Wait + Sync, F: Files, O: Sink, E: Sink>(
+    rt: &R,
+    alloc: Global,
+    files: &mut F,
+    request: &Request<'_>,
+    out: &mut O,
+    err: &mut E,
+) -> Status
+    requires { IsCarriedOut request.now }
+    ensures { Takes (F.did files.old files.new) (λ steps. RequestRuns (disk_of (F.holds files.old) (F.fails files.old) (F.breaks files.old) (F.is_one files.old)) request.now steps result
         (streams (O.output out.old) (E.output err.old)) (streams (O.output out.new) (E.output err.new))) }
 {
     match request {
@@ -102,7 +122,7 @@ fn run_sim<F: Files, O: Sink, E: Sink>(
     err: &mut E,
 ) -> Status
     requires { IsInRange (delays request.rise request.fall) }
-    ensures { Takes (F.did files.old files.new) (λ steps. RequestEnds (disk_of (F.holds files.old) (F.fails files.old) (F.breaks files.old)) (Asked.Sim request.entry) steps result
+    ensures { Takes (F.did files.old files.new) (λ steps. RequestRuns (disk_of (F.holds files.old) (F.fails files.old) (F.breaks files.old) (F.is_one files.old)) (Asked.Sim request.entry) steps result
         (streams (O.output out.old) (E.output err.old)) (streams (O.output out.new) (E.output err.new))) }
 {
     let Some(default) = Delay::new(request.rise, request.fall) else {
@@ -134,7 +154,7 @@ fn run_path<F: Files, O: Sink, E: Sink>(
     err: &mut E,
 ) -> Status
     requires { IsInRange (delays request.rise request.fall) }
-    ensures { Takes (F.did files.old files.new) (λ steps. RequestEnds (disk_of (F.holds files.old) (F.fails files.old) (F.breaks files.old)) (Asked.Path request.entry) steps result
+    ensures { Takes (F.did files.old files.new) (λ steps. RequestRuns (disk_of (F.holds files.old) (F.fails files.old) (F.breaks files.old) (F.is_one files.old)) (Asked.Path request.entry) steps result
         (streams (O.output out.old) (E.output err.old)) (streams (O.output out.new) (E.output err.new))) }
 {
     let Some(default) = Delay::new(request.rise, request.fall) else {
@@ -165,7 +185,7 @@ fn run_bound<F: Files, O: Sink, E: Sink>(
     err: &mut E,
 ) -> Status
     requires { IsInRange (delays request.rise request.fall) }
-    ensures { Takes (F.did files.old files.new) (λ steps. RequestEnds (disk_of (F.holds files.old) (F.fails files.old) (F.breaks files.old)) (Asked.Bound request.entry) steps result
+    ensures { Takes (F.did files.old files.new) (λ steps. RequestRuns (disk_of (F.holds files.old) (F.fails files.old) (F.breaks files.old) (F.is_one files.old)) (Asked.Bound request.entry) steps result
         (streams (O.output out.old) (E.output err.old)) (streams (O.output out.new) (E.output err.new))) }
 {
     let Some(default) = Delay::new(request.rise, request.fall) else {
@@ -199,7 +219,7 @@ fn run_worst<R: Threads + Wait + Sync, F: Files, O: Sink, E: Sink>(
     requires budget { request.budget ≤ 10000000 }
     requires some { 0 < request.workers }
     requires few { request.workers ≤ 64 }
-    ensures { Takes (F.did files.old files.new) (λ steps. RequestEnds (disk_of (F.holds files.old) (F.fails files.old) (F.breaks files.old)) (Asked.Worst request.entry) steps result
+    ensures { Takes (F.did files.old files.new) (λ steps. RequestRuns (disk_of (F.holds files.old) (F.fails files.old) (F.breaks files.old) (F.is_one files.old)) (Asked.Worst request.entry) steps result
         (streams (O.output out.old) (E.output err.old)) (streams (O.output out.new) (E.output err.new))) }
 {
     let Some(default) = Delay::new(request.rise, request.fall) else {
@@ -249,7 +269,7 @@ fn run_check<F: Files, O: Sink, E: Sink>(
     err: &mut E,
 ) -> Status
     requires { IsInRange (delays request.rise request.fall) }
-    ensures { Takes (F.did files.old files.new) (λ steps. RequestEnds (disk_of (F.holds files.old) (F.fails files.old) (F.breaks files.old)) (Asked.Check request.entry) steps result
+    ensures { Takes (F.did files.old files.new) (λ steps. RequestRuns (disk_of (F.holds files.old) (F.fails files.old) (F.breaks files.old) (F.is_one files.old)) (Asked.Check request.entry) steps result
         (streams (O.output out.old) (E.output err.old)) (streams (O.output out.new) (E.output err.new))) }
 {
     let Some(default) = Delay::new(request.rise, request.fall) else {
@@ -271,8 +291,8 @@ fn check_file<F: Files, O: Sink, E: Sink>(
     out: &mut O,
     err: &mut E,
 ) -> Status
-    ensures ends { Ends (λ product. Reads (disk_of (F.holds files.old) (F.fails files.old) (F.breaks files.old)) name.now (λ certificate. IsCheckProduct text.now default certificate product))
-        (HoldsOnFile (disk_of (F.holds files.old) (F.fails files.old) (F.breaks files.old)) name.now (HasNoVerdict text.now default)) (λ _. ⊥) [] result
+    ensures ends { Ends (λ product. Reads (disk_of (F.holds files.old) (F.fails files.old) (F.breaks files.old) (F.is_one files.old)) name.now (λ certificate. IsCheckProduct text.now default certificate product))
+        (HoldsOnFile (disk_of (F.holds files.old) (F.fails files.old) (F.breaks files.old) (F.is_one files.old)) name.now (HasNoVerdict text.now default)) (λ _. ⊥) [] result
         (streams (O.output out.old) (E.output err.old)) (streams (O.output out.new) (E.output err.new)) }
     ensures stays { files.new ≡ files.old }
 {
@@ -461,7 +481,7 @@ fn keep_certificate<F: Files, E: Sink>(
     }
 }
 
-/// Writes a certificate to a new file. Where its writer fails, what the writer took is left.
+/// Writes a certificate to a new file. It has its name once it is whole; where its writer fails, the name is as it was.
 fn write_certificate<F: Files>(
     alloc: Global,
     files: &mut F,
@@ -475,10 +495,12 @@ fn write_certificate<F: Files>(
     ensures devices { (other : List ℕ) → F.breaks files.new other → F.breaks files.old other }
 {
     let mut writer = files.create(alloc, name)?;
-    let written = write(alloc, &mut writer, certificate);
-    match files.close(alloc, name, writer) {
-        Ok(()) => written,
-        Err((_writer, fault)) => Err(fault),
+    match write(alloc, &mut writer, certificate) {
+        Ok(()) => files.close(alloc, name, writer),
+        Err(fault) => {
+            files.discard(writer);
+            Err(fault)
+        }
     }
 }
 
@@ -504,7 +526,7 @@ fn keep_dump<F: Files, E: Sink>(
     }
 }
 
-/// Writes the waves of a run to a new file. Where its writer fails, what the writer took is left.
+/// Writes the waves of a run to a new file. It has its name once it is whole; where its writer fails, the name is as it was.
 fn write_waves<F: Files>(alloc: Global, files: &mut F, dump: &Dump<'_>) -> Result<(), WriteFault>
     requires { HasRun dump.now }
     ensures written { OnOk result (Takes (F.did files.old files.new) (IsWritten (file_of dump.now))) }
@@ -512,10 +534,12 @@ fn write_waves<F: Files>(alloc: Global, files: &mut F, dump: &Dump<'_>) -> Resul
         (IsLeft (F.breaks files.old dump.now.name.now) (file_of dump.now) fault)) }
 {
     let mut writer = files.create(alloc, dump.name)?;
-    let written = write_dump(alloc, &mut writer, dump);
-    match files.close(alloc, dump.name, writer) {
-        Ok(()) => written,
-        Err((_writer, fault)) => Err(fault),
+    match write_dump(alloc, &mut writer, dump) {
+        Ok(()) => files.close(alloc, dump.name, writer),
+        Err(fault) => {
+            files.discard(writer);
+            Err(fault)
+        }
     }
 }
 

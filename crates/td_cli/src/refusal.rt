@@ -1,7 +1,7 @@
 //! Why a command was not carried out, and how that is told.
 
 ghost use Rattle.std.specs.Prelude.{◌≡◌, ◌++◌, OnOk};
-ghost use Rattle.td_cli.specs.Refusals.{vector_word, number_and_name, fault_text, certificate_fault_text, unreadable_text, refusal_text};
+ghost use Rattle.td_cli.specs.Refusals.{vector_word, number_and_name, fault_text, certificate_fault_text, unreadable_text, one_file_text, refusal_text};
 ghost use Rattle.td_nets.specs.Views.{name_of};
 ghost use Rattle.td_cli.specs.Ends.{status_of};
 
@@ -30,6 +30,8 @@ pub enum Refusal<'a> {
     NoOutput,
     /// No pair of vectors is admitted.
     NoPair,
+    /// The first file, which was to be written, is the second one, which would be lost.
+    OneFile(&'a str, &'a str),
 }
 
 impl<'a> From<AllocError> for Refusal<'a> {
@@ -57,6 +59,7 @@ impl<'a> Refusal<'a> {
             Refusal::BadVector(_) => Status::BadCommand,
             Refusal::NoOutput => Status::BadCommand,
             Refusal::NoPair => Status::Refused,
+            Refusal::OneFile(..) => Status::BadCommand,
         }
     }
 
@@ -87,6 +90,7 @@ impl<'a> Refusal<'a> {
             }
             Refusal::NoOutput => text.push(b"tdelay: no output of this name")?,
             Refusal::NoPair => text.push(b"tdelay: no admitted pair")?,
+            Refusal::OneFile(out, file) => tell_one_file(text, out, file)?,
         }
         text.push(b"\n")
     }
@@ -123,6 +127,16 @@ fn tell_unreadable(text: &mut Text, name: &str) -> Result<(), AllocError>
 {
     text.push(b"tdelay: cannot read ")?;
     text.word(name)
+}
+
+/// Appends the line, but for its end, that tells a file that would be written over another.
+fn tell_one_file(text: &mut Text, out: &str, file: &str) -> Result<(), AllocError>
+    ensures { OnOk result (text.new ≡ text.old ++ one_file_text out.now file.now) }
+{
+    text.push(b"tdelay: ")?;
+    text.word(out)?;
+    text.push(b" is ")?;
+    text.word(file)
 }
 
 /// Appends the number, name and line of a fault, and the token that it tells.

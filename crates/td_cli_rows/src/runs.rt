@@ -406,7 +406,27 @@ Commands:
   help   Print this message or the help of the given subcommand(s)
 
 Options:
-  -h, --help  Print help
+  -h, --help     Print help
+  -V, --version  Print version
+
+Examples:
+  tdelay sim c17.v 00000 11111 --vcd c17.vcd
+  tdelay path c17.v 00000 11111
+  tdelay bound c17.v --first 0....
+  tdelay worst c17.v --cert c17.cert
+  tdelay check c17.v c17.cert
+
+A vector has a character for each input, in the order of the module's port list,
+and of a port of several bits from its left number to its right one.
+Standard output has one figure a line, a key and its value: docs/OUTPUT.md.
+
+Exit status:
+  0  done
+  1  the text of the netlist or certificate is refused, or no pair is admitted
+  2  the command line is bad, or a vector on it
+  3  the search was cut short: the worst delay lies between two figures
+  4  the certificate is refused
+  5  a device failed, or memory ran out
 ";
 
 const SIM_HELP: &[u8] = b"Simulates one pair of vectors: when each output changes last
@@ -424,30 +444,27 @@ Options:
       --default-rise <N>  Rise delay in steps of gates without a delay [default: 1]
       --default-fall <N>  Fall delay in steps of gates without a delay [default: 1]
   -h, --help              Print help
+
+Example:
+  tdelay sim c17.v 00000 11111 --vcd c17.vcd
 ";
 
-/// Help goes to standard output, with status 0.
+/// Help and the version go to standard output, with status 0.
 #[test]
 fn help(rt: HostRuntime) -> Result<(), Fail> {
-    let whole = carried_out(
-        &rt,
-        rt.alloc(),
-        &["tdelay", "--help"],
-        MemoryFiles::new(rt.alloc(), &FILES),
-        ROOM,
-    )?;
-    assert_eq!(rt; whole.out.bytes(), HELP);
-    assert_eq!(rt; whole.err.bytes(), b"".as_slice());
-    assert_eq!(rt; whole.status, 0);
-    let sim = carried_out(
-        &rt,
-        rt.alloc(),
-        &["tdelay", "sim", "--help"],
-        MemoryFiles::new(rt.alloc(), &FILES),
-        ROOM,
-    )?;
-    assert_eq!(rt; sim.out.bytes(), SIM_HELP);
-    assert_eq!(rt; sim.status, 0);
+    let version = b"tdelay 1 (reads certificates of versions 1 to 4)\n".as_slice();
+    let cases: [(&[&str], &[u8]); 3] = [
+        (&["tdelay", "--help"], HELP),
+        (&["tdelay", "sim", "--help"], SIM_HELP),
+        (&["tdelay", "--version"], version),
+    ];
+    for (words, text) in cases {
+        let files = MemoryFiles::new(rt.alloc(), &FILES);
+        let ended = carried_out(&rt, rt.alloc(), words, files, ROOM)?;
+        assert_eq!(rt; ended.out.bytes(), text);
+        assert_eq!(rt; ended.err.bytes(), b"".as_slice());
+        assert_eq!(rt; ended.status, 0);
+    }
     Ok(())
 }
 

@@ -22,12 +22,20 @@ pub fn run_words<R: Threads + Wait + Sync>(
     carried_out(rt, alloc, words, MemoryFiles::new(alloc, &FILES), ROOM)
 }
 
-/// The file of this name, where it was made and ended and nothing else was done.
+/// The file of this name, where it was begun and put there whole and nothing else was done.
 pub fn one_file<'s>(steps: &'s [MemoryStep], name: &[u8]) -> Option<&'s MemoryFile> {
     if steps.len() != 2 || steps[0].made()? != name {
         return None;
     }
     steps[1].ended()
+}
+
+/// Whether a file for this name was begun, and nothing was put there or done else.
+pub fn is_given_up(steps: &[MemoryStep], name: &[u8]) -> bool {
+    match steps {
+        [step] => step.made() == Some(name),
+        _ => false,
+    }
 }
 
 /// Exact answers, with a pair that has the time and the number of the tree's nodes.
@@ -153,8 +161,8 @@ fn written_certificates(rt: HostRuntime) -> Result<(), Fail> {
     Ok(())
 }
 
-/// A certificate whose writer fails after each number of bytes: the report went out, the failure is told, and what
-/// the writer took is left.
+/// A certificate whose writer fails after each number of bytes: the report went out, the failure is told, and nothing is put
+/// under the name.
 #[test]
 fn failing_certificates(rt: HostRuntime) -> Result<(), Fail> {
     let words = ["tdelay", "worst", "inverter.v", "--cert", "c"];
@@ -165,8 +173,7 @@ fn failing_certificates(rt: HostRuntime) -> Result<(), Fail> {
         assert_eq!(rt; ended.out.bytes(), report.as_slice());
         assert_eq!(rt; ended.err.bytes(), b"tdelay: cannot write c\n".as_slice());
         assert_eq!(rt; ended.status, 5);
-        let left = one_file(ended.files.steps(), b"c").ok_or("a beginning")?;
-        assert_eq!(rt; left.bytes(), &INVERTER_CERTIFICATE[..room]);
+        assert_eq!(rt; is_given_up(ended.files.steps(), b"c"), true);
     }
     // Where standard output fails, the certificate isn't begun.
     for room in 0..report.len() {
@@ -180,6 +187,39 @@ fn failing_certificates(rt: HostRuntime) -> Result<(), Fail> {
         assert_eq!(rt; ended.status, 5);
     }
     Ok(())
+}
+
+/// A file that would be written over the netlist, or over the other file that is written: nothing is read or written.
+#[test]
+fn outputs_over_other_files(rt: HostRuntime) -> Result<(), Fail> {
+    let cases = [
+        "worst inverter.v --cert inverter.v",
+        "worst inverter.v --vcd inverter.v",
+        "worst inverter.v --cert c --vcd inverter.v",
+        "sim inverter.v 0 1 --vcd inverter.v",
+    ];
+    for case in cases {
+        let said = refused_over(&rt, rt.alloc(), case, b"tdelay: inverter.v is inverter.v\n")?;
+        assert_eq!(rt; said, (2, true));
+    }
+    let case = "worst inverter.v --vcd c --cert c";
+    let said = refused_over(&rt, rt.alloc(), case, b"tdelay: c is c\n")?;
+    assert_eq!(rt; said, (2, true));
+    Ok(())
+}
+
+/// How a command ended, and whether it told this alone and did nothing.
+fn refused_over<R: Threads + Wait + Sync>(
+    rt: &R,
+    alloc: Global,
+    case: &str,
+    told: &[u8],
+) -> Result<(u8, bool), Fail> {
+    let mut words = vec![in alloc; "tdelay"]?;
+    words.extend(case.split(' '))?;
+    let ended = run_words(rt, alloc, &words)?;
+    let is_silent = ended.out.bytes().is_empty() && ended.files.steps().is_empty();
+    Ok((ended.status, is_silent && ended.err.bytes() == told))
 }
 
 /// Checks a certificate's text of a netlist's: what is printed, why none is, and the status.

@@ -1,7 +1,7 @@
 //! The option `--vcd` of `sim` and `worst`.
 
 use crate::runs::{Ended, FILES, ROOM, carried_out};
-use crate::searches::{one_file, run_words};
+use crate::searches::{is_given_up, one_file, run_words};
 use std::alloc::Global;
 use std::sync::Wait;
 use std::test::*;
@@ -76,32 +76,25 @@ fn waves_behind_a_certificate(rt: HostRuntime) -> Result<(), Fail> {
     Ok(())
 }
 
-/// The status of a run whose files take so many bytes, what it told, and whether its one file has the first bytes of these.
+/// The status of a run whose files take so many bytes, and whether it gave up the file of this name and did nothing else.
 fn failing<R: Threads + Wait + Sync>(
     rt: &R,
     alloc: Global,
     words: &[&str],
     room: usize,
     name: &[u8],
-    bytes: &[u8],
-) -> Result<Option<(u8, bool)>, Fail> {
+) -> Result<(u8, bool), Fail> {
     let files = MemoryFiles::new(alloc, &FILES).writing(room);
     let ended = carried_out(rt, alloc, words, files, ROOM)?;
-    let Some(front) = bytes.get(..room) else {
-        return Ok(None);
-    };
-    Ok(wrote_one(&ended, name, front))
+    Ok((ended.status, is_given_up(ended.files.steps(), name)))
 }
 
-/// A file of waves whose writer fails after each number of bytes has these.
+/// A file of waves whose writer fails after each number of bytes isn't put under its name.
 #[test]
 fn failing_waves(rt: HostRuntime) -> Result<(), Fail> {
     let words = ["tdelay", "sim", "inverter.v", "0", "1", "--vcd", "o"];
     for room in 0..RISES.len() {
-        assert_eq!(rt;
-            failing(&rt, rt.alloc(), &words, room, b"o", RISES)?,
-            Some((5, true))
-        );
+        assert_eq!(rt; failing(&rt, rt.alloc(), &words, room, b"o")?, (5, true));
     }
     Ok(())
 }
@@ -119,9 +112,6 @@ fn failing_waves_are_told(rt: HostRuntime) -> Result<(), Fail> {
 #[test]
 fn failing_certificate(rt: HostRuntime) -> Result<(), Fail> {
     let words = ["tdelay", "worst", "inverter.v", "--cert", "c", "--vcd", "o"];
-    assert_eq!(rt;
-        failing(&rt, rt.alloc(), &words, 5, b"c", b"tdelay-cert")?,
-        Some((5, true))
-    );
+    assert_eq!(rt; failing(&rt, rt.alloc(), &words, 5, b"c")?, (5, true));
     Ok(())
 }

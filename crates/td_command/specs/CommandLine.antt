@@ -93,9 +93,9 @@ with_commands app =
 abbrev pub named : App
 named = new_app (codes "tdelay")
 
--- the program, before it is told its commands, of which one has to be given
+-- the program, which has a version, before it is told its commands, of which one has to be given
 abbrev pub bare : App
-bare = record named { top = record named.top { subcommand_required = true } }
+bare = record named { top = record named.top { subcommand_required = true; has_version = true } }
 
 abbrev pub program : App
 program = with_commands bare

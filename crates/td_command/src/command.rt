@@ -6,6 +6,7 @@ ghost use Rattle.td_command.specs.CommandLine.{needed, option, number_option, co
 ghost use Rattle.td_command.specs.CommandLine.{with_pair, with_default, with_moments, with_vcd, with_output, with_cube, with_admitted, with_search};
 ghost use Rattle.td_command.specs.CommandLine.{HasNumber, HasCount, HasDefault, HasWorkers, HasBudget, AsksSim, AsksPath, AsksBound, AsksWorst, AsksCheck, EnteredAsks, kinds_of, Asks, IsAnswered};
 
+use crate::help::{BOUND_HELP, CHECK_HELP, HELP, PATH_HELP, SIM_HELP, VERSION, WORST_HELP};
 use clap::builder::ValueParser;
 use clap::{Arg, ArgMatches, Command, Error};
 use std::alloc::{AllocError, Global};
@@ -306,9 +307,9 @@ fn with_search<'a>(alloc: Global, command: Command<'a>) -> Result<Command<'a>, A
 fn sim_command<'a>(alloc: Global) -> Result<Command<'a>, AllocError>
     ensures { IfOk result (λ new. app_of new ≡ sim_command) }
 {
-    let command = Command::new(alloc, "sim").about(
-        "Simulates one pair of vectors: when each output changes last",
-    );
+    let command = Command::new(alloc, "sim")
+        .about("Simulates one pair of vectors: when each output changes last")
+        .after_help(SIM_HELP);
     let command = with_moments(alloc, with_pair(alloc, command)?)?;
     with_default(alloc, with_vcd(alloc, command)?)
 }
@@ -316,9 +317,9 @@ fn sim_command<'a>(alloc: Global) -> Result<Command<'a>, AllocError>
 fn path_command<'a>(alloc: Global) -> Result<Command<'a>, AllocError>
     ensures { IfOk result (λ new. app_of new ≡ path_command) }
 {
-    let command = Command::new(alloc, "path").about(
-        "Tells why an output changes last when it does: the changes that lead there from an input",
-    );
+    let command = Command::new(alloc, "path")
+        .about("Tells why an output changes last when it does: the changes that lead there from an input")
+        .after_help(PATH_HELP);
     let command = with_moments(alloc, with_pair(alloc, command)?)?;
     with_default(alloc, with_output(alloc, command)?)
 }
@@ -328,6 +329,7 @@ fn bound_command<'a>(alloc: Global) -> Result<Command<'a>, AllocError>
 {
     let command = Command::new(alloc, "bound")
         .about("Bounds the delay of all pairs of vectors that two patterns allow")
+        .after_help(BOUND_HELP)
         .arg(file(alloc))?;
     with_default(alloc, with_moments(alloc, with_cube(alloc, command)?)?)
 }
@@ -339,6 +341,7 @@ fn worst_command<'a>(alloc: Global) -> Result<Command<'a>, AllocError>
         .about(
             "Searches for the worst delay of the admitted pairs of vectors, and a pair that has it",
         )
+        .after_help(WORST_HELP)
         .arg(file(alloc))?;
     let command = with_moments(alloc, with_admitted(alloc, command)?)?;
     with_default(alloc, with_vcd(alloc, with_search(alloc, command)?)?)
@@ -354,6 +357,7 @@ fn check_command<'a>(alloc: Global) -> Result<Command<'a>, AllocError>
     );
     let command = Command::new(alloc, "check")
         .about("Checks the certificate of a worst delay, and trusts nothing else")
+        .after_help(CHECK_HELP)
         .arg(file(alloc))?
         .arg(certificate)?;
     with_default(alloc, command)
@@ -364,6 +368,8 @@ fn command<'a>(alloc: Global) -> Result<Command<'a>, AllocError>
 {
     Command::new(alloc, "tdelay")
         .about("Worst transition delay of a netlist of Verilog gate primitives")
+        .version(VERSION)
+        .after_help(HELP)
         .subcommand_required(true)
         .subcommand(sim_command(alloc)?)?
         .subcommand(path_command(alloc)?)?

@@ -1,17 +1,15 @@
-use Rattle.td_cli.proofs.Programs.{asked_as}
+use Rattle.td_cli.specs.Requests.{disk_of}
+use Rattle.td_cli.proofs.Programs.{nothing_done, refused_over, runs_apart}
 use Rattle.td_cli.proofs.program.carry_out.Goals as goal
 
-pub returns-in-Sim : goal.returns-in-Sim
-returns-in-Sim g c = asked_as _ _ _ _ _ _ _ c.in-Sim.is c.run_sim.ensures
+pub returns-in-Some : goal.returns-in-Some
+returns-in-Some g c = (
+  _,
+  nothing_done g.F.Files.did g.met.F.Files.did_nothing _ _ c.overwriting.ensures.stays,
+  refused_over (disk_of (g.F.Files.holds c.args.files.now) (g.F.Files.fails c.args.files.now) (g.F.Files.breaks c.args.files.now) (g.F.Files.is_one c.args.files.now))
+      c.args.request.now _ _ _ _ _ c.in-Some.ensures.some c.tell_refusal.ensures,
+)
 
-pub returns-in-Path : goal.returns-in-Path
-returns-in-Path g c = asked_as _ _ _ _ _ _ _ c.in-Path.is c.run_path.ensures
-
-pub returns-in-Bound : goal.returns-in-Bound
-returns-in-Bound g c = asked_as _ _ _ _ _ _ _ c.in-Bound.is c.run_bound.ensures
-
-pub returns-in-Worst : goal.returns-in-Worst
-returns-in-Worst g c = asked_as _ _ _ _ _ _ _ c.in-Worst.is c.run_worst.ensures
-
-pub returns-in-Check : goal.returns-in-Check
-returns-in-Check g c = asked_as _ _ _ _ _ _ _ c.in-Check.is c.run_check.ensures
+pub returns-in-None : goal.returns-in-None
+returns-in-None g c = runs_apart (g.F.Files.did c.args.files.now c.run_request.new.files) (disk_of (g.F.Files.holds c.args.files.now) (g.F.Files.fails c.args.files.now) (g.F.Files.breaks c.args.files.now) (g.F.Files.is_one c.args.files.now))
+    c.args.request.now _ _ _ c.in-None.ensures.none (rw (c.overwriting.ensures.stays) at c.run_request.ensures)

@@ -6,7 +6,7 @@ use Rattle.td_command.proofs.command.path_command.Goals as goal
 
 pub returns : goal.returns
 returns c =
-    let named : app_of c.about-command.result ≡ new_app (codes "path") = search rules in
+    let named : app_of c.after_help-command.result ≡ new_app (codes "path") = search rules in
     let pair = c.in_ok-with_pair.ensures ∙ ap with_pair named in
     let moments = c.in_ok-command.ensures ∙ ap with_moments pair in
     let chosen = c.in_ok-with_output.ensures ∙ ap with_output moments in

@@ -6,7 +6,7 @@ use Rattle.td_command.proofs.command.worst_command.Goals as goal
 
 pub returns : goal.returns
 returns c =
-    let named : app_of c.about.result ≡ new_app (codes "worst") = search rules in
+    let named : app_of c.after_help.result ≡ new_app (codes "worst") = search rules in
     let file = c.in_ok-command.ensures.shape c.file.ensures.local ∙ ap₂ with_rule named c.file.ensures.rule in
     let admitted = c.in_ok-with_admitted.ensures ∙ ap with_admitted file in
     let moments = c.in_ok-command-2.ensures ∙ ap with_moments admitted in

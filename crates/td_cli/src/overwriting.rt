@@ -1,0 +1,66 @@
+//! Files that a command would write over its other files.
+
+ghost use Rattle.std.specs.Prelude.{◌≡◌, Option, Some, IfSome, IfNone};
+ghost use Rattle.td_cli.specs.Requests.{disk_of, AreApart, IsOverwritten, KeepsFiles, Overwrites};
+ghost use Rattle.td_cli.specs.Vectors.{words_of};
+ghost use Rattle.td_command.specs.declared.command.Request.TheVariants as Asked;
+
+use crate::files::Files;
+use crate::refusal::Refusal;
+use td_command::{Request, SimRequest, WorstRequest};
+
+/// Why a command isn't carried out that would write one of its files over another: the netlist that it reads, or the other file
+/// that it writes.
+pub fn overwriting<'a, F: Files>(files: &mut F, request: &Request<'a>) -> Option<Refusal<'a>>
+    ensures some { IfSome result (λ reason. Overwrites (disk_of (F.holds files.old) (F.fails files.old) (F.breaks files.old) (F.is_one files.old)) request.now reason) }
+    ensures none { IfNone result (KeepsFiles (disk_of (F.holds files.old) (F.fails files.old) (F.breaks files.old) (F.is_one files.old)) request.now) }
+    ensures stays { files.new ≡ files.old }
+{
+    match request {
+        Request::Sim(request) => over_netlist(files, *request),
+        Request::Worst(request) => over_another(files, *request),
+        Request::Path(_) => None,
+        Request::Bound(_) => None,
+        Request::Check(_) => None,
+    }
+}
+
+/// The waves of `sim` in place of its netlist.
+fn over_netlist<'a, F: Files>(files: &mut F, request: SimRequest<'a>) -> Option<Refusal<'a>>
+    ensures some { IfSome result (λ reason. Overwrites (disk_of (F.holds files.old) (F.fails files.old) (F.breaks files.old) (F.is_one files.old)) (Asked.Sim request.entry) reason) }
+    ensures none { IfNone result (KeepsFiles (disk_of (F.holds files.old) (F.fails files.old) (F.breaks files.old) (F.is_one files.old)) (Asked.Sim request.entry)) }
+    ensures stays { files.new ≡ files.old }
+{
+    over(files, request.vcd, Some(request.file))
+}
+
+/// The certificate or the waves of `worst` in place of its netlist, or the waves in place of the certificate.
+fn over_another<'a, F: Files>(files: &mut F, request: WorstRequest<'a>) -> Option<Refusal<'a>>
+    ensures some { IfSome result (λ reason. Overwrites (disk_of (F.holds files.old) (F.fails files.old) (F.breaks files.old) (F.is_one files.old)) (Asked.Worst request.entry) reason) }
+    ensures none { IfNone result (KeepsFiles (disk_of (F.holds files.old) (F.fails files.old) (F.breaks files.old) (F.is_one files.old)) (Asked.Worst request.entry)) }
+    ensures stays { files.new ≡ files.old }
+{
+    if let Some(refusal) = over(files, request.certificate, Some(request.file)) {
+        return Some(refusal);
+    }
+    if let Some(refusal) = over(files, request.vcd, Some(request.file)) {
+        return Some(refusal);
+    }
+    over(files, request.vcd, request.certificate)
+}
+
+/// One file in place of another, where both are named.
+fn over<'a, F: Files>(files: &mut F, out: Option<&'a str>, file: Option<&'a str>) -> Option<Refusal<'a>>
+    ensures some { IfSome result (λ reason. IsOverwritten (disk_of (F.holds files.old) (F.fails files.old) (F.breaks files.old) (F.is_one files.old)) (words_of out.entry) (words_of file.entry) reason) }
+    ensures none { IfNone result (AreApart (disk_of (F.holds files.old) (F.fails files.old) (F.breaks files.old) (F.is_one files.old)) (words_of out.entry) (words_of file.entry)) }
+    ensures stays { files.new ≡ files.old }
+{
+    let (Some(out), Some(file)) = (out, file) else {
+        return None;
+    };
+    if files.are_one(out, file) {
+        Some(Refusal::OneFile(out, file))
+    } else {
+        None
+    }
+}

@@ -1,0 +1,46 @@
+//! What help says behind the options of a command.
+
+/// The program's version, and the versions of certificates that it reads.
+pub const VERSION: &str = "1 (reads certificates of versions 1 to 4)";
+
+pub const HELP: &str = "\
+Examples:
+  tdelay sim c17.v 00000 11111 --vcd c17.vcd
+  tdelay path c17.v 00000 11111
+  tdelay bound c17.v --first 0....
+  tdelay worst c17.v --cert c17.cert
+  tdelay check c17.v c17.cert
+
+A vector has a character for each input, in the order of the module's port list,
+and of a port of several bits from its left number to its right one.
+Standard output has one figure a line, a key and its value: docs/OUTPUT.md.
+
+Exit status:
+  0  done
+  1  the text of the netlist or certificate is refused, or no pair is admitted
+  2  the command line is bad, or a vector on it
+  3  the search was cut short: the worst delay lies between two figures
+  4  the certificate is refused
+  5  a device failed, or memory ran out";
+
+pub const SIM_HELP: &str = "\
+Example:
+  tdelay sim c17.v 00000 11111 --vcd c17.vcd";
+
+pub const PATH_HELP: &str = "\
+Example:
+  tdelay path c17.v 00000 11111 --output N22";
+
+pub const BOUND_HELP: &str = "\
+Example:
+  tdelay bound c17.v --first 0.... --second 1....";
+
+pub const WORST_HELP: &str = "\
+Example:
+  tdelay worst c17.v --workers 4 --cert c17.cert --vcd c17.vcd
+It ends with status 3 where the budget or memory cuts the search short.";
+
+pub const CHECK_HELP: &str = "\
+Example:
+  tdelay check c17.v c17.cert
+It ends with status 4 where the certificate is refused.";
