@@ -8,9 +8,9 @@ use Rattle.td_nets.specs.Netlist.{Name, Netlist}
 use Rattle.td_nets.specs.WellFormed.{driven}
 
 -- the state after one more name, with its bit
-unfoldable pub with_name : DefaultHasher → Name → DefaultHasher
+abbrev pub with_name : DefaultHasher → Name → DefaultHasher
 with_name digest name = fold write digest (slice u8 name.text ++ option u32 name.bit)
 
 -- Each driven net has a part in it.
-unfoldable pub seed_of : Netlist → ℕ
+abbrev pub seed_of : Netlist → ℕ
 seed_of netlist = finish (fold with_name initial (driven netlist))
