@@ -9,3 +9,4 @@ pub mod Values
 pub mod Sorting
 pub mod Existence
 pub mod Moments
+pub mod Seeding

@@ -3,6 +3,7 @@
 
 mod building;
 mod circuit;
+mod hashing;
 pub mod laws;
 mod names;
 mod order;

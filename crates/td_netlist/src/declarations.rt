@@ -18,6 +18,7 @@ use crate::name_ref::{Direction, NameRef, PlacedRef};
 use crate::names::Names;
 use crate::ranges::{Range, push_nets, range_of, width_of};
 use std::alloc::{AllocError, Global};
+use td_nets::SeededState;
 use td_syntax::{Declaration, Item, Module, Name as Placed, Port, Ports, Role};
 
 /// The greatest number of inputs.
@@ -99,15 +100,15 @@ fn is_other<'a>(names: &Known<'a>, name: Placed<'a>, range: Option<Range>) -> bo
 }
 
 impl<'a> Lists<'a> {
-    fn new(alloc: Global) -> Lists<'a>
+    fn new(alloc: Global, hashing: SeededState) -> Lists<'a>
         ensures { lists_of result ≡ nothing }
     {
         Lists {
-            listed: Names::new(alloc),
-            directions: Directions::new(alloc),
+            listed: Names::new(alloc, hashing),
+            directions: Directions::new(alloc, hashing),
             inputs: 0,
-            wires: Names::new(alloc),
-            names: Known::new(alloc),
+            wires: Names::new(alloc, hashing),
+            names: Known::new(alloc, hashing),
         }
     }
 
@@ -228,13 +229,13 @@ impl<'a> Lists<'a> {
 }
 
 impl<'a> Ported<'a> {
-    fn new(alloc: Global) -> Ported<'a>
+    fn new(alloc: Global, hashing: SeededState) -> Ported<'a>
         ensures { ported_of result ≡ portless }
     {
         Ported {
             role: Role::Input,
             range: None,
-            lists: Lists::new(alloc),
+            lists: Lists::new(alloc, hashing),
         }
     }
 
@@ -272,19 +273,23 @@ impl<'a> Ported<'a> {
 
 /// What the port list declares.
 #[tactic(auto, unfolding(crate::specs::Checks::declare_ports))]
-fn declared_ports<'a>(alloc: Global, ports: &Option<Ports<'a>>) -> Result<Lists<'a>, Fault<'a>>
+fn declared_ports<'a>(
+    alloc: Global,
+    hashing: SeededState,
+    ports: &Option<Ports<'a>>,
+) -> Result<Lists<'a>, Fault<'a>>
     requires { ArePorts (ports_view ports.now) }
     ensures { Gives lists_of result (declare_ports (ports_view ports.now)) }
 {
     match ports {
-        None => Ok(Lists::new(alloc)),
+        None => Ok(Lists::new(alloc, hashing)),
         Some(Ports::Names(names)) => {
-            let mut lists = Lists::new(alloc);
+            let mut lists = Lists::new(alloc, hashing);
             lists.list_ports(names)?;
             Ok(lists)
         }
         Some(Ports::Declared(ports)) => {
-            let mut ported = Ported::new(alloc);
+            let mut ported = Ported::new(alloc, hashing);
             ported.declare_each(ports)?;
             Ok(ported.lists)
         }
@@ -405,12 +410,16 @@ fn by_side<'a>(
 
 /// The nets of the ports of a module by direction, and the names of its declarations.
 #[tactic(auto, unfolding(crate::specs::Checks::declared_at))]
-pub fn declared<'a>(alloc: Global, source: &Module<'a>) -> Result<(Sides<'a>, Known<'a>), Fault<'a>>
+pub fn declared<'a>(
+    alloc: Global,
+    hashing: SeededState,
+    source: &Module<'a>,
+) -> Result<(Sides<'a>, Known<'a>), Fault<'a>>
     requires ports { ArePorts (module_view source.now).ports }
     requires items { AllByRecursion (IsItem (unit_exponent (module_view source.now).fronts)) (module_view source.now).items }
     ensures { Gives (λ x. (sides_of x.0, x.1)) result (declared_at (module_view source.now)) }
 {
-    let mut lists = declared_ports(alloc, &source.ports)?;
+    let mut lists = declared_ports(alloc, hashing, &source.ports)?;
     lists.declare_items(&source.items)?;
     let sides = by_side(alloc, &lists.directions, &source.ports)?;
     Ok((sides, lists.names))

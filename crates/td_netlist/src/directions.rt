@@ -10,12 +10,13 @@ use crate::ranges::Range;
 use indexmap::IndexMap;
 use std::alloc::{AllocFailed, Global};
 use std::marker::Model;
+use td_nets::SeededState;
 use td_syntax::{Name as Placed, Role};
 
 /// The names that have a direction, in the order of their declarations.
 #[derive(Drop)]
 pub struct Directions<'a> {
-    table: IndexMap<&'a [u8], Direction>,
+    table: IndexMap<&'a [u8], Direction, SeededState>,
 }
 
 impl<'a> Model for Directions<'a> {
@@ -29,11 +30,11 @@ impl<'a> Model for Directions<'a> {
 }
 
 impl<'a> Directions<'a> {
-    pub fn new(alloc: Global) -> Directions<'a>
+    pub fn new(alloc: Global, hashing: SeededState) -> Directions<'a>
         ensures { result ≡ [] }
     {
         Directions {
-            table: IndexMap::new(alloc),
+            table: IndexMap::with_hasher(alloc, hashing),
         }
     }
 

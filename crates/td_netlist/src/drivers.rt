@@ -22,6 +22,7 @@ use crate::names::Names;
 use crate::primitive::Primitive;
 use crate::ranges::{Range, holds};
 use std::alloc::{AllocError, Global};
+use td_nets::SeededState;
 use td_syntax::{Name as Placed, Terminal, decimal_value};
 
 /// The driven nets and the names so far.
@@ -49,10 +50,14 @@ fn second_driver<'a>(inputs: &[NameRef<'a>], net: NameRef<'a>) -> FaultKind<'a>
 }
 
 /// The inputs, as a set.
-fn driven_inputs<'a>(alloc: Global, inputs: &[NameRef<'a>]) -> Result<Names<'a>, AllocError>
+fn driven_inputs<'a>(
+    alloc: Global,
+    hashing: SeededState,
+    inputs: &[NameRef<'a>],
+) -> Result<Names<'a>, AllocError>
     ensures { IfOk result (λ names. names ≡ different (map name_ref_of inputs.now)) }
 {
-    let mut names = Names::new(alloc);
+    let mut names = Names::new(alloc, hashing);
     for input in inputs {
         names.add(*input)?;
     }
@@ -315,6 +320,7 @@ impl<'a> Drivers<'a> {
 #[tactic(auto, unfolding(crate::specs::Checks::driven_at))]
 pub fn all_driven<'a>(
     alloc: Global,
+    hashing: SeededState,
     sides: &Sides<'a>,
     names: Known<'a>,
     primitives: &[Primitive<'_, 'a>],
@@ -322,7 +328,7 @@ pub fn all_driven<'a>(
     ensures { Gives drivers_of result (driven_at (sides_of sides.now) names.entry (map primitive_of primitives.now)) }
 {
     let mut drivers = Drivers {
-        driven: driven_inputs(alloc, &sides.inputs)?,
+        driven: driven_inputs(alloc, hashing, &sides.inputs)?,
         names,
     };
     drivers.drive_each(&sides.inputs, primitives)?;

@@ -12,6 +12,7 @@ use crate::ranges::{Range, width_of};
 use indexmap::IndexMap;
 use std::alloc::Global;
 use std::marker::Model;
+use td_nets::SeededState;
 use td_syntax::Name as Placed;
 
 /// The greatest number of declared and implicit nets.
@@ -20,7 +21,7 @@ const MAX_NETS: usize = 1_000_000;
 /// Names with their ranges, in first-seen order, and how many nets they have.
 #[derive(Drop)]
 pub struct Known<'a> {
-    table: IndexMap<&'a [u8], Option<Range>>,
+    table: IndexMap<&'a [u8], Option<Range>, SeededState>,
     nets: usize,
 }
 
@@ -37,11 +38,11 @@ impl<'a> Model for Known<'a> {
 }
 
 impl<'a> Known<'a> {
-    pub fn new(alloc: Global) -> Known<'a>
+    pub fn new(alloc: Global, hashing: SeededState) -> Known<'a>
         ensures { result ≡ [] }
     {
         Known {
-            table: IndexMap::new(alloc),
+            table: IndexMap::with_hasher(alloc, hashing),
             nets: 0,
         }
     }

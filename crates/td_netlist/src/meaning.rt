@@ -14,6 +14,8 @@ ghost use Rattle.td_netlist.specs.Means.{Means};
 ghost use Rattle.td_netlist.specs.PlacedNets.{nets_at};
 ghost use Rattle.td_netlist.specs.Module.{netlist_in, step_of, unit_of};
 ghost use Rattle.td_netlist.specs.NameViews.{name_ref_of, placed_ref_of};
+ghost use Rattle.std.specs.Hash.DefaultHasher.{initial, write, finish};
+ghost use Rattle.td_nets.specs.Seeds.{start_of, seeded};
 ghost use Rattle.td_nets.specs.Views.{name_of};
 ghost use Rattle.td_nets.specs.WellFormed.{IsWellFormed};
 
@@ -24,8 +26,9 @@ use crate::gates::{Timing, gates, owned};
 use crate::name_ref::{NameRef, PlacedRef};
 use crate::primitive::{defaulted_count, primitives};
 use std::alloc::{AllocError, Global};
+use std::hash::{DefaultHasher, Hasher};
 use td_gates::Delay;
-use td_nets::{Name, Netlist, Scale, Unit};
+use td_nets::{Name, Netlist, Scale, SeededState, Unit};
 use td_syntax::{Directive, Front, Module, parse, unit_exponent};
 
 fn owned_names(alloc: Global, names: &[NameRef<'_>]) -> Result<Vec<Name>, AllocError>
@@ -84,8 +87,22 @@ fn unit(fronts: &[Front]) -> Unit
     unit
 }
 
+/// How the names of a text are hashed: by a seed in which all its bytes have a part, so that they can't be chosen to collide.
+fn hashing_of(text: &[u8]) -> SeededState
+    ensures { start_of result ≡ seeded (finish (write initial text.now)) }
+{
+    let mut digest = DefaultHasher::new();
+    digest.write(text);
+    SeededState::with_seed(digest.finish())
+}
+
 /// The netlist of a module.
-fn netlist<'a>(alloc: Global, source: &Module<'a>, default: Delay) -> Result<Netlist, Fault<'a>>
+fn netlist<'a>(
+    alloc: Global,
+    hashing: SeededState,
+    source: &Module<'a>,
+    default: Delay,
+) -> Result<Netlist, Fault<'a>>
     requires ports { ArePorts (module_view source.now).ports }
     requires items { AllByRecursion (IsItem (unit_exponent (module_view source.now).fronts)) (module_view source.now).items }
     requires gates { sum_by item_gates (module_view source.now).items ≤ 200000 }
@@ -96,8 +113,8 @@ fn netlist<'a>(alloc: Global, source: &Module<'a>, default: Delay) -> Result<Net
     ensures first { IfErr result (λ e. Fails e (checked_at (module_view source.now))) }
 {
     let instances = primitives(alloc, source)?;
-    let (sides, names) = declared(alloc, source)?;
-    let drivers = all_driven(alloc, &sides, names, &instances)?;
+    let (sides, names) = declared(alloc, hashing, source)?;
+    let drivers = all_driven(alloc, hashing, &sides, names, &instances)?;
     let inputs = owned_names(alloc, &sides.inputs)?;
     let outputs = owned_outputs(alloc, &sides.outputs)?;
     let timing = Timing {
@@ -132,5 +149,5 @@ pub fn read<'a>(alloc: Global, text: &'a [u8], default: Delay) -> Result<Netlist
     ensures fault { IfErr result (λ e. IsFaultIn text.now e.kind e.line) }
 {
     let module = parse(alloc, text)?;
-    netlist(alloc, &module, default)
+    netlist(alloc, hashing_of(text), &module, default)
 }

@@ -8,11 +8,12 @@ use crate::name_ref::NameRef;
 use indexmap::IndexSet;
 use std::alloc::{AllocFailed, Global};
 use std::marker::Model;
+use td_nets::SeededState;
 
 /// Names in first-seen order, each of them once.
 #[derive(Drop)]
 pub struct Names<'a> {
-    set: IndexSet<NameRef<'a>>,
+    set: IndexSet<NameRef<'a>, SeededState>,
 }
 
 impl<'a> Model for Names<'a> {
@@ -26,11 +27,11 @@ impl<'a> Model for Names<'a> {
 }
 
 impl<'a> Names<'a> {
-    pub fn new(alloc: Global) -> Names<'a>
+    pub fn new(alloc: Global, hashing: SeededState) -> Names<'a>
         ensures { result ≡ [] }
     {
         Names {
-            set: IndexSet::new(alloc),
+            set: IndexSet::with_hasher(alloc, hashing),
         }
     }
 

@@ -8,3 +8,4 @@ pub mod Names
 pub mod WellFormed
 pub mod Views
 pub mod Printed
+pub mod Seeds
