@@ -89,5 +89,13 @@ two_pushed old front name first new is_first is_new = rw (is_new, is_first, appe
 pub four_pushed : (old front name middle other first second third new : List ℕ) → first ≡ old ++ front → second ≡ first ++ name
     → third ≡ second ++ middle → new ≡ third ++ other → new ≡ old ++ (front ++ ((name ++ middle) ++ other))
 four_pushed old front name middle other first second third new is_first is_second is_third is_new =
-    rw (is_new, is_third, is_second, is_first, append_assoc ((old ++ front) ++ name) middle other, append_assoc (old ++ front) name (middle ++ other),
-    append_assoc old front (name ++ (middle ++ other)), append_assoc name middle other) refl
+    rw (
+      is_new,
+      is_third,
+      is_second,
+      is_first,
+      append_assoc ((old ++ front) ++ name) middle other,
+      append_assoc (old ++ front) name (middle ++ other),
+      append_assoc old front (name ++ (middle ++ other)),
+      append_assoc name middle other,
+    ) refl

@@ -307,8 +307,8 @@ runs_apart WereTaken disk asked status old new keeps taken = (
   taken.0,
   taken.1,
   lifted (IsProductOf disk asked) (HoldsOf disk asked) disk.breaks (λ product. KeepsFiles disk asked × IsProductOf disk asked product)
-  (λ reason. Overwrites disk asked reason ⊎ HoldsOf disk asked reason) disk.breaks (λ product is. (keeps, is)) (λ reason holds. inr holds)
-  (λ name may. may) taken.0 status old new taken.2,
+      (λ reason. Overwrites disk asked reason ⊎ HoldsOf disk asked reason) disk.breaks (λ product is. (keeps, is)) (λ reason holds. inr holds)
+      (λ name may. may) taken.0 status old new taken.2,
 )
 
 -- a command that would overwrite a file is refused

@@ -50,7 +50,11 @@ fn over_another<'a, F: Files>(files: &mut F, request: WorstRequest<'a>) -> Optio
 }
 
 /// One file in place of another, where both are named.
-fn over<'a, F: Files>(files: &mut F, out: Option<&'a str>, file: Option<&'a str>) -> Option<Refusal<'a>>
+fn over<'a, F: Files>(
+    files: &mut F,
+    out: Option<&'a str>,
+    file: Option<&'a str>,
+) -> Option<Refusal<'a>>
     ensures some { IfSome result (λ reason. IsOverwritten (disk_of (F.holds files.old) (F.fails files.old) (F.breaks files.old) (F.is_one files.old)) (words_of out.entry) (words_of file.entry) reason) }
     ensures none { IfNone result (AreApart (disk_of (F.holds files.old) (F.fails files.old) (F.breaks files.old) (F.is_one files.old)) (words_of out.entry) (words_of file.entry)) }
     ensures stays { files.new ≡ files.old }

@@ -81,7 +81,12 @@ impl<'r, R: rt::Files + Input + AllocGlobal> RealFiles<'r, R> {
     }
 
     /// A writer in the place of a file that is there, behind symbolic links, with the permissions of the old one.
-    fn in_place(&self, alloc: Global, name: &str, old: &Metadata) -> io::Result<RealWriter<R::File>> {
+    fn in_place(
+        &self,
+        alloc: Global,
+        name: &str,
+        old: &Metadata,
+    ) -> io::Result<RealWriter<R::File>> {
         let path = fs::canonicalize(self.rt, name)?;
         let writer = self.beside(alloc, path.into_string())?;
         if let Some(place) = &writer.place {

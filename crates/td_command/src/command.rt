@@ -318,7 +318,9 @@ fn path_command<'a>(alloc: Global) -> Result<Command<'a>, AllocError>
     ensures { IfOk result (λ new. app_of new ≡ path_command) }
 {
     let command = Command::new(alloc, "path")
-        .about("Tells why an output changes last when it does: the changes that lead there from an input")
+        .about(
+            "Tells why an output changes last when it does: the changes that lead there from an input",
+        )
         .after_help(PATH_HELP);
     let command = with_moments(alloc, with_pair(alloc, command)?)?;
     with_default(alloc, with_output(alloc, command)?)
