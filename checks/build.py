@@ -10,6 +10,7 @@ import fcntl
 import os
 import re
 import shutil
+import signal
 import subprocess
 import sys
 import tempfile
@@ -158,6 +159,7 @@ class Build:
 
 
 def main():
+    signal.signal(signal.SIGTERM, lambda *_: sys.exit(5))
     build = Build()
     try:
         build.run()
