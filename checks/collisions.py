@@ -99,7 +99,10 @@ def main():
         for size in given.sizes:
             count = min(2 ** len(PAIRS), (size * 2**20 - 100) // (LENGTH + 7))
             write_netlist(path, ["".join(rng.choices(letters, k=LENGTH)) for _ in range(count)])
-            other = min(seconds_of(program, path, LONGEST) for _ in range(3))
+            others = [seconds_of(program, path, LONGEST) for _ in range(3)]
+            if None in others:
+                sys.exit(f"wrong: {size} MiB of other names take more than {LONGEST} s")
+            other = min(others)
             write_netlist(path, [colliding(number) for number in range(count)])
             longest = int(2 * TOO_LONG * other) + 1
             took = seconds_of(program, path, longest)
