@@ -151,7 +151,7 @@ def admitted_pairs(rng, question):
 
 
 def timed(circuit, question, pair):
-    return opinion.delay_of_pair(circuit, pair[::2], pair[1::2], question.moments)
+    return opinion.delay_of_pair(circuit, pair, question.moments)
 
 
 def tree_lines(rng, circuit, question, time, letters, with_none, most):
