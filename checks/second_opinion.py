@@ -30,14 +30,6 @@ class Refusal(Exception):
     """What is told in place of a report, and the exit status."""
 
 
-class NetlistFault(Refusal):
-    """The text means no netlist."""
-
-
-class LoopFault(Refusal):
-    """The netlist has a loop."""
-
-
 # ---- The netlist's text (docs/MODEL.md, "Tokens of a text" to "Netlist") ----
 
 KINDS = ("and", "nand", "or", "nor", "xor", "xnor", "buf", "not")
@@ -81,41 +73,37 @@ GATES = rf"(?P<kind>{'|'.join(KINDS)}) (?:{DELAY})?(?P<instances>{INSTANCE}(?:, 
 ITEM = re.compile(rf"(?:@ )*(?:{DECLARATION}|{GATES})")
 TAIL = re.compile(r"endmodule (?:` |~ )*")
 PORT = re.compile(rf"(?P<direction>{DIRECTION})?(?P<name>{NAME})")
+MARKS = {"attribute": "@", "directive": "`", "timescale": "~"}
 SCALES = ("s", "ms", "us", "ns", "ps", "fs")
 
 # A net is a name and a bit, which is None of a scalar; a terminal is a net, or a level.
 Gate = namedtuple("Gate", "kind rise fall output inputs")
-Netlist = namedtuple("Netlist", "unit defaulted inputs outputs gates")
 Delays = namedtuple("Delays", "rise fall")
+# Here nets have numbers: the inputs, the levels 0 and 1, then the outputs of the gates, each of which comes behind those that it reads.
+Circuit = namedtuple("Circuit", "unit defaulted inputs gates outputs names")
 # What a text declares: its ports in order, a name's direction, a name's range, and which names are wires.
 Declared = namedtuple("Declared", "ports directions ranges wires")
 
 
 def require(holds, why):
     if not holds:
-        raise NetlistFault(f"netlist fault ({why})", 1)
-
-
-def token_of(form, word):
-    """A token as the grammar has it."""
-    if form == "escaped" or form == "word" and word not in GRAMMAR:
-        require(form == "escaped" or word not in RESERVED, f"reserved word {word}")
-        return "$" + word
-    marks = {"attribute": "@", "directive": "`", "timescale": "~"}
-    return marks.get(form) or (word.replace("_", "") if form == "number" else word.lower())
+        raise Refusal(f"netlist fault ({why})", 1)
 
 
 def tokens_of(text):
     """The tokens with a space behind each, and the last timescale before the module, or None."""
     tokens, timescale = [], None
     for found in PIECE.finditer(text):
-        form = found.lastgroup
+        form, word = found.lastgroup, found[found.lastgroup]
         require(form != "wrong", f"no token at byte {found.start()}")
         if form == "timescale":
-            scale_of(found.group())
-            timescale = timescale if "module" in tokens else found.group()
-        if form != "space":
-            tokens.append(token_of(form, found[form]))
+            scale_of(word)
+            timescale = timescale if "module" in tokens else word
+        if form == "escaped" or form == "word" and word not in GRAMMAR:
+            require(form == "escaped" or word not in RESERVED, f"reserved word {word}")
+            tokens.append("$" + word)
+        elif form != "space":
+            tokens.append(MARKS.get(form) or word.lower().replace("_", ""))
     return "".join(token + " " for token in tokens), timescale
 
 
@@ -213,31 +201,26 @@ def gates_of(declared, statements, scale, defaults):
     return gates, defaulted
 
 
-def require_well_formed(declared, netlist):
+def require_well_formed(declared, inputs, outputs, gates):
     """Each net that is read or is an output has one driver, inputs none, and the limits are kept."""
-    driven = Counter(gate.output for gate in netlist.gates)
+    driven = Counter(gate.output for gate in gates)
     require(not {0, 1} & set(driven), "a level as an output")
-    require(max(driven.values(), default=1) == 1 and not set(driven) & set(netlist.inputs), "two drivers")
-    read = {net for gate in netlist.gates for net in gate.inputs if net not in (0, 1)}
-    require((read | set(netlist.outputs)) <= set(driven) | set(netlist.inputs), "a net without a driver")
+    require(max(driven.values(), default=1) == 1 and not set(driven) & set(inputs), "two drivers")
+    read = {net for gate in gates for net in gate.inputs if net not in (0, 1)}
+    require((read | set(outputs)) <= set(driven) | set(inputs), "a net without a driver")
     names = set(declared.ranges) | {name for name, _ in read | set(driven)}
     require(sum(len(nets_of(declared, name)) for name in names) <= 1_000_000, "too many nets")
-    require(len(netlist.inputs) <= 4096 and len(netlist.gates) <= 200_000, "too many inputs or gates")
+    require(len(inputs) <= 4096 and len(gates) <= 200_000, "too many inputs or gates")
 
 
-def read_netlist(text, defaults=Delays(1, 1)):
-    """The netlist that the bytes mean, with the default delays; NetlistFault where they mean none."""
-    require(len(text) <= 67_108_864, "too many bytes")
-    tokens, timescale = tokens_of(text.decode("latin-1"))
-    declared, statements = parse(tokens)
-    require(set(declared.ports) == set(declared.directions), "a port without a direction, or a direction without a port")
-    unit, scale = scale_of(timescale)
-    gates, defaulted = gates_of(declared, statements, scale, defaults)
-    ports = [(declared.directions[name], net) for name in declared.ports for net in nets_of(declared, name)]
-    inputs, outputs = ([net for direction, net in ports if direction == which] for which in ("input", "output"))
-    netlist = Netlist(unit, defaulted, inputs, outputs, gates)
-    require_well_formed(declared, netlist)
-    return netlist
+def in_order(gates):
+    """The gates, each behind those that it reads."""
+    drivers = {gate.output: gate for gate in gates}
+    try:
+        order = list(TopologicalSorter({gate.output: gate.inputs for gate in gates}).static_order())
+    except CycleError:
+        raise Refusal("circuit fault 1 Loop", 1) from None
+    return [drivers[net] for net in order if net in drivers]
 
 
 def printed(net):
@@ -247,27 +230,27 @@ def printed(net):
     return ("" if simple else "\\") + name + ("" if bit is None else f"[{bit}]" if simple else f" [{bit}]")
 
 
-# ---- Circuits: gates in an order in which each comes behind those that it reads ----
+def read_circuit(text, defaults=Delays(1, 1)):
+    """The circuit that the bytes mean, with the default delays."""
+    require(len(text) <= 67_108_864, "too many bytes")
+    tokens, timescale = tokens_of(text.decode("latin-1"))
+    declared, statements = parse(tokens)
+    require(set(declared.ports) == set(declared.directions), "a port without a direction, or a direction without a port")
+    unit, scale = scale_of(timescale)
+    gates, defaulted = gates_of(declared, statements, scale, defaults)
+    ports = [(declared.directions[name], net) for name in declared.ports for net in nets_of(declared, name)]
+    inputs, outputs = ([net for direction, net in ports if direction == which] for which in ("input", "output"))
+    require_well_formed(declared, inputs, outputs, gates)
+    gates = in_order(gates)
+    numbers = {net: number for number, net in enumerate([*inputs, 0, 1, *(gate.output for gate in gates)])}
+    gates = [gate._replace(inputs=[numbers[net] for net in gate.inputs]) for gate in gates]
+    return Circuit(unit, defaulted, len(inputs), gates, [numbers[net] for net in outputs], [printed(net) for net in outputs])
 
-# Nets by number: the inputs, the levels 0 and 1, then the gates' outputs. A gate's inputs are numbers.
-Circuit = namedtuple("Circuit", "unit defaulted inputs gates outputs names")
-# What gives each net a signal: functions of an input's two levels and moment, and of a gate's kind, delays and inputs' signals. `last` is
-# a signal's last moment, None where it has none.
+
+# ---- Signals: what a domain gives each net ----
+
+# Functions of an input's two levels and moment, of a gate's kind, delays and inputs' signals, and a signal's last moment, None without one.
 Domain = namedtuple("Domain", "of_input of_gate last")
-
-
-def circuit_of(netlist):
-    """The netlist in an order of its gates; LoopFault where there is none."""
-    drivers = {gate.output: gate for gate in netlist.gates}
-    try:
-        order = list(TopologicalSorter({net: gate.inputs for net, gate in drivers.items()}).static_order())
-    except CycleError:
-        raise LoopFault("circuit fault 1 Loop", 1) from None
-    driven = [net for net in order if net in drivers]
-    numbers = {net: number for number, net in enumerate([*netlist.inputs, 0, 1, *driven])}
-    gates = [drivers[net]._replace(inputs=[numbers[read] for read in drivers[net].inputs]) for net in driven]
-    outputs = [numbers[net] for net in netlist.outputs]
-    return Circuit(netlist.unit, netlist.defaulted, len(netlist.inputs), gates, outputs, [printed(net) for net in netlist.outputs])
 
 
 def signals(domain, circuit, cube, moments):
@@ -385,7 +368,7 @@ def arrival_of_gate(kind, rise, fall, inputs):
 
 
 def possible_of_gate(kind, rise, fall, inputs):
-    """A signal is a wave whose level X is the set of both levels. Whether a level is possible is a buffer of whether it is in the target."""
+    """A signal is a wave in which X is the set of both levels. Whether a level is possible is a buffer of whether it is in the target."""
     target = over_time(partial(table, kind), inputs)
     zero = run_of_gate("buf", fall, rise, [over_time(lambda levels: int(levels[0] != 1), [target])])
     one = run_of_gate("buf", rise, fall, [over_time(lambda levels: int(levels[0] != 0), [target])])
@@ -464,7 +447,7 @@ DIGITS = "0123456789"
 # What is asked: a cube of pins, for each input whether it is held, the flips, and the moments.
 Question = namedtuple("Question", "pins held flips moments")
 # `asked` are the lines of the question as they stand in the text, and `pair` is a cube.
-Certificate = namedtuple("Certificate", "version inputs gates question asked time pair tree")
+Certificate = namedtuple("Certificate", "inputs gates question asked time pair tree")
 
 
 def levels_of(symbols):
@@ -501,7 +484,7 @@ class Text:
             self.one_of(letter)
 
     def number(self, front, end, limit=LARGEST, beyond=Fault.NumberTooLarge, least=0):
-        """A number of at most `limit` between these letters, whose first digit is at least `least`; `beyond` is the fault of a greater one."""
+        """A number between these letters, of a first digit of at least `least`. `beyond` is the fault of one above the limit."""
         self.word(front)
         value, letter = 0, self.one_of(DIGITS[least:])
         while letter != end:
@@ -582,7 +565,7 @@ def read_certificate(text):
     asked = text.text[begin : text.place]
     time = text.number("time ", "\n")
     pair = woven(*(levels_of(text.symbols(front, "01", inputs)) for front in ("from ", "to ")))
-    certificate = Certificate(version, inputs, gates, question, asked, time, pair, tree_in(text, version))
+    certificate = Certificate(inputs, gates, question, asked, time, pair, tree_in(text, version))
     if text.place < len(text.text):
         text.fault(Fault.Trailing)
     return certificate
@@ -590,10 +573,7 @@ def read_certificate(text):
 
 # ---- The verdict (docs/CERTIFICATE.md, "What is checked") ----
 
-Verdict = Enum(
-    "Verdict", "Accepted PairTime LeafBound LeafAboveTime BadPosition NotAPoint OtherCircuit PairNotAdmitted LeafNotEmpty"
-)
-FIRST_LINE_OF_TREE = (None, 6, 10, 11, 11)
+Verdict = Enum("Verdict", "Accepted PairTime LeafBound LeafAboveTime BadPosition NotAPoint OtherCircuit PairNotAdmitted LeafNotEmpty")
 BITS = ({0}, {1}, {0, 1})
 
 
@@ -630,7 +610,7 @@ def verdict(circuit, certificate):
     if delay_of_pair(circuit, certificate.pair, question.moments) != time:
         return Verdict.PairTime, None
     cubes = [question.pins]
-    for number, line in enumerate(certificate.tree, FIRST_LINE_OF_TREE[certificate.version]):
+    for number, line in enumerate(certificate.tree, 6 + certificate.asked.count("\n")):
         cube, (letter, _, position) = cubes.pop(), line
         if letter != "s":
             wrong = judge_leaf(circuit, question, time, cube, line)
@@ -660,8 +640,8 @@ def told(work):
         return "", f"tdelay: {message}\n", status
 
 
-def check_circuit(circuit, text):
-    """`check` of a circuit and a certificate's text."""
+def check(circuit, text):
+    """`check` of a certificate's text."""
     certificate = read_certificate(text)
     found, line = verdict(circuit, certificate)
     if found == Verdict.Accepted:
@@ -669,40 +649,29 @@ def check_circuit(circuit, text):
     return report([f"refused {found.value} {found.name}" + (f" line {line}" if line else "")]), "", 4
 
 
-def check(netlist, certificate, defaults=Delays(1, 1)):
-    """`check` of two texts."""
-    return told(lambda: check_circuit(circuit_of(read_netlist(netlist, defaults)), certificate))
-
-
-def vector_of(word, count):
-    """The levels that the word spells for the inputs, or None."""
-    fits = re.fullmatch(f"[01x]{{{count}}}" if count else "none", word)
-    return levels_of(word[:count]) if fits else None
+def vector_of(name, word, count):
+    """The levels that the word spells for the inputs."""
+    if not re.fullmatch(f"[01x]{{{count}}}" if count else "none", word):
+        raise Refusal(f"bad vector {name}", 2)
+    return levels_of(word[:count])
 
 
 def moments_of(word, count):
-    """The moments that the word spells for the inputs, or None."""
+    """The moments that the word spells for the inputs, 0 where there is no word."""
     if word is None:
         return [0] * count
     numbers = word.split(",") if count or word != "none" else []
-    fits = len(numbers) == count and all(re.fullmatch("0*[0-9]{1,10}", number) and int(number) <= BILLION for number in numbers)
-    return [int(number) for number in numbers] if fits else None
+    if len(numbers) != count or not all(re.fullmatch("0*[0-9]{1,10}", number) and int(number) <= BILLION for number in numbers):
+        raise Refusal("bad vector at", 2)
+    return [int(number) for number in numbers]
 
 
-def sim_circuit(circuit, first, second, at):
-    """`sim` of a circuit and the words of a command line."""
-    words = {"FROM": vector_of(first, circuit.inputs), "TO": vector_of(second, circuit.inputs), "at": moments_of(at, circuit.inputs)}
-    for name, found in words.items():
-        if found is None:
-            raise Refusal(f"bad vector {name}", 2)
-    moments = lasts(RUN, circuit, woven(words["FROM"], words["TO"]), words["at"])
+def sim(circuit, first, second, at):
+    """`sim` of the words of a command line."""
+    pair = woven(vector_of("FROM", first, circuit.inputs), vector_of("TO", second, circuit.inputs))
+    moments = lasts(RUN, circuit, pair, moments_of(at, circuit.inputs))
     lines = [f"last {name} {'never' if last is None else last}" for name, last in zip(circuit.names, moments)]
     return report([f"unit {circuit.unit}", f"defaulted {circuit.defaulted}", *lines, f"time {latest_of(moments)}"]), "", 0
-
-
-def sim(netlist, first, second, at=None, defaults=Delays(1, 1)):
-    """`sim` of a netlist's text."""
-    return told(lambda: sim_circuit(circuit_of(read_netlist(netlist, defaults)), first, second, at))
 
 
 def delay_in(word):
@@ -714,11 +683,10 @@ def delay_in(word):
 def command_line():
     parser = argparse.ArgumentParser(description=__doc__.split("\n", 1)[0])
     commands = parser.add_subparsers(dest="command", required=True)
-    words = {"check": ("FILE", "CERT"), "sim": ("FILE", "FROM", "TO")}
-    for command, names in words.items():
+    for command, words in {"check": ("FILE", "CERT"), "sim": ("FILE", "FROM", "TO")}.items():
         sub = commands.add_parser(command)
-        for name in names:
-            sub.add_argument(name)
+        for word in words:
+            sub.add_argument(word)
         for change in ("rise", "fall"):
             sub.add_argument(f"--default-{change}", type=delay_in, default=1, metavar="N")
     commands.choices["sim"].add_argument("--at", metavar="M,M,..")
@@ -740,8 +708,9 @@ def answer(asked):
     """What the command that is asked for answers."""
     netlist, defaults = bytes_of(asked.FILE), Delays(asked.default_rise, asked.default_fall)
     if asked.command == "sim":
-        return sim(netlist, asked.FROM, asked.TO, asked.at, defaults)
-    return check(netlist, bytes_of(asked.CERT), defaults)
+        return sim(read_circuit(netlist, defaults), asked.FROM, asked.TO, asked.at)
+    certificate = bytes_of(asked.CERT)
+    return check(read_circuit(netlist, defaults), certificate)
 
 
 def main():
