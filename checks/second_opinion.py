@@ -13,13 +13,12 @@ command line in argparse's words. It is slow, since each leaf is bounded from no
 import argparse
 import re
 import sys
-from collections import Counter, namedtuple
+from collections import namedtuple
 from enum import Enum
 from fractions import Fraction
 from functools import partial
 from graphlib import CycleError, TopologicalSorter
 from itertools import groupby
-from operator import itemgetter
 
 X = 2  # the level that isn't known; of possible levels, both
 BILLION = 1_000_000_000
@@ -34,15 +33,13 @@ class Refusal(Exception):
 
 KINDS = ("and", "nand", "or", "nor", "xor", "xnor", "buf", "not")
 GRAMMAR = KINDS + ("module", "endmodule", "input", "output", "wire")
-RESERVED = set(
-    """always assign automatic begin bufif0 bufif1 case casex casez cell cmos config deassign default defparam design disable edge else
-    end endcase endconfig endfunction endgenerate endprimitive endspecify endtable endtask event for force forever fork function generate
-    genvar highz0 highz1 if ifnone incdir include initial inout instance integer join large liblist library localparam macromodule medium
-    negedge nmos noshowcancelled notif0 notif1 parameter pmos posedge primitive pull0 pull1 pulldown pullup pulsestyle_ondetect
-    pulsestyle_onevent rcmos real realtime reg release repeat rnmos rpmos rtran rtranif0 rtranif1 scalared showcancelled signed small
-    specify specparam strong0 strong1 supply0 supply1 table task time tran tranif0 tranif1 tri tri0 tri1 triand trior trireg unsigned use
-    uwire vectored wait wand weak0 weak1 while wor""".split()
-)
+RESERVED = set("""always assign automatic begin bufif0 bufif1 case casex casez cell cmos config deassign default defparam design disable
+    edge else end endcase endconfig endfunction endgenerate endprimitive endspecify endtable endtask event for force forever fork function
+    generate genvar highz0 highz1 if ifnone incdir include initial inout instance integer join large liblist library localparam
+    macromodule medium negedge nmos noshowcancelled notif0 notif1 parameter pmos posedge primitive pull0 pull1 pulldown pullup
+    pulsestyle_ondetect pulsestyle_onevent rcmos real realtime reg release repeat rnmos rpmos rtran rtranif0 rtranif1 scalared
+    showcancelled signed small specify specparam strong0 strong1 supply0 supply1 table task time tran tranif0 tranif1 tri tri0 tri1 triand
+    trior trireg unsigned use uwire vectored wait wand weak0 weak1 while wor""".split())
 # What stands at the front of a text.
 SPACE = r"(?:[ \t\n\f\r]|//[^\n]*|/\*(?:[^*]|\*(?!/))*\*/)"
 SPAN = rf"(10{{0,2}}){SPACE}*([munpf]?s)"
@@ -91,8 +88,8 @@ def require(holds, why):
 
 
 def tokens_of(text):
-    """The tokens with a space behind each, and the last timescale before the module, or None."""
-    tokens, timescale = [], None
+    """The tokens with a space behind each, and the last timescale before the module, one of steps of 1 ns where there is none."""
+    tokens, timescale = [], "`timescale 1ns/1ns"
     for found in PIECE.finditer(text):
         form, word = found.lastgroup, found[found.lastgroup]
         require(form != "wrong", f"no token at byte {found.start()}")
@@ -109,18 +106,10 @@ def tokens_of(text):
 
 def scale_of(timescale):
     """The printed unit of a step, and how many steps a unit of the delays has."""
-    if timescale is None:
-        return "1 ns", 1
     spans = re.findall(SPAN, re.sub(SPACE, "", timescale))
     unit, step = (Fraction(int(number), 1000 ** SCALES.index(scale)) for number, scale in spans)
     require(step <= unit, "a step longer than a unit")
     return " ".join(spans[1]), int(unit / step)
-
-
-def steps_of(number, scale):
-    steps = Fraction(number) * scale
-    require(steps.denominator == 1 and 1 <= steps <= BILLION, f"a delay of {number}")
-    return int(steps)
 
 
 def range_in(text):
@@ -191,24 +180,24 @@ def gates_of(declared, statements, scale, defaults):
     gates, defaulted = [], 0
     for statement in statements:
         numbers = re.findall("[0-9.]+", statement["delay"] or "")
-        steps = [steps_of(number, scale) for number in numbers] or defaults
+        steps = [Fraction(number) * scale for number in numbers] or defaults
+        require(all(1 <= step <= BILLION and step.denominator == 1 for step in steps), "a delay")
         for instance in re.finditer(INSTANCE, statement["instances"]):
             nets = [net_of(declared, *terminal) for terminal in re.findall(TERMINAL, instance[1])]
             require(len(nets) <= 1024, "too many terminals")
             outputs, inputs = (nets[:-1], nets[-1:]) if statement["kind"] in ("buf", "not") else (nets[:1], nets[1:])
-            gates += [Gate(statement["kind"], steps[0], steps[-1], output, inputs) for output in outputs]
+            gates += [Gate(statement["kind"], int(steps[0]), int(steps[-1]), output, inputs) for output in outputs]
             defaulted += 0 if numbers else len(outputs)
     return gates, defaulted
 
 
 def require_well_formed(declared, inputs, outputs, gates):
     """Each net that is read or is an output has one driver, inputs none, and the limits are kept."""
-    driven = Counter(gate.output for gate in gates)
-    require(not {0, 1} & set(driven), "a level as an output")
-    require(max(driven.values(), default=1) == 1 and not set(driven) & set(inputs), "two drivers")
-    read = {net for gate in gates for net in gate.inputs if net not in (0, 1)}
-    require((read | set(outputs)) <= set(driven) | set(inputs), "a net without a driver")
-    names = set(declared.ranges) | {name for name, _ in read | set(driven)}
+    driven = {gate.output for gate in gates}
+    require(len(driven) == len(gates) and not driven & {0, 1, *inputs}, "two drivers, or a level as an output")
+    read = {net for gate in gates for net in gate.inputs} - {0, 1}
+    require(read.union(outputs) <= driven.union(inputs), "a net without a driver")
+    names = set(declared.ranges) | {name for name, _ in read | driven}
     require(sum(len(nets_of(declared, name)) for name in names) <= 1_000_000, "too many nets")
     require(len(inputs) <= 4096 and len(gates) <= 200_000, "too many inputs or gates")
 
@@ -247,47 +236,22 @@ def read_circuit(text, defaults=Delays(1, 1)):
     return Circuit(unit, defaulted, len(inputs), gates, [numbers[net] for net in outputs], [printed(net) for net in outputs])
 
 
-# ---- Signals: what a domain gives each net ----
-
-# Functions of an input's two levels and moment, of a gate's kind, delays and inputs' signals, and a signal's last moment, None without one.
-Domain = namedtuple("Domain", "of_input of_gate last")
-
-
-def signals(domain, circuit, cube, moments):
-    """The signals of the nets, by number. A cube has two levels for each input; a constant is as an input that keeps its level."""
-    found = [*map(domain.of_input, cube[::2], cube[1::2], moments), domain.of_input(0, 0, 0), domain.of_input(1, 1, 0)]
-    for gate in circuit.gates:
-        found.append(domain.of_gate(gate.kind, gate.rise, gate.fall, [found[net] for net in gate.inputs]))
-    return found
-
-
-def lasts(domain, circuit, cube, moments):
-    """The last moments of the outputs' signals in order."""
-    found = signals(domain, circuit, cube, moments)
-    return [domain.last(found[net]) for net in circuit.outputs]
-
-
-def latest_of(moments):
-    """The latest of those that are there, 0 where there is none."""
-    return max((moment for moment in moments if moment is not None), default=0)
-
-
 # ---- Levels and runs (docs/CERTIFICATE.md, "The delay of a pair") ----
 
 NEGATES = ("nand", "nor", "xnor", "not")
 CONTROLLING = {"and": 0, "nand": 0, "or": 1, "nor": 1}
 NEGATED = (1, 0, X)
 
+# What gives each net a signal: functions of an input's two levels and moment, and of a gate's kind, delays and inputs' signals; and that of
+# a signal's last moment, None where it has none.
+Domain = namedtuple("Domain", "of_input of_gate last")
+
 
 def table(kind, levels):
     """The gate's level for its inputs' levels."""
     controlling = CONTROLLING.get(kind)
-    if controlling in levels:
-        level = controlling
-    elif X in levels:
-        level = X
-    else:
-        level = sum(levels) % 2 if controlling is None else 1 - controlling
+    settled = sum(levels) % 2 if controlling is None else 1 - controlling
+    level = controlling if controlling in levels else X if X in levels else settled
     return NEGATED[level] if kind in NEGATES else level
 
 
@@ -307,11 +271,11 @@ def over_time(function, waves):
     changes = sorted((moment, which, level) for which, (_, changes) in enumerate(waves) for moment, level in changes)
     start = at = function(levels)
     found = []
-    for moment, together in groupby(changes, itemgetter(0)):
+    for moment, together in groupby(changes, lambda change: change[0]):
         for _, which, level in together:
             levels[which] = level
-        if function(levels) != at:
-            at = function(levels)
+        before, at = at, function(levels)
+        if before != at:
             found.append((moment, at))
     return start, found
 
@@ -329,6 +293,25 @@ def run_of_gate(kind, rise, fall, waves):
         if wanted != level and not event:
             event = moment + quickest_to(wanted, rise, fall), wanted
     return start, found + [event] if event else found
+
+
+def signals(domain, circuit, cube, moments):
+    """The signals of the nets, by number. A cube has two levels for each input; a constant is as an input that keeps its level."""
+    found = [*map(domain.of_input, cube[::2], cube[1::2], moments), domain.of_input(0, 0, 0), domain.of_input(1, 1, 0)]
+    for gate in circuit.gates:
+        found.append(domain.of_gate(gate.kind, gate.rise, gate.fall, [found[net] for net in gate.inputs]))
+    return found
+
+
+def lasts(domain, circuit, cube, moments):
+    """The last moments of the outputs' signals in order."""
+    found = signals(domain, circuit, cube, moments)
+    return [domain.last(found[net]) for net in circuit.outputs]
+
+
+def latest_of(moments):
+    """The latest of those that are there, 0 where there is none."""
+    return max((moment for moment in moments if moment is not None), default=0)
 
 
 RUN = Domain(wave_of_input, run_of_gate, lambda wave: wave[1][-1][0] if wave[1] else None)
@@ -441,7 +424,6 @@ def bound(letter, circuit, cube, moments):
 # ---- The certificate's text (docs/CERTIFICATE.md, "The text" and "What is wrong with a text") ----
 
 Fault = Enum("Fault", "Syntax UnexpectedEnd Trailing NumberTooLarge Version TooLong")
-LONGEST = 268_435_456
 DIGITS = "0123456789"
 
 # What is asked: a cube of pins, for each input whether it is held, the flips, and the moments.
@@ -506,13 +488,12 @@ def version_in(text):
     """The number in line 1, which the whole run of digits decides."""
     text.word("tdelay-cert ")
     run = re.compile("[0-9]*").match(text.text, text.place).group()
-    if run in ("1", "2", "3", "4"):
-        text.word(run + "\n")
-        return int(run)
-    text.one_of(DIGITS)
-    if run != "0" and run[0] == "0":
-        text.fault(Fault.Syntax)
-    text.fault(Fault.NumberTooLarge if len(run) > 19 or int(run) > LARGEST else Fault.Version)
+    if run not in ("1", "2", "3", "4"):
+        text.one_of(DIGITS)
+        of_none = Fault.NumberTooLarge if len(run) > 19 or int(run) > LARGEST else Fault.Version
+        text.fault(Fault.Syntax if run[0] == "0" != run else of_none)
+    text.word(run + "\n")
+    return int(run)
 
 
 def moments_in(text, version, inputs):
@@ -555,7 +536,7 @@ def tree_in(text, version):
 def read_certificate(text):
     """The certificate that the bytes spell; Refusal where they spell none."""
     text = Text(text.decode("latin-1"))
-    if len(text.text) > LONGEST:
+    if len(text.text) > 268_435_456:
         text.fault(Fault.TooLong)
     version = version_in(text)
     inputs = text.number("circuit ", " ", 4096, least=version in (2, 3))
@@ -580,14 +561,15 @@ BITS = ({0}, {1}, {0, 1})
 def has_admitted(question, cube):
     """Whether an admitted pair lies in the cube."""
     allowed = [BITS[pin] & BITS[level] for pin, level in zip(question.pins, cube)]
-    differ = [not first & second for first, second in zip(allowed[::2], allowed[1::2])]
-    held_differ = any(held and flip for held, flip in zip(question.held, differ))
-    return all(allowed) and not held_differ and sum(differ) <= question.flips
+    flips = [held for first, second, held in zip(allowed[::2], allowed[1::2], question.held) if not first & second]
+    return all(allowed) and not any(flips) and len(flips) <= question.flips
 
 
-def judge_leaf(circuit, question, time, cube, line):
-    """What is wrong with a leaf, None where nothing is."""
+def judge_line(circuit, question, time, cube, line):
+    """What is wrong with a line of the tree, None where nothing is."""
     letter, domain, number = line
+    if letter == "s":
+        return None if number < len(cube) and cube[number] == X else Verdict.BadPosition
     if letter == "n":
         return Verdict.LeafNotEmpty if has_admitted(question, cube) else None
     if letter == "p":
@@ -612,15 +594,11 @@ def verdict(circuit, certificate):
     cubes = [question.pins]
     for number, line in enumerate(certificate.tree, 6 + certificate.asked.count("\n")):
         cube, (letter, _, position) = cubes.pop(), line
-        if letter != "s":
-            wrong = judge_leaf(circuit, question, time, cube, line)
-        elif position >= len(cube) or cube[position] != X:
-            wrong = Verdict.BadPosition
-        else:
-            wrong = None
-            cubes += [cube[:position] + [side] + cube[position + 1 :] for side in (1, 0)]
+        wrong = judge_line(circuit, question, time, cube, line)
         if wrong:
             return wrong, number
+        if letter == "s":
+            cubes += [cube[:position] + [side] + cube[position + 1 :] for side in (1, 0)]
     return Verdict.Accepted, None
 
 
@@ -696,9 +674,7 @@ def command_line():
 def bytes_of(name):
     """The bytes of a file, `stdin` for standard input."""
     try:
-        if name == "stdin":
-            return sys.stdin.buffer.read()
-        with open(name, "rb") as file:
+        with open(0 if name == "stdin" else name, "rb", closefd=name != "stdin") as file:
             return file.read()
     except OSError:
         raise Refusal(f"cannot read {name}", 5) from None
