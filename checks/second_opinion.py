@@ -78,7 +78,7 @@ Gate = namedtuple("Gate", "kind rise fall output inputs")
 Delays = namedtuple("Delays", "rise fall")
 # Here nets have numbers: the inputs, the levels 0 and 1, then the outputs of the gates, each of which comes behind those that it reads.
 Circuit = namedtuple("Circuit", "unit defaulted inputs gates outputs names")
-# What a text declares: its ports in order, a name's direction, a name's range, and which names are wires.
+# What a text declares: its ports in order, a name's direction, a name's range (empty without one), and which names are wires.
 Declared = namedtuple("Declared", "ports directions ranges wires")
 
 
@@ -112,15 +112,10 @@ def scale_of(timescale):
     return " ".join(spans[1]), int(unit / step)
 
 
-def range_in(text):
-    """The range that stands in the text, or None."""
-    found = [int(number) for number in re.findall("[0-9]+", text or "")]
-    require(max(found, default=0) <= BILLION, "the numbers of a range")
-    return tuple(found) or None
-
-
-def declare(declared, what, name, bits):
-    """Adds a declaration by `input`, `output` or `wire`."""
+def declare(declared, what, name, text):
+    """Adds a declaration by `input`, `output` or `wire`, with the range that stands in the text, if any."""
+    bits = tuple(int(number) for number in re.findall("[0-9]+", text or ""))
+    require(max(bits, default=0) <= BILLION, "the numbers of a range")
     known = declared.wires if what == "wire" else declared.directions
     require(name not in known and declared.ranges.setdefault(name, bits) == bits, f"{name} is declared again")
     known[name] = what
@@ -134,7 +129,7 @@ def declare_ports(declared, text):
         require(name not in declared.ports, f"{name} is a port twice")
         declared.ports[name] = None
         if before:
-            declare(declared, re.search("input|output", before)[0], name, range_in(before))
+            declare(declared, re.search("input|output", before)[0], name, before)
 
 
 def parse(tokens):
@@ -151,13 +146,13 @@ def parse(tokens):
         if item["kind"]:
             statements.append(item)
         for name in re.findall(NAME, item["names"] or ""):
-            declare(declared, item["what"], name[1:-1], range_in(item["range"]))
+            declare(declared, item["what"], name[1:-1], item["range"])
     return declared, statements
 
 
 def nets_of(declared, name):
     """A name's nets, in the order of its range."""
-    if declared.ranges.get(name) is None:
+    if not declared.ranges.get(name):
         return [(name, None)]
     left, right = declared.ranges[name]
     require(abs(left - right) < 1_000_000, "too many nets")
@@ -337,7 +332,7 @@ def arrival_of_input(first, second, moment):
 
 def arrival_of_gate(kind, rise, fall, inputs):
     start, finish = (table(kind, [signal[side] for signal in inputs]) for side in (0, 1))
-    never, controlling = Arrival(start, finish, None), CONTROLLING.get(kind)
+    never, controlling = Arrival(start, finish, span=None), CONTROLLING.get(kind)
     spans = [signal.span for signal in inputs if signal.span]
     finishing = [signal.span for signal in inputs if signal.finish == controlling]
     if not spans or None in finishing:
@@ -428,6 +423,8 @@ DIGITS = "0123456789"
 
 # What is asked: a cube of pins, for each input whether it is held, the flips, and the moments.
 Question = namedtuple("Question", "pins held flips moments")
+# A line of a tree; the number of a split is its position.
+Line = namedtuple("Line", "letter domain number")
 # `asked` are the lines of the question as they stand in the text, and `pair` is a cube.
 Certificate = namedtuple("Certificate", "inputs gates question asked time pair tree")
 
@@ -519,7 +516,7 @@ def question_in(text, version, inputs):
 
 
 def tree_in(text, version):
-    """The lines of the tree, each a letter, its domain or None, and its number or None."""
+    """The lines of the tree, where a leaf without a bound has no domain, and `none` no number."""
     lines, to_come, by_edges = [], 1, version < 4
     while to_come:
         last = to_come == 1 and not by_edges
@@ -527,7 +524,7 @@ def tree_in(text, version):
         text.word("one\n" if letter == "n" else " ")
         domain = text.one_of("en" if last else "atm" if version < 4 else "atmen") if letter == "b" else None
         number = None if letter == "n" else text.number(" " if domain else "", "\n")
-        lines.append((letter, domain, number))
+        lines.append(Line(letter, domain, number))
         by_edges = by_edges or domain in ("e", "n")
         to_come += 1 if letter == "s" else -1
     return lines
@@ -593,12 +590,12 @@ def verdict(circuit, certificate):
         return Verdict.PairTime, None
     cubes = [question.pins]
     for number, line in enumerate(certificate.tree, 6 + certificate.asked.count("\n")):
-        cube, (letter, _, position) = cubes.pop(), line
+        cube = cubes.pop()
         wrong = judge_line(circuit, question, time, cube, line)
         if wrong:
             return wrong, number
-        if letter == "s":
-            cubes += [cube[:position] + [side] + cube[position + 1 :] for side in (1, 0)]
+        if line.letter == "s":
+            cubes += [cube[: line.number] + [side] + cube[line.number + 1 :] for side in (1, 0)]
     return Verdict.Accepted, None
 
 
