@@ -42,12 +42,13 @@ RESERVED = set("""always assign automatic begin bufif0 bufif1 case casex casez c
     showcancelled signed small specify specparam strong0 strong1 supply0 supply1 table task time tran tranif0 tranif1 tri tri0 tri1 triand
     trior trireg unsigned use uwire vectored wait wand weak0 weak1 while wor""".split())
 # What stands at the front of a text.
-SPACE = r"(?:[ \t\n\f\r]|//[^\n]*|/\*(?:[^*]|\*(?!/))*\*/)"
-SPAN = rf"(10{{0,2}}){SPACE}*([munpf]?s)"
+BLANK = r"[ \t\n\f\r]"
+SPACE = rf"(?:{BLANK}|//[^\n]*|/\*(?:[^*]|\*(?!/))*\*/)"
+SPAN = rf"(10{{0,2}}){BLANK}*([munpf]?s)"
 PIECE = re.compile(
     rf"""(?P<space>{SPACE}+)
     |(?P<attribute>\(\*(?:"(?:\\.|[^"\\])*"|[^"])*?\*\))
-    |(?P<timescale>`timescale{SPACE}+{SPAN}{SPACE}*/{SPACE}*{SPAN}(?![\w$]))
+    |(?P<timescale>`timescale{BLANK}+{SPAN}{BLANK}*/{BLANK}*{SPAN}(?![\w$]))
     |(?P<directive>`(?:celldefine|endcelldefine)(?![\w$]))
     |\\(?P<escaped>[!-~]+)
     |(?P<level>1'[bB][01](?![\w$]))
@@ -107,7 +108,7 @@ def tokens_of(text):
 
 def scale_of(timescale):
     """The printed unit of a step, and how many steps a unit of the delays has."""
-    spans = re.findall(SPAN, re.sub(SPACE, "", timescale))
+    spans = re.findall(SPAN, timescale)
     unit, step = (Fraction(int(number), 1000 ** SCALES.index(scale)) for number, scale in spans)
     require(step <= unit, "a step longer than a unit")
     return " ".join(spans[1]), int(unit / step)
@@ -508,8 +509,7 @@ def question_in(text, version, inputs):
     """The question, which has no lines in version 1, and no moments in version 2."""
     if version == 1:
         return Question([X] * (2 * inputs), [False] * inputs, inputs, [0] * inputs)
-    first, second = text.symbols("first ", "01.", inputs), text.symbols("second ", "01.", inputs)
-    hold = text.symbols("hold ", "=.", inputs)
+    first, second, hold = (text.symbols(*line, inputs) for line in (("first ", "01."), ("second ", "01."), ("hold ", "=.")))
     restricted = set(first + second + hold) - {"."}
     flips = text.number("flips ", "\n", inputs - (version == 2 and not restricted), Fault.Syntax)
     moments = moments_in(text, version, inputs) if version > 2 else [0] * inputs
