@@ -43,8 +43,8 @@ def netlist_of(levels):
 
 def count_changes(levels):
     """Ends the program unless the changes double, by another simulation than the program's."""
-    circuit = second_opinion.circuit_of(second_opinion.read_netlist(netlist_of(levels)[0].encode()))
-    waves = second_opinion.signals(circuit, [(0, [(0, 1)])], second_opinion.wave_of_constant, second_opinion.run_of_gate)
+    circuit = second_opinion.read_circuit(netlist_of(levels)[0].encode())
+    waves = second_opinion.signals(second_opinion.RUN, circuit, [0, 1], [0])
     counts = [len(wave[1]) for wave, gate in zip(waves[3:], circuit.gates) if gate[0] == "xor"]
     assert counts == [2 ** (place + 1) for place in range(levels)], counts
 

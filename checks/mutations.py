@@ -127,8 +127,8 @@ def mangled(rng, words):
 def inputs_of(text):
     """How many bits a netlist takes, 2 where that can't be told."""
     try:
-        return second_opinion.circuit_of(second_opinion.read_netlist(text)).inputs
-    except second_opinion.NetlistFault:
+        return second_opinion.read_circuit(text).inputs
+    except second_opinion.Refusal:
         return 2
 
 
@@ -171,7 +171,7 @@ def fault_of_exact(program, folder, words, out):
 
 def fault_of_check(text, certificate, status, out):
     """What is wrong with a verdict, by the second opinion, None where nothing is."""
-    wanted_out, fault, wanted = second_opinion.check(text, certificate)
+    wanted_out, fault, wanted = second_opinion.told(lambda: second_opinion.check(second_opinion.read_circuit(text), certificate))
     if status != wanted or out.decode() != wanted_out:
         return f"the second opinion says {wanted}: {wanted_out}{fault}"
     return None

@@ -151,7 +151,7 @@ def admitted_pairs(rng, question):
 
 
 def timed(circuit, question, pair):
-    return opinion.delay_of_pair(circuit, pair[::2], pair[1::2], question.moments)
+    return opinion.delay_of_pair(circuit, pair, question.moments)
 
 
 def tree_lines(rng, circuit, question, time, letters, with_none, most):
@@ -314,7 +314,7 @@ def compare_check(setup, netlist, circuit, certificate, counts, origin):
     """Compares `check` of a certificate, and counts its version and what is said of it."""
     words = [setup.program, "check", setup.netlist, write(setup.certificate, certificate), *setup.defaults]
     theirs = program(words)
-    ours = opinion.told(lambda: opinion.check_circuit(circuit, certificate)) if circuit else opinion.check(netlist, certificate, setup.steps)
+    ours = opinion.told(lambda: opinion.check(circuit or opinion.read_circuit(netlist, setup.steps), certificate))
     compare(words, theirs, ours)
     head = certificate.split(b"\n", 1)[0]
     version = head[-1:].decode() if head in (b"tdelay-cert 1", b"tdelay-cert 2", b"tdelay-cert 3", b"tdelay-cert 4") else "none"
@@ -338,7 +338,7 @@ def compare_sim(setup, netlist, circuit, rng, counts):
     at = rng.choice([None, ",".join(moments) or "none", ",".join(moments) or "none"])
     words = [setup.program, "sim", setup.netlist, first, second, *setup.defaults] + ([f"--at={at}"] if at is not None else [])
     theirs = program(words)
-    ours = opinion.sim(netlist, first, second, at, setup.steps)
+    ours = opinion.told(lambda: opinion.sim(opinion.read_circuit(netlist, setup.steps), first, second, at))
     compare(words, theirs, ours)
     counts["sim", "run" if theirs[2] == 0 else theirs[1].split(" at ")[0].strip()[:22]] += 1
 
@@ -388,8 +388,8 @@ def compare_mutated(setup, netlist, circuit, rng, certificate, counts, origin, t
 
 def circuit_or_none(netlist, steps):
     try:
-        return opinion.circuit_of(opinion.read_netlist(netlist, steps))
-    except (opinion.NetlistFault, opinion.LoopFault):
+        return opinion.read_circuit(netlist, steps)
+    except opinion.Refusal:
         return None
 
 
