@@ -182,23 +182,46 @@ fn open_step(
 }
 
 /// The output that changes last by these signals, the first one of several, and a constant where there is no output.
-fn latest_output(circuit: &Circuit, edges: &[Signal], possible: &[<Possible as Domain>::Sig]) -> u32
+fn latest_output(
+    circuit: &Circuit,
+    edges: &[Signal],
+    possible: &[<Possible as Domain>::Sig],
+) -> u32
     requires edges { length edges.now ≡ length (nets circuit.now) }
     requires possible { length possible.now ≡ length (nets circuit.now) }
     ensures { result < length (nets circuit.now) }
 {
     let _numbering = circuit.gates();
-    let mut output = circuit.outputs().first().copied().unwrap_or(0);
-    let mut latest = 0;
-    for net in circuit.outputs() {
+    latest_of(edges, possible, circuit.outputs())
+}
+
+/// Of some nets the one that changes last by these signals, the first one of several, and the first net of all where there is
+/// none.
+fn latest_of(edges: &[Signal], possible: &[<Possible as Domain>::Sig], nets: &[u32]) -> u32
+    requires some { 0 < length edges.now }
+    requires possible { length possible.now ≡ length edges.now }
+    requires within { All (λ net. net < length edges.now) nets.now }
+    ensures { result < length edges.now }
+{
+    let mut output = 0;
+    let mut latest = None;
+    for net in nets {
         let place = *net as usize;
         let last = last_of(&edges[place], &possible[place]);
-        if last > latest {
-            latest = last;
+        if is_later(last, latest) {
+            latest = Some(last);
             output = *net;
         }
     }
     output
+}
+
+/// Whether a moment is later than another one, if there is one.
+fn is_later(last: u64, other: Option<u64>) -> bool {
+    match other {
+        Some(other) => last > other,
+        None => true,
+    }
 }
 
 /// The lesser of the last moments that are there.
