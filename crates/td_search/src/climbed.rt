@@ -82,7 +82,8 @@ fn measured_first(
     ensures stands { IfOk result (λ timed. has_delay (problem_by Lead circuit.now admit.now) (representative admit.now admit.now.pins) timed.time) }
     ensures scratch { IsFor circuit.now scratch.new }
 {
-    let pair = representative_of(alloc, admit.pins(), admit)?;
+    let root = admit.pins();
+    let pair = representative_of(alloc, root, admit)?;
     let time = delay_of(scratch, circuit, &pair)?;
     Ok(Timed { pair, time })
 }

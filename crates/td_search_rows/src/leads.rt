@@ -85,19 +85,19 @@ fn an_adder_of_eight_bits(rt: HostRuntime) -> Result<(), Fail> {
 }
 
 #[test]
-fn trees(rt: HostRuntime) -> Result<(), Fail> {
+fn a_tree(rt: HostRuntime) -> Result<(), Fail> {
     let alloc = rt.alloc();
-    let gates = "or #(3,2) (w0,a,c); nand #1 (w1,b,w0); nor #3 (y,w1,b);";
-    let text = module(alloc, "a, b, c", "y", gates)?;
-    check(&rt, alloc, &text, 1_000_000, "exact")?;
-    check(&rt, alloc, &text, 0, "between")
+    let gates = "buf #1 p1(p,b); buf #1 p2(q,b); xor #3 g(y,a,p,q);";
+    let text = module(alloc, "a, b", "y", gates)?;
+    check(&rt, alloc, &text, 1_000_000, "exact 3")?;
+    check(&rt, alloc, &text, 2, "between")
 }
 
 #[test]
-fn both_domains(rt: HostRuntime) -> Result<(), Fail> {
+fn two_outputs(rt: HostRuntime) -> Result<(), Fail> {
     let alloc = rt.alloc();
     let gates =
         "buf #3 (w0,a); xor #(1,4) (w1,w0,a); or #1 (w2,w1,b); or #1 (w3,b,w1); and #2 (z,b,a); nor #(4,2) (y,w1,w0);";
     let text = module(alloc, "a, b", "y, z", gates)?;
-    check(&rt, alloc, &text, 1_000_000, "exact")
+    check(&rt, alloc, &text, 1_000_000, "exact 11 11 to 01, b e 11")
 }
