@@ -182,11 +182,7 @@ fn open_step(
 }
 
 /// The output that changes last by these signals, the first one of several, and a constant where there is no output.
-fn latest_output(
-    circuit: &Circuit,
-    edges: &[Signal],
-    possible: &[<Possible as Domain>::Sig],
-) -> u32
+fn latest_output(circuit: &Circuit, edges: &[Signal], possible: &[<Possible as Domain>::Sig]) -> u32
     requires edges { length edges.now ≡ length (nets circuit.now) }
     requires possible { length possible.now ≡ length (nets circuit.now) }
     ensures { result < length (nets circuit.now) }

@@ -11,8 +11,8 @@ use Rattle.td_search.specs.Problems.{problem_by}
 use Rattle.td_search.proofs.Found.{nothing, next_of, states_more, usable_more}
 use Rattle.td_search.proofs.replaying.dig_again.Goals as goal
 
-pub dig-requires-clause-next : goal.dig-requires-clause-next
-dig-requires-clause-next c =
+pub dig_by-requires-clause-next : goal.dig_by-requires-clause-next
+dig_by-requires-clause-next c =
     let findings = c.args.findings.now in
     let at = slice_get-get_or findings c.loop-finding.finding-index nothing c.loop-finding-test.true in
     let cubes = c.args.subtree.now.cube ∷ [] in
@@ -30,8 +30,8 @@ loop-finding-preserved c =
     let was = c.loop-finding.invariant in
     let best : ℕ = c.args.best in
     let tree : PrivateTree = c.args.subtree.now in
-    let same : c.dig.new.subtree ≡ with_states tree (map (state_of best) (take (i + 1) findings)) =
-    c.if-not-dig.ensures.done refl ∙ (ap (λ (t : PrivateTree). with_states t (t.states ++ state_of best f ∷ [])) was.subtree
+    let same : c.dig_by.new.subtree ≡ with_states tree (map (state_of best) (take (i + 1) findings)) =
+    c.if-not-dig_by.ensures.done refl ∙ (ap (λ (t : PrivateTree). with_states t (t.states ++ state_of best f ∷ [])) was.subtree
     ∙ ap (with_states tree) (sym (states_more best findings i f at))) in
     let allowance : c.loop-finding.subtree.allowance ≡ tree.allowance = ap (λ (t : PrivateTree). t.allowance) was.subtree in
     let states : length c.loop-finding.subtree.states ≡ i =
@@ -41,7 +41,7 @@ loop-finding-preserved c =
     record {
       count = omega arith;
       subtree = same;
-      usable = usable_more best findings i f at was.usable (c.if-not-dig.ensures.usable.0 refl);
+      usable = usable_more best findings i f at was.usable (c.if-not-dig_by.ensures.usable.0 refl);
       few = omega (arith, room, allowance, states, count);
     }
   where
