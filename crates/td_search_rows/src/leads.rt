@@ -85,12 +85,11 @@ fn an_adder_of_eight_bits(rt: HostRuntime) -> Result<(), Fail> {
 }
 
 #[test]
-fn a_tree(rt: HostRuntime) -> Result<(), Fail> {
+fn cut_short(rt: HostRuntime) -> Result<(), Fail> {
     let alloc = rt.alloc();
-    let gates = "buf #1 p1(p,b); buf #1 p2(q,b); xor #3 g(y,a,p,q);";
-    let text = module(alloc, "a, b", "y", gates)?;
-    check(&rt, alloc, &text, 1_000_000, "exact 3")?;
-    check(&rt, alloc, &text, 2, "between")
+    let lost = module(alloc, "a", "y", "not #1 n(b,a); and #2 g(y,a,b);")?;
+    check(&rt, alloc, &lost, 0, "between 0 3 budget 0 0 to 1")?;
+    check(&rt, alloc, &lost, 1, "between 0 3 budget 1 0 to 1")
 }
 
 #[test]
