@@ -2,14 +2,12 @@
 """Runs each command of `tdelay` with its first, second, .. growth of memory refused, once alone and once with all growths behind
 it, and compares each run with one that has memory enough.
 
-The tests of crates/td_pool_rows with `refusals` in their names are run in the same way with each growth refused once: each passes.
-
 A run may answer the same; or end with status 5, `tdelay: out of memory` and nothing but a beginning of its output; or, a search,
 answer `between` with `cause memory` and two figures around the right one, or `exact` with the right time and a certificate that
 `check` accepts. Prints a line for each command, and ends with status 1
-where a run did anything else. Needs a C compiler, the program built by `./tdelay`, and the tests built by `rt test` in crates/td_pool_rows.
+where a run did anything else. Needs a C compiler, and the program built by `./tdelay`.
 
-usage: checks/refused_growths.py [PROGRAM [TESTS]]
+usage: checks/refused_growths.py [PROGRAM]
 """
 import os
 import subprocess
@@ -70,10 +68,6 @@ int posix_memalign(void **out, size_t align, size_t size) {
 """
 
 INVERTER = "module t(a, y);\ninput a;\noutput y;\nnot #(2,3) g(y,a);\nendmodule\n"
-# A pulse that is lost.
-LOST = "module t(a, y);\ninput a;\noutput y;\nnot #1 n(b,a);\nand #2 g(y,a,b);\nendmodule\n"
-# A gate with a slow arm.
-SLOW = "module t(a, b, y);\ninput a, b;\noutput y;\nbuf #4 s(t,a);\nor #1 g(y,b,t);\nendmodule\n"
 # Two paths of other delays to one gate: the search has to split.
 APART = """module t(a, b, y);
 input a, b;
@@ -87,11 +81,10 @@ endmodule
 
 
 def run(program, shim, folder, words, first, last):
-    """The status, standard output, standard error, certificate and waveform of a run whose growths `first` to `last` are refused."""
-    kept = [os.path.join(folder, name) for name in ("out.cert", "out.vcd")]
-    for name in kept:
-        if os.path.exists(name):
-            os.remove(name)
+    """The status, standard output, standard error and certificate of a run whose growths `first` to `last` are refused."""
+    kept = os.path.join(folder, "out.cert")
+    if os.path.exists(kept):
+        os.remove(kept)
     environment = {
         "LD_PRELOAD": shim,
         "REFUSE_FROM": str(first),
@@ -99,13 +92,11 @@ def run(program, shim, folder, words, first, last):
         "GROWTHS": os.path.join(folder, "growths"),
     }
     done = subprocess.run([program, *words], cwd=folder, env=environment, stdin=subprocess.DEVNULL, capture_output=True, timeout=60)
-    written = []
-    for name in kept:
-        written.append(None)
-        if os.path.exists(name):
-            with open(name, "rb") as file:
-                written[-1] = file.read()
-    return done.returncode, done.stdout.decode(), done.stderr.decode(), *written
+    certificate = None
+    if os.path.exists(kept):
+        with open(kept, "rb") as file:
+            certificate = file.read()
+    return done.returncode, done.stdout.decode(), done.stderr.decode(), certificate
 
 
 def without_budget(words):
@@ -131,14 +122,14 @@ def is_accepted(program, folder, words, certificate, worst):
 
 def is_right(ample, got, worst, accepted):
     """By what a run with refused growths ended, None where it told anything wrong. The worst delay is that of what a search asks."""
-    status, out, err, certificate, waves = got
+    status, out, err, certificate = got
     if got == ample:
         return "the same"
     if status == 5 and err in ("tdelay: out of memory\n", "") and ample[1].startswith(out):
-        fronts = all(part is None or (whole or b"").startswith(part) for part, whole in ((certificate, ample[3]), (waves, ample[4])))
-        return "out of memory" if fronts else None
+        whole = certificate in (None, b"") or (ample[3] or b"").startswith(certificate)
+        return "out of memory" if whole else None
     told = lines_of(out)
-    if status == 3 and told.get("cause") == "memory" and err == "" and certificate is None and waves is None and worst is not None:
+    if status == 3 and told.get("cause") == "memory" and err == "" and certificate is None and worst is not None:
         low, high = map(int, told["between"].split())
         return "between" if low <= worst <= high else None
     if status == 0 and err == "" and worst is not None and told.get("exact") == str(worst) and accepted():
@@ -146,35 +137,13 @@ def is_right(ample, got, worst, accepted):
     return None
 
 
-def tests_fail(tests, shim, folder):
-    """How many of the growths in the tests of refusals lead to a failed test, when each is refused once."""
-    count = os.path.join(folder, "growths")
-    environment = {"LD_PRELOAD": shim, "REFUSE_FROM": "0", "REFUSE_TO": "-1", "GROWTHS": count}
-    wrong, names = 0, ["searches", "runs", "bounds", "grafts", "checks"]
-    for name in [f"refusals_in_{part}" for part in names]:
-        subprocess.run([tests, name], env=environment, stdin=subprocess.DEVNULL, capture_output=True, timeout=60)
-        with open(count) as file:
-            growths = int(file.read())
-        failed = 0
-        for number in range(1, growths + 1):
-            refused = {**environment, "REFUSE_FROM": str(number), "REFUSE_TO": str(number)}
-            done = subprocess.run([tests, name], env=refused, stdin=subprocess.DEVNULL, capture_output=True, timeout=60)
-            if done.returncode != 0:
-                failed += 1
-                print("wrong:", name, number, done.returncode, done.stdout.decode()[-500:])
-        print(f"{name}: {growths} growths; refused once: {growths - failed} passed")
-        wrong += failed + (growths == 0)
-    return wrong
-
-
 def main():
     program = os.path.abspath(sys.argv[1]) if len(sys.argv) > 1 else os.path.join(TOP, "crates/tdelay/out/tdelay")
-    tests = os.path.abspath(sys.argv[2]) if len(sys.argv) > 2 else os.path.join(TOP, "crates/td_pool_rows/out/td_pool_rows_tests")
     wrong = 0
     with tempfile.TemporaryDirectory() as folder:
         shim = os.path.join(folder, "shim.so")
         subprocess.run(["cc", "-shared", "-fPIC", "-O1", "-x", "c", "-o", shim, "-"], input=SHIM.encode(), check=True)
-        for name, text in (("inverter.v", INVERTER), ("lost.v", LOST), ("slow.v", SLOW), ("apart.v", APART)):
+        for name, text in (("inverter.v", INVERTER), ("apart.v", APART)):
             with open(os.path.join(folder, name), "w") as file:
                 file.write(text)
         with open(os.path.join(TOP, "examples/c17.v"), "rb") as file, open(os.path.join(folder, "c17.v"), "wb") as copy:
@@ -188,8 +157,6 @@ def main():
         commands = [
             ["sim", "inverter.v", "0", "1"],
             ["sim", "c17.v", "01010", "01110"],
-            ["path", "c17.v", "01010", "01110"],
-            ["path", "c17.v", "01010", "01110", "--output", "N23"],
             ["bound", "c17.v", "--first", "0.0..", "--second", ".1..."],
             ["worst", "c17.v"],
             ["worst", "apart.v", "--cert", "out.cert"],
@@ -201,11 +168,6 @@ def main():
             ["worst", "apart.v", "--first", "0.", "--hold", ".=", "--at", "3,0", "--cert", "out.cert"],
             ["worst", "apart.v", "--flips", "1", "--budget", "2"],
             ["check", "apart.v", "few.cert"],
-            ["sim", "inverter.v", "0", "1", "--vcd", "out.vcd"],
-            ["worst", "lost.v", "--cert", "out.cert", "--vcd", "out.vcd"],
-            ["worst", "lost.v", "--workers", "2"],
-            ["worst", "apart.v", "--workers", "2", "--cert", "out.cert"],
-            ["worst", "slow.v", "--workers", "4", "--cert", "out.cert"],
         ]
         for words in commands:
             ample = run(program, shim, folder, words, 0, -1)
@@ -228,7 +190,6 @@ def main():
             told = ", ".join(f"{count} {how}" for how, count in sorted(ends.items(), key=str))
             print(f"{' '.join(words)}: status {ample[0]}, {growths} growths; refused: {told}")
             wrong += growths == 0
-        wrong += tests_fail(tests, shim, folder)
     return 1 if wrong else 0
 
 
