@@ -108,6 +108,10 @@ fn greatest(latest: &[u64], nets: &[u32]) -> u64
     moment
 }
 
+/// The most moments at which events are handled for a pair: the waves of more changes would take more memory than machines have, and
+/// their simulation minutes.
+const MOST_MOMENTS: u32 = 1 << 30;
+
 /// The delay of a pair.
 fn simulate(
     levels: &mut [bool],
@@ -135,7 +139,12 @@ fn simulate(
     let _moments = circuit.moments();
     start(levels, latest, whens, queue, circuit, pair)?;
     let mut moment = queue.first();
+    let mut left = MOST_MOMENTS;
     while moment < NEVER {
+        if left == 0 {
+            return Err(AllocError);
+        }
+        left -= 1;
         advance(
             levels, latest, whens, queue, taken, changed, readers, circuit, moment,
         )?;
@@ -227,7 +236,7 @@ impl Scratch {
 }
 
 /// The delay of a pair of vectors: the latest moment at which an output changes, 0 where none does. The error is want of
-/// memory, and the scratch may be used again.
+/// memory, as which events at more than 1,073,741,824 moments are told too, and the scratch may be used again.
 pub fn delay_of(scratch: &mut Scratch, circuit: &Circuit, pair: &Pair) -> Result<u64, AllocError>
     requires scratch { IsFor circuit.now scratch.old }
     requires first_fits { length pair.now.first ≡ length circuit.now.netlist.inputs }
