@@ -57,6 +57,7 @@ is_asked text default words circuit timed count admit moments is counts admits a
     subst (λ timed. IsAsked text default words (problem timed admit)) (sym timed_is) (record {
       is_setting = record { means = is.means; acyclic = is.acyclic; moments = subst (λ count. AreMomentsOf count (words_of words.at) moments) counts are };
       admits = subst (λ count. AreAdmitted count words admit) counts admits;
+      strategy = refl;
     })
 
 module _ (text : List ℕ) (default : Delay) (words : QuestionWords) where

@@ -13,6 +13,7 @@ use Rattle.td_search.specs.declared.answers.Cause.{Cause}
 use Rattle.td_search.specs.declared.answers.Cause.TheVariants as cause
 use Rattle.td_search.specs.declared.answers.Answer.{Answer}
 use Rattle.td_search.specs.declared.answers.Answer.TheVariants as answer
+use Rattle.td_search.specs.declared.strategy.Strategy.TheVariants.{Least}
 use Rattle.td_search.specs.Problems.{Problem}
 use Rattle.td_search.specs.Answers.{IsAnswer, certificate_of}
 use Rattle.td_cli.specs.declared.asking.QuestionWords.{QuestionWords}
@@ -61,10 +62,11 @@ abbrev pub certificate_in : Problem → Answer → Option Certificate
 certificate_in asked (answer.Exact time pair tree) = Some (certificate_of asked time pair tree)
 certificate_in asked (answer.Between low high pair nodes why) = None
 
--- what the words of a search ask of a text: the setting, and which pairs of its inputs are admitted
+-- what the words of a search ask of a text: the setting, and which pairs of its inputs are admitted; it goes by the strategy `least`
 pub record IsAsked (text : List ℕ) (default : Delay) (words : QuestionWords) (asked : Problem) : Type 0 where
   pub is_setting : IsSetting text default (words_of words.at) asked.setting
   pub admits : AreAdmitted (length asked.setting.netlist.inputs) words asked.admit
+  pub strategy : asked.strategy ≡ Least
 
 -- the pair of an answer
 abbrev pub pair_in : Answer → Pair

@@ -6,6 +6,8 @@ mod admitted;
 #[cfg(test)]
 mod circuits;
 #[cfg(test)]
+mod leads;
+#[cfg(test)]
 mod pairs;
 #[cfg(test)]
 mod texts;
