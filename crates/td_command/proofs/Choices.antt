@@ -1,5 +1,5 @@
 -- What the getters read of a flag and of an option with a few names, of a command whose words have no fault.
-use Rattle.std.proofs.Common.{◌≡◌, ◌≢◌, ◌∙◌, ◌||◌, Bool, true, false, List, Option, Some, None, Result, Ok, Err, codes, refl, sym, ap, subst, absurd}
+use Rattle.std.proofs.Common.{◌≡◌, ◌≢◌, ◌∙◌, ◌||◌, Bool, true, false, List, Option, Some, None, Result, Ok, Err, codes, refl, sym, ap, subst}
 use Rattle.std.proofs.lemmas.Slice.Eq.{bytes_eq-Decides}
 use Rattle.std.specs.List.{list_any}
 use Rattle.std.specs.Str.{bytes_eq}
@@ -8,7 +8,7 @@ use Rattle.clap.specs.Facts.{parser_of_value}
 use Rattle.clap.specs.Simple.{Shape}
 use Rattle.clap.specs.ValueTests.{accepts}
 use Rattle.clap.specs.Values.{bool_text, read_as, reading_of}
-use Rattle.clap.specs.Walk.{Row, Rule, Text, arg_by_id, one_of}
+use Rattle.clap.specs.Walk.{Row, Rule, Text, arg_by_id, first_of, one_of}
 use Rattle.clap.specs.Words.{ReadsOne}
 use Rattle.clap.specs.declared.builder.value_parser.ValueParser.{ValueParser}
 use Rattle.clap.specs.declared.builder.value_parser.ValueParser.TheVariants as vp
@@ -55,6 +55,16 @@ strategy_there shape rows has taken =
     let found = strategy_read read.value passes in
     (found.0, read.first ∙ ap (λ (text : Text). Some text) found.1)
 
+-- another text names no strategy
+pub no_strategy : (rows : List Row) (text : Text) → first_of (codes "strategy") rows ≡ Some text → text ≢ codes "least" → text ≢ codes "lead"
+    → (asked : StrategyWord) → ¬ HasStrategy rows asked
+no_strategy rows text given not_least not_lead Least has =
+    let same : Some text ≡ Some (codes "least") = sym given ∙ has in
+    not_least cc
+no_strategy rows text given not_least not_lead Lead has =
+    let same : Some text ≡ Some (codes "lead") = sym given ∙ has in
+    not_lead cc
+
 -- a text that passed says whether a flag is given
 flag_read : (text : Text) → accepts false vp.Bool text ≡ true → (given : Bool) × (text ≡ bool_text given)
 flag_read text passes = go (bytes_eq text (codes "true")) refl passes
@@ -75,14 +85,14 @@ flag_there shape id rows has taken =
 
 -- what the parser of a flag answers
 pub flag_answered : {E : Type 0} (id : Text) (rows : List Row) (result : Option Bool) → (one_of id rows ≡ None → result ≡ None)
-    → ((text : Text) → one_of id rows ≡ Some text → ReadsOne {Bool} {E} ParsesBool text result) → IsAnswered (HasFlag id rows) result
+    → ((text : Text) → one_of id rows ≡ Some text → ReadsOne {E = E} ParsesBool text result) → IsAnswered (HasFlag id rows) result
 flag_answered id rows (Some given) none value = go (one_of id rows) refl
   where
     go : (found : Option Text) → one_of id rows ≡ found → HasFlag id rows given
     go None e = let no : Some given ≡ None = none e in cc
     go (Some text) e = e ∙ ap (λ (text : Text). Some text) (said given (value text e))
       where
-        said : (given : Bool) → ParsesBool {E} text (Ok given) → text ≡ bool_text given
+        said : (given : Bool) → ParsesBool {E = E} text (Ok given) → text ≡ bool_text given
         said true is = is
         said false is = is
 flag_answered id rows None none value = λ asked has.

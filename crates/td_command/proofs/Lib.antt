@@ -7,3 +7,4 @@ pub mod Numbers
 pub mod Choices
 pub mod Filled
 pub mod Taken
+pub mod Whereabouts
