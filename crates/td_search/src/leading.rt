@@ -1,6 +1,6 @@
 //! The strategy `lead`: what it does with a node.
 
-ghost use Rattle.std.specs.Prelude.{◌≡◌, ℕ, ◌*◌, ◌<◌, ◌≤◌, ◌^◌, Option, Some, length, IfOk, OnOk};
+ghost use Rattle.std.specs.Prelude.{◌≡◌, ℕ, ◌*◌, ◌<◌, ◌^◌, Option, Some, length, IfOk};
 ghost use Rattle.std.specs.List.{All};
 ghost use Rattle.td_circuit.specs.Numbering.{nets, setting};
 ghost use Rattle.td_certificate.specs.declared.tree.BoundedBy.TheVariants.{EdgesAndPossible};

@@ -1,4 +1,3 @@
-use Rattle.std.proofs.Common.{◌∙◌}
 use Rattle.td_circuit.specs.Numbering.{nets}
 use Rattle.td_circuit.proofs.Nets.{numbers-below}
 use Rattle.td_search.proofs.leading.latest_output.Goals as goal

@@ -1,4 +1,4 @@
-use Rattle.std.proofs.Common.{ℕ, subst}
+use Rattle.std.proofs.Common.{subst}
 use Rattle.td_circuit.specs.Numbering.{setting}
 use Rattle.td_search.specs.declared.leading.Step.TheVariants as step
 use Rattle.td_search.specs.Leading.{IsStep}
