@@ -13,7 +13,6 @@ use Rattle.td_search.specs.declared.answers.Cause.{Cause}
 use Rattle.td_search.specs.declared.answers.Cause.TheVariants as cause
 use Rattle.td_search.specs.declared.answers.Answer.{Answer}
 use Rattle.td_search.specs.declared.answers.Answer.TheVariants as answer
-use Rattle.td_search.specs.declared.strategy.Strategy.TheVariants.{Least}
 use Rattle.td_search.specs.Problems.{Problem}
 use Rattle.td_search.specs.Answers.{IsAnswer, certificate_of}
 use Rattle.td_cli.specs.declared.asking.QuestionWords.{QuestionWords}
@@ -62,11 +61,11 @@ abbrev pub certificate_in : Problem → Answer → Option Certificate
 certificate_in asked (answer.Exact time pair tree) = Some (certificate_of asked time pair tree)
 certificate_in asked (answer.Between low high pair nodes why) = None
 
--- what the words of a search ask of a text: the setting, and which pairs of its inputs are admitted; it goes by the strategy `least`
+-- what the words of a search ask of a text: the setting, which pairs of its inputs are admitted, and the strategy by which the search goes
 pub record IsAsked (text : List ℕ) (default : Delay) (words : QuestionWords) (asked : Problem) : Type 0 where
   pub is_setting : IsSetting text default (words_of words.at) asked.setting
   pub admits : AreAdmitted (length asked.setting.netlist.inputs) words asked.admit
-  pub strategy : asked.strategy ≡ Least
+  pub strategy : asked.strategy ≡ words.strategy
 
 -- the pair of an answer
 abbrev pub pair_in : Answer → Pair

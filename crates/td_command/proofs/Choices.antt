@@ -84,9 +84,9 @@ flag_there shape id rows has taken =
     (found.0, text ∙ ap (λ (text : Text). Some text) found.1)
 
 -- what the parser of a flag answers
-pub flag_answered : {E : Type 0} (id : Text) (rows : List Row) (result : Option Bool) → (one_of id rows ≡ None → result ≡ None)
+pub flag_answered : (E : Type 0) (id : Text) (rows : List Row) (result : Option Bool) → (one_of id rows ≡ None → result ≡ None)
     → ((text : Text) → one_of id rows ≡ Some text → ReadsOne {E = E} ParsesBool text result) → IsAnswered (HasFlag id rows) result
-flag_answered id rows (Some given) none value = go (one_of id rows) refl
+flag_answered E id rows (Some given) none value = go (one_of id rows) refl
   where
     go : (found : Option Text) → one_of id rows ≡ found → HasFlag id rows given
     go None e = let no : Some given ≡ None = none e in cc
@@ -95,7 +95,7 @@ flag_answered id rows (Some given) none value = go (one_of id rows) refl
         said : (given : Bool) → ParsesBool {E = E} text (Ok given) → text ≡ bool_text given
         said true is = is
         said false is = is
-flag_answered id rows None none value = λ asked has.
+flag_answered E id rows None none value = λ asked has.
     let failed = value (bool_text asked) has in
     go asked failed.1
   where

@@ -194,8 +194,8 @@ module _ (rules : List Rule) where
   react_same : (again : Bool) (rule : Rule) (values : List Text) (held : Held)
       → react_fault elsewhere again (moved rule) values held ≡ react_fault rules again rule values held
   react_same again rule values held =
-      let use = use_moved again rule values (settled elsewhere held).rows ∙ ap (use_fault again rule values) (settled_same held.pending held.rows) in
-      λ i. or_else (settle_same again held i) (use i)
+      let reaction = use_moved again rule values (settled elsewhere held).rows ∙ ap (use_fault again rule values) (settled_same held.pending held.rows) in
+      λ i. or_else (settle_same again held i) (reaction i)
 
   option_met_same : (rule : Rule) (value : Option Text) (held : Held) → option_met elsewhere (moved rule) value held ≡ option_met rules rule value held
   option_met_same rule None held = ap (λ (after : Held). (record after { pending = Some (rule.id, []) }, waits rule.id)) (held_same held)
