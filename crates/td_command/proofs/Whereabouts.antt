@@ -1,12 +1,12 @@
 -- What a program makes of words doesn't depend on where in memory the names of an option stand: each of the parser's functions gives
 -- the same for a rule and for the rule with its names elsewhere.
-use Rattle.std.proofs.Common.{◌≡◌, ◌∙◌, ◌&&◌, ◌||◌, ℕ, zero, suc, Bool, cond, true, false, not, List, [], ◌∷◌, length, Option, Some, None, is_some, map, drop, refl, sym, ap}
-use Rattle.std.specs.Prelude.{encode_utf8, option_map, slice_get}
+use Rattle.std.proofs.Common.{◌≡◌, ◌∙◌, ◌+◌, ◌&&◌, ◌||◌, ℕ, zero, suc, Bool, cond, true, false, not, List, [], ◌∷◌, length, Option, Some, None, is_some, map, drop, refl, sym, ap}
+use Rattle.std.specs.Prelude.{encode_utf8, min, option_map, slice_get}
 use Rattle.std.specs.Borrow.{Bor}
 use Rattle.std.specs.List.{find, fold, list_any}
 use Rattle.std.specs.Option.{option_map_or}
 use Rattle.std.specs.Str.{bytes_eq, chars}
-use Rattle.clap.specs.Facts.{parser_of_value, unwrap_or_range}
+use Rattle.clap.specs.Facts.{explicit_source, parser_of_value, unwrap_or_range}
 use Rattle.clap.specs.Lexer.{long_of, short_of}
 use Rattle.clap.specs.Kinds.{Kinds, check_kinds, or_else, range_kinds, request_kinds, value_kinds, values_kinds}
 use Rattle.clap.specs.Faults.{action_fault, built_fault, bundle_fault, bundle_step_fault, check_fault, count_fault, default_fault, defaults_fault, entered_fault, fault_of, flag_word_fault, flags_fault, level_fault, long_fault, option_fault, other_fault, positional_fault, react_fault, repeat_fault, settle_fault, short_fault, step_fault, stray_fault, turn_fault, use_fault, values_fault, walk_fault, word_fault}
@@ -81,7 +81,7 @@ value_moved ignore_case parser text = λ i. cond (accepts_moved ignore_case pars
 several_moved : (ignore_case : Bool) (parser : ValueParser) (values : List Text)
     → values_kinds ignore_case (moved_parser parser) values ≡ values_kinds ignore_case parser values
 several_moved ignore_case parser [] = refl
-several_moved ignore_case parser (value ∷ rest) = λ i. or_else (value_moved ignore_case parser value i) (several_moved ignore_case parser rest i)
+several_moved ignore_case parser (given ∷ rest) = λ i. or_else (value_moved ignore_case parser given i) (several_moved ignore_case parser rest i)
 
 parser_moved : (parser : Option ValueParser) → parser_of_value (option_map moved_parser parser) ≡ moved_parser (parser_of_value parser)
 parser_moved None = refl
@@ -102,8 +102,9 @@ values_moved rule values =
 
 count_moved : (rule : Rule) (values : List Text) (rows : List Row) → count_fault (moved rule) values rows ≡ count_fault rule values rows
 count_moved rule [] rows =
-    ap (λ (p : ValueParser). value_kinds rule.ignore_case p _) (parser_moved rule.parser) ∙ value_moved rule.ignore_case (parser_of_value rule.parser) _
-count_moved rule (value ∷ rest) rows = values_moved rule (value ∷ rest)
+    let text = count_text (min (count_of rule.id rows + 1) 255) in
+    ap (λ (p : ValueParser). value_kinds rule.ignore_case p text) (parser_moved rule.parser) ∙ value_moved rule.ignore_case (parser_of_value rule.parser) text
+count_moved rule (given ∷ rest) rows = values_moved rule (given ∷ rest)
 
 action_moved : (act : ArgAction) (again : Bool) (rule : Rule) (values : List Text) (rows : List Row)
     → action_fault act again (moved rule) values rows ≡ action_fault act again rule values rows
@@ -119,7 +120,7 @@ action_moved action.Version again rule values rows = refl
 
 missing_moved : (rule : Rule) (values : List Text) → values_or_missing (moved rule) values ≡ values_or_missing rule values
 missing_moved rule [] = refl
-missing_moved rule (value ∷ rest) = refl
+missing_moved rule (given ∷ rest) = refl
 
 use_moved : (again : Bool) (rule : Rule) (values : List Text) (rows : List Row) → use_fault again (moved rule) values rows ≡ use_fault again rule values rows
 use_moved again rule values rows =
@@ -197,29 +198,29 @@ module _ (rules : List Rule) where
       let reaction = use_moved again rule values (settled elsewhere held).rows ∙ ap (use_fault again rule values) (settled_same held.pending held.rows) in
       λ i. or_else (settle_same again held i) (reaction i)
 
-  option_met_same : (rule : Rule) (value : Option Text) (held : Held) → option_met elsewhere (moved rule) value held ≡ option_met rules rule value held
+  option_met_same : (rule : Rule) (given : Option Text) (held : Held) → option_met elsewhere (moved rule) given held ≡ option_met rules rule given held
   option_met_same rule None held = ap (λ (after : Held). (record after { pending = Some (rule.id, []) }, waits rule.id)) (held_same held)
-  option_met_same rule (Some value) held = ap (λ (after : Held). (after, done)) (reacted_same rule (value ∷ []) held)
+  option_met_same rule (Some given) held = ap (λ (after : Held). (after, done)) (reacted_same rule (given ∷ []) held)
 
-  option_same : (again : Bool) (rule : Rule) (value : Option Text) (held : Held)
-      → option_fault elsewhere again (moved rule) value held ≡ option_fault rules again rule value held
+  option_same : (again : Bool) (rule : Rule) (given : Option Text) (held : Held)
+      → option_fault elsewhere again (moved rule) given held ≡ option_fault rules again rule given held
   option_same again rule None held = settle_same again held
-  option_same again rule (Some value) held = react_same again rule (value ∷ []) held
+  option_same again rule (Some given) held = react_same again rule (given ∷ []) held
 
-  flag_met_same : (rule : Rule) (value : Option Text) (held : Held) → flag_met elsewhere (moved rule) value held ≡ flag_met rules rule value held
+  flag_met_same : (rule : Rule) (given : Option Text) (held : Held) → flag_met elsewhere (moved rule) given held ≡ flag_met rules rule given held
   flag_met_same rule None held = ap (λ (after : Held). (after, done)) (reacted_same rule [] held)
-  flag_met_same rule (Some value) held = refl
+  flag_met_same rule (Some given) held = refl
 
-  long_met_same : (found : Option Rule) (value : Option Text) (held : Held)
-      → long_met elsewhere (option_map moved found) value held ≡ long_met rules found value held
-  long_met_same None value held = refl
-  long_met_same (Some rule) value held = λ i. cond (takes_values rule) (option_met_same rule value held i) (flag_met_same rule value held i)
+  long_met_same : (found : Option Rule) (given : Option Text) (held : Held)
+      → long_met elsewhere (option_map moved found) given held ≡ long_met rules found given held
+  long_met_same None given held = refl
+  long_met_same (Some rule) given held = λ i. cond (takes_values rule) (option_met_same rule given held i) (flag_met_same rule given held i)
 
-  long_same : (again : Bool) (found : Option Rule) (value : Option Text) (held : Held)
-      → long_fault elsewhere again (option_map moved found) value held ≡ long_fault rules again found value held
-  long_same again None value held = refl
-  long_same again (Some rule) value held = λ i.
-      cond (takes_values rule) (option_same again rule value held i) (cond (is_some value) (kind.TooManyValues ∷ []) (react_same again rule [] held i))
+  long_same : (again : Bool) (found : Option Rule) (given : Option Text) (held : Held)
+      → long_fault elsewhere again (option_map moved found) given held ≡ long_fault rules again found given held
+  long_same again None given held = refl
+  long_same again (Some rule) given held = λ i.
+      cond (takes_values rule) (option_same again rule given held i) (cond (is_some given) (kind.TooManyValues ∷ []) (react_same again rule [] held i))
 
   -- ---- a bundle of flags
 
@@ -304,10 +305,10 @@ module _ (rules : List Rule) where
   flag_after waiting word met other same =
       ap (λ (met : Held × Outcome). after_flag elsewhere waiting word met.0 met.1) same ∙ after_flag_same waiting word other
 
-  named_same : (name : Text) (value : Option Text) (held : Held)
-      → long_met elsewhere (arg_by_long elsewhere name) value held ≡ long_met rules (arg_by_long rules name) value held
-  named_same name value held =
-      ap (λ (found : Option Rule). long_met elsewhere found value held) (by_long name) ∙ long_met_same (arg_by_long rules name) value held
+  named_same : (name : Text) (given : Option Text) (held : Held)
+      → long_met elsewhere (arg_by_long elsewhere name) given held ≡ long_met rules (arg_by_long rules name) given held
+  named_same name given held =
+      ap (λ (found : Option Rule). long_met elsewhere found given held) (by_long name) ∙ long_met_same (arg_by_long rules name) given held
 
   short_or_plain_same : (waiting : Waiting) (word : Text) (flags : Option Text) (held : Held)
       → short_or_plain elsewhere waiting word flags held ≡ short_or_plain rules waiting word flags held
@@ -466,7 +467,10 @@ module _ (shape : Shape) where
 
   checks_same : (rows : List Row) (has_subcommand : Bool) → check_fault (moved_shape shape) rows has_subcommand ≡ check_fault shape rows has_subcommand
   checks_same rows has_subcommand =
-      ap (λ (wants : Bool). check_kinds _ _ (not (shape.subcommand_negates_reqs && has_subcommand) && wants)) (wants_same rows shape.rules)
+      ap (λ (wants : Bool).
+      check_kinds (not has_subcommand && (shape.arg_required_else_help && not (list_any (λ (row : Row). explicit_source row.source) rows)))
+      (not has_subcommand && shape.subcommand_required) (not (shape.subcommand_negates_reqs && has_subcommand) && wants))
+      (wants_same rows shape.rules)
 
   end_same : (held : Held) (has_subcommand : Bool) → end_fault (moved_shape shape) held has_subcommand ≡ end_fault shape held has_subcommand
   end_same held has_subcommand =
