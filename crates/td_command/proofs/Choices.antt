@@ -1,5 +1,5 @@
 -- What the getters read of a flag and of an option with a few names, of a command whose words have no fault.
-use Rattle.std.proofs.Common.{◌≡◌, ◌≢◌, ◌∙◌, ◌||◌, Bool, true, false, List, Option, Some, None, Result, Ok, Err, codes, refl, sym, ap, subst}
+use Rattle.std.proofs.Common.{◌≡◌, ◌≢◌, ◌∙◌, ◌||◌, Bool, true, false, List, Option, Some, None, Ok, codes, refl, sym, ap, subst}
 use Rattle.std.proofs.lemmas.Slice.Eq.{bytes_eq-Decides}
 use Rattle.std.specs.List.{list_any}
 use Rattle.std.specs.Str.{bytes_eq}
@@ -15,7 +15,7 @@ use Rattle.clap.specs.declared.builder.value_parser.ValueParser.TheVariants as v
 use Rattle.td_command.specs.CommandLine.{HasFlag, HasStrategy, IsAnswered, listed, strategy_name, strategy_names}
 use Rattle.td_command.specs.declared.command.StrategyWord.{StrategyWord}
 use Rattle.td_command.specs.declared.command.StrategyWord.TheVariants.{Least, Lead}
-use Rattle.td_command.proofs.Levels.{IsRead, IsTaken, has_default, reads}
+use Rattle.td_command.proofs.Levels.{IsTaken, has_default, reads}
 
 -- the command has an option of this id with one of these names, and a name where it is left out
 pub record HasNameOption (shape : Shape) (id : Text) (names : List Text) : Type 0 where

@@ -4,7 +4,6 @@ use Rattle.std.proofs.lemmas.Bool.{ne_eqb}
 use Rattle.std.proofs.lemmas.Int.{ints}
 use Rattle.std.proofs.lemmas.Str.Parse.{digit_from_value}
 use Rattle.std.specs.Prelude.{pos, slice_get, option_and_then, option_map, unwrap_or, codes}
-use Rattle.std.specs.Borrow.{Bor}
 use Rattle.std.specs.Str.{bytes_eq}
 use Rattle.td_gates.specs.Delays.{Delays}
 use Rattle.td_command.proofs.Rows.{AreOfRules, IsOfRule, found_has}
