@@ -10,4 +10,6 @@ mod leads;
 #[cfg(test)]
 mod pairs;
 #[cfg(test)]
+mod representatives;
+#[cfg(test)]
 mod texts;

@@ -326,5 +326,5 @@ fn every_admitted_pair(rt: HostRuntime) -> Result<(), Fail> {
 
 #[test]
 fn every_admitted_pair_with_lead(rt: HostRuntime) -> Result<(), Fail> {
-    check_all(&rt, rt.alloc(), Strategy::Lead, 4)
+    check_all(&rt, rt.alloc(), Strategy::Lead, 1)
 }
