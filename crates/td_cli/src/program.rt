@@ -511,9 +511,9 @@ fn write_certificate<F: Files>(
     let mut writer = files.create(alloc, name)?;
     match write(alloc, &mut writer, certificate) {
         Ok(()) => files.close(alloc, name, writer),
-        Err(fault) => {
+        Err(torn) => {
             files.discard(writer);
-            Err(fault)
+            Err(torn)
         }
     }
 }
