@@ -16,7 +16,7 @@ use Rattle.td_search.specs.declared.answers.Answer.{Answer}
 use Rattle.td_search.specs.declared.answers.Answer.TheVariants as answer
 use Rattle.td_search.specs.declared.answers.SearchFault.{SearchFault}
 use Rattle.td_search.specs.declared.answers.SearchFault.TheVariants as search
-use Rattle.td_search.specs.Problems.{Problem, problem, has_delay}
+use Rattle.td_search.specs.Problems.{Problem, problem_by, has_delay}
 use Rattle.td_search.specs.Answers.{IsAnswer, IsSearchFault}
 use Rattle.td_search.specs.Written.{CanBeWritten}
 use Rattle.td_cli.specs.declared.asking.QuestionWords.{QuestionWords}
@@ -52,11 +52,12 @@ bad_moments text default circuit count words admit is counts admits none =
 
 pub is_asked : (text : List ℕ) (default : Delay) (words : QuestionWords) (circuit timed : Numbered) (count : ℕ) (admit : Admitted) (moments : List ℕ)
     → IsCircuitOf text default circuit → count ≡ length circuit.netlist.inputs → AreAdmitted count words admit
-    → AreMomentsOf count (words_of words.at) moments → timed ≡ with_moments circuit moments → IsAsked text default words (problem timed admit)
+    → AreMomentsOf count (words_of words.at) moments → timed ≡ with_moments circuit moments → IsAsked text default words (problem_by words.strategy timed admit)
 is_asked text default words circuit timed count admit moments is counts admits are timed_is =
-    subst (λ timed. IsAsked text default words (problem timed admit)) (sym timed_is) (record {
+    subst (λ timed. IsAsked text default words (problem_by words.strategy timed admit)) (sym timed_is) (record {
       is_setting = record { means = is.means; acyclic = is.acyclic; moments = subst (λ count. AreMomentsOf count (words_of words.at) moments) counts are };
       admits = subst (λ count. AreAdmitted count words admit) counts admits;
+      strategy = refl;
     })
 
 module _ (text : List ℕ) (default : Delay) (words : QuestionWords) where

@@ -14,6 +14,10 @@ use Rattle.td_cli.specs.declared.files.ReadFault.{ReadFault}
 use Rattle.td_cli.specs.declared.files.ReadFault.TheVariants as unread
 use Rattle.td_cli.specs.declared.refusal.Refusal.{Refusal}
 use Rattle.td_cli.specs.declared.refusal.Refusal.TheVariants as refusal
+use Rattle.td_search.specs.declared.strategy.Strategy.{Strategy}
+use Rattle.td_search.specs.declared.strategy.Strategy.TheVariants as strategy
+use Rattle.td_command.specs.declared.command.StrategyWord.{StrategyWord}
+use Rattle.td_command.specs.declared.command.StrategyWord.TheVariants as word
 use Rattle.td_command.specs.declared.command.WorstRequest.{WorstRequest}
 use Rattle.td_command.specs.declared.command.Request.{Request}
 use Rattle.td_command.specs.declared.command.Request.TheVariants as request
@@ -42,8 +46,8 @@ abbrev pub IsPathProduct : List ℕ → Delay → List ℕ → List ℕ → Opti
 IsPathProduct text default from to at output = IsReportOnly (IsPathReport text default from to at output) Done
 
 -- what `bound` says
-abbrev pub IsBoundProduct : List ℕ → Delay → Option (List ℕ) → Option (List ℕ) → Option (List ℕ) → Product → Type 0
-IsBoundProduct text default first second at = IsReportOnly (IsBoundReport text default first second at) Done
+abbrev pub IsBoundProduct : List ℕ → Delay → Option (List ℕ) → Option (List ℕ) → Option (List ℕ) → Bool → Product → Type 0
+IsBoundProduct text default first second at edges = IsReportOnly (IsBoundReport text default first second at edges) Done
 
 -- what `check` says
 abbrev pub IsCheckProduct : List ℕ → Delay → List ℕ → Product → Type 0
@@ -94,9 +98,21 @@ IsUnreadable disk name reason = (word : Bor (List ℕ)) × (reason ≡ refusal.U
 abbrev pub HoldsOnFile : Disk → List ℕ → (List ℕ → Refusal → Type 0) → Refusal → Type 0
 HoldsOnFile disk name HoldsOn reason = IsUnreadable disk name reason ⊎ Reads disk name (λ text. HoldsOn text reason)
 
--- the words of a request that say what its search is about
+-- the strategy that a word names
+abbrev pub strategy_of : StrategyWord → Strategy
+strategy_of word.Least = strategy.Least
+strategy_of word.Lead = strategy.Lead
+
+-- the words of a request that say what its search is about, and by which strategy it goes
 abbrev pub words_in : WorstRequest → QuestionWords
-words_in asked = record { first = asked.first; second = asked.second; hold = asked.hold; flips = asked.flips; at = asked.at }
+words_in asked = record {
+  first = asked.first;
+  second = asked.second;
+  hold = asked.hold;
+  flips = asked.flips;
+  at = asked.at;
+  strategy = strategy_of asked.strategy;
+}
 
 -- what is said for a request
 abbrev pub IsProductOf : Disk → Request → Product → Type 0
@@ -105,7 +121,7 @@ IsProductOf disk (request.Sim asked) product =
 IsProductOf disk (request.Path asked) product =
     Reads disk asked.file.now (λ text. IsPathProduct text (delays asked.rise asked.fall) asked.from.now asked.to.now (words_of asked.at) (words_of asked.output) product)
 IsProductOf disk (request.Bound asked) product =
-    Reads disk asked.file.now (λ text. IsBoundProduct text (delays asked.rise asked.fall) (words_of asked.first) (words_of asked.second) (words_of asked.at) product)
+    Reads disk asked.file.now (λ text. IsBoundProduct text (delays asked.rise asked.fall) (words_of asked.first) (words_of asked.second) (words_of asked.at) asked.edges product)
 IsProductOf disk (request.Worst asked) product =
     Reads disk asked.file.now (λ text. IsWorstProduct text (delays asked.rise asked.fall) (words_in asked) asked.budget (words_of asked.certificate) (words_of asked.vcd) product)
 IsProductOf disk (request.Check asked) product =

@@ -61,10 +61,11 @@ abbrev pub certificate_in : Problem → Answer → Option Certificate
 certificate_in asked (answer.Exact time pair tree) = Some (certificate_of asked time pair tree)
 certificate_in asked (answer.Between low high pair nodes why) = None
 
--- what the words of a search ask of a text: the setting, and which pairs of its inputs are admitted
+-- what the words of a search ask of a text: the setting, which pairs of its inputs are admitted, and the strategy by which the search goes
 pub record IsAsked (text : List ℕ) (default : Delay) (words : QuestionWords) (asked : Problem) : Type 0 where
   pub is_setting : IsSetting text default (words_of words.at) asked.setting
   pub admits : AreAdmitted (length asked.setting.netlist.inputs) words asked.admit
+  pub strategy : asked.strategy ≡ words.strategy
 
 -- the pair of an answer
 abbrev pub pair_in : Answer → Pair

@@ -7,8 +7,10 @@ ghost use Rattle.td_cli.specs.Admitting.{most_flips, AreAdmitted, pair_words};
 use crate::vector::{VectorWord, cube, given};
 use std::alloc::{AllocError, Global};
 use td_domain::{Admit, Trit};
+use td_search::Strategy;
 
-/// The words that say what a search is about: which pairs of vectors are admitted, and when inputs change. Each may be left out.
+/// What a search is asked, and by which strategy it goes: the words say which pairs of vectors are admitted and when inputs change, and
+/// each may be left out.
 #[derive(Clone, Copy, Debug)]
 pub struct QuestionWords<'a> {
     pub first: Option<&'a str>,
@@ -19,6 +21,7 @@ pub struct QuestionWords<'a> {
     pub flips: Option<u64>,
     /// The moment at which each input takes its second level.
     pub at: Option<&'a str>,
+    pub strategy: Strategy,
 }
 
 /// At how many inputs the two vectors may differ, of so many.

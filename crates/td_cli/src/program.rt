@@ -12,7 +12,7 @@ ghost use Rattle.td_cli.specs.Dumps.{file_of, dump_files, HasRun};
 ghost use Rattle.td_cli.specs.Outcomes.{HasNoReport, HasNoPath, HasNoBounds, HasNoAnswer, HasNoVerdict};
 ghost use Rattle.td_cli.specs.Refusals.{unwritten_text};
 ghost use Rattle.td_cli.specs.Vectors.{words_of};
-ghost use Rattle.td_cli.specs.Requests.{disk_of, words_in, IsSimProduct, IsPathProduct, IsBoundProduct, IsCheckProduct, IsWorstProduct, certificate_files, search_ending, Reads, HoldsOnFile, RequestRuns, RequestEnds, IsOutOfMemory, IsShown, TellsText, ProgramEnds, RefusesWords};
+ghost use Rattle.td_cli.specs.Requests.{disk_of, strategy_of, words_in, IsSimProduct, IsPathProduct, IsBoundProduct, IsCheckProduct, IsWorstProduct, certificate_files, search_ending, Reads, HoldsOnFile, RequestRuns, RequestEnds, IsOutOfMemory, IsShown, TellsText, ProgramEnds, RefusesWords};
 ghost use Rattle.td_command.specs.declared.command.Request.TheVariants as Asked;
 ghost use Rattle.td_cli.specs.declared.refusal.Refusal.TheVariants as Reason;
 ghost use Rattle.td_cli.specs.declared.files.ReadFault.TheVariants as Fault;
@@ -38,9 +38,10 @@ use std::sync::Wait;
 use std::thread::Threads;
 use td_certificate::{Certificate, WriteFault, write};
 use td_command::{
-    BoundRequest, CheckRequest, PathRequest, Request, SimRequest, WorstRequest, parse,
+    BoundRequest, CheckRequest, PathRequest, Request, SimRequest, StrategyWord, WorstRequest, parse,
 };
 use td_gates::{Delay, Sink};
+use td_search::Strategy;
 
 /// Carries out the command that the words ask for: what it answers goes to `out`, why it was refused to `err`. The first
 /// word is the program's name.
@@ -199,6 +200,7 @@ fn run_bound<F: Files, O: Sink, E: Sink>(
             request.first,
             request.second,
             request.at,
+            request.edges,
             out,
             err,
         ),
@@ -247,7 +249,7 @@ fn run_worst<R: Threads + Wait + Sync, F: Files, O: Sink, E: Sink>(
     }
 }
 
-/// The words of a request that say what its search is about.
+/// The words of a request that say what its search is about, and by which strategy it goes.
 fn words_in(request: WorstRequest<'_>) -> QuestionWords<'_>
     ensures { result ≡ words_in request.entry }
 {
@@ -257,6 +259,17 @@ fn words_in(request: WorstRequest<'_>) -> QuestionWords<'_>
         hold: request.hold,
         flips: request.flips,
         at: request.at,
+        strategy: strategy_of(request.strategy),
+    }
+}
+
+/// The strategy that a word names.
+fn strategy_of(word: StrategyWord) -> Strategy
+    ensures { result ≡ strategy_of word }
+{
+    match word {
+        StrategyWord::Least => Strategy::Least,
+        StrategyWord::Lead => Strategy::Lead,
     }
 }
 
@@ -373,14 +386,15 @@ pub fn carry_out_bound<O: Sink, E: Sink>(
     first: Option<&str>,
     second: Option<&str>,
     at: Option<&str>,
+    edges: bool,
     out: &mut O,
     err: &mut E,
 ) -> Status
-    ensures { Ends (IsBoundProduct text.now default (words_of first.entry) (words_of second.entry) (words_of at.entry))
+    ensures { Ends (IsBoundProduct text.now default (words_of first.entry) (words_of second.entry) (words_of at.entry) edges)
         (HasNoBounds text.now default (words_of first.entry) (words_of second.entry) (words_of at.entry)) (λ _. ⊥) [] result
         (streams (O.output out.old) (E.output err.old)) (streams (O.output out.new) (E.output err.new)) }
 {
-    match bounds(alloc, text, default, first, second, at) {
+    match bounds(alloc, text, default, first, second, at, edges) {
         Ok(report) => say(report.bytes(), Status::Done, out, err),
         Err(refusal) => tell_refusal(alloc, err, &refusal),
     }
@@ -497,9 +511,9 @@ fn write_certificate<F: Files>(
     let mut writer = files.create(alloc, name)?;
     match write(alloc, &mut writer, certificate) {
         Ok(()) => files.close(alloc, name, writer),
-        Err(fault) => {
+        Err(torn) => {
             files.discard(writer);
-            Err(fault)
+            Err(torn)
         }
     }
 }

@@ -1,7 +1,7 @@
 //! The command `worst`: the search for the worst delay.
 
 ghost use Rattle.std.specs.Prelude.{◌≡◌, ◌<◌, ◌≤◌, ◌++◌, length, IfOk, IfErr, IfSome, OnOk};
-ghost use Rattle.td_search.specs.Problems.{problem};
+ghost use Rattle.td_search.specs.Problems.{problem_by};
 ghost use Rattle.td_certificate.specs.Spelling.{HasSpelling};
 ghost use Rattle.td_certificate.specs.Text.{bits};
 ghost use Rattle.td_cli.specs.Dumps.{dump_files, HasRun};
@@ -25,8 +25,8 @@ use td_certificate::{Certificate, Question};
 use td_circuit::Circuit;
 use td_domain::{Admit, Pair};
 use td_gates::Delay;
-use td_pool::worst as search;
-use td_search::{Answer, Cause, Own, SearchFault, certificate_of};
+use td_pool::worst_with;
+use td_search::{Answer, Cause, Own, SearchFault, Strategy, certificate_of};
 
 /// The report of a search, the certificate of an exact answer, and the waves of the given pair's run where a name is given for
 /// their file.
@@ -51,7 +51,7 @@ fn question_of<'a>(
     default: Delay,
     words: QuestionWords<'_>,
 ) -> Result<Asked, Refusal<'a>>
-    ensures asked { IfOk result (λ asked. IsAsked text.now default words.entry (problem asked.circuit asked.admit)) }
+    ensures asked { IfOk result (λ asked. IsAsked text.now default words.entry (problem_by words.entry.strategy asked.circuit asked.admit)) }
     ensures refusal { IfErr result (IsRefusedFor text.now default (question_words words.entry)) }
 {
     let mut circuit = circuit(alloc, text, default)?;
@@ -92,13 +92,23 @@ pub fn worst<'a, 'v, R: Threads + Wait + Sync>(
 {
     let Asked { circuit, admit } = question_of(alloc, text, default, words)?;
     let moments = Vec::from_slice(alloc, circuit.moments())?;
-    let answer = match search(rt, alloc, &circuit, &admit, &Own, workers, budget) {
+    let searched = worst_with(
+        rt,
+        alloc,
+        &circuit,
+        &admit,
+        &Own,
+        words.strategy,
+        workers,
+        budget,
+    );
+    let answer = match searched {
         Ok(answer) => answer,
         Err(fault) => return Err(unanswered(fault)),
     };
     let report = report_of(alloc, &circuit, &answer)?;
     let pair = pair_in(&answer).copy(alloc)?;
-    let certificate = certificate(&circuit, admit, moments, answer);
+    let certificate = certificate(&circuit, admit, moments, words.strategy, answer);
     let dump = pair_dump(alloc, vcd, circuit, &pair)?;
     Ok(Found {
         report,
@@ -132,11 +142,12 @@ fn certificate(
     circuit: &Circuit,
     admit: Admit,
     moments: Vec<u64>,
+    strategy: Strategy,
     answer: Answer,
 ) -> Option<Certificate>
     requires flips { admit.flips ≤ length admit.held }
     requires moments { moments.items ≡ circuit.now.moments }
-    ensures { result ≡ certificate_in (problem circuit.now admit) answer }
+    ensures { result ≡ certificate_in (problem_by strategy circuit.now admit) answer }
 {
     match answer {
         Answer::Exact { time, pair, tree } => {

@@ -4,6 +4,8 @@
 #[cfg(test)]
 mod admitted;
 #[cfg(test)]
+mod edges;
+#[cfg(test)]
 mod moments;
 #[cfg(test)]
 mod paths;

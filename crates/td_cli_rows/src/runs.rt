@@ -64,7 +64,7 @@ pub const LOST: &[u8] =
 const LATE: &[u8] =
     b"module t(a, y);\ninput a;\noutput y;\nnot #1 n(b,a); and #(1,3) g(y,a,b);\nendmodule\n";
 
-const RECONVERGENT: &[u8] =
+pub const RECONVERGENT: &[u8] =
     b"module t(a, b, y);\ninput a, b;\noutput y;\nbuf #1 p1(p,b); buf #1 p2(q,b); xor #3 g(y,a,p,q);\nendmodule\n";
 
 pub const HIDDEN: &[u8] =

@@ -1,14 +1,14 @@
 -- The commands as the parser fills them in, and what their words ask for where they have no fault.
-use Rattle.std.proofs.Common.{◌≡◌, ◌≤◌, List, length, Option, Some, codes, refl, inl, inr, arith, ℕ, true}
+use Rattle.std.proofs.Common.{◌≡◌, ◌≤◌, List, [], ◌∷◌, length, Option, Some, codes, refl, inl, inr, arith, ℕ, false, true}
 use Rattle.std.specs.Prelude.{option_map, pos}
 use Rattle.std.specs.Borrow.{Bor}
 use Rattle.std.specs.List.{list_any}
 use Rattle.clap.specs.Facts.{unwrap_or_range}
 use Rattle.clap.specs.Simple.{App, Shape, built_leaf, inherited, marked_built, with_leaf_noted}
-use Rattle.clap.specs.declared.builder.value_parser.ValueParser.TheVariants.{Signed, Unsigned}
+use Rattle.clap.specs.declared.builder.value_parser.ValueParser.TheVariants.{Bool as AsBool, Names, Signed, Unsigned}
 use Rattle.clap.specs.Walk.{Row, Rule, Text, action_of, arg_by_id, first_of, most_values}
-use Rattle.clap.specs.declared.builder.action.ArgAction.TheVariants.{Set, Help}
-use Rattle.td_command.specs.CommandLine.{AsksBound, AsksCheck, AsksPath, AsksSim, AsksWorst, HasWord, bound_command, check_command, path_command, program, sim_command, worst_command}
+use Rattle.clap.specs.declared.builder.action.ArgAction.TheVariants.{Set, SetTrue, Help}
+use Rattle.td_command.specs.CommandLine.{AsksBound, AsksCheck, AsksPath, AsksSim, AsksWorst, HasWord, behind, bound_command, check_command, listed, path_command, program, sim_command, strategy_names, worst_command}
 use Rattle.td_command.specs.declared.command.SimRequest.{SimRequest}
 use Rattle.td_command.specs.declared.command.PathRequest.{PathRequest}
 use Rattle.td_command.specs.declared.command.BoundRequest.{BoundRequest}
@@ -16,7 +16,8 @@ use Rattle.td_command.specs.declared.command.WorstRequest.{WorstRequest}
 use Rattle.td_command.specs.declared.command.CheckRequest.{CheckRequest}
 use Rattle.td_command.proofs.Rows.{IsKnown}
 use Rattle.td_command.proofs.Levels.{IsPlainLeaf, IsTaken, has_default}
-use Rattle.td_command.proofs.Numbers.{HasCountOption, HasOption, behind, count_there, default_there, given_text, number_there, text_there}
+use Rattle.td_command.proofs.Numbers.{HasCountOption, HasOption, count_there, default_there, given_text, number_there, text_there}
+use Rattle.td_command.proofs.Choices.{HasNameOption, IsFlag, flag_there, strategy_there}
 
 -- ---- the commands
 
@@ -33,7 +34,7 @@ abbrev pub bound : Shape
 bound = filled_in bound_command
 
 abbrev pub worst : Shape
-worst = filled_in worst_command
+worst = filled_in (worst_command (listed strategy_names))
 
 abbrev pub check : Shape
 check = filled_in check_command
@@ -48,7 +49,16 @@ known_one found action least most default = record {
 
 known_help : {command : List Rule} {rule : Rule} → arg_by_id command rule.id ≡ Some rule → action_of rule ≡ Help → length rule.defaults ≤ 1
     → IsKnown command rule
-known_help found action default = record { found = found; kind = inr action; default = default }
+known_help found action default = record { found = found; kind = inr (inr action); default = default }
+
+known_flag : {command : List Rule} {rule : Rule} {value : Text} → arg_by_id command rule.id ≡ Some rule → action_of rule ≡ SetTrue
+    → (unwrap_or_range rule.range).start_inclusive ≡ 0 → most_values rule ≡ 0 → rule.missing ≡ value ∷ [] → length rule.defaults ≤ 1
+    → IsKnown command rule
+known_flag found action least most stands default = record {
+  found = found;
+  kind = inr (inl (record { action = action; least = least; most = most; value = _; stands = stands }));
+  default = default;
+}
 
 has_option : {shape : Shape} {id : Text} {least most : ℕ} (rule : Rule) → arg_by_id shape.rules id ≡ Some rule
     → rule.parser ≡ Some (Signed (pos least) (pos most)) → list_any (has_default id) shape.rules ≡ true → HasOption shape id least most
@@ -57,6 +67,15 @@ has_option rule named parser left_out = record { rule = rule; named = named; par
 has_count_option : {shape : Shape} {id : Text} (rule : Rule) → arg_by_id shape.rules id ≡ Some rule
     → rule.parser ≡ Some (Unsigned 0 18446744073709551615) → HasCountOption shape id
 has_count_option rule named parser = record { rule = rule; named = named; parser = parser }
+
+has_name_option : {shape : Shape} {id : Text} {names : List Text} (rule : Rule) → arg_by_id shape.rules id ≡ Some rule
+    → rule.parser ≡ Some (Names (listed names)) → rule.ignore_case ≡ false → list_any (has_default id) shape.rules ≡ true
+    → HasNameOption shape id names
+has_name_option rule named parser cased left_out = record { rule = rule; named = named; parser = parser; cased = cased; left_out = left_out }
+
+is_flag : {shape : Shape} {id : Text} (rule : Rule) → arg_by_id shape.rules id ≡ Some rule → rule.parser ≡ Some AsBool
+    → list_any (has_default id) shape.rules ≡ true → IsFlag shape id
+is_flag rule named parser left_out = record { rule = rule; named = named; parser = parser; left_out = left_out }
 
 pub sim_is_plain : IsPlainLeaf sim
 sim_is_plain = record {
@@ -123,10 +142,13 @@ bound_is_plain = record {
         (
           known_one refl refl refl refl (omega arith),
           (
-            known_one refl refl refl refl (omega arith),
+            known_flag refl refl refl refl refl (omega arith),
             (
               known_one refl refl refl refl (omega arith),
-              (known_help refl refl (omega arith), tt),
+              (
+                known_one refl refl refl refl (omega arith),
+                (known_help refl refl (omega arith), tt),
+              ),
             ),
           ),
         ),
@@ -162,7 +184,10 @@ worst_is_plain = record {
                         known_one refl refl refl refl (omega arith),
                         (
                           known_one refl refl refl refl (omega arith),
-                          (known_help refl refl (omega arith), tt),
+                          (
+                            known_one refl refl refl refl (omega arith),
+                            (known_help refl refl (omega arith), tt),
+                          ),
                         ),
                       ),
                     ),
@@ -258,12 +283,14 @@ asks_path rows taken =
 pub asks_bound : (rows : List Row) → IsTaken bound rows → (asked : BoundRequest) × AsksBound rows asked
 asks_bound rows taken =
     let file = text_there bound.rules (codes "FILE") rows (taken.given.0 refl) taken.rules in
+    let edges = flag_there bound (codes "edges") rows (is_flag _ refl refl refl) taken in
     let default = default_there bound rows (has_option _ refl refl refl) (has_option _ refl refl refl) taken in (
       record {
         file = behind file.0;
         first = word_of (codes "first") rows;
         second = word_of (codes "second") rows;
         at = word_of (codes "at") rows;
+        edges = edges.0;
         rise = default.0.rise;
         fall = default.0.fall;
       },
@@ -272,6 +299,7 @@ asks_bound rows taken =
         first = word_there (codes "first") rows;
         second = word_there (codes "second") rows;
         at = word_there (codes "at") rows;
+        edges = edges.1;
         default = default.1;
       },
     )
@@ -281,6 +309,7 @@ asks_worst rows taken =
     let file = text_there worst.rules (codes "FILE") rows (taken.given.0 refl) taken.rules in
     let flips = count_there worst (codes "flips") rows (has_count_option _ refl refl) taken in
     let workers = number_there worst (codes "workers") 1 64 rows (has_option _ refl refl refl) taken in
+    let strategy = strategy_there worst rows (has_name_option _ refl refl refl refl) taken in
     let budget = number_there worst (codes "budget") 0 10000000 rows (has_option _ refl refl refl) taken in
     let default = default_there worst rows (has_option _ refl refl refl) (has_option _ refl refl refl) taken in (
       record {
@@ -291,6 +320,7 @@ asks_worst rows taken =
         flips = flips.0;
         at = word_of (codes "at") rows;
         workers = workers.0;
+        strategy = strategy.0;
         budget = budget.0;
         certificate = word_of (codes "cert") rows;
         vcd = word_of (codes "vcd") rows;
@@ -305,6 +335,7 @@ asks_worst rows taken =
         flips = flips.1;
         at = word_there (codes "at") rows;
         workers = (workers.1, workers.2, workers.3);
+        strategy = strategy.1;
         budget = (budget.1, budget.3);
         certificate = word_there (codes "cert") rows;
         vcd = word_there (codes "vcd") rows;

@@ -4,5 +4,7 @@ pub mod Uses
 pub mod Turns
 pub mod Levels
 pub mod Numbers
+pub mod Choices
 pub mod Filled
 pub mod Taken
+pub mod Whereabouts

@@ -4,7 +4,6 @@ use Rattle.std.proofs.lemmas.Bool.{ne_eqb}
 use Rattle.std.proofs.lemmas.Int.{ints}
 use Rattle.std.proofs.lemmas.Str.Parse.{digit_from_value}
 use Rattle.std.specs.Prelude.{pos, slice_get, option_and_then, option_map, unwrap_or, codes}
-use Rattle.std.specs.Borrow.{Bor}
 use Rattle.std.specs.Str.{bytes_eq}
 use Rattle.td_gates.specs.Delays.{Delays}
 use Rattle.td_command.proofs.Rows.{AreOfRules, IsOfRule, found_has}
@@ -19,7 +18,7 @@ use Rattle.clap.specs.Walk.{Row, Rule, Text, arg_by_id, first_of, has_row, one_o
 use Rattle.clap.specs.declared.builder.value_parser.ValueParser.{ValueParser}
 use Rattle.clap.specs.declared.builder.value_parser.ValueParser.TheVariants as vp
 use Rattle.clap.proofs.ValueTestLemmas.{accepts-Accepts}
-use Rattle.td_command.specs.CommandLine.{HasCount, HasDefault, HasNumber, IsNumber, delays}
+use Rattle.td_command.specs.CommandLine.{HasCount, HasDefault, HasNumber, IsNumber, behind, delays}
 use Rattle.td_command.proofs.Levels.{IsRead, IsTaken, first_row, has_default, reads}
 
 -- ---- numbers
@@ -138,10 +137,6 @@ text_there command id rows has all =
     let row = first_row id rows has in
     let of = (found_has (IsOfRule command) (λ row. bytes_eq row.id id) rows row.0 row.1 all).0 in
     (of.value, ap (option_and_then (λ (row : Row). slice_get row.values 0)) row.1 ∙ ap (λ values. slice_get values 0) of.values)
-
--- the text, as the program is given it
-abbrev pub behind : Text → Bor Text
-behind text = record { ref_ptr = (0, 0); now = text }
 
 pub given_text : (text : Option Text) → text ≡ option_map (λ word. word.now) (option_map behind text)
 given_text None = refl

@@ -1,4 +1,4 @@
--- The rows that the words leave, where each argument of a command takes one value or asks for help.
+-- The rows that the words leave, where each argument of a command takes one value, is a flag or asks for help.
 use Rattle.std.proofs.Common.{◌≡◌, ◌⊎◌, ◌∙◌, ◌==◌, ◌||◌, ◌&&◌, ◌≤◌, ℕ, Bool, cond, true, false, List, [], ◌∷◌, ◌++◌, length, Some, None, refl, sym, ap, ap₂, subst, arith, ne_eqb, append-nil}
 use Rattle.std.specs.List.{AllByRecursion, find}
 use Rattle.std.specs.Str.{bytes_eq}
@@ -7,7 +7,7 @@ use Rattle.clap.specs.ValueTests.{accepts}
 use Rattle.clap.specs.Kinds.{Kinds, or_else, range_kinds, value_kinds, values_kinds}
 use Rattle.clap.specs.Faults.{repeat_fault, set_fault}
 use Rattle.clap.specs.Walk.{Row, Rule, Text, action_of, arg_by_id, at_row, has_row, more_values, most_values, reading_by, with_values, without}
-use Rattle.clap.specs.declared.builder.action.ArgAction.TheVariants.{Set, Help}
+use Rattle.clap.specs.declared.builder.action.ArgAction.TheVariants.{Set, SetTrue, Help}
 use Rattle.clap.specs.declared.builder.value_parser.ValueParser.{ValueParser}
 use Rattle.clap.specs.declared.parser.matches.ValueSource.{ValueSource}
 use Rattle.clap.specs.declared.error.kind.ErrorKind.TheVariants as kind
@@ -24,10 +24,18 @@ pub record TakesOne (rule : Rule) : Type 0 where
   pub least : (unwrap_or_range rule.range).start_inclusive ≡ 1
   pub most : most_values rule ≡ 1
 
--- the rule is the first of its id, takes one value or asks for help, and has at most one value where it is left out
+-- the rule takes no value, one stands for its use, and a second use is none that replaces the first
+pub record TakesNone (rule : Rule) : Type 0 where
+  pub action : action_of rule ≡ SetTrue
+  pub least : (unwrap_or_range rule.range).start_inclusive ≡ 0
+  pub most : most_values rule ≡ 0
+  pub value : Text
+  pub stands : rule.missing ≡ value ∷ []
+
+-- the rule is the first of its id, takes one value, is a flag or asks for help, and has at most one value where it is left out
 pub record IsKnown (command : List Rule) (rule : Rule) : Type 0 where
   pub found : arg_by_id command rule.id ≡ Some rule
-  pub kind : TakesOne rule ⊎ (action_of rule ≡ Help)
+  pub kind : TakesOne rule ⊎ (TakesNone rule ⊎ (action_of rule ≡ Help))
   pub default : length rule.defaults ≤ 1
 
 -- the row has the one value that its rule took
@@ -72,6 +80,18 @@ one_value least most values is_least is_most none =
         let some : (length (value ∷ next ∷ rest) == 0) ≡ false = ne_eqb _ _ (λ e. omega arith) in
         let several : (1 == length (value ∷ next ∷ rest)) ≡ false = ne_eqb _ _ (λ e. omega arith) in
         let bad = rw (some, several) at none in
+        absurd cc
+
+-- a range of no value
+pub no_value : (least most : ℕ) (values : List Text) → least ≡ 0 → most ≡ 0 → range_kinds least most (length values) ≡ [] → values ≡ []
+no_value least most values is_least is_most none =
+    go values (sym (ap₂ (λ a b. range_kinds a b (length values)) is_least is_most) ∙ none)
+  where
+    go : (values : List Text) → range_kinds 0 0 (length values) ≡ [] → values ≡ []
+    go [] none = refl
+    go (value ∷ rest) none =
+        let some : (0 == length (value ∷ rest)) ≡ false = ne_eqb _ _ (λ e. omega arith) in
+        let bad = rw some at none in
         absurd cc
 
 pub one_passes : (ignore_case : Bool) (parser : ValueParser) (value : Text) → values_kinds ignore_case parser (value ∷ []) ≡ []

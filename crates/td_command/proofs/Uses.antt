@@ -1,5 +1,5 @@
 -- A use of an argument that has no fault keeps the rows those of the command's rules.
-use Rattle.std.proofs.Common.{◌≡◌, ◌∙◌, ℕ, zero, suc, Bool, cond, true, false, List, [], ◌∷◌, length, Option, Some, None, IfSome, sym, subst, ⊎_elim, drop}
+use Rattle.std.proofs.Common.{◌≡◌, ◌∙◌, ap, ℕ, zero, suc, Bool, cond, true, false, List, [], ◌∷◌, length, Option, Some, None, IfSome, sym, subst, ⊎_elim, drop}
 use Rattle.std.specs.Prelude.{encode_utf8, slice_get}
 use Rattle.std.specs.List.{AllByRecursion, find}
 use Rattle.std.specs.Option.{option_map_or}
@@ -11,7 +11,7 @@ use Rattle.clap.specs.Walk.{Held, Outcome, Row, Rule, Text, action_of, arg_by_id
 use Rattle.clap.specs.declared.builder.action.ArgAction.TheVariants.{Help}
 use Rattle.clap.specs.declared.error.kind.ErrorKind.TheVariants as kind
 use Rattle.clap.specs.declared.parser.matches.ValueSource.TheVariants.{CommandLine}
-use Rattle.td_command.proofs.Rows.{AreOfRules, IsKnown, TakesOne, neither, one_value, set_joins}
+use Rattle.td_command.proofs.Rows.{AreOfRules, IsKnown, TakesNone, TakesOne, neither, no_value, one_value, set_joins}
 
 -- what is found, if anything, has what each element has
 pub if_found : {X : Type 0} (P : X → Type 0) (test : X → Bool) (xs : List X) → AllByRecursion P xs → IfSome (find test xs) P
@@ -25,7 +25,7 @@ if_found P test (first ∷ rest) all = go (test first) (if_found P test rest all
 module _ (command : List Rule) (known : AllByRecursion (IsKnown command) command) where
   pub used_keeps : (rule : Rule) (values : List Text) (rows : List Row) → IsKnown command rule → use_fault false rule values rows ≡ []
       → AreOfRules command rows → AreOfRules command (used rule values rows)
-  used_keeps rule values rows is none all = ⊎_elim takes asks is.kind
+  used_keeps rule values rows is none all = ⊎_elim takes (⊎_elim stands asks) is.kind
     where
       parts : (range_kinds (unwrap_or_range rule.range).start_inclusive (most_values rule) (length values) ≡ [])
           × (action_fault (action_of rule) false rule (values_or_missing rule values) rows ≡ [])
@@ -39,6 +39,16 @@ module _ (command : List Rule) (known : AllByRecursion (IsKnown command) command
           let same : used rule values rows ≡ with_values rule.id (reading_by rule) CommandLine (given.0 ∷ []) (without rule.id rows) =
           λ i. used_as (one.action i) rule.id (reading_by rule) (values_or_missing rule (given.1 i)) rows in
           subst (AreOfRules command) (sym same) (set_joins command rule CommandLine given.0 rows is.found (sym fault ∙ parts.1) all)
+
+      stands : TakesNone rule → AreOfRules command (used rule values rows)
+      stands flag =
+          let one : values_or_missing rule values ≡ flag.value ∷ [] =
+          ap (values_or_missing rule) (no_value _ _ values flag.least flag.most parts.0) ∙ flag.stands in
+          let fault : action_fault (action_of rule) false rule (values_or_missing rule values) rows ≡ set_fault false rule (flag.value ∷ []) rows =
+          λ i. action_fault (flag.action i) false rule (one i) rows in
+          let same : used rule values rows ≡ with_values rule.id (reading_by rule) CommandLine (flag.value ∷ []) (without rule.id rows) =
+          λ i. used_as (flag.action i) rule.id (reading_by rule) (one i) rows in
+          subst (AreOfRules command) (sym same) (set_joins command rule CommandLine flag.value rows is.found (sym fault ∙ parts.1) all)
 
       asks : action_of rule ≡ Help → AreOfRules command (used rule values rows)
       asks help =

@@ -1,13 +1,17 @@
 -- The command line as the parser of command lines is told it, and what the words ask for.
-use Rattle.std.specs.Prelude.{◌≡◌, ℕ, ◌≤◌, ◌<◌, ◌^◌, List, [], ◌∷◌, codes, pos, true, Option, Some, None, option_map}
+use Rattle.std.specs.Prelude.{◌≡◌, ℕ, ◌≤◌, ◌<◌, ◌^◌, Bool, List, [], ◌∷◌, codes, map, pos, true, Option, Some, None, option_map}
 use Rattle.std.specs.Borrow.{Bor}
 use Rattle.std.specs.Str.Parse.{IsNumeral, digits_value, without_leading_plus}
 use Rattle.clap.specs.Words.{App, Kinds, Row, Rule, Text, fault_of, first_of, new_app, new_rule, one_of, subcommand_of, with_rule, with_subcommand}
-use Rattle.clap.specs.declared.builder.value_parser.ValueParser.TheVariants.{Signed, Unsigned}
+use Rattle.clap.specs.Values.{bool_text}
+use Rattle.clap.specs.declared.builder.action.ArgAction.TheVariants.{SetTrue}
+use Rattle.clap.specs.declared.builder.value_parser.ValueParser.TheVariants.{Names, Signed, Unsigned}
 use Rattle.td_gates.specs.Delays.{Delays, IsInRange}
 use Rattle.td_command.specs.declared.command.SimRequest.{SimRequest}
 use Rattle.td_command.specs.declared.command.PathRequest.{PathRequest}
 use Rattle.td_command.specs.declared.command.BoundRequest.{BoundRequest}
+use Rattle.td_command.specs.declared.command.StrategyWord.{StrategyWord}
+use Rattle.td_command.specs.declared.command.StrategyWord.TheVariants.{Least, Lead}
 use Rattle.td_command.specs.declared.command.WorstRequest.{WorstRequest}
 use Rattle.td_command.specs.declared.command.CheckRequest.{CheckRequest}
 use Rattle.td_command.specs.declared.command.Request.{Request}
@@ -31,6 +35,21 @@ number_option id least most left_out =
 -- an option with any number of 64 bits, and none where it is left out
 abbrev pub count_option : Text → Rule
 count_option id = record (option id) { parser = Some (Unsigned 0 18446744073709551615) }
+
+-- a list of texts behind references, as the parser is told the names that an option may have
+abbrev pub Listed : Type 0
+Listed = Bor (List (Bor Text))
+
+abbrev pub texts_of : Listed → List Text
+texts_of names = map (λ name. name.now) names.now
+
+-- an option with one of a few names, and its value where it is left out
+abbrev pub name_option : Text → Listed → Text → Rule
+name_option id names left_out = record (option id) { parser = Some (Names names); defaults = left_out ∷ [] }
+
+-- an option without a value
+abbrev pub flag : Text → Rule
+flag id = record (new_rule id) { long = Some id; action = Some SetTrue }
 
 -- the delays of gates that state none
 abbrev pub with_default : App → App
@@ -58,14 +77,19 @@ with_pair app = with_rule (with_rule (with_rule app (needed (codes "FILE"))) (ne
 abbrev pub with_cube : App → App
 with_cube app = with_rule (with_rule app (option (codes "first"))) (option (codes "second"))
 
+-- whether the bounds by edges are asked for too
+abbrev pub with_edges : App → App
+with_edges app = with_rule app (flag (codes "edges"))
+
 -- the pairs that a search admits: those of a cube, where some inputs are held and only so many may flip
 abbrev pub with_admitted : App → App
 with_admitted app = with_rule (with_rule (with_cube app) (option (codes "hold"))) (count_option (codes "flips"))
 
 -- how a search goes, and where its certificate goes
-abbrev pub with_search : App → App
-with_search app =
-    with_rule (with_rule (with_rule app (number_option (codes "workers") 1 64 (codes "1")))
+abbrev pub with_search : Listed → App → App
+with_search strategies app =
+    with_rule (with_rule (with_rule (with_rule app (number_option (codes "workers") 1 64 (codes "1")))
+    (name_option (codes "strategy") strategies (codes "least")))
     (number_option (codes "budget") 0 10000000 (codes "1000000"))) (option (codes "cert"))
 
 abbrev pub sim_command : App
@@ -75,20 +99,20 @@ abbrev pub path_command : App
 path_command = with_default (with_output (with_moments (with_pair (new_app (codes "path")))))
 
 abbrev pub bound_command : App
-bound_command = with_default (with_moments (with_cube (with_rule (new_app (codes "bound")) (needed (codes "FILE")))))
+bound_command = with_default (with_edges (with_moments (with_cube (with_rule (new_app (codes "bound")) (needed (codes "FILE"))))))
 
-abbrev pub worst_command : App
-worst_command =
-    with_default (with_vcd (with_search (with_moments (with_admitted (with_rule (new_app (codes "worst")) (needed (codes "FILE")))))))
+abbrev pub worst_command : Listed → App
+worst_command strategies =
+    with_default (with_vcd (with_search strategies (with_moments (with_admitted (with_rule (new_app (codes "worst")) (needed (codes "FILE")))))))
 
 abbrev pub check_command : App
 check_command = with_default (with_rule (with_rule (new_app (codes "check"))
     (needed (codes "FILE"))) (needed (codes "CERT")))
 
-abbrev pub with_commands : App → App
-with_commands app =
+abbrev pub with_commands : Listed → App → App
+with_commands strategies app =
     with_subcommand (with_subcommand (with_subcommand (with_subcommand (with_subcommand app sim_command.top) path_command.top) bound_command.top)
-    worst_command.top) check_command.top
+    (worst_command strategies).top) check_command.top
 
 abbrev pub named : App
 named = new_app (codes "tdelay")
@@ -97,8 +121,29 @@ named = new_app (codes "tdelay")
 abbrev pub bare : App
 bare = record named { top = record named.top { subcommand_required = true; has_version = true } }
 
+abbrev pub program_of : Listed → App
+program_of strategies = with_commands strategies bare
+
+-- the names of the strategies
+abbrev pub strategy_names : List Text
+strategy_names = codes "least" ∷ codes "lead" ∷ []
+
+-- what the parser is told with the names of the strategies, wherever in memory they stand
+pub record IsOfStrategies (told_with : Listed → App) (told : App) : Type 0 where
+  pub strategies : Listed
+  pub named : texts_of strategies ≡ strategy_names
+  pub is : told ≡ told_with strategies
+
+-- a value behind a reference, of which nothing is said where it stands
+abbrev pub behind : {X : Type 0} → X → Bor X
+behind x = record { ref_ptr = (0, 0); now = x }
+
+abbrev pub listed : List Text → Listed
+listed texts = behind (map behind texts)
+
+-- the program; what it makes of words doesn't depend on where in memory the names stand
 abbrev pub program : App
-program = with_commands bare
+program = program_of (listed strategy_names)
 
 -- ---- what the words ask for
 
@@ -118,6 +163,19 @@ HasCount id rows (Some number) = HasNumber id rows number × (number < 2 ^ 64)
 -- the option is given as this word, or left out
 abbrev pub HasWord : Text → List Row → Option (Bor Text) → Type 0
 HasWord id rows word = first_of id rows ≡ option_map (λ word. word.now) word
+
+-- the flag is given, or left out
+abbrev pub HasFlag : Text → List Row → Bool → Type 0
+HasFlag id rows given = one_of id rows ≡ Some (bool_text given)
+
+-- the name of a strategy
+abbrev pub strategy_name : StrategyWord → Text
+strategy_name Least = codes "least"
+strategy_name Lead = codes "lead"
+
+-- the option names this strategy, or is left out and it is the default
+abbrev pub HasStrategy : List Row → StrategyWord → Type 0
+HasStrategy rows strategy = first_of (codes "strategy") rows ≡ Some (strategy_name strategy)
 
 abbrev pub delays : ℕ → ℕ → Delays
 delays rise fall = record { rise = rise; fall = fall }
@@ -160,6 +218,7 @@ pub record AsksBound (rows : List Row) (asked : BoundRequest) : Type 0 where
   pub first : HasWord (codes "first") rows asked.first
   pub second : HasWord (codes "second") rows asked.second
   pub at : HasWord (codes "at") rows asked.at
+  pub edges : HasFlag (codes "edges") rows asked.edges
   pub default : HasDefault rows (delays asked.rise asked.fall)
 
 -- the words of `worst` ask for this
@@ -171,6 +230,7 @@ pub record AsksWorst (rows : List Row) (asked : WorstRequest) : Type 0 where
   pub flips : HasCount (codes "flips") rows asked.flips
   pub at : HasWord (codes "at") rows asked.at
   pub workers : HasWorkers rows asked.workers
+  pub strategy : HasStrategy rows asked.strategy
   pub budget : HasBudget rows asked.budget
   pub certificate : HasWord (codes "cert") rows asked.certificate
   pub vcd : HasWord (codes "vcd") rows asked.vcd

@@ -2,13 +2,13 @@
 
 ghost use Rattle.std.specs.Prelude.{◌≡◌, ◌<◌, ◌^◌, ℕ, codes, map, false, IfOk, IfErr, IfSome, IfNone};
 ghost use Rattle.clap.specs.Words.{app_of, rule_of, found_of, rows_of, subcommand_rows_of, HasKind};
-ghost use Rattle.td_command.specs.CommandLine.{needed, option, number_option, count_option, sim_command, path_command, bound_command, worst_command, check_command, program};
-ghost use Rattle.td_command.specs.CommandLine.{with_pair, with_default, with_moments, with_vcd, with_output, with_cube, with_admitted, with_search};
-ghost use Rattle.td_command.specs.CommandLine.{HasNumber, HasCount, HasDefault, HasWorkers, HasBudget, AsksSim, AsksPath, AsksBound, AsksWorst, AsksCheck, EnteredAsks, kinds_of, Asks, IsAnswered};
+ghost use Rattle.td_command.specs.CommandLine.{needed, option, number_option, count_option, name_option, flag, sim_command, path_command, bound_command, worst_command, check_command, program_of};
+ghost use Rattle.td_command.specs.CommandLine.{with_pair, with_default, with_moments, with_vcd, with_output, with_cube, with_edges, with_admitted, with_search, IsOfStrategies};
+ghost use Rattle.td_command.specs.CommandLine.{HasNumber, HasCount, HasFlag, HasStrategy, HasDefault, HasWorkers, HasBudget, AsksSim, AsksPath, AsksBound, AsksWorst, AsksCheck, EnteredAsks, kinds_of, Asks, IsAnswered};
 
 use crate::help::{BOUND_HELP, CHECK_HELP, HELP, PATH_HELP, SIM_HELP, VERSION, WORST_HELP};
 use clap::builder::ValueParser;
-use clap::{Arg, ArgMatches, Command, Error};
+use clap::{Arg, ArgAction, ArgMatches, Command, Error};
 use std::alloc::{AllocError, Global};
 use std::convert::AsStr;
 use td_gates::Delay;
@@ -51,9 +51,18 @@ pub struct BoundRequest<'a> {
     pub second: Option<&'a str>,
     /// The moment at which each input takes its second level.
     pub at: Option<&'a str>,
+    /// Whether the bounds by edges are asked for too.
+    pub edges: bool,
     /// The delays of gates that state none.
     pub rise: u32,
     pub fall: u32,
+}
+
+/// By which strategy a search goes.
+#[derive(Clone, Copy, Debug)]
+pub enum StrategyWord {
+    Least,
+    Lead,
 }
 
 /// The search for the worst delay.
@@ -70,6 +79,7 @@ pub struct WorstRequest<'a> {
     pub at: Option<&'a str>,
     /// How many threads search, from 1 to 64.
     pub workers: u32,
+    pub strategy: StrategyWord,
     /// The most nodes that the search handles, at most 10,000,000.
     pub budget: u32,
     /// Where the certificate of an exact answer goes.
@@ -146,6 +156,34 @@ fn count_option<'a>(alloc: Global, id: &'a str, help: &'a str) -> Arg<'a>
     ensures local { result.global ≡ false }
 {
     option(alloc, id, "N", help).value_parser(ValueParser::unsigned(0, u64::MAX))
+}
+
+/// An option with one of a few names, and the name where it is left out.
+fn name_option<'a>(
+    alloc: Global,
+    id: &'a str,
+    value: &'a str,
+    names: &'a [&'a str],
+    left_out: &'a str,
+    help: &'a str,
+) -> Arg<'a>
+    ensures rule { rule_of result ≡ name_option id.entry.now names.entry left_out.entry.now }
+    ensures local { result.global ≡ false }
+{
+    option(alloc, id, value, help)
+        .value_parser(ValueParser::Names(names))
+        .default_value(left_out)
+}
+
+/// An option without a value.
+fn flag<'a>(alloc: Global, id: &'a str, help: &'a str) -> Arg<'a>
+    ensures rule { rule_of result ≡ flag id.entry.now }
+    ensures local { result.global ≡ false }
+{
+    Arg::new(alloc, id)
+        .long(id)
+        .action(ArgAction::SetTrue)
+        .help(help)
 }
 
 fn file<'a>(alloc: Global) -> Arg<'a>
@@ -257,6 +295,18 @@ fn with_cube<'a>(alloc: Global, command: Command<'a>) -> Result<Command<'a>, All
     command.arg(first)?.arg(second)
 }
 
+/// Whether the bounds by edges are asked for, as a flag.
+fn with_edges<'a>(alloc: Global, command: Command<'a>) -> Result<Command<'a>, AllocError>
+    ensures { IfOk result (λ new. app_of new ≡ with_edges (app_of command.entry)) }
+{
+    let edges = flag(
+        alloc,
+        "edges",
+        "Bounds by edges too, each net's rise and fall apart (e), and by edges and possible levels at once (n)",
+    );
+    command.arg(edges)
+}
+
 /// The pairs that a search admits, as options.
 fn with_admitted<'a>(alloc: Global, command: Command<'a>) -> Result<Command<'a>, AllocError>
     ensures { IfOk result (λ new. app_of new ≡ with_admitted (app_of command.entry)) }
@@ -277,7 +327,7 @@ fn with_admitted<'a>(alloc: Global, command: Command<'a>) -> Result<Command<'a>,
 
 /// How a search goes, and where its certificate goes, as options.
 fn with_search<'a>(alloc: Global, command: Command<'a>) -> Result<Command<'a>, AllocError>
-    ensures { IfOk result (λ new. app_of new ≡ with_search (app_of command.entry)) }
+    ensures { IfOk result (λ new. IsOfStrategies (λ names. with_search names (app_of command.entry)) (app_of new)) }
 {
     let workers = number_option(
         alloc,
@@ -286,6 +336,15 @@ fn with_search<'a>(alloc: Global, command: Command<'a>) -> Result<Command<'a>, A
         MOST_WORKERS,
         "1",
         "How many threads search, from 1 to 64",
+    );
+    let strategy = name_option(
+        alloc,
+        "strategy",
+        "NAME",
+        &["least", "lead"],
+        "least",
+        "How the search goes. `lead` is for circuits where `least` doesn't end, as adders, comparators and multipliers: \
+it climbs to a first pair and bounds by edges, in one thread whatever --workers says; its certificates are of version 4",
     );
     let budget = number_option(
         alloc,
@@ -301,7 +360,11 @@ fn with_search<'a>(alloc: Global, command: Command<'a>) -> Result<Command<'a>, A
         "OUT",
         "Writes the certificate of an exact answer to this file",
     );
-    command.arg(workers)?.arg(budget)?.arg(certificate)
+    command
+        .arg(workers)?
+        .arg(strategy)?
+        .arg(budget)?
+        .arg(certificate)
 }
 
 fn sim_command<'a>(alloc: Global) -> Result<Command<'a>, AllocError>
@@ -333,11 +396,12 @@ fn bound_command<'a>(alloc: Global) -> Result<Command<'a>, AllocError>
         .about("Bounds the delay of all pairs of vectors that two patterns allow")
         .after_help(BOUND_HELP)
         .arg(file(alloc))?;
-    with_default(alloc, with_moments(alloc, with_cube(alloc, command)?)?)
+    let command = with_moments(alloc, with_cube(alloc, command)?)?;
+    with_default(alloc, with_edges(alloc, command)?)
 }
 
 fn worst_command<'a>(alloc: Global) -> Result<Command<'a>, AllocError>
-    ensures { IfOk result (λ new. app_of new ≡ worst_command) }
+    ensures { IfOk result (λ new. IsOfStrategies worst_command (app_of new)) }
 {
     let command = Command::new(alloc, "worst")
         .about(
@@ -366,7 +430,7 @@ fn check_command<'a>(alloc: Global) -> Result<Command<'a>, AllocError>
 }
 
 fn command<'a>(alloc: Global) -> Result<Command<'a>, AllocError>
-    ensures { IfOk result (λ new. app_of new ≡ program) }
+    ensures { IfOk result (λ new. IsOfStrategies program_of (app_of new)) }
 {
     Command::new(alloc, "tdelay")
         .about("Worst transition delay of a netlist of Verilog gate primitives")
@@ -407,6 +471,13 @@ fn count(matches: &ArgMatches<'_>, id: &str) -> Option<Option<u64>>
             Some(Some(number))
         }
     }
+}
+
+/// Whether a flag is given.
+fn flag_given(matches: &ArgMatches<'_>, id: &str) -> Option<bool>
+    ensures { IsAnswered (HasFlag id.now (rows_of (found_of matches.now))) result }
+{
+    matches.get_one::<bool>(id)
 }
 
 /// The delay of gates that state none.
@@ -458,12 +529,14 @@ fn bound_of<'a>(matches: &ArgMatches<'a>) -> Option<BoundRequest<'a>>
     ensures { IsAnswered (AsksBound (rows_of (found_of matches.now))) result }
 {
     let file = matches.get_str("FILE")?;
+    let edges = flag_given(matches, "edges")?;
     let default = default(matches)?;
     Some(BoundRequest {
         file,
         first: matches.get_str("first"),
         second: matches.get_str("second"),
         at: matches.get_str("at"),
+        edges,
         rise: default.rise,
         fall: default.fall,
     })
@@ -478,6 +551,17 @@ fn workers(matches: &ArgMatches<'_>) -> Option<u32>
         Some(workers)
     } else {
         None
+    }
+}
+
+/// By which strategy the search goes.
+fn strategy(matches: &ArgMatches<'_>) -> Option<StrategyWord>
+    ensures { IsAnswered (HasStrategy (rows_of (found_of matches.now))) result }
+{
+    match matches.get_str("strategy")? {
+        "least" => Some(StrategyWord::Least),
+        "lead" => Some(StrategyWord::Lead),
+        _ => None,
     }
 }
 
@@ -499,6 +583,7 @@ fn worst_of<'a>(matches: &ArgMatches<'a>) -> Option<WorstRequest<'a>>
     let file = matches.get_str("FILE")?;
     let flips = count(matches, "flips")?;
     let workers = workers(matches)?;
+    let strategy = strategy(matches)?;
     let budget = budget(matches)?;
     let default = default(matches)?;
     Some(WorstRequest {
@@ -509,6 +594,7 @@ fn worst_of<'a>(matches: &ArgMatches<'a>) -> Option<WorstRequest<'a>>
         flips,
         at: matches.get_str("at"),
         workers,
+        strategy,
         budget,
         certificate: matches.get_str("cert"),
         vcd: matches.get_str("vcd"),

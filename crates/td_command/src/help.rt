@@ -32,12 +32,14 @@ Example:
   tdelay path c17.v 00000 11111 --output N22";
 
 pub const BOUND_HELP: &str = "\
-Example:
-  tdelay bound c17.v --first 0.... --second 1....";
+Examples:
+  tdelay bound c17.v --first 0.... --second 1....
+  tdelay bound c17.v --edges";
 
 pub const WORST_HELP: &str = "\
-Example:
+Examples:
   tdelay worst c17.v --workers 4 --cert c17.cert --vcd c17.vcd
+  tdelay worst adder_8.v --strategy lead --cert adder_8.cert
 It ends with status 3 where the budget or memory cuts the search short.";
 
 pub const CHECK_HELP: &str = "\

@@ -6,5 +6,5 @@ mod help;
 pub mod laws;
 
 pub use command::{
-    BoundRequest, CheckRequest, PathRequest, Request, SimRequest, WorstRequest, parse,
+    BoundRequest, CheckRequest, PathRequest, Request, SimRequest, StrategyWord, WorstRequest, parse,
 };

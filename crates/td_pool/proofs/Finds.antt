@@ -1,19 +1,22 @@
 -- What was found of a cube that is handled as it was decided, and lists of what is true.
 use Rattle.std.proofs.Common.{◌≡◌, ℕ, ◌+◌, ◌≤◌, List, [], ◌∷◌, ◌++◌, length, ap, subst, ◌∙◌, length-append, arith}
 use Rattle.std.specs.List.{AllByRecursion}
+use Rattle.td_circuit.specs.Numbering.{Numbered}
 use Rattle.td_domain.specs.declared.cubes.Trit.{Trit}
+use Rattle.td_domain.specs.Admits.{Admitted}
 use Rattle.td_search.specs.declared.deciding.Decision.{Decision}
 use Rattle.td_search.specs.declared.deciding.Decision.TheVariants as decision
 use Rattle.td_search.specs.Deciding.{IsMeasured, IsDecided}
 use Rattle.td_search.specs.Findings.{IsTrueOf}
-use Rattle.td_search.specs.Problems.{Problem}
+use Rattle.td_search.specs.Problems.{problem}
 use Rattle.td_search.specs.Representatives.{representative}
 use Rattle.td_pool.specs.Truth.{found_by}
 
-pub true_finding : (asked : Problem) (cube : List Trit) (time cut : ℕ) (d : Decision) → IsMeasured asked (representative asked.admit cube) time → time ≤ cut
-    → IsDecided asked cube cut d → IsTrueOf asked cube (found_by d time)
-true_finding asked cube time cut (decision.Close mark bound) measured low decided = (decided.0, decided.1)
-true_finding asked cube time cut (decision.Split position bound) measured low decided =
+pub true_finding : (circuit : Numbered) (admit : Admitted) (cube : List Trit) (time cut : ℕ) (d : Decision)
+    → IsMeasured (problem circuit admit) (representative admit cube) time → time ≤ cut
+    → IsDecided (problem circuit admit) cube cut d → IsTrueOf (problem circuit admit) cube (found_by d time)
+true_finding circuit admit cube time cut (decision.Close mark bound) measured low decided = (decided.0, decided.1)
+true_finding circuit admit cube time cut (decision.Split position bound) measured low decided =
     let above = decided.2 in (decided.0, decided.1, decided.3, measured.is, omega arith)
 
 -- one more

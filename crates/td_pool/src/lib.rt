@@ -10,8 +10,10 @@ mod hints;
 pub mod laws;
 mod pool;
 mod shared;
+mod strategies;
 mod working;
 
 pub use deck::Deck;
 pub use hints::Hints;
 pub use pool::{worst, worst_by};
+pub use strategies::worst_with;

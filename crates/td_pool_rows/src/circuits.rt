@@ -25,12 +25,17 @@ pub const RECONVERGENT: &str = "buf #1 p1(p,b); buf #1 p2(q,b); xor #3 g(y,a,p,q
 /// An or with a slow arm.
 pub const SLOW_ARM: &str = "buf #4 s(t,a); or #1 g(y,b,t);";
 
+/// The text of a module with these inputs and gates, and the output y.
+pub fn module_of(alloc: Global, inputs: &str, gates: &str) -> Result<String, AllocError> {
+    format!(in alloc;
+        "module t ({inputs}, y);\ninput {inputs};\noutput y;\n{gates}\nendmodule\n"
+    )
+}
+
 /// A circuit with these inputs and gates, and the output y. The error is want of memory, or a text that is refused.
 pub fn circuit_of(alloc: Global, inputs: &str, gates: &str) -> Result<Circuit, AllocError> {
     let unit = Delay { rise: 1, fall: 1 };
-    let text = format!(in alloc;
-        "module t ({inputs}, y);\ninput {inputs};\noutput y;\n{gates}\nendmodule\n"
-    )?;
+    let text = module_of(alloc, inputs, gates)?;
     let Ok(netlist) = read(alloc, text.as_bytes(), unit) else {
         return Err(AllocError);
     };

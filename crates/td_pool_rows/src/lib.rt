@@ -6,6 +6,8 @@ mod circuits;
 #[cfg(test)]
 mod decks;
 #[cfg(test)]
+mod leads;
+#[cfg(test)]
 mod probers;
 #[cfg(test)]
 mod refusals;

@@ -78,12 +78,12 @@ count_states states = count_by is_handled states
 counted : (s : State) (states : List State) → count_states (s ∷ states) ≡ cond (is_handled s) 1 0 + count_states states
 counted s states = sum_by-cons (λ t. cond (is_handled t) 1 0) s states
 
-module _ (IsDelay : Pair → ℕ → Type 0) (IsBoundOf : List Trit → ℕ → Type 0) (representative : List Trit → Pair) (top : List Trit) (best budget : ℕ) where
+module _ (IsDelay : Pair → ℕ → Type 0) (IsBoundOf : List Trit → ℕ → Type 0) (SplitsAbove : List Trit → ℕ → Type 0) (top : List Trit) (best budget : ℕ) where
   abbrev Wide : List Trit → Type 0
-  Wide cube = HadToSplit IsDelay IsBoundOf representative best cube
+  Wide cube = HadToSplit IsDelay IsBoundOf SplitsAbove best cube
 
   abbrev Settled : List Place → List State → Type 0
-  Settled places states = AreSettled IsDelay IsBoundOf representative best places states
+  Settled places states = AreSettled IsDelay IsBoundOf SplitsAbove best places states
 
   abbrev board : List Node → List Node → Board
   board nodes order = record { cube = top; workers = 1; budget = budget; nodes = nodes; order = order }
@@ -293,13 +293,13 @@ module _ (IsDelay : Pair → ℕ → Type 0) (IsBoundOf : List Trit → ℕ → 
       same_lease : (lease : Lease) (p : ℕ) → Splitting (lease_of n place.cube) position ≡ Splitting lease p → Wide place.cube → Wide lease.cube
       same_lease lease p e w = let same : lease_of n place.cube ≡ lease = cc in subst (λ (l : Lease). Wide l.cube) same w
 
-pub trees_are_led_to : (IsDelay : Pair → ℕ → Type 0) (IsBoundOf : List Trit → ℕ → Type 0) (representative : List Trit → Pair) → TreesAreLedTo IsDelay IsBoundOf representative
-trees_are_led_to IsDelay IsBoundOf representative top pair best states inside reached settled =
+pub trees_are_led_to : (IsDelay : Pair → ℕ → Type 0) (IsBoundOf : List Trit → ℕ → Type 0) (SplitsAbove : List Trit → ℕ → Type 0) → TreesAreLedTo IsDelay IsBoundOf SplitsAbove
+trees_are_led_to IsDelay IsBoundOf SplitsAbove top pair best states inside reached settled =
     let budget : ℕ = count_states states in
     let word : ℕ = max 0 best in
     let same : word ≡ best = omega arith in
     let seen : ℕ → ℕ = sees (λ v. 0) 0 word in
-    let l = leads_on IsDelay IsBoundOf representative top best budget states (root_place top ∷ []) [] (0 ∷ []) [] seen settled refl refl refl (omega arith) same in
+    let l = leads_on IsDelay IsBoundOf SplitsAbove top best budget states (root_place top ∷ []) [] (0 ∷ []) [] seen settled refl refl refl (omega arith) same in
     let s : World = record { board = record { cube = top; workers = 1; budget = budget; nodes = root ∷ []; order = [] }; best = best; seen = seen } in
     record {
       workers = 1;
@@ -318,7 +318,7 @@ trees_are_led_to IsDelay IsBoundOf representative top pair best states inside re
     no_graft_at events none lease done (zero, lt, is) = let other : Raising 0 best ≡ Grafting lease done = ap (λ (x : Event × Reply). x.0) is in cc
     no_graft_at events none lease done (suc k, lt, is) = none lease done (k, omega arith, is)
 
-    at : (events : List (Event × Reply)) → ((lease : Lease) (position : ℕ) → Contains events (Splitting lease position, Did) → HadToSplit IsDelay IsBoundOf representative best lease.cube)
-        → (lease : Lease) (position : ℕ) → Contains ((Raising 0 best, Saw (max 0 best)) ∷ events) (Splitting lease position, Did) → HadToSplit IsDelay IsBoundOf representative best lease.cube
+    at : (events : List (Event × Reply)) → ((lease : Lease) (position : ℕ) → Contains events (Splitting lease position, Did) → HadToSplit IsDelay IsBoundOf SplitsAbove best lease.cube)
+        → (lease : Lease) (position : ℕ) → Contains ((Raising 0 best, Saw (max 0 best)) ∷ events) (Splitting lease position, Did) → HadToSplit IsDelay IsBoundOf SplitsAbove best lease.cube
     at events wide lease position (zero, lt, is) = let other : Raising 0 best ≡ Splitting lease position = ap (λ (x : Event × Reply). x.0) is in cc
     at events wide lease position (suc k, lt, is) = wide lease position (k, omega arith, is)

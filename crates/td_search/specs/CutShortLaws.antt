@@ -16,11 +16,11 @@ shape (Split position) = Split position
 shape (Closed mark bound cut) = Closed mark bound bound
 shape _ = Open
 
-module _ (IsDelay : Pair → ℕ → Type 0) (IsBoundOf : List Trit → ℕ → Type 0) (representative : List Trit → Pair) where
+module _ (IsDelay : Pair → ℕ → Type 0) (IsBoundOf : List Trit → ℕ → Type 0) (SplitsAbove : List Trit → ℕ → Type 0) where
   -- where nothing was handled, a search is cut short with the delay of a pair and the greater of it and the root's bound
   abbrev pub CutShortAtOnce : Type 0
   CutShortAtOnce = (root : List Trit) (pair : Pair) (delay bound : ℕ) → IsIn pair root → IsDelay pair delay → IsBoundOf root bound
-      → IsCutShort IsDelay IsBoundOf representative root pair delay (max bound delay) 0
+      → IsCutShort IsDelay IsBoundOf SplitsAbove root pair delay (max bound delay) 0
 
   -- no pair of a cube is above a bound of the cube
   abbrev pub AreAbove : Type 0
@@ -28,7 +28,7 @@ module _ (IsDelay : Pair → ℕ → Type 0) (IsBoundOf : List Trit → ℕ → 
 
   -- No pair of the root is above the upper figure of a search that was cut short, and the lower is the delay of its pair.
   abbrev pub CutShortIsBetween : Type 0
-  CutShortIsBetween = AreAbove → (root : List Trit) (pair : Pair) (low high count : ℕ) → IsCutShort IsDelay IsBoundOf representative root pair low high count
+  CutShortIsBetween = AreAbove → (root : List Trit) (pair : Pair) (low high count : ℕ) → IsCutShort IsDelay IsBoundOf SplitsAbove root pair low high count
       → IsDelay pair low × (low ≤ high) × ((other : Pair) (delay : ℕ) → IsIn other root → IsDelay other delay → delay ≤ high)
 
   -- an honest run leads to this tree with this best, and splits only cubes that had to be split, in its grafts too
@@ -41,11 +41,11 @@ module _ (IsDelay : Pair → ℕ → Type 0) (IsBoundOf : List Trit → ℕ → 
     pub best : end.best ≡ low
     pub tree : map (λ x. shape x.state) end.board.nodes ≡ map shape states
     pub had_to_split : (lease : Lease) (position : ℕ) → Contains events (Splitting lease position, Did)
-        → HadToSplit IsDelay IsBoundOf representative low lease.cube
+        → HadToSplit IsDelay IsBoundOf SplitsAbove low lease.cube
     pub had_to_split_below : (lease : Lease) (done : List Leaf) (leaf : Leaf) (position : ℕ) → Contains events (Grafting lease done, Did)
-        → Contains done leaf → leaf.node.state ≡ Split position → HadToSplit IsDelay IsBoundOf representative low leaf.cube
+        → Contains done leaf → leaf.node.state ≡ Split position → HadToSplit IsDelay IsBoundOf SplitsAbove low leaf.cube
 
   -- An honest run leads to each settled tree whose best is a pair's delay.
   abbrev pub TreesAreLedTo : Type 0
   TreesAreLedTo = (root : List Trit) (pair : Pair) (low : ℕ) (states : List State) → IsIn pair root → IsDelay pair low
-      → AreSettled IsDelay IsBoundOf representative low (root_place root ∷ []) states → IsLedTo root low states
+      → AreSettled IsDelay IsBoundOf SplitsAbove low (root_place root ∷ []) states → IsLedTo root low states

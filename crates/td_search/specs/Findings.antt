@@ -11,16 +11,16 @@ use Rattle.td_search.specs.declared.findings.Finding.{Finding}
 use Rattle.td_search.specs.declared.findings.Finding.TheVariants.{Closed, Split}
 use Rattle.td_search.specs.declared.findings.Trail.{Trail}
 use Rattle.td_search.specs.Deciding.{IsMarked}
-use Rattle.td_search.specs.Problems.{Problem, has_delay, has_bound, IsAbove}
-use Rattle.td_search.specs.Representatives.{representative}
+use Rattle.td_search.specs.Problems.{Problem, has_bound, IsAbove}
+use Rattle.td_search.specs.Splitting.{splits_above}
 
 -- What was found is true of a cube: a bound is its mark's, and at least each delay of the cube's pairs. A cube that was split has
--- the strongest domain's bound, and its representative a delay, which is less.
+-- the strongest domain's bound, and may be split above a delay that is less.
 abbrev pub IsTrueOf : Problem → List Trit → Finding → Type 0
 IsTrueOf asked cube (Closed mark bound) = IsMarked asked cube mark bound × IsAbove asked cube bound
 IsTrueOf asked cube (Split position bound delay) =
     (slice_get cube position ≡ Some Free) × has_bound asked cube bound × (bound < 10 ^ 15)
-    × has_delay asked (representative asked.admit cube) delay × (delay < bound)
+    × splits_above asked cube delay × (delay < bound)
 
 -- the position at which a cube was split, if it was
 abbrev pub split_at : Finding → Option ℕ
@@ -40,7 +40,7 @@ IsTrueEvidence asked evidence = AreTrue asked (evidence.cube ∷ []) evidence.fi
 abbrev pub IsTrueTrail : Problem → Trail → Type 0
 IsTrueTrail asked trail = All (IsTrueEvidence asked) trail.evidence.items
 
--- it shows what was done also where this is the best time: a bound is at most the best, and a representative's delay too
+-- it shows what was done also where this is the best time: a bound is at most the best, and a delay above which a cube was split too
 abbrev pub IsUsable : ℕ → Finding → Type 0
 IsUsable best (Closed mark bound) = bound ≤ best
 IsUsable best (Split position bound delay) = delay ≤ best

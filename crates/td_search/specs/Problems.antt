@@ -1,4 +1,4 @@
--- What a search is asked: the delays of the admitted pairs of a setting.
+-- What a search is asked: the delays of the admitted pairs of a setting, and by which strategy.
 use Rattle.std.specs.Prelude.{ℕ, ◌≤◌, List, Some}
 use Rattle.td_circuit.specs.Settings.{Setting}
 use Rattle.td_circuit.specs.Numbering.{Numbered, setting}
@@ -7,15 +7,28 @@ use Rattle.td_domain.specs.declared.cubes.Trit.{Trit}
 use Rattle.td_domain.specs.Pairs.{Pair}
 use Rattle.td_domain.specs.Cubes.{IsIn}
 use Rattle.td_domain.specs.Admits.{Admitted, IsAdmitted}
-use Rattle.td_certificate.specs.declared.tree.BoundedBy.TheVariants.{Both}
+use Rattle.td_certificate.specs.declared.tree.BoundedBy.{BoundedBy}
+use Rattle.td_certificate.specs.declared.tree.BoundedBy.TheVariants.{Both, EdgesAndPossible}
 use Rattle.td_certificate.specs.Accepts.{IsBoundBy}
+use Rattle.td_search.specs.declared.strategy.Strategy.{Strategy}
+use Rattle.td_search.specs.declared.strategy.Strategy.TheVariants.{Least, Lead}
 
 pub record Problem : Type 0 where
   pub setting : Setting
   pub admit : Admitted
+  pub strategy : Strategy
 
+abbrev pub problem_by : Strategy → Numbered → Admitted → Problem
+problem_by strategy circuit admit = record { setting = setting circuit; admit = admit; strategy = strategy }
+
+-- with the strategy that is the default
 abbrev pub problem : Numbered → Admitted → Problem
-problem circuit admit = record { setting = setting circuit; admit = admit }
+problem circuit admit = problem_by Least circuit admit
+
+-- the strongest domain by which a strategy bounds cubes
+abbrev pub strongest : Strategy → BoundedBy
+strongest Least = Both
+strongest Lead = EdgesAndPossible
 
 -- the pair is admitted, and has this delay
 abbrev pub has_delay : Problem → Pair → ℕ → Type 0
@@ -23,7 +36,7 @@ has_delay asked pair delay = IsAdmitted asked.admit pair × IsDelayOfBits asked.
 
 -- the strongest domain bounds the cube so
 abbrev pub has_bound : Problem → List Trit → ℕ → Type 0
-has_bound asked cube bound = IsBoundBy Both asked.setting cube (Some bound)
+has_bound asked cube bound = IsBoundBy (strongest asked.strategy) asked.setting cube (Some bound)
 
 -- no admitted pair of the cube has a greater delay
 abbrev pub IsAbove : Problem → List Trit → ℕ → Type 0

@@ -7,6 +7,7 @@ use crate::representatives::write_representative;
 use std::alloc::{AllocError, Global};
 use std::marker::Model;
 use td_domain::{Admit, Cube, Pair};
+use td_lead::Timed;
 
 /// A pair and its delay in steps. Its room was taken once, so that a better pair takes its place without memory.
 #[derive(Drop)]
@@ -54,6 +55,17 @@ impl Best {
     {
         write_representative(cube, admit, &mut self.first, &mut self.second);
         self.time = time;
+    }
+
+    /// Puts this pair and its delay in the place of the pair. Takes no memory.
+    pub fn put(&mut self, timed: &Timed)
+        requires first { length self.old.pair.first ≡ length timed.now.pair.first }
+        requires second { length self.old.pair.second ≡ length timed.now.pair.second }
+        ensures { self.new ≡ record { time = timed.now.time; pair = timed.now.pair } }
+    {
+        self.first.copy_from_slice(timed.pair.first());
+        self.second.copy_from_slice(timed.pair.second());
+        self.time = timed.time;
     }
 
     /// The pair.

@@ -1,9 +1,10 @@
 //! What workers found of cubes, and hand back when they end.
 
 ghost use Rattle.std.specs.Prelude.{◌≡◌, IfOk, IfSome};
-ghost use Rattle.td_search.specs.Problems.{problem};
+ghost use Rattle.td_search.specs.Problems.{problem_by};
 ghost use Rattle.td_search.specs.Findings.{IsTrueEvidence, IsTrueTrail};
 
+use crate::strategy::Strategy;
 use std::alloc::{AllocError, Global};
 use td_book::Mark;
 use td_circuit::Circuit;
@@ -14,7 +15,8 @@ use td_domain::{Admit, Cube};
 pub enum Finding {
     /// A bound of the cube, for a leaf that was closed.
     Closed(Mark, u64),
-    /// For a cube that was split the position, the strongest domain's bound, and the delay of its representative.
+    /// For a cube that was split the position, the strongest domain's bound, and a delay above which it may be split, such as with
+    /// `least` that of its representative.
     Split(u32, u64, u64),
 }
 
@@ -50,9 +52,15 @@ impl Trail {
     }
 
     /// The evidence of the node of this number, if there is some.
-    pub fn evidence_of(&self, circuit: &Circuit, admit: &Admit, number: u32) -> Option<&Evidence>
-        requires { IsTrueTrail (problem circuit.now admit.now) self.now }
-        ensures { IfSome result (λ evidence. IsTrueEvidence (problem circuit.now admit.now) evidence.now) }
+    pub fn evidence_of(
+        &self,
+        circuit: &Circuit,
+        admit: &Admit,
+        strategy: Strategy,
+        number: u32,
+    ) -> Option<&Evidence>
+        requires { IsTrueTrail (problem_by strategy circuit.now admit.now) self.now }
+        ensures { IfSome result (λ evidence. IsTrueEvidence (problem_by strategy circuit.now admit.now) evidence.now) }
     {
         let place = (*self.places.get(number as usize)?)?;
         self.evidence.get(place as usize)

@@ -5,17 +5,18 @@ ghost use Rattle.std.specs.List.{All};
 ghost use Rattle.td_domain.specs.declared.cubes.Trit.{Trit};
 ghost use Rattle.td_domain.specs.declared.cubes.Trit.TheVariants.{Free};
 ghost use Rattle.td_book.specs.Grafting.{cubes_left};
-ghost use Rattle.td_search.specs.CutShort.{HadToSplit};
 ghost use Rattle.td_search.specs.Findings.{IsTrueOf, IsUsable, AreTrue, IsTrueEvidence, IsTrueTrail, state_of};
-ghost use Rattle.td_search.specs.Problems.{problem, has_delay, has_bound, IsPart};
-ghost use Rattle.td_search.specs.Progress.{IsUnderWay};
-ghost use Rattle.td_search.specs.Representatives.{representative};
+ghost use Rattle.td_search.specs.Problems.{problem, problem_by, has_bound, IsPart};
+ghost use Rattle.td_search.specs.Progress.{IsUnderWay, MustSplit};
 ghost use Rattle.td_search.specs.Sheeted.{IsScratch};
+ghost use Rattle.td_search.specs.declared.strategy.Strategy.TheVariants.{Lead};
 
 use crate::findings::{Evidence, Finding, Trail};
+use crate::leading::strongest_with_edges;
 use crate::measuring::measure;
 use crate::progress::Search;
 use crate::scratch::Scratch;
+use crate::strategy::Strategy;
 use std::alloc::{AllocError, Global};
 use td_book::{Lease, Node, State, Subtree};
 use td_circuit::Circuit;
@@ -29,15 +30,16 @@ fn is_free_at(cube: &Cube, position: usize) -> bool
 }
 
 /// Splits or closes the next node of a private tree as it was found of its cube, if that is usable under this best time: a bound is
-/// at most the best, and so is the delay of the representative of a cube that is split. Answers whether it is.
-pub fn dig(
+/// at most the best, and so is the delay above which a cube was split. Answers whether it is.
+pub fn dig_by(
     circuit: &Circuit,
     admit: &Admit,
+    strategy: Strategy,
     subtree: &mut Subtree,
     finding: Finding,
     best: u64,
 ) -> bool
-    requires next { (cube : List Trit) × (rest : List (List Trit)) × (cubes_left subtree.old.states (subtree.old.cube ∷ []) ≡ cube ∷ rest) × IsTrueOf (problem circuit.now admit.now) cube finding }
+    requires next { (cube : List Trit) × (rest : List (List Trit)) × (cubes_left subtree.old.states (subtree.old.cube ∷ []) ≡ cube ∷ rest) × IsTrueOf (problem_by strategy circuit.now admit.now) cube finding }
     requires room { length subtree.old.states < subtree.old.allowance }
     ensures usable { IsTrue result ↔ IsUsable best finding }
     ensures done { IsTrue result → subtree.new ≡ record subtree.old { states = subtree.old.states ++ state_of best finding ∷ [] } }
@@ -51,16 +53,34 @@ pub fn dig(
     true
 }
 
+/// As `dig_by` with `least`.
+pub fn dig(
+    circuit: &Circuit,
+    admit: &Admit,
+    subtree: &mut Subtree,
+    finding: Finding,
+    best: u64,
+) -> bool
+    requires next { (cube : List Trit) × (rest : List (List Trit)) × (cubes_left subtree.old.states (subtree.old.cube ∷ []) ≡ cube ∷ rest) × IsTrueOf (problem circuit.now admit.now) cube finding }
+    requires room { length subtree.old.states < subtree.old.allowance }
+    ensures usable { IsTrue result ↔ IsUsable best finding }
+    ensures done { IsTrue result → subtree.new ≡ record subtree.old { states = subtree.old.states ++ state_of best finding ∷ [] } }
+    ensures same { result ≡ false → subtree.new ≡ subtree.old }
+{
+    dig_by(circuit, admit, Strategy::Least, subtree, finding, best)
+}
+
 // Splits and closes as many nodes of a private tree as were found and are usable under this best time. Answers how many.
 fn dig_again(
     circuit: &Circuit,
     admit: &Admit,
+    strategy: Strategy,
     subtree: &mut Subtree,
     findings: &[Finding],
     best: u64,
 ) -> usize
     requires states { subtree.old.states ≡ [] }
-    requires found { AreTrue (problem circuit.now admit.now) (subtree.old.cube ∷ []) findings.now }
+    requires found { AreTrue (problem_by strategy circuit.now admit.now) (subtree.old.cube ∷ []) findings.now }
     ensures within { result ≤ length findings.now }
     ensures subtree { subtree.new ≡ record subtree.old { states = map (state_of best) (take result findings.now) } }
     ensures usable { All (IsUsable best) (take result findings.now) }
@@ -68,7 +88,7 @@ fn dig_again(
 {
     let mut count = 0;
     for finding in findings {
-        if subtree.is_full() || !dig(circuit, admit, subtree, *finding, best) {
+        if subtree.is_full() || !dig_by(circuit, admit, strategy, subtree, *finding, best) {
             break;
         }
         count += 1;
@@ -103,14 +123,15 @@ impl Search {
         scratch: &mut Scratch,
         circuit: &Circuit,
         admit: &Admit,
+        strategy: Strategy,
         nodes: &[Node],
         trail: &Trail,
     ) -> Result<(), AllocError>
-        requires search { IsUnderWay (problem circuit.now admit.now) self.old.book.budget self.old }
+        requires search { IsUnderWay (problem_by strategy circuit.now admit.now) self.old.book.budget self.old }
         requires scratch { IsScratch circuit.now scratch.old }
         requires held { length admit.now.held ≡ length circuit.now.netlist.inputs }
-        requires trail { IsTrueTrail (problem circuit.now admit.now) trail.now }
-        ensures search { IsUnderWay (problem circuit.now admit.now) self.old.book.budget self.new }
+        requires trail { IsTrueTrail (problem_by strategy circuit.now admit.now) trail.now }
+        ensures search { IsUnderWay (problem_by strategy circuit.now admit.now) self.old.book.budget self.new }
         ensures scratch { IsScratch circuit.now scratch.new }
     {
         // By their numbers in this search the trees that come next, the first of them last. Those that are passed have none.
@@ -130,6 +151,7 @@ impl Search {
                 scratch,
                 circuit,
                 admit,
+                strategy,
                 number,
                 *node,
                 trail,
@@ -148,31 +170,32 @@ impl Search {
         scratch: &mut Scratch,
         circuit: &Circuit,
         admit: &Admit,
+        strategy: Strategy,
         number: Option<u32>,
         node: Node,
         trail: &Trail,
         coming: &mut Vec<Option<u32>>,
     ) -> Result<usize, AllocError>
-        requires search { IsUnderWay (problem circuit.now admit.now) self.old.book.budget self.old }
+        requires search { IsUnderWay (problem_by strategy circuit.now admit.now) self.old.book.budget self.old }
         requires scratch { IsScratch circuit.now scratch.old }
         requires held { length admit.now.held ≡ length circuit.now.netlist.inputs }
-        requires trail { IsTrueTrail (problem circuit.now admit.now) trail.now }
-        ensures search { IsUnderWay (problem circuit.now admit.now) self.old.book.budget self.new }
+        requires trail { IsTrueTrail (problem_by strategy circuit.now admit.now) trail.now }
+        ensures search { IsUnderWay (problem_by strategy circuit.now admit.now) self.old.book.budget self.new }
         ensures scratch { IsScratch circuit.now scratch.new }
     {
-        let Some(lease) = self.lease_again(circuit, admit, number, node.state)? else {
+        let Some(lease) = self.lease_again(circuit, admit, strategy, number, node.state)? else {
             return pass(coming, node.state);
         };
-        if let Some(evidence) = trail.evidence_of(circuit, admit, node.number)
+        if let Some(evidence) = trail.evidence_of(circuit, admit, strategy, node.number)
             && evidence.cube.is_same(&lease.cube)
         {
-            return self.graft_again(alloc, circuit, admit, lease, evidence, coming);
+            return self.graft_again(alloc, circuit, admit, strategy, lease, evidence, coming);
         }
         let State::Split(position) = node.state else {
-            self.give_back(circuit, admit, lease);
+            self.give_back(circuit, admit, strategy, lease);
             return Ok(1);
         };
-        let sides = self.split_again(alloc, scratch, circuit, admit, lease, position);
+        let sides = self.split_again(alloc, scratch, circuit, admit, strategy, lease, position);
         let Some((zero, one)) = sides else {
             return pass(coming, node.state);
         };
@@ -185,19 +208,20 @@ impl Search {
         &mut self,
         circuit: &Circuit,
         admit: &Admit,
+        strategy: Strategy,
         number: Option<u32>,
         state: State,
     ) -> Result<Option<Lease>, AllocError>
-        requires search { IsUnderWay (problem circuit.now admit.now) self.old.book.budget self.old }
+        requires search { IsUnderWay (problem_by strategy circuit.now admit.now) self.old.book.budget self.old }
         requires held { length admit.now.held ≡ length circuit.now.netlist.inputs }
-        ensures search { IsUnderWay (problem circuit.now admit.now) self.old.book.budget self.new }
+        ensures search { IsUnderWay (problem_by strategy circuit.now admit.now) self.old.book.budget self.new }
         ensures worker { IfOk result (λ answer. IfSome answer (λ lease. lease.worker ≡ 0)) }
         ensures positions { IfOk result (λ answer. IfSome answer (λ lease. length lease.cube ≡ 2 * length circuit.now.netlist.inputs)) }
         ensures part { IfOk result (λ answer. IfSome answer (λ lease. IsPart lease.cube admit.now.pins)) }
     {
         match (number, state) {
             (Some(number), State::Split(_) | State::Closed(_, _, _)) => {
-                self.lease(circuit, admit, number)
+                self.lease(circuit, admit, strategy, number)
             }
             _ => Ok(None),
         }
@@ -209,40 +233,49 @@ impl Search {
         alloc: Global,
         circuit: &Circuit,
         admit: &Admit,
+        strategy: Strategy,
         lease: Lease,
         evidence: &Evidence,
         coming: &mut Vec<Option<u32>>,
     ) -> Result<usize, AllocError>
-        requires search { IsUnderWay (problem circuit.now admit.now) self.old.book.budget self.old }
+        requires search { IsUnderWay (problem_by strategy circuit.now admit.now) self.old.book.budget self.old }
         requires cube { evidence.now.cube ≡ lease.cube }
-        requires evidence { IsTrueEvidence (problem circuit.now admit.now) evidence.now }
-        ensures { IsUnderWay (problem circuit.now admit.now) self.old.book.budget self.new }
+        requires evidence { IsTrueEvidence (problem_by strategy circuit.now admit.now) evidence.now }
+        ensures { IsUnderWay (problem_by strategy circuit.now admit.now) self.old.book.budget self.new }
     {
         let mut subtree = match Subtree::new(alloc, &lease) {
             Ok(subtree) => subtree,
             Err(error) => {
-                self.give_back(circuit, admit, lease);
+                self.give_back(circuit, admit, strategy, lease);
                 return Err(error);
             }
         };
         let count = dig_again(
             circuit,
             admit,
+            strategy,
             &mut subtree,
             &evidence.findings,
             self.best.time(),
         );
         if count == 0 {
-            self.give_back(circuit, admit, lease);
+            self.give_back(circuit, admit, strategy, lease);
             return Ok(1);
         }
-        match self.graft(circuit, admit, lease, subtree, &evidence.findings[..count]) {
+        match self.graft(
+            circuit,
+            admit,
+            strategy,
+            lease,
+            subtree,
+            &evidence.findings[..count],
+        ) {
             Ok(left) => {
                 put_before(coming, &left)?;
                 Ok(count)
             }
             Err(lease) => {
-                self.give_back(circuit, admit, lease);
+                self.give_back(circuit, admit, strategy, lease);
                 Err(AllocError)
             }
         }
@@ -256,38 +289,74 @@ impl Search {
         scratch: &mut Scratch,
         circuit: &Circuit,
         admit: &Admit,
+        strategy: Strategy,
         lease: Lease,
         position: u32,
     ) -> Option<(u32, u32)>
-        requires search { IsUnderWay (problem circuit.now admit.now) self.old.book.budget self.old }
+        requires search { IsUnderWay (problem_by strategy circuit.now admit.now) self.old.book.budget self.old }
         requires scratch { IsScratch circuit.now scratch.old }
         requires held { length admit.now.held ≡ length circuit.now.netlist.inputs }
         requires positions { length lease.cube ≡ 2 * length circuit.now.netlist.inputs }
         requires part { IsPart lease.cube admit.now.pins }
-        ensures search { IsUnderWay (problem circuit.now admit.now) self.old.book.budget self.new }
+        ensures search { IsUnderWay (problem_by strategy circuit.now admit.now) self.old.book.budget self.new }
         ensures scratch { IsScratch circuit.now scratch.new }
     {
         let position = position as usize;
         if !is_free_at(&lease.cube, position) {
-            self.give_back(circuit, admit, lease);
+            self.give_back(circuit, admit, strategy, lease);
             return None;
         }
-        let Ok(Some(bound)) = self.bound_above(alloc, scratch, circuit, admit, &lease.cube) else {
-            self.give_back(circuit, admit, lease);
+        let Ok(Some(bound)) = self.bound_above(
+            alloc,
+            scratch,
+            circuit,
+            admit,
+            strategy,
+            &lease.cube,
+        ) else {
+            self.give_back(circuit, admit, strategy, lease);
             return None;
         };
-        match self.split(circuit, admit, lease, position, bound) {
+        match self.split(circuit, admit, strategy, lease, position, bound) {
             Ok(sides) => Some(sides),
             Err(lease) => {
-                self.give_back(circuit, admit, lease);
+                self.give_back(circuit, admit, strategy, lease);
                 None
             }
         }
     }
 
-    // The strongest domain's bound of a cube, where it is above the best. Its representative is measured first. None too where no
-    // admitted pair lies in the cube. The error is want of memory.
+    // The strongest domain's bound of a cube, where it is above the best. With `least` its representative is measured first. None
+    // too where no admitted pair lies in the cube. The error is want of memory.
     fn bound_above(
+        &mut self,
+        alloc: Global,
+        scratch: &mut Scratch,
+        circuit: &Circuit,
+        admit: &Admit,
+        strategy: Strategy,
+        cube: &Cube,
+    ) -> Result<Option<u64>, AllocError>
+        requires search { IsUnderWay (problem_by strategy circuit.now admit.now) self.old.book.budget self.old }
+        requires scratch { IsScratch circuit.now scratch.old }
+        requires held { length admit.now.held ≡ length circuit.now.netlist.inputs }
+        requires positions { length cube.now ≡ 2 * length circuit.now.netlist.inputs }
+        requires part { IsPart cube.now admit.now.pins }
+        ensures search { IsUnderWay (problem_by strategy circuit.now admit.now) self.old.book.budget self.new }
+        ensures scratch { IsScratch circuit.now scratch.new }
+        ensures book { self.new.book ≡ self.old.book }
+        ensures bound { IfOk result (λ answer. IfSome answer (has_bound (problem_by strategy circuit.now admit.now) cube.now)) }
+        ensures small { IfOk result (λ answer. IfSome answer (λ bound. bound < 10 ^ 15)) }
+        ensures wide { IfOk result (λ answer. IfSome answer (λ bound. MustSplit (problem_by strategy circuit.now admit.now) self.new.best.time cube.now)) }
+    {
+        match strategy {
+            Strategy::Least => self.bound_least(alloc, scratch, circuit, admit, cube),
+            Strategy::Lead => self.bound_lead(alloc, scratch, circuit, admit, cube),
+        }
+    }
+
+    // As `bound_above`.
+    fn bound_least(
         &mut self,
         alloc: Global,
         scratch: &mut Scratch,
@@ -305,15 +374,47 @@ impl Search {
         ensures book { self.new.book ≡ self.old.book }
         ensures bound { IfOk result (λ answer. IfSome answer (has_bound (problem circuit.now admit.now) cube.now)) }
         ensures small { IfOk result (λ answer. IfSome answer (λ bound. bound < 10 ^ 15)) }
-        ensures wide { IfOk result (λ answer. IfSome answer (λ bound. HadToSplit (has_delay (problem circuit.now admit.now)) (has_bound (problem circuit.now admit.now)) (representative admit.now) self.new.best.time cube.now)) }
+        ensures wide { IfOk result (λ answer. IfSome answer (λ bound. MustSplit (problem circuit.now admit.now) self.new.best.time cube.now)) }
     {
         let _pins = admit.pins();
         if !admit.any(cube) {
             return Ok(None);
         }
         let time = measure(alloc, &mut scratch.events, circuit, admit, cube)?;
-        self.offer(circuit, admit, cube, time);
+        self.offer(circuit, admit, Strategy::Least, cube, time);
         let bound = scratch.sheets.strongest_of(alloc, circuit, cube)?;
+        Ok(if bound > self.best.time() {
+            Some(bound)
+        } else {
+            None
+        })
+    }
+
+    // As `bound_above`.
+    fn bound_lead(
+        &mut self,
+        alloc: Global,
+        scratch: &mut Scratch,
+        circuit: &Circuit,
+        admit: &Admit,
+        cube: &Cube,
+    ) -> Result<Option<u64>, AllocError>
+        requires search { IsUnderWay (problem_by Lead circuit.now admit.now) self.old.book.budget self.old }
+        requires scratch { IsScratch circuit.now scratch.old }
+        requires held { length admit.now.held ≡ length circuit.now.netlist.inputs }
+        requires positions { length cube.now ≡ 2 * length circuit.now.netlist.inputs }
+        ensures search { IsUnderWay (problem_by Lead circuit.now admit.now) self.old.book.budget self.new }
+        ensures scratch { IsScratch circuit.now scratch.new }
+        ensures book { self.new.book ≡ self.old.book }
+        ensures bound { IfOk result (λ answer. IfSome answer (has_bound (problem_by Lead circuit.now admit.now) cube.now)) }
+        ensures small { IfOk result (λ answer. IfSome answer (λ bound. bound < 10 ^ 15)) }
+        ensures wide { IfOk result (λ answer. IfSome answer (λ bound. MustSplit (problem_by Lead circuit.now admit.now) self.new.best.time cube.now)) }
+    {
+        let _pins = admit.pins();
+        if !admit.any(cube) {
+            return Ok(None);
+        }
+        let bound = strongest_with_edges(alloc, scratch, circuit, cube)?;
         Ok(if bound > self.best.time() {
             Some(bound)
         } else {

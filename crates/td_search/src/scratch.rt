@@ -3,17 +3,19 @@
 ghost use Rattle.std.specs.Prelude.{◌≡◌, ◌*◌, length, IfOk};
 ghost use Rattle.td_search.specs.Sheeted.{IsScratch};
 
+use crate::guide::Guide;
 use crate::sheets::Sheets;
 use std::alloc::{AllocError, Global};
 use td_circuit::Circuit;
 use td_domain::Cube;
 use td_event_sim::Scratch as Events;
 
-/// Room to measure pairs of a circuit, and a sheet of each domain.
+/// Room to measure pairs of a circuit, a sheet of each domain of `least`, and what `lead` needs beside, once it was asked for.
 #[derive(Drop)]
 pub struct Scratch {
     pub events: Events,
     pub sheets: Sheets,
+    pub guide: Option<Guide>,
 }
 
 impl Scratch {
@@ -27,6 +29,7 @@ impl Scratch {
         Ok(Scratch {
             events: Events::new(alloc, circuit)?,
             sheets: Sheets::new(alloc, circuit, cube)?,
+            guide: None,
         })
     }
 }

@@ -6,6 +6,10 @@ mod admitted;
 #[cfg(test)]
 mod circuits;
 #[cfg(test)]
+mod leads;
+#[cfg(test)]
 mod pairs;
+#[cfg(test)]
+mod representatives;
 #[cfg(test)]
 mod texts;

@@ -2,7 +2,7 @@
 
 ghost use Rattle.std.specs.Prelude.{◌<◌};
 
-use crate::texts::{admit_of, all_of, at, circuit_of, found, module};
+use crate::texts::{admit_of, all_of, at, circuit_of, found_by, module};
 use std::alloc::Global;
 use std::process::Abort;
 use std::test::*;
@@ -10,7 +10,7 @@ use td_circuit::Circuit;
 use td_domain::{Admit, Trit};
 use td_gates::Level;
 use td_run::waves;
-use td_search::{Answer, Cause};
+use td_search::{Answer, Cause, Strategy};
 
 /// So many bits of a number, the least first.
 fn bits_of(alloc: Global, number: usize, count: usize) -> Result<Vec<bool>, Fail> {
@@ -142,15 +142,16 @@ fn fits(
 }
 
 /// Whether a search within a budget fits the worst delay, and finds no pair exactly where none is admitted.
-fn agrees(
+fn agrees_by(
     rt: &impl Abort,
     alloc: Global,
     circuit: &Circuit,
     admit: &Admit,
     budget: u64,
     worst: Option<u64>,
+    strategy: Strategy,
 ) -> Result<bool, Fail> {
-    match found(rt, alloc, circuit, admit, budget)? {
+    match found_by(rt, alloc, circuit, admit, budget, strategy)? {
         Some(answer) => match worst {
             Some(worst) => fits(rt, alloc, circuit, admit, budget, worst, &answer),
             None => Ok(false),
@@ -167,8 +168,14 @@ fn check_budgets(rt: &impl Abort, alloc: Global, text: &str) -> Result<(), Fail>
     assert!(rt; worst.is_some());
     for budget in 0..41 {
         assert!(rt;
-            agrees(rt, alloc, &circuit, &admit, budget, worst)?,
+            agrees_by(rt, alloc, &circuit, &admit, budget, worst, Strategy::Least)?,
             "budget {budget}"
+        );
+    }
+    for budget in [0, 2, 5, 1_000] {
+        assert!(rt;
+            agrees_by(rt, alloc, &circuit, &admit, budget, worst, Strategy::Lead)?,
+            "budget {budget} with lead"
         );
     }
     Ok(())
@@ -257,46 +264,67 @@ fn random_moments(alloc: Global, inputs: usize, seed: u64) -> Result<Vec<u64>, F
 }
 
 /// Whether searches of random pairs agree with a look at each pair.
-fn agrees_on(rt: &impl Abort, alloc: Global, circuit: &Circuit, seed: u64) -> Result<bool, Fail> {
+fn agrees_on(
+    rt: &impl Abort,
+    alloc: Global,
+    circuit: &Circuit,
+    seed: u64,
+    strategy: Strategy,
+) -> Result<bool, Fail> {
     let admit = random_pairs(rt, alloc, circuit.input_count(), seed)?;
     let worst = worst_of(rt, alloc, circuit, &admit)?;
     let budget = random(seed, 20);
     Ok(
-        agrees(rt, alloc, circuit, &admit, 1_000, worst)?
-            && agrees(rt, alloc, circuit, &admit, budget, worst)?,
+        agrees_by(rt, alloc, circuit, &admit, 1_000, worst, strategy)?
+            && agrees_by(rt, alloc, circuit, &admit, budget, worst, strategy)?,
     )
 }
 
 /// Checks searches of random pairs with random moments.
-fn check_random(rt: &impl Abort, alloc: Global, text: &str) -> Result<(), Fail> {
+fn check_random(
+    rt: &impl Abort,
+    alloc: Global,
+    text: &str,
+    strategy: Strategy,
+    rounds: u32,
+) -> Result<(), Fail> {
     let mut circuit = circuit_of(rt, alloc, text)?;
     let mut seed = 1;
-    for round in 0..ROUNDS {
+    for round in 0..rounds {
         seed = next(next(seed));
         let moments = random_moments(alloc, circuit.input_count(), seed)?;
         circuit = at(rt, alloc, circuit, &moments)?;
         assert!(rt;
-            agrees_on(rt, alloc, &circuit, next(seed ^ 77))?,
+            agrees_on(rt, alloc, &circuit, next(seed ^ 77), strategy)?,
             "{round} {text}"
         );
     }
     Ok(())
 }
 
-/// How many questions are asked of each circuit.
-const ROUNDS: u32 = 30;
+/// Checks searches of random pairs of all circuits, so many of each.
+fn check_all(rt: &impl Abort, alloc: Global, strategy: Strategy, rounds: u32) -> Result<(), Fail> {
+    for gates in ONE {
+        let text = module(alloc, "a", "y", gates)?;
+        check_random(rt, alloc, &text, strategy, rounds)?;
+    }
+    for gates in TWO {
+        let text = module(alloc, "a, b", "y", gates)?;
+        check_random(rt, alloc, &text, strategy, rounds)?;
+    }
+    for gates in THREE {
+        let text = module(alloc, "a, b, c", "y", gates)?;
+        check_random(rt, alloc, &text, strategy, rounds)?;
+    }
+    Ok(())
+}
 
 #[test]
 fn every_admitted_pair(rt: HostRuntime) -> Result<(), Fail> {
-    let alloc = rt.alloc();
-    for gates in ONE {
-        check_random(&rt, alloc, &module(alloc, "a", "y", gates)?)?;
-    }
-    for gates in TWO {
-        check_random(&rt, alloc, &module(alloc, "a, b", "y", gates)?)?;
-    }
-    for gates in THREE {
-        check_random(&rt, alloc, &module(alloc, "a, b, c", "y", gates)?)?;
-    }
-    Ok(())
+    check_all(&rt, rt.alloc(), Strategy::Least, 30)
+}
+
+#[test]
+fn every_admitted_pair_with_lead(rt: HostRuntime) -> Result<(), Fail> {
+    check_all(&rt, rt.alloc(), Strategy::Lead, 1)
 }

@@ -10,7 +10,7 @@ use td_circuit::{Circuit, build};
 use td_domain::{Admit, Cube, Trit};
 use td_gates::Delay;
 use td_netlist::read;
-use td_search::{Answer, Cause, SearchFault, alone};
+use td_search::{Answer, Cause, SearchFault, Strategy, alone, alone_by};
 
 /// The circuit of a text whose gates have delay 1 unless it says otherwise.
 pub fn circuit_of(rt: &impl Abort, alloc: Global, text: &str) -> Result<Circuit, Fail> {
@@ -105,7 +105,7 @@ pub fn all_of(rt: &impl Abort, alloc: Global, circuit: &Circuit) -> Result<Admit
     Ok(Admit::all(alloc, inputs)?)
 }
 
-/// What a search answers, `None` where no pair is admitted.
+/// What a search with `least` answers, `None` where no pair is admitted.
 pub fn found(
     rt: &impl Abort,
     alloc: Global,
@@ -115,7 +115,26 @@ pub fn found(
 ) -> Result<Option<Answer>, Fail> {
     assert!(rt; budget <= 10_000_000);
     assert_eq!(rt; admit.held().len(), circuit.input_count());
-    match alone(alloc, circuit, admit, budget) {
+    told_fault(alone(alloc, circuit, admit, budget))
+}
+
+/// What a search by a strategy answers, `None` where no pair is admitted.
+pub fn found_by(
+    rt: &impl Abort,
+    alloc: Global,
+    circuit: &Circuit,
+    admit: &Admit,
+    budget: u64,
+    strategy: Strategy,
+) -> Result<Option<Answer>, Fail> {
+    assert!(rt; budget <= 10_000_000);
+    assert_eq!(rt; admit.held().len(), circuit.input_count());
+    told_fault(alone_by(alloc, circuit, admit, budget, strategy))
+}
+
+/// An answer, `None` where no pair is admitted.
+fn told_fault(answer: Result<Answer, SearchFault>) -> Result<Option<Answer>, Fail> {
+    match answer {
         Ok(answer) => Ok(Some(answer)),
         Err(SearchFault::NoPair) => Ok(None),
         Err(SearchFault::OutOfMemory) => Err(Fail::from("out of memory")),

@@ -44,3 +44,12 @@ bounds_of-requires c =
     omega (arith, first, second, ap length c.deref.ensures.value, ap length c.deref-2.ensures.value) in
     let netlist = ap (λ (circuit : Numbered). length circuit.netlist.inputs) c.set_moments.ensures in
     omega (arith, first, netlist, c.input_count-inputs.ensures, ap length c.deref.ensures.value, ap length c.in_ok-cube.ensures, woven-length _ _ same)
+
+pub with_edges-requires : goal.with_edges-requires
+with_edges-requires c =
+    let first : length c.in-Some.firsts.items ≡ c.input_count-inputs.result = given-length _ _ _ _ _ (rw c.in-Some.is at c.in_ok-firsts.ensures.some) in
+    let second : length c.in-Some-2.seconds.items ≡ c.input_count-inputs.result = given-length _ _ _ _ _ (rw c.in-Some-2.is at c.in_ok-seconds.ensures.some) in
+    let same : length c.deref.result.now ≡ length c.deref-2.result.now =
+    omega (arith, first, second, ap length c.deref.ensures.value, ap length c.deref-2.ensures.value) in
+    let netlist = ap (λ (circuit : Numbered). length circuit.netlist.inputs) c.set_moments.ensures in
+    omega (arith, first, netlist, c.input_count-inputs.ensures, ap length c.deref.ensures.value, ap length c.in_ok-cube.ensures, woven-length _ _ same)

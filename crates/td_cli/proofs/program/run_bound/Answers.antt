@@ -18,6 +18,6 @@ returns-in-Ok g c = (
   _,
   nothing_done g.F.Files.did g.met.F.Files.did_nothing _ _ c.read.ensures.stays,
   on_file (disk_of (g.F.Files.holds c.args.files.now) (g.F.Files.fails c.args.files.now) (g.F.Files.breaks c.args.files.now) (g.F.Files.is_one c.args.files.now)) c.args.request.file.now c.deref.result.now (subst (λ bytes. g.F.Files.holds c.args.files.now c.args.request.file.now bytes) (sym c.deref.ensures.value) c.in-Ok.ensures.bytes)
-      (λ text. IsBoundProduct text (delays c.args.request.rise c.args.request.fall) (words_of c.args.request.first) (words_of c.args.request.second) (words_of c.args.request.at)) (λ text. HasNoBounds text (delays c.args.request.rise c.args.request.fall) (words_of c.args.request.first) (words_of c.args.request.second) (words_of c.args.request.at))
+      (λ text. IsBoundProduct text (delays c.args.request.rise c.args.request.fall) (words_of c.args.request.first) (words_of c.args.request.second) (words_of c.args.request.at) c.args.request.edges) (λ text. HasNoBounds text (delays c.args.request.rise c.args.request.fall) (words_of c.args.request.first) (words_of c.args.request.second) (words_of c.args.request.at))
       (λ _. ⊥) _ (λ name none. absurd none) _ _ _ _ (rw c.in-Some.ensures.delay at c.carry_out_bound.ensures),
 )

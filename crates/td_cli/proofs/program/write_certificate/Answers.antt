@@ -16,5 +16,5 @@ returns-in-Ok-clause-left g c = refused_with c.close.result c.close.ensures.stay
 
 pub returns-in-Err-clause-left : goal.returns-in-Err-clause-left
 returns-in-Err-clause-left g c =
-    broke g.F.Files.did g.met.F.Files.did_both _ _ c.args.name.now (spelling c.args.certificate.now) _ c.in_ok-writer.ensures.made _ c.in-Err.fault _ _
+    broke g.F.Files.did g.met.F.Files.did_both _ _ c.args.name.now (spelling c.args.certificate.now) _ c.in_ok-writer.ensures.made _ c.in-Err.torn _ _
     c.discard.ensures.stays (record { front = c.in-Err.ensures.front; failed = c.in-Err.ensures.device })

@@ -1,10 +1,10 @@
 use Rattle.std.proofs.lemmas.Result.{err_from_is_err_and}
-use Rattle.td_search.specs.Problems.{problem}
+use Rattle.td_search.specs.Problems.{problem_by}
 use Rattle.td_cli.proofs.Questions.{asked_held, asked_flips, no_answer, certificate_spelled, pair_fits}
 use Rattle.td_cli.proofs.searching.worst.Goals as goal
 
-pub worst-requires-clause-held : goal.worst-requires-clause-held
-worst-requires-clause-held g c κs within = asked_held c.args.text.now c.args.default c.args.words _ c.in_ok-circuit.ensures.asked
+pub worst_with-searched-requires-clause-held : goal.worst_with-searched-requires-clause-held
+worst_with-searched-requires-clause-held g c κs within = asked_held c.args.text.now c.args.default c.args.words _ c.in_ok-circuit.ensures.asked
 
 pub returns-in-Err-clause-refusal : goal.returns-in-Err-clause-refusal
 returns-in-Err-clause-refusal g c =
@@ -15,7 +15,7 @@ certificate-certificate-requires-clause-flips g c = asked_flips c.args.text.now 
 
 pub returns-clause-spelled : goal.returns-clause-spelled
 returns-clause-spelled g c =
-    rw c.certificate-certificate.ensures (certificate_spelled (problem c.in_ok-circuit.field-0.circuit c.in_ok-circuit.field-0.admit) c.in-Ok.answer c.in-Ok.ensures.text)
+    rw c.certificate-certificate.ensures (certificate_spelled (problem_by c.args.words.strategy c.in_ok-circuit.field-0.circuit c.in_ok-circuit.field-0.admit) c.in-Ok.answer c.in-Ok.ensures.text)
 
 pub pair_dump-requires-clause-first_fits : goal.pair_dump-requires-clause-first_fits
 pair_dump-requires-clause-first_fits g c =

@@ -7,6 +7,9 @@ pub returns-in_err-file : goal.returns-in_err-file
 returns-in_err-file c = rw c.from_residual.ensures (λ asked has.
     let no : None ≡ Some asked.file.now = c.in_err-file.ensures ∙ first_value-rows (found_of c.args.matches.now) (codes "FILE") ∙ has.file in cc)
 
+pub returns-in_err-edges : goal.returns-in_err-edges
+returns-in_err-edges c = rw c.from_residual-in_err-edges.ensures (λ asked has. c.in_err-edges.ensures _ has.edges)
+
 pub returns-in_err-default : goal.returns-in_err-default
 returns-in_err-default c = rw c.from_residual-in_err-default.ensures (λ asked has. c.in_err-default.ensures _ has.default)
 
@@ -16,5 +19,6 @@ returns c = record {
   first = sym (c.get_str-2.ensures ∙ first_value-rows (found_of c.args.matches.now) (codes "first"));
   second = sym (c.get_str-3.ensures ∙ first_value-rows (found_of c.args.matches.now) (codes "second"));
   at = sym (c.get_str-4.ensures ∙ first_value-rows (found_of c.args.matches.now) (codes "at"));
+  edges = c.in_ok-edges.ensures;
   default = rw c.default-2.view_is c.in_ok-default.ensures;
 }

@@ -10,6 +10,9 @@ returns c =
     let file = c.in_ok-command.ensures.shape c.file.ensures.local ∙ ap₂ with_rule named c.file.ensures.rule in
     let admitted = c.in_ok-with_admitted.ensures ∙ ap with_admitted file in
     let moments = c.in_ok-command-2.ensures ∙ ap with_moments admitted in
-    let searched = c.in_ok-with_search.ensures ∙ ap with_search moments in
+    let strategies = c.in_ok-with_search.ensures.strategies in
+    let searched = c.in_ok-with_search.ensures.is ∙ ap (with_search strategies) moments in
     let dumped = c.in_ok-with_vcd.ensures ∙ ap with_vcd searched in
-    IfOk-weaker c.with_default.result _ _ (λ new with. with ∙ ap with_default dumped) c.with_default.ensures
+    IfOk-weaker c.with_default.result _ _
+    (λ new with. record { strategies = strategies; named = c.in_ok-with_search.ensures.named; is = with ∙ ap with_default dumped })
+    c.with_default.ensures

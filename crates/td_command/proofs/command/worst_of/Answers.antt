@@ -13,6 +13,9 @@ returns-in_err-flips c = rw c.from_residual-in_err-flips.ensures (λ asked has. 
 pub returns-in_err-workers : goal.returns-in_err-workers
 returns-in_err-workers c = rw c.from_residual-in_err-workers.ensures (λ asked has. c.in_err-workers.ensures _ has.workers)
 
+pub returns-in_err-strategy : goal.returns-in_err-strategy
+returns-in_err-strategy c = rw c.from_residual-in_err-strategy.ensures (λ asked has. c.in_err-strategy.ensures _ has.strategy)
+
 pub returns-in_err-budget : goal.returns-in_err-budget
 returns-in_err-budget c = rw c.from_residual-in_err-budget.ensures (λ asked has. c.in_err-budget.ensures _ has.budget)
 
@@ -28,6 +31,7 @@ returns c = record {
   flips = c.in_ok-flips.ensures;
   at = sym (c.get_str-5.ensures ∙ first_value-rows (found_of c.args.matches.now) (codes "at"));
   workers = c.in_ok-workers.ensures;
+  strategy = c.in_ok-strategy.ensures;
   budget = c.in_ok-budget.ensures;
   certificate = sym (c.get_str-6.ensures ∙ first_value-rows (found_of c.args.matches.now) (codes "cert"));
   vcd = sym (c.get_str-7.ensures ∙ first_value-rows (found_of c.args.matches.now) (codes "vcd"));

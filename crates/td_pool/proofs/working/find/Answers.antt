@@ -51,4 +51,4 @@ returns-clause-finding g c =
     subst (λ (pair : Pair). IsMeasured asked pair c.in_ok-time.time) c.in_ok-pair.ensures.pair
     (record { is = (c.in_ok-pair.ensures.admitted, c.in_ok-time.ensures.delay); only = λ other h. c.in_ok-time.ensures.only other h.1 }) in
     subst (IsTrueOf asked c.args.cube.now) (sym c.finding_of.ensures)
-    (true_finding asked c.args.cube.now c.in_ok-time.time c.offer-cut.result c.decide-decision.result measured c.offer-cut.ensures.within c.decide-decision.ensures)
+    (true_finding c.args.circuit.now c.args.admit.now c.args.cube.now c.in_ok-time.time c.offer-cut.result c.decide-decision.result measured c.offer-cut.ensures.within c.decide-decision.ensures)

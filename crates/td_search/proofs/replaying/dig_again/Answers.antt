@@ -7,16 +7,16 @@ use Rattle.std.proofs.Math.Nat.{lt_of_not-le}
 use Rattle.std.proofs.lemmas.List.{length-map, length-take-le}
 use Rattle.td_book.specs.Grafting.{PrivateTree, cubes_left}
 use Rattle.td_search.specs.Findings.{state_of}
-use Rattle.td_search.specs.Problems.{problem}
+use Rattle.td_search.specs.Problems.{problem_by}
 use Rattle.td_search.proofs.Found.{nothing, next_of, states_more, usable_more}
 use Rattle.td_search.proofs.replaying.dig_again.Goals as goal
 
-pub dig-requires-clause-next : goal.dig-requires-clause-next
-dig-requires-clause-next c =
+pub dig_by-requires-clause-next : goal.dig_by-requires-clause-next
+dig_by-requires-clause-next c =
     let findings = c.args.findings.now in
     let at = slice_get-get_or findings c.loop-finding.finding-index nothing c.loop-finding-test.true in
     let cubes = c.args.subtree.now.cube ∷ [] in
-    let next = next_of (problem c.args.circuit.now c.args.admit.now) c.args.best cubes findings c.loop-finding.finding-index _ c.requires.found at in
+    let next = next_of (problem_by c.args.strategy c.args.circuit.now c.args.admit.now) c.args.best cubes findings c.loop-finding.finding-index _ c.requires.found at in
     let left : cubes_left c.loop-finding.subtree.states (c.loop-finding.subtree.cube ∷ []) ≡ cubes_left (map (state_of c.args.best) (take c.loop-finding.finding-index findings)) cubes =
     ap (λ (t : PrivateTree). cubes_left t.states (t.cube ∷ [])) c.loop-finding.invariant.subtree in
     (next.cube, next.rest, left ∙ next.is, next.holds)
@@ -30,8 +30,8 @@ loop-finding-preserved c =
     let was = c.loop-finding.invariant in
     let best : ℕ = c.args.best in
     let tree : PrivateTree = c.args.subtree.now in
-    let same : c.dig.new.subtree ≡ with_states tree (map (state_of best) (take (i + 1) findings)) =
-    c.if-not-dig.ensures.done refl ∙ (ap (λ (t : PrivateTree). with_states t (t.states ++ state_of best f ∷ [])) was.subtree
+    let same : c.dig_by.new.subtree ≡ with_states tree (map (state_of best) (take (i + 1) findings)) =
+    c.if-not-dig_by.ensures.done refl ∙ (ap (λ (t : PrivateTree). with_states t (t.states ++ state_of best f ∷ [])) was.subtree
     ∙ ap (with_states tree) (sym (states_more best findings i f at))) in
     let allowance : c.loop-finding.subtree.allowance ≡ tree.allowance = ap (λ (t : PrivateTree). t.allowance) was.subtree in
     let states : length c.loop-finding.subtree.states ≡ i =
@@ -41,7 +41,7 @@ loop-finding-preserved c =
     record {
       count = omega arith;
       subtree = same;
-      usable = usable_more best findings i f at was.usable (c.if-not-dig.ensures.usable.0 refl);
+      usable = usable_more best findings i f at was.usable (c.if-not-dig_by.ensures.usable.0 refl);
       few = omega (arith, room, allowance, states, count);
     }
   where

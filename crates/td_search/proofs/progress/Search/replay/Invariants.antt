@@ -1,10 +1,10 @@
-use Rattle.td_search.specs.Problems.{problem}
+use Rattle.td_search.specs.Problems.{problem_by}
 use Rattle.td_search.specs.Progress.{IsUnderWay}
 use Rattle.td_search.specs.Sheeted.{IsScratch}
 use Rattle.td_search.proofs.progress.Search.replay.Given as goal
 
 abbrev pub invariant-loop-node : goal.invariant-loop-node
 invariant-loop-node l = record {
-  search : IsUnderWay (problem l.circuit l.admit) l.fn.self.book.budget l.self;
+  search : IsUnderWay (problem_by l.strategy l.circuit l.admit) l.fn.self.book.budget l.self;
   scratch : IsScratch l.circuit l.scratch;
 }

@@ -1,6 +1,6 @@
 use Rattle.std.proofs.Common.{◌≡◌, ℕ, List, [], ◌∷◌, ◌++◌, length, sym, ap, subst, ◌∙◌}
 use Rattle.td_book.specs.Board.{Board, opening}
-use Rattle.td_search.specs.Problems.{Problem, problem}
+use Rattle.td_search.specs.Problems.{Problem, problem_by}
 use Rattle.td_search.specs.Progress.{IsSearch}
 use Rattle.td_search.specs.Rooms.{HasRoom}
 use Rattle.td_search.proofs.AtStart.{knows}
@@ -8,7 +8,7 @@ use Rattle.td_search.proofs.progress.Setup.begin.Goals as goal
 
 pub returns-clause-search : goal.returns-clause-search
 returns-clause-search c =
-    let asked : Problem = problem c.args.circuit.now c.args.admit.now in
+    let asked : Problem = problem_by c.args.strategy c.args.circuit.now c.args.admit.now in
     let budget : ℕ = c.args.budget in
     let root : ℕ = c.args.root in
     let best = c.args.best in
@@ -16,7 +16,7 @@ returns-clause-search c =
     c.push_reserved.ensures.items ∙ ap (λ (l : List ℕ). l ++ root ∷ []) c.requires.setup.no_bounds in (
       subst (λ (b : Board). IsSearch asked budget b best.time best.pair c.push_reserved.new.self.items) (sym c.requires.setup.book)
           (subst (λ (l : List ℕ). IsSearch asked budget (opening c.args.admit.now.pins 1 budget) best.time best.pair l) (sym items)
-          (knows c.args.circuit.now c.gates-numbering.ensures.numbering c.moments-moments.ensures.fit c.args.admit.now budget c.requires.modest best.pair best.time root
-          c.requires.best c.requires.root c.requires.small)),
+          (knows c.args.strategy c.args.circuit.now c.gates-numbering.ensures.numbering c.moments-moments.ensures.fit c.args.admit.now budget c.requires.modest best.pair best.time root
+          c.requires.best c.requires.root c.requires.small c.requires.start)),
       subst (λ (l : List ℕ). HasRoom c.args.self.room (length l)) (sym items) c.requires.setup.room,
     )

@@ -1,0 +1,230 @@
+//! The strategy `lead`: what it does with a node.
+
+ghost use Rattle.std.specs.Prelude.{◌≡◌, ℕ, ◌*◌, ◌<◌, ◌^◌, Option, Some, length, IfOk};
+ghost use Rattle.std.specs.List.{All};
+ghost use Rattle.td_circuit.specs.Numbering.{nets, setting};
+ghost use Rattle.td_certificate.specs.declared.tree.BoundedBy.TheVariants.{EdgesAndPossible};
+ghost use Rattle.td_certificate.specs.Accepts.{IsBoundBy};
+ghost use Rattle.td_domain.specs.Bounds.{IsUpperBoundIn};
+ghost use Rattle.td_domain.specs.Sheets.{IsSheet};
+ghost use Rattle.td_edges.specs.EdgeSignals.{edge_functions};
+ghost use Rattle.td_edges.specs.Coverage.{span_reach};
+ghost use Rattle.td_ternary.specs.Possibles.{possible_functions, last_change};
+ghost use Rattle.td_search.specs.Guided.{IsGuide};
+ghost use Rattle.td_search.specs.Leading.{IsStep};
+ghost use Rattle.td_search.specs.Sheeted.{AreSheets, IsScratch};
+
+use crate::guide::Guide;
+use crate::scratch::Scratch;
+use crate::sheets::{Sheets, bound_within};
+use std::alloc::{AllocError, Global};
+use std::mem;
+use td_book::BoundedBy;
+use td_circuit::Circuit;
+use td_domain::{Cube, Domain, Sheet, bound_together, move_to};
+use td_edges::{Edges, Signal};
+use td_ternary::Possible;
+
+/// What is to be done with a node.
+#[derive(Clone, Copy, Debug, Drop)]
+pub enum Step {
+    /// It is closed, with a bound of its cube.
+    Close(BoundedBy, u64),
+    /// It is split at this position. The bound is the strongest domain's.
+    Split(usize, u64),
+    /// Its cube is a point, whose pair is measured.
+    Measure,
+}
+
+/// What is to be done with a cube under a cut: it is closed where edges, possible levels, or both at once have a bound that is at
+/// most the cut. Else it is split, or measured. The error is want of memory.
+pub fn next_step(
+    alloc: Global,
+    scratch: &mut Scratch,
+    circuit: &Circuit,
+    cube: &Cube,
+    cut: u64,
+) -> Result<Step, AllocError>
+    requires scratch { IsScratch circuit.now scratch.old }
+    requires positions { length cube.now ≡ 2 * length circuit.now.netlist.inputs }
+    ensures step { IfOk result (IsStep (setting circuit.now) cube.now cut) }
+    ensures scratch { IsScratch circuit.now scratch.new }
+{
+    let mut guide = taken_guide(alloc, circuit, cube, &mut scratch.guide)?;
+    let step = step_by(alloc, &mut scratch.sheets, &mut guide, circuit, cube, cut);
+    scratch.guide = Some(guide);
+    step
+}
+
+/// The strongest domain's bound of a cube, which with `lead` has edges. The error is want of memory.
+pub fn strongest_with_edges(
+    alloc: Global,
+    scratch: &mut Scratch,
+    circuit: &Circuit,
+    cube: &Cube,
+) -> Result<u64, AllocError>
+    requires scratch { IsScratch circuit.now scratch.old }
+    requires positions { length cube.now ≡ 2 * length circuit.now.netlist.inputs }
+    ensures bound { IfOk result (λ bound. IsBoundBy EdgesAndPossible (setting circuit.now) cube.now (Some bound)) }
+    ensures small { IfOk result (λ bound. bound < 10 ^ 15) }
+    ensures scratch { IsScratch circuit.now scratch.new }
+{
+    let mut guide = taken_guide(alloc, circuit, cube, &mut scratch.guide)?;
+    let bound = moved_strongest(alloc, &mut scratch.sheets, &mut guide, circuit, cube);
+    scratch.guide = Some(guide);
+    bound
+}
+
+/// The guide that is there, taken out, or a new one. The error is want of memory.
+fn taken_guide(
+    alloc: Global,
+    circuit: &Circuit,
+    cube: &Cube,
+    guide: &mut Option<Guide>,
+) -> Result<Guide, AllocError>
+    requires guide { (there : Guide) → guide.old ≡ Some there → IsGuide circuit.now there }
+    requires positions { length cube.now ≡ 2 * length circuit.now.netlist.inputs }
+    ensures taken { IfOk result (IsGuide circuit.now) }
+    ensures guide { (there : Guide) → guide.new ≡ Some there → IsGuide circuit.now there }
+{
+    match mem::replace(guide, None) {
+        Some(there) => Ok(there),
+        None => Guide::new(alloc, circuit, cube),
+    }
+}
+
+/// As `next_step`.
+fn step_by(
+    alloc: Global,
+    sheets: &mut Sheets,
+    guide: &mut Guide,
+    circuit: &Circuit,
+    cube: &Cube,
+    cut: u64,
+) -> Result<Step, AllocError>
+    requires sheets { AreSheets circuit.now sheets.old }
+    requires guide { IsGuide circuit.now guide.old }
+    requires positions { length cube.now ≡ 2 * length circuit.now.netlist.inputs }
+    ensures step { IfOk result (IsStep (setting circuit.now) cube.now cut) }
+    ensures sheets { AreSheets circuit.now sheets.new }
+    ensures guide { IsGuide circuit.now guide.new }
+{
+    if let Some(bound) = bound_within(alloc, circuit, &mut guide.edges, cube, cut)? {
+        return Ok(Step::Close(BoundedBy::Edges, bound));
+    }
+    if let Some(bound) = bound_within(alloc, circuit, &mut sheets.possible, cube, cut)? {
+        return Ok(Step::Close(BoundedBy::Possible, bound));
+    }
+    let bound = bound_with_edges(circuit, &guide.edges, &sheets.possible);
+    if bound <= cut {
+        return Ok(Step::Close(BoundedBy::EdgesAndPossible, bound));
+    }
+    Ok(open_step(circuit, guide, &sheets.possible, cube, bound))
+}
+
+/// As `strongest_with_edges`.
+fn moved_strongest(
+    alloc: Global,
+    sheets: &mut Sheets,
+    guide: &mut Guide,
+    circuit: &Circuit,
+    cube: &Cube,
+) -> Result<u64, AllocError>
+    requires sheets { AreSheets circuit.now sheets.old }
+    requires guide { IsGuide circuit.now guide.old }
+    requires positions { length cube.now ≡ 2 * length circuit.now.netlist.inputs }
+    ensures bound { IfOk result (λ bound. IsBoundBy EdgesAndPossible (setting circuit.now) cube.now (Some bound)) }
+    ensures small { IfOk result (λ bound. bound < 10 ^ 15) }
+    ensures sheets { AreSheets circuit.now sheets.new }
+    ensures guide { IsGuide circuit.now guide.new }
+{
+    move_to(alloc, circuit, &mut guide.edges, cube)?;
+    move_to(alloc, circuit, &mut sheets.possible, cube)?;
+    Ok(bound_with_edges(circuit, &guide.edges, &sheets.possible))
+}
+
+/// The bound of the cube of both sheets by edges and possible levels at once. There always is one.
+pub fn bound_with_edges(circuit: &Circuit, edges: &Sheet<Edges>, possible: &Sheet<Possible>) -> u64
+    requires edges { IsSheet edge_functions (λ signal. span_reach signal.changes) circuit.now edges.now }
+    requires possible { IsSheet possible_functions (λ signal. last_change signal.changes) circuit.now possible.now }
+    requires cube { possible.now.cube ≡ edges.now.cube }
+    ensures bound { IsBoundBy EdgesAndPossible (setting circuit.now) edges.now.cube (Some result) }
+    ensures sound { IsUpperBoundIn (setting circuit.now) edges.now.cube result }
+    ensures small { result < 10 ^ 15 }
+{
+    bound_together(circuit, edges, possible).unwrap_or(0)
+}
+
+/// What is to be done with the cube of both sheets, whose bound is above the cut.
+fn open_step(
+    circuit: &Circuit,
+    guide: &mut Guide,
+    possible: &Sheet<Possible>,
+    cube: &Cube,
+    bound: u64,
+) -> Step
+    requires guide { IsGuide circuit.now guide.old }
+    requires possible { IsSheet possible_functions (λ signal. last_change signal.changes) circuit.now possible.now }
+    requires positions { length cube.now ≡ 2 * length circuit.now.netlist.inputs }
+    requires bound { IsBoundBy EdgesAndPossible (setting circuit.now) cube.now (Some bound) }
+    requires small { bound < 10 ^ 15 }
+    ensures step { (cut : ℕ) → cut < bound → IsStep (setting circuit.now) cube.now cut result }
+    ensures guide { IsGuide circuit.now guide.new }
+{
+    let output = latest_output(circuit, guide.edges.signals(), possible.signals());
+    let position = guide
+        .fan
+        .position(circuit, guide.edges.signals(), cube, output);
+    match position {
+        Some(position) => Step::Split(position, bound),
+        None => Step::Measure,
+    }
+}
+
+/// The output that changes last by these signals, the first one of several, and a constant where there is no output.
+fn latest_output(circuit: &Circuit, edges: &[Signal], possible: &[<Possible as Domain>::Sig]) -> u32
+    requires edges { length edges.now ≡ length (nets circuit.now) }
+    requires possible { length possible.now ≡ length (nets circuit.now) }
+    ensures { result < length (nets circuit.now) }
+{
+    let _numbering = circuit.gates();
+    latest_of(edges, possible, circuit.outputs())
+}
+
+/// Of some nets the one that changes last by these signals, the first one of several, and the first net of all where there is
+/// none.
+fn latest_of(edges: &[Signal], possible: &[<Possible as Domain>::Sig], nets: &[u32]) -> u32
+    requires some { 0 < length edges.now }
+    requires possible { length possible.now ≡ length edges.now }
+    requires within { All (λ net. net < length edges.now) nets.now }
+    ensures { result < length edges.now }
+{
+    let mut output = 0;
+    let mut latest = None;
+    for net in nets {
+        let place = *net as usize;
+        let last = last_of(&edges[place], &possible[place]);
+        if is_later(last, latest) {
+            latest = Some(last);
+            output = *net;
+        }
+    }
+    output
+}
+
+/// Whether a moment is later than another one, if there is one.
+fn is_later(last: u64, other: Option<u64>) -> bool {
+    match other {
+        Some(other) => last > other,
+        None => true,
+    }
+}
+
+/// The lesser of the last moments that are there.
+fn last_of(edges: &Signal, possible: &<Possible as Domain>::Sig) -> u64 {
+    let last = Edges::last(edges).unwrap_or(0);
+    match Possible::last(possible) {
+        Some(other) => last.min(other),
+        None => last,
+    }
+}
