@@ -64,8 +64,9 @@ class Cases:
         self.run("FILE empty", ["sim", "", "0", "1"], unread(b""))
         self.run("standard input closed", ["sim", "stdin", "0", "1"], unread(b"stdin"), stdin=None, preexec_fn=lambda: os.close(0))
         self.run("standard input a folder", ["sim", "stdin", "0", "1"], unread(b"stdin"), stdin=os.open(self.folder, os.O_RDONLY))
-        with open(self.path("t.v"), "rb") as file:
-            self.run("standard input", ["sim", "stdin", "0", "1"], (0, REPORT, b""), stdin=file)
+        for name in ("stdin", "-"):
+            with open(self.path("t.v"), "rb") as file:
+                self.run(f"standard input as {name}", ["sim", name, "0", "1"], (0, REPORT, b""), stdin=file)
         if os.geteuid() != 0:
             open(self.path("closed.v"), "w").close()
             os.chmod(self.path("closed.v"), 0)
@@ -131,6 +132,8 @@ class Cases:
         self.expect("no such file", False, os.path.exists(self.path("one")))
         with open(self.path("t.v"), "rb") as file:
             self.run("over standard input", ["worst", "stdin", "--cert", "t.v"], (2, b"", b"tdelay: t.v is stdin\n"), stdin=file)
+        with open(self.path("t.v"), "rb") as file:
+            self.run("over standard input as -", ["worst", "-", "--cert", "t.v"], (2, b"", b"tdelay: t.v is -\n"), stdin=file)
         self.run("a device for both", [*worst, "--cert", "/dev/null", "--vcd", "/dev/null"], (0, WORST, b""))
         with open(self.path("t.v"), "rb") as file:
             self.expect("the netlist", text, file.read())

@@ -140,6 +140,15 @@ HoldsOf disk (request.Worst asked) = HoldsOnFile disk asked.file.now (λ text. H
 HoldsOf disk (request.Check asked) =
     HoldsOnFile disk asked.file.now (λ text. HoldsOnFile disk asked.certificate.now (HasNoVerdict text (delays asked.rise asked.fall)))
 
+-- whether a search is asked for
+abbrev pub is_search : Request → Bool
+is_search (request.Worst asked) = true
+is_search other = false
+
+-- the words ask for a search
+abbrev pub AsksSearch : List (List ℕ) → Type 0
+AsksSearch words = (asked : Request) × Asks words asked × (is_search asked ≡ true)
+
 -- how the command that is asked for ends, once it is known that no file of it is written over another
 abbrev pub RequestRuns : Disk → Request → List FileStep → Status → Streams → Streams → Type 0
 RequestRuns disk asked = Ends (IsProductOf disk asked) (HoldsOf disk asked) disk.breaks

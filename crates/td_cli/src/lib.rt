@@ -30,7 +30,7 @@ pub use files::{Files, ReadFault};
 pub use memory_files::{MemoryFile, MemoryFiles, MemoryStep};
 pub use program::{
     carry_out, carry_out_bound, carry_out_check, carry_out_path, carry_out_sim, carry_out_worst,
-    refuse_words, run,
+    refuse_words, run, run_plain,
 };
 pub use real_files::{RealFiles, RealWriter};
 pub use refusal::Refusal;

@@ -1,6 +1,6 @@
 //! The program.
 
-ghost use Rattle.std.specs.Prelude.{◌≡◌, ◌<◌, ◌≤◌, ◌⊎◌, ◌++◌, ℕ, List, [], map, OnOk, OnErr, IfErr, IfSome};
+ghost use Rattle.std.specs.Prelude.{◌≡◌, ◌<◌, ◌≤◌, ◌⊎◌, ◌++◌, ℕ, List, [], map, OnOk, OnErr, IfErr, IfSome, IfNone, true, false};
 ghost use Rattle.clap.specs.Words.{kind_of};
 ghost use Rattle.clap.specs.declared.error.kind.ErrorKind.TheVariants as Kind;
 ghost use Rattle.td_gates.specs.Delays.{IsInRange};
@@ -12,7 +12,7 @@ ghost use Rattle.td_cli.specs.Dumps.{file_of, dump_files, HasRun};
 ghost use Rattle.td_cli.specs.Outcomes.{HasNoReport, HasNoPath, HasNoBounds, HasNoAnswer, HasNoVerdict};
 ghost use Rattle.td_cli.specs.Refusals.{unwritten_text};
 ghost use Rattle.td_cli.specs.Vectors.{words_of};
-ghost use Rattle.td_cli.specs.Requests.{disk_of, strategy_of, words_in, IsSimProduct, IsPathProduct, IsBoundProduct, IsCheckProduct, IsWorstProduct, certificate_files, search_ending, Reads, HoldsOnFile, RequestRuns, RequestEnds, IsOutOfMemory, IsShown, TellsText, ProgramEnds, RefusesWords};
+ghost use Rattle.td_cli.specs.Requests.{disk_of, is_search, AsksSearch, strategy_of, words_in, IsSimProduct, IsPathProduct, IsBoundProduct, IsCheckProduct, IsWorstProduct, certificate_files, search_ending, Reads, HoldsOnFile, RequestRuns, RequestEnds, IsOutOfMemory, IsShown, TellsText, ProgramEnds, RefusesWords};
 ghost use Rattle.td_command.specs.declared.command.Request.TheVariants as Asked;
 ghost use Rattle.td_cli.specs.declared.refusal.Refusal.TheVariants as Reason;
 ghost use Rattle.td_cli.specs.declared.files.ReadFault.TheVariants as Fault;
@@ -46,6 +46,60 @@ use td_search::Strategy;
 /// Carries out the command that the words ask for: what it answers goes to `out`, why it was refused to `err`. The first
 /// word is the program's name.
 pub fn run<R: Threads + Wait + Sync, S: AsStr, F: Files, O: Sink, E: Sink>(
+    rt: &R,
+    alloc: Global,
+    words: &[S],
+    files: &mut F,
+    out: &mut O,
+    err: &mut E,
+) -> Status
+    ensures { Takes (F.did files.old files.new) (λ steps. ProgramEnds (disk_of (F.holds files.old) (F.fails files.old) (F.breaks files.old) (F.is_one files.old)) (map S.text words.now) steps result
+        (streams (O.output out.old) (E.output err.old)) (streams (O.output out.new) (E.output err.new))) }
+{
+    match run_plain(alloc, words, files, out, err) {
+        Some(status) => status,
+        None => run_search(rt, alloc, words, files, out, err),
+    }
+}
+
+/// As `run`, without threads, for each command but the search: `None` where the words ask for `worst`, and then nothing is read or
+/// written.
+pub fn run_plain<S: AsStr, F: Files, O: Sink, E: Sink>(
+    alloc: Global,
+    words: &[S],
+    files: &mut F,
+    out: &mut O,
+    err: &mut E,
+) -> Option<Status>
+    ensures ends { IfSome result (λ status. Takes (F.did files.old files.new) (λ steps. ProgramEnds (disk_of (F.holds files.old) (F.fails files.old) (F.breaks files.old) (F.is_one files.old)) (map S.text words.now) steps status
+        (streams (O.output out.old) (E.output err.old)) (streams (O.output out.new) (E.output err.new)))) }
+    ensures search { IfNone result (AsksSearch (map S.text words.now)) }
+    ensures untouched { IfNone result ((files.new ≡ files.old) × (out.new ≡ out.old) × (err.new ≡ err.old)) }
+    // Of a search nothing but want of memory is told.
+    ensures others { IfSome result (λ status. AsksSearch (map S.text words.now) → IsOutOfMemory status
+        (streams (O.output out.old) (E.output err.old)) (streams (O.output out.new) (E.output err.new))) }
+{
+    match parse(alloc, words) {
+        Ok(request) => {
+            if is_search(&request) {
+                None
+            } else {
+                Some(carry_out_plain(alloc, files, &request, out, err))
+            }
+        }
+        Err(error) => Some(tell_error(alloc, error, out, err)),
+    }
+}
+
+/// Whether a search is asked for.
+fn is_search(request: &Request<'_>) -> bool
+    ensures { result ≡ is_search request.now }
+{
+    matches!(request, Request::Worst(_))
+}
+
+/// As `run`, for words that ask for a search.
+fn run_search<R: Threads + Wait + Sync, S: AsStr, F: Files, O: Sink, E: Sink>(
     rt: &R,
     alloc: Global,
     words: &[S],
@@ -92,6 +146,25 @@ pub fn carry_out<R: Threads + Wait + Sync, F: Files, O: Sink, E: Sink>(
     }
 }
 
+/// Carries out what is asked, which is no search.
+fn carry_out_plain<F: Files, O: Sink, E: Sink>(
+    alloc: Global,
+    files: &mut F,
+    request: &Request<'_>,
+    out: &mut O,
+    err: &mut E,
+) -> Status
+    requires asked { IsCarriedOut request.now }
+    requires plain { is_search request.now ≡ false }
+    ensures { Takes (F.did files.old files.new) (λ steps. RequestEnds (disk_of (F.holds files.old) (F.fails files.old) (F.breaks files.old) (F.is_one files.old)) request.now steps result
+        (streams (O.output out.old) (E.output err.old)) (streams (O.output out.new) (E.output err.new))) }
+{
+    match overwriting(files, request) {
+        Some(refusal) => tell_refusal(alloc, err, &refusal),
+        None => run_plain_request(alloc, files, request, out, err),
+    }
+}
+
 /// Carries out what is asked, where no file of it is written over another.
 fn run_request<R: Threads + Wait + Sync, F: Files, O: Sink, E: Sink>(
     rt: &R,
@@ -106,11 +179,30 @@ fn run_request<R: Threads + Wait + Sync, F: Files, O: Sink, E: Sink>(
         (streams (O.output out.old) (E.output err.old)) (streams (O.output out.new) (E.output err.new))) }
 {
     match request {
+        Request::Worst(request) => run_worst(rt, alloc, files, *request, out, err),
+        _ => run_plain_request(alloc, files, request, out, err),
+    }
+}
+
+/// Carries out what is asked, which is no search, where no file of it is written over another.
+fn run_plain_request<F: Files, O: Sink, E: Sink>(
+    alloc: Global,
+    files: &mut F,
+    request: &Request<'_>,
+    out: &mut O,
+    err: &mut E,
+) -> Status
+    requires asked { IsCarriedOut request.now }
+    requires plain { is_search request.now ≡ false }
+    ensures { Takes (F.did files.old files.new) (λ steps. RequestRuns (disk_of (F.holds files.old) (F.fails files.old) (F.breaks files.old) (F.is_one files.old)) request.now steps result
+        (streams (O.output out.old) (E.output err.old)) (streams (O.output out.new) (E.output err.new))) }
+{
+    match request {
         Request::Sim(request) => run_sim(alloc, files, *request, out, err),
         Request::Path(request) => run_path(alloc, files, *request, out, err),
         Request::Bound(request) => run_bound(alloc, files, *request, out, err),
-        Request::Worst(request) => run_worst(rt, alloc, files, *request, out, err),
         Request::Check(request) => run_check(alloc, files, *request, out, err),
+        Request::Worst(_) => unreachable!(),
     }
 }
 

@@ -135,6 +135,11 @@ impl<'r, R: rt::Files + Input + AllocGlobal> RealFiles<'r, R> {
     }
 }
 
+/// Whether a file that is read under this name is standard input.
+fn is_input(name: &str) -> bool {
+    name == "stdin" || name == "-"
+}
+
 /// Whether this is said of one file, or of one folder.
 fn is_same(one: &Metadata, other: &Metadata) -> bool {
     one.dev() == other.dev() && one.ino() == other.ino()
@@ -183,7 +188,7 @@ impl<'r, R: rt::Files + Input + AllocGlobal> Files for RealFiles<'r, R> {
     type Writer = RealWriter<R::File>;
 
     fn read(&mut self, alloc: Global, name: &str) -> Result<Vec<u8>, ReadFault> {
-        if name == "stdin" {
+        if is_input(name) {
             return read_all(alloc, &mut self.rt.reader());
         }
         match fs::open(self.rt, name) {
@@ -193,7 +198,7 @@ impl<'r, R: rt::Files + Input + AllocGlobal> Files for RealFiles<'r, R> {
     }
 
     fn are_one(&mut self, one: &str, other: &str) -> bool {
-        let other = if other == "stdin" {
+        let other = if is_input(other) {
             "/dev/stdin"
         } else {
             other

@@ -10,6 +10,8 @@ mod moments;
 #[cfg(test)]
 mod paths;
 #[cfg(test)]
+mod plain;
+#[cfg(test)]
 mod runs;
 #[cfg(test)]
 mod searches;
