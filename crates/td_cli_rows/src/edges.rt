@@ -25,7 +25,14 @@ fn bounds_by_edges(rt: HostRuntime) -> Result<(), Fail> {
         // b changes at 0 and p and q follow at 1, so that y may change at 3 + 1 by edges; the two changes cancel each other.
         (
             &[
-                "tdelay", "bound", "reconvergent.v", "--edges", "--first", "00", "--second", "11",
+                "tdelay",
+                "bound",
+                "reconvergent.v",
+                "--edges",
+                "--first",
+                "00",
+                "--second",
+                "11",
             ],
             b"unit 1 ns\ndefaulted 0\na 4\nt 3\nm 3\ne 4\nn 3\n",
         ),
@@ -66,7 +73,15 @@ fn searches<R: Threads + Wait + Sync + Abort>(
 ) -> Result<(), Fail> {
     let (file, netlist) = case;
     let words = [
-        "tdelay", "worst", file, "--strategy", strategy, "--workers", "2", "--cert", "c",
+        "tdelay",
+        "worst",
+        file,
+        "--strategy",
+        strategy,
+        "--workers",
+        "2",
+        "--cert",
+        "c",
     ];
     let ended = run_words(rt, alloc, &words)?;
     assert_eq!(rt; exact_line(ended.out.bytes()), Some(exact));
@@ -80,7 +95,14 @@ fn searches<R: Threads + Wait + Sync + Abort>(
 #[test]
 fn strategies(rt: HostRuntime) -> Result<(), Fail> {
     for strategy in ["least", "lead"] {
-        searches(&rt, rt.alloc(), ("c17.v", C17), strategy, b"exact 3", b"accepted 3\n")?;
+        searches(
+            &rt,
+            rt.alloc(),
+            ("c17.v", C17),
+            strategy,
+            b"exact 3",
+            b"accepted 3\n",
+        )?;
         searches(
             &rt,
             rt.alloc(),
