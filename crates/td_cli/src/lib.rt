@@ -38,7 +38,8 @@ pub use searching::{Found, worst};
 pub use simulate::{Simulated, sim};
 pub use status::Status;
 pub use td_command::{
-    BoundRequest, CheckRequest, PathRequest, Request, SimRequest, StrategyWord, WorstRequest, laws, parse,
+    BoundRequest, CheckRequest, PathRequest, Request, SimRequest, StrategyWord, WorstRequest, laws,
+    parse,
 };
 pub use text::Text;
 pub use vector::Symbol;

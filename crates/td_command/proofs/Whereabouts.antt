@@ -454,7 +454,7 @@ module _ (shape : Shape) where
   turn_same names walk word =
       let met = word_met shape.rules names walk.is_trailing walk.waiting walk.position word walk.held in
       let step = ap (λ (met : Held × Step). step_fault (moved_shape shape) walk.position met.0 met.1)
-          (word_met_same shape.rules names walk.is_trailing walk.waiting walk.position word walk.held) ∙ steps_same walk.position met.0 met.1 in
+      (word_met_same shape.rules names walk.is_trailing walk.waiting walk.position word walk.held) ∙ steps_same walk.position met.0 met.1 in
       λ i. cond (is_some walk.stopped) [] (or_else (word_same names walk.is_trailing walk.waiting word walk.held i) (step i))
 
   walks_same : (names : Names) (walk : Walk) (words : List Text) → walk_fault (moved_shape shape) names walk words ≡ walk_fault shape names walk words
@@ -462,7 +462,7 @@ module _ (shape : Shape) where
   walks_same names walk [] = refl
   walks_same names walk (word ∷ rest) =
       let behind = ap (λ (step : Walk → Text → Walk). walk_fault (moved_shape shape) names (step walk word) rest) (walked_same shape.rules names)
-          ∙ walks_same names (walked shape.rules names walk word) rest in
+      ∙ walks_same names (walked shape.rules names walk word) rest in
       λ i. or_else (turn_same names walk word i) (behind i)
 
   checks_same : (rows : List Row) (has_subcommand : Bool) → check_fault (moved_shape shape) rows has_subcommand ≡ check_fault shape rows has_subcommand
@@ -475,16 +475,16 @@ module _ (shape : Shape) where
   end_same : (held : Held) (has_subcommand : Bool) → end_fault (moved_shape shape) held has_subcommand ≡ end_fault shape held has_subcommand
   end_same held has_subcommand =
       let defaults = ap (λ (rows : List Row). defaults_fault rows (map moved shape.rules)) (settled_same shape.rules held.pending held.rows)
-          ∙ defaults_same (settled shape.rules held).rows shape.rules in
+      ∙ defaults_same (settled shape.rules held).rows shape.rules in
       let checks = ap (λ (rows : List Row). check_fault (moved_shape shape) rows has_subcommand) (finished_same shape.rules held)
-          ∙ checks_same (finished shape.rules held) has_subcommand in
+      ∙ checks_same (finished shape.rules held) has_subcommand in
       λ i. or_else (settle_same shape.rules shape.args_override_self held i) (or_else (defaults i) (checks i))
 
   level_same : (names : Names) (held : Held) (words : List Text) (has_subcommand : Bool) (below : Kinds)
       → level_fault (moved_shape shape) names held words has_subcommand below ≡ level_fault shape names held words has_subcommand below
   level_same names held words has_subcommand below =
       let end = ap (λ (walk : Walk). end_fault (moved_shape shape) walk.held has_subcommand) (walk_same shape.rules names held words)
-          ∙ end_same (walk shape.rules names held words).held has_subcommand in
+      ∙ end_same (walk shape.rules names held words).held has_subcommand in
       λ i. or_else (walks_same names (walk_from held) words i) (or_else below (end i))
 
 -- ---- a command and its subcommands

@@ -39,6 +39,6 @@ unreachable-requires g c =
     let entered : subcommand_rows_of c.in-Ok.matches ≡ subcommand_of program words =
     found.1 ∙ (ap (λ (app : App). subcommand_of app words) told.is ∙ commands_same told.strategies told.named words) in
     let taken : fault_of program words ≡ [] = sym (ap (λ (app : App). fault_of app words) told.is ∙ faults_same told.strategies told.named words)
-        ∙ c.in-Ok.ensures.kinds (ap is_simple_and_free told.is ∙ program_is_free told.strategies) in
+    ∙ c.in-Ok.ensures.kinds (ap is_simple_and_free told.is ∙ program_is_free told.strategies) in
     let asked = words_that_are_taken_ask words taken in
     c.in-None.ensures asked.0 (subst (λ rows. EnteredAsks rows asked.0) (sym entered) asked.1.asks)
