@@ -6,3 +6,4 @@ pub mod Missing
 pub mod Moments
 pub mod Paths
 pub mod Questions
+pub mod Searches

@@ -1,5 +1,5 @@
 -- Words that ask for a search ask for nothing else.
-use Rattle.std.proofs.Common.{◌≡◌, ◌≢◌, ◌∙◌, ◌⊎◌, List, [], ℕ, Bool, true, false, Option, Some, sym, ap, subst, absurd, true≢false, inl, inr, codes}
+use Rattle.std.proofs.Common.{◌≡◌, ◌≢◌, ◌∙◌, ◌⊎◌, List, [], ℕ, Bool, true, false, Option, Some, sym, ap, subst, refl, true≢false, inl, inr, codes}
 use Rattle.std.specs.Str.{bytes_eq}
 use Rattle.std.proofs.lemmas.Slice.Eq.{bytes_eq-Decides}
 use Rattle.clap.specs.Words.{Row, Text, kind_of, HasKind, subcommand_of}
