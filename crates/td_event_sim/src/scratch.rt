@@ -8,6 +8,7 @@ ghost use Rattle.td_circuit.specs.Numbering.{nets, setting, first_output as firs
 ghost use Rattle.td_circuit.specs.Run.{IsDelayOfBits};
 ghost use Rattle.td_event_sim.specs.Earliest.{IsFrom};
 ghost use Rattle.td_event_sim.specs.Queue.{Waits, AreBelow};
+ghost use Rattle.td_event_sim.specs.Counting.{AreCounted};
 ghost use Rattle.td_event_sim.specs.Moment.{AreWaiting};
 ghost use Rattle.td_event_sim.specs.State.{IsRunBy, IsStateBefore};
 ghost use Rattle.td_event_sim.specs.Reached.{HasReached};
@@ -26,6 +27,7 @@ use td_domain::Pair;
 /// The circuit settles under the first vector, and the inputs get their events.
 fn start(
     levels: &mut [bool],
+    ones: &mut [u32],
     latest: &mut [u64],
     whens: &mut [u64],
     queue: &mut Queue,
@@ -37,6 +39,8 @@ fn start(
     requires levels_fit { length levels.old ≡ length (nets circuit.now) }
     requires latest_fit { length latest.old ≡ length (nets circuit.now) }
     requires whens_fit { length whens.old ≡ length (nets circuit.now) }
+    requires ones_fit { length ones.old ≡ length circuit.now.gates }
+    ensures counted { OnOk result (AreCounted circuit.now.gates levels.new ones.new) }
     ensures reached { OnOk result (HasReached circuit.now pair.now 0 levels.new whens.new latest.new) }
     ensures waiting { OnOk result (AreWaiting queue.new whens.new) }
     ensures below { (limit : ℕ) → length (nets circuit.now) ≤ limit → AreBelow limit queue.old → AreBelow limit queue.new }
@@ -45,7 +49,7 @@ fn start(
     let first = pair.first();
     let second = pair.second();
     let moments = circuit.moments();
-    settle(levels, circuit, first);
+    settle(levels, ones, circuit, first);
     latest.fill(0);
     schedule_inputs(whens, queue, first, second, moments)?;
     Ok(())
@@ -54,6 +58,7 @@ fn start(
 /// The events of a moment take place, and the gates that read a net that changed are evaluated.
 fn advance(
     levels: &mut [bool],
+    ones: &mut [u32],
     latest: &mut [u64],
     whens: &mut [u64],
     queue: &mut Queue,
@@ -67,6 +72,8 @@ fn advance(
     requires latest_fit { length latest.old ≡ length (nets circuit.now) }
     requires whens_fit { length whens.old ≡ length (nets circuit.now) }
     requires readers { AreReadersOf (first_output_of circuit.now) (length (nets circuit.now)) circuit.now.gates (map (λ outputs. outputs.items) readers.now) }
+    requires ones_fit { length ones.old ≡ length circuit.now.gates }
+    requires counted { AreCounted circuit.now.gates levels.old ones.old }
     requires below { AreBelow (length (nets circuit.now)) queue.old }
     requires in_time { moment < 2 ^ 64 - 1 }
     requires first { IsFrom moment queue.old.firsts }
@@ -75,6 +82,7 @@ fn advance(
     ensures state { (waves : List Wave) (states : ℕ → ℕ → GateState) → IsRunBy circuit.now waves states
         → IsStateBefore circuit.now waves states moment levels.old whens.old latest.old
         → OnOk result (IsStateBefore circuit.now waves states (moment + 1) levels.new whens.new latest.new) }
+    ensures counted { OnOk result (AreCounted circuit.now.gates levels.new ones.new) }
     ensures waiting { OnOk result (AreWaiting queue.new whens.new) }
     ensures from { OnOk result (IsFrom (moment + 1) queue.new.firsts) }
     ensures below { AreBelow (length (nets circuit.now)) queue.new }
@@ -82,11 +90,23 @@ fn advance(
     let gates = circuit.gates();
     let first_output = circuit.input_count() + 2;
     queue.take(moment, taken)?;
-    update(levels, latest, whens, queue, changed, taken, moment)?;
+    update(
+        levels,
+        ones,
+        latest,
+        whens,
+        queue,
+        changed,
+        readers,
+        first_output,
+        taken,
+        moment,
+    )?;
     evaluate(
         whens,
         queue,
         levels,
+        ones,
         gates,
         readers,
         changed,
@@ -115,6 +135,7 @@ const MOST_MOMENTS: u32 = 1 << 30;
 /// The delay of a pair.
 fn simulate(
     levels: &mut [bool],
+    ones: &mut [u32],
     latest: &mut [u64],
     whens: &mut [u64],
     queue: &mut Queue,
@@ -130,6 +151,7 @@ fn simulate(
     requires latest_fit { length latest.old ≡ length (nets circuit.now) }
     requires whens_fit { length whens.old ≡ length (nets circuit.now) }
     requires readers { AreReadersOf (first_output_of circuit.now) (length (nets circuit.now)) circuit.now.gates (map (λ outputs. outputs.items) readers.now) }
+    requires ones_fit { length ones.old ≡ length circuit.now.gates }
     requires below { AreBelow (length (nets circuit.now)) queue.old }
     ensures delay { IfOk result (IsDelayOfBits (setting circuit.now) pair.now.first pair.now.second) }
     ensures only { IfOk result (λ delay. (other : ℕ) → IsDelayOfBits (setting circuit.now) pair.now.first pair.now.second other → other ≡ delay) }
@@ -137,7 +159,7 @@ fn simulate(
 {
     let _gates = circuit.gates();
     let _moments = circuit.moments();
-    start(levels, latest, whens, queue, circuit, pair)?;
+    start(levels, ones, latest, whens, queue, circuit, pair)?;
     let mut moment = queue.first();
     let mut left = MOST_MOMENTS;
     while moment < NEVER {
@@ -146,7 +168,7 @@ fn simulate(
         }
         left -= 1;
         advance(
-            levels, latest, whens, queue, taken, changed, readers, circuit, moment,
+            levels, ones, latest, whens, queue, taken, changed, readers, circuit, moment,
         )?;
         moment = queue.first();
     }
@@ -161,6 +183,8 @@ pub struct Scratch {
     readers: Vec<Vec<u32>>,
     /// Whether each net is at 1.
     levels: Vec<bool>,
+    /// How many inputs of each gate are at 1.
+    ones: Vec<u32>,
     /// The moment of the latest change of each net, 0 where there was none.
     latest: Vec<u64>,
     /// The moment of the event of each net.
@@ -182,6 +206,7 @@ impl Model for Scratch {
     ghost view = { λ inside. record {
       readers = map (λ outputs. outputs.items) inside.readers.items;
       levels = inside.levels.items;
+      ones = inside.ones.items;
       latest = inside.latest.items;
       whens = inside.whens.items;
       queue = inside.queue;
@@ -210,6 +235,17 @@ fn zeros(alloc: Global, count: usize) -> Result<Vec<bool>, AllocError>
     Ok(levels)
 }
 
+/// So many counts.
+fn counts(alloc: Global, count: usize) -> Result<Vec<u32>, AllocError>
+    ensures { IfOk result (λ counts. length counts.items ≡ count) }
+{
+    let mut counts = Vec::new(alloc);
+    for _ in 0..count {
+        counts.push(0)?;
+    }
+    Ok(counts)
+}
+
 impl Scratch {
     /// A scratch for a circuit.
     pub fn new(alloc: Global, circuit: &Circuit) -> Result<Self, AllocError>
@@ -220,12 +256,14 @@ impl Scratch {
         let first_output = circuit.input_count() + 2;
         let readers = readers(alloc, gates, first_output, nets)?;
         let levels = zeros(alloc, nets)?;
+        let ones = counts(alloc, gates.len())?;
         let latest = moments(alloc, nets, 0)?;
         let whens = moments(alloc, nets, NEVER)?;
         let queue = Queue::new(alloc)?;
         Ok(Scratch {
             readers,
             levels,
+            ones,
             latest,
             whens,
             queue,
@@ -247,6 +285,7 @@ pub fn delay_of(scratch: &mut Scratch, circuit: &Circuit, pair: &Pair) -> Result
 {
     simulate(
         &mut scratch.levels,
+        &mut scratch.ones,
         &mut scratch.latest,
         &mut scratch.whens,
         &mut scratch.queue,

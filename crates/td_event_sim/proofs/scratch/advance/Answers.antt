@@ -1,8 +1,11 @@
 use Rattle.std.proofs.Common.{length, map, sym, ap, ◌∙◌, ◌+◌, arith, add-one, subst, Vec, ℕ, List, Global}
 use Rattle.td_circuit.specs.Numbering.{nets, first_output}
+use Rattle.td_circuit.proofs.Nets.{length-nets}
+use Rattle.td_event_sim.specs.Counting.{AreListed}
 use Rattle.td_event_sim.specs.Moment.{AreWaitingBut}
+use Rattle.td_event_sim.proofs.Ones.{all-narrow}
 use Rattle.td_event_sim.proofs.Moments.{moment-done}
-use Rattle.td_event_sim.proofs.Fits.{all-numbers, readers-within, none-earlier, waiting-but}
+use Rattle.td_event_sim.proofs.Fits.{readers-within, none-earlier, waiting-but}
 use Rattle.td_event_sim.proofs.scratch.advance.Goals as goal
 
 pub update-requires-clause-first : goal.update-requires-clause-first
@@ -17,9 +20,22 @@ pub evaluate-requires-clause-readers : goal.evaluate-requires-clause-readers
 evaluate-requires-clause-readers c = readers-within (first_output c.args.circuit.now) (length (nets c.args.circuit.now)) _ _ c.args.readers.now
     (ap (λ (n : ℕ). n + 2) c.input_count-first_output.ensures) (c.update.auto.levels ∙ c.requires.levels_fit) c.requires.readers.outputs
 
-pub evaluate-requires-clause-numbers : goal.evaluate-requires-clause-numbers
-evaluate-requires-clause-numbers c = all-numbers c.args.circuit.now c.gates-gates.result.now (length c.update.new.levels) c.gates-gates.ensures.numbering c.gates-gates.ensures.gates
-    (c.update.auto.levels ∙ c.requires.levels_fit)
+pub update-requires-clause-readers : goal.update-requires-clause-readers
+update-requires-clause-readers c = readers-within (first_output c.args.circuit.now) (length (nets c.args.circuit.now)) _ _ c.args.readers.now
+    (ap (λ (n : ℕ). n + 2) c.input_count-first_output.ensures)
+    (omega (arith, c.input_count-first_output.ensures, length-nets c.args.circuit.now c.gates-gates.ensures.numbering, c.requires.ones_fit)) c.requires.readers.outputs
+
+pub evaluate-requires-clause-counted : goal.evaluate-requires-clause-counted
+evaluate-requires-clause-counted c = rw (c.gates-gates.ensures.gates) (c.in_ok-update.ensures.counted c.args.circuit.now.gates
+    (subst (λ (first : ℕ). AreListed first c.args.circuit.now.gates (map (λ (v : Vec ℕ Global). v.items) c.args.readers.now)) (sym (ap (λ (n : ℕ). n + 2) c.input_count-first_output.ensures))
+    c.requires.readers.listed)
+    (all-narrow c.args.circuit.now c.gates-gates.ensures.numbering) (omega (arith, c.requires.ones_fit)) c.requires.counted)
+
+pub returns-clause-counted : goal.returns-clause-counted
+returns-clause-counted c = c.in_ok-update.ensures.counted c.args.circuit.now.gates
+    (subst (λ (first : ℕ). AreListed first c.args.circuit.now.gates (map (λ (v : Vec ℕ Global). v.items) c.args.readers.now)) (sym (ap (λ (n : ℕ). n + 2) c.input_count-first_output.ensures))
+    c.requires.readers.listed)
+    (all-narrow c.args.circuit.now c.gates-gates.ensures.numbering) (omega (arith, c.requires.ones_fit)) c.requires.counted
 
 pub returns-in_err-evaluate-clause-below : goal.returns-in_err-evaluate-clause-below
 returns-in_err-evaluate-clause-below c = c.evaluate.ensures.below (length (nets c.args.circuit.now)) (omega (arith, c.update.auto.levels, c.requires.levels_fit))

@@ -24,7 +24,7 @@ returns-clause-reached c = λ waves outs run.
     let zeros : (net : ℕ) → net < length c.fill.new.self → get_or c.fill.new.self net 0 ≡ 0 =
     λ net h. rw zeros_are (get_or-replicate (length c.args.latest.now) net 0 0 (omega (arith, c.fill.ensures.len))) in
     let settled : AreSettled c.args.circuit.now c.args.pair.now.first (length c.args.circuit.now.gates) c.settle.new.levels =
-    subst (λ (v : List Bool). AreSettled c.args.circuit.now v (length c.args.circuit.now.gates) c.settle.new.levels) c.first-first.ensures c.settle.ensures in
+    subst (λ (v : List Bool). AreSettled c.args.circuit.now v (length c.args.circuit.now.gates) c.settle.new.levels) c.first-first.ensures c.settle.ensures.settled in
     let scheduled : AreScheduled (length c.args.pair.now.first) c.args.circuit.now.moments c.args.pair.now.first c.args.pair.now.second c.schedule_inputs.new.whens =
     rw (c.first-first.ensures, c.second-second.ensures, c.moments-moments.ensures.moments) at c.in_ok-schedule_inputs.ensures.scheduled in (
       net_state c.args.circuit.now c.args.circuit.now.moments c.args.pair.now.first c.args.pair.now.second waves,
