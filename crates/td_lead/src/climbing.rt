@@ -24,6 +24,21 @@ pub struct Plan {
     pub enough: u64,
 }
 
+/// Others who look for pairs at the same time.
+pub trait Others {
+    /// Whether one of them has found enough, so that nobody needs to go on.
+    fn have_enough(&self) -> bool;
+}
+
+/// Nobody else looks for pairs.
+struct Nobody;
+
+impl Others for Nobody {
+    fn have_enough(&self) -> bool {
+        false
+    }
+}
+
 /// How often a climb in this circuit tries: 10,000 times, and less where there are more than 1,000 gates.
 pub fn tries_for(circuit: &Circuit) -> u32
     ensures { result ≡ tries_of (length circuit.now.gates) }
@@ -50,19 +65,40 @@ pub fn climb(
     ensures no_less { start.time ≤ result.time }
     ensures scratch { IsFor circuit.now scratch.new }
 {
+    climb_beside(alloc, scratch, circuit, admit, start, plan, &Nobody)
+}
+
+/// As `climb`, beside others: it ends also once they have found enough. They are asked before each try.
+pub fn climb_beside<O: Others>(
+    alloc: Global,
+    scratch: &mut Scratch,
+    circuit: &Circuit,
+    admit: &Admit,
+    start: Timed,
+    plan: Plan,
+    others: &O,
+) -> Timed
+    requires scratch { IsFor circuit.now scratch.old }
+    requires held { length admit.now.held ≡ length circuit.now.netlist.inputs }
+    requires start { IsTimed (setting circuit.now) admit.now start }
+    ensures timed { IsTimed (setting circuit.now) admit.now result }
+    ensures no_less { start.time ≤ result.time }
+    ensures scratch { IsFor circuit.now scratch.new }
+{
     let mut best = start;
-    let _end = climb_on(alloc, scratch, circuit, admit, &mut best, plan);
+    let _end = climb_on(alloc, scratch, circuit, admit, &mut best, plan, others);
     best
 }
 
 /// Climbs from the best pair, and keeps a better one in its place. The error is want of memory.
-fn climb_on(
+fn climb_on<O: Others>(
     alloc: Global,
     scratch: &mut Scratch,
     circuit: &Circuit,
     admit: &Admit,
     best: &mut Timed,
     plan: Plan,
+    others: &O,
 ) -> Result<(), AllocError>
     requires scratch { IsFor circuit.now scratch.old }
     requires held { length admit.now.held ≡ length circuit.now.netlist.inputs }
@@ -81,7 +117,7 @@ fn climb_on(
     let mut here = best.copy(alloc)?;
     let mut grown = 0;
     for attempt in 0..plan.tries {
-        if best.time >= plan.enough {
+        if best.time >= plan.enough || others.have_enough() {
             break;
         }
         let is_stuck = attempt.saturating_sub(grown) > patience;

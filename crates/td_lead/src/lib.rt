@@ -7,6 +7,6 @@ mod draws;
 mod fan;
 mod timed;
 
-pub use climbing::{Plan, climb, tries_for};
+pub use climbing::{Others, Plan, climb, climb_beside, tries_for};
 pub use fan::Fan;
 pub use timed::Timed;

@@ -1,4 +1,4 @@
--- Internal: what a search with `lead` uses again for each node.
+-- What a search with `lead` uses again for each node.
 use Rattle.std.specs.Prelude.{◌≡◌, length}
 use Rattle.td_circuit.specs.Numbering.{Numbered, nets}
 use Rattle.td_domain.specs.Sheets.{IsSheet}

@@ -1,4 +1,4 @@
--- Internal: what a search uses again for each node.
+-- What a search uses again for each node.
 use Rattle.std.specs.Prelude.{◌≡◌, Some}
 use Rattle.td_circuit.specs.Numbering.{Numbered}
 use Rattle.td_domain.specs.Sheets.{IsSheet}

@@ -68,6 +68,19 @@ impl Best {
         self.time = timed.time;
     }
 
+    /// A copy of the pair, with its delay. The error is want of memory.
+    pub fn timed(&self, alloc: Global) -> Result<Timed, AllocError>
+        ensures time { IfOk result (λ timed. timed.time ≡ self.now.time) }
+        ensures pair { IfOk result (λ timed. timed.pair ≡ self.now.pair) }
+    {
+        let first = Vec::from_slice(alloc, &self.first)?;
+        let second = Vec::from_slice(alloc, &self.second)?;
+        Ok(Timed {
+            pair: Pair::new(first, second),
+            time: self.time,
+        })
+    }
+
     /// The pair.
     pub fn into_pair(self) -> Pair
         ensures { result ≡ self.pair }

@@ -53,23 +53,6 @@ pub fn dig_by(
     true
 }
 
-/// As `dig_by` with `least`.
-pub fn dig(
-    circuit: &Circuit,
-    admit: &Admit,
-    subtree: &mut Subtree,
-    finding: Finding,
-    best: u64,
-) -> bool
-    requires next { (cube : List Trit) × (rest : List (List Trit)) × (cubes_left subtree.old.states (subtree.old.cube ∷ []) ≡ cube ∷ rest) × IsTrueOf (problem circuit.now admit.now) cube finding }
-    requires room { length subtree.old.states < subtree.old.allowance }
-    ensures usable { IsTrue result ↔ IsUsable best finding }
-    ensures done { IsTrue result → subtree.new ≡ record subtree.old { states = subtree.old.states ++ state_of best finding ∷ [] } }
-    ensures same { result ≡ false → subtree.new ≡ subtree.old }
-{
-    dig_by(circuit, admit, Strategy::Least, subtree, finding, best)
-}
-
 // Splits and closes as many nodes of a private tree as were found and are usable under this best time. Answers how many.
 fn dig_again(
     circuit: &Circuit,

@@ -5,7 +5,7 @@ use Rattle.td_lead.specs.Climbing.{IsTimed}
 use Rattle.td_lead.proofs.climbing.climb_on.Given as goal
 
 abbrev pub invariant-loop-attempt : goal.invariant-loop-attempt
-invariant-loop-attempt l = record {
+invariant-loop-attempt g l = record {
   best : IsTimed (setting l.circuit) l.admit l.best;
   no_less : l.fn.best.time ≤ l.best.time;
   here : IsTimed (setting l.circuit) l.admit l.here;

@@ -8,15 +8,15 @@ use Rattle.td_book.specs.Board.{position_of}
 use Rattle.td_book.specs.Grafting.{PrivateTree, cubes_left}
 use Rattle.td_search.specs.declared.findings.Finding.{Finding}
 use Rattle.td_search.specs.Findings.{AreTrue, split_at, state_of}
-use Rattle.td_search.specs.Problems.{Problem, problem}
+use Rattle.td_search.specs.Problems.{Problem, problem_by}
 use Rattle.td_search.proofs.Found.{state_splits}
 use Rattle.td_pool.specs.Truth.{IsWithin}
 use Rattle.td_pool.proofs.Digs.{true_more, left_more, within_past}
 use Rattle.td_pool.proofs.below.Below.settle.Goals as goal
 
 pub returns-clause-below : goal.returns-clause-below
-returns-clause-below c =
-    let asked : Problem = problem c.args.circuit.now c.args.admit.now in
+returns-clause-below g c =
+    let asked : Problem = problem_by g.F.Finder.by c.args.circuit.now c.args.admit.now in
     let old = c.args.self.now in
     let was = c.requires.below in
     let f : Finding = c.args.finding in
@@ -25,11 +25,11 @@ returns-clause-below c =
     let coming = c.requires.next.1 in
     let holds = c.requires.next.2 in
     let s : State = state_of cut f in
-    let tree : c.dig.new.subtree ≡ with_states old.subtree (old.subtree.states ++ s ∷ []) = c.if-not-dig.ensures.done refl in
+    let tree : c.dig_by.new.subtree ≡ with_states old.subtree (old.subtree.states ++ s ∷ []) = c.if-not-dig_by.ensures.done refl in
     let findings : c.push_reserved.new.self.items ≡ old.findings.items ++ f ∷ [] = c.push_reserved.ensures.items in
-    let states : c.dig.new.subtree.states ≡ old.subtree.states ++ s ∷ [] = ap (λ (t : PrivateTree). t.states) tree in
-    let same_cube : c.dig.new.subtree.cube ≡ old.subtree.cube = ap (λ (t : PrivateTree). t.cube) tree in
-    let left : cubes_left c.dig.new.subtree.states (c.dig.new.subtree.cube ∷ []) ≡ cubes_past cube (split_at f) coming.rest =
+    let states : c.dig_by.new.subtree.states ≡ old.subtree.states ++ s ∷ [] = ap (λ (t : PrivateTree). t.states) tree in
+    let same_cube : c.dig_by.new.subtree.cube ≡ old.subtree.cube = ap (λ (t : PrivateTree). t.cube) tree in
+    let left : cubes_left c.dig_by.new.subtree.states (c.dig_by.new.subtree.cube ∷ []) ≡ cubes_past cube (split_at f) coming.rest =
     ap (λ (t : PrivateTree). cubes_left t.states (t.cube ∷ [])) tree
     ∙ (left_more old.subtree.states s (old.subtree.cube ∷ []) cube coming.rest coming.is ∙ ap (λ (p : Option ℕ). cubes_past cube p coming.rest) (state_splits cut f)) in
     let before : AllByRecursion (IsWithin asked) (cube ∷ coming.rest) = subst (AllByRecursion (IsWithin asked)) coming.is was.coming in
