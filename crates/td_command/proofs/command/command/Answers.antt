@@ -16,11 +16,13 @@ returns c =
     ∙ ap₂ with_subcommand path (ap (λ (app : App). app.top) c.in_ok-bound_command.ensures) in
     let worst = c.in_ok-subcommand-4.ensures.shape (third_of_plain _ _ _ _ (ap (λ (app : App). app.top.is_plain) c.in_ok-worst_command.ensures.is))
     ∙ ap₂ with_subcommand bound (ap (λ (app : App). app.top) c.in_ok-worst_command.ensures.is) in
-    IfOk-weaker c.subcommand-5.result _ _
+    let check = c.in_ok-subcommand-5.ensures.shape (third_of_plain _ _ _ _ (ap (λ (app : App). app.top.is_plain) c.in_ok-check_command.ensures))
+    ∙ ap₂ with_subcommand worst (ap (λ (app : App). app.top) c.in_ok-check_command.ensures) in
+    IfOk-weaker c.subcommand-6.result _ _
     (λ new added. record {
       strategies = c.in_ok-worst_command.ensures.strategies;
       named = c.in_ok-worst_command.ensures.named;
-      is = added.shape (third_of_plain _ _ _ _ (ap (λ (app : App). app.top.is_plain) c.in_ok-check_command.ensures))
-          ∙ ap₂ with_subcommand worst (ap (λ (app : App). app.top) c.in_ok-check_command.ensures);
+      is = added.shape (third_of_plain _ _ _ _ (ap (λ (app : App). app.top.is_plain) c.in_ok-info_command.ensures))
+          ∙ ap₂ with_subcommand check (ap (λ (app : App). app.top) c.in_ok-info_command.ensures);
     })
-    c.subcommand-5.ensures
+    c.subcommand-6.ensures
