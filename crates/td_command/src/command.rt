@@ -2,7 +2,7 @@
 
 ghost use Rattle.std.specs.Prelude.{◌≡◌, ◌<◌, ◌^◌, ℕ, codes, map, false, IfOk, IfErr, IfSome, IfNone};
 ghost use Rattle.clap.specs.Words.{app_of, rule_of, found_of, rows_of, subcommand_rows_of, HasKind};
-ghost use Rattle.td_command.specs.CommandLine.{needed, option, number_option, count_option, name_option, flag, sim_command, path_command, bound_command, worst_command, check_command, info_command, program_of};
+ghost use Rattle.td_command.specs.CommandLine.{needed, option, number_option, count_option, name_option, flag, sim_command, path_command, bound_command, worst_command, check_command, info_command, bare, program_of};
 ghost use Rattle.td_command.specs.CommandLine.{with_pair, with_default, with_moments, with_vcd, with_output, with_cube, with_edges, with_path, with_admitted, with_search, IsOfStrategies};
 ghost use Rattle.td_command.specs.CommandLine.{HasNumber, HasCount, HasFlag, HasStrategy, HasDefault, HasWorkers, HasBudget, AsksSim, AsksPath, AsksBound, AsksWorst, AsksCheck, AsksInfo, EnteredAsks, kinds_of, Asks, IsAnswered};
 
@@ -468,14 +468,21 @@ fn info_command<'a>(alloc: Global) -> Result<Command<'a>, AllocError>
     with_default(alloc, command)
 }
 
-fn command<'a>(alloc: Global) -> Result<Command<'a>, AllocError>
-    ensures { IfOk result (λ new. IsOfStrategies program_of (app_of new)) }
+/// The program before it is told its commands.
+fn bare<'a>(alloc: Global) -> Command<'a>
+    ensures { app_of result ≡ bare }
 {
     Command::new(alloc, "tdelay")
         .about("Worst transition delay of a netlist of Verilog gate primitives")
         .version(VERSION)
         .after_help(HELP)
         .subcommand_required(true)
+}
+
+fn command<'a>(alloc: Global) -> Result<Command<'a>, AllocError>
+    ensures { IfOk result (λ new. IsOfStrategies program_of (app_of new)) }
+{
+    bare(alloc)
         .subcommand(sim_command(alloc)?)?
         .subcommand(path_command(alloc)?)?
         .subcommand(bound_command(alloc)?)?

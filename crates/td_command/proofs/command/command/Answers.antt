@@ -1,15 +1,13 @@
-use Rattle.std.proofs.Common.{rules, ◌≡◌, ◌∙◌, ap, ap₂}
+use Rattle.std.proofs.Common.{◌∙◌, ap, ap₂}
 use Rattle.std.proofs.lemmas.Result.{IfOk-weaker}
-use Rattle.clap.specs.Words.{App, app_of, with_subcommand}
-use Rattle.td_command.specs.CommandLine.{bare}
+use Rattle.clap.specs.Words.{App, with_subcommand}
 use Rattle.td_command.proofs.CommandLines.{third_of_plain}
 use Rattle.td_command.proofs.command.command.Goals as goal
 
 pub returns : goal.returns
 returns c =
-    let bare_is : app_of c.subcommand_required.result ≡ bare = search rules in
     let sim = c.in_ok-subcommand.ensures.shape (third_of_plain _ _ _ _ (ap (λ (app : App). app.top.is_plain) c.in_ok-sim_command.ensures))
-    ∙ ap₂ with_subcommand bare_is (ap (λ (app : App). app.top) c.in_ok-sim_command.ensures) in
+    ∙ ap₂ with_subcommand c.bare.ensures (ap (λ (app : App). app.top) c.in_ok-sim_command.ensures) in
     let path = c.in_ok-subcommand-2.ensures.shape (third_of_plain _ _ _ _ (ap (λ (app : App). app.top.is_plain) c.in_ok-path_command.ensures))
     ∙ ap₂ with_subcommand sim (ap (λ (app : App). app.top) c.in_ok-path_command.ensures) in
     let bound = c.in_ok-subcommand-3.ensures.shape (third_of_plain _ _ _ _ (ap (λ (app : App). app.top.is_plain) c.in_ok-bound_command.ensures))
