@@ -1,7 +1,7 @@
 -- The depths of a circuit's nets, gate by gate.
 use Rattle.std.proofs.Common.{◌≡◌, ◌⊎◌, ◌∙◌, ℕ, zero, suc, ◌+◌, ◌<◌, ◌≤◌, max, List, [], ◌∷◌, ◌++◌, length, map, get_or, Some, refl, sym, ap, subst, arith, inl, inr}
 use Rattle.std.specs.Prelude.{slice_get, replicate}
-use Rattle.std.specs.List.{All, Contains}
+use Rattle.std.specs.List.{Contains}
 use Rattle.std.proofs.lemmas.Bool.{cases_lt}
 use Rattle.std.proofs.lemmas.List.{length-map, length-append}
 use Rattle.std.proofs.lemmas.Option.{slice_get-get_or}
@@ -13,7 +13,7 @@ use Rattle.td_circuit.specs.Loops.{Reads}
 use Rattle.td_circuit.specs.Numbering.{Numbered, NumberedGate, nets, first_output, IsGateAt, IsNumbering}
 use Rattle.td_circuit.proofs.Looping.{output_number}
 use Rattle.td_circuit.proofs.Nets.{gate_at, place_of}
-use Rattle.td_info.specs.Sizes.{ReadsFirst, IsWay, IsDepth}
+use Rattle.td_info.specs.Sizes.{IsWay, IsDepth}
 use Rattle.td_info.specs.Depths.{greatest, depths_at, WayTo, IsDepthAt, AreDepths}
 
 -- ---- the greatest of some numbers

@@ -1,10 +1,10 @@
 -- The range of the delays of a circuit's gates.
-use Rattle.std.proofs.Common.{◌≡◌, ◌⊎◌, ◌∙◌, ℕ, zero, suc, ◌+◌, ◌≤◌, drop, List, [], ◌∷◌, length, Option, Some, None, refl, sym, ap, subst, arith, inl, inr}
+use Rattle.std.proofs.Common.{◌≡◌, ◌⊎◌, ℕ, zero, suc, ◌+◌, ◌≤◌, drop, List, [], ◌∷◌, length, Option, Some, None, refl, sym, ap, subst, arith, inl, inr}
 use Rattle.std.specs.Prelude.{slice_get, min, max}
 use Rattle.std.specs.List.{Contains}
 use Rattle.std.proofs.lemmas.Bool.{cases_lt}
 use Rattle.td_gates.specs.declared.timing.Delay.{Delay}
-use Rattle.td_gates.proofs.Places.{slice_get-Contains, Contains-slice_get}
+use Rattle.td_gates.proofs.Places.{slice_get-Contains}
 use Rattle.td_nets.specs.Netlist.{Gate}
 use Rattle.td_circuit.specs.Numbering.{Numbered, NumberedGate, IsNumbering}
 use Rattle.td_circuit.proofs.Nets.{gate_at, place_of}

@@ -1,5 +1,5 @@
 -- Internal: the range of the delays of gates in a row.
-use Rattle.std.specs.Prelude.{ℕ, min, max, List, [], ◌∷◌, Option, Some, None}
+use Rattle.std.specs.Prelude.{min, max, List, [], ◌∷◌, Option, Some, None}
 use Rattle.td_gates.specs.declared.timing.Delay.{Delay}
 use Rattle.td_circuit.specs.Numbering.{NumberedGate}
 use Rattle.td_info.specs.declared.ranges.Range.{Range}

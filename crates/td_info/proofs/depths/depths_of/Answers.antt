@@ -1,5 +1,4 @@
-use Rattle.std.proofs.Common.{◌≡◌, ◌∙◌, ◌+◌, ℕ, length, map, replicate, arith, sym, ap}
-use Rattle.std.proofs.lemmas.List.{length-map}
+use Rattle.std.proofs.Common.{◌∙◌, ◌+◌, replicate, arith, ap}
 use Rattle.std.proofs.lemmas.Option.{slice_get-get_or}
 use Rattle.td_circuit.specs.Views.{gate_of}
 use Rattle.td_circuit.proofs.Nets.{few_gates}

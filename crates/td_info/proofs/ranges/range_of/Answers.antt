@@ -1,4 +1,4 @@
-use Rattle.std.proofs.Common.{◌≡◌, ◌∙◌, ◌+◌, Some, drop, sym, ap, arith, length}
+use Rattle.std.proofs.Common.{◌∙◌, ◌+◌, Some, drop, sym, ap, arith, length}
 use Rattle.std.proofs.lemmas.List.{length-map}
 use Rattle.td_circuit.specs.Views.{gate_of}
 use Rattle.td_info.specs.Ranges.{ranged}
