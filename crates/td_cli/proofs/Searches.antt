@@ -1,14 +1,14 @@
 -- Words that ask for a search ask for nothing else.
-use Rattle.std.proofs.Common.{◌≡◌, ◌≢◌, ◌∙◌, ◌⊎◌, List, [], ℕ, Bool, true, false, Option, Some, sym, ap, subst, refl, true≢false, inl, inr, codes}
+use Rattle.std.proofs.Common.{◌≡◌, ◌≢◌, ◌∙◌, List, [], true, false, sym, ap, subst, refl, true≢false, inl, inr, codes}
 use Rattle.std.specs.Str.{bytes_eq}
 use Rattle.std.proofs.lemmas.Slice.Eq.{bytes_eq-Decides}
-use Rattle.clap.specs.Words.{Row, Text, kind_of, HasKind, subcommand_of}
+use Rattle.clap.specs.Words.{Row, Text, kind_of, HasKind}
 use Rattle.clap.specs.declared.error.Error.{Error}
 use Rattle.clap.specs.declared.error.kind.ErrorKind.TheVariants as kind
 use Rattle.td_gates.proofs.Places.{some-same}
 use Rattle.td_command.specs.declared.command.Request.{Request}
 use Rattle.td_command.specs.declared.command.Request.TheVariants as request
-use Rattle.td_command.specs.CommandLine.{Asks, CommandAsks, kinds_of, program}
+use Rattle.td_command.specs.CommandLine.{Asks, CommandAsks, kinds_of}
 use Rattle.td_cli.specs.declared.status.Status.{Status}
 use Rattle.td_cli.specs.Ends.{Streams}
 use Rattle.td_cli.specs.Requests.{is_search, AsksSearch, IsOutOfMemory}

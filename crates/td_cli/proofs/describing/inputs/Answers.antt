@@ -1,4 +1,4 @@
-use Rattle.std.proofs.Common.{◌≡◌, ◌<◌, length, codes, subst}
+use Rattle.std.proofs.Common.{◌<◌, length, codes, subst}
 use Rattle.td_nets.specs.Views.{name_of}
 use Rattle.td_cli.proofs.Listing.{input_named, place_more}
 use Rattle.td_cli.proofs.describing.inputs.Goals as goal
