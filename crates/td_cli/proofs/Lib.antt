@@ -7,3 +7,4 @@ pub mod Moments
 pub mod Paths
 pub mod Questions
 pub mod Searches
+pub mod Listing

@@ -1,5 +1,5 @@
 -- How the program ends.
-use Rattle.std.proofs.Common.{◌≡◌, ◌≢◌, ◌⊎◌, ◌∙◌, ◌++◌, ℕ, List, [], ◌∷◌, Option, Some, None, Result, Ok, Err, OnErr, IfErr, refl, sym, ap, subst, inl, inr, append-nil, append_assoc, codes}
+use Rattle.std.proofs.Common.{◌≡◌, ◌≢◌, ◌⊎◌, ◌∙◌, ◌++◌, ℕ, Bool, List, [], ◌∷◌, Option, Some, None, Result, Ok, Err, OnErr, IfErr, refl, sym, ap, subst, inl, inr, append-nil, append_assoc, codes}
 use Rattle.std.specs.Borrow.{Bor}
 use Rattle.clap.specs.Words.{kind_of, HasKind}
 use Rattle.clap.specs.declared.error.Error.{Error}
@@ -332,11 +332,11 @@ abbrev pub certificate_file : List ℕ → Certificate → FileText
 certificate_file name certificate = record { name = name; text = spelling certificate }
 
 -- what a search says
-pub worst_product : (text : List ℕ) (default : Delay) (words : QuestionWords) (budget : ℕ) (name vcd : Option (List ℕ)) (report : List ℕ)
-    (certificate : Option Certificate) (dumps : List FileText) → IsWorstReport text default words budget vcd report certificate dumps
-    → IsWorstProduct text default words budget name vcd
+pub worst_product : (text : List ℕ) (default : Delay) (words : QuestionWords) (budget : ℕ) (path : Bool) (name vcd : Option (List ℕ)) (report : List ℕ)
+    (certificate : Option Certificate) (dumps : List FileText) → IsWorstReport text default words budget path vcd report certificate dumps
+    → IsWorstProduct text default words budget path name vcd
     (record { report = report; files = certificate_files name certificate ++ dumps; ending = search_ending certificate })
-worst_product text default words budget name vcd report certificate dumps is =
+worst_product text default words budget path name vcd report certificate dumps is =
     record { certificate = certificate; dumps = dumps; is = is; files = refl; ends = refl }
 
 -- what a simulation says

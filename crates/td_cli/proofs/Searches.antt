@@ -1,14 +1,14 @@
 -- Words that ask for a search ask for nothing else.
-use Rattle.std.proofs.Common.{◌≡◌, ◌≢◌, ◌∙◌, ◌⊎◌, List, [], ℕ, Bool, true, false, Option, Some, sym, ap, subst, refl, true≢false, inl, inr, codes}
+use Rattle.std.proofs.Common.{◌≡◌, ◌≢◌, ◌∙◌, List, [], true, false, sym, ap, subst, refl, true≢false, inl, inr, codes}
 use Rattle.std.specs.Str.{bytes_eq}
 use Rattle.std.proofs.lemmas.Slice.Eq.{bytes_eq-Decides}
-use Rattle.clap.specs.Words.{Row, Text, kind_of, HasKind, subcommand_of}
+use Rattle.clap.specs.Words.{Row, Text, kind_of, HasKind}
 use Rattle.clap.specs.declared.error.Error.{Error}
 use Rattle.clap.specs.declared.error.kind.ErrorKind.TheVariants as kind
 use Rattle.td_gates.proofs.Places.{some-same}
 use Rattle.td_command.specs.declared.command.Request.{Request}
 use Rattle.td_command.specs.declared.command.Request.TheVariants as request
-use Rattle.td_command.specs.CommandLine.{Asks, CommandAsks, kinds_of, program}
+use Rattle.td_command.specs.CommandLine.{Asks, CommandAsks, kinds_of}
 use Rattle.td_cli.specs.declared.status.Status.{Status}
 use Rattle.td_cli.specs.Ends.{Streams}
 use Rattle.td_cli.specs.Requests.{is_search, AsksSearch, IsOutOfMemory}
@@ -23,6 +23,7 @@ plain_name name rows (request.Path asked) plain is same = other_word (codes "pat
 plain_name name rows (request.Bound asked) plain is same = other_word (codes "bound") (codes "worst") refl (sym is.0 ∙ same)
 plain_name name rows (request.Worst asked) plain is same = absurd (true≢false plain)
 plain_name name rows (request.Check asked) plain is same = other_word (codes "check") (codes "worst") refl (sym is.0 ∙ same)
+plain_name name rows (request.Info asked) plain is same = other_word (codes "info") (codes "worst") refl (sym is.0 ∙ same)
 
 search_name : (name : Text) (rows : List Row) (one : Request) → is_search one ≡ true → CommandAsks name rows one → name ≡ codes "worst"
 search_name name rows (request.Sim asked) search is = absurd (true≢false (sym search))
@@ -30,6 +31,7 @@ search_name name rows (request.Path asked) search is = absurd (true≢false (sym
 search_name name rows (request.Bound asked) search is = absurd (true≢false (sym search))
 search_name name rows (request.Worst asked) search is = is.0
 search_name name rows (request.Check asked) search is = absurd (true≢false (sym search))
+search_name name rows (request.Info asked) search is = absurd (true≢false (sym search))
 
 -- words that ask for something else ask for no search
 pub no_search : (words : List Text) (one : Request) → Asks words one → is_search one ≡ false → ¬ AsksSearch words

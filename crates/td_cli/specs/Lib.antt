@@ -8,6 +8,8 @@ pub mod Paths
 pub mod BoundReports
 pub mod CheckReports
 pub mod WorstReports
+pub mod InfoReports
+pub mod Chains
 pub mod Files
 pub mod Devices
 pub mod Refusals

@@ -29,8 +29,9 @@ use Rattle.td_cli.specs.PathReports.{IsPathReport}
 use Rattle.td_cli.specs.BoundReports.{IsBoundReport}
 use Rattle.td_cli.specs.CheckReports.{IsCheckReport}
 use Rattle.td_cli.specs.WorstReports.{IsWorstReport}
+use Rattle.td_cli.specs.InfoReports.{IsInfoReport}
 use Rattle.td_cli.specs.Refusals.{refusal_text, unwritten_text}
-use Rattle.td_cli.specs.Outcomes.{HasNoReport, HasNoPath, HasNoBounds, HasNoAnswer, HasNoVerdict}
+use Rattle.td_cli.specs.Outcomes.{HasNoCircuit, HasNoReport, HasNoPath, HasNoBounds, HasNoAnswer, HasNoVerdict}
 use Rattle.td_cli.specs.Files.{FileStep, FileText}
 use Rattle.td_cli.specs.Ends.{Product, IsReportOnly, Streams, Tells, Ends}
 
@@ -54,6 +55,10 @@ abbrev pub IsCheckProduct : List ℕ → Delay → List ℕ → Product → Type
 IsCheckProduct text default certificate product =
     IsReportOnly (IsCheckReport text default certificate product.ending) product.ending product
 
+-- what `info` says
+abbrev pub IsInfoProduct : List ℕ → Delay → Product → Type 0
+IsInfoProduct text default = IsReportOnly (IsInfoReport text default) Done
+
 -- the files of a search: the certificate of an exact answer, where a name is given
 abbrev pub certificate_files : Option (List ℕ) → Option Certificate → List FileText
 certificate_files (Some name) (Some certificate) = record { name = name; text = spelling certificate } ∷ []
@@ -65,11 +70,11 @@ search_ending (Some certificate) = Done
 search_ending None = Between
 
 -- what `worst` says: the files are the certificate, and then the dump
-pub record IsWorstProduct (text : List ℕ) (default : Delay) (words : QuestionWords) (budget : ℕ) (name vcd : Option (List ℕ)) (product : Product)
-    : Type 0 where
+pub record IsWorstProduct (text : List ℕ) (default : Delay) (words : QuestionWords) (budget : ℕ) (path : Bool) (name vcd : Option (List ℕ))
+    (product : Product) : Type 0 where
   pub certificate : Option Certificate
   pub dumps : List FileText
-  pub is : IsWorstReport text default words budget vcd product.report certificate dumps
+  pub is : IsWorstReport text default words budget path vcd product.report certificate dumps
   pub files : product.files ≡ certificate_files name certificate ++ dumps
   pub ends : product.ending ≡ search_ending certificate
 
@@ -123,10 +128,11 @@ IsProductOf disk (request.Path asked) product =
 IsProductOf disk (request.Bound asked) product =
     Reads disk asked.file.now (λ text. IsBoundProduct text (delays asked.rise asked.fall) (words_of asked.first) (words_of asked.second) (words_of asked.at) asked.edges product)
 IsProductOf disk (request.Worst asked) product =
-    Reads disk asked.file.now (λ text. IsWorstProduct text (delays asked.rise asked.fall) (words_in asked) asked.budget (words_of asked.certificate) (words_of asked.vcd) product)
+    Reads disk asked.file.now (λ text. IsWorstProduct text (delays asked.rise asked.fall) (words_in asked) asked.budget asked.path (words_of asked.certificate) (words_of asked.vcd) product)
 IsProductOf disk (request.Check asked) product =
     Reads disk asked.file.now (λ text. Reads disk asked.certificate.now (λ certificate.
     IsCheckProduct text (delays asked.rise asked.fall) certificate product))
+IsProductOf disk (request.Info asked) product = Reads disk asked.file.now (λ text. IsInfoProduct text (delays asked.rise asked.fall) product)
 
 -- why a request is refused
 abbrev pub HoldsOf : Disk → Request → Refusal → Type 0
@@ -139,6 +145,7 @@ HoldsOf disk (request.Bound asked) =
 HoldsOf disk (request.Worst asked) = HoldsOnFile disk asked.file.now (λ text. HasNoAnswer text (delays asked.rise asked.fall) (words_in asked))
 HoldsOf disk (request.Check asked) =
     HoldsOnFile disk asked.file.now (λ text. HoldsOnFile disk asked.certificate.now (HasNoVerdict text (delays asked.rise asked.fall)))
+HoldsOf disk (request.Info asked) = HoldsOnFile disk asked.file.now (λ text. HasNoCircuit text (delays asked.rise asked.fall))
 
 -- whether a search is asked for
 abbrev pub is_search : Request → Bool

@@ -1,5 +1,5 @@
 -- What `worst` prints.
-use Rattle.std.specs.Prelude.{◌≡◌, ℕ, List, [], ◌++◌, codes, decimal, length, map, Bool, Option, Some, None}
+use Rattle.std.specs.Prelude.{◌≡◌, ℕ, List, [], ◌++◌, codes, decimal, length, map, Bool, true, false, Option, Some, None}
 use Rattle.td_gates.specs.declared.timing.Delay.{Delay}
 use Rattle.td_gates.specs.Table.{level_from}
 use Rattle.td_gates.specs.Wave.{Wave}
@@ -21,6 +21,7 @@ use Rattle.td_vcd.specs.Text.{dump, variable_waves}
 use Rattle.td_cli.specs.Files.{FileText, file_for}
 use Rattle.td_cli.specs.Admitting.{AreAdmitted}
 use Rattle.td_cli.specs.Reports.{newline, head_lines, IsSetting}
+use Rattle.td_cli.specs.PathReports.{TellsPath}
 
 abbrev pub exact_line : ℕ → List ℕ
 exact_line time = codes "exact " ++ decimal time ++ newline
@@ -79,13 +80,22 @@ IsDumpOf setting pair (Some name) files =
     (waves : Net → Wave) × Runs setting (map level_from pair.first) (map level_from pair.second) waves
     × (files ≡ file_for (Some name) (dump setting.netlist (variable_waves setting.netlist waves)))
 
--- The report and the certificate are those of an answer to what the words ask of the text, and the dump is that of its pair.
-pub record IsWorstReport (text : List ℕ) (default : Delay) (words : QuestionWords) (budget : ℕ) (vcd : Option (List ℕ)) (report : List ℕ)
-    (certificate : Option Certificate) (dumps : List FileText) : Type 0 where
+-- where it is asked for, the lines tell why the output that changes last in the pair's run does so when it does
+abbrev pub TellsPair : Bool → Setting → Pair → List ℕ → Type 0
+TellsPair false setting pair lines = lines ≡ []
+TellsPair true setting pair lines =
+    (waves : Net → Wave) × Runs setting (map level_from pair.first) (map level_from pair.second) waves × TellsPath setting waves None lines
+
+-- The report and the certificate are those of an answer to what the words ask of the text, and the lines behind it and the dump are those of
+-- its pair.
+pub record IsWorstReport (text : List ℕ) (default : Delay) (words : QuestionWords) (budget : ℕ) (path : Bool) (vcd : Option (List ℕ))
+    (report : List ℕ) (certificate : Option Certificate) (dumps : List FileText) : Type 0 where
   pub asked : Problem
   pub is_asked : IsAsked text default words asked
   pub found : Answer
   pub is_answer : IsAnswer asked budget found
-  pub is : report ≡ worst_text asked.setting.netlist found
+  pub chain : List ℕ
+  pub tells : TellsPair path asked.setting (pair_in found) chain
+  pub is : report ≡ worst_text asked.setting.netlist found ++ chain
   pub certified : certificate ≡ certificate_in asked found
   pub dumped : IsDumpOf asked.setting (pair_in found) vcd dumps

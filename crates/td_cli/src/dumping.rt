@@ -52,7 +52,7 @@ fn levels(alloc: Global, bits: &[bool]) -> Result<Vec<Level>, AllocError>
 }
 
 /// The run of a pair.
-fn run_of(alloc: Global, circuit: &Circuit, pair: &Pair) -> Result<Run, AllocError>
+pub fn run_of(alloc: Global, circuit: &Circuit, pair: &Pair) -> Result<Run, AllocError>
     requires first_fits { length pair.now.first ≡ length circuit.now.netlist.inputs }
     requires second_fits { length pair.now.second ≡ length circuit.now.netlist.inputs }
     ensures runs { IfOk result (λ run. Runs (setting circuit.now) (map level_from pair.now.first) (map level_from pair.now.second)

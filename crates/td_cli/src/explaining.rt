@@ -82,7 +82,12 @@ fn is_named(alloc: Global, name: &Name, word: &str) -> Result<bool, AllocError>
 }
 
 /// Appends the changes that lead to the last change of the output that changes last.
-fn latest(alloc: Global, text: &mut Text, circuit: &Circuit, run: &Run) -> Result<(), AllocError>
+pub fn latest(
+    alloc: Global,
+    text: &mut Text,
+    circuit: &Circuit,
+    run: &Run,
+) -> Result<(), AllocError>
     requires run { IsRunFor circuit.now run.now }
     ensures { OnOk result (TellsLatest circuit.now run.now text.old text.new) }
 {

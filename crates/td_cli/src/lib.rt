@@ -3,10 +3,13 @@
 
 mod asking;
 mod bounding;
+mod chaining;
 mod checking;
+mod describing;
 mod dumping;
 mod explaining;
 mod files;
+mod informing;
 mod memory_files;
 mod overwriting;
 mod program;
@@ -24,9 +27,11 @@ mod writer;
 pub use asking::QuestionWords;
 pub use bounding::bounds;
 pub use checking::{Checked, verdict_on};
+pub use describing::info;
 pub use dumping::Dump;
 pub use explaining::path;
 pub use files::{Files, ReadFault};
+pub use informing::carry_out_info;
 pub use memory_files::{MemoryFile, MemoryFiles, MemoryStep};
 pub use program::{
     carry_out, carry_out_bound, carry_out_check, carry_out_path, carry_out_sim, carry_out_worst,
@@ -38,8 +43,8 @@ pub use searching::{Found, worst};
 pub use simulate::{Simulated, sim};
 pub use status::Status;
 pub use td_command::{
-    BoundRequest, CheckRequest, PathRequest, Request, SimRequest, StrategyWord, WorstRequest, laws,
-    parse,
+    BoundRequest, CheckRequest, InfoRequest, PathRequest, Request, SimRequest, StrategyWord,
+    WorstRequest, laws, parse,
 };
 pub use text::Text;
 pub use vector::Symbol;

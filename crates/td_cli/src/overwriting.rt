@@ -22,6 +22,7 @@ pub fn overwriting<'a, F: Files>(files: &mut F, request: &Request<'a>) -> Option
         Request::Path(_) => None,
         Request::Bound(_) => None,
         Request::Check(_) => None,
+        Request::Info(_) => None,
     }
 }
 

@@ -24,6 +24,7 @@ use crate::checking::verdict_on;
 use crate::dumping::{Dump, write_dump};
 use crate::explaining::path;
 use crate::files::{Files, ReadFault};
+use crate::informing::run_info;
 use crate::overwriting::overwriting;
 use crate::refusal::Refusal;
 use crate::searching::worst;
@@ -202,6 +203,7 @@ fn run_plain_request<F: Files, O: Sink, E: Sink>(
         Request::Path(request) => run_path(alloc, files, *request, out, err),
         Request::Bound(request) => run_bound(alloc, files, *request, out, err),
         Request::Check(request) => run_check(alloc, files, *request, out, err),
+        Request::Info(request) => run_info(alloc, files, *request, out, err),
         Request::Worst(_) => unreachable!(),
     }
 }
@@ -331,6 +333,7 @@ fn run_worst<R: Threads + Wait + Sync, F: Files, O: Sink, E: Sink>(
                 words_in(request),
                 request.workers,
                 budget,
+                request.path,
                 request.certificate,
                 request.vcd,
                 out,
@@ -408,7 +411,7 @@ fn check_file<F: Files, O: Sink, E: Sink>(
 }
 
 /// Tells that a file can't be read, or want of memory.
-fn tell_unread<E: Sink>(alloc: Global, err: &mut E, file: &str, fault: ReadFault) -> Status
+pub fn tell_unread<E: Sink>(alloc: Global, err: &mut E, file: &str, fault: ReadFault) -> Status
     ensures { TellsUnread file.entry fault result (E.output err.old) (E.output err.new) }
 {
     match fault {
@@ -522,6 +525,7 @@ pub fn carry_out_worst<R: Threads + Wait + Sync, F: Files, O: Sink, E: Sink>(
     words: QuestionWords<'_>,
     workers: u32,
     budget: u64,
+    path: bool,
     name: Option<&str>,
     vcd: Option<&str>,
     out: &mut O,
@@ -531,10 +535,10 @@ pub fn carry_out_worst<R: Threads + Wait + Sync, F: Files, O: Sink, E: Sink>(
     requires few { workers ≤ 64 }
     requires modest { budget ≤ 10000000 }
     ensures { Takes (F.did files.old files.new) (λ steps.
-        Ends (IsWorstProduct text.now default words.entry budget (words_of name.entry) (words_of vcd.entry)) (HasNoAnswer text.now default words.entry) (F.breaks files.old) steps result
+        Ends (IsWorstProduct text.now default words.entry budget path (words_of name.entry) (words_of vcd.entry)) (HasNoAnswer text.now default words.entry) (F.breaks files.old) steps result
         (streams (O.output out.old) (E.output err.old)) (streams (O.output out.new) (E.output err.new))) }
 {
-    let found = match worst(rt, alloc, text, default, words, workers, budget, vcd) {
+    let found = match worst(rt, alloc, text, default, words, workers, budget, path, vcd) {
         Ok(found) => found,
         Err(refusal) => return tell_refusal(alloc, err, &refusal),
     };
@@ -650,7 +654,7 @@ fn write_waves<F: Files>(alloc: Global, files: &mut F, dump: &Dump<'_>) -> Resul
 }
 
 /// Writes a report to standard output, and tells where that fails.
-fn say<O: Sink, E: Sink>(report: &[u8], ending: Status, out: &mut O, err: &mut E) -> Status
+pub fn say<O: Sink, E: Sink>(report: &[u8], ending: Status, out: &mut O, err: &mut E) -> Status
     ensures { Says report.now ending result (streams (O.output out.old) (E.output err.old)) (streams (O.output out.new) (E.output err.new)) }
 {
     match out.write_all(report) {
@@ -696,7 +700,7 @@ fn tell<E: Sink>(err: &mut E, line: &[u8], status: Status) -> Status
 }
 
 /// Tells why a command was not carried out. Want of memory may be told in place of any reason.
-fn tell_refusal<E: Sink>(alloc: Global, err: &mut E, refusal: &Refusal<'_>) -> Status
+pub fn tell_refusal<E: Sink>(alloc: Global, err: &mut E, refusal: &Refusal<'_>) -> Status
     ensures { TellsReason refusal.now result (E.output err.old) (E.output err.new) }
 {
     let mut text = Text::new(alloc);

@@ -198,11 +198,7 @@ impl<'r, R: rt::Files + Input + AllocGlobal> Files for RealFiles<'r, R> {
     }
 
     fn are_one(&mut self, one: &str, other: &str) -> bool {
-        let other = if is_input(other) {
-            "/dev/stdin"
-        } else {
-            other
-        };
+        let other = if is_input(other) { "/dev/stdin" } else { other };
         match (fs::metadata(self.rt, one), fs::metadata(self.rt, other)) {
             (Ok(one), Ok(other)) => one.is_file() && other.is_file() && is_same(&one, &other),
             (Err(_), Err(_)) => self.are_one_new(one, other),

@@ -11,6 +11,7 @@ ghost use Rattle.td_cli.specs.WorstReports.{answer_lines, worst_text, certificat
 ghost use Rattle.td_cli.specs.Outcomes.{unanswered, question_words, IsRefusedFor, HasNoAnswer};
 
 use crate::asking::{QuestionWords, admit};
+use crate::chaining::with_chain;
 use crate::dumping::{Dump, pair_dump};
 use crate::refusal::Refusal;
 use crate::report;
@@ -68,7 +69,8 @@ fn question_of<'a>(
 }
 
 /// The report of the search for the worst delay of what the words ask, by so many workers, from 1 to 64, which handles at most so
-/// many nodes. The budget is at most 10,000,000. The waves of the given pair's run too, where a name is given for their file.
+/// many nodes. The budget is at most 10,000,000. Where they are asked for, the changes that lead to the last change of the given pair's run
+/// stand behind the report's other lines. The waves of that run too, where a name is given for their file.
 pub fn worst<'a, 'v, R: Threads + Wait + Sync>(
     rt: &R,
     alloc: Global,
@@ -77,6 +79,7 @@ pub fn worst<'a, 'v, R: Threads + Wait + Sync>(
     words: QuestionWords<'_>,
     workers: u32,
     budget: u64,
+    path: bool,
     vcd: Option<&'v str>,
 ) -> Result<Found<'v>, Refusal<'a>>
     requires some { 0 < workers }
@@ -84,7 +87,7 @@ pub fn worst<'a, 'v, R: Threads + Wait + Sync>(
     requires modest { budget ≤ 10000000 }
     // The report and the certificate are those of an answer of the search, and the waves those of its pair's run.
     ensures report { IfOk result (λ found.
-        IsWorstReport text.now default words.entry budget (words_of vcd.entry) found.report found.certificate (dump_files found.dump)) }
+        IsWorstReport text.now default words.entry budget path (words_of vcd.entry) found.report found.certificate (dump_files found.dump)) }
     ensures refusal { IfErr result (λ refusal. HasNoAnswer text.now default words.entry refusal) }
     // A certificate has a text.
     ensures spelled { IfOk result (λ found. IfSome found.certificate HasSpelling) }
@@ -108,10 +111,11 @@ pub fn worst<'a, 'v, R: Threads + Wait + Sync>(
     };
     let report = report_of(alloc, &circuit, &answer)?;
     let pair = pair_in(&answer).copy(alloc)?;
+    let explained = with_chain(alloc, &circuit, &pair, path, report)?;
     let certificate = certificate(&circuit, admit, moments, words.strategy, answer);
     let dump = pair_dump(alloc, vcd, circuit, &pair)?;
     Ok(Found {
-        report,
+        report: explained,
         certificate,
         dump,
     })

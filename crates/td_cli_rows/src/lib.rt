@@ -8,6 +8,8 @@ mod edges;
 #[cfg(test)]
 mod moments;
 #[cfg(test)]
+mod netlists;
+#[cfg(test)]
 mod paths;
 #[cfg(test)]
 mod plain;

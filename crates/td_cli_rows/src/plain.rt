@@ -14,8 +14,11 @@ fn needs_no_threads(rt: HostRuntime) -> Result<(), Fail> {
     let status = run_plain(alloc, &words, &mut files, &mut out, &mut err);
     let status = status.ok_or("a status")?;
     assert_eq!(rt; status.code(), 0);
-    assert_eq!(rt; out.bytes(), b"unit 1 ns\ndefaulted 0\nlast y 3\ntime 3\n");
-    assert_eq!(rt; err.bytes(), b"");
+    assert_eq!(rt;
+        out.bytes(),
+        b"unit 1 ns\ndefaulted 0\nlast y 3\ntime 3\n".as_slice()
+    );
+    assert_eq!(rt; err.bytes(), b"".as_slice());
     Ok(())
 }
 
@@ -29,8 +32,8 @@ fn searches_need_threads(rt: HostRuntime) -> Result<(), Fail> {
     let words = ["tdelay", "worst", "nowhere.v", "--cert", "out"];
     let status = run_plain(alloc, &words, &mut files, &mut out, &mut err);
     assert_eq!(rt; status.is_none(), true);
-    assert_eq!(rt; out.bytes(), b"");
-    assert_eq!(rt; err.bytes(), b"");
+    assert_eq!(rt; out.bytes(), b"".as_slice());
+    assert_eq!(rt; err.bytes(), b"".as_slice());
     assert_eq!(rt; files.steps().is_empty(), true);
     Ok(())
 }

@@ -403,6 +403,7 @@ Commands:
   bound  Bounds the delay of all pairs of vectors that two patterns allow
   worst  Searches for the worst delay of the admitted pairs of vectors, and a pair that has it
   check  Checks the certificate of a worst delay, and trusts nothing else
+  info   Tells what is in a netlist: its size, its depth, its delays, and its inputs in the order of a vector's characters
   help   Print this message or the help of the given subcommand(s)
 
 Options:
@@ -415,9 +416,12 @@ Examples:
   tdelay bound c17.v --first 0....
   tdelay worst c17.v --cert c17.cert
   tdelay check c17.v c17.cert
+  tdelay info c17.v
 
 A vector has a character for each input, in the order of the module's port list,
-and of a port of several bits from its left number to its right one.
+and of a port of several bits from its left number to its right one. `info` shows
+that order, a line for each input: `input 0 N1` is that of a vector's first character.
+FILE may be `-` for standard input.
 Standard output has one figure a line, a key and its value: docs/OUTPUT.md.
 
 Exit status:
@@ -434,8 +438,8 @@ const SIM_HELP: &[u8] = b"Simulates one pair of vectors: when each output change
 Usage: tdelay sim [OPTIONS] <FILE> <FROM> <TO>
 
 Arguments:
-  <FILE>  The netlist, a path, or `stdin` for standard input
-  <FROM>  The first vector: 0, 1 or x for each input in order, or `none`
+  <FILE>  The netlist, a path, or `-` or `stdin` for standard input
+  <FROM>  The first vector: 0, 1 or x for each input in the order that `info` shows, or `none` where there are no inputs
   <TO>    The second vector, which the inputs take from moment 0 or those of --at on
 
 Options:

@@ -13,8 +13,9 @@ use Rattle.clap.specs.Simple.{subcommand_rows, subcommand_rows_of}
 use Rattle.std.specs.Str.Parse.{ParsesUnsigned}
 use Rattle.clap.specs.Words.{Row, Text, ReadsOne, first_of, one_of}
 use Rattle.td_gates.proofs.Places.{some-same}
-use Rattle.td_command.specs.CommandLine.{AsksCheck, CommandAsks, EnteredAsks, HasCount, HasNumber}
+use Rattle.td_command.specs.CommandLine.{AsksCheck, AsksInfo, CommandAsks, EnteredAsks, HasCount, HasNumber}
 use Rattle.td_command.specs.declared.command.CheckRequest.{CheckRequest}
+use Rattle.td_command.specs.declared.command.InfoRequest.{InfoRequest}
 use Rattle.td_command.specs.declared.command.Request.{Request}
 use Rattle.td_command.specs.declared.command.Request.TheVariants as request
 
@@ -81,4 +82,25 @@ no_check matches name rows is_name are_rows is none asked has = go asked has.3
     go (request.Path asked) is = other_word (codes "check") (codes "path") refl (own ∙ is.0)
     go (request.Bound asked) is = other_word (codes "check") (codes "bound") refl (own ∙ is.0)
     go (request.Worst asked) is = other_word (codes "check") (codes "worst") refl (own ∙ is.0)
+    go (request.Info asked) is = other_word (codes "check") (codes "info") refl (own ∙ is.0)
     go (request.Check asked) is = none asked (subst (λ rows. AsksCheck rows asked) same is.1)
+
+-- where the words of `info` ask for nothing, nothing is asked for
+pub no_info : (matches : ArgMatches) (name : Text) (rows : List Row) → Some name ≡ subcommand_name_of matches
+    → Some rows ≡ option_map (λ p. p.1) (subcommand_rows_of matches) → name ≡ codes "info" → ((asked : InfoRequest) → ¬ AsksInfo rows asked)
+    → (asked : Request) → ¬ EnteredAsks (subcommand_rows_of matches) asked
+no_info matches name rows is_name are_rows is none asked has = go asked has.3
+  where
+    own : codes "info" ≡ has.0
+    own = sym is ∙ some-same name has.0 (is_name ∙ name_goes (out-ArgMatches matches).subcommand ∙ ap (option_map (λ p. p.0)) has.2)
+
+    same : has.1 ≡ rows
+    same = sym (some-same rows has.1 (are_rows ∙ ap (option_map (λ p. p.1)) has.2))
+
+    go : (asked : Request) → CommandAsks has.0 has.1 asked → ⊥
+    go (request.Sim asked) is = other_word (codes "info") (codes "sim") refl (own ∙ is.0)
+    go (request.Path asked) is = other_word (codes "info") (codes "path") refl (own ∙ is.0)
+    go (request.Bound asked) is = other_word (codes "info") (codes "bound") refl (own ∙ is.0)
+    go (request.Worst asked) is = other_word (codes "info") (codes "worst") refl (own ∙ is.0)
+    go (request.Check asked) is = other_word (codes "info") (codes "check") refl (own ∙ is.0)
+    go (request.Info asked) is = none asked (subst (λ rows. AsksInfo rows asked) same is.1)

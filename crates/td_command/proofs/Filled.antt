@@ -8,12 +8,13 @@ use Rattle.clap.specs.Simple.{App, Shape, built_leaf, inherited, marked_built, w
 use Rattle.clap.specs.declared.builder.value_parser.ValueParser.TheVariants.{Bool as AsBool, Names, Signed, Unsigned}
 use Rattle.clap.specs.Walk.{Row, Rule, Text, action_of, arg_by_id, first_of, most_values}
 use Rattle.clap.specs.declared.builder.action.ArgAction.TheVariants.{Set, SetTrue, Help}
-use Rattle.td_command.specs.CommandLine.{AsksBound, AsksCheck, AsksPath, AsksSim, AsksWorst, HasWord, behind, bound_command, check_command, listed, path_command, program, sim_command, strategy_names, worst_command}
+use Rattle.td_command.specs.CommandLine.{AsksBound, AsksCheck, AsksInfo, AsksPath, AsksSim, AsksWorst, HasWord, behind, bound_command, check_command, info_command, listed, path_command, program, sim_command, strategy_names, worst_command}
 use Rattle.td_command.specs.declared.command.SimRequest.{SimRequest}
 use Rattle.td_command.specs.declared.command.PathRequest.{PathRequest}
 use Rattle.td_command.specs.declared.command.BoundRequest.{BoundRequest}
 use Rattle.td_command.specs.declared.command.WorstRequest.{WorstRequest}
 use Rattle.td_command.specs.declared.command.CheckRequest.{CheckRequest}
+use Rattle.td_command.specs.declared.command.InfoRequest.{InfoRequest}
 use Rattle.td_command.proofs.Rows.{IsKnown}
 use Rattle.td_command.proofs.Levels.{IsPlainLeaf, IsTaken, has_default}
 use Rattle.td_command.proofs.Numbers.{HasCountOption, HasOption, count_there, default_there, given_text, number_there, text_there}
@@ -38,6 +39,9 @@ worst = filled_in (worst_command (listed strategy_names))
 
 abbrev pub check : Shape
 check = filled_in check_command
+
+abbrev pub info : Shape
+info = filled_in info_command
 
 known_one : {command : List Rule} {rule : Rule} → arg_by_id command rule.id ≡ Some rule → action_of rule ≡ Set
     → (unwrap_or_range rule.range).start_inclusive ≡ 1 → most_values rule ≡ 1 → length rule.defaults ≤ 1 → IsKnown command rule
@@ -183,10 +187,13 @@ worst_is_plain = record {
                       (
                         known_one refl refl refl refl (omega arith),
                         (
-                          known_one refl refl refl refl (omega arith),
+                          known_flag refl refl refl refl refl (omega arith),
                           (
                             known_one refl refl refl refl (omega arith),
-                            (known_help refl refl (omega arith), tt),
+                            (
+                              known_one refl refl refl refl (omega arith),
+                              (known_help refl refl (omega arith), tt),
+                            ),
                           ),
                         ),
                       ),
@@ -216,6 +223,18 @@ check_is_plain = record {
           (known_help refl refl (omega arith), tt),
         ),
       ),
+    ),
+  );
+  once = refl;
+}
+
+pub info_is_plain : IsPlainLeaf info
+info_is_plain = record {
+  known = (
+    known_one refl refl refl refl (omega arith),
+    (
+      known_one refl refl refl refl (omega arith),
+      (known_one refl refl refl refl (omega arith), (known_help refl refl (omega arith), tt)),
     ),
   );
   once = refl;
@@ -311,6 +330,7 @@ asks_worst rows taken =
     let workers = number_there worst (codes "workers") 1 64 rows (has_option _ refl refl refl) taken in
     let strategy = strategy_there worst rows (has_name_option _ refl refl refl refl) taken in
     let budget = number_there worst (codes "budget") 0 10000000 rows (has_option _ refl refl refl) taken in
+    let path = flag_there worst (codes "path") rows (is_flag _ refl refl refl) taken in
     let default = default_there worst rows (has_option _ refl refl refl) (has_option _ refl refl refl) taken in (
       record {
         file = behind file.0;
@@ -324,6 +344,7 @@ asks_worst rows taken =
         budget = budget.0;
         certificate = word_of (codes "cert") rows;
         vcd = word_of (codes "vcd") rows;
+        path = path.0;
         rise = default.0.rise;
         fall = default.0.fall;
       },
@@ -339,6 +360,7 @@ asks_worst rows taken =
         budget = (budget.1, budget.3);
         certificate = word_there (codes "cert") rows;
         vcd = word_there (codes "vcd") rows;
+        path = path.1;
         default = default.1;
       },
     )
@@ -350,4 +372,12 @@ asks_check rows taken =
     let default = default_there check rows (has_option _ refl refl refl) (has_option _ refl refl refl) taken in (
       record { file = behind file.0; certificate = behind certificate.0; rise = default.0.rise; fall = default.0.fall },
       record { file = file.1; certificate = certificate.1; default = default.1 },
+    )
+
+pub asks_info : (rows : List Row) → IsTaken info rows → (asked : InfoRequest) × AsksInfo rows asked
+asks_info rows taken =
+    let file = text_there info.rules (codes "FILE") rows (taken.given.0 refl) taken.rules in
+    let default = default_there info rows (has_option _ refl refl refl) (has_option _ refl refl refl) taken in (
+      record { file = behind file.0; rise = default.0.rise; fall = default.0.fall },
+      record { file = file.1; default = default.1 },
     )

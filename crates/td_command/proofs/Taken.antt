@@ -15,7 +15,7 @@ use Rattle.td_command.specs.declared.command.Request.TheVariants as request
 use Rattle.td_command.proofs.Rows.{found_has, neither}
 use Rattle.td_command.proofs.Turns.{IsNoHelp, walk_stops}
 use Rattle.td_command.proofs.Levels.{checked, level_taken}
-use Rattle.td_command.proofs.Filled.{asks_bound, asks_check, asks_path, asks_sim, asks_worst, bound, bound_is_plain, check, check_is_plain, path, path_is_plain, sim, sim_is_plain, worst, worst_is_plain}
+use Rattle.td_command.proofs.Filled.{asks_bound, asks_check, asks_info, asks_path, asks_sim, asks_worst, bound, bound_is_plain, check, check_is_plain, info, info_is_plain, path, path_is_plain, sim, sim_is_plain, worst, worst_is_plain}
 
 -- ---- the words before a command, and its name
 
@@ -80,6 +80,11 @@ check_asks name words answers other none =
     let asked = asks_check (rows_after check.rules [] words) (level_taken check words check_is_plain none) in
     (request.Check asked.0, (refl, asked.1))
 
+info_asks : AsksWhereTaken info
+info_asks name words answers other none =
+    let asked = asks_info (rows_after info.rules [] words) (level_taken info words info_is_plain none) in
+    (request.Info asked.0, (refl, asked.1))
+
 -- `help` is no name at which the words stop
 help_asks : (shape : Shape) → shape.name ≡ codes "help" → shape.aliases ≡ [] → AsksWhereTaken shape
 help_asks shape named no_alias name words answers other none = absurd (other (sym is))
@@ -116,5 +121,5 @@ words_that_are_taken_ask words taken =
     let app = built program in
     let stops = top_stops (built program) (argument_words program words) refl refl taken in
     let asked = entered_asks (built program) (walk app.top.rules (names_of app) nothing_held (argument_words program words)).stopped
-    (sim_asks, (path_asks, (bound_asks, (worst_asks, (check_asks, (help_asks _ refl refl, tt)))))) stops in
+    (sim_asks, (path_asks, (bound_asks, (worst_asks, (check_asks, (info_asks, (help_asks _ refl refl, tt))))))) stops in
     (asked.0, record { taken = taken; asks = asked.1 })

@@ -14,6 +14,7 @@ use Rattle.td_command.specs.declared.command.StrategyWord.{StrategyWord}
 use Rattle.td_command.specs.declared.command.StrategyWord.TheVariants.{Least, Lead}
 use Rattle.td_command.specs.declared.command.WorstRequest.{WorstRequest}
 use Rattle.td_command.specs.declared.command.CheckRequest.{CheckRequest}
+use Rattle.td_command.specs.declared.command.InfoRequest.{InfoRequest}
 use Rattle.td_command.specs.declared.command.Request.{Request}
 use Rattle.td_command.specs.declared.command.Request.TheVariants as request
 
@@ -81,6 +82,10 @@ with_cube app = with_rule (with_rule app (option (codes "first"))) (option (code
 abbrev pub with_edges : App → App
 with_edges app = with_rule app (flag (codes "edges"))
 
+-- whether the chain of the given pair is asked for too
+abbrev pub with_path : App → App
+with_path app = with_rule app (flag (codes "path"))
+
 -- the pairs that a search admits: those of a cube, where some inputs are held and only so many may flip
 abbrev pub with_admitted : App → App
 with_admitted app = with_rule (with_rule (with_cube app) (option (codes "hold"))) (count_option (codes "flips"))
@@ -103,16 +108,19 @@ bound_command = with_default (with_edges (with_moments (with_cube (with_rule (ne
 
 abbrev pub worst_command : Listed → App
 worst_command strategies =
-    with_default (with_vcd (with_search strategies (with_moments (with_admitted (with_rule (new_app (codes "worst")) (needed (codes "FILE")))))))
+    with_default (with_path (with_vcd (with_search strategies (with_moments (with_admitted (with_rule (new_app (codes "worst")) (needed (codes "FILE"))))))))
 
 abbrev pub check_command : App
 check_command = with_default (with_rule (with_rule (new_app (codes "check"))
     (needed (codes "FILE"))) (needed (codes "CERT")))
 
+abbrev pub info_command : App
+info_command = with_default (with_rule (new_app (codes "info")) (needed (codes "FILE")))
+
 abbrev pub with_commands : Listed → App → App
 with_commands strategies app =
-    with_subcommand (with_subcommand (with_subcommand (with_subcommand (with_subcommand app sim_command.top) path_command.top) bound_command.top)
-    (worst_command strategies).top) check_command.top
+    with_subcommand (with_subcommand (with_subcommand (with_subcommand (with_subcommand (with_subcommand app sim_command.top) path_command.top)
+    bound_command.top) (worst_command strategies).top) check_command.top) info_command.top
 
 abbrev pub named : App
 named = new_app (codes "tdelay")
@@ -234,12 +242,18 @@ pub record AsksWorst (rows : List Row) (asked : WorstRequest) : Type 0 where
   pub budget : HasBudget rows asked.budget
   pub certificate : HasWord (codes "cert") rows asked.certificate
   pub vcd : HasWord (codes "vcd") rows asked.vcd
+  pub path : HasFlag (codes "path") rows asked.path
   pub default : HasDefault rows (delays asked.rise asked.fall)
 
 -- the words of `check` ask for this
 pub record AsksCheck (rows : List Row) (asked : CheckRequest) : Type 0 where
   pub file : first_of (codes "FILE") rows ≡ Some asked.file.now
   pub certificate : first_of (codes "CERT") rows ≡ Some asked.certificate.now
+  pub default : HasDefault rows (delays asked.rise asked.fall)
+
+-- the words of `info` ask for this
+pub record AsksInfo (rows : List Row) (asked : InfoRequest) : Type 0 where
+  pub file : first_of (codes "FILE") rows ≡ Some asked.file.now
   pub default : HasDefault rows (delays asked.rise asked.fall)
 
 -- the command of this name, with these words, asks for this
@@ -249,6 +263,7 @@ CommandAsks name rows (request.Path asked) = (name ≡ codes "path") × AsksPath
 CommandAsks name rows (request.Bound asked) = (name ≡ codes "bound") × AsksBound rows asked
 CommandAsks name rows (request.Worst asked) = (name ≡ codes "worst") × AsksWorst rows asked
 CommandAsks name rows (request.Check asked) = (name ≡ codes "check") × AsksCheck rows asked
+CommandAsks name rows (request.Info asked) = (name ≡ codes "info") × AsksInfo rows asked
 
 -- a command was given, and asks for this
 abbrev pub EnteredAsks : Option (Text × List Row) → Request → Type 0
@@ -276,6 +291,7 @@ IsCarriedOut (request.Bound asked) = IsInRange (delays asked.rise asked.fall)
 IsCarriedOut (request.Worst asked) =
     IsInRange (delays asked.rise asked.fall) × (asked.budget ≤ 10000000) × (0 < asked.workers) × (asked.workers ≤ 64)
 IsCarriedOut (request.Check asked) = IsInRange (delays asked.rise asked.fall)
+IsCarriedOut (request.Info asked) = IsInRange (delays asked.rise asked.fall)
 
 -- the answer is what is asked, none where nothing is
 abbrev pub IsAnswered : {X : Type 0} → (X → Type 0) → Option X → Type 0

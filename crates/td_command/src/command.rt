@@ -2,11 +2,13 @@
 
 ghost use Rattle.std.specs.Prelude.{◌≡◌, ◌<◌, ◌^◌, ℕ, codes, map, false, IfOk, IfErr, IfSome, IfNone};
 ghost use Rattle.clap.specs.Words.{app_of, rule_of, found_of, rows_of, subcommand_rows_of, HasKind};
-ghost use Rattle.td_command.specs.CommandLine.{needed, option, number_option, count_option, name_option, flag, sim_command, path_command, bound_command, worst_command, check_command, program_of};
-ghost use Rattle.td_command.specs.CommandLine.{with_pair, with_default, with_moments, with_vcd, with_output, with_cube, with_edges, with_admitted, with_search, IsOfStrategies};
-ghost use Rattle.td_command.specs.CommandLine.{HasNumber, HasCount, HasFlag, HasStrategy, HasDefault, HasWorkers, HasBudget, AsksSim, AsksPath, AsksBound, AsksWorst, AsksCheck, EnteredAsks, kinds_of, Asks, IsAnswered};
+ghost use Rattle.td_command.specs.CommandLine.{needed, option, number_option, count_option, name_option, flag, sim_command, path_command, bound_command, worst_command, check_command, info_command, bare, program_of};
+ghost use Rattle.td_command.specs.CommandLine.{with_pair, with_default, with_moments, with_vcd, with_output, with_cube, with_edges, with_path, with_admitted, with_search, IsOfStrategies};
+ghost use Rattle.td_command.specs.CommandLine.{HasNumber, HasCount, HasFlag, HasStrategy, HasDefault, HasWorkers, HasBudget, AsksSim, AsksPath, AsksBound, AsksWorst, AsksCheck, AsksInfo, EnteredAsks, kinds_of, Asks, IsAnswered};
 
-use crate::help::{BOUND_HELP, CHECK_HELP, HELP, PATH_HELP, SIM_HELP, VERSION, WORST_HELP};
+use crate::help::{
+    BOUND_HELP, CHECK_HELP, HELP, INFO_HELP, PATH_HELP, SIM_HELP, VERSION, WORST_HELP,
+};
 use clap::builder::ValueParser;
 use clap::{Arg, ArgAction, ArgMatches, Command, Error};
 use std::alloc::{AllocError, Global};
@@ -86,6 +88,8 @@ pub struct WorstRequest<'a> {
     pub certificate: Option<&'a str>,
     /// Where the waves of the given pair's run go.
     pub vcd: Option<&'a str>,
+    /// Whether the chain of changes of the given pair is asked for too.
+    pub path: bool,
     /// The delays of gates that state none.
     pub rise: u32,
     pub fall: u32,
@@ -101,6 +105,15 @@ pub struct CheckRequest<'a> {
     pub fall: u32,
 }
 
+/// What is in a netlist.
+#[derive(Clone, Copy, Debug)]
+pub struct InfoRequest<'a> {
+    pub file: &'a str,
+    /// The delays of gates that state none.
+    pub rise: u32,
+    pub fall: u32,
+}
+
 /// What the words of a command line ask for.
 #[derive(Clone, Copy, Debug)]
 pub enum Request<'a> {
@@ -109,6 +122,7 @@ pub enum Request<'a> {
     Bound(BoundRequest<'a>),
     Worst(WorstRequest<'a>),
     Check(CheckRequest<'a>),
+    Info(InfoRequest<'a>),
 }
 
 /// The most threads that may search.
@@ -193,7 +207,7 @@ fn file<'a>(alloc: Global) -> Arg<'a>
     needed(
         alloc,
         "FILE",
-        "The netlist, a path, or `stdin` for standard input",
+        "The netlist, a path, or `-` or `stdin` for standard input",
     )
 }
 
@@ -266,7 +280,7 @@ fn with_pair<'a>(alloc: Global, command: Command<'a>) -> Result<Command<'a>, All
     let from = needed(
         alloc,
         "FROM",
-        "The first vector: 0, 1 or x for each input in order, or `none`",
+        "The first vector: 0, 1 or x for each input in the order that `info` shows, or `none` where there are no inputs",
     );
     let to = needed(
         alloc,
@@ -284,7 +298,7 @@ fn with_cube<'a>(alloc: Global, command: Command<'a>) -> Result<Command<'a>, All
         alloc,
         "first",
         "TRITS",
-        "The first vector: 0, 1 or . (free) for each input in order; all free where left out",
+        "The first vector: 0, 1 or . (free) for each input in the order that `info` shows; all free where left out",
     );
     let second = option(
         alloc,
@@ -305,6 +319,18 @@ fn with_edges<'a>(alloc: Global, command: Command<'a>) -> Result<Command<'a>, Al
         "Bounds by edges too, each net's rise and fall apart (e), and by edges and possible levels at once (n)",
     );
     command.arg(edges)
+}
+
+/// Whether the chain of the given pair is asked for, as a flag.
+fn with_path<'a>(alloc: Global, command: Command<'a>) -> Result<Command<'a>, AllocError>
+    ensures { IfOk result (λ new. app_of new ≡ with_path (app_of command.entry)) }
+{
+    let path = flag(
+        alloc,
+        "path",
+        "Behind the other lines, the changes that lead to the last change of the given pair, as `path` prints them",
+    );
+    command.arg(path)
 }
 
 /// The pairs that a search admits, as options.
@@ -410,7 +436,8 @@ fn worst_command<'a>(alloc: Global) -> Result<Command<'a>, AllocError>
         .after_help(WORST_HELP)
         .arg(file(alloc))?;
     let command = with_moments(alloc, with_admitted(alloc, command)?)?;
-    with_default(alloc, with_vcd(alloc, with_search(alloc, command)?)?)
+    let command = with_vcd(alloc, with_search(alloc, command)?)?;
+    with_default(alloc, with_path(alloc, command)?)
 }
 
 fn check_command<'a>(alloc: Global) -> Result<Command<'a>, AllocError>
@@ -419,7 +446,7 @@ fn check_command<'a>(alloc: Global) -> Result<Command<'a>, AllocError>
     let certificate = needed(
         alloc,
         "CERT",
-        "The certificate, a path, or `stdin` for standard input",
+        "The certificate, a path, or `-` or `stdin` for standard input",
     );
     let command = Command::new(alloc, "check")
         .about("Checks the certificate of a worst delay, and trusts nothing else")
@@ -429,19 +456,39 @@ fn check_command<'a>(alloc: Global) -> Result<Command<'a>, AllocError>
     with_default(alloc, command)
 }
 
-fn command<'a>(alloc: Global) -> Result<Command<'a>, AllocError>
-    ensures { IfOk result (λ new. IsOfStrategies program_of (app_of new)) }
+fn info_command<'a>(alloc: Global) -> Result<Command<'a>, AllocError>
+    ensures { IfOk result (λ new. app_of new ≡ info_command) }
+{
+    let command = Command::new(alloc, "info")
+        .about(
+            "Tells what is in a netlist: its size, its depth, its delays, and its inputs in the order of a vector's characters",
+        )
+        .after_help(INFO_HELP)
+        .arg(file(alloc))?;
+    with_default(alloc, command)
+}
+
+/// The program before it is told its commands.
+fn bare<'a>(alloc: Global) -> Command<'a>
+    ensures { app_of result ≡ bare }
 {
     Command::new(alloc, "tdelay")
         .about("Worst transition delay of a netlist of Verilog gate primitives")
         .version(VERSION)
         .after_help(HELP)
         .subcommand_required(true)
+}
+
+fn command<'a>(alloc: Global) -> Result<Command<'a>, AllocError>
+    ensures { IfOk result (λ new. IsOfStrategies program_of (app_of new)) }
+{
+    bare(alloc)
         .subcommand(sim_command(alloc)?)?
         .subcommand(path_command(alloc)?)?
         .subcommand(bound_command(alloc)?)?
         .subcommand(worst_command(alloc)?)?
-        .subcommand(check_command(alloc)?)
+        .subcommand(check_command(alloc)?)?
+        .subcommand(info_command(alloc)?)
 }
 
 /// The number of an option.
@@ -585,6 +632,7 @@ fn worst_of<'a>(matches: &ArgMatches<'a>) -> Option<WorstRequest<'a>>
     let workers = workers(matches)?;
     let strategy = strategy(matches)?;
     let budget = budget(matches)?;
+    let path = flag_given(matches, "path")?;
     let default = default(matches)?;
     Some(WorstRequest {
         file,
@@ -598,6 +646,7 @@ fn worst_of<'a>(matches: &ArgMatches<'a>) -> Option<WorstRequest<'a>>
         budget,
         certificate: matches.get_str("cert"),
         vcd: matches.get_str("vcd"),
+        path,
         rise: default.rise,
         fall: default.fall,
     })
@@ -617,6 +666,18 @@ fn check_of<'a>(matches: &ArgMatches<'a>) -> Option<CheckRequest<'a>>
     })
 }
 
+fn info_of<'a>(matches: &ArgMatches<'a>) -> Option<InfoRequest<'a>>
+    ensures { IsAnswered (AsksInfo (rows_of (found_of matches.now))) result }
+{
+    let file = matches.get_str("FILE")?;
+    let default = default(matches)?;
+    Some(InfoRequest {
+        file,
+        rise: default.rise,
+        fall: default.fall,
+    })
+}
+
 fn request_of<'a>(matches: &ArgMatches<'a>) -> Option<Request<'a>>
     ensures { IsAnswered (EnteredAsks (subcommand_rows_of matches.now)) result }
 {
@@ -627,6 +688,7 @@ fn request_of<'a>(matches: &ArgMatches<'a>) -> Option<Request<'a>>
         "bound" => Some(Request::Bound(bound_of(matches)?)),
         "worst" => Some(Request::Worst(worst_of(matches)?)),
         "check" => Some(Request::Check(check_of(matches)?)),
+        "info" => Some(Request::Info(info_of(matches)?)),
         _ => None,
     }
 }

@@ -10,9 +10,12 @@ Examples:
   tdelay bound c17.v --first 0....
   tdelay worst c17.v --cert c17.cert
   tdelay check c17.v c17.cert
+  tdelay info c17.v
 
 A vector has a character for each input, in the order of the module's port list,
-and of a port of several bits from its left number to its right one.
+and of a port of several bits from its left number to its right one. `info` shows
+that order, a line for each input: `input 0 N1` is that of a vector's first character.
+FILE may be `-` for standard input.
 Standard output has one figure a line, a key and its value: docs/OUTPUT.md.
 
 Exit status:
@@ -40,9 +43,19 @@ pub const WORST_HELP: &str = "\
 Examples:
   tdelay worst c17.v --workers 4 --cert c17.cert --vcd c17.vcd
   tdelay worst adder_8.v --strategy lead --cert adder_8.cert
+  tdelay worst c17.v --path
 It ends with status 3 where the budget or memory cuts the search short.";
 
 pub const CHECK_HELP: &str = "\
 Example:
   tdelay check c17.v c17.cert
 It ends with status 4 where the certificate is refused.";
+
+pub const INFO_HELP: &str = "\
+Example:
+  tdelay info c17.v
+It prints the module's name, the unit of a step, how many inputs, outputs and gates
+there are and how many gates take the default delay, the depth (the most gates on a
+way through the netlist), the least and the greatest delay, and the inputs and the
+outputs in order. The number of an input is the place of its character in a vector,
+from 0 on.";

@@ -6,5 +6,6 @@ mod help;
 pub mod laws;
 
 pub use command::{
-    BoundRequest, CheckRequest, PathRequest, Request, SimRequest, StrategyWord, WorstRequest, parse,
+    BoundRequest, CheckRequest, InfoRequest, PathRequest, Request, SimRequest, StrategyWord,
+    WorstRequest, parse,
 };

@@ -17,3 +17,7 @@ returns-in-Bound g c = asked_as _ (disk_of (g.F.Files.holds c.args.files.now) (g
 pub returns-in-Check : goal.returns-in-Check
 returns-in-Check g c = asked_as _ (disk_of (g.F.Files.holds c.args.files.now) (g.F.Files.fails c.args.files.now) (g.F.Files.breaks c.args.files.now) (g.F.Files.is_one c.args.files.now))
     _ _ _ _ _ c.in-Check.is c.run_check.ensures
+
+pub returns-in-Info : goal.returns-in-Info
+returns-in-Info g c = asked_as _ (disk_of (g.F.Files.holds c.args.files.now) (g.F.Files.fails c.args.files.now) (g.F.Files.breaks c.args.files.now) (g.F.Files.is_one c.args.files.now))
+    _ _ _ _ _ c.in-Info.is c.run_info.ensures

@@ -16,5 +16,5 @@ returns-in-Err g c = (
 pub returns-in-Ok : goal.returns-in-Ok
 returns-in-Ok g c =
     on_file_taking (g.F.Files.did c.args.files.now c.carry_out_worst.new.files) (disk_of (g.F.Files.holds c.args.files.now) (g.F.Files.fails c.args.files.now) (g.F.Files.breaks c.args.files.now) (g.F.Files.is_one c.args.files.now)) c.args.request.file.now c.deref.result.now (subst (λ bytes. g.F.Files.holds c.args.files.now c.args.request.file.now bytes) (sym c.deref.ensures.value) c.in-Ok.ensures.bytes)
-    (λ text. IsWorstProduct text (delays c.args.request.rise c.args.request.fall) (words_in c.args.request) c.args.request.budget (words_of c.args.request.certificate) (words_of c.args.request.vcd)) (λ text. HasNoAnswer text (delays c.args.request.rise c.args.request.fall) (words_in c.args.request)) _ _ _
+    (λ text. IsWorstProduct text (delays c.args.request.rise c.args.request.fall) (words_in c.args.request) c.args.request.budget c.args.request.path (words_of c.args.request.certificate) (words_of c.args.request.vcd)) (λ text. HasNoAnswer text (delays c.args.request.rise c.args.request.fall) (words_in c.args.request)) _ _ _
     (rw (c.read.ensures.stays, c.in-Some.ensures.delay, c.words_in.ensures, c.from-budget.ensures) at c.carry_out_worst.ensures)

@@ -28,3 +28,15 @@ pair_dump-requires-clause-second_fits g c =
 pub returns-in_err-pair-clause-refusal : goal.returns-in_err-pair-clause-refusal
 returns-in_err-pair-clause-refusal g c =
     let p = err_from_is_err_and c.from_residual-in_err-pair.result c.from_residual-in_err-pair.ensures.1 in rw (p.1, p.2) tt
+
+pub with_chain-requires-clause-first_fits : goal.with_chain-requires-clause-first_fits
+with_chain-requires-clause-first_fits g c =
+    rw (c.in_ok-pair.ensures, c.pair_in.ensures) ((pair_fits _ c.args.budget c.in-Ok.answer c.in-Ok.ensures.answer).0)
+
+pub with_chain-requires-clause-second_fits : goal.with_chain-requires-clause-second_fits
+with_chain-requires-clause-second_fits g c =
+    rw (c.in_ok-pair.ensures, c.pair_in.ensures) ((pair_fits _ c.args.budget c.in-Ok.answer c.in-Ok.ensures.answer).1)
+
+pub returns-in_err-explained-clause-refusal : goal.returns-in_err-explained-clause-refusal
+returns-in_err-explained-clause-refusal g c =
+    let p = err_from_is_err_and c.from_residual-in_err-explained.result c.from_residual-in_err-explained.ensures.1 in rw (p.1, p.2) tt

@@ -19,6 +19,9 @@ returns-in_err-strategy c = rw c.from_residual-in_err-strategy.ensures (λ asked
 pub returns-in_err-budget : goal.returns-in_err-budget
 returns-in_err-budget c = rw c.from_residual-in_err-budget.ensures (λ asked has. c.in_err-budget.ensures _ has.budget)
 
+pub returns-in_err-path : goal.returns-in_err-path
+returns-in_err-path c = rw c.from_residual-in_err-path.ensures (λ asked has. c.in_err-path.ensures _ has.path)
+
 pub returns-in_err-default : goal.returns-in_err-default
 returns-in_err-default c = rw c.from_residual-in_err-default.ensures (λ asked has. c.in_err-default.ensures _ has.default)
 
@@ -35,5 +38,6 @@ returns c = record {
   budget = c.in_ok-budget.ensures;
   certificate = sym (c.get_str-6.ensures ∙ first_value-rows (found_of c.args.matches.now) (codes "cert"));
   vcd = sym (c.get_str-7.ensures ∙ first_value-rows (found_of c.args.matches.now) (codes "vcd"));
+  path = c.in_ok-path.ensures;
   default = rw c.default-2.view_is c.in_ok-default.ensures;
 }

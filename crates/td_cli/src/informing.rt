@@ -1,0 +1,56 @@
+//! The command `info` on files.
+
+ghost use Rattle.std.specs.Prelude.{[]};
+ghost use Rattle.td_gates.specs.Delays.{IsInRange};
+ghost use Rattle.td_command.specs.CommandLine.{delays};
+ghost use Rattle.td_cli.specs.Ends.{Ends, streams};
+ghost use Rattle.td_cli.specs.Files.{Takes};
+ghost use Rattle.td_cli.specs.Outcomes.{HasNoCircuit};
+ghost use Rattle.td_cli.specs.Requests.{disk_of, IsInfoProduct, RequestRuns};
+ghost use Rattle.td_command.specs.declared.command.Request.TheVariants as Asked;
+
+use crate::describing::info;
+use crate::files::Files;
+use crate::program::{say, tell_refusal, tell_unread};
+use crate::status::Status;
+use std::alloc::Global;
+use td_command::InfoRequest;
+use td_gates::{Delay, Sink};
+
+/// The command `info`.
+pub fn run_info<F: Files, O: Sink, E: Sink>(
+    alloc: Global,
+    files: &mut F,
+    request: InfoRequest<'_>,
+    out: &mut O,
+    err: &mut E,
+) -> Status
+    requires { IsInRange (delays request.rise request.fall) }
+    ensures { Takes (F.did files.old files.new) (λ steps. RequestRuns (disk_of (F.holds files.old) (F.fails files.old) (F.breaks files.old) (F.is_one files.old)) (Asked.Info request.entry) steps result
+        (streams (O.output out.old) (E.output err.old)) (streams (O.output out.new) (E.output err.new))) }
+{
+    let Some(default) = Delay::new(request.rise, request.fall) else {
+        return Status::BadCommand;
+    };
+    match files.read(alloc, request.file) {
+        Ok(text) => carry_out_info(alloc, &text, default, out, err),
+        Err(fault) => tell_unread(alloc, err, request.file, fault),
+    }
+}
+
+/// Carries out `info` on bytes that were read: the report goes to `out`, why there is none to `err`.
+pub fn carry_out_info<O: Sink, E: Sink>(
+    alloc: Global,
+    text: &[u8],
+    default: Delay,
+    out: &mut O,
+    err: &mut E,
+) -> Status
+    ensures { Ends (IsInfoProduct text.now default) (HasNoCircuit text.now default) (λ _. ⊥) [] result
+        (streams (O.output out.old) (E.output err.old)) (streams (O.output out.new) (E.output err.new)) }
+{
+    match info(alloc, text, default) {
+        Ok(report) => say(report.bytes(), Status::Done, out, err),
+        Err(refusal) => tell_refusal(alloc, err, &refusal),
+    }
+}
