@@ -27,9 +27,7 @@ pub const SLOW_ARM: &str = "buf #4 s(t,a); or #1 g(y,b,t);";
 
 /// The text of a module with these inputs and gates, and the output y.
 pub fn module_of(alloc: Global, inputs: &str, gates: &str) -> Result<String, AllocError> {
-    format!(in alloc;
-        "module t ({inputs}, y);\ninput {inputs};\noutput y;\n{gates}\nendmodule\n"
-    )
+    format!(in alloc; "module t ({inputs}, y);\ninput {inputs};\noutput y;\n{gates}\nendmodule\n")
 }
 
 /// A circuit with these inputs and gates, and the output y. The error is want of memory, or a text that is refused.

@@ -53,7 +53,16 @@ fn led<R: Threads + Wait + Sync + Abort>(
     let moments = Vec::from_slice(alloc, circuit.moments())?;
     assert!(rt; 0 < workers && workers <= 64);
     assert_eq!(rt; admit.held().len(), circuit.input_count());
-    match worst_with(rt, alloc, circuit, &admit, &Own, Strategy::Lead, workers, 1_000_000) {
+    match worst_with(
+        rt,
+        alloc,
+        circuit,
+        &admit,
+        &Own,
+        Strategy::Lead,
+        workers,
+        1_000_000,
+    ) {
         Ok(Answer::Exact { time, pair, tree }) => {
             let question = Question::new(admit, moments);
             Ok(certificate_of(circuit, question, time, pair, tree))
