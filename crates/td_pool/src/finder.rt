@@ -17,7 +17,7 @@ use td_search::{Finding, Strategy};
 /// How workers find out about cubes, by one strategy, for any number of workers at a time. What is found is true of the circuit.
 pub trait Finder {
     /// What a worker uses again for each cube.
-    type Scratch: Drop;
+    type Scratch: Drop + Send;
 
     /// The strategy.
     ghost by: { Strategy };

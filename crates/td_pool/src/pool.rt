@@ -236,6 +236,7 @@ fn fresh<F: Finder>(
     requires first { has_delay (problem_by F.by circuit.now admit.now) (representative admit.now admit.now.pins) first }
     ensures { IfOk result (IsStarting (problem_by F.by circuit.now admit.now) word.now) }
 {
+    let _pins = admit.pins();
     let best = first_best::<F>(alloc, circuit, admit, first)?;
     let mut seat = seat;
     let _seen = word.raise(&mut seat, first);
