@@ -1,0 +1,39 @@
+-- Why certificates aren't joined.
+use Rattle.std.specs.Prelude.{◌≡◌, ◌≢◌, ℕ, ◌<◌, Bool, true, List, [], ◌∷◌, All, map, length, slice_get, Option, Some, None, ◌⊎◌}
+use Rattle.td_domain.specs.declared.cubes.Trit.{Trit}
+use Rattle.td_domain.specs.declared.cubes.Trit.TheVariants.{Zero, One, Free}
+use Rattle.td_domain.specs.Admits.{Admitted, HasAdmitted}
+use Rattle.td_certificate.specs.declared.tree.Node.TheVariants as node
+use Rattle.td_certificate.specs.declared.certificate.Certificate.{Certificate}
+use Rattle.td_certificate.specs.Questions.{inputs_of}
+use Rattle.td_join.specs.declared.fault.JoinFault.{JoinFault}
+use Rattle.td_join.specs.declared.fault.JoinFault.TheVariants as fault
+use Rattle.td_join.specs.Joining.{pins_of, IsJoined}
+
+-- the trit that allows what one of two allows: known where both are the same
+abbrev pub widest : Trit → Trit → Trit
+widest Zero Zero = Zero
+widest One One = One
+widest this that = Free
+
+-- the least cube that has both
+abbrev pub both : List Trit → List Trit → List Trit
+both (this ∷ cube) (that ∷ other) = widest this that ∷ both cube other
+both cube other = []
+
+-- the least cube that has all of these, where there are some
+abbrev pub hull : List Trit → List (List Trit) → List Trit
+hull cube [] = cube
+hull cube (other ∷ others) = hull (both cube other) others
+
+-- the two certificates at these places
+pub record AreAt (certificates : List Certificate) (this that : ℕ) (R : Certificate → Certificate → Type 0) : Type 0 where
+  pub one : Certificate
+  pub other : Certificate
+  pub one_at : slice_get certificates this ≡ Some one
+  pub other_at : slice_get certificates that ≡ Some other
+  pub holds : R one other
+
+-- nothing is joined of these with these pins
+abbrev pub IsUnjoinable : List Certificate → List Trit → Type 0
+IsUnjoinable certificates pins = (whole : Certificate) → ¬ IsJoined certificates pins whole

@@ -1,0 +1,4 @@
+pub mod Partition
+pub mod Joining
+pub mod Faults
+pub mod Steps

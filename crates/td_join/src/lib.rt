@@ -1,0 +1,8 @@
+//! Certificates of the parts of one question, joined into one certificate.
+#![tactic(auto)]
+
+mod fault;
+mod parts;
+mod steps;
+
+pub use fault::JoinFault;
