@@ -1,2 +1,6 @@
 pub mod Parting
 pub mod Joins
+pub mod Cubing
+pub mod Restricting
+pub mod Stacking
+pub mod Weights

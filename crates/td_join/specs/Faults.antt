@@ -2,6 +2,8 @@
 use Rattle.std.specs.Prelude.{◌≡◌, ◌≢◌, ℕ, ◌<◌, Bool, true, List, [], ◌∷◌, All, map, length, slice_get, Option, Some, None, ◌⊎◌}
 use Rattle.td_domain.specs.declared.cubes.Trit.{Trit}
 use Rattle.td_domain.specs.declared.cubes.Trit.TheVariants.{Zero, One, Free}
+use Rattle.td_domain.specs.Pairs.{Pair}
+use Rattle.td_domain.specs.Cubes.{IsIn}
 use Rattle.td_domain.specs.Admits.{Admitted, HasAdmitted}
 use Rattle.td_certificate.specs.declared.tree.Node.TheVariants as node
 use Rattle.td_certificate.specs.declared.certificate.Certificate.{Certificate}
@@ -26,13 +28,20 @@ abbrev pub hull : List Trit → List (List Trit) → List Trit
 hull cube [] = cube
 hull cube (other ∷ others) = hull (both cube other) others
 
--- the two certificates at these places
-pub record AreAt (certificates : List Certificate) (this that : ℕ) (R : Certificate → Certificate → Type 0) : Type 0 where
+-- the certificates at two places, other ones, admit a pair of one another
+pub record IsOverlap (certificates : List Certificate) (this that : ℕ) : Type 0 where
   pub one : Certificate
   pub other : Certificate
   pub one_at : slice_get certificates this ≡ Some one
   pub other_at : slice_get certificates that ≡ Some other
-  pub holds : R one other
+  pub differ : this ≢ that
+  pub shares : HasAdmitted one.question.admit (pins_of other)
+
+-- An admitted pair lies in this cube, which is a part of the pins, and no pair of the cube in those of a certificate.
+pub record IsGap (admit : Admitted) (certificates : List Certificate) (cube : List Trit) : Type 0 where
+  pub admitted : HasAdmitted admit cube
+  pub inside : (pair : Pair) → IsIn pair cube → IsIn pair admit.pins
+  pub in_none : All (λ c. (pair : Pair) → IsIn pair cube → ¬ IsIn pair (pins_of c)) certificates
 
 -- nothing is joined of these with these pins
 abbrev pub IsUnjoinable : List Certificate → List Trit → Type 0

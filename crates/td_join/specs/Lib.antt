@@ -2,3 +2,4 @@ pub mod Partition
 pub mod Joining
 pub mod Faults
 pub mod Steps
+pub mod Stacks

@@ -2,6 +2,7 @@
 #![tactic(auto)]
 
 mod fault;
+mod joining;
 mod parts;
 mod steps;
 
