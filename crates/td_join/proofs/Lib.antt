@@ -4,3 +4,5 @@ pub mod Cubing
 pub mod Restricting
 pub mod Stacking
 pub mod Weights
+pub mod Acceptance
+pub mod Times

@@ -28,6 +28,29 @@ abbrev pub hull : List Trit → List (List Trit) → List Trit
 hull cube [] = cube
 hull cube (other ∷ others) = hull (both cube other) others
 
+-- what a certificate differs in from the first one, where it is told so
+abbrev pub IsUnlike : Certificate → Certificate → ℕ → JoinFault → Type 0
+IsUnlike first other place (fault.OtherCircuit this that) =
+    (this ≡ 0) × (that ≡ place) × ((first.gates ≢ other.gates) ⊎ (inputs_of first.question ≢ inputs_of other.question))
+IsUnlike first other place (fault.OtherHold this that) = (this ≡ 0) × (that ≡ place) × (first.question.admit.held ≢ other.question.admit.held)
+IsUnlike first other place (fault.OtherFlips this that) = (this ≡ 0) × (that ≡ place) × (first.question.admit.flips ≢ other.question.admit.flips)
+IsUnlike first other place (fault.OtherMoments this that) = (this ≡ 0) × (that ≡ place) × (first.question.moments ≢ other.question.moments)
+IsUnlike first other place fault = ⊥
+
+-- the first certificate, and another one that differs from it as told
+pub record IsUnlikeIn (certificates : List Certificate) (told : JoinFault) : Type 0 where
+  pub first : Certificate
+  pub other : Certificate
+  pub place : ℕ
+  pub first_at : slice_get certificates 0 ≡ Some first
+  pub other_at : slice_get certificates place ≡ Some other
+  pub unlike : IsUnlike first other place told
+
+-- a position of the pins is known, and not so in the cube, or there are others
+pub data IsOutside (pins cube : List Trit) : Type 0 where
+  lengths : length cube ≢ length pins → IsOutside pins cube
+  bits : (position : ℕ) (t : Trit) → slice_get pins position ≡ Some t → t ≢ Free → slice_get cube position ≢ Some t → IsOutside pins cube
+
 -- the certificates at two places, other ones, admit a pair of one another
 pub record IsOverlap (certificates : List Certificate) (this that : ℕ) : Type 0 where
   pub one : Certificate

@@ -1,8 +1,10 @@
 //! Certificates of the parts of one question, joined into one certificate.
 #![tactic(auto)]
 
+mod alike;
 mod fault;
 mod joining;
+pub mod laws;
 mod parts;
 mod steps;
 
