@@ -12,22 +12,6 @@ use Rattle.td_join.specs.declared.fault.JoinFault.{JoinFault}
 use Rattle.td_join.specs.declared.fault.JoinFault.TheVariants as fault
 use Rattle.td_join.specs.Joining.{pins_of, IsJoined}
 
--- the trit that allows what one of two allows: known where both are the same
-abbrev pub widest : Trit → Trit → Trit
-widest Zero Zero = Zero
-widest One One = One
-widest this that = Free
-
--- the least cube that has both
-abbrev pub both : List Trit → List Trit → List Trit
-both (this ∷ cube) (that ∷ other) = widest this that ∷ both cube other
-both cube other = []
-
--- the least cube that has all of these, where there are some
-abbrev pub hull : List Trit → List (List Trit) → List Trit
-hull cube [] = cube
-hull cube (other ∷ others) = hull (both cube other) others
-
 -- what a certificate differs in from the first one, where it is told so
 abbrev pub IsUnlike : Certificate → Certificate → ℕ → JoinFault → Type 0
 IsUnlike first other place (fault.OtherCircuit this that) =
@@ -50,6 +34,11 @@ pub record IsUnlikeIn (certificates : List Certificate) (told : JoinFault) : Typ
 pub data IsOutside (pins cube : List Trit) : Type 0 where
   lengths : length cube ≢ length pins → IsOutside pins cube
   bits : (position : ℕ) (t : Trit) → slice_get pins position ≡ Some t → t ≢ Free → slice_get cube position ≢ Some t → IsOutside pins cube
+
+-- the told certificate is outside
+abbrev pub IsOutsideIn : List Certificate → List Trit → JoinFault → Type 0
+IsOutsideIn certificates pins (fault.Outside place) = (c : Certificate) × (slice_get certificates place ≡ Some c) × IsOutside pins (pins_of c)
+IsOutsideIn certificates pins fault = ⊥
 
 -- the certificates at two places, other ones, admit a pair of one another
 pub record IsOverlap (certificates : List Certificate) (this that : ℕ) : Type 0 where

@@ -74,6 +74,25 @@ pub record IsJoined (certificates : List Certificate) (pins : List Trit) (whole 
   pub greatest : All (λ c. c.time ≤ whole.time) certificates
   pub pair : HasPair certificates whole.time whole.pair
 
+-- ---- the least cube with the pins of all
+
+-- the trit that allows what one of two allows: a known one where both are the same
+abbrev pub widest : Trit → Trit → Trit
+widest Zero Zero = Zero
+widest One One = One
+widest this that = Free
+
+-- the least cube that has both
+abbrev pub both : List Trit → List Trit → List Trit
+both (this ∷ cube) (that ∷ other) = widest this that ∷ both cube other
+both cube other = []
+
+-- the least cube that has the pins of all certificates, and those of none
+abbrev pub hull : List Certificate → List Trit
+hull [] = []
+hull (c ∷ []) = pins_of c
+hull (c ∷ d ∷ certificates) = both (pins_of c) (hull (d ∷ certificates))
+
 -- ---- laws
 
 -- where the parts are accepted of a netlist, so is the whole

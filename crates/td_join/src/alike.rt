@@ -1,12 +1,19 @@
 //! Whether certificates are of one circuit and, but for their pins, of one question.
 
-ghost use Rattle.std.specs.Prelude.{◌≡◌, IfErr, OnOk, All, slice_get, Some};
+ghost use Rattle.std.specs.Prelude.{◌≡◌, ◌↔◌, IsTrue, IfErr, OnOk, All, slice_get, Some};
 ghost use Rattle.td_certificate.specs.Trees.{IsTree};
 ghost use Rattle.td_join.specs.Faults.{IsUnlike, IsUnlikeIn};
 ghost use Rattle.td_join.specs.Joining.{IsAlike};
 
 use crate::fault::JoinFault;
 use td_certificate::Certificate;
+
+/// Whether the same inputs are held.
+fn hold_alike(this: &[bool], that: &[bool]) -> bool
+    ensures { IsTrue result ↔ (this.now ≡ that.now) }
+{
+    this == that
+}
 
 /// Whether a certificate is as the first one. The error says what they differ in.
 fn alike(first: &Certificate, place: usize, other: &Certificate) -> Result<(), JoinFault>
@@ -20,7 +27,7 @@ fn alike(first: &Certificate, place: usize, other: &Certificate) -> Result<(), J
     }
     let admit = first.question.admit();
     let others = other.question.admit();
-    if admit.held() != others.held() {
+    if !hold_alike(admit.held(), others.held()) {
         return Err(JoinFault::OtherHold(0, place));
     }
     if admit.flips() != others.flips() {

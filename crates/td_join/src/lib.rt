@@ -3,6 +3,7 @@
 
 mod alike;
 mod fault;
+mod hulls;
 mod joining;
 pub mod laws;
 mod parts;
