@@ -6,3 +6,4 @@ pub mod Stacking
 pub mod Weights
 pub mod Acceptance
 pub mod Times
+pub mod Widening

@@ -87,11 +87,15 @@ abbrev pub both : List Trit → List Trit → List Trit
 both (this ∷ cube) (that ∷ other) = widest this that ∷ both cube other
 both cube other = []
 
--- the least cube that has the pins of all certificates, and those of none
+-- the least cube that has a cube and the pins of some certificates
+abbrev pub hull_from : List Trit → List Certificate → List Trit
+hull_from cube [] = cube
+hull_from cube (c ∷ certificates) = hull_from (both cube (pins_of c)) certificates
+
+-- the least cube that has the pins of all certificates
 abbrev pub hull : List Certificate → List Trit
 hull [] = []
-hull (c ∷ []) = pins_of c
-hull (c ∷ d ∷ certificates) = both (pins_of c) (hull (d ∷ certificates))
+hull (c ∷ certificates) = hull_from (pins_of c) certificates
 
 -- ---- laws
 

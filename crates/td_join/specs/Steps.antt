@@ -1,5 +1,5 @@
 -- Internal: how certificates are joined, group by group.
-use Rattle.std.specs.Prelude.{◌≡◌, ◌≢◌, ℕ, ◌<◌, List, [], ◌∷◌, ◌++◌, All, Contains, filter, map, length, slice_get, Option, Some, None}
+use Rattle.std.specs.Prelude.{◌≡◌, ◌≢◌, ℕ, ◌<◌, ◌*◌, List, [], ◌∷◌, ◌++◌, All, Contains, filter, map, length, slice_get, Option, Some, None}
 use Rattle.td_domain.specs.declared.cubes.Trit.{Trit}
 use Rattle.td_domain.specs.declared.cubes.Trit.TheVariants.{Free}
 use Rattle.td_domain.specs.Pairs.{Pair}
@@ -15,6 +15,10 @@ use Rattle.td_join.specs.declared.parts.Group.{Group}
 use Rattle.td_join.specs.declared.steps.Step.{Step}
 use Rattle.td_join.specs.declared.steps.Step.TheVariants as step
 use Rattle.td_join.specs.Joining.{pins_of, is_zero, is_one, AreKnownAt, AreJoined}
+
+-- two pins for each input
+abbrev pub HasFit : Certificate → Type 0
+HasFit c = length (pins_of c) ≡ 2 * length c.question.admit.held
 
 abbrev pub certificate_of : Part → Certificate
 certificate_of p = p.certificate

@@ -4,6 +4,7 @@ ghost use Rattle.std.specs.Prelude.{◌≡◌, ◌↔◌, IsTrue, IfErr, OnOk, A
 ghost use Rattle.td_certificate.specs.Trees.{IsTree};
 ghost use Rattle.td_join.specs.Faults.{IsUnlike, IsUnlikeIn};
 ghost use Rattle.td_join.specs.Joining.{IsAlike};
+ghost use Rattle.td_join.specs.Steps.{HasFit};
 
 use crate::fault::JoinFault;
 use td_certificate::Certificate;
@@ -19,9 +20,11 @@ fn hold_alike(this: &[bool], that: &[bool]) -> bool
 fn alike(first: &Certificate, place: usize, other: &Certificate) -> Result<(), JoinFault>
     ensures ok { OnOk result (IsAlike first.now other.now) }
     ensures tree { IsTree other.now.tree }
+    ensures fit { HasFit other.now }
     ensures fault { IfErr result (IsUnlike first.now other.now place) }
 {
     let _nodes = other.tree.nodes();
+    let _pins = other.question.admit().pins();
     if first.gates != other.gates || first.question.inputs() != other.question.inputs() {
         return Err(JoinFault::OtherCircuit(0, place));
     }
@@ -44,6 +47,7 @@ pub fn all_alike(first: &Certificate, certificates: &[Certificate]) -> Result<()
     requires { slice_get certificates.now 0 ≡ Some first.now }
     ensures ok { OnOk result (All (IsAlike first.now) certificates.now) }
     ensures trees { OnOk result (All (λ c. IsTree c.tree) certificates.now) }
+    ensures fit { OnOk result (All HasFit certificates.now) }
     ensures fault { IfErr result (IsUnlikeIn certificates.now) }
 {
     for (place, other) in certificates.iter().enumerate() {

@@ -21,6 +21,7 @@ fn widest(this: Trit, that: Trit) -> Trit
 }
 
 /// Frees the positions of a cube at which another one has another trit.
+#[tactic(auto, using(crate::proofs::Widening::all_widened))]
 fn widen(cube: &mut Cube, other: &Cube)
     requires { length cube.old ≡ length other.now }
     ensures { cube.new ≡ both cube.old other.now }
@@ -28,6 +29,24 @@ fn widen(cube: &mut Cube, other: &Cube)
     for position in 0..cube.len() {
         cube.set(position, widest(cube.trit(position), other.trit(position)));
     }
+}
+
+/// The least cube that has the pins of all certificates. The error is want of memory.
+#[tactic(auto, using(crate::proofs::Widening::hull_at_end))]
+pub fn hull(
+    alloc: Global,
+    first: &Certificate,
+    certificates: &[Certificate],
+) -> Result<Cube, AllocError>
+    requires first { slice_get certificates.now 0 ≡ Some first.now }
+    requires fit { All (λ c. length (pins_of c) ≡ length (pins_of first.now)) certificates.now }
+    ensures { IfOk result (λ cube. cube ≡ hull certificates.now) }
+{
+    let mut cube = first.question.admit().pins().copy(alloc)?;
+    for certificate in certificates {
+        widen(&mut cube, certificate.question.admit().pins());
+    }
+    Ok(cube)
 }
 
 /// Whether the cube isn't a part of the pins: it has another number of positions, or at one of them not the bit that is pinned.

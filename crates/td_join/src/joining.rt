@@ -1,6 +1,7 @@
 //! Joining certificates.
 
-ghost use Rattle.std.specs.Prelude.{IfOk, IfErr, All};
+ghost use Rattle.std.specs.Prelude.{◌≡◌, ◌<◌, ◌≤◌, IfOk, IfErr, All, length, slice_get, Some};
+ghost use Rattle.td_certificate.specs.declared.certificate.Certificate.{Certificate as Told};
 ghost use Rattle.td_join.specs.Joining.{AreJoined};
 ghost use Rattle.td_join.specs.Steps.{certificates_of, IsPlaced};
 ghost use Rattle.td_join.specs.Stacks.{IsTreeFault};
@@ -9,7 +10,7 @@ use crate::fault::JoinFault;
 use crate::parts::{Group, Part};
 use crate::steps::{Step, step_of};
 use std::alloc::Global;
-use td_certificate::Node;
+use td_certificate::{Certificate, Node};
 use td_domain::Admit;
 
 /// The nodes of the tree of some certificates, whose whole admits these pairs.
@@ -33,4 +34,19 @@ fn joined_nodes(alloc: Global, admit: &Admit, parts: Vec<Part>) -> Result<Vec<No
         }
     }
     Ok(nodes)
+}
+
+/// The place of the first certificate with the greatest time.
+fn greatest(certificates: &[Certificate]) -> usize
+    requires { 0 < length certificates.now }
+    ensures within { result < length certificates.now }
+    ensures greatest { (worst : Told) → slice_get certificates.now result ≡ Some worst → All (λ c. c.time ≤ worst.time) certificates.now }
+{
+    let mut greatest = 0;
+    for (place, certificate) in certificates.iter().enumerate() {
+        if certificate.time > certificates[greatest].time {
+            greatest = place;
+        }
+    }
+    greatest
 }
