@@ -139,6 +139,44 @@ module _ (setting : Setting) (admit : Admitted) (most : ℕ) where
       (joined_tree _ _ low lows (All-filter (λ c. is_zero (slice_get (pins_of c) position)) (IsGoodPart setting admit most) certificates parts))
       (joined_tree _ _ high highs (All-filter (λ c. is_one (slice_get (pins_of c) position)) (IsGoodPart setting admit most) certificates parts))
 
+-- ---- trees that are joined are a tree
+
+record HasTree (nodes : List Node) : Type 0 where
+  tree : Tree
+  nodes_are : nodes_of tree ≡ nodes
+
+split_of : (position : ℕ) (low high : List Node) → HasTree low → HasTree high → HasTree (node.Split position ∷ (low ++ high))
+unfolding nodes_of
+split_of position low high lows highs = record {
+  tree = trees.Split position lows.tree highs.tree;
+  nodes_are = ap (λ (ns : List Node). node.Split position ∷ (ns ++ nodes_of highs.tree)) lows.nodes_are
+  ∙ ap (λ (ns : List Node). node.Split position ∷ (low ++ ns)) highs.nodes_are;
+}
+
+empty_of : HasTree (node.Empty ∷ [])
+unfolding nodes_of
+empty_of = record { tree = trees.Empty; nodes_are = refl }
+
+abbrev has_own_tree : Certificate → Type 0
+has_own_tree c = IsTree c.tree
+
+tree_of_joined : (admit : Admitted) (cube : List Trit) (certificates : List Certificate) (nodes : List Node) → AreJoined admit cube certificates nodes
+    → All has_own_tree certificates → HasTree nodes
+tree_of_joined admit _ _ _ (alone c) all =
+    let t = trees_are_counted.has_tree c.tree (All-contains has_own_tree (c ∷ []) c all (0, omega arith, refl)) in
+    record { tree = t.0; nodes_are = t.1 }
+tree_of_joined admit _ _ _ (missing cube none) all = empty_of
+tree_of_joined admit _ _ _ (halved cube certificates position low high free known lows highs) all =
+    split_of position low high
+    (tree_of_joined admit _ _ low lows (All-filter (λ c. is_zero (slice_get (pins_of c) position)) has_own_tree certificates all))
+    (tree_of_joined admit _ _ high highs (All-filter (λ c. is_one (slice_get (pins_of c) position)) has_own_tree certificates all))
+
+pub joined_is_tree : (admit : Admitted) (cube : List Trit) (certificates : List Certificate) (nodes : List Node) → AreJoined admit cube certificates nodes
+    → All (λ c. IsTree c.tree) certificates → IsTree nodes
+joined_is_tree admit cube certificates nodes joined all =
+    let t = tree_of_joined admit cube certificates nodes joined all in
+    subst (λ (ns : List Node). IsTree ns) t.nodes_are (trees_are_counted.counted t.tree)
+
 -- ---- pins
 
 data Bit (o : Option Trit) : Type 0 where

@@ -7,3 +7,4 @@ pub mod Weights
 pub mod Acceptance
 pub mod Times
 pub mod Widening
+pub mod Wholes

@@ -1,11 +1,12 @@
 -- Cubes that are widened.
-use Rattle.std.proofs.Common.{◌≡◌, ◌<◌, ◌≤◌, ◌+◌, get_or, take_all, drop-cons, ℕ, zero, suc, List, [], ◌∷◌, ◌++◌, length, set, Some, None, Option, take, drop, refl, sym, ap, subst, ◌∙◌, arith}
+use Rattle.std.proofs.Common.{◌≡◌, ◌≢◌, ◌<◌, ◌≤◌, ◌+◌, get_or, take_all, drop-cons, ℕ, zero, suc, List, [], ◌∷◌, ◌++◌, length, set, Some, None, Option, take, drop, refl, sym, ap, subst, ◌∙◌, arith}
 use Rattle.std.specs.Prelude.{slice_get}
 use Rattle.std.proofs.lemmas.List.{append-nil, drop_all}
 use Rattle.std.proofs.lemmas.Option.{none-some}
 use Rattle.td_domain.specs.declared.cubes.Trit.{Trit}
 use Rattle.td_domain.specs.declared.cubes.Trit.TheVariants.{Zero, One, Free}
 use Rattle.td_certificate.specs.declared.certificate.Certificate.{Certificate}
+use Rattle.td_join.specs.Faults.{IsOutside, lengths, bits}
 use Rattle.td_join.specs.Joining.{pins_of, widest, both, hull_from, hull}
 use Rattle.td_join.proofs.Cubing.{same_trits}
 
@@ -66,3 +67,12 @@ pub hull_at_end : (certificates : List Certificate) (first : Certificate) (i : �
     → hull_from cube (drop i certificates) ≡ hull_from (pins_of first) certificates → length certificates ≤ i → cube ≡ hull certificates
 hull_at_end certificates first i cube is before end =
     ap (λ (cs : List Certificate). hull_from cube cs) (sym (drop_all i certificates end)) ∙ before ∙ hull_of certificates first is
+
+-- ---- pins that aren't kept
+
+pub outside_at : (pins cube : List Trit) (position : ℕ) (p t : Trit) → slice_get pins position ≡ Some p → slice_get cube position ≡ Some t
+    → p ≢ Free → t ≢ p → IsOutside pins cube
+outside_at pins cube position p t pinned is known differ = bits position p pinned known (λ e. differ (same_trits t p (sym is ∙ e)))
+
+pub outside_by_length : (pins cube : List Trit) → length cube ≢ length pins → IsOutside pins cube
+outside_by_length pins cube differ = lengths differ

@@ -35,10 +35,17 @@ pub data IsOutside (pins cube : List Trit) : Type 0 where
   lengths : length cube ≢ length pins → IsOutside pins cube
   bits : (position : ℕ) (t : Trit) → slice_get pins position ≡ Some t → t ≢ Free → slice_get cube position ≢ Some t → IsOutside pins cube
 
--- the told certificate is outside
-abbrev pub IsOutsideIn : List Certificate → List Trit → JoinFault → Type 0
-IsOutsideIn certificates pins (fault.Outside place) = (c : Certificate) × (slice_get certificates place ≡ Some c) × IsOutside pins (pins_of c)
-IsOutsideIn certificates pins fault = ⊥
+-- the certificate of this place is told to be outside, and is
+abbrev pub IsOutsideAt : Certificate → List Trit → ℕ → JoinFault → Type 0
+IsOutsideAt c pins place (fault.Outside this) = (this ≡ place) × IsOutside pins (pins_of c)
+IsOutsideAt c pins place fault = ⊥
+
+-- one of the certificates is outside, as told
+pub record IsOutsideIn (certificates : List Certificate) (pins : List Trit) (told : JoinFault) : Type 0 where
+  pub certificate : Certificate
+  pub place : ℕ
+  pub at : slice_get certificates place ≡ Some certificate
+  pub outside : IsOutsideAt certificate pins place told
 
 -- the certificates at two places, other ones, admit a pair of one another
 pub record IsOverlap (certificates : List Certificate) (this that : ℕ) : Type 0 where

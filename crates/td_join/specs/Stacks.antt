@@ -7,6 +7,7 @@ use Rattle.td_domain.specs.Cubes.{IsIn}
 use Rattle.td_domain.specs.Admits.{Admitted}
 use Rattle.td_certificate.specs.declared.tree.Node.{Node}
 use Rattle.td_certificate.specs.declared.certificate.Certificate.{Certificate}
+use Rattle.td_certificate.specs.Questions.{Question}
 use Rattle.td_join.specs.declared.fault.JoinFault.{JoinFault}
 use Rattle.td_join.specs.declared.fault.JoinFault.TheVariants as fault
 use Rattle.td_join.specs.declared.parts.Group.{Group}
@@ -57,3 +58,10 @@ IsTreeFault admit certificates (fault.Crossed this that) =
     (this < length certificates) × (that < length certificates) × (¬ IsJoinable admit admit.pins certificates)
 IsTreeFault admit certificates (fault.Gap cube) = IsGap admit certificates cube
 IsTreeFault admit certificates fault = ⊥
+
+-- the certificate is of a circuit with so many gates, and of this question but for its pins
+pub record IsOfQuestion (gates : ℕ) (question : Question) (c : Certificate) : Type 0 where
+  pub gates_are : gates ≡ c.gates
+  pub held : question.admit.held ≡ c.question.admit.held
+  pub flips : question.admit.flips ≡ c.question.admit.flips
+  pub moments : question.moments ≡ c.question.moments

@@ -1,7 +1,8 @@
 //! The least cube that has the pins of all certificates, and whether pins lie in a cube.
 
 ghost use Rattle.std.specs.Prelude.{◌≡◌, ◌≢◌, ◌<◌, ◌≤◌, length, false, map, IfOk, IfErr, OnOk, IsTrue, All, slice_get, Some};
-ghost use Rattle.td_join.specs.Faults.{IsOutside, IsOutsideIn};
+ghost use Rattle.td_domain.specs.declared.cubes.Trit.{Trit as TritModel};
+ghost use Rattle.td_join.specs.Faults.{IsOutside, IsOutsideAt, IsOutsideIn};
 ghost use Rattle.td_join.specs.Joining.{pins_of, widest, both, hull};
 
 use crate::fault::JoinFault;
@@ -49,7 +50,18 @@ pub fn hull(
     Ok(cube)
 }
 
+/// Whether a bit is pinned, and another trit isn't the same.
+fn is_pinned_otherwise(pinned: Trit, trit: Trit) -> bool
+    ensures { IsTrue result → (pinned ≢ TritModel.Free) × (trit ≢ pinned) }
+{
+    match (pinned, trit) {
+        (Trit::Zero, Trit::One | Trit::Free) | (Trit::One, Trit::Zero | Trit::Free) => true,
+        _ => false,
+    }
+}
+
 /// Whether the cube isn't a part of the pins: it has another number of positions, or at one of them not the bit that is pinned.
+#[tactic(auto, using(crate::proofs::Widening::outside_by_length))]
 fn is_outside(cube: &Cube, pins: &Cube) -> bool
     ensures outside { IsTrue result → IsOutside pins.now cube.now }
     ensures inside { result ≡ false → length cube.now ≡ length pins.now }
@@ -58,12 +70,22 @@ fn is_outside(cube: &Cube, pins: &Cube) -> bool
         return true;
     }
     for position in 0..pins.len() {
-        let pinned = pins.trit(position);
-        if pinned != Trit::Free && cube.trit(position) != pinned {
+        if is_pinned_otherwise(pins.trit(position), cube.trit(position)) {
             return true;
         }
     }
     false
+}
+
+/// Whether a certificate's pins are a part of these. The error says that they aren't.
+fn inside(certificate: &Certificate, place: usize, pins: &Cube) -> Result<(), JoinFault>
+    ensures ok { OnOk result (length (pins_of certificate.now) ≡ length pins.now) }
+    ensures fault { IfErr result (IsOutsideAt certificate.now pins.now place) }
+{
+    if is_outside(certificate.question.admit().pins(), pins) {
+        return Err(JoinFault::Outside(place));
+    }
+    Ok(())
 }
 
 /// Whether the pins of all certificates are parts of these. The error says whose aren't.
@@ -72,9 +94,7 @@ pub fn all_inside(certificates: &[Certificate], pins: &Cube) -> Result<(), JoinF
     ensures fault { IfErr result (IsOutsideIn certificates.now pins.now) }
 {
     for (place, certificate) in certificates.iter().enumerate() {
-        if is_outside(certificate.question.admit().pins(), pins) {
-            return Err(JoinFault::Outside(place));
-        }
+        inside(certificate, place, pins)?;
     }
     Ok(())
 }

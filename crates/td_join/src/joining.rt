@@ -2,15 +2,16 @@
 
 ghost use Rattle.std.specs.Prelude.{◌≡◌, ◌<◌, ◌≤◌, IfOk, IfErr, All, length, slice_get, Some};
 ghost use Rattle.td_certificate.specs.declared.certificate.Certificate.{Certificate as Told};
-ghost use Rattle.td_join.specs.Joining.{AreJoined};
+ghost use Rattle.td_certificate.specs.Trees.{IsTree};
+ghost use Rattle.td_join.specs.Joining.{AreJoined, IsJoined};
 ghost use Rattle.td_join.specs.Steps.{certificates_of, IsPlaced};
-ghost use Rattle.td_join.specs.Stacks.{IsTreeFault};
+ghost use Rattle.td_join.specs.Stacks.{IsTreeFault, IsOfQuestion};
 
 use crate::fault::JoinFault;
-use crate::parts::{Group, Part};
+use crate::parts::{Group, Part, numbered};
 use crate::steps::{Step, step_of};
 use std::alloc::Global;
-use td_certificate::{Certificate, Node};
+use td_certificate::{Certificate, Node, Question, Tree};
 use td_domain::Admit;
 
 /// The nodes of the tree of some certificates, whose whole admits these pairs.
@@ -49,4 +50,32 @@ fn greatest(certificates: &[Certificate]) -> usize
         }
     }
     greatest
+}
+
+/// Joins certificates that are of one circuit and one question but for their pins.
+fn join_alike(
+    alloc: Global,
+    certificates: Vec<Certificate>,
+    gates: u32,
+    question: Question,
+) -> Result<Certificate, JoinFault>
+    requires some { 0 < length certificates.items }
+    requires alike { All (IsOfQuestion gates question) certificates.items }
+    requires trees { All (λ c. IsTree c.tree) certificates.items }
+    ensures joined { IfOk result (IsJoined certificates.items question.admit.pins) }
+    ensures question { IfOk result (λ whole. whole.question ≡ question) }
+    ensures fault { IfErr result (IsTreeFault question.admit certificates.items) }
+{
+    let first = &certificates[greatest(&certificates)];
+    let time = first.time;
+    let pair = first.pair.copy(alloc)?;
+    let parts = numbered(alloc, certificates)?;
+    let nodes = joined_nodes(alloc, question.admit(), parts)?;
+    Ok(Certificate {
+        gates,
+        question,
+        time,
+        pair,
+        tree: Tree::from_nodes(nodes),
+    })
 }
