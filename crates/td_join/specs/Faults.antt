@@ -65,3 +65,14 @@ pub record IsGap (admit : Admitted) (certificates : List Certificate) (cube : Li
 -- nothing is joined of these with these pins
 abbrev pub IsUnjoinable : List Certificate → List Trit → Type 0
 IsUnjoinable certificates pins = (whole : Certificate) → ¬ IsJoined certificates pins whole
+
+-- What a fault says of certificates that aren't joined with these pins. Nothing is said of want of memory.
+abbrev pub IsJoinFault : List Certificate → List Trit → JoinFault → Type 0
+IsJoinFault certificates pins fault.OutOfMemory = Unit {0}
+IsJoinFault certificates pins fault.NoCertificate = certificates ≡ []
+IsJoinFault certificates pins (fault.Outside place) = IsOutsideIn certificates pins (fault.Outside place)
+IsJoinFault certificates pins (fault.Overlap this that) = IsOverlap certificates this that × IsUnjoinable certificates pins
+IsJoinFault certificates pins (fault.Crossed this that) = (this < length certificates) × (that < length certificates) × IsUnjoinable certificates pins
+IsJoinFault certificates pins (fault.Gap cube) =
+    (first : Certificate) × (slice_get certificates 0 ≡ Some first) × IsGap (record first.question.admit { pins = pins }) certificates cube
+IsJoinFault certificates pins fault = IsUnlikeIn certificates fault

@@ -3,6 +3,7 @@
 
 mod alike;
 mod fault;
+mod growing;
 mod hulls;
 mod joining;
 pub mod laws;
@@ -10,3 +11,4 @@ mod parts;
 mod steps;
 
 pub use fault::JoinFault;
+pub use joining::{join, join_in};

@@ -1,7 +1,7 @@
 use Rattle.std.proofs.Common.{◌≡◌}
 use Rattle.td_join.specs.Steps.{certificates_of}
 use Rattle.td_join.specs.Stacks.{IsUnderWay, weights}
-use Rattle.td_join.proofs.joining.joined_nodes.Given as goal
+use Rattle.td_join.proofs.growing.joined_nodes.Given as goal
 
 abbrev pub invariant-loop-group : goal.invariant-loop-group
 invariant-loop-group l = IsUnderWay (certificates_of l.fn.parts.items) l.admit l.nodes.items l.groups.items

@@ -7,7 +7,7 @@ use Rattle.td_join.specs.Steps.{certificates_of}
 use Rattle.td_join.specs.Stacks.{IsUnderWay}
 use Rattle.td_join.proofs.Stacking.{top_known, leaf, halves, ended, tree_fault}
 use Rattle.td_join.proofs.Weights.{leaf_smaller, halves_smaller}
-use Rattle.td_join.proofs.joining.joined_nodes.Goals as goal
+use Rattle.td_join.proofs.growing.joined_nodes.Goals as goal
 
 pub returns-in_err-tree-clause-fault : goal.returns-in_err-tree-clause-fault
 returns-in_err-tree-clause-fault c =
