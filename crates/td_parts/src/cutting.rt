@@ -1,6 +1,8 @@
 //! Cutting the pins of a question into parts.
 
-ghost use Rattle.std.specs.Prelude.{◌≡◌, ◌<◌, ◌≤◌, ◌+◌, IfOk, OnOk, All, length};
+ghost use Rattle.std.specs.Prelude.{◌≡◌, ◌<◌, ◌≤◌, ◌+◌, IfOk, OnOk, All, length, slice_get, Some};
+ghost use Rattle.td_domain.specs.declared.cubes.Trit.TheVariants.{Free};
+ghost use Rattle.td_certificate.specs.Cubes.{zero_side, one_side};
 ghost use Rattle.td_parts.specs.Sharing.{AreShares, IsFreeIn};
 ghost use Rattle.td_domain.specs.Admits.{HasAdmitted};
 ghost use Rattle.td_join.specs.Partition.{IsPartition};
@@ -12,6 +14,19 @@ use std::collections::BinaryHeap;
 use td_circuit::Circuit;
 use td_domain::{Admit, Cube, Trit};
 use td_search::Strategy;
+
+/// The zero side and the one side of a cube at a free position. The error is want of memory.
+fn sides(alloc: Global, cube: &Cube, position: usize) -> Result<(Cube, Cube), AllocError>
+    requires { slice_get cube.now position ≡ Some Free }
+    ensures low { IfOk result (λ both. both.0 ≡ zero_side cube.now position) }
+    ensures high { IfOk result (λ both. both.1 ≡ one_side cube.now position) }
+{
+    let mut low = cube.copy(alloc)?;
+    low.set(position, Trit::Zero);
+    let mut high = cube.copy(alloc)?;
+    high.set(position, Trit::One);
+    Ok((low, high))
+}
 
 /// Halves a part at a position that is free in it. A half without an admitted pair is left out. The error is want of memory.
 fn halve(
@@ -27,10 +42,7 @@ fn halve(
     ensures shares { OnOk result (AreShares admit.now cubes.new.items) }
     ensures few { OnOk result (length cubes.new.items ≤ length cubes.old.items + 1) }
 {
-    let mut low = cubes[place].copy(alloc)?;
-    low.set(position, Trit::Zero);
-    let mut high = cubes[place].copy(alloc)?;
-    high.set(position, Trit::One);
+    let (low, high) = sides(alloc, &cubes[place], position)?;
     if !admit.any(&low) {
         cubes[place] = high;
         return Ok(());
