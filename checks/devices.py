@@ -20,6 +20,7 @@ TOP = os.path.dirname(os.path.dirname(os.path.abspath(__file__)))
 LONGEST = 30
 REPORT = b"unit 1 ns\ndefaulted 0\nlast y 3\ntime 3\n"
 WORST = b"unit 1 ns\ndefaulted 0\nexact 3\nfrom 0\nto 1\nnodes 1\n"
+SHORT = b"unit 1 ns\ndefaulted 0\nbetween 0 3\ncause budget\nfrom 0\nto 1\nnodes 1\n"
 CERTIFICATE = b"tdelay-cert 1\ncircuit 1 1\ntime 3\nfrom 0\nto 1\nb a 3\n"
 
 
@@ -117,6 +118,26 @@ class Cases:
         self.expect("/dev/null is a device", False, os.path.isfile("/dev/null"))
 
 
+    def standard_files(self):
+        """Certificates and waveforms that go to standard output."""
+        with open(self.path("-"), "w") as file:
+            file.write("kept")
+        self.run("certificate to -", ["worst", "t.v", "--cert", "-"], (0, CERTIFICATE, b""))
+        self.run("waveform to a file, certificate to -", ["worst", "t.v", "--cert", "-", "--vcd", "/dev/null"], (0, CERTIFICATE, b""))
+        self.run("no certificate to -", ["worst", "two.v", "--budget", "1", "--cert", "-"], (3, SHORT, b""))
+        with open(self.path("t.v"), "rb") as file:
+            self.run("a pipe", ["worst", "-", "--cert", "-"], (0, CERTIFICATE, b""), stdin=file)
+        self.run("both to -", ["worst", "t.v", "--cert", "-", "--vcd", "-"], (2, b"", b"tdelay: - is -\n"))
+        with open("/dev/full", "wb") as full:
+            self.run("certificate to a full disk as -", ["worst", "t.v", "--cert", "-"], unwritten(b"-", b""), stdout=full)
+            self.run("waveform to a full disk as -", ["sim", "t.v", "0", "1", "--vcd", "-"], unwritten(b"-", b""), stdout=full)
+        shown = subprocess.run([self.program, "sim", "t.v", "0", "1", "--vcd", "-"], cwd=self.folder, capture_output=True, timeout=LONGEST)
+        subprocess.run([self.program, "sim", "t.v", "0", "1", "--vcd", "t.vcd"], cwd=self.folder, capture_output=True, timeout=LONGEST)
+        with open(self.path("t.vcd"), "rb") as file:
+            self.expect("waveform to -", (0, file.read(), b""), (shown.returncode, shown.stdout, shown.stderr))
+        with open(self.path("-")) as file:
+            self.expect("a file of this name", "kept", file.read())
+
     def over_others(self):
         """Outputs that are the netlist, or each other."""
         with open(self.path("t.v"), "rb") as file:
@@ -133,7 +154,7 @@ class Cases:
         with open(self.path("t.v"), "rb") as file:
             self.run("over standard input", ["worst", "stdin", "--cert", "t.v"], (2, b"", b"tdelay: t.v is stdin\n"), stdin=file)
         with open(self.path("t.v"), "rb") as file:
-            self.run("over standard input as -", ["worst", "-", "--cert", "t.v"], (2, b"", b"tdelay: t.v is -\n"), stdin=file)
+            self.run("over standard input as -", ["worst", "-", "--cert", "t.v"], (2, b"", b"tdelay: t.v is stdin\n"), stdin=file)
         self.run("a device for both", [*worst, "--cert", "/dev/null", "--vcd", "/dev/null"], (0, WORST, b""))
         with open(self.path("t.v"), "rb") as file:
             self.expect("the netlist", text, file.read())
@@ -164,11 +185,14 @@ def main():
     with tempfile.TemporaryDirectory() as folder:
         with open(os.path.join(folder, "t.v"), "w") as file:
             file.write("module t(a, y);\ninput a;\noutput y;\nnot #(2,3) g(y,a);\nendmodule\n")
+        with open(os.path.join(folder, "two.v"), "w") as file:
+            file.write("module t(a, y);\ninput a;\noutput y;\nnot #1 n(b,a); and #2 g(y,a,b);\nendmodule\n")
         cases = Cases(program, folder)
         cases.reading()
         cases.fifos()
         cases.standard_output()
         cases.outputs()
+        cases.standard_files()
         cases.over_others()
         cases.whole_or_nothing()
     print(f"{cases.count} cases, {cases.wrong} wrong")

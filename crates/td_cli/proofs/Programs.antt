@@ -26,7 +26,7 @@ use Rattle.td_cli.specs.Reports.{IsSimReport}
 use Rattle.td_cli.specs.WorstReports.{IsWorstReport}
 use Rattle.td_command.specs.CommandLine.{kinds_of}
 use Rattle.td_cli.specs.Ends.{Product, Streams, streams, Tells, TellsReason, TellsUnread, TellsUnwritten, LosesOne, Says, Ends}
-use Rattle.td_cli.specs.Requests.{Disk, Reads, HoldsOnFile, certificate_files, search_ending, IsSimProduct, IsWorstProduct, IsOutOfMemory, IsShown, TellsText, IsProductOf, HoldsOf, KeepsFiles, Overwrites, RequestRuns, RequestEnds, ProgramEnds}
+use Rattle.td_cli.specs.Requests.{Disk, Reads, HoldsOnFile, certificate_files, search_ending, IsBeside, IsSimProduct, IsWorstProduct, IsOutOfMemory, IsShown, TellsText, IsProductOf, HoldsOf, KeepsFiles, Overwrites, RequestRuns, RequestEnds, ProgramEnds}
 
 -- a kind whose text goes to standard error isn't
 pub not_shown : (k : ErrorKind) → (k ≢ kind.DisplayHelp) × (k ≢ kind.DisplayVersion) → ¬ IsShown k
@@ -332,18 +332,18 @@ abbrev pub certificate_file : List ℕ → Certificate → FileText
 certificate_file name certificate = record { name = name; text = spelling certificate }
 
 -- what a search says
-pub worst_product : (text : List ℕ) (default : Delay) (words : QuestionWords) (budget : ℕ) (path : Bool) (name vcd : Option (List ℕ)) (report : List ℕ)
+pub worst_product : (text : List ℕ) (default : Delay) (words : QuestionWords) (budget : ℕ) (path : Bool) (name vcd : Option (List ℕ)) (report shown : List ℕ)
     (certificate : Option Certificate) (dumps : List FileText) → IsWorstReport text default words budget path vcd report certificate dumps
-    → IsWorstProduct text default words budget path name vcd
-    (record { report = report; files = certificate_files name certificate ++ dumps; ending = search_ending certificate })
-worst_product text default words budget path name vcd report certificate dumps is =
-    record { certificate = certificate; dumps = dumps; is = is; files = refl; ends = refl }
+    → IsBeside (certificate_files name certificate ++ dumps) report shown → IsWorstProduct text default words budget path name vcd
+    (record { report = shown; files = certificate_files name certificate ++ dumps; ending = search_ending certificate })
+worst_product text default words budget path name vcd report shown certificate dumps is beside =
+    record { report = report; certificate = certificate; dumps = dumps; is = is; files = refl; shown = beside; ends = refl }
 
 -- what a simulation says
-pub sim_product : (text : List ℕ) (default : Delay) (from to : List ℕ) (at vcd : Option (List ℕ)) (report : List ℕ) (dumps : List FileText)
-    → IsSimReport text default from to at vcd report dumps
-    → IsSimProduct text default from to at vcd (record { report = report; files = dumps; ending = Done })
-sim_product text default from to at vcd report dumps is = record { is = is; ends = refl }
+pub sim_product : (text : List ℕ) (default : Delay) (from to : List ℕ) (at vcd : Option (List ℕ)) (report shown : List ℕ) (dumps : List FileText)
+    → IsSimReport text default from to at vcd report dumps → IsBeside dumps report shown
+    → IsSimProduct text default from to at vcd (record { report = shown; files = dumps; ending = Done })
+sim_product text default from to at vcd report shown dumps is beside = record { report = report; is = is; shown = beside; ends = refl }
 
 -- ---- what is kept
 

@@ -18,3 +18,4 @@ pub mod Ends
 pub mod Requests
 pub mod MemoryFiles
 pub mod Dumps
+pub mod RealWriters

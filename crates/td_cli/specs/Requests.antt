@@ -1,5 +1,5 @@
 -- How each command and the program end.
-use Rattle.std.specs.Prelude.{◌≡◌, ℕ, Bool, true, false, List, [], ◌∷◌, ◌++◌, ◌⊎◌, Option, Some, None, ⊤, codes}
+use Rattle.std.specs.Prelude.{◌≡◌, ◌≢◌, ℕ, Bool, true, false, List, [], ◌∷◌, ◌++◌, ◌⊎◌, Option, Some, None, ⊤, codes}
 use Rattle.std.specs.Borrow.{Bor}
 use Rattle.clap.specs.Words.{IsAmong}
 use Rattle.clap.specs.declared.error.kind.ErrorKind.{ErrorKind}
@@ -37,9 +37,20 @@ use Rattle.td_cli.specs.Ends.{Product, IsReportOnly, Streams, Tells, Ends}
 
 -- ---- the commands, on bytes that were read
 
+-- one of the files is standard output
+abbrev pub GoesOut : List FileText → Type 0
+GoesOut [] = ⊥
+GoesOut (file ∷ files) = (file.name ≡ codes "-") ⊎ GoesOut files
+
+-- what is shown beside such files: the report, unless a file goes to standard output, which then holds the file alone
+abbrev pub IsBeside : List FileText → List ℕ → List ℕ → Type 0
+IsBeside files report shown = (¬ GoesOut files × (shown ≡ report)) ⊎ (GoesOut files × (shown ≡ []))
+
 -- what `sim` says
 pub record IsSimProduct (text : List ℕ) (default : Delay) (from to : List ℕ) (at vcd : Option (List ℕ)) (product : Product) : Type 0 where
-  pub is : IsSimReport text default from to at vcd product.report product.files
+  pub report : List ℕ
+  pub is : IsSimReport text default from to at vcd report product.files
+  pub shown : IsBeside product.files report product.report
   pub ends : product.ending ≡ Done
 
 -- what `path` says
@@ -72,10 +83,12 @@ search_ending None = Between
 -- what `worst` says: the files are the certificate, and then the dump
 pub record IsWorstProduct (text : List ℕ) (default : Delay) (words : QuestionWords) (budget : ℕ) (path : Bool) (name vcd : Option (List ℕ))
     (product : Product) : Type 0 where
+  pub report : List ℕ
   pub certificate : Option Certificate
   pub dumps : List FileText
-  pub is : IsWorstReport text default words budget path vcd product.report certificate dumps
+  pub is : IsWorstReport text default words budget path vcd report certificate dumps
   pub files : product.files ≡ certificate_files name certificate ++ dumps
+  pub shown : IsBeside product.files report product.report
   pub ends : product.ending ≡ search_ending certificate
 
 -- ---- the commands, on files
@@ -174,20 +187,29 @@ pub record IsOverwritten (disk : Disk) (out file : Option (List ℕ)) (reason : 
   pub one : disk.is_one written.now lost.now true
   pub told : reason ≡ refusal.OneFile written lost
 
+-- the name under which a file is read: standard input has two, of which `-` may be that of a file to be written too
+abbrev pub IsReadAs : List ℕ → List ℕ → Type 0
+IsReadAs name read = ((name ≢ codes "-") × (read ≡ name)) ⊎ ((name ≡ codes "-") × (read ≡ codes "stdin"))
+
 -- no file that a command writes is its netlist, or another file that it writes
 abbrev pub KeepsFiles : Disk → Request → Type 0
-KeepsFiles disk (request.Sim asked) = AreApart disk (words_of asked.vcd) (Some asked.file.now)
+KeepsFiles disk (request.Sim asked) = (read : List ℕ) × IsReadAs asked.file.now read × AreApart disk (words_of asked.vcd) (Some read)
 KeepsFiles disk (request.Worst asked) =
-    AreApart disk (words_of asked.certificate) (Some asked.file.now) × AreApart disk (words_of asked.vcd) (Some asked.file.now)
+    (read : List ℕ) × IsReadAs asked.file.now read
+    × AreApart disk (words_of asked.certificate) (Some read) × AreApart disk (words_of asked.vcd) (Some read)
     × AreApart disk (words_of asked.vcd) (words_of asked.certificate)
 KeepsFiles disk other = ⊤
 
+-- a file that a command would write is its netlist
+abbrev pub OverwritesRead : Disk → List ℕ → Option (List ℕ) → Refusal → Type 0
+OverwritesRead disk file out reason = (read : List ℕ) × IsReadAs file read × IsOverwritten disk out (Some read) reason
+
 -- a file that a command would write is its netlist, or another file that it would write
 abbrev pub Overwrites : Disk → Request → Refusal → Type 0
-Overwrites disk (request.Sim asked) reason = IsOverwritten disk (words_of asked.vcd) (Some asked.file.now) reason
+Overwrites disk (request.Sim asked) reason = OverwritesRead disk asked.file.now (words_of asked.vcd) reason
 Overwrites disk (request.Worst asked) reason =
-    IsOverwritten disk (words_of asked.certificate) (Some asked.file.now) reason
-    ⊎ (IsOverwritten disk (words_of asked.vcd) (Some asked.file.now) reason
+    OverwritesRead disk asked.file.now (words_of asked.certificate) reason
+    ⊎ (OverwritesRead disk asked.file.now (words_of asked.vcd) reason
     ⊎ IsOverwritten disk (words_of asked.vcd) (words_of asked.certificate) reason)
 Overwrites disk other reason = ⊥
 

@@ -1,7 +1,7 @@
 //! Files that a command would write over its other files.
 
 ghost use Rattle.std.specs.Prelude.{◌≡◌, Option, Some, IfSome, IfNone};
-ghost use Rattle.td_cli.specs.Requests.{disk_of, AreApart, IsOverwritten, KeepsFiles, Overwrites};
+ghost use Rattle.td_cli.specs.Requests.{disk_of, AreApart, IsOverwritten, IsReadAs, KeepsFiles, Overwrites};
 ghost use Rattle.td_cli.specs.Vectors.{words_of};
 ghost use Rattle.td_command.specs.declared.command.Request.TheVariants as Asked;
 
@@ -32,7 +32,7 @@ fn over_netlist<'a, F: Files>(files: &mut F, request: SimRequest<'a>) -> Option<
     ensures none { IfNone result (KeepsFiles (disk_of (F.holds files.old) (F.fails files.old) (F.breaks files.old) (F.is_one files.old)) (Asked.Sim request.entry)) }
     ensures stays { files.new ≡ files.old }
 {
-    over(files, request.vcd, Some(request.file))
+    over(files, request.vcd, Some(read_as(request.file)))
 }
 
 /// The certificate or the waves of `worst` in place of its netlist, or the waves in place of the certificate.
@@ -41,13 +41,21 @@ fn over_another<'a, F: Files>(files: &mut F, request: WorstRequest<'a>) -> Optio
     ensures none { IfNone result (KeepsFiles (disk_of (F.holds files.old) (F.fails files.old) (F.breaks files.old) (F.is_one files.old)) (Asked.Worst request.entry)) }
     ensures stays { files.new ≡ files.old }
 {
-    if let Some(refusal) = over(files, request.certificate, Some(request.file)) {
+    let read = read_as(request.file);
+    if let Some(refusal) = over(files, request.certificate, Some(read)) {
         return Some(refusal);
     }
-    if let Some(refusal) = over(files, request.vcd, Some(request.file)) {
+    if let Some(refusal) = over(files, request.vcd, Some(read)) {
         return Some(refusal);
     }
     over(files, request.vcd, request.certificate)
+}
+
+/// The name under which a file is read: `-` is `stdin`.
+fn read_as(name: &str) -> &str
+    ensures { IsReadAs name.now result.now }
+{
+    if name == "-" { "stdin" } else { name }
 }
 
 /// One file in place of another, where both are named.

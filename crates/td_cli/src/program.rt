@@ -12,7 +12,7 @@ ghost use Rattle.td_cli.specs.Dumps.{file_of, dump_files, HasRun};
 ghost use Rattle.td_cli.specs.Outcomes.{HasNoReport, HasNoPath, HasNoBounds, HasNoAnswer, HasNoVerdict};
 ghost use Rattle.td_cli.specs.Refusals.{unwritten_text};
 ghost use Rattle.td_cli.specs.Vectors.{words_of};
-ghost use Rattle.td_cli.specs.Requests.{disk_of, is_search, AsksSearch, strategy_of, words_in, IsSimProduct, IsPathProduct, IsBoundProduct, IsCheckProduct, IsWorstProduct, certificate_files, search_ending, Reads, HoldsOnFile, RequestRuns, RequestEnds, IsOutOfMemory, IsShown, TellsText, ProgramEnds, RefusesWords};
+ghost use Rattle.td_cli.specs.Requests.{disk_of, is_search, AsksSearch, strategy_of, words_in, IsBeside, IsSimProduct, IsPathProduct, IsBoundProduct, IsCheckProduct, IsWorstProduct, certificate_files, search_ending, Reads, HoldsOnFile, RequestRuns, RequestEnds, IsOutOfMemory, IsShown, TellsText, ProgramEnds, RefusesWords};
 ghost use Rattle.td_command.specs.declared.command.Request.TheVariants as Asked;
 ghost use Rattle.td_cli.specs.declared.refusal.Refusal.TheVariants as Reason;
 ghost use Rattle.td_cli.specs.declared.files.ReadFault.TheVariants as Fault;
@@ -442,7 +442,8 @@ pub fn carry_out_sim<F: Files, O: Sink, E: Sink>(
         Ok(simulated) => simulated,
         Err(refusal) => return tell_refusal(alloc, err, &refusal),
     };
-    let Ok(()) = out.write_all(simulated.report.bytes()) else {
+    let shown = beside_dump(&simulated.report, &simulated.dump);
+    let Ok(()) = out.write_all(shown) else {
         return tell(err, b"tdelay: cannot write stdout\n", Status::Device);
     };
     let Ok(()) = keep_dump(alloc, files, &simulated.dump, err) else {
@@ -542,7 +543,8 @@ pub fn carry_out_worst<R: Threads + Wait + Sync, F: Files, O: Sink, E: Sink>(
         Ok(found) => found,
         Err(refusal) => return tell_refusal(alloc, err, &refusal),
     };
-    let Ok(()) = out.write_all(found.report.bytes()) else {
+    let shown = beside_files(&found.report, name, &found.certificate, &found.dump);
+    let Ok(()) = out.write_all(shown) else {
         return tell(err, b"tdelay: cannot write stdout\n", Status::Device);
     };
     let Ok(()) = keep_certificate(alloc, files, name, &found.certificate, err) else {
@@ -552,6 +554,34 @@ pub fn carry_out_worst<R: Threads + Wait + Sync, F: Files, O: Sink, E: Sink>(
         return Status::Device;
     };
     ending(&found.certificate)
+}
+
+/// What is shown beside the waves of a run: the report, unless they go to standard output.
+fn beside_dump<'a>(report: &'a Text, dump: &Option<Dump<'_>>) -> &'a [u8]
+    ensures { IsBeside (dump_files dump.now) report.now result.now }
+{
+    match dump {
+        Some(dump) if dump.name == "-" => b"",
+        _ => report.bytes(),
+    }
+}
+
+/// What is shown beside the files of a search: the report, unless one of them goes to standard output.
+fn beside_files<'a>(
+    report: &'a Text,
+    name: Option<&str>,
+    certificate: &Option<Certificate>,
+    dump: &Option<Dump<'_>>,
+) -> &'a [u8]
+    ensures { IsBeside (certificate_files (words_of name.entry) certificate.now ++ dump_files dump.now) report.now result.now }
+{
+    let (Some(name), Some(_)) = (name, certificate) else {
+        return beside_dump(report, dump);
+    };
+    if name == "-" {
+        return b"";
+    }
+    beside_dump(report, dump)
 }
 
 /// How a search ends with a certificate, or without one.

@@ -9,7 +9,7 @@ use crate::files::{Files, ReadFault};
 use crate::writer::WriterSink;
 use std::alloc::Global;
 use std::fs::{File, Metadata};
-use std::io::Read;
+use std::io::{Print, Printer, Read};
 use std::os::unix::fs::MetadataExt;
 use std::path::Path;
 use std::{fs, io, rt};
@@ -33,24 +33,35 @@ struct Place {
 }
 
 /// A writer of a file of the system. A file is written beside the one whose place it takes; what isn't a file, as a device or a
-/// pipe, is written as it is.
+/// pipe, is written as it is, and so is standard output, whose name is `-`.
 #[derive(Drop)]
-pub struct RealWriter<F> {
+pub enum RealWriter<F, P> {
+    File(RealFile<F>),
+    Output(WriterSink<P>),
+}
+
+/// A file that is being written.
+#[derive(Drop)]
+pub struct RealFile<F> {
     sink: WriterSink<F>,
     place: Option<Place>,
 }
 
-impl<F: io::Write> Sink for RealWriter<F> {
+impl<F: io::Write, P: io::Write> Sink for RealWriter<F, P> {
     ghost use Rattle.std.specs.Prelude.{◌≡◌};
+    ghost use Rattle.td_cli.specs.RealWriters.{output_of};
 
-    ghost output = { λ writer. record { sent = F.contents writer.sink.writer; failures = writer.sink.failures } };
+    ghost output = { λ writer. output_of F.contents P.contents writer };
 
     fn write(&mut self, bytes: &[u8]) -> Result<usize, DeviceFault> {
-        self.sink.write(bytes)
+        match self {
+            RealWriter::File(file) => file.sink.write(bytes),
+            RealWriter::Output(sink) => sink.write(bytes),
+        }
     }
 }
 
-impl<'r, R: rt::Files + Input + AllocGlobal> RealFiles<'r, R> {
+impl<'r, R: rt::Files + Input + Print + AllocGlobal> RealFiles<'r, R> {
     ghost use Rattle.std.specs.Prelude.{◌≡◌};
 
     /// The files that the runtime `rt` gives.
@@ -61,14 +72,14 @@ impl<'r, R: rt::Files + Input + AllocGlobal> RealFiles<'r, R> {
     }
 
     /// A new file beside this one.
-    fn beside(&self, alloc: Global, target: String) -> io::Result<RealWriter<R::File>> {
+    fn beside(&self, alloc: Global, target: String) -> io::Result<RealFile<R::File>> {
         for number in 0..TRIES {
             let part = format!(in alloc; "{target}.part{number}")?;
             match File::create_new(self.rt, part.as_str()) {
                 Ok(file) => {
                     let sink = WriterSink::new(file);
                     let place = Some(Place { part, target });
-                    return Ok(RealWriter { sink, place });
+                    return Ok(RealFile { sink, place });
                 }
                 Err(error) => {
                     if error.kind() != io::ErrorKind::AlreadyExists {
@@ -81,12 +92,7 @@ impl<'r, R: rt::Files + Input + AllocGlobal> RealFiles<'r, R> {
     }
 
     /// A writer in the place of a file that is there, behind symbolic links, with the permissions of the old one.
-    fn in_place(
-        &self,
-        alloc: Global,
-        name: &str,
-        old: &Metadata,
-    ) -> io::Result<RealWriter<R::File>> {
+    fn in_place(&self, alloc: Global, name: &str, old: &Metadata) -> io::Result<RealFile<R::File>> {
         let path = fs::canonicalize(self.rt, name)?;
         let writer = self.beside(alloc, path.into_string())?;
         if let Some(place) = &writer.place {
@@ -95,13 +101,13 @@ impl<'r, R: rt::Files + Input + AllocGlobal> RealFiles<'r, R> {
         Ok(writer)
     }
 
-    /// A writer for this name.
-    fn writer(&self, alloc: Global, name: &str) -> io::Result<RealWriter<R::File>> {
+    /// A writer for a file of this name.
+    fn file(&self, alloc: Global, name: &str) -> io::Result<RealFile<R::File>> {
         match fs::metadata(self.rt, name) {
             Ok(old) if old.is_file() => self.in_place(alloc, name, &old),
             Ok(_) => {
                 let sink = WriterSink::new(fs::create(self.rt, name)?);
-                Ok(RealWriter { sink, place: None })
+                Ok(RealFile { sink, place: None })
             }
             Err(error) => {
                 if error.kind() != io::ErrorKind::NotFound {
@@ -140,6 +146,11 @@ fn is_input(name: &str) -> bool {
     name == "stdin" || name == "-"
 }
 
+/// Whether a file that is written under this name is standard output.
+fn is_output(name: &str) -> bool {
+    name == "-"
+}
+
 /// Whether this is said of one file, or of one folder.
 fn is_same(one: &Metadata, other: &Metadata) -> bool {
     one.dev() == other.dev() && one.ino() == other.ino()
@@ -166,7 +177,7 @@ fn write_fault_of(error: io::Error) -> WriteFault
     }
 }
 
-impl<'r, R: rt::Files + Input + AllocGlobal> Files for RealFiles<'r, R> {
+impl<'r, R: rt::Files + Input + Print + AllocGlobal> Files for RealFiles<'r, R> {
     ghost use Rattle.std.specs.Prelude.{⊤};
 
     /// Of the system's files nothing is known: what a name holds, which devices fail, which names are of one file, and what was
@@ -185,7 +196,7 @@ impl<'r, R: rt::Files + Input + AllocGlobal> Files for RealFiles<'r, R> {
 
     ghost did_both = { λ _ _ _ _ _ _ _. tt };
 
-    type Writer = RealWriter<R::File>;
+    type Writer = RealWriter<R::File, Printer<'r, R>>;
 
     fn read(&mut self, alloc: Global, name: &str) -> Result<Vec<u8>, ReadFault> {
         if is_input(name) {
@@ -198,6 +209,9 @@ impl<'r, R: rt::Files + Input + AllocGlobal> Files for RealFiles<'r, R> {
     }
 
     fn are_one(&mut self, one: &str, other: &str) -> bool {
+        if is_output(one) || is_output(other) {
+            return one == other;
+        }
         let other = if is_input(other) { "/dev/stdin" } else { other };
         match (fs::metadata(self.rt, one), fs::metadata(self.rt, other)) {
             (Ok(one), Ok(other)) => one.is_file() && other.is_file() && is_same(&one, &other),
@@ -207,7 +221,13 @@ impl<'r, R: rt::Files + Input + AllocGlobal> Files for RealFiles<'r, R> {
     }
 
     fn create(&mut self, alloc: Global, name: &str) -> Result<Self::Writer, WriteFault> {
-        self.writer(alloc, name).map_err(write_fault_of)
+        if is_output(name) {
+            return Ok(RealWriter::Output(WriterSink::new(io::writer(self.rt))));
+        }
+        match self.file(alloc, name) {
+            Ok(file) => Ok(RealWriter::File(file)),
+            Err(error) => Err(write_fault_of(error)),
+        }
     }
 
     fn close(
@@ -216,7 +236,13 @@ impl<'r, R: rt::Files + Input + AllocGlobal> Files for RealFiles<'r, R> {
         _name: &str,
         writer: Self::Writer,
     ) -> Result<(), WriteFault> {
-        let Some(place) = &writer.place else {
+        let RealWriter::File(
+            RealFile {
+                place: Some(place),
+                ..
+            },
+        ) = &writer
+        else {
             return Ok(());
         };
         match fs::rename(self.rt, place.part.as_str(), place.target.as_str()) {
@@ -229,7 +255,13 @@ impl<'r, R: rt::Files + Input + AllocGlobal> Files for RealFiles<'r, R> {
     }
 
     fn discard(&mut self, writer: Self::Writer) {
-        if let Some(place) = &writer.place {
+        if let RealWriter::File(
+            RealFile {
+                place: Some(place),
+                ..
+            },
+        ) = &writer
+        {
             let _lost = fs::remove_file(self.rt, place.part.as_str());
         }
     }

@@ -10,6 +10,8 @@ mod moments;
 #[cfg(test)]
 mod netlists;
 #[cfg(test)]
+mod outputs;
+#[cfg(test)]
 mod paths;
 #[cfg(test)]
 mod plain;

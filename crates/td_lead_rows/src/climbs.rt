@@ -9,7 +9,7 @@ use std::test::*;
 use td_circuit::Circuit;
 use td_domain::Admit;
 use td_event_sim::{Scratch, delay_of};
-use td_lead::{Plan, Timed, climb, tries_for};
+use td_lead::{Others, Plan, Timed, climb, climb_beside, tries_for};
 use td_search::representative;
 
 /// The admitted pairs of a row.
@@ -23,13 +23,23 @@ fn admit_of(rt: &impl Abort, alloc: Global, row: &str, flips: u32) -> Result<Adm
     Ok(Admit::new(pins, held, flips))
 }
 
-/// A climb from the pair that stands for the pins.
+/// Others who found enough before a climb begins.
+struct Quick;
+
+impl Others for Quick {
+    fn have_enough(&self) -> bool {
+        true
+    }
+}
+
+/// A climb from the pair that stands for the pins, perhaps beside others.
 fn found_by(
     rt: &impl Abort,
     alloc: Global,
     circuit: &Circuit,
     admit: &Admit,
     plan: Plan,
+    others: Option<&Quick>,
 ) -> Result<Timed, Fail> {
     let pins = admit.pins();
     assert!(rt; admit.any(pins));
@@ -40,7 +50,10 @@ fn found_by(
     let mut scratch = Scratch::new(alloc, circuit)?;
     let time = delay_of(&mut scratch, circuit, &pair)?;
     let start = Timed { pair, time };
-    Ok(climb(alloc, &mut scratch, circuit, admit, start, plan))
+    Ok(match others {
+        Some(others) => climb_beside(alloc, &mut scratch, circuit, admit, start, plan, others),
+        None => climb(alloc, &mut scratch, circuit, admit, start, plan),
+    })
 }
 
 /// Appends the bits of a vector.
@@ -64,7 +77,7 @@ fn told(rt: &impl Abort, alloc: Global, row: &str) -> Result<String, Fail> {
     let flips = u32::try_from(words[0]).unwrap_or(0);
     let circuit = made(rt, alloc, row)?;
     let admit = admit_of(rt, alloc, row, flips)?;
-    let timed = found_by(rt, alloc, &circuit, &admit, plan)?;
+    let timed = found_by(rt, alloc, &circuit, &admit, plan, None)?;
     let mut text = String::new(alloc);
     push_bits(&mut text, timed.pair.first())?;
     push_bits(&mut text, timed.pair.second())?;
@@ -131,6 +144,23 @@ const STUCK: &str =
 #[test]
 fn from_another_pair(rt: HostRuntime) -> Result<(), Fail> {
     assert_eq!(rt; found(&rt, rt.alloc(), STUCK)?.as_str(), STUCK);
+    Ok(())
+}
+
+/// A climb ends at once where others have found enough.
+#[test]
+fn beside_quick_others(rt: HostRuntime) -> Result<(), Fail> {
+    let alloc = rt.alloc();
+    let row = "nand #(1,2) (w0,a,b); nor #(2,1) (w1,b,c); and #3 (y,w0,w1,a);|0 0 0|...|...|...";
+    let circuit = made(&rt, alloc, row)?;
+    let admit = admit_of(&rt, alloc, row, 3)?;
+    let plan = Plan {
+        seed: 1,
+        tries: 20,
+        enough: 1000,
+    };
+    let timed = found_by(&rt, alloc, &circuit, &admit, plan, Some(&Quick))?;
+    assert_eq!(&rt; timed.time, 0);
     Ok(())
 }
 

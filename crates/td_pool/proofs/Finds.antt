@@ -1,16 +1,18 @@
 -- What was found of a cube that is handled as it was decided, and lists of what is true.
-use Rattle.std.proofs.Common.{◌≡◌, ℕ, ◌+◌, ◌≤◌, List, [], ◌∷◌, ◌++◌, length, ap, subst, ◌∙◌, length-append, arith}
+use Rattle.std.proofs.Common.{◌≡◌, ℕ, ◌+◌, ◌≤◌, List, [], ◌∷◌, ◌++◌, length, ap, subst, ◌∙◌, le_refl, length-append, arith}
 use Rattle.std.specs.List.{AllByRecursion}
 use Rattle.td_circuit.specs.Numbering.{Numbered}
 use Rattle.td_domain.specs.declared.cubes.Trit.{Trit}
+use Rattle.td_domain.specs.Pairs.{Pair}
 use Rattle.td_domain.specs.Admits.{Admitted}
 use Rattle.td_search.specs.declared.deciding.Decision.{Decision}
 use Rattle.td_search.specs.declared.deciding.Decision.TheVariants as decision
 use Rattle.td_search.specs.Deciding.{IsMeasured, IsDecided}
 use Rattle.td_search.specs.Findings.{IsTrueOf}
-use Rattle.td_search.specs.Problems.{problem}
+use Rattle.td_search.specs.Best.{Found as Best}
+use Rattle.td_search.specs.Problems.{Problem, problem, has_delay}
 use Rattle.td_search.specs.Representatives.{representative}
-use Rattle.td_pool.specs.Truth.{found_by}
+use Rattle.td_pool.specs.Truth.{IsBest, found_by}
 
 pub true_finding : (circuit : Numbered) (admit : Admitted) (cube : List Trit) (time cut : ℕ) (d : Decision)
     → IsMeasured (problem circuit admit) (representative admit cube) time → time ≤ cut
@@ -18,6 +20,32 @@ pub true_finding : (circuit : Numbered) (admit : Admitted) (cube : List Trit) (t
 true_finding circuit admit cube time cut (decision.Close mark bound) measured low decided = (decided.0, decided.1)
 true_finding circuit admit cube time cut (decision.Split position bound) measured low decided =
     let above = decided.2 in (decided.0, decided.1, decided.3, measured.is, omega arith)
+
+-- another pair, which has no lesser delay
+pub better_best : (asked : Problem) (best other : Best) → IsBest asked best → has_delay asked other.pair other.time → best.time ≤ other.time → IsBest asked other
+better_best asked best other is delay more = (
+  delay,
+  record {
+    pair = other.pair;
+    is = delay;
+    first = is.1.first;
+    stands = is.1.stands;
+    no_less = let least = is.1.no_less in omega arith;
+  },
+)
+
+-- the pair that stands for the pins
+pub first_best : (asked : Problem) (best : Best) → best.pair ≡ representative asked.admit asked.admit.pins → has_delay asked best.pair best.time → IsBest asked best
+first_best asked best stands delay = (
+  delay,
+  record {
+    pair = best.pair;
+    is = delay;
+    first = best.time;
+    stands = subst (λ (p : Pair). has_delay asked p best.time) stands delay;
+    no_less = le_refl best.time;
+  },
+)
 
 -- one more
 pub all_push : {X : Type 0} (P : X → Type 0) (xs : List X) (x : X) → AllByRecursion P xs → P x → AllByRecursion P (xs ++ x ∷ [])

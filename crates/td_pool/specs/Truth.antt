@@ -11,9 +11,13 @@ use Rattle.td_search.specs.declared.deciding.Decision.TheVariants as decision
 use Rattle.td_search.specs.declared.findings.Finding.{Finding}
 use Rattle.td_search.specs.declared.findings.Finding.TheVariants as finding
 use Rattle.td_search.specs.Findings.{AreTrue, IsTrueEvidence, split_at}
-use Rattle.td_search.specs.Problems.{Problem, has_delay, IsPart}
+use Rattle.td_search.specs.Best.{Found as Best}
+use Rattle.td_search.specs.Problems.{Problem, has_delay, has_bound, IsPart}
+use Rattle.td_search.specs.Representatives.{representative}
+use Rattle.td_search.specs.Splitting.{IsReached}
 use Rattle.td_pool.specs.declared.below.Below.{Below}
 use Rattle.td_pool.specs.declared.found.Found.{Found}
+use Rattle.td_pool.specs.declared.root.Root.{Root}
 
 -- a position is one of a cube
 abbrev pub IsPlaced : Decision → Type 0
@@ -25,11 +29,20 @@ abbrev pub found_by : Decision → ℕ → Finding
 found_by (decision.Close mark bound) time = finding.Closed mark bound
 found_by (decision.Split position bound) time = finding.Split position bound time
 
--- Each piece of evidence is true of the circuit. The best pair has its time as its delay, which is the seat's greatest offer, 0
--- without one. The seat has seen no less.
+-- what is known of the pins: the delay of the pair that stands for them, and the strongest domain's bound
+pub record IsRoot (asked : Problem) (root : Root) : Type 0 where
+  pub first : has_delay asked (representative asked.admit asked.admit.pins) root.first
+  pub bound : has_bound asked asked.admit.pins root.bound
+  pub small : root.bound < 10 ^ 15
+
+-- the pair has its time as its delay, which is no less than that of the pair that stands for the pins
+abbrev pub IsBest : Problem → Best → Type 0
+IsBest asked best = has_delay asked best.pair best.time × IsReached asked best.time
+
+-- Each piece of evidence is true of the circuit. The best pair's time is the seat's greatest offer, and the seat has seen no less.
 pub record IsTrueFound (asked : Problem) (found : Found) : Type 0 where
   pub evidence : AllByRecursion (IsTrueEvidence asked) found.evidence.items
-  pub best : 0 < found.best.time → has_delay asked found.best.pair found.best.time
+  pub best : IsBest asked found.best
   pub offer : found.seat.offer ≡ found.best.time
   pub seen : found.seat.offer ≤ found.seat.seen
   pub first : length found.best.pair.first ≡ length asked.admit.held
@@ -61,6 +74,6 @@ pub record IsComing (asked : Problem) (lease : Lease) (below : Below) (cube : Li
   pub within : IsWithin asked cube
   pub allowed : length below.subtree.states < lease.allowance
 
--- what a worker begins with, which has found nothing
+-- what a worker begins with
 abbrev pub IsStarting : Problem → Shown → Found → Type 0
 IsStarting asked word found = (found.seat.table ≡ word.table) × IsTrueFound asked found

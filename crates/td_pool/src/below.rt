@@ -3,14 +3,15 @@
 ghost use Rattle.std.specs.Prelude.{◌↔◌, List, IsTrue, IfOk, IfSome};
 ghost use Rattle.td_domain.specs.declared.cubes.Trit.{Trit};
 ghost use Rattle.td_search.specs.Findings.{IsTrueOf, IsUsable};
-ghost use Rattle.td_search.specs.Problems.{problem};
+ghost use Rattle.td_search.specs.Problems.{problem_by};
 ghost use Rattle.td_pool.specs.Truth.{IsBelow, IsComing, IsWithin};
 
+use crate::finder::Finder;
 use std::alloc::{AllocError, Global};
 use td_book::{Lease, Subtree};
 use td_circuit::Circuit;
 use td_domain::{Admit, Cube};
-use td_search::{Finding, Strategy, dig_by};
+use td_search::{Finding, dig_by};
 
 /// A private tree below a leaf, and what was found of each node that is split or closed in it.
 #[derive(Drop)]
@@ -21,14 +22,14 @@ pub struct Below {
 
 impl Below {
     /// Nothing is split or closed yet. All room that the lease's allowance needs is taken here. The error is want of memory.
-    pub fn new(
+    pub fn new<F: Finder>(
         alloc: Global,
         circuit: &Circuit,
         admit: &Admit,
         lease: &Lease,
     ) -> Result<Below, AllocError>
-        requires { IsWithin (problem circuit.now admit.now) lease.now.cube }
-        ensures { IfOk result (IsBelow (problem circuit.now admit.now) lease.now) }
+        requires { IsWithin (problem_by F.by circuit.now admit.now) lease.now.cube }
+        ensures { IfOk result (IsBelow (problem_by F.by circuit.now admit.now) lease.now) }
     {
         Ok(Below {
             subtree: Subtree::new(alloc, lease)?,
@@ -37,9 +38,9 @@ impl Below {
     }
 
     /// The cube of the leaf that comes next, while the allowance lets it be split or closed.
-    pub fn next(&self, circuit: &Circuit, admit: &Admit, lease: &Lease) -> Option<&Cube>
-        requires { IsBelow (problem circuit.now admit.now) lease.now self.now }
-        ensures { IfSome result (λ cube. IsComing (problem circuit.now admit.now) lease.now self.now cube.now) }
+    pub fn next<F: Finder>(&self, circuit: &Circuit, admit: &Admit, lease: &Lease) -> Option<&Cube>
+        requires { IsBelow (problem_by F.by circuit.now admit.now) lease.now self.now }
+        ensures { IfSome result (λ cube. IsComing (problem_by F.by circuit.now admit.now) lease.now self.now cube.now) }
     {
         if self.subtree.is_full() {
             return None;
@@ -48,7 +49,7 @@ impl Below {
     }
 
     /// Splits or closes the leaf that comes next as it was found of its cube, under this cut. Answers whether it is usable under it.
-    pub fn settle(
+    pub fn settle<F: Finder>(
         &mut self,
         circuit: &Circuit,
         admit: &Admit,
@@ -56,15 +57,15 @@ impl Below {
         finding: Finding,
         cut: u64,
     ) -> bool
-        requires below { IsBelow (problem circuit.now admit.now) lease.now self.old }
-        requires next { (cube : List Trit) × IsComing (problem circuit.now admit.now) lease.now self.old cube × IsTrueOf (problem circuit.now admit.now) cube finding }
-        ensures below { IsBelow (problem circuit.now admit.now) lease.now self.new }
+        requires below { IsBelow (problem_by F.by circuit.now admit.now) lease.now self.old }
+        requires next { (cube : List Trit) × IsComing (problem_by F.by circuit.now admit.now) lease.now self.old cube × IsTrueOf (problem_by F.by circuit.now admit.now) cube finding }
+        ensures below { IsBelow (problem_by F.by circuit.now admit.now) lease.now self.new }
         ensures usable { IsTrue result ↔ IsUsable cut finding }
     {
         if !dig_by(
             circuit,
             admit,
-            Strategy::Least,
+            F::strategy(),
             &mut self.subtree,
             finding,
             cut,

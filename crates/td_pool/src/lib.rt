@@ -2,13 +2,18 @@
 #![tactic(auto)]
 
 mod below;
+mod by_climbs;
+mod by_prober;
 mod deck;
 mod ends;
+mod finder;
 mod found;
 mod hand;
 mod hints;
 pub mod laws;
+mod offers;
 mod pool;
+mod root;
 mod shared;
 mod strategies;
 mod working;

@@ -4,14 +4,17 @@ ghost use Rattle.std.specs.Prelude.{◌≡◌, ◌+◌, ◌*◌, ◌<◌, ◌≤
 ghost use Rattle.std.specs.List.{AllByRecursion};
 ghost use Rattle.td_search.specs.Answers.{IsAnswer, IsSearchFault};
 ghost use Rattle.td_search.specs.Findings.{IsTrueEvidence};
-ghost use Rattle.td_search.specs.Problems.{problem, has_delay, has_bound};
+ghost use Rattle.td_search.specs.Problems.{problem, problem_by, has_delay};
+ghost use Rattle.td_search.specs.Representatives.{representative};
 ghost use Rattle.td_search.specs.Written.{CanBeWritten};
-ghost use Rattle.td_domain.specs.Admits.{HasAdmitted};
-ghost use Rattle.td_pool.specs.Truth.{IsTrueFound, IsFresh, IsStarting};
+ghost use Rattle.td_pool.specs.Truth.{IsTrueFound, IsBest, IsFresh, IsRoot, IsStarting};
 
+use crate::by_prober::ByProber;
 use crate::deck::Deck;
+use crate::finder::Finder;
 use crate::found::{Found, Report};
 use crate::hints::Hints;
+use crate::root::{Root, measure_root};
 use crate::shared::Shared;
 use crate::working::work;
 use std::alloc::{AllocError, Global};
@@ -25,22 +28,21 @@ use td_book::{Book, Counted};
 use td_circuit::Circuit;
 use td_domain::Admit;
 use td_incumbent::{Incumbent, Seat};
-use td_search::{
-    Answer, Best, Evidence, Prober, SearchFault, finish, representative, strongest_bound,
-};
+use td_search::{Answer, Best, Evidence, Prober, SearchFault, Strategy, finish_by};
 
 /// What a worker promises: all that it hands back is true of the admitted pairs of the circuit.
 #[derive(Drop)]
 pub struct Truthful {
     pub circuit: Snapshot<Circuit>,
     pub admit: Snapshot<Admit>,
+    pub strategy: Strategy,
 }
 
 impl<L: Ledger> Promise<Report<L>> for Truthful {
-    ghost use Rattle.td_search.specs.Problems.{problem};
+    ghost use Rattle.td_search.specs.Problems.{problem_by};
     ghost use Rattle.td_pool.specs.Truth.{IsTrueFound};
 
-    ghost kept_by = { λ promise report. IsTrueFound (problem promise.circuit.value promise.admit.value) report.found };
+    ghost kept_by = { λ promise report. IsTrueFound (problem_by promise.strategy promise.circuit.value promise.admit.value) report.found };
 }
 
 /// Searches for the worst delay of the admitted pairs of a circuit by so many workers, from 1 to 64, of which this thread is one, and
@@ -101,18 +103,20 @@ pub fn worst_by<P: Prober + Sync, D: Hints + Drop + Send, R: Threads + Wait + Sy
     if !admit.any(admit.pins()) {
         return Err(SearchFault::NoPair);
     }
-    let (first, root) = measure_root(alloc, circuit, admit, prober)?;
+    let root = measure_root(alloc, circuit, admit, prober)?;
+    let finder = ByProber { prober };
     let blank = Blank::new(u64::from(workers));
     let answer = search_all::<Brand, _, _, _>(
-        rt, alloc, circuit, admit, prober, decks, workers, budget, first, root, blank,
+        rt, alloc, circuit, admit, &finder, decks, workers, budget, root, blank,
     )?;
     Ok(answer)
 }
 
-// As `worst`, from what is known of the root, with a part of the ledger for each worker.
-fn search_all<
+/// What so many workers find, of which this thread is one, and what this thread ends from what is known of the pins. There is a part
+/// of the ledger for each worker. The error is want of memory before they begin.
+pub fn search_all<
     L: Ledger + Send + Sync,
-    P: Prober + Sync,
+    F: Finder + Sync,
     D: Hints + Drop + Send,
     R: Threads + Wait + Sync,
 >(
@@ -120,31 +124,28 @@ fn search_all<
     alloc: Global,
     circuit: &Circuit,
     admit: &Admit,
-    prober: &P,
+    finder: &F,
     decks: Vec<D>,
     workers: u32,
     budget: u64,
-    first: Best,
-    root: u64,
+    root: Root,
     blank: Blank,
 ) -> Result<Answer, AllocError>
     requires some { 0 < workers }
     requires few { workers ≤ 64 }
     requires modest { budget ≤ 10000000 }
     requires held { length admit.now.held ≡ length circuit.now.netlist.inputs }
-    requires pair { has_delay (problem circuit.now admit.now) first.pair first.time }
-    requires root { has_bound (problem circuit.now admit.now) admit.now.pins root }
-    requires small { root < 10 ^ 15 }
+    requires root { IsRoot (problem_by F.by circuit.now admit.now) root }
     requires name { blank.name ≡ L.name }
     requires blank { blank.parts ≡ L.parts }
     requires parts { blank.parts ≡ workers }
-    ensures answer { IfOk result (IsAnswer (problem circuit.now admit.now) budget) }
-    ensures text { IfOk result (CanBeWritten (problem circuit.now admit.now)) }
+    ensures answer { IfOk result (IsAnswer (problem_by F.by circuit.now admit.now) budget) }
+    ensures text { IfOk result (CanBeWritten (problem_by F.by circuit.now admit.now)) }
 {
     let _numbering = circuit.gates();
-    let (word, mut own, seats) = seats_of(alloc, workers as usize)?;
-    let _best = word.raise(&mut own, first.time());
-    let found = fresh_of(alloc, circuit, admit, &word, seats)?;
+    let first = first_best::<F>(alloc, circuit, admit, root.first)?;
+    let (word, seats) = seats_of(alloc, workers as usize)?;
+    let found = fresh_of::<F>(alloc, circuit, admit, &word, seats, root.first)?;
     let book = Book::new(alloc, admit.pins().copy(alloc)?, workers, budget)?;
     let (ledger, share) = blank.open::<L>();
     let shared = Shared {
@@ -153,92 +154,95 @@ fn search_all<
         word,
     };
     let all = found_by_all(
-        rt, alloc, circuit, admit, prober, decks, &shared, workers, found, share,
+        rt, alloc, circuit, admit, finder, decks, &shared, workers, found, share,
     )?;
-    let (evidence, best) = gather(alloc, circuit, admit, all, first);
+    let (evidence, best) = gather::<L, F>(alloc, circuit, admit, all, first);
     let Shared { book, .. } = shared;
     let partial = book.into_inner().into_book().into_tree();
-    Ok(finish(alloc, circuit, admit, partial, evidence, root, best, budget))
+    Ok(finish_by(
+        alloc,
+        circuit,
+        admit,
+        partial,
+        evidence,
+        root.bound,
+        best,
+        budget,
+        F::strategy(),
+    ))
 }
 
-// The representative of the pins with its delay, and the strongest domain's bound of the pins.
-fn measure_root<P: Prober>(
+// The word at 0, and a seat for each worker.
+fn seats_of(alloc: Global, workers: usize) -> Result<(Incumbent, Vec<Seat>), AllocError>
+    requires { 0 < workers }
+    ensures seats { IfOk result (λ answer. AllByRecursion (IsFresh answer.0) answer.1.items) }
+    ensures count { IfOk result (λ answer. length answer.1.items ≡ workers) }
+{
+    let (word, seats) = Incumbent::new(alloc, workers)?;
+    Ok((word, seats))
+}
+
+// The pair that stands for the pins, which has this delay. The error is want of memory.
+fn first_best<F: Finder>(
     alloc: Global,
     circuit: &Circuit,
     admit: &Admit,
-    prober: &P,
-) -> Result<(Best, u64), AllocError>
+    first: u64,
+) -> Result<Best, AllocError>
     requires held { length admit.now.held ≡ length circuit.now.netlist.inputs }
-    requires any { HasAdmitted admit.now admit.now.pins }
-    ensures pair { IfOk result (λ answer. has_delay (problem circuit.now admit.now) answer.0.pair answer.0.time) }
-    ensures bound { IfOk result (λ answer. has_bound (problem circuit.now admit.now) admit.now.pins answer.1) }
-    ensures small { IfOk result (λ answer. answer.1 < 10 ^ 15) }
+    requires first { has_delay (problem_by F.by circuit.now admit.now) (representative admit.now admit.now.pins) first }
+    ensures time { IfOk result (λ best. best.time ≡ first) }
+    ensures best { IfOk result (IsBest (problem_by F.by circuit.now admit.now)) }
 {
     let pins = admit.pins();
-    let mut scratch = prober.scratch(alloc, circuit)?;
     let mut best = Best::new(alloc, circuit.input_count())?;
-    let pair = representative(alloc, pins, admit)?;
-    let time = prober.measure(&mut scratch, circuit, &pair)?;
-    best.replace(pins, admit, time);
-    let probe = prober.bound(&mut scratch, alloc, circuit, pins, 0)?;
-    // A bound of 0 may be another domain's.
-    let root = if probe.bound > 0 {
-        probe.bound
-    } else {
-        strongest_bound(alloc, circuit, pins)?
-    };
-    Ok((best, root))
+    best.replace(pins, admit, first);
+    Ok(best)
 }
 
-// The word at 0, a seat for what is found before the workers begin, and one for each worker.
-fn seats_of(alloc: Global, workers: usize) -> Result<(Incumbent, Seat, Vec<Seat>), AllocError>
-    requires { workers ≤ 64 }
-    ensures own { IfOk result (λ answer. IsFresh answer.0 answer.1) }
-    ensures others { IfOk result (λ answer. AllByRecursion (IsFresh answer.0) answer.2.items) }
-    ensures count { IfOk result (λ answer. length answer.2.items ≡ workers) }
-{
-    let (word, mut seats) = Incumbent::new(alloc, workers + 1)?;
-    let Some(seat) = seats.pop() else {
-        unreachable!()
-    };
-    Ok((word, seat, seats))
-}
-
-// For each seat a worker that has found nothing. The error is want of memory.
-fn fresh_of(
+// For each seat a worker that knows the pair that stands for the pins, which has this delay. The error is want of memory.
+fn fresh_of<F: Finder>(
     alloc: Global,
     circuit: &Circuit,
     admit: &Admit,
     word: &Incumbent,
     seats: Vec<Seat>,
+    first: u64,
 ) -> Result<Vec<Found>, AllocError>
     requires held { length admit.now.held ≡ length circuit.now.netlist.inputs }
     requires seats { AllByRecursion (IsFresh word.now) seats.items }
-    ensures found { IfOk result (λ found. AllByRecursion (IsStarting (problem circuit.now admit.now) word.now) found.items) }
+    requires first { has_delay (problem_by F.by circuit.now admit.now) (representative admit.now admit.now.pins) first }
+    ensures found { IfOk result (λ found. AllByRecursion (IsStarting (problem_by F.by circuit.now admit.now) word.now) found.items) }
     ensures count { IfOk result (λ found. length found.items ≡ length seats.items) }
 {
     let mut all = Vec::with_capacity(alloc, seats.len())?;
     for seat in seats {
-        all.push(fresh(alloc, circuit, admit, word, seat)?)?;
+        all.push(fresh::<F>(alloc, circuit, admit, word, seat, first)?)?;
     }
     Ok(all)
 }
 
-// A worker that has found nothing. The error is want of memory.
-fn fresh(
+// A worker that knows the pair that stands for the pins, which has this delay, and offers it. The error is want of memory.
+fn fresh<F: Finder>(
     alloc: Global,
     circuit: &Circuit,
     admit: &Admit,
-    _word: &Incumbent,
+    word: &Incumbent,
     seat: Seat,
+    first: u64,
 ) -> Result<Found, AllocError>
     requires held { length admit.now.held ≡ length circuit.now.netlist.inputs }
-    requires seat { IsFresh _word.now seat }
-    ensures { IfOk result (IsStarting (problem circuit.now admit.now) _word.now) }
+    requires seat { IsFresh word.now seat }
+    requires first { has_delay (problem_by F.by circuit.now admit.now) (representative admit.now admit.now.pins) first }
+    ensures { IfOk result (IsStarting (problem_by F.by circuit.now admit.now) word.now) }
 {
+    let _pins = admit.pins();
+    let best = first_best::<F>(alloc, circuit, admit, first)?;
+    let mut seat = seat;
+    let _seen = word.raise(&mut seat, first);
     Ok(Found {
         evidence: Vec::new(alloc),
-        best: Best::new(alloc, circuit.input_count())?,
+        best,
         seat,
     })
 }
@@ -246,7 +250,7 @@ fn fresh(
 // What all workers found: this thread, and another one for each further worker, where a thread can be made.
 fn found_by_all<
     L: Ledger + Send + Sync,
-    P: Prober + Sync,
+    F: Finder + Sync,
     D: Hints + Drop + Send,
     R: Threads + Wait + Sync,
 >(
@@ -254,7 +258,7 @@ fn found_by_all<
     alloc: Global,
     circuit: &Circuit,
     admit: &Admit,
-    prober: &P,
+    finder: &F,
     decks: Vec<D>,
     shared: &Shared<L>,
     workers: u32,
@@ -266,8 +270,8 @@ fn found_by_all<
     requires parts { share.parts ≡ workers }
     requires amount { share.amount ≡ 0 }
     requires count { length found.items ≡ workers }
-    requires found { AllByRecursion (IsStarting (problem circuit.now admit.now) shared.now.word) found.items }
-    ensures { IfOk result (λ all. AllByRecursion (λ report. IsTrueFound (problem circuit.now admit.now) report.found) all.items) }
+    requires found { AllByRecursion (IsStarting (problem_by F.by circuit.now admit.now) shared.now.word) found.items }
+    ensures { IfOk result (λ all. AllByRecursion (λ report. IsTrueFound (problem_by F.by circuit.now admit.now) report.found) all.items) }
 {
     let Ok(handles) = Vec::with_capacity(alloc, found.len()) else {
         return Err(AllocError);
@@ -284,20 +288,19 @@ fn found_by_all<
             requires parts { share.parts ≡ workers }
             requires amount { share.amount ≡ 0 }
             requires count { length found.items ≡ workers }
-            requires found { AllByRecursion (IsStarting (problem circuit.now admit.now) shared.now.word) found.items }
+            requires found { AllByRecursion (IsStarting (problem_by F.by circuit.now admit.now) shared.now.word) found.items }
             requires handles { handles.items ≡ [] }
             requires all { all.items ≡ [] }
             requires handles_room { workers ≤ vec_capacity handles }
             requires all_room { workers ≤ vec_capacity all }
-            ensures { AllByRecursion (λ report. IsTrueFound (problem circuit.entry.now admit.entry.now) report.found) result.items }
+            ensures { AllByRecursion (λ report. IsTrueFound (problem_by F.by circuit.entry.now admit.entry.now) report.found) result.items }
         {
             let mut handles = handles;
-            let mut all = all;
             let mut own = share;
             let mut waiting = found;
             let mut decks = decks;
             for worker in 1..workers {
-                let Some(found) = next_found(circuit, admit, shared, &mut waiting) else {
+                let Some(found) = next_found::<L, F>(circuit, admit, shared, &mut waiting) else {
                     break;
                 };
                 let Some(deck) = decks.pop() else {
@@ -307,44 +310,51 @@ fn found_by_all<
                 let job = move || -> Report<L>
                     requires held { length admit.now.held ≡ length circuit.now.netlist.inputs }
                     requires seat { found.seat.table ≡ shared.now.word.table }
-                    requires found { IsTrueFound (problem circuit.now admit.now) found }
+                    requires found { IsTrueFound (problem_by F.by circuit.now admit.now) found }
                     requires part { 0 < share.parts }
-                    ensures { IsTrueFound (problem circuit.entry.now admit.entry.now) result.found }
+                    ensures { IsTrueFound (problem_by F.by circuit.entry.now admit.entry.now) result.found }
                 {
                     work(
-                        rt, alloc, circuit, admit, prober, shared, worker, deck, found, share,
+                        rt, alloc, circuit, admit, finder, shared, worker, deck, found, share,
                     )
                 };
                 let truthful = Truthful {
                     circuit: Snapshot::of(circuit),
                     admit: Snapshot::of(admit),
+                    strategy: F::strategy(),
                 };
                 if let Ok(handle) = scope.spawn_with(truthful, job) {
                     handles.push_reserved(handle);
                 }
             }
-            if let Some(found) = next_found(circuit, admit, shared, &mut waiting)
-                && let Some(deck) = decks.pop()
-            {
-                all.push_reserved(work(
-                    rt, alloc, circuit, admit, prober, shared, 0, deck, found, own,
-                ));
-            }
-            join_all(rt, circuit, admit, handles, all)
+            let first = next_found::<L, F>(circuit, admit, shared, &mut waiting);
+            let all = with_first(
+                rt,
+                alloc,
+                circuit,
+                admit,
+                finder,
+                shared,
+                decks.pop(),
+                first,
+                own,
+                all,
+            );
+            join_all::<L, F, R>(rt, circuit, admit, handles, all)
         },
     ))
 }
 
 // The last of these.
-fn next_found<L: Ledger>(
+fn next_found<L: Ledger, F: Finder>(
     circuit: &Circuit,
     admit: &Admit,
     _shared: &Shared<L>,
     waiting: &mut Vec<Found>,
 ) -> Option<Found>
-    requires { AllByRecursion (IsStarting (problem circuit.now admit.now) _shared.now.word) waiting.old.items }
-    ensures found { IfSome result (IsStarting (problem circuit.now admit.now) _shared.now.word) }
-    ensures waiting { AllByRecursion (IsStarting (problem circuit.now admit.now) _shared.now.word) waiting.new.items }
+    requires { AllByRecursion (IsStarting (problem_by F.by circuit.now admit.now) _shared.now.word) waiting.old.items }
+    ensures found { IfSome result (IsStarting (problem_by F.by circuit.now admit.now) _shared.now.word) }
+    ensures waiting { AllByRecursion (IsStarting (problem_by F.by circuit.now admit.now) _shared.now.word) waiting.new.items }
 {
     let Some(found) = waiting.pop() else {
         return None;
@@ -352,18 +362,54 @@ fn next_found<L: Ledger>(
     Some(found)
 }
 
+// What this thread finds as the first worker, in a vector that has room for it and more. Nothing where it has nothing to begin with.
+fn with_first<L: Ledger, F: Finder, D: Hints + Drop, R: Wait>(
+    rt: &R,
+    alloc: Global,
+    circuit: &Circuit,
+    admit: &Admit,
+    finder: &F,
+    shared: &Shared<L>,
+    deck: Option<D>,
+    found: Option<Found>,
+    share: Share<L>,
+    all: Vec<Report<L>>,
+) -> Vec<Report<L>>
+    requires held { length admit.now.held ≡ length circuit.now.netlist.inputs }
+    requires found { IfSome found (IsStarting (problem_by F.by circuit.now admit.now) shared.now.word) }
+    requires part { 0 < share.parts }
+    requires all { all.items ≡ [] }
+    requires room { 0 < vec_capacity all }
+    ensures reports { AllByRecursion (λ report. IsTrueFound (problem_by F.by circuit.now admit.now) report.found) result.items }
+    ensures few { length result.items ≤ 1 }
+    ensures room { vec_capacity result ≡ vec_capacity all }
+{
+    let mut all = all;
+    let Some(found) = found else {
+        return all;
+    };
+    let Some(deck) = deck else {
+        return all;
+    };
+    let report = work(
+        rt, alloc, circuit, admit, finder, shared, 0, deck, found, share,
+    );
+    all.push_reserved(report);
+    all
+}
+
 // What these threads hand back, behind what is there, in a vector that has room for all.
-fn join_all<L: Ledger, R: Threads>(
+fn join_all<L: Ledger, F: Finder, R: Threads>(
     rt: &R,
     circuit: &Circuit,
     admit: &Admit,
     handles: Vec<PromisedHandle<Report<L>, Truthful>>,
     all: Vec<Report<L>>,
 ) -> Vec<Report<L>>
-    requires handles { AllByRecursion (λ handle. (handle.promise.circuit.value ≡ circuit.now) × (handle.promise.admit.value ≡ admit.now)) handles.items }
-    requires all { AllByRecursion (λ report. IsTrueFound (problem circuit.now admit.now) report.found) all.items }
+    requires handles { AllByRecursion (λ handle. (handle.promise.circuit.value ≡ circuit.now) × (handle.promise.admit.value ≡ admit.now) × (handle.promise.strategy ≡ F.by)) handles.items }
+    requires all { AllByRecursion (λ report. IsTrueFound (problem_by F.by circuit.now admit.now) report.found) all.items }
     requires room { length all.items + length handles.items ≤ vec_capacity all }
-    ensures { AllByRecursion (λ report. IsTrueFound (problem circuit.now admit.now) report.found) result.items }
+    ensures { AllByRecursion (λ report. IsTrueFound (problem_by F.by circuit.now admit.now) report.found) result.items }
 {
     let mut all = all;
     for handle in handles {
@@ -373,17 +419,17 @@ fn join_all<L: Ledger, R: Threads>(
 }
 
 // The evidence of all workers, and the best of their pairs and this one. Of evidence that memory is refused for nothing is kept.
-fn gather<L: Ledger>(
+fn gather<L: Ledger, F: Finder>(
     alloc: Global,
     circuit: &Circuit,
     admit: &Admit,
     all: Vec<Report<L>>,
     first: Best,
 ) -> (Vec<Evidence>, Best)
-    requires all { AllByRecursion (λ report. IsTrueFound (problem circuit.now admit.now) report.found) all.items }
-    requires first { has_delay (problem circuit.now admit.now) first.pair first.time }
-    ensures evidence { AllByRecursion (IsTrueEvidence (problem circuit.now admit.now)) result.0.items }
-    ensures best { has_delay (problem circuit.now admit.now) result.1.pair result.1.time }
+    requires all { AllByRecursion (λ report. IsTrueFound (problem_by F.by circuit.now admit.now) report.found) all.items }
+    requires first { IsBest (problem_by F.by circuit.now admit.now) first }
+    ensures evidence { AllByRecursion (IsTrueEvidence (problem_by F.by circuit.now admit.now)) result.0.items }
+    ensures best { IsBest (problem_by F.by circuit.now admit.now) result.1 }
 {
     let mut evidence = Vec::new(alloc);
     let mut best = first;
@@ -393,17 +439,17 @@ fn gather<L: Ledger>(
             best: offered,
             ..
         } = report.found;
-        evidence = joined(circuit, admit, evidence, more);
-        best = better(circuit, admit, best, offered);
+        evidence = joined::<F>(circuit, admit, evidence, more);
+        best = better::<F>(circuit, admit, best, offered);
     }
     (evidence, best)
 }
 
 // The better of two pairs, the first one where their delays are the same.
-fn better(circuit: &Circuit, admit: &Admit, best: Best, other: Best) -> Best
-    requires best { has_delay (problem circuit.now admit.now) best.pair best.time }
-    requires other { 0 < other.time → has_delay (problem circuit.now admit.now) other.pair other.time }
-    ensures { has_delay (problem circuit.now admit.now) result.pair result.time }
+fn better<F: Finder>(circuit: &Circuit, admit: &Admit, best: Best, other: Best) -> Best
+    requires best { IsBest (problem_by F.by circuit.now admit.now) best }
+    requires other { IsBest (problem_by F.by circuit.now admit.now) other }
+    ensures { IsBest (problem_by F.by circuit.now admit.now) result }
 {
     if other.time() > best.time() {
         other
@@ -413,15 +459,15 @@ fn better(circuit: &Circuit, admit: &Admit, best: Best, other: Best) -> Best
 }
 
 // The evidence of both. The second is dropped where memory is refused: its nodes are then handled anew.
-fn joined(
+fn joined<F: Finder>(
     circuit: &Circuit,
     admit: &Admit,
     evidence: Vec<Evidence>,
     more: Vec<Evidence>,
 ) -> Vec<Evidence>
-    requires evidence { AllByRecursion (IsTrueEvidence (problem circuit.now admit.now)) evidence.items }
-    requires more { AllByRecursion (IsTrueEvidence (problem circuit.now admit.now)) more.items }
-    ensures { AllByRecursion (IsTrueEvidence (problem circuit.now admit.now)) result.items }
+    requires evidence { AllByRecursion (IsTrueEvidence (problem_by F.by circuit.now admit.now)) evidence.items }
+    requires more { AllByRecursion (IsTrueEvidence (problem_by F.by circuit.now admit.now)) more.items }
+    ensures { AllByRecursion (IsTrueEvidence (problem_by F.by circuit.now admit.now)) result.items }
 {
     if evidence.is_empty() {
         return more;

@@ -15,6 +15,10 @@ use td_gates::Delay;
 use td_pool::worst_with;
 use td_search::{Answer, Own, SearchFault, Strategy, certificate_of};
 
+/// No pair changes as late as edges let it, so that cubes are split.
+const NEVER_AS_LATE: &str =
+    "xnor #(3,4) (w,b,d,a); and #(2,1) (v,c,a,b); xor #(6,1) (u,a,v); xnor #(2,6) (y,w,u);";
+
 /// Appends the bits of a vector, on a line with this word.
 fn push_bits(text: &mut String, word: &str, bits: &[bool]) -> Result<(), AllocError> {
     text.push_str(word)?;
@@ -99,11 +103,12 @@ fn check_led<R: Threads + Wait + Sync + Abort>(
 #[test]
 fn lead_by_workers(rt: HostRuntime) -> Result<(), Fail> {
     let alloc = rt.alloc();
-    for workers in [1, 4] {
+    for workers in [1, 2, 4] {
         check_led(&rt, alloc, "a", INVERTER, workers)?;
         check_led(&rt, alloc, "a", LOST, workers)?;
         check_led(&rt, alloc, "a, b", RECONVERGENT, workers)?;
         check_led(&rt, alloc, "a, b", SLOW_ARM, workers)?;
+        check_led(&rt, alloc, "a, b, c, d", NEVER_AS_LATE, workers)?;
     }
     Ok(())
 }

@@ -18,7 +18,7 @@ pub returns-in_default : goal.returns-in_default
 returns-in_default g c = (
   _,
   nothing_done g.F.Files.did g.met.F.Files.did_nothing _ _ refl,
-  lost_report (IsSimProduct c.args.text.now c.args.default c.args.from.now c.args.to.now (words_of c.args.at) (words_of c.args.vcd)) (HasNoReport c.args.text.now c.args.default c.args.from.now c.args.to.now (words_of c.args.at)) (g.F.Files.breaks c.args.files.now) _ _ _ _ (sim_product c.args.text.now c.args.default c.args.from.now c.args.to.now (words_of c.args.at) (words_of c.args.vcd) c.in-Ok.simulated.report (dump_files c.in-Ok.simulated.dump) c.in-Ok.ensures.report) (subst (λ (it : List ℕ). Failed (g.O.Sink.output c.args.out.now) (g.O.Sink.output c.write_all.new.self) it) c.bytes.ensures c.in_default.ensures) c.tell.ensures.told c.tell.ensures.status,
+  lost_report (IsSimProduct c.args.text.now c.args.default c.args.from.now c.args.to.now (words_of c.args.at) (words_of c.args.vcd)) (HasNoReport c.args.text.now c.args.default c.args.from.now c.args.to.now (words_of c.args.at)) (g.F.Files.breaks c.args.files.now) _ _ _ _ (sim_product c.args.text.now c.args.default c.args.from.now c.args.to.now (words_of c.args.at) (words_of c.args.vcd) c.in-Ok.simulated.report c.beside_dump-shown.result.now (dump_files c.in-Ok.simulated.dump) c.in-Ok.ensures.report c.beside_dump-shown.ensures) c.in_default.ensures c.tell.ensures.told c.tell.ensures.status,
 )
 
 pub returns-in_default-keep_dump : goal.returns-in_default-keep_dump
@@ -26,7 +26,7 @@ returns-in_default-keep_dump g c =
     let lost = c.in_default-keep_dump.ensures.lost in (
       lost.0,
       lost.1,
-      lost_file (IsSimProduct c.args.text.now c.args.default c.args.from.now c.args.to.now (words_of c.args.at) (words_of c.args.vcd)) (HasNoReport c.args.text.now c.args.default c.args.from.now c.args.to.now (words_of c.args.at)) (g.F.Files.breaks c.args.files.now) _ _ _ _ _ (sim_product c.args.text.now c.args.default c.args.from.now c.args.to.now (words_of c.args.at) (words_of c.args.vcd) c.in-Ok.simulated.report (dump_files c.in-Ok.simulated.dump) c.in-Ok.ensures.report) (subst (λ (it : List ℕ). Sent (g.O.Sink.output c.args.out.now) (g.O.Sink.output c.write_all.new.self) it) c.bytes.ensures c.in-Ok-write_all.ensures) lost.2 refl,
+      lost_file (IsSimProduct c.args.text.now c.args.default c.args.from.now c.args.to.now (words_of c.args.at) (words_of c.args.vcd)) (HasNoReport c.args.text.now c.args.default c.args.from.now c.args.to.now (words_of c.args.at)) (g.F.Files.breaks c.args.files.now) _ _ _ _ _ (sim_product c.args.text.now c.args.default c.args.from.now c.args.to.now (words_of c.args.at) (words_of c.args.vcd) c.in-Ok.simulated.report c.beside_dump-shown.result.now (dump_files c.in-Ok.simulated.dump) c.in-Ok.ensures.report c.beside_dump-shown.ensures) c.in-Ok-write_all.ensures lost.2 refl,
     )
 
 pub returns : goal.returns
@@ -34,5 +34,5 @@ returns g c =
     let kept = c.in-Ok-keep_dump.ensures.kept in (
       kept.0,
       kept.1,
-      finished (IsSimProduct c.args.text.now c.args.default c.args.from.now c.args.to.now (words_of c.args.at) (words_of c.args.vcd)) (HasNoReport c.args.text.now c.args.default c.args.from.now c.args.to.now (words_of c.args.at)) (g.F.Files.breaks c.args.files.now) _ _ _ _ _ (sim_product c.args.text.now c.args.default c.args.from.now c.args.to.now (words_of c.args.at) (words_of c.args.vcd) c.in-Ok.simulated.report (dump_files c.in-Ok.simulated.dump) c.in-Ok.ensures.report) (subst (λ (it : List ℕ). Sent (g.O.Sink.output c.args.out.now) (g.O.Sink.output c.write_all.new.self) it) c.bytes.ensures c.in-Ok-write_all.ensures) kept.2.0 kept.2.1 refl,
+      finished (IsSimProduct c.args.text.now c.args.default c.args.from.now c.args.to.now (words_of c.args.at) (words_of c.args.vcd)) (HasNoReport c.args.text.now c.args.default c.args.from.now c.args.to.now (words_of c.args.at)) (g.F.Files.breaks c.args.files.now) _ _ _ _ _ (sim_product c.args.text.now c.args.default c.args.from.now c.args.to.now (words_of c.args.at) (words_of c.args.vcd) c.in-Ok.simulated.report c.beside_dump-shown.result.now (dump_files c.in-Ok.simulated.dump) c.in-Ok.ensures.report c.beside_dump-shown.ensures) c.in-Ok-write_all.ensures kept.2.0 kept.2.1 refl,
     )

@@ -1,13 +1,13 @@
 use Rattle.std.proofs.Common.{◌≡◌}
-use Rattle.td_search.specs.Problems.{problem}
+use Rattle.td_search.specs.Problems.{problem_by}
 use Rattle.td_pool.specs.Truth.{IsTrueFound, IsBelow}
 use Rattle.td_pool.proofs.working.work_below.Given as goal
 
 abbrev pub invariant-loop : goal.invariant-loop
 invariant-loop g l = record {
-  scratch : g.P.Prober.is_for l.scratch l.fn.circuit;
+  scratch : g.F.Finder.is_for l.scratch l.fn.circuit;
   seat : l.found.seat.table ≡ l.fn.word.table;
-  found : IsTrueFound (problem l.fn.circuit l.fn.admit) l.found;
+  found : IsTrueFound (problem_by g.F.Finder.by l.fn.circuit l.fn.admit) l.found;
   evidence : l.found.evidence ≡ l.fn.found.evidence;
-  below : IsBelow (problem l.fn.circuit l.fn.admit) l.fn.lease l.below;
+  below : IsBelow (problem_by g.F.Finder.by l.fn.circuit l.fn.admit) l.fn.lease l.below;
 }

@@ -1,16 +1,17 @@
 use Rattle.std.proofs.Common.{◌≡◌, ℕ, max, length, sym, ap, subst, ◌∙◌, arith}
 use Rattle.td_domain.specs.Pairs.{Pair}
 use Rattle.td_search.specs.Best.{Found as Best}
-use Rattle.td_search.specs.Problems.{Problem, problem, has_delay}
+use Rattle.td_search.specs.Problems.{Problem, problem_by, has_delay}
 use Rattle.td_search.specs.Representatives.{representative}
 use Rattle.td_search.proofs.Bits.{is_inside}
 use Rattle.td_search.proofs.Bounded.{vectors_inside}
 use Rattle.td_incumbent.specs.Held.{Held}
-use Rattle.td_pool.proofs.working.offer.Goals as goal
+use Rattle.td_pool.proofs.Finds.{better_best}
+use Rattle.td_pool.proofs.offers.offer.Goals as goal
 
 pub returns-clause-found : goal.returns-clause-found
 returns-clause-found c =
-    let asked : Problem = problem c.args.circuit.now c.args.admit.now in
+    let asked : Problem = problem_by c.args.strategy c.args.circuit.now c.args.admit.now in
     let was = c.requires.found in
     let pair : Pair = representative c.args.admit.now c.args.cube.now in
     let time : ℕ = c.args.time in
@@ -22,12 +23,13 @@ returns-clause-found c =
     let sees : c.raise.new.seat.seen ≡ c.raise.result = ap (λ (h : Held). h.seen) c.raise.ensures.seat in
     let seen = c.look-seen.ensures.seen in
     let before = was.seen in
+    let same = was.offer in
     let more = c.if-time-seen.false in
     let of_best : c.replace.new.self.time ≡ time = ap (λ (b : Best). b.time) best in
     let low = c.raise.ensures.offer in
     record {
       evidence = was.evidence;
-      best = λ some. delay;
+      best = better_best asked c.args.found.now.best c.replace.new.self was.best delay (omega (arith, seen, before, same, more, of_best));
       offer = omega (arith, looked, raised, seen, before, more, of_best);
       seen = omega (arith, looked, raised, sees, seen, before, more, low);
       first = ap (λ (b : Best). length b.pair.first) best ∙ fits.0;

@@ -1,6 +1,6 @@
 use Rattle.std.proofs.Common.{◌*◌, length, ap, ◌∙◌}
 use Rattle.td_search.proofs.Bounded.{vectors_inside}
-use Rattle.td_pool.proofs.pool.measure_root.Goals as goal
+use Rattle.td_pool.proofs.root.measure_root.Goals as goal
 
 pub measure-requires-clause-first_fits : goal.measure-requires-clause-first_fits
 measure-requires-clause-first_fits g c =

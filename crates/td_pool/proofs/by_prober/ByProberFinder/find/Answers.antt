@@ -12,7 +12,7 @@ use Rattle.td_search.specs.Representatives.{representative}
 use Rattle.td_search.proofs.Bounded.{vectors_inside}
 use Rattle.td_pool.specs.Truth.{IsPlaced}
 use Rattle.td_pool.proofs.Finds.{true_finding}
-use Rattle.td_pool.proofs.working.find.Goals as goal
+use Rattle.td_pool.proofs.by_prober.ByProberFinder.find.Goals as goal
 
 pub measure-requires-clause-first_fits : goal.measure-requires-clause-first_fits
 measure-requires-clause-first_fits g c =
