@@ -26,7 +26,8 @@ use Rattle.td_cli.specs.Reports.{IsSimReport}
 use Rattle.td_cli.specs.WorstReports.{IsWorstReport}
 use Rattle.td_command.specs.CommandLine.{kinds_of}
 use Rattle.td_cli.specs.Ends.{Product, Streams, streams, Tells, TellsReason, TellsUnread, TellsUnwritten, LosesOne, Says, Ends}
-use Rattle.td_cli.specs.Requests.{Disk, Reads, HoldsOnFile, certificate_files, search_ending, IsBeside, IsSimProduct, IsWorstProduct, IsOutOfMemory, IsShown, TellsText, IsProductOf, HoldsOf, KeepsFiles, Overwrites, RequestRuns, RequestEnds, ProgramEnds}
+use Rattle.td_cli.specs.Disks.{Disk, Reads, HoldsOnFile}
+use Rattle.td_cli.specs.Requests.{certificate_files, search_ending, IsBeside, IsSimProduct, IsWorstProduct, IsOutOfMemory, IsShown, TellsText, IsProductOf, HoldsOf, KeepsFiles, Overwrites, RequestRuns, RequestEnds, ProgramEnds}
 
 -- a kind whose text goes to standard error isn't
 pub not_shown : (k : ErrorKind) → (k ≢ kind.DisplayHelp) × (k ≢ kind.DisplayVersion) → ¬ IsShown k

@@ -7,7 +7,7 @@ use Rattle.td_certificate.specs.declared.fault.WriteFault.TheVariants as unwritt
 use Rattle.td_cli.specs.declared.files.ReadFault.{ReadFault}
 use Rattle.td_cli.specs.declared.files.ReadFault.TheVariants as unread
 use Rattle.td_cli.specs.declared.status.Status.{Status}
-use Rattle.td_cli.specs.declared.status.Status.TheVariants.{Refused, BadCommand, Device}
+use Rattle.td_cli.specs.declared.status.Status.TheVariants.{Refused, BadCommand, Rejected, Device}
 use Rattle.td_cli.specs.declared.refusal.Refusal.{Refusal}
 use Rattle.td_cli.specs.declared.refusal.Refusal.TheVariants as refusal
 use Rattle.td_cli.specs.Files.{FileStep, FileText, AreWritten, IsLeft}
@@ -41,6 +41,10 @@ status_of (refusal.Unreadable name) = Device
 status_of (refusal.BadVector word) = BadCommand
 status_of refusal.NoOutput = BadCommand
 status_of (refusal.OneFile out file) = BadCommand
+status_of (refusal.Unaccepted name verdict) = Rejected
+status_of (refusal.OtherCircuit name) = Rejected
+status_of (refusal.NotJoined fault one other) = Rejected
+status_of refusal.TooLong = Rejected
 status_of reason = Refused
 
 -- a line was told: all of it went out, or the writer failed behind a beginning of it

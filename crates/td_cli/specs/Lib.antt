@@ -8,12 +8,17 @@ pub mod Paths
 pub mod BoundReports
 pub mod CheckReports
 pub mod WorstReports
+pub mod Pinning
+pub mod PartReports
+pub mod JoinTexts
 pub mod InfoReports
 pub mod Chains
 pub mod Files
+pub mod Disks
 pub mod Devices
 pub mod Refusals
 pub mod Outcomes
+pub mod JoinReports
 pub mod Ends
 pub mod Requests
 pub mod MemoryFiles

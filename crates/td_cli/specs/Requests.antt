@@ -33,6 +33,7 @@ use Rattle.td_cli.specs.InfoReports.{IsInfoReport}
 use Rattle.td_cli.specs.Refusals.{refusal_text, unwritten_text}
 use Rattle.td_cli.specs.Outcomes.{HasNoCircuit, HasNoReport, HasNoPath, HasNoBounds, HasNoAnswer, HasNoVerdict}
 use Rattle.td_cli.specs.Files.{FileStep, FileText}
+use Rattle.td_cli.specs.Disks.{Disk, Reads, HoldsOnFile}
 use Rattle.td_cli.specs.Ends.{Product, IsReportOnly, Streams, Tells, Ends}
 
 -- ---- the commands, on bytes that were read
@@ -92,29 +93,6 @@ pub record IsWorstProduct (text : List ℕ) (default : Delay) (words : QuestionW
   pub ends : product.ending ≡ search_ending certificate
 
 -- ---- the commands, on files
-
--- what is known of files: the bytes that a read of a name may give, which names a device may fail to read, of which it may fail to
--- make or end a file, and what may be answered where it is asked whether two names are of one file
-pub record Disk : Type 1 where
-  pub holds : List ℕ → List ℕ → Type 0
-  pub fails : List ℕ → Type 0
-  pub breaks : List ℕ → Type 0
-  pub is_one : List ℕ → List ℕ → Bool → Type 0
-
-abbrev pub disk_of : (List ℕ → List ℕ → Type 0) → (List ℕ → Type 0) → (List ℕ → Type 0) → (List ℕ → List ℕ → Bool → Type 0) → Disk
-disk_of holds fails breaks is_one = record { holds = holds; fails = fails; breaks = breaks; is_one = is_one }
-
--- the file of this name was read, as bytes of which this holds
-abbrev pub Reads : Disk → List ℕ → (List ℕ → Type 0) → Type 0
-Reads disk name Holds = (text : List ℕ) × disk.holds name text × Holds text
-
--- the reason tells a file of this name, which a device may fail to read
-abbrev pub IsUnreadable : Disk → List ℕ → Refusal → Type 0
-IsUnreadable disk name reason = (word : Bor (List ℕ)) × (reason ≡ refusal.Unreadable word) × (word.now ≡ name) × disk.fails name
-
--- the reason tells that the file of this name can't be read, or holds of the bytes that were read
-abbrev pub HoldsOnFile : Disk → List ℕ → (List ℕ → Refusal → Type 0) → Refusal → Type 0
-HoldsOnFile disk name HoldsOn reason = IsUnreadable disk name reason ⊎ Reads disk name (λ text. HoldsOn text reason)
 
 -- the strategy that a word names
 abbrev pub strategy_of : StrategyWord → Strategy

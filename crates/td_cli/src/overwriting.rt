@@ -1,7 +1,8 @@
 //! Files that a command would write over its other files.
 
 ghost use Rattle.std.specs.Prelude.{◌≡◌, Option, Some, IfSome, IfNone};
-ghost use Rattle.td_cli.specs.Requests.{disk_of, AreApart, IsOverwritten, IsReadAs, KeepsFiles, Overwrites};
+ghost use Rattle.td_cli.specs.Disks.{disk_of};
+ghost use Rattle.td_cli.specs.Requests.{AreApart, IsOverwritten, IsReadAs, KeepsFiles, Overwrites};
 ghost use Rattle.td_cli.specs.Vectors.{words_of};
 ghost use Rattle.td_command.specs.declared.command.Request.TheVariants as Asked;
 

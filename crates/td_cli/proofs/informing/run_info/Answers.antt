@@ -1,7 +1,8 @@
 use Rattle.std.proofs.Common.{sym, subst}
 use Rattle.td_command.specs.CommandLine.{delays}
 use Rattle.td_cli.specs.Outcomes.{HasNoCircuit}
-use Rattle.td_cli.specs.Requests.{disk_of, IsInfoProduct}
+use Rattle.td_cli.specs.Disks.{disk_of}
+use Rattle.td_cli.specs.Requests.{IsInfoProduct}
 use Rattle.td_cli.proofs.Programs.{nothing_done, on_file, not_read}
 use Rattle.td_cli.proofs.informing.run_info.Goals as goal
 

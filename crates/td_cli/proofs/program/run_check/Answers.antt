@@ -1,7 +1,8 @@
 use Rattle.std.proofs.Common.{◌∙◌, sym, subst}
 use Rattle.td_command.specs.CommandLine.{delays}
 use Rattle.td_cli.specs.Outcomes.{HasNoVerdict}
-use Rattle.td_cli.specs.Requests.{disk_of, HoldsOnFile, Reads, IsCheckProduct}
+use Rattle.td_cli.specs.Disks.{disk_of, HoldsOnFile, Reads}
+use Rattle.td_cli.specs.Requests.{IsCheckProduct}
 use Rattle.td_cli.proofs.Programs.{nothing_done, on_file, not_read}
 use Rattle.td_cli.proofs.program.run_check.Goals as goal
 

@@ -2,7 +2,8 @@ use Rattle.std.proofs.Common.{sym, subst}
 use Rattle.td_command.specs.CommandLine.{delays}
 use Rattle.td_cli.specs.Vectors.{words_of}
 use Rattle.td_cli.specs.Outcomes.{HasNoPath}
-use Rattle.td_cli.specs.Requests.{disk_of, IsPathProduct}
+use Rattle.td_cli.specs.Disks.{disk_of}
+use Rattle.td_cli.specs.Requests.{IsPathProduct}
 use Rattle.td_cli.proofs.Programs.{nothing_done, on_file, not_read}
 use Rattle.td_cli.proofs.program.run_path.Goals as goal
 

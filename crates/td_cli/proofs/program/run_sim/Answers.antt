@@ -2,7 +2,8 @@ use Rattle.std.proofs.Common.{sym, subst}
 use Rattle.td_command.specs.CommandLine.{delays}
 use Rattle.td_cli.specs.Vectors.{words_of}
 use Rattle.td_cli.specs.Outcomes.{HasNoReport}
-use Rattle.td_cli.specs.Requests.{disk_of, IsSimProduct}
+use Rattle.td_cli.specs.Disks.{disk_of}
+use Rattle.td_cli.specs.Requests.{IsSimProduct}
 use Rattle.td_cli.proofs.Programs.{nothing_done, not_read, on_file_taking}
 use Rattle.td_cli.proofs.program.run_sim.Goals as goal
 
