@@ -2,7 +2,7 @@ use Rattle.std.proofs.Common.{rules, ◌≡◌, ◌∙◌, ap, ap₂, codes}
 use Rattle.std.proofs.lemmas.Result.{IfOk-weaker}
 use Rattle.clap.specs.Words.{app_of, new_app, with_rule}
 use Rattle.td_command.specs.CommandLine.{with_cube, with_default, with_edges, with_moments}
-use Rattle.td_command.proofs.command.bound_command.Goals as goal
+use Rattle.td_command.proofs.arguments.bound_command.Goals as goal
 
 pub returns : goal.returns
 returns c =

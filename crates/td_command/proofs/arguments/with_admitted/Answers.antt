@@ -1,7 +1,7 @@
 use Rattle.std.proofs.Common.{◌∙◌, ap₂}
 use Rattle.std.proofs.lemmas.Result.{IfOk-weaker}
 use Rattle.clap.specs.Words.{with_rule}
-use Rattle.td_command.proofs.command.with_admitted.Goals as goal
+use Rattle.td_command.proofs.arguments.with_admitted.Goals as goal
 
 pub returns : goal.returns
 returns c = IfOk-weaker c.arg-2.result _ _

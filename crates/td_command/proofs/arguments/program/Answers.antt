@@ -2,7 +2,7 @@ use Rattle.std.proofs.Common.{◌∙◌, ap, ap₂}
 use Rattle.std.proofs.lemmas.Result.{IfOk-weaker}
 use Rattle.clap.specs.Words.{App, with_subcommand}
 use Rattle.td_command.proofs.CommandLines.{third_of_plain}
-use Rattle.td_command.proofs.command.command.Goals as goal
+use Rattle.td_command.proofs.arguments.command.Goals as goal
 
 pub returns : goal.returns
 returns c =

@@ -2,7 +2,7 @@ use Rattle.std.proofs.Common.{rules, ◌≡◌, ◌∙◌, ap, codes}
 use Rattle.std.proofs.lemmas.Result.{IfOk-weaker}
 use Rattle.clap.specs.Words.{app_of, new_app}
 use Rattle.td_command.specs.CommandLine.{with_default, with_moments, with_pair, with_output}
-use Rattle.td_command.proofs.command.path_command.Goals as goal
+use Rattle.td_command.proofs.arguments.path_command.Goals as goal
 
 pub returns : goal.returns
 returns c =
