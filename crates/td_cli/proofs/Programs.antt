@@ -24,10 +24,11 @@ use Rattle.td_cli.specs.Vectors.{words_of}
 use Rattle.td_cli.specs.Refusals.{unwritten_text}
 use Rattle.td_cli.specs.Reports.{IsSimReport}
 use Rattle.td_cli.specs.WorstReports.{IsWorstReport}
+use Rattle.td_cli.specs.JoinReports.{IsJoinReport}
 use Rattle.td_command.specs.CommandLine.{kinds_of}
 use Rattle.td_cli.specs.Ends.{Product, Streams, streams, Tells, TellsReason, TellsUnread, TellsUnwritten, LosesOne, Says, Ends}
 use Rattle.td_cli.specs.Disks.{Disk, Reads, HoldsOnFile}
-use Rattle.td_cli.specs.Requests.{certificate_files, search_ending, IsBeside, IsSimProduct, IsWorstProduct, IsOutOfMemory, IsShown, TellsText, IsProductOf, HoldsOf, KeepsFiles, Overwrites, RequestRuns, RequestEnds, ProgramEnds}
+use Rattle.td_cli.specs.Requests.{certificate_files, search_ending, IsBeside, IsSimProduct, IsWorstProduct, IsJoinProduct, IsOutOfMemory, IsShown, TellsText, IsProductOf, HoldsOf, KeepsFiles, Overwrites, RequestRuns, RequestEnds, ProgramEnds}
 
 -- a kind whose text goes to standard error isn't
 pub not_shown : (k : ErrorKind) → (k ≢ kind.DisplayHelp) × (k ≢ kind.DisplayVersion) → ¬ IsShown k
@@ -373,3 +374,17 @@ pub due_certificate : (word : Option (Bor (List ℕ))) (name : Bor (List ℕ)) (
     → given ≡ Some certificate → certificate_files (words_of word) given ≡ certificate_file name.now certificate ∷ []
 due_certificate word name given certificate is has =
     ap (λ (it : Option (Bor (List ℕ))). certificate_files (words_of it) given) is ∙ ap (certificate_files (Some name.now)) has
+
+-- what a join says
+pub join_product : (disk : Disk) (text : List ℕ) (default : Delay) (names : List (List ℕ)) (check : Bool) (first second name : Option (List ℕ))
+    (report shown : List ℕ) (whole : Certificate) → IsJoinReport disk text default names check first second report whole
+    → IsBeside (certificate_files name (Some whole) ++ []) report shown → IsJoinProduct disk text default names check first second name
+    (record { report = shown; files = certificate_files name (Some whole); ending = Done })
+join_product disk text default names check first second name report shown whole is beside = record {
+  report = report;
+  whole = whole;
+  is = is;
+  files = refl;
+  shown = subst (λ (files : List FileText). IsBeside files report shown) (append-nil (certificate_files name (Some whole))) beside;
+  ends = refl;
+}

@@ -1,6 +1,6 @@
 -- What `join` prints, and why it joins nothing.
-use Rattle.std.specs.Prelude.{◌≡◌, ◌≢◌, ◌<◌, ℕ, Bool, true, List, [], ◌∷◌, All, length, get_or, ◌⊎◌, Option, Some, None, ⊤}
-use Rattle.std.specs.List.{Contains}
+use Rattle.std.specs.Prelude.{◌≡◌, ◌≢◌, ◌<◌, ℕ, Bool, true, List, [], ◌∷◌, All, length, get_or, ◌⊎◌, Option, Some, None}
+use Rattle.std.specs.List.{AllZip, Contains}
 use Rattle.td_gates.specs.declared.timing.Delay.{Delay}
 use Rattle.td_nets.specs.Netlist.{Netlist}
 use Rattle.td_domain.specs.declared.cubes.Trit.{Trit}
@@ -64,10 +64,7 @@ GivesPart disk text default netlist check name part = Reads disk name (λ read. 
 
 -- the files of these names were read as these parts, in order
 abbrev pub AreParts : Disk → List ℕ → Delay → Netlist → Bool → List (List ℕ) → List Certificate → Type 0
-AreParts disk text default netlist check [] [] = ⊤
-AreParts disk text default netlist check (name ∷ names) (part ∷ parts) =
-    GivesPart disk text default netlist check name part × AreParts disk text default netlist check names parts
-AreParts disk text default netlist check names parts = ⊥
+AreParts disk text default netlist check names parts = AllZip (GivesPart disk text default netlist check) names parts
 
 -- a file of these names can't be read, or tells no part
 abbrev pub HasNoPart : Disk → List ℕ → Delay → Netlist → List (List ℕ) → Refusal → Type 0

@@ -19,6 +19,7 @@ pub mod Devices
 pub mod Refusals
 pub mod Outcomes
 pub mod JoinReports
+pub mod Parts
 pub mod Ends
 pub mod Requests
 pub mod MemoryFiles

@@ -26,7 +26,9 @@ use crate::dumping::{Dump, write_dump};
 use crate::explaining::path;
 use crate::files::{Files, ReadFault};
 use crate::informing::run_info;
+use crate::joining::run_join;
 use crate::overwriting::overwriting;
+use crate::parting::run_parts;
 use crate::refusal::Refusal;
 use crate::searching::worst;
 use crate::simulate::sim;
@@ -204,6 +206,8 @@ fn run_plain_request<F: Files, O: Sink, E: Sink>(
         Request::Path(request) => run_path(alloc, files, *request, out, err),
         Request::Bound(request) => run_bound(alloc, files, *request, out, err),
         Request::Check(request) => run_check(alloc, files, *request, out, err),
+        Request::Parts(request) => run_parts(alloc, files, *request, out, err),
+        Request::Join(request) => run_join(alloc, files, request, out, err),
         Request::Info(request) => run_info(alloc, files, *request, out, err),
         Request::Worst(_) => unreachable!(),
     }
@@ -360,7 +364,7 @@ fn words_in(request: WorstRequest<'_>) -> QuestionWords<'_>
 }
 
 /// The strategy that a word names.
-fn strategy_of(word: StrategyWord) -> Strategy
+pub fn strategy_of(word: StrategyWord) -> Strategy
     ensures { result ≡ strategy_of word }
 {
     match word {
@@ -568,7 +572,7 @@ fn beside_dump<'a>(report: &'a Text, dump: &Option<Dump<'_>>) -> &'a [u8]
 }
 
 /// What is shown beside the files of a search: the report, unless one of them goes to standard output.
-fn beside_files<'a>(
+pub fn beside_files<'a>(
     report: &'a Text,
     name: Option<&str>,
     certificate: &Option<Certificate>,
@@ -596,7 +600,7 @@ fn ending(certificate: &Option<Certificate>) -> Status
 }
 
 /// Writes a certificate to a new file, if there is one and a name is given for it. Where that fails, it is told.
-fn keep_certificate<F: Files, E: Sink>(
+pub fn keep_certificate<F: Files, E: Sink>(
     alloc: Global,
     files: &mut F,
     name: Option<&str>,
@@ -720,7 +724,7 @@ fn unwritten_line(text: &mut Text, file: &str) -> Result<(), AllocError>
 }
 
 /// Tells a line on standard error, where a failure is ignored.
-fn tell<E: Sink>(err: &mut E, line: &[u8], status: Status) -> Status
+pub fn tell<E: Sink>(err: &mut E, line: &[u8], status: Status) -> Status
     ensures status { result ≡ status }
     ensures told { Tells (E.output err.old) (E.output err.new) line.now }
 {

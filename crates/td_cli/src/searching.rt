@@ -40,13 +40,13 @@ pub struct Found<'v> {
 
 /// What is asked: a circuit with its moments, and which pairs of its inputs are admitted.
 #[derive(Drop)]
-struct Asked {
-    circuit: Circuit,
-    admit: Admit,
+pub struct Asked {
+    pub circuit: Circuit,
+    pub admit: Admit,
 }
 
 /// What the words ask of a text.
-fn question_of<'a>(
+pub fn question_of<'a>(
     alloc: Global,
     text: &'a [u8],
     default: Delay,
@@ -195,7 +195,7 @@ fn answer_of(text: &mut Text, answer: &Answer) -> Result<(), AllocError>
     }
 }
 
-fn exact(text: &mut Text, time: u64) -> Result<(), AllocError>
+pub fn exact(text: &mut Text, time: u64) -> Result<(), AllocError>
     ensures { OnOk result (text.new ≡ text.old ++ exact_line time) }
 {
     text.push(b"exact ")?;
@@ -225,7 +225,7 @@ fn cause_of(text: &mut Text, cause: Cause) -> Result<(), AllocError>
 }
 
 /// The lines of a pair, and of a number of nodes.
-fn pair_of(text: &mut Text, pair: &Pair, nodes: u64) -> Result<(), AllocError>
+pub fn pair_of(text: &mut Text, pair: &Pair, nodes: u64) -> Result<(), AllocError>
     ensures { OnOk result (text.new ≡ text.old ++ pair_lines pair.now nodes) }
 {
     text.push(b"from ")?;
