@@ -39,12 +39,13 @@ pub(crate) fn words_given<'a>(
 ) -> Result<Option<Certificates<'a>>, AllocError>
     ensures { IfOk result (IsAnswered (HasWords id.now (rows_of (found_of matches.now)))) }
 {
-    match matches.get_raw(id) {
-        Some(given) if !given.is_empty() => {
-            let mut words = Vec::new(alloc);
-            words.extend_from_slice(given)?;
-            Ok(Some(Certificates { words }))
-        }
-        _ => Ok(None),
+    let Some(given) = matches.get_raw(id) else {
+        return Ok(None);
+    };
+    if given.is_empty() {
+        return Ok(None);
     }
+    let mut words = Vec::new(alloc);
+    words.extend_from_slice(given)?;
+    Ok(Some(Certificates { words }))
 }
