@@ -6,6 +6,8 @@ mod admitted;
 #[cfg(test)]
 mod edges;
 #[cfg(test)]
+mod joins;
+#[cfg(test)]
 mod moments;
 #[cfg(test)]
 mod netlists;

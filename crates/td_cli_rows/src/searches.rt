@@ -10,7 +10,7 @@ use td_cli::{MemoryFile, MemoryFiles, MemoryStep};
 
 const INVERTER_CERTIFICATE: &[u8] = b"tdelay-cert 1\ncircuit 1 1\ntime 3\nfrom 0\nto 1\nb a 3\n";
 
-const LOST_CERTIFICATE: &[u8] =
+pub const LOST_CERTIFICATE: &[u8] =
     b"tdelay-cert 1\ncircuit 1 2\ntime 0\nfrom 0\nto 1\ns 0\ns 1\nb a 0\nb a 0\ns 1\nb a 0\nb a 0\n";
 
 /// Carries out a command over the circuits of the tests.
