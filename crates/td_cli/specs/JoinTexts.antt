@@ -29,9 +29,9 @@ second_place none = 0
 unfoldable pub two_text : List ℕ → List ℕ → List ℕ → List ℕ
 two_text one other why = codes "tdelay: cannot join " ++ one ++ codes " and " ++ other ++ codes ": " ++ why
 
--- one that isn't joined with any, and why
+-- one that is joined with none, and why
 unfoldable pub one_text : List ℕ → List ℕ → List ℕ
-one_text one why = codes "tdelay: cannot join " ++ one ++ codes ": " ++ why
+one_text one why = codes "tdelay: " ++ one ++ codes ": " ++ why
 
 -- the pins for which a part is missing
 unfoldable pub gap_text : List ℕ → List ℕ

@@ -92,11 +92,11 @@ fn tell_two(text: &mut Text, one: &str, other: &str, why: &[u8]) -> Result<(), A
     text.push(why)
 }
 
-/// One that isn't joined with any, and why.
+/// One that is joined with none, and why.
 fn tell_one(text: &mut Text, one: &str, why: &[u8]) -> Result<(), AllocError>
     ensures { OnOk result (text.new ≡ text.old ++ one_text one.now why.now) }
 {
-    text.push(b"tdelay: cannot join ")?;
+    text.push(b"tdelay: ")?;
     text.word(one)?;
     text.push(b": ")?;
     text.push(why)

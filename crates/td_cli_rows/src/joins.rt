@@ -149,7 +149,7 @@ fn not_joined(rt: HostRuntime) -> Result<(), Fail> {
         ),
         (
             ["tdelay", "join", "lost.v", "zero", "one", "--first=1"],
-            b"tdelay: cannot join zero: other pins\n",
+            b"tdelay: zero: other pins\n",
             4,
         ),
         (
