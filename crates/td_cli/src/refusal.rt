@@ -60,6 +60,17 @@ impl<'a> From<AllocError> for Refusal<'a> {
     }
 }
 
+impl<'a, T: Drop> From<AllocFailed<T>> for Refusal<'a> {
+    ghost use Rattle.std.specs.Prelude.{◌≡◌};
+    ghost use Rattle.td_cli.specs.declared.refusal.Refusal.TheVariants.{OutOfMemory};
+
+    ghost from_gives = { λ _ refusal. refusal ≡ OutOfMemory };
+
+    fn from(_failed: AllocFailed<T>) -> Self {
+        Refusal::OutOfMemory
+    }
+}
+
 impl<'a> Refusal<'a> {
     /// How the program ends after this refusal.
     pub fn status(&self) -> Status

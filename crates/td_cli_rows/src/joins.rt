@@ -67,7 +67,7 @@ fn parts_of_questions(rt: HostRuntime) -> Result<(), Fail> {
         ),
         (
             ["tdelay", "parts", "inverter.v", "--parts=9", "--strategy=least", "--first=.", "--hold=="],
-            b"--first 0 --second . --hold =\n--first 1 --second . --hold =\n",
+            b"--first 0 --second 0 --hold =\n--first 1 --second 1 --hold =\n",
             b"",
             0,
         ),
@@ -164,7 +164,7 @@ fn not_joined(rt: HostRuntime) -> Result<(), Fail> {
         ),
         (
             ["tdelay", "join", "lost.v", "zero", "later", "--check"],
-            b"tdelay: later: refused 3 PairTime\n",
+            b"tdelay: later: refused 2 PairTime\n",
             4,
         ),
         (

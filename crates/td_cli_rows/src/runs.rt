@@ -402,6 +402,8 @@ Commands:
   path   Tells why an output changes last when it does: the changes that lead there from an input
   bound  Bounds the delay of all pairs of vectors that two patterns allow
   worst  Searches for the worst delay of the admitted pairs of vectors, and a pair that has it
+  parts  Cuts the question of `worst` into parts, and prints the options with which `worst` answers each
+  join   Joins the certificates of a question's parts into one of the whole question
   check  Checks the certificate of a worst delay, and trusts nothing else
   info   Tells what is in a netlist: its size, its depth, its delays, and its inputs in the order of a vector's characters
   help   Print this message or the help of the given subcommand(s)
@@ -415,6 +417,8 @@ Examples:
   tdelay path c17.v 00000 11111
   tdelay bound c17.v --first 0....
   tdelay worst c17.v --cert c17.cert
+  tdelay parts c17.v --parts 4
+  tdelay join c17.v 1.cert 2.cert 3.cert 4.cert --cert c17.cert
   tdelay check c17.v c17.cert
   tdelay info c17.v
 
@@ -426,10 +430,10 @@ Standard output has one figure a line, a key and its value: docs/OUTPUT.md.
 
 Exit status:
   0  done
-  1  the text of the netlist or certificate is refused, or no pair is admitted
+  1  the text of the netlist or of a certificate is refused, or no pair is admitted
   2  the command line is bad, or a vector on it
   3  the search was cut short: the worst delay lies between two figures
-  4  the certificate is refused
+  4  the certificate is refused, that of a part with `join --check`, or they can't be joined
   5  a device failed, or memory ran out
 ";
 
