@@ -1,0 +1,2 @@
+//! Parts that are cut, searched apart and joined again.
+#![tactic(auto)]
