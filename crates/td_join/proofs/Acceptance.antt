@@ -28,7 +28,7 @@ use Rattle.td_gates.proofs.Places.{All-from_contains}
 abbrev same_pairs : Admitted → List Trit → Admitted
 same_pairs admit pins = record admit { pins = pins }
 
-both_lists : {A : Type 0} (P : A → Type 0) (xs ys : List A) → AllByRecursion P xs → AllByRecursion P ys → AllByRecursion P (xs ++ ys)
+pub both_lists : {A : Type 0} (P : A → Type 0) (xs ys : List A) → AllByRecursion P xs → AllByRecursion P ys → AllByRecursion P (xs ++ ys)
 both_lists P [] ys h k = k
 both_lists P (x ∷ xs) ys h k = (h.0, both_lists P xs ys h.1 k)
 

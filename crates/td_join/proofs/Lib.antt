@@ -8,3 +8,4 @@ pub mod Acceptance
 pub mod Times
 pub mod Widening
 pub mod Wholes
+pub mod Spelled

@@ -8,11 +8,11 @@ use Rattle.td_certificate.specs.declared.tree.Node.{Node}
 use Rattle.td_certificate.specs.declared.certificate.Certificate.{Certificate}
 use Rattle.td_certificate.specs.Questions.{Question}
 use Rattle.td_gates.proofs.Places.{slice_get-Contains, slice_get-within}
-use Rattle.td_join.specs.Joining.{pins_of, AreJoined, IsAlike, IsJoined}
+use Rattle.td_join.specs.Joining.{pins_of, with_pins, AreJoined, IsAlike, IsJoined}
 use Rattle.td_domain.specs.Admits.{Admitted}
 use Rattle.td_join.specs.declared.fault.JoinFault.{JoinFault}
 use Rattle.td_join.specs.declared.fault.JoinFault.TheVariants as fault
-use Rattle.td_join.specs.Faults.{IsGap, IsUnjoinable, IsJoinFault}
+use Rattle.td_join.specs.Faults.{IsGap, IsFalseNoneIn, IsUnjoinable, IsJoinFault}
 use Rattle.td_join.specs.Steps.{IsJoinable}
 use Rattle.td_join.specs.Stacks.{IsOfQuestion, IsTreeFault}
 
@@ -73,3 +73,17 @@ module _ (certificates : List Certificate) (gates : ℕ) (question : Question) (
   told (fault.OtherMoments this that) h = absurd h
   told (fault.Outside this) h = absurd h
   told (fault.FalseNone this) h = absurd h
+
+  same_question : (this that : Question) → this.admit ≡ record that.admit { pins = this.admit.pins } → this.moments ≡ that.moments
+      → this ≡ with_pins that this.admit.pins
+  same_question this that admit moments = rw (admit, moments) refl
+
+  pub false_none : (fault : JoinFault) → IsFalseNoneIn certificates question fault → IsJoinFault certificates question.admit.pins fault
+  false_none told h = subst (λ (f : JoinFault). IsJoinFault certificates question.admit.pins f) (sym h.told_is) (
+    first_of.0,
+    first_of.1,
+    subst (λ (q : Question). IsFalseNoneIn certificates q (fault.FalseNone h.place))
+    (same_question question first_of.0.question (of_first first_of.0 (slice_get-Contains certificates 0 first_of.0 first_of.1))
+    (All-contains (IsOfQuestion gates question) certificates first_of.0 alike (slice_get-Contains certificates 0 first_of.0 first_of.1)).moments)
+    (record { certificate = h.certificate; place = h.place; at = h.at; told_is = refl; all = h.all; none = h.none }),
+  )

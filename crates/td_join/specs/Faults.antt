@@ -7,10 +7,11 @@ use Rattle.td_domain.specs.Cubes.{IsIn}
 use Rattle.td_domain.specs.Admits.{Admitted, HasAdmitted}
 use Rattle.td_certificate.specs.declared.tree.Node.TheVariants as node
 use Rattle.td_certificate.specs.declared.certificate.Certificate.{Certificate}
-use Rattle.td_certificate.specs.Questions.{inputs_of}
+use Rattle.td_certificate.specs.declared.question.Version.TheVariants.{First}
+use Rattle.td_certificate.specs.Questions.{Question, inputs_of, version_of}
 use Rattle.td_join.specs.declared.fault.JoinFault.{JoinFault}
 use Rattle.td_join.specs.declared.fault.JoinFault.TheVariants as fault
-use Rattle.td_join.specs.Joining.{pins_of, IsJoined}
+use Rattle.td_join.specs.Joining.{pins_of, with_pins, has_none, IsJoined}
 
 -- what a certificate differs in from the first one, where it is told so
 abbrev pub IsUnlike : Certificate → Certificate → ℕ → JoinFault → Type 0
@@ -47,6 +48,16 @@ pub record IsOutsideIn (certificates : List Certificate) (pins : List Trit) (tol
   pub at : slice_get certificates place ≡ Some certificate
   pub outside : IsOutsideAt certificate pins place told
 
+-- all pairs are admitted and all inputs change at moment 0, and a leaf of the certificate of the place that is told says that no admitted
+-- pair lies in its cube
+pub record IsFalseNoneIn (certificates : List Certificate) (question : Question) (told : JoinFault) : Type 0 where
+  pub certificate : Certificate
+  pub place : ℕ
+  pub at : slice_get certificates place ≡ Some certificate
+  pub told_is : told ≡ fault.FalseNone place
+  pub all : version_of question ≡ First
+  pub none : has_none certificate.tree ≡ true
+
 -- the certificates at two places, other ones, admit a pair of one another
 pub record IsOverlap (certificates : List Certificate) (this that : ℕ) : Type 0 where
   pub one : Certificate
@@ -75,4 +86,6 @@ IsJoinFault certificates pins (fault.Overlap this that) = IsOverlap certificates
 IsJoinFault certificates pins (fault.Crossed this that) = (this < length certificates) × (that < length certificates) × IsUnjoinable certificates pins
 IsJoinFault certificates pins (fault.Gap cube) =
     (first : Certificate) × (slice_get certificates 0 ≡ Some first) × IsGap (record first.question.admit { pins = pins }) certificates cube
+IsJoinFault certificates pins (fault.FalseNone place) =
+    (first : Certificate) × (slice_get certificates 0 ≡ Some first) × IsFalseNoneIn certificates (with_pins first.question pins) (fault.FalseNone place)
 IsJoinFault certificates pins fault = IsUnlikeIn certificates fault

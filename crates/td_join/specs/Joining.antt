@@ -1,5 +1,6 @@
 -- Certificates of the parts of a question, joined into one.
 use Rattle.std.specs.Prelude.{◌≡◌, ℕ, ◌≤◌, Bool, true, false, List, [], ◌∷◌, ◌++◌, All, Contains, filter, slice_get, Option, Some, None}
+use Rattle.std.specs.List.{list_any}
 use Rattle.std.specs.List.Sorted.{IsPermutation}
 use Rattle.td_nets.specs.Netlist.{Netlist}
 use Rattle.td_domain.specs.declared.cubes.Trit.{Trit}
@@ -10,11 +11,25 @@ use Rattle.td_certificate.specs.declared.tree.Node.{Node}
 use Rattle.td_certificate.specs.declared.tree.Node.TheVariants as node
 use Rattle.td_certificate.specs.declared.certificate.Certificate.{Certificate}
 use Rattle.td_certificate.specs.Cubes.{zero_side, one_side}
+use Rattle.td_certificate.specs.Questions.{Question}
 use Rattle.td_certificate.specs.Accepts.{Accepts}
 
 -- the cube that a certificate's admitted pairs lie in
 abbrev pub pins_of : Certificate → List Trit
 pins_of c = c.question.admit.pins
+
+-- the question with these pins
+abbrev pub with_pins : Question → List Trit → Question
+with_pins question pins = record question { admit = record question.admit { pins = pins } }
+
+-- a leaf that says that no admitted pair lies in its cube
+abbrev pub says_none : Node → Bool
+says_none node.Empty = true
+says_none node = false
+
+-- some leaf says so
+abbrev pub has_none : List Node → Bool
+has_none nodes = list_any says_none nodes
 
 -- 0 stands at the position, or 1
 abbrev pub is_zero : Option Trit → Bool

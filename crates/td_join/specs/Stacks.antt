@@ -65,7 +65,3 @@ pub record IsOfQuestion (gates : ℕ) (question : Question) (c : Certificate) : 
   pub held : question.admit.held ≡ c.question.admit.held
   pub flips : question.admit.flips ≡ c.question.admit.flips
   pub moments : question.moments ≡ c.question.moments
-
--- the question with these pins
-abbrev pub with_pins : Question → List Trit → Question
-with_pins question pins = record question { admit = record question.admit { pins = pins } }

@@ -37,7 +37,7 @@ pub enum JoinFault {
     /// An admitted pair lies in this cube, and none that a certificate admits.
     #[error("a part is missing")]
     Gap(Cube),
-    /// All pairs are admitted, and a leaf of this one says that none is.
+    /// All pairs are admitted and all inputs change at moment 0, and a leaf of this one says that no admitted pair lies in its cube.
     #[error("a leaf without a pair")]
     FalseNone(usize),
 }

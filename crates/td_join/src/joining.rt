@@ -5,16 +5,18 @@ ghost use Rattle.td_nets.specs.Netlist.{Netlist};
 ghost use Rattle.td_domain.specs.declared.cubes.Trit.{Trit};
 ghost use Rattle.td_certificate.specs.declared.certificate.Certificate.{Certificate as Told};
 ghost use Rattle.td_certificate.specs.Accepts.{Accepts};
+ghost use Rattle.td_certificate.specs.Spelling.{HasSpelling};
 ghost use Rattle.td_certificate.specs.Trees.{IsTree};
-ghost use Rattle.td_join.specs.Joining.{pins_of, IsAlike, IsJoined, hull};
+ghost use Rattle.td_join.specs.Joining.{pins_of, with_pins, IsAlike, IsJoined, hull};
 ghost use Rattle.td_join.specs.Faults.{IsJoinFault};
 ghost use Rattle.td_join.specs.Steps.{HasFit};
-ghost use Rattle.td_join.specs.Stacks.{IsOfQuestion, with_pins};
+ghost use Rattle.td_join.specs.Stacks.{IsOfQuestion};
 
 use crate::alike::all_alike;
 use crate::fault::JoinFault;
 use crate::growing::joined_nodes;
 use crate::hulls::{all_inside, hull};
+use crate::nones::without_false_none;
 use crate::parts::numbered;
 use std::alloc::{AllocError, Global};
 use td_certificate::{Certificate, Question, Tree};
@@ -47,8 +49,11 @@ fn join_alike(
     requires trees { All (λ c. IsTree c.tree) certificates.items }
     ensures joined { IfOk result (IsJoined certificates.items question.admit.pins) }
     ensures accepted { IfOk result (λ whole. (netlist : Netlist) → All (Accepts netlist) certificates.items → Accepts netlist whole) }
+    ensures spelled { IfOk result (λ whole. All HasSpelling certificates.items → HasSpelling whole) }
     ensures fault { IfErr result (IsJoinFault certificates.items question.admit.pins) }
 {
+    without_false_none(&question, &certificates)?;
+    let _fit = question.admit().pins();
     let first = &certificates[greatest(&certificates)];
     let time = first.time;
     let pair = first.pair.copy(alloc)?;
@@ -96,16 +101,19 @@ fn question_with(alloc: Global, first: &Certificate, pins: Cube) -> Result<Quest
 ///
 /// # Errors
 ///
-/// The first that is there of: no certificate; one that isn't as the first; one whose pins aren't a part of these; what keeps them from
-/// being joined. `OutOfMemory` where a growth was refused.
+/// The first that is there of: no certificate; one that isn't as the first; one whose pins aren't a part of these; a leaf of one that
+/// says that no admitted pair lies in its cube, where all pairs are admitted; what keeps them from being joined. `OutOfMemory` where a
+/// growth was refused.
 pub fn join_in(
     alloc: Global,
     certificates: Vec<Certificate>,
     pins: &Cube,
 ) -> Result<Certificate, JoinFault>
-    // They are joined into one with these pins, and where a netlist accepts each of them, it accepts the whole.
+    // They are joined into one with these pins. Where a netlist accepts each of them, it accepts the whole, and where each has a
+    // text, the whole has one.
     ensures joined { IfOk result (IsJoined certificates.items pins.now) }
     ensures accepted { IfOk result (λ whole. (netlist : Netlist) → All (Accepts netlist) certificates.items → Accepts netlist whole) }
+    ensures spelled { IfOk result (λ whole. All HasSpelling certificates.items → HasSpelling whole) }
     ensures fault { IfErr result (IsJoinFault certificates.items pins.now) }
 {
     let first = alike_first(&certificates)?;
@@ -119,6 +127,7 @@ pub fn join_in(
 pub fn join(alloc: Global, certificates: Vec<Certificate>) -> Result<Certificate, JoinFault>
     ensures joined { IfOk result (IsJoined certificates.items (hull certificates.items)) }
     ensures accepted { IfOk result (λ whole. (netlist : Netlist) → All (Accepts netlist) certificates.items → Accepts netlist whole) }
+    ensures spelled { IfOk result (λ whole. All HasSpelling certificates.items → HasSpelling whole) }
     ensures fault { IfErr result (IsJoinFault certificates.items (hull certificates.items)) }
 {
     let first = alike_first(&certificates)?;

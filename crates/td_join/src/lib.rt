@@ -7,6 +7,7 @@ mod growing;
 mod hulls;
 mod joining;
 pub mod laws;
+mod nones;
 mod parts;
 mod steps;
 

@@ -8,7 +8,14 @@ use Rattle.td_join.specs.Joining.{AreJoined}
 use Rattle.td_join.specs.Steps.{certificates_of}
 use Rattle.td_join.specs.Stacks.{IsTreeFault}
 use Rattle.td_join.proofs.Acceptance.{joined_is_tree, accepted_together}
-use Rattle.td_join.proofs.Wholes.{is_joined, told}
+use Rattle.td_certificate.specs.Questions.{version_of}
+use Rattle.td_certificate.specs.declared.question.Version.TheVariants.{First}
+use Rattle.td_certificate.specs.Trees.{IsTree}
+use Rattle.td_certificate.specs.declared.tree.Node.{Node}
+use Rattle.td_join.specs.Joining.{has_none}
+use Rattle.td_join.specs.Faults.{IsFalseNoneIn}
+use Rattle.td_join.proofs.Spelled.{spelled_together}
+use Rattle.td_join.proofs.Wholes.{is_joined, told, false_none}
 use Rattle.td_join.proofs.joining.join_alike.Goals as goal
 
 pub from_nodes-requires : goal.from_nodes-requires
@@ -39,3 +46,17 @@ returns-in_err-nodes-clause-fault c =
     rw (seen.1, seen.2)
     (told c.args.certificates.items c.args.gates c.args.question c.requires.some c.requires.alike _
     (subst (λ (cs : List Certificate). IsTreeFault c.args.question.admit cs c.in_err-nodes.field-0.0) c.in_ok-parts.ensures.all said))
+
+pub returns-clause-spelled : goal.returns-clause-spelled
+returns-clause-spelled c all =
+    spelled_together c.args.certificates.items c.args.question.admit.pins _ (returns-clause-joined c)
+    (subst (λ (a : Admitted). length a.pins ≡ 2 * length a.held) c.admit-fit.ensures c.pins-fit.ensures.fit)
+    (λ first. subst (λ (cs : List Certificate). All (λ d. has_none d.tree ≡ false) cs) c.deref.ensures.value (c.in_ok-without_false_none.ensures.ok first))
+    (subst (λ (ns : List Node). IsTree ns) (sym c.from_nodes.ensures) (from_nodes-requires c)) all
+
+pub returns-in_err-without_false_none-clause-fault : goal.returns-in_err-without_false_none-clause-fault
+returns-in_err-without_false_none-clause-fault c =
+    let said = subst (λ (cs : List Certificate). IsFalseNoneIn cs c.args.question c.in_err-without_false_none.field-0.0) c.deref.ensures.value
+    c.in_err-without_false_none.ensures.fault in
+    let seen = err_from_is_err_and c.from_residual-in_err-without_false_none.result c.from_residual-in_err-without_false_none.ensures.1 in
+    rw (seen.1, seen.2) (false_none c.args.certificates.items c.args.gates c.args.question c.requires.some c.requires.alike _ said)
