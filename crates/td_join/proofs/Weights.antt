@@ -7,7 +7,7 @@ use Rattle.td_join.specs.declared.parts.Group.{Group}
 use Rattle.td_join.specs.Stacks.{most_nodes, weights}
 use Rattle.td_join.proofs.Cubing.{same_trits}
 
-some_nodes : (cube : List Trit) → 0 < most_nodes cube
+pub some_nodes : (cube : List Trit) → 0 < most_nodes cube
 some_nodes [] = omega arith
 some_nodes (Free ∷ cube) = omega (arith, some_nodes cube)
 some_nodes (Zero ∷ cube) = some_nodes cube
@@ -18,7 +18,7 @@ weights_snoc [] g = omega arith
 weights_snoc (h ∷ groups) g = omega (arith, weights_snoc groups g)
 
 -- of a known bit
-data Known : Trit → Type 0 where
+pub data Known : Trit → Type 0 where
   zero_is : Known Zero
   one_is : Known One
 
@@ -26,7 +26,7 @@ of_known : (t : Trit) (cube : List Trit) → Known t → most_nodes (t ∷ cube)
 of_known _ cube zero_is = refl
 of_known _ cube one_is = refl
 
-halved_nodes : (t : Trit) → Known t → (cube : List Trit) (position : ℕ) → slice_get cube position ≡ Some Free
+pub halved_nodes : (t : Trit) → Known t → (cube : List Trit) (position : ℕ) → slice_get cube position ≡ Some Free
     → 2 * most_nodes (set cube position t) < most_nodes cube
 halved_nodes t known [] position is = absurd cc
 halved_nodes t known (Free ∷ cube) zero is = omega (arith, of_known t cube known)

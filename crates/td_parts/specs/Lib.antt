@@ -1,2 +1,3 @@
-pub mod Gauging
+pub mod Queues
+pub mod Splits
 pub mod Sharing

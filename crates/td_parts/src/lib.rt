@@ -2,5 +2,8 @@
 #![tactic(auto)]
 
 mod cutting;
-mod gauge;
+mod part;
+mod queue;
+mod split;
 
+pub use cutting::cut;
