@@ -25,14 +25,14 @@ use Rattle.td_join.proofs.Cubing.{wider, filter_has, Contains-less}
 use Rattle.td_join.proofs.Restricting.{is_known_at}
 use Rattle.td_gates.proofs.Places.{All-from_contains}
 
-abbrev same_pairs : Admitted → List Trit → Admitted
+abbrev pub same_pairs : Admitted → List Trit → Admitted
 same_pairs admit pins = record admit { pins = pins }
 
 pub both_lists : {A : Type 0} (P : A → Type 0) (xs ys : List A) → AllByRecursion P xs → AllByRecursion P ys → AllByRecursion P (xs ++ ys)
 both_lists P [] ys h k = k
 both_lists P (x ∷ xs) ys h k = (h.0, both_lists P xs ys h.1 k)
 
-both_parts : {A : Type 0} (P : A → Type 0) (xs ys : List A) → AllByRecursion P (xs ++ ys) → AllByRecursion P xs × AllByRecursion P ys
+pub both_parts : {A : Type 0} (P : A → Type 0) (xs ys : List A) → AllByRecursion P (xs ++ ys) → AllByRecursion P xs × AllByRecursion P ys
 both_parts P [] ys h = (tt, h)
 both_parts P (x ∷ xs) ys h = let rest = both_parts P xs ys h.1 in ((h.0, rest.0), rest.1)
 

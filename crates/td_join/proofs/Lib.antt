@@ -9,3 +9,4 @@ pub mod Times
 pub mod Widening
 pub mod Wholes
 pub mod Spelled
+pub mod Refused

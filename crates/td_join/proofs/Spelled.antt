@@ -30,11 +30,11 @@ low_bit One = true
 low_bit Zero = false
 low_bit Free = false
 
-first_bits : List Trit → List Bool
+pub first_bits : List Trit → List Bool
 first_bits (p ∷ q ∷ cube) = low_bit p ∷ first_bits cube
 first_bits cube = []
 
-second_bits : List Trit → List Bool
+pub second_bits : List Trit → List Bool
 second_bits (p ∷ q ∷ cube) = low_bit q ∷ second_bits cube
 second_bits cube = []
 
@@ -43,25 +43,25 @@ allows_low Zero = tt
 allows_low One = tt
 allows_low Free = tt
 
-in_cube : (cube : List Trit) (inputs : ℕ) → length cube ≡ 2 * inputs → AllowsBits cube (first_bits cube) (second_bits cube)
+pub in_cube : (cube : List Trit) (inputs : ℕ) → length cube ≡ 2 * inputs → AllowsBits cube (first_bits cube) (second_bits cube)
 in_cube [] inputs fits = tt
 in_cube (p ∷ []) inputs fits = absurd (omega (arith, fits))
 in_cube (p ∷ q ∷ cube) zero fits = absurd (omega (arith, fits))
 in_cube (p ∷ q ∷ cube) (suc inputs) fits = (allows_low p, allows_low q, in_cube cube inputs (omega (arith, fits)))
 
-first_count : (cube : List Trit) (inputs : ℕ) → length cube ≡ 2 * inputs → length (first_bits cube) ≡ inputs
+pub first_count : (cube : List Trit) (inputs : ℕ) → length cube ≡ 2 * inputs → length (first_bits cube) ≡ inputs
 first_count [] inputs fits = omega (arith, fits)
 first_count (p ∷ []) inputs fits = absurd (omega (arith, fits))
 first_count (p ∷ q ∷ cube) zero fits = absurd (omega (arith, fits))
 first_count (p ∷ q ∷ cube) (suc inputs) fits = omega (arith, first_count cube inputs (omega (arith, fits)))
 
-second_count : (cube : List Trit) (inputs : ℕ) → length cube ≡ 2 * inputs → length (second_bits cube) ≡ inputs
+pub second_count : (cube : List Trit) (inputs : ℕ) → length cube ≡ 2 * inputs → length (second_bits cube) ≡ inputs
 second_count [] inputs fits = omega (arith, fits)
 second_count (p ∷ []) inputs fits = absurd (omega (arith, fits))
 second_count (p ∷ q ∷ cube) zero fits = absurd (omega (arith, fits))
 second_count (p ∷ q ∷ cube) (suc inputs) fits = omega (arith, second_count cube inputs (omega (arith, fits)))
 
-both_true : (a b : Bool) → (a && b) ≡ true → (a ≡ true) × (b ≡ true)
+pub both_true : (a b : Bool) → (a && b) ≡ true → (a ≡ true) × (b ≡ true)
 both_true true b e = (refl, e)
 both_true false b e = absurd cc
 
@@ -83,7 +83,7 @@ in_free (p ∷ q ∷ pins) (a ∷ before) (b ∷ after) free fits same =
     let two = both_true (is_free q) (list_all is_free pins) one.1 in
     (allows_any p a one.0, allows_any q b two.0, in_free pins before after two.1 (omega (arith, fits)) (omega (arith, same)))
 
-none_held : (held before after : List Bool) → holds_none held ≡ true → AreHeld held before after
+pub none_held : (held before after : List Bool) → holds_none held ≡ true → AreHeld held before after
 none_held [] before after none = tt
 none_held (h ∷ held) [] after none = tt
 none_held (h ∷ held) (a ∷ before) [] none = tt
@@ -96,7 +96,7 @@ one_flip true false = omega arith
 one_flip false true = omega arith
 one_flip false false = omega arith
 
-few_flips : (before after : List Bool) → flips_of before after ≤ length before
+pub few_flips : (before after : List Bool) → flips_of before after ≤ length before
 few_flips [] after = omega arith
 few_flips (a ∷ before) [] = omega arith
 few_flips (a ∷ before) (b ∷ after) = omega (arith, one_flip a b, few_flips before after)

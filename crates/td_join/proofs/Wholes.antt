@@ -6,15 +6,17 @@ use Rattle.td_domain.specs.declared.cubes.Trit.{Trit}
 use Rattle.td_domain.specs.Pairs.{Pair}
 use Rattle.td_certificate.specs.declared.tree.Node.{Node}
 use Rattle.td_certificate.specs.declared.certificate.Certificate.{Certificate}
-use Rattle.td_certificate.specs.Questions.{Question}
+use Rattle.td_certificate.specs.declared.question.Version.TheVariants.{First}
+use Rattle.td_certificate.specs.Questions.{Question, version_of}
 use Rattle.td_gates.proofs.Places.{slice_get-Contains, slice_get-within}
 use Rattle.td_join.specs.Joining.{pins_of, with_pins, AreJoined, IsAlike, IsJoined}
 use Rattle.td_domain.specs.Admits.{Admitted}
 use Rattle.td_join.specs.declared.fault.JoinFault.{JoinFault}
 use Rattle.td_join.specs.declared.fault.JoinFault.TheVariants as fault
-use Rattle.td_join.specs.Faults.{IsGap, IsFalseNoneIn, IsUnjoinable, IsJoinFault}
-use Rattle.td_join.specs.Steps.{IsJoinable}
+use Rattle.td_join.specs.Faults.{IsGap, IsUnjoinable, IsJoinFault}
+use Rattle.td_join.specs.Steps.{HasFit, IsJoinable, IsFalseNoneIn}
 use Rattle.td_join.specs.Stacks.{IsOfQuestion, IsTreeFault}
+use Rattle.td_join.proofs.Refused.{refused}
 
 abbrev pub whole_of : ℕ → Question → ℕ → Pair → List Node → Certificate
 whole_of gates question time pair tree = record { gates = gates; question = question; time = time; pair = pair; tree = tree }
@@ -78,12 +80,19 @@ module _ (certificates : List Certificate) (gates : ℕ) (question : Question) (
       → this ≡ with_pins that this.admit.pins
   same_question this that admit moments = rw (admit, moments) refl
 
-  pub false_none : (fault : JoinFault) → IsFalseNoneIn certificates question fault → IsJoinFault certificates question.admit.pins fault
-  false_none told h = subst (λ (f : JoinFault). IsJoinFault certificates question.admit.pins f) (sym h.told_is) (
-    first_of.0,
-    first_of.1,
-    subst (λ (q : Question). IsFalseNoneIn certificates q (fault.FalseNone h.place))
-    (same_question question first_of.0.question (of_first first_of.0 (slice_get-Contains certificates 0 first_of.0 first_of.1))
-    (All-contains (IsOfQuestion gates question) certificates first_of.0 alike (slice_get-Contains certificates 0 first_of.0 first_of.1)).moments)
-    (record { certificate = h.certificate; place = h.place; at = h.at; told_is = refl; all = h.all; none = h.none }),
-  )
+  pub false_none : All HasFit certificates → (told : JoinFault) → IsFalseNoneIn certificates question told → IsJoinFault certificates question.admit.pins told
+  false_none fit told h =
+      let c = h.certificate in
+      let has = slice_get-Contains certificates h.place c h.at in
+      let mine = All-contains (IsOfQuestion gates question) certificates c alike has in
+      let first = All-contains (IsOfQuestion gates question) certificates first_of.0 alike (slice_get-Contains certificates 0 first_of.0 first_of.1) in
+      subst (λ (f : JoinFault). IsJoinFault certificates question.admit.pins f) (sym h.told_is) (record {
+        first = first_of.0;
+        certificate = c;
+        first_at = first_of.1;
+        at = h.at;
+        all = subst (λ (q : Question). version_of q ≡ First)
+        (same_question question first_of.0.question (of_first first_of.0 (slice_get-Contains certificates 0 first_of.0 first_of.1)) first.moments) h.all;
+        none = h.none;
+        refused = λ netlist. refused question c netlist h.all mine.held mine.flips (All-contains HasFit certificates c fit has) h.none;
+      })

@@ -1,5 +1,6 @@
 -- Why certificates aren't joined.
 use Rattle.std.specs.Prelude.{◌≡◌, ◌≢◌, ℕ, ◌<◌, Bool, true, List, [], ◌∷◌, All, map, length, slice_get, Option, Some, None, ◌⊎◌}
+use Rattle.td_nets.specs.Netlist.{Netlist}
 use Rattle.td_domain.specs.declared.cubes.Trit.{Trit}
 use Rattle.td_domain.specs.declared.cubes.Trit.TheVariants.{Zero, One, Free}
 use Rattle.td_domain.specs.Pairs.{Pair}
@@ -8,7 +9,8 @@ use Rattle.td_domain.specs.Admits.{Admitted, HasAdmitted}
 use Rattle.td_certificate.specs.declared.tree.Node.TheVariants as node
 use Rattle.td_certificate.specs.declared.certificate.Certificate.{Certificate}
 use Rattle.td_certificate.specs.declared.question.Version.TheVariants.{First}
-use Rattle.td_certificate.specs.Questions.{Question, inputs_of, version_of}
+use Rattle.td_certificate.specs.Questions.{inputs_of, version_of}
+use Rattle.td_certificate.specs.Accepts.{Accepts}
 use Rattle.td_join.specs.declared.fault.JoinFault.{JoinFault}
 use Rattle.td_join.specs.declared.fault.JoinFault.TheVariants as fault
 use Rattle.td_join.specs.Joining.{pins_of, with_pins, has_none, IsJoined}
@@ -48,15 +50,16 @@ pub record IsOutsideIn (certificates : List Certificate) (pins : List Trit) (tol
   pub at : slice_get certificates place ≡ Some certificate
   pub outside : IsOutsideAt certificate pins place told
 
--- all pairs are admitted and all inputs change at moment 0, and a leaf of the certificate of the place that is told says that no admitted
--- pair lies in its cube
-pub record IsFalseNoneIn (certificates : List Certificate) (question : Question) (told : JoinFault) : Type 0 where
+-- All pairs of the whole are admitted and all inputs change at moment 0, and a leaf of the certificate of this place says that no
+-- admitted pair lies in its cube. So it is accepted of no netlist.
+pub record IsFalseNone (certificates : List Certificate) (pins : List Trit) (place : ℕ) : Type 0 where
+  pub first : Certificate
   pub certificate : Certificate
-  pub place : ℕ
+  pub first_at : slice_get certificates 0 ≡ Some first
   pub at : slice_get certificates place ≡ Some certificate
-  pub told_is : told ≡ fault.FalseNone place
-  pub all : version_of question ≡ First
+  pub all : version_of (with_pins first.question pins) ≡ First
   pub none : has_none certificate.tree ≡ true
+  pub refused : (netlist : Netlist) → ¬ Accepts netlist certificate
 
 -- the certificates at two places, other ones, admit a pair of one another
 pub record IsOverlap (certificates : List Certificate) (this that : ℕ) : Type 0 where
@@ -86,6 +89,5 @@ IsJoinFault certificates pins (fault.Overlap this that) = IsOverlap certificates
 IsJoinFault certificates pins (fault.Crossed this that) = (this < length certificates) × (that < length certificates) × IsUnjoinable certificates pins
 IsJoinFault certificates pins (fault.Gap cube) =
     (first : Certificate) × (slice_get certificates 0 ≡ Some first) × IsGap (record first.question.admit { pins = pins }) certificates cube
-IsJoinFault certificates pins (fault.FalseNone place) =
-    (first : Certificate) × (slice_get certificates 0 ≡ Some first) × IsFalseNoneIn certificates (with_pins first.question pins) (fault.FalseNone place)
+IsJoinFault certificates pins (fault.FalseNone place) = IsFalseNone certificates pins place
 IsJoinFault certificates pins fault = IsUnlikeIn certificates fault

@@ -1,5 +1,5 @@
 -- Internal: how certificates are joined, group by group.
-use Rattle.std.specs.Prelude.{◌≡◌, ◌≢◌, ℕ, ◌<◌, ◌*◌, List, [], ◌∷◌, ◌++◌, All, Contains, filter, map, length, slice_get, Option, Some, None}
+use Rattle.std.specs.Prelude.{◌≡◌, ◌≢◌, ℕ, ◌<◌, ◌*◌, true, List, [], ◌∷◌, ◌++◌, All, Contains, filter, map, length, slice_get, Option, Some, None}
 use Rattle.td_domain.specs.declared.cubes.Trit.{Trit}
 use Rattle.td_domain.specs.declared.cubes.Trit.TheVariants.{Free}
 use Rattle.td_domain.specs.Pairs.{Pair}
@@ -7,6 +7,8 @@ use Rattle.td_domain.specs.Cubes.{IsIn}
 use Rattle.td_domain.specs.Admits.{Admitted, HasAdmitted}
 use Rattle.td_certificate.specs.declared.tree.Node.{Node}
 use Rattle.td_certificate.specs.declared.certificate.Certificate.{Certificate}
+use Rattle.td_certificate.specs.declared.question.Version.TheVariants.{First}
+use Rattle.td_certificate.specs.Questions.{Question, version_of}
 use Rattle.td_certificate.specs.Cubes.{zero_side, one_side}
 use Rattle.td_join.specs.declared.fault.JoinFault.{JoinFault}
 use Rattle.td_join.specs.declared.fault.JoinFault.TheVariants as fault
@@ -14,7 +16,7 @@ use Rattle.td_join.specs.declared.parts.Part.{Part}
 use Rattle.td_join.specs.declared.parts.Group.{Group}
 use Rattle.td_join.specs.declared.steps.Step.{Step}
 use Rattle.td_join.specs.declared.steps.Step.TheVariants as step
-use Rattle.td_join.specs.Joining.{pins_of, is_zero, is_one, AreKnownAt, AreJoined}
+use Rattle.td_join.specs.Joining.{pins_of, has_none, is_zero, is_one, AreKnownAt, AreJoined}
 
 -- two pins for each input
 abbrev pub HasFit : Certificate → Type 0
@@ -86,3 +88,13 @@ abbrev pub IsStuck : Admitted → List Trit → List Part → JoinFault → Type
 IsStuck admit cube parts fault.OutOfMemory = Unit {0}
 IsStuck admit cube parts (fault.Gap gap) = (gap ≡ cube) × (parts ≡ []) × HasAdmitted admit cube
 IsStuck admit cube parts fault = IsClash parts fault × (¬ IsJoinable admit cube (certificates_of parts))
+
+-- all pairs are admitted and all inputs change at moment 0, and a leaf of the certificate that is told says that no admitted pair lies in
+-- its cube
+pub record IsFalseNoneIn (certificates : List Certificate) (question : Question) (told : JoinFault) : Type 0 where
+  pub certificate : Certificate
+  pub place : ℕ
+  pub at : slice_get certificates place ≡ Some certificate
+  pub told_is : told ≡ fault.FalseNone place
+  pub all : version_of question ≡ First
+  pub none : has_none certificate.tree ≡ true

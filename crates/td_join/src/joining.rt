@@ -47,6 +47,7 @@ fn join_alike(
     requires some { 0 < length certificates.items }
     requires alike { All (IsOfQuestion gates question) certificates.items }
     requires trees { All (λ c. IsTree c.tree) certificates.items }
+    requires fit { All HasFit certificates.items }
     ensures joined { IfOk result (IsJoined certificates.items question.admit.pins) }
     ensures accepted { IfOk result (λ whole. (netlist : Netlist) → All (Accepts netlist) certificates.items → Accepts netlist whole) }
     ensures spelled { IfOk result (λ whole. All HasSpelling certificates.items → HasSpelling whole) }

@@ -4,7 +4,7 @@ ghost use Rattle.std.specs.Prelude.{◌≡◌, ◌↔◌, false, IsTrue, IfErr, 
 ghost use Rattle.td_certificate.specs.declared.question.Version.TheVariants.{First};
 ghost use Rattle.td_certificate.specs.Questions.{version_of};
 ghost use Rattle.td_join.specs.Joining.{says_none, has_none};
-ghost use Rattle.td_join.specs.Faults.{IsFalseNoneIn};
+ghost use Rattle.td_join.specs.Steps.{IsFalseNoneIn};
 
 use crate::fault::JoinFault;
 use td_certificate::{Certificate, Node, Question, Tree, Version};

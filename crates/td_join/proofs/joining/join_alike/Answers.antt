@@ -5,7 +5,6 @@ use Rattle.std.proofs.lemmas.Result.{err_from_is_err_and}
 use Rattle.td_domain.specs.Admits.{Admitted}
 use Rattle.td_certificate.specs.declared.certificate.Certificate.{Certificate}
 use Rattle.td_join.specs.Joining.{AreJoined}
-use Rattle.td_join.specs.Steps.{certificates_of}
 use Rattle.td_join.specs.Stacks.{IsTreeFault}
 use Rattle.td_join.proofs.Acceptance.{joined_is_tree, accepted_together}
 use Rattle.td_certificate.specs.Questions.{version_of}
@@ -13,7 +12,7 @@ use Rattle.td_certificate.specs.declared.question.Version.TheVariants.{First}
 use Rattle.td_certificate.specs.Trees.{IsTree}
 use Rattle.td_certificate.specs.declared.tree.Node.{Node}
 use Rattle.td_join.specs.Joining.{has_none}
-use Rattle.td_join.specs.Faults.{IsFalseNoneIn}
+use Rattle.td_join.specs.Steps.{certificates_of, IsFalseNoneIn}
 use Rattle.td_join.proofs.Spelled.{spelled_together}
 use Rattle.td_join.proofs.Wholes.{is_joined, told, false_none}
 use Rattle.td_join.proofs.joining.join_alike.Goals as goal
@@ -59,4 +58,4 @@ returns-in_err-without_false_none-clause-fault c =
     let said = subst (λ (cs : List Certificate). IsFalseNoneIn cs c.args.question c.in_err-without_false_none.field-0.0) c.deref.ensures.value
     c.in_err-without_false_none.ensures.fault in
     let seen = err_from_is_err_and c.from_residual-in_err-without_false_none.result c.from_residual-in_err-without_false_none.ensures.1 in
-    rw (seen.1, seen.2) (false_none c.args.certificates.items c.args.gates c.args.question c.requires.some c.requires.alike _ said)
+    rw (seen.1, seen.2) (false_none c.args.certificates.items c.args.gates c.args.question c.requires.some c.requires.alike c.requires.fit _ said)
