@@ -12,7 +12,7 @@ use Rattle.td_join.specs.declared.parts.Group.{Group}
 use Rattle.td_join.specs.Joining.{pins_of, AreKnownAt, AreJoined, alone, missing, halved}
 use Rattle.td_join.specs.declared.fault.JoinFault.{JoinFault}
 use Rattle.td_join.specs.declared.fault.JoinFault.TheVariants as fault
-use Rattle.td_join.specs.Steps.{certificates_of, IsOwn, IsUncut, IsJoinable, IsClash, IsStuck}
+use Rattle.td_join.specs.Steps.{certificates_of, IsOwn, IsUncutIn, IsUncut, IsJoinable, IsClash, IsStuck}
 
 -- some certificates, not one of this cube, that no position parts
 uncut : (admit : Admitted) (cube : List Trit) (certificates : List Certificate) (tree : List Node) → AreJoined admit cube certificates tree
@@ -48,18 +48,18 @@ own_tree admit cube parts own tree e =
     (subst (λ (q : List Trit). AreJoined admit q (own.part.certificate ∷ []) own.part.certificate.tree) own.pins (alone own.part.certificate)))
 
 pub is_stuck : (admit : Admitted) (cube : List Trit) (parts : List Part) (fault : JoinFault) → IsClash parts fault
-    → (¬ IsJoinable admit cube (certificates_of parts)) → IsStuck admit cube parts fault
-is_stuck admit cube parts (fault.Overlap this that) clash not_joinable = (clash, not_joinable)
-is_stuck admit cube parts (fault.Crossed this that) clash not_joinable = (clash, not_joinable)
-is_stuck admit cube parts fault.OutOfMemory clash not_joinable = tt
-is_stuck admit cube parts fault.NoCertificate clash not_joinable = absurd clash
-is_stuck admit cube parts (fault.OtherCircuit this that) clash not_joinable = absurd clash
-is_stuck admit cube parts (fault.OtherHold this that) clash not_joinable = absurd clash
-is_stuck admit cube parts (fault.OtherFlips this that) clash not_joinable = absurd clash
-is_stuck admit cube parts (fault.OtherMoments this that) clash not_joinable = absurd clash
-is_stuck admit cube parts (fault.Outside this) clash not_joinable = absurd clash
-is_stuck admit cube parts (fault.Gap gap) clash not_joinable = absurd clash
-is_stuck admit cube parts (fault.FalseNone this) clash not_joinable = absurd clash
+    → IsUncutIn cube parts → (¬ IsJoinable admit cube (certificates_of parts)) → IsStuck admit cube parts fault
+is_stuck admit cube parts (fault.Overlap this that) clash uncut not_joinable = (clash, uncut, not_joinable)
+is_stuck admit cube parts (fault.Crossed this that) clash uncut not_joinable = (clash, uncut, not_joinable)
+is_stuck admit cube parts fault.OutOfMemory clash uncut not_joinable = tt
+is_stuck admit cube parts fault.NoCertificate clash uncut not_joinable = absurd clash
+is_stuck admit cube parts (fault.OtherCircuit this that) clash uncut not_joinable = absurd clash
+is_stuck admit cube parts (fault.OtherHold this that) clash uncut not_joinable = absurd clash
+is_stuck admit cube parts (fault.OtherFlips this that) clash uncut not_joinable = absurd clash
+is_stuck admit cube parts (fault.OtherMoments this that) clash uncut not_joinable = absurd clash
+is_stuck admit cube parts (fault.Outside this) clash uncut not_joinable = absurd clash
+is_stuck admit cube parts (fault.Gap gap) clash uncut not_joinable = absurd clash
+is_stuck admit cube parts (fault.FalseNone this) clash uncut not_joinable = absurd clash
 
 -- the last of one part
 pub last_part : (parts rest : List Part) (popped : Option Part) (p q : Part) → parts ≡ p ∷ [] → parts ≡ rest ++ option_to_list popped

@@ -1,5 +1,5 @@
 -- A joining under way: each step leads on.
-use Rattle.std.proofs.Common.{◌≡◌, ◌≢◌, ◌<◌, ◌≤◌, ◌+◌, ◌*◌, ℕ, zero, suc, Bool, true, false, List, [], ◌∷◌, ◌++◌, length, map, set, Some, None, Option, refl, sym, ap, subst, ◌∙◌, arith, append_assoc}
+use Rattle.std.proofs.Common.{◌≡◌, ◌≢◌, ◌<◌, ◌≤◌, ◌+◌, ◌*◌, ℕ, zero, suc, Bool, true, false, List, [], ◌∷◌, ◌++◌, length, map, set, Some, None, Option, refl, sym, ap, subst, ◌∙◌, arith, append_assoc, inl, inr}
 use Rattle.std.specs.Prelude.{slice_get, All, Contains}
 use Rattle.std.proofs.lemmas.List.{append-nil, length-set}
 use Rattle.std.proofs.lemmas.List.Elements.{All-filter, All-contains, All-push, All-append, All-nil, All-cons, All-same}
@@ -20,7 +20,7 @@ use Rattle.td_join.specs.Joining.{pins_of, is_zero, is_one, is_known, zeros, one
 use Rattle.td_join.specs.Faults.{IsOverlap, IsGap}
 use Rattle.td_join.specs.Steps.{certificate_of, certificates_of, IsPlaced, zero_parts, one_parts, IsJoinable, IsStuck}
 use Rattle.td_join.specs.Stacks.{members, AreAllJoined, IsGroup, IsUnderWay, IsTreeFault}
-use Rattle.td_join.proofs.Cubing.{wider, Meet, meet_at, map_filter, filter_has}
+use Rattle.td_join.proofs.Cubing.{wider, Meet, meet_at, map_filter, filter_has, Contains-less, Contains-more}
 use Rattle.td_join.proofs.Restricting.{is_known_at, zero_joinable, one_joinable}
 use Rattle.std.proofs.lemmas.Option.{slice_get_within}
 use Rattle.td_gates.proofs.Places.{slice_get-set_same, slice_get-within}
@@ -211,6 +211,13 @@ module _ (certificates : List Certificate) (admit : Admitted) where
   in_no_part [] c e has = absurd (omega (arith, has.1))
   in_no_part (p ∷ parts) c e has = absurd cc
 
+  has_member : (parts : List Part) (p : Part) → Contains parts p → Contains (certificates_of parts) p.certificate
+  has_member [] p has = absurd (omega (arith, has.1))
+  has_member (q ∷ parts) p has = elim (Contains-less q p parts has) [
+    | inl same ↦ (0, omega arith, ap certificate_of same)
+    | inr later ↦ Contains-more q.certificate p.certificate (certificates_of parts) (has_member parts p later)
+  ]
+
   pub tree_fault : (group : Group) (told : JoinFault) → IsGroup certificates admit group → IsStuck admit group.cube group.parts.items told
       → IsTreeFault admit certificates told
   tree_fault group fault.OutOfMemory known stuck = tt
@@ -218,11 +225,12 @@ module _ (certificates : List Certificate) (admit : Admitted) where
       let there = subst (λ (x : List Trit). HasAdmitted admit x) (sym stuck.0) stuck.2 in
       record {
         admitted = there;
+        fits = ap length stuck.0 ∙ known.fits;
         inside = λ pair h. known.inside pair (subst (λ (x : List Trit). IsIn pair x) stuck.0 h);
         in_none = All-from_contains (λ c. (pair : Pair) → IsIn pair gap → ¬ IsIn pair (pins_of c)) certificates (λ c has pair h pinned.
         in_no_part group.parts.items c stuck.1 (known.all c pair has pinned (subst (λ (x : List Trit). IsIn pair x) stuck.0 h)));
       }
-  tree_fault group (fault.Overlap this that) known (shared, unjoinable) = (
+  tree_fault group (fault.Overlap this that) known (shared, uncut, unjoinable) = (
     record {
       one = shared.one.certificate;
       other = shared.other.certificate;
@@ -233,11 +241,20 @@ module _ (certificates : List Certificate) (admit : Admitted) where
     },
     λ all. unjoinable (known.joinable all),
   )
-  tree_fault group (fault.Crossed this that) known (places, unjoinable) = (
-    subst (λ (n : ℕ). n < length certificates) places.0.place_is
-    (slice_get_within certificates places.0.part.place places.0.part.certificate (All-contains (IsPlaced certificates) group.parts.items places.0.part known.placed places.0.among)),
-    subst (λ (n : ℕ). n < length certificates) places.1.place_is
-    (slice_get_within certificates places.1.part.place places.1.part.certificate (All-contains (IsPlaced certificates) group.parts.items places.1.part known.placed places.1.among)),
+  tree_fault group (fault.Crossed this that) known (places, uncut, unjoinable) = (
+    record {
+      cube = group.cube;
+      group = members group;
+      one = places.0.part.certificate;
+      other = places.1.part.certificate;
+      one_at = subst (λ (n : ℕ). slice_get certificates n ≡ Some places.0.part.certificate) places.0.place_is (All-contains (IsPlaced certificates) group.parts.items places.0.part known.placed places.0.among);
+      other_at = subst (λ (n : ℕ). slice_get certificates n ≡ Some places.1.part.certificate) places.1.place_is (All-contains (IsPlaced certificates) group.parts.items places.1.part known.placed places.1.among);
+      one_among = has_member group.parts.items places.0.part places.0.among;
+      other_among = has_member group.parts.items places.1.part places.1.among;
+      inside = known.inside;
+      all = known.all;
+      uncut = uncut;
+    },
     λ all. unjoinable (known.joinable all),
   )
   tree_fault group fault.NoCertificate known stuck = absurd stuck.0

@@ -64,7 +64,7 @@ module _ (certificates : List Certificate) (gates : ℕ) (question : Question) (
   pub told : (fault : JoinFault) → IsTreeFault question.admit certificates fault → IsJoinFault certificates question.admit.pins fault
   told fault.OutOfMemory h = tt
   told (fault.Overlap this that) h = (h.0, unjoinable h.1)
-  told (fault.Crossed this that) h = (h.0, h.1, unjoinable h.2)
+  told (fault.Crossed this that) h = (h.0, unjoinable h.1)
   told (fault.Gap cube) h =
       let f = first_of in
       (f.0, f.1, subst (λ (a : Admitted). IsGap a certificates cube) (of_first f.0 (slice_get-Contains certificates 0 f.0 f.1)) h)

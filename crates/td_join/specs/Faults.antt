@@ -1,19 +1,18 @@
 -- Why certificates aren't joined.
-use Rattle.std.specs.Prelude.{◌≡◌, ◌≢◌, ℕ, ◌<◌, Bool, true, List, [], ◌∷◌, All, map, length, slice_get, Option, Some, None, ◌⊎◌}
+use Rattle.std.specs.Prelude.{◌≡◌, ◌≢◌, ℕ, true, List, [], All, Contains, length, slice_get, Some, ◌⊎◌}
 use Rattle.td_nets.specs.Netlist.{Netlist}
 use Rattle.td_domain.specs.declared.cubes.Trit.{Trit}
-use Rattle.td_domain.specs.declared.cubes.Trit.TheVariants.{Zero, One, Free}
+use Rattle.td_domain.specs.declared.cubes.Trit.TheVariants.{Free}
 use Rattle.td_domain.specs.Pairs.{Pair}
 use Rattle.td_domain.specs.Cubes.{IsIn}
 use Rattle.td_domain.specs.Admits.{Admitted, HasAdmitted}
-use Rattle.td_certificate.specs.declared.tree.Node.TheVariants as node
 use Rattle.td_certificate.specs.declared.certificate.Certificate.{Certificate}
 use Rattle.td_certificate.specs.declared.question.Version.TheVariants.{First}
 use Rattle.td_certificate.specs.Questions.{inputs_of, version_of}
 use Rattle.td_certificate.specs.Accepts.{Accepts}
 use Rattle.td_join.specs.declared.fault.JoinFault.{JoinFault}
 use Rattle.td_join.specs.declared.fault.JoinFault.TheVariants as fault
-use Rattle.td_join.specs.Joining.{pins_of, with_pins, has_none, IsJoined}
+use Rattle.td_join.specs.Joining.{pins_of, with_pins, has_none, AreKnownAt, IsJoined}
 
 -- what a certificate differs in from the first one, where it is told so
 abbrev pub IsUnlike : Certificate → Certificate → ℕ → JoinFault → Type 0
@@ -70,9 +69,25 @@ pub record IsOverlap (certificates : List Certificate) (this that : ℕ) : Type 
   pub differ : this ≢ that
   pub shares : HasAdmitted one.question.admit (pins_of other)
 
+-- The certificates at two places lie in a cube of the pins, and nowhere can it be halved so that each of the group of those that lie in it
+-- lies in one half. A certificate with a pair in the cube is one of the group.
+pub record IsCrossed (certificates : List Certificate) (pins : List Trit) (this that : ℕ) : Type 0 where
+  pub cube : List Trit
+  pub group : List Certificate
+  pub one : Certificate
+  pub other : Certificate
+  pub one_at : slice_get certificates this ≡ Some one
+  pub other_at : slice_get certificates that ≡ Some other
+  pub one_among : Contains group one
+  pub other_among : Contains group other
+  pub inside : (pair : Pair) → IsIn pair cube → IsIn pair pins
+  pub all : (c : Certificate) (pair : Pair) → Contains certificates c → IsIn pair (pins_of c) → IsIn pair cube → Contains group c
+  pub uncut : (position : ℕ) → slice_get cube position ≡ Some Free → ¬ AreKnownAt position group
+
 -- An admitted pair lies in this cube, which is a part of the pins, and no pair of the cube in those of a certificate.
 pub record IsGap (admit : Admitted) (certificates : List Certificate) (cube : List Trit) : Type 0 where
   pub admitted : HasAdmitted admit cube
+  pub fits : length cube ≡ length admit.pins
   pub inside : (pair : Pair) → IsIn pair cube → IsIn pair admit.pins
   pub in_none : All (λ c. (pair : Pair) → IsIn pair cube → ¬ IsIn pair (pins_of c)) certificates
 
@@ -86,7 +101,7 @@ IsJoinFault certificates pins fault.OutOfMemory = Unit {0}
 IsJoinFault certificates pins fault.NoCertificate = certificates ≡ []
 IsJoinFault certificates pins (fault.Outside place) = IsOutsideIn certificates pins (fault.Outside place)
 IsJoinFault certificates pins (fault.Overlap this that) = IsOverlap certificates this that × IsUnjoinable certificates pins
-IsJoinFault certificates pins (fault.Crossed this that) = (this < length certificates) × (that < length certificates) × IsUnjoinable certificates pins
+IsJoinFault certificates pins (fault.Crossed this that) = IsCrossed certificates pins this that × IsUnjoinable certificates pins
 IsJoinFault certificates pins (fault.Gap cube) =
     (first : Certificate) × (slice_get certificates 0 ≡ Some first) × IsGap (record first.question.admit { pins = pins }) certificates cube
 IsJoinFault certificates pins (fault.FalseNone place) = IsFalseNone certificates pins place

@@ -11,7 +11,7 @@ use Rattle.td_certificate.specs.Questions.{Question}
 use Rattle.td_join.specs.declared.fault.JoinFault.{JoinFault}
 use Rattle.td_join.specs.declared.fault.JoinFault.TheVariants as fault
 use Rattle.td_join.specs.declared.parts.Group.{Group}
-use Rattle.td_join.specs.Faults.{IsOverlap, IsGap}
+use Rattle.td_join.specs.Faults.{IsOverlap, IsCrossed, IsGap}
 use Rattle.td_join.specs.Joining.{pins_of, AreJoined}
 use Rattle.td_join.specs.Steps.{certificates_of, IsPlaced, IsJoinable}
 
@@ -49,13 +49,12 @@ abbrev pub weights : List Group → ℕ
 weights [] = 0
 weights (group ∷ groups) = most_nodes group.cube + weights groups
 
--- What a fault says of certificates that aren't joined in these pins: they can't be. Two clash where an admitted pair lies in both, or
--- where they are some two of them; or an admitted pair lies in a cube of the pins and in no certificate's.
+-- What a fault says of certificates that aren't joined in these pins: they can't be. An admitted pair lies in two of them, or no position
+-- parts those of a cube; or an admitted pair lies in a cube of the pins and in no certificate's.
 abbrev pub IsTreeFault : Admitted → List Certificate → JoinFault → Type 0
 IsTreeFault admit certificates fault.OutOfMemory = Unit {0}
 IsTreeFault admit certificates (fault.Overlap this that) = IsOverlap certificates this that × (¬ IsJoinable admit admit.pins certificates)
-IsTreeFault admit certificates (fault.Crossed this that) =
-    (this < length certificates) × (that < length certificates) × (¬ IsJoinable admit admit.pins certificates)
+IsTreeFault admit certificates (fault.Crossed this that) = IsCrossed certificates admit.pins this that × (¬ IsJoinable admit admit.pins certificates)
 IsTreeFault admit certificates (fault.Gap cube) = IsGap admit certificates cube
 IsTreeFault admit certificates fault = ⊥
 

@@ -38,9 +38,12 @@ zero_parts position parts = filter (λ p. is_zero (slice_get (pins_of p.certific
 abbrev pub one_parts : ℕ → List Part → List Part
 one_parts position parts = filter (λ p. is_one (slice_get (pins_of p.certificate) position)) parts
 
--- no position halves the group
+-- no position halves the parts of a cube
+abbrev pub IsUncutIn : List Trit → List Part → Type 0
+IsUncutIn cube parts = (position : ℕ) → slice_get cube position ≡ Some Free → ¬ AreKnownAt position (certificates_of parts)
+
 abbrev pub IsUncut : Group → Type 0
-IsUncut group = (position : ℕ) → slice_get group.cube position ≡ Some Free → ¬ AreKnownAt position (certificates_of group.parts.items)
+IsUncut group = IsUncutIn group.cube group.parts.items
 
 -- the group's certificates can be joined to a tree of its cube
 abbrev pub IsJoinable : Admitted → List Trit → List Certificate → Type 0
@@ -87,7 +90,7 @@ IsStep admit cube parts (step.Halves position low high) =
 abbrev pub IsStuck : Admitted → List Trit → List Part → JoinFault → Type 0
 IsStuck admit cube parts fault.OutOfMemory = Unit {0}
 IsStuck admit cube parts (fault.Gap gap) = (gap ≡ cube) × (parts ≡ []) × HasAdmitted admit cube
-IsStuck admit cube parts fault = IsClash parts fault × (¬ IsJoinable admit cube (certificates_of parts))
+IsStuck admit cube parts fault = IsClash parts fault × IsUncutIn cube parts × (¬ IsJoinable admit cube (certificates_of parts))
 
 -- all pairs are admitted and all inputs change at moment 0, and a leaf of the certificate that is told says that no admitted pair lies in
 -- its cube

@@ -14,4 +14,4 @@ halves-requires c = slice_get_within _ c.in-Some.position Free c.in-Some.ensures
 pub returns-in-None-clause-fault : goal.returns-in-None-clause-fault
 returns-in-None-clause-fault c =
     is_stuck c.args.admit.now c.args.group.cube c.args.group.parts.items c.clash.result (rw (← c.deref.ensures.value) c.clash.ensures)
-    (stuck c.args.admit.now c.args.group (λ e. absurd (search rules)) (search rules) c.in-None.ensures)
+    c.in-None.ensures (stuck c.args.admit.now c.args.group (λ e. absurd (search rules)) (search rules) c.in-None.ensures)
