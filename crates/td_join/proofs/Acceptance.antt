@@ -74,8 +74,8 @@ module _ (setting : Setting) (admit : Admitted) (own : List Trit) (least most : 
       let sides = both_parts (IsGood setting (same_pairs admit own) least) (lines_of (set cube position Zero) low) (lines_of (set cube position One) high) good.1 in (
         good_more cube (node.Split position) part good.0,
         both_lists (IsGood setting admit most) (lines_of (set cube position Zero) low) (lines_of (set cube position One) high)
-        (lines_more low (set cube position Zero) (λ pair h. part pair (wider Zero cube position pair.first pair.second free h)) sides.0)
-        (lines_more high (set cube position One) (λ pair h. part pair (wider One cube position pair.first pair.second free h)) sides.1),
+            (lines_more low (set cube position Zero) (λ pair h. part pair (wider Zero cube position pair.first pair.second free h)) sides.0)
+            (lines_more high (set cube position One) (λ pair h. part pair (wider One cube position pair.first pair.second free h)) sides.1),
       )
   lines_more (trees.Bound domain bound) cube part good = (good_more cube (node.Bound domain bound) part good.0, tt)
   lines_more (trees.Point time) cube part good = (good_more cube (node.Point time) part good.0, tt)
@@ -105,7 +105,7 @@ module _ (setting : Setting) (admit : Admitted) (most : ℕ) where
         tree = t.0;
         nodes_are = t.1;
         good = lines_more setting admit (pins_of c) c.time most part.less t.0 (pins_of c) (λ pair h. h)
-        (subst (λ (ls : List Line). AllByRecursion (IsGood setting (same_pairs admit (pins_of c)) c.time) ls) walked part.good);
+            (subst (λ (ls : List Line). AllByRecursion (IsGood setting (same_pairs admit (pins_of c)) c.time) ls) walked part.good);
       }
 
   empty_tree : (cube : List Trit) → (¬ HasAdmitted admit cube) → IsGoodTree setting admit most cube (node.Empty ∷ [])
@@ -123,7 +123,7 @@ module _ (setting : Setting) (admit : Admitted) (most : ℕ) where
   split_tree cube position low high free lows highs = record {
     tree = trees.Split position lows.tree highs.tree;
     nodes_are = ap (λ (ns : List Node). node.Split position ∷ (ns ++ nodes_of highs.tree)) lows.nodes_are
-    ∙ ap (λ (ns : List Node). node.Split position ∷ (low ++ ns)) highs.nodes_are;
+        ∙ ap (λ (ns : List Node). node.Split position ∷ (low ++ ns)) highs.nodes_are;
     good = (
       record { splits = free; one_pair = tt; of_cube = tt; within = tt },
       both_lists (IsGood setting admit most) (lines_of (set cube position Zero) lows.tree) (lines_of (set cube position One) highs.tree) lows.good highs.good,
@@ -150,7 +150,7 @@ unfolding nodes_of
 split_of position low high lows highs = record {
   tree = trees.Split position lows.tree highs.tree;
   nodes_are = ap (λ (ns : List Node). node.Split position ∷ (ns ++ nodes_of highs.tree)) lows.nodes_are
-  ∙ ap (λ (ns : List Node). node.Split position ∷ (low ++ ns)) highs.nodes_are;
+      ∙ ap (λ (ns : List Node). node.Split position ∷ (low ++ ns)) highs.nodes_are;
 }
 
 empty_of : HasTree (node.Empty ∷ [])
@@ -228,25 +228,25 @@ accepted_together netlist certificates pins whole joined accepted =
       size = record { inputs = given.size.inputs ∙ ap (λ (hs : List Bool). length hs) (sym alike.held); gates = given.size.gates ∙ sym alike.gates };
       admitted = subst (λ (p : Pair). IsAdmitted whole.question.admit p) joined.pair.pair_is (record {
         pinned = subst (λ (x : List Trit). IsIn from.pair x) (sym joined.pins_are)
-        (parts_inside whole.question.admit pins certificates whole.tree joined.tree from joined.pair.among from.pair given.admitted.pinned);
+            (parts_inside whole.question.admit pins certificates whole.tree joined.tree from joined.pair.among from.pair given.admitted.pinned);
         held = subst (λ (hs : List Bool). AreHeld hs from.pair.first from.pair.second) (sym alike.held) given.admitted.held;
         few = subst (λ (n : ℕ). flips_of from.pair.first from.pair.second ≤ n) (sym alike.flips) given.admitted.few;
       });
       reached = subst (λ (n : ℕ). IsDelayOfBits (setting_of netlist whole) whole.pair.first whole.pair.second n) joined.pair.time_is
-      (subst (λ (p : Pair). IsDelayOfBits (setting_of netlist whole) p.first p.second from.time) joined.pair.pair_is
-      (subst (λ (ms : List ℕ). IsDelayOfBits (at_moments netlist ms) from.pair.first from.pair.second from.time) (sym alike.moments) given.reached));
+          (subst (λ (p : Pair). IsDelayOfBits (setting_of netlist whole) p.first p.second from.time) joined.pair.pair_is
+          (subst (λ (ms : List ℕ). IsDelayOfBits (at_moments netlist ms) from.pair.first from.pair.second from.time) (sym alike.moments) given.reached));
       tree = subst (λ (ns : List Node). IsTree ns) tree.nodes_are (trees_are_counted.counted tree.tree);
       good = subst (λ (x : List Trit). AllByRecursion (IsGood (setting_of netlist whole) whole.question.admit whole.time) (lines_from (x ∷ []) whole.tree)) (sym joined.pins_are)
-      (subst (λ (ns : List Node). AllByRecursion (IsGood (setting_of netlist whole) whole.question.admit whole.time) (lines_from (pins ∷ []) ns)) tree.nodes_are
-      (subst (λ (ls : List Line). AllByRecursion (IsGood (setting_of netlist whole) whole.question.admit whole.time) ls) (sym (lines_are_walked tree.tree pins)) tree.good));
+          (subst (λ (ns : List Node). AllByRecursion (IsGood (setting_of netlist whole) whole.question.admit whole.time) (lines_from (pins ∷ []) ns)) tree.nodes_are
+          (subst (λ (ls : List Line). AllByRecursion (IsGood (setting_of netlist whole) whole.question.admit whole.time) ls) (sym (lines_are_walked tree.tree pins)) tree.good));
     }
   where
-  good_part : (c : Certificate) → IsAlike whole c → Accepts netlist c → c.time ≤ whole.time → IsGoodPart (setting_of netlist whole) whole.question.admit whole.time c
-  good_part c alike accepts less = record {
-    is_tree = accepts.tree;
-    good = subst (λ (s : Setting). AllByRecursion (IsGood s (same_pairs whole.question.admit (pins_of c)) c.time) (lines_from (pins_of c ∷ []) c.tree))
-    (ap (at_moments netlist) (sym alike.moments))
-    (subst (λ (a : Admitted). AllByRecursion (IsGood (setting_of netlist c) a c.time) (lines_from (pins_of c ∷ []) c.tree))
-    (same_question whole.question.admit c.question.admit alike.held alike.flips) accepts.good);
-    less = less;
-  }
+    good_part : (c : Certificate) → IsAlike whole c → Accepts netlist c → c.time ≤ whole.time → IsGoodPart (setting_of netlist whole) whole.question.admit whole.time c
+    good_part c alike accepts less = record {
+      is_tree = accepts.tree;
+      good = subst (λ (s : Setting). AllByRecursion (IsGood s (same_pairs whole.question.admit (pins_of c)) c.time) (lines_from (pins_of c ∷ []) c.tree))
+          (ap (at_moments netlist) (sym alike.moments))
+          (subst (λ (a : Admitted). AllByRecursion (IsGood (setting_of netlist c) a c.time) (lines_from (pins_of c ∷ []) c.tree))
+          (same_question whole.question.admit c.question.admit alike.held alike.flips) accepts.good);
+      less = less;
+    }

@@ -79,7 +79,6 @@ set_apart (x ∷ cube) (suc p) (suc q) s t apart = ap (λ (xs : List Trit). x �
 
 -- ---- filters
 
-
 filter_kept : {A : Type 0} (f g : A → Bool) (x : A) (xs : List A) (b : Bool) → filter f (cond b (x ∷ xs) xs) ≡ cond b (cond (f x) (x ∷ filter f xs) (filter f xs)) (filter f xs)
 filter_kept f g x xs true = refl
 filter_kept f g x xs false = refl

@@ -51,14 +51,14 @@ module _ (admit : Admitted) (bit : Trit) (is : Option Trit → Bool) where
   halved_apart cube certificates p q differ free known low high = (
     node.Split q ∷ (low.0 ++ high.0),
     halved (set cube p bit) (kept p certificates) q low.0 high.0
-    (slice_get-set_other cube p bit q (λ e. differ (sym e)) ∙ free)
-    (All-filter (λ c. is (slice_get (pins_of c) p)) (is_known_at q) certificates known)
-    (subst (λ (x : List Trit). AreJoined admit x (zeros q (kept p certificates)) low.0) (set_apart cube q p Zero bit (λ e. differ (sym e)))
-    (subst (λ (cs : List Certificate). AreJoined admit (set (set cube q Zero) p bit) cs low.0)
-    (filter_apart (λ c. is (slice_get (pins_of c) p)) (λ c. is_zero (slice_get (pins_of c) q)) certificates) low.1))
-    (subst (λ (x : List Trit). AreJoined admit x (ones q (kept p certificates)) high.0) (set_apart cube q p One bit (λ e. differ (sym e)))
-    (subst (λ (cs : List Certificate). AreJoined admit (set (set cube q One) p bit) cs high.0)
-    (filter_apart (λ c. is (slice_get (pins_of c) p)) (λ c. is_one (slice_get (pins_of c) q)) certificates) high.1)),
+        (slice_get-set_other cube p bit q (λ e. differ (sym e)) ∙ free)
+        (All-filter (λ c. is (slice_get (pins_of c) p)) (is_known_at q) certificates known)
+        (subst (λ (x : List Trit). AreJoined admit x (zeros q (kept p certificates)) low.0) (set_apart cube q p Zero bit (λ e. differ (sym e)))
+        (subst (λ (cs : List Certificate). AreJoined admit (set (set cube q Zero) p bit) cs low.0)
+        (filter_apart (λ c. is (slice_get (pins_of c) p)) (λ c. is_zero (slice_get (pins_of c) q)) certificates) low.1))
+        (subst (λ (x : List Trit). AreJoined admit x (ones q (kept p certificates)) high.0) (set_apart cube q p One bit (λ e. differ (sym e)))
+        (subst (λ (cs : List Certificate). AreJoined admit (set (set cube q One) p bit) cs high.0)
+        (filter_apart (λ c. is (slice_get (pins_of c) p)) (λ c. is_one (slice_get (pins_of c) q)) certificates) high.1)),
   )
 
 pub zero_joinable : (admit : Admitted) (cube : List Trit) (certificates : List Certificate) (tree : List Node) → AreJoined admit cube certificates tree

@@ -156,10 +156,10 @@ joined_nodes admit version fits _ _ _ few long none all (missing cube empty) = (
 joined_nodes admit version fits _ _ _ few long none all (halved cube certificates position low high free known lows highs) = (
   omega (arith, slice_get_within cube position Free free, long, few),
   both_lists (IsNode version) low high
-  (joined_nodes admit version fits _ _ low few (length-set cube position Zero ∙ long) none
-  (All-filter (λ c. is_zero (slice_get (pins_of c) position)) (λ c. AllByRecursion (IsNode version) c.tree) certificates all) lows)
-  (joined_nodes admit version fits _ _ high few (length-set cube position One ∙ long) none
-  (All-filter (λ c. is_one (slice_get (pins_of c) position)) (λ c. AllByRecursion (IsNode version) c.tree) certificates all) highs),
+      (joined_nodes admit version fits _ _ low few (length-set cube position Zero ∙ long) none
+      (All-filter (λ c. is_zero (slice_get (pins_of c) position)) (λ c. AllByRecursion (IsNode version) c.tree) certificates all) lows)
+      (joined_nodes admit version fits _ _ high few (length-set cube position One ∙ long) none
+      (All-filter (λ c. is_one (slice_get (pins_of c) position)) (λ c. AllByRecursion (IsNode version) c.tree) certificates all) highs),
 )
 
 -- ---- the whole
@@ -186,12 +186,12 @@ spelled_together certificates pins whole joined fits told tree all =
       first = ap (λ (p : Pair). length p.first) (sym joined.pair.pair_is) ∙ given.first ∙ sym same;
       second = ap (λ (p : Pair). length p.second) (sym joined.pair.pair_is) ∙ given.second ∙ sym same;
       nodes = joined_nodes whole.question.admit (version_in whole) (length whole.question.admit.pins) pins certificates whole.tree few
-      (ap (λ (cube : List Trit). length cube) (sym joined.pins_are))
-      (λ other long none first. none (each_has whole.question.admit other (all_admitted whole.question (asked first)) fits long))
-      (All-from_contains (λ c. AllByRecursion (IsNode (version_in whole)) c.tree) certificates (λ c has.
-      nodes_in (version_in c) (version_in whole) c.tree
-      (λ first. All-contains (λ d. has_none d.tree ≡ false) certificates c (told (asked first)) has)
-      (All-contains HasSpelling certificates c all has).nodes))
-      joined.tree;
+          (ap (λ (cube : List Trit). length cube) (sym joined.pins_are))
+          (λ other long none first. none (each_has whole.question.admit other (all_admitted whole.question (asked first)) fits long))
+          (All-from_contains (λ c. AllByRecursion (IsNode (version_in whole)) c.tree) certificates (λ c has.
+          nodes_in (version_in c) (version_in whole) c.tree
+          (λ first. All-contains (λ d. has_none d.tree ≡ false) certificates c (told (asked first)) has)
+          (All-contains HasSpelling certificates c all has).nodes))
+          joined.tree;
       tree = tree;
     }

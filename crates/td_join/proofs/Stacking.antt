@@ -64,6 +64,7 @@ last_of P groups top all = (
   in_front [] top g has = absurd (omega (arith, has.1))
   in_front (h ∷ groups) top g (zero, below, at) = (0, omega arith, at)
   in_front (h ∷ groups) top g (suc k, below, at) = let deeper = in_front groups top g (k, omega (arith, below), at) in (suc deeper.0, omega (arith, deeper.1), deeper.2)
+
   at_end : (groups : List Group) (top : Group) → Contains (groups ++ top ∷ []) top
   at_end [] top = (0, omega arith, refl)
   at_end (h ∷ groups) top = let deeper = at_end groups top in (suc deeper.0, omega (arith, deeper.1), deeper.2)
@@ -77,12 +78,12 @@ module _ (certificates : List Certificate) (admit : Admitted) where
       → IsUnderWay certificates admit [] ([] ++ group ∷ [])
   begun group cube all placed = record {
     goes_on = λ rest joined. let top = without_top admit [] group rest joined in
-    subst (λ (ns : List Node). AreJoined admit admit.pins certificates ns) (sym (top.parts ∙ ap (λ (r : List Node). top.tree ++ r) top.others ∙ append-nil top.tree))
-    (subst (λ (cs : List Certificate). AreJoined admit admit.pins cs top.tree) all
-    (subst (λ (x : List Trit). AreJoined admit x (members group) top.tree) cube top.joined));
+        subst (λ (ns : List Node). AreJoined admit admit.pins certificates ns) (sym (top.parts ∙ ap (λ (r : List Node). top.tree ++ r) top.others ∙ append-nil top.tree))
+        (subst (λ (cs : List Certificate). AreJoined admit admit.pins cs top.tree) all
+        (subst (λ (x : List Trit). AreJoined admit x (members group) top.tree) cube top.joined));
     groups_are = All-cons (IsGroup certificates admit) group [] (record {
       joinable = subst (λ (x : List Trit). IsJoinable admit admit.pins certificates → IsJoinable admit x (members group)) (sym cube)
-      (subst (λ (cs : List Certificate). IsJoinable admit admit.pins certificates → IsJoinable admit admit.pins cs) (sym all) (λ j. j));
+          (subst (λ (cs : List Certificate). IsJoinable admit admit.pins certificates → IsJoinable admit admit.pins cs) (sym all) (λ j. j));
       all = λ c pair has pinned inside. subst (λ (cs : List Certificate). Contains cs c) (sym all) has;
       inside = λ pair. subst (λ (x : List Trit). IsIn pair x → IsIn pair admit.pins) (sym cube) (λ h. h);
       fits = ap length cube;
@@ -95,8 +96,8 @@ module _ (certificates : List Certificate) (admit : Admitted) where
       → AreJoined admit top.cube (members top) tree → IsUnderWay certificates admit (nodes ++ tree) groups
   leaf nodes groups top tree way joined = record {
     goes_on = λ rest others.
-    subst (λ (ns : List Node). AreJoined admit admit.pins certificates ns) (sym (append_assoc nodes tree rest))
-    (way.goes_on (tree ++ rest) (with_top admit groups top tree rest joined others));
+        subst (λ (ns : List Node). AreJoined admit admit.pins certificates ns) (sym (append_assoc nodes tree rest))
+        (way.goes_on (tree ++ rest) (with_top admit groups top tree rest joined others));
     groups_are = (last_of (IsGroup certificates admit) groups top way.groups_are).0;
   }
 
@@ -123,22 +124,24 @@ module _ (certificates : List Certificate) (admit : Admitted) where
       let within = slice_get_within group.cube position Free free in
       record {
         joinable = λ all. let here = known.joinable all in
-        let half = zero_joinable admit group.cube (members group) here.0 here.1 position free at in
-        (half.0, subst (λ (x : List Trit). AreJoined admit x (members low) half.0) (sym cube)
-        (subst (λ (cs : List Certificate). AreJoined admit (set group.cube position Zero) cs half.0) (sym same) half.1));
+            let half = zero_joinable admit group.cube (members group) here.0 here.1 position free at in (
+              half.0,
+              subst (λ (x : List Trit). AreJoined admit x (members low) half.0) (sym cube)
+                  (subst (λ (cs : List Certificate). AreJoined admit (set group.cube position Zero) cs half.0) (sym same) half.1),
+            );
         all = λ c pair has pinned inside.
-        let here = subst (λ (x : List Trit). IsIn pair x) cube inside in
-        let member = known.all c pair has pinned (wider Zero group.cube position pair.first pair.second free here) in
-        subst (λ (cs : List Certificate). Contains cs c) (sym same)
-        (filter_has (λ d. is_zero (slice_get (pins_of d) position)) (members group) c member
-        (zero_known (slice_get (pins_of c) position) (All-contains (is_known_at position) (members group) c at member)
-        (λ t e. meet_at (pins_of c) (set group.cube position Zero) pair.first pair.second pinned here position t Zero e
-        (slice_get-set_same group.cube position Zero within))));
+            let here = subst (λ (x : List Trit). IsIn pair x) cube inside in
+            let member = known.all c pair has pinned (wider Zero group.cube position pair.first pair.second free here) in
+            subst (λ (cs : List Certificate). Contains cs c) (sym same)
+            (filter_has (λ d. is_zero (slice_get (pins_of d) position)) (members group) c member
+            (zero_known (slice_get (pins_of c) position) (All-contains (is_known_at position) (members group) c at member)
+            (λ t e. meet_at (pins_of c) (set group.cube position Zero) pair.first pair.second pinned here position t Zero e
+            (slice_get-set_same group.cube position Zero within))));
         inside = λ pair inside. known.inside pair
-        (wider Zero group.cube position pair.first pair.second free (subst (λ (x : List Trit). IsIn pair x) cube inside));
+            (wider Zero group.cube position pair.first pair.second free (subst (λ (x : List Trit). IsIn pair x) cube inside));
         fits = ap length cube ∙ length-set group.cube position Zero ∙ known.fits;
         placed = All-same (IsPlaced certificates) low.parts.items (zero_parts position group.parts.items) parts
-        (All-filter (λ p. is_zero (slice_get (pins_of p.certificate) position)) (IsPlaced certificates) group.parts.items known.placed);
+            (All-filter (λ p. is_zero (slice_get (pins_of p.certificate) position)) (IsPlaced certificates) group.parts.items known.placed);
       }
 
   pub high_group : (group high : Group) (position : ℕ) → IsGroup certificates admit group → slice_get group.cube position ≡ Some Free
@@ -150,22 +153,24 @@ module _ (certificates : List Certificate) (admit : Admitted) where
       let within = slice_get_within group.cube position Free free in
       record {
         joinable = λ all. let here = known.joinable all in
-        let half = one_joinable admit group.cube (members group) here.0 here.1 position free at in
-        (half.0, subst (λ (x : List Trit). AreJoined admit x (members high) half.0) (sym cube)
-        (subst (λ (cs : List Certificate). AreJoined admit (set group.cube position One) cs half.0) (sym same) half.1));
+            let half = one_joinable admit group.cube (members group) here.0 here.1 position free at in (
+              half.0,
+              subst (λ (x : List Trit). AreJoined admit x (members high) half.0) (sym cube)
+                  (subst (λ (cs : List Certificate). AreJoined admit (set group.cube position One) cs half.0) (sym same) half.1),
+            );
         all = λ c pair has pinned inside.
-        let here = subst (λ (x : List Trit). IsIn pair x) cube inside in
-        let member = known.all c pair has pinned (wider One group.cube position pair.first pair.second free here) in
-        subst (λ (cs : List Certificate). Contains cs c) (sym same)
-        (filter_has (λ d. is_one (slice_get (pins_of d) position)) (members group) c member
-        (one_known (slice_get (pins_of c) position) (All-contains (is_known_at position) (members group) c at member)
-        (λ t e. meet_at (pins_of c) (set group.cube position One) pair.first pair.second pinned here position t One e
-        (slice_get-set_same group.cube position One within))));
+            let here = subst (λ (x : List Trit). IsIn pair x) cube inside in
+            let member = known.all c pair has pinned (wider One group.cube position pair.first pair.second free here) in
+            subst (λ (cs : List Certificate). Contains cs c) (sym same)
+            (filter_has (λ d. is_one (slice_get (pins_of d) position)) (members group) c member
+            (one_known (slice_get (pins_of c) position) (All-contains (is_known_at position) (members group) c at member)
+            (λ t e. meet_at (pins_of c) (set group.cube position One) pair.first pair.second pinned here position t One e
+            (slice_get-set_same group.cube position One within))));
         inside = λ pair inside. known.inside pair
-        (wider One group.cube position pair.first pair.second free (subst (λ (x : List Trit). IsIn pair x) cube inside));
+            (wider One group.cube position pair.first pair.second free (subst (λ (x : List Trit). IsIn pair x) cube inside));
         fits = ap length cube ∙ length-set group.cube position One ∙ known.fits;
         placed = All-same (IsPlaced certificates) high.parts.items (one_parts position group.parts.items) parts
-        (All-filter (λ p. is_one (slice_get (pins_of p.certificate) position)) (IsPlaced certificates) group.parts.items known.placed);
+            (All-filter (λ p. is_one (slice_get (pins_of p.certificate) position)) (IsPlaced certificates) group.parts.items known.placed);
       }
 
   regrouped : (nodes low high rest : List Node) (split : Node) → nodes ++ ((split ∷ (low ++ high)) ++ rest) ≡ (nodes ++ split ∷ []) ++ (low ++ (high ++ rest))
@@ -185,21 +190,21 @@ module _ (certificates : List Certificate) (admit : Admitted) where
       ap (λ (ps : List Part). certificates_of ps) high_parts ∙ map_filter certificate_of (λ c. is_one (slice_get (pins_of c) position)) top.parts.items in
       record {
         goes_on = λ rest joined.
-        let first = without_top admit (groups ++ high ∷ []) low rest joined in
-        let second = without_top admit groups high first.rest first.others in
-        let whole = halved top.cube (members top) position first.tree second.tree free at
-        (subst (λ (x : List Trit). AreJoined admit x (zeros position (members top)) first.tree) low_cube
-        (subst (λ (cs : List Certificate). AreJoined admit low.cube cs first.tree) lows first.joined))
-        (subst (λ (x : List Trit). AreJoined admit x (ones position (members top)) second.tree) high_cube
-        (subst (λ (cs : List Certificate). AreJoined admit high.cube cs second.tree) highs second.joined)) in
-        let split : List Node = node.Split position ∷ (first.tree ++ second.tree) in
-        subst (λ (ns : List Node). AreJoined admit admit.pins certificates ns)
-        (regrouped nodes first.tree second.tree second.rest (node.Split position)
-        ∙ ap (λ (ns : List Node). (nodes ++ node.Split position ∷ []) ++ ns) (sym (first.parts ∙ ap (λ (r : List Node). first.tree ++ r) second.parts)))
-        (way.goes_on (split ++ second.rest) (with_top admit groups top split second.rest whole second.others));
+            let first = without_top admit (groups ++ high ∷ []) low rest joined in
+            let second = without_top admit groups high first.rest first.others in
+            let whole = halved top.cube (members top) position first.tree second.tree free at
+            (subst (λ (x : List Trit). AreJoined admit x (zeros position (members top)) first.tree) low_cube
+            (subst (λ (cs : List Certificate). AreJoined admit low.cube cs first.tree) lows first.joined))
+            (subst (λ (x : List Trit). AreJoined admit x (ones position (members top)) second.tree) high_cube
+            (subst (λ (cs : List Certificate). AreJoined admit high.cube cs second.tree) highs second.joined)) in
+            let split : List Node = node.Split position ∷ (first.tree ++ second.tree) in
+            subst (λ (ns : List Node). AreJoined admit admit.pins certificates ns)
+            (regrouped nodes first.tree second.tree second.rest (node.Split position)
+            ∙ ap (λ (ns : List Node). (nodes ++ node.Split position ∷ []) ++ ns) (sym (first.parts ∙ ap (λ (r : List Node). first.tree ++ r) second.parts)))
+            (way.goes_on (split ++ second.rest) (with_top admit groups top split second.rest whole second.others));
         groups_are = All-push (IsGroup certificates admit) (groups ++ high ∷ []) low
-        (All-push (IsGroup certificates admit) groups high both.0 (high_group top high position both.1 free at high_cube high_parts))
-        (low_group top low position both.1 free at low_cube low_parts);
+            (All-push (IsGroup certificates admit) groups high both.0 (high_group top high position both.1 free at high_cube high_parts))
+            (low_group top low position both.1 free at low_cube low_parts);
       }
 
   pub ended : (nodes : List Node) → IsUnderWay certificates admit nodes [] → AreJoined admit admit.pins certificates nodes
@@ -228,7 +233,7 @@ module _ (certificates : List Certificate) (admit : Admitted) where
         fits = ap length stuck.0 ∙ known.fits;
         inside = λ pair h. known.inside pair (subst (λ (x : List Trit). IsIn pair x) stuck.0 h);
         in_none = All-from_contains (λ c. (pair : Pair) → IsIn pair gap → ¬ IsIn pair (pins_of c)) certificates (λ c has pair h pinned.
-        in_no_part group.parts.items c stuck.1 (known.all c pair has pinned (subst (λ (x : List Trit). IsIn pair x) stuck.0 h)));
+            in_no_part group.parts.items c stuck.1 (known.all c pair has pinned (subst (λ (x : List Trit). IsIn pair x) stuck.0 h)));
       }
   tree_fault group (fault.Overlap this that) known (shared, uncut, unjoinable) = (
     record {

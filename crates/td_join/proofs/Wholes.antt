@@ -30,7 +30,7 @@ pub is_joined : (certificates : List Certificate) (gates : ℕ) (question : Ques
     → IsJoined certificates question.admit.pins (whole_of gates question first.time pair nodes)
 is_joined certificates gates question first place pair tree nodes at alike greatest copied same joined = record {
   alike = All-weaker (IsOfQuestion gates question) (IsAlike (whole_of gates question first.time pair nodes))
-  (λ c h. record { gates = h.gates_are; held = h.held; flips = h.flips; moments = h.moments }) certificates alike;
+      (λ c h. record { gates = h.gates_are; held = h.held; flips = h.flips; moments = h.moments }) certificates alike;
   pins_are = refl;
   tree = subst (λ (ns : List Node). AreJoined question.admit question.admit.pins certificates ns) (sym same) joined;
   greatest = greatest;
@@ -92,7 +92,7 @@ module _ (certificates : List Certificate) (gates : ℕ) (question : Question) (
         first_at = first_of.1;
         at = h.at;
         all = subst (λ (q : Question). version_of q ≡ First)
-        (same_question question first_of.0.question (of_first first_of.0 (slice_get-Contains certificates 0 first_of.0 first_of.1)) first.moments) h.all;
+            (same_question question first_of.0.question (of_first first_of.0 (slice_get-Contains certificates 0 first_of.0 first_of.1)) first.moments) h.all;
         none = h.none;
         refused = λ netlist. refused question c netlist h.all mine.held mine.flips (All-contains HasFit certificates c fit has) h.none;
       })

@@ -13,11 +13,7 @@ use td_certificate::Node;
 use td_domain::Admit;
 
 /// The nodes of the tree of some certificates, whose whole admits these pairs.
-pub fn joined_nodes(
-    alloc: Global,
-    admit: &Admit,
-    parts: Vec<Part>,
-) -> Result<Vec<Node>, JoinFault>
+pub fn joined_nodes(alloc: Global, admit: &Admit, parts: Vec<Part>) -> Result<Vec<Node>, JoinFault>
     requires { All (IsPlaced (certificates_of parts.items)) parts.items }
     ensures tree { IfOk result (λ nodes. AreJoined admit.now admit.now.pins (certificates_of parts.items) nodes.items) }
     ensures fault { IfErr result (IsTreeFault admit.now (certificates_of parts.items)) }

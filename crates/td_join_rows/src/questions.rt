@@ -107,12 +107,7 @@ pub fn searched(
 }
 
 /// The same pairs with these pins.
-fn pinned(
-    rt: &impl Abort,
-    alloc: Global,
-    admit: &Admit,
-    pins: &Cube,
-) -> Result<Admit, AllocError> {
+fn pinned(rt: &impl Abort, alloc: Global, admit: &Admit, pins: &Cube) -> Result<Admit, AllocError> {
     let held = Vec::from_slice(alloc, admit.held())?;
     let pins = pins.copy(alloc)?;
     assert!(rt; pins.len() % 2 == 0 && pins.len() / 2 == held.len());

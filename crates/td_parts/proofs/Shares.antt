@@ -155,19 +155,19 @@ module _ (admit : Admitted) (cubes : Cubes) (n : ℕ) (cube : List Trit) (positi
       let pair = whole.some.0 in
       record {
         partition = λ pair admitted. in_half cubes n cube (set cube position One) at (λ pair h. in_cube One cube position pair free h) pair
-        (shares.partition pair admitted) (all pair admitted);
+            (shares.partition pair admitted) (all pair admitted);
         shares = All-set (IsShare admit) cubes n (set cube position One)
-        (half_share admit One cube position free whole (pair, whole.some.1, all pair whole.some.1 whole.some.2)) shares.shares;
+            (half_share admit One cube position free whole (pair, whole.some.1, all pair whole.some.1 whole.some.2)) shares.shares;
       }
 
   -- the one side has none
   pub only_low : HasAdmitted admit (set cube position Zero) → (¬ HasAdmitted admit (set cube position One)) → AreShares admit (set cubes n (set cube position Zero))
   only_low some none = record {
     partition = λ pair admitted. in_half cubes n cube (set cube position Zero) at (λ pair h. in_cube Zero cube position pair free h) pair
-    (shares.partition pair admitted) (λ inside. elim (side cube position pair.first pair.second free inside) [
-      | low zero ↦ zero
-      | high one ↦ absurd (none (pair, admitted, one))
-    ]);
+        (shares.partition pair admitted) (λ inside. elim (side cube position pair.first pair.second free inside) [
+          | low zero ↦ zero
+          | high one ↦ absurd (none (pair, admitted, one))
+        ]);
     shares = All-set (IsShare admit) cubes n (set cube position Zero) (half_share admit Zero cube position free whole some) shares.shares;
   }
 
@@ -176,6 +176,6 @@ module _ (admit : Admitted) (cubes : Cubes) (n : ℕ) (cube : List Trit) (positi
   both_sides zero one = record {
     partition = λ pair admitted. in_halves cubes n cube position at free pair (shares.partition pair admitted);
     shares = All-push (IsShare admit) (set cubes n (set cube position Zero)) (set cube position One)
-    (All-set (IsShare admit) cubes n (set cube position Zero) (half_share admit Zero cube position free whole zero) shares.shares)
-    (half_share admit One cube position free whole one);
+        (All-set (IsShare admit) cubes n (set cube position Zero) (half_share admit Zero cube position free whole zero) shares.shares)
+        (half_share admit One cube position free whole one);
   }

@@ -83,8 +83,8 @@ free_in parts place part split at h e cube stands =
     let same : part.cube ≡ cube = some_same part.cube cube (sym (slice_get-map_some cube_of parts place part at) ∙ stands) in
     subst (λ (c : List Trit). slice_get c split.position ≡ Some Free) same (free_part part split h e)
   where
-  some_same : (this that : List Trit) → Some this ≡ Some that → this ≡ that
-  some_same this that e = cc
+    some_same : (this that : List Trit) → Some this ≡ Some that → this ≡ that
+    some_same this that e = cc
 
 -- ---- what the shares say of each cube
 

@@ -12,5 +12,5 @@ loop-certificate-preserved c =
     record {
       fits = ap length next ∙ both_fits c.loop-certificate.cube (pins_of c.certificate-item.result) same ∙ sym same ∙ c.loop-certificate.invariant.fits;
       widened = more c.args.certificates.now c.loop-certificate.certificate-index c.certificate-item.result c.loop-certificate.cube c.widen.new.cube _
-      c.loop-certificate-test.true c.certificate-item.is next c.loop-certificate.invariant.widened;
+          c.loop-certificate-test.true c.certificate-item.is next c.loop-certificate.invariant.widened;
     }

@@ -8,5 +8,5 @@ pub returns-then-is_outside-clause-fault : goal.returns-then-is_outside-clause-f
 returns-then-is_outside-clause-fault c = (
   refl,
   subst (λ (x : List Trit). IsOutside c.args.pins.now x) (c.pins.ensures.pins ∙ ap (λ (a : Admitted). a.pins) c.admit.ensures)
-  (c.is_outside.ensures.outside (search rules)),
+      (c.is_outside.ensures.outside (search rules)),
 )

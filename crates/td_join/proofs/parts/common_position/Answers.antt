@@ -20,9 +20,9 @@ loop-position-preserved c =
     c.loop-position.position c.loop-position.invariant
     (elim c.else-eq.branch [
       | else-eq-via-then-eq+else-are_known_at w ↦ λ free.
-      are_not_known c.loop-position.position c.args.group.now.parts.items (rw (← w.deref.ensures.value) (sym w.are_known_at.ensures ∙ w.if-are_known_at.false))
+          are_not_known c.loop-position.position c.args.group.now.parts.items (rw (← w.deref.ensures.value) (sym w.are_known_at.ensures ∙ w.if-are_known_at.false))
       | else-eq-via-else-eq w ↦ λ free known.
-      not_free_at c.args.group.now.cube c.loop-position.position c.trit.result c.trit.ensures (sym c.eq.ensures ∙ w.if-eq.false) free
+          not_free_at c.args.group.now.cube c.loop-position.position c.trit.result c.trit.ensures (sym c.eq.ensures ∙ w.if-eq.false) free
     ])
 
 pub returns : goal.returns
