@@ -128,6 +128,22 @@ def wrong_join(case, rng, lines, pins):
     return None
 
 
+def mixed(case, inputs, lines, pins):
+    """What is wrong where the first part is one of a question with other flips."""
+    line, flips = list(lines[0]), int(word(case.words, "--flips", str(inputs)))
+    if "--flips" in line:
+        del line[line.index("--flips"):line.index("--flips") + 2]
+    other = inputs if flips < inputs else inputs - 1
+    done = case.run("worst", "t.v", *line, "--flips", str(other), "--cert", "mixed")
+    names = [f"p{place}" for place in range(1, len(lines))]
+    if done.returncode != 0 or not names:
+        return None
+    joined = case.run("join", "t.v", "mixed", *names, *pins, "--cert", "other")
+    if joined.returncode == 0 or "other flips" not in joined.stderr:
+        return f"joined with a part of another question: {joined.stdout} {joined.stderr}"
+    return None
+
+
 def forged(case, rng, lines, pins):
     """What is wrong where a part claims another time."""
     names = [f"p{place}" for place in range(len(lines))]
@@ -157,7 +173,8 @@ def wrong(program, rng, folder):
         return f"parts: {cut.returncode} {cut.stderr}", False
     lines = [line.split() for line in cut.stdout.splitlines()]
     pins = ["--first", word(case.words, "--first", "." * inputs), "--second", word(case.words, "--second", "." * inputs)]
-    found = wrong_cut(case, inputs, lines, count) or wrong_join(case, rng, lines, pins) or forged(case, rng, lines, pins)
+    found = (wrong_cut(case, inputs, lines, count) or wrong_join(case, rng, lines, pins) or mixed(case, inputs, lines, pins)
+             or forged(case, rng, lines, pins))
     return found and f"{found}\n{case.words}\n{text}", True
 
 
