@@ -1,8 +1,8 @@
 -- Where certificates are accepted, so is what they are joined into.
-use Rattle.std.proofs.Common.{Bool, true, inl, inr, ◌≡◌, ◌≢◌, ◌<◌, ◌≤◌, ◌+◌, ℕ, zero, suc, List, [], ◌∷◌, ◌++◌, length, set, Some, None, Option, refl, sym, ap, subst, ◌∙◌, arith, append_assoc}
-use Rattle.std.specs.Prelude.{slice_get, filter, All, Contains}
+use Rattle.std.proofs.Common.{Bool, true, inl, inr, ◌≡◌, ◌≤◌, ℕ, List, [], ◌∷◌, ◌++◌, length, set, Some, None, Option, refl, sym, ap, subst, ◌∙◌, arith}
+use Rattle.std.specs.Prelude.{slice_get, All, Contains}
 use Rattle.std.specs.List.{AllByRecursion}
-use Rattle.std.proofs.lemmas.List.Elements.{All-filter, All-contains, recursion_from_All}
+use Rattle.std.proofs.lemmas.List.Elements.{All-filter, All-contains}
 use Rattle.td_circuit.specs.Settings.{Setting}
 use Rattle.td_circuit.specs.Run.{IsDelayOfBits}
 use Rattle.td_nets.specs.Netlist.{Netlist}
@@ -17,10 +17,10 @@ use Rattle.td_certificate.specs.declared.certificate.Certificate.{Certificate}
 use Rattle.td_certificate.specs.Trees.{Tree, nodes_of, IsTree, lines_of}
 use Rattle.td_certificate.specs.Trees as trees
 use Rattle.td_certificate.specs.Walks.{Line, lines_from}
-use Rattle.td_certificate.specs.Accepts.{IsGood, SplitsFree, IsOfOnePair, IsOfCube, IsWithin, IsOfSize, IsReached, Accepts, setting_of, lines_in}
+use Rattle.td_certificate.specs.Accepts.{IsGood, IsOfCube, IsWithin, Accepts, setting_of}
 use Rattle.td_certificate.proofs.TreeLaws.{trees_are_counted}
 use Rattle.td_certificate.proofs.Walking.{lines_are_walked}
-use Rattle.td_join.specs.Joining.{pins_of, is_zero, is_one, is_known, zeros, ones, AreKnownAt, AreJoined, alone, missing, halved, IsAlike, IsJoined, AcceptedTogether}
+use Rattle.td_join.specs.Joining.{pins_of, is_zero, is_one, is_known, AreJoined, alone, missing, halved, IsAlike, AcceptedTogether}
 use Rattle.td_join.proofs.Cubing.{wider, filter_has, Contains-less}
 use Rattle.td_join.proofs.Restricting.{is_known_at}
 use Rattle.td_gates.proofs.Places.{All-from_contains}

@@ -1,6 +1,6 @@
 -- Cubes with a bit put at a free position, and filters.
-use Rattle.std.proofs.Common.{◌≡◌, ◌≢◌, ◌<◌, ◌≤◌, ◌+◌, ℕ, zero, suc, Bool, true, false, List, [], ◌∷◌, ◌++◌, length, map, set, Some, None, refl, sym, ap, subst, ◌∙◌, arith, cond, inl, inr, ◌⊎◌, Option}
-use Rattle.std.specs.Prelude.{slice_get, filter, All, Contains}
+use Rattle.std.proofs.Common.{◌≡◌, ◌≢◌, ℕ, zero, suc, Bool, true, false, List, [], ◌∷◌, map, set, Some, None, refl, sym, ap, subst, ◌∙◌, arith, cond, inl, inr, ◌⊎◌, Option}
+use Rattle.std.specs.Prelude.{slice_get, filter, Contains}
 use Rattle.td_domain.specs.declared.cubes.Trit.{Trit}
 use Rattle.td_domain.specs.declared.cubes.Trit.TheVariants.{Zero, One, Free}
 use Rattle.td_domain.specs.Cubes.{Allows, AllowsBits}

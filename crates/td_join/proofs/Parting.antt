@@ -1,7 +1,7 @@
 -- Parts, their certificates, and the two sides of a group.
-use Rattle.std.proofs.Common.{◌≤◌, ◌+◌, ◌⊎◌, ◌≡◌, ◌<◌, ℕ, zero, suc, Bool, true, false, List, [], ◌∷◌, ◌++◌, length, map, filter, Some, refl, sym, ap, subst, ◌∙◌, arith, inl, inr, ◌&&◌}
+use Rattle.std.proofs.Common.{◌≤◌, ◌+◌, ◌⊎◌, ◌≡◌, ◌<◌, ℕ, Bool, true, false, List, [], ◌∷◌, ◌++◌, length, Some, refl, sym, ap, subst, ◌∙◌, arith, inl, inr, ◌&&◌}
 use Rattle.std.proofs.Math.Nat.{eq-or-lt_of_le}
-use Rattle.std.specs.Prelude.{slice_get, All, slice_index_or}
+use Rattle.std.specs.Prelude.{slice_get, All}
 use Rattle.std.specs.List.{list_all}
 use Rattle.std.proofs.lemmas.List.Elements.{All-from_recursion, recursion_from_All, All-push}
 use Rattle.std.specs.List.{AllByRecursion}
@@ -11,8 +11,8 @@ use Rattle.td_domain.specs.declared.cubes.Trit.{Trit}
 use Rattle.td_domain.specs.declared.cubes.Trit.TheVariants.{Zero, One, Free}
 use Rattle.td_certificate.specs.declared.certificate.Certificate.{Certificate}
 use Rattle.td_join.specs.declared.parts.Part.{Part}
-use Rattle.td_join.specs.Joining.{pins_of, is_zero, is_one, is_known, AreKnownAt}
-use Rattle.td_join.specs.Steps.{certificate_of, certificates_of, IsPlaced, zero_parts, one_parts}
+use Rattle.td_join.specs.Joining.{pins_of, is_known, AreKnownAt}
+use Rattle.td_join.specs.Steps.{certificates_of, IsPlaced}
 
 nat_cases : (k n : ℕ) → k ≤ n → (k < n) ⊎ (k ≡ n)
 nat_cases k n l = elim (eq-or-lt_of_le {n = k} {m = n} l) [

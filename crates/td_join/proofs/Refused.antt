@@ -1,14 +1,14 @@
 -- Where all pairs are admitted, no certificate is accepted that has a leaf without an admitted pair.
-use Rattle.std.proofs.Common.{◌≡◌, ◌≤◌, ◌*◌, ℕ, Bool, true, false, List, [], ◌∷◌, ◌++◌, length, set, Some, refl, sym, ap, subst, ◌∙◌, arith}
-use Rattle.std.specs.Prelude.{slice_get, ◌==◌, ◌&&◌, ◌||◌}
-use Rattle.std.specs.List.{AllByRecursion, list_all, list_any}
+use Rattle.std.proofs.Common.{◌≡◌, ◌*◌, ℕ, Bool, true, false, List, [], ◌∷◌, length, set, refl, sym, ap, subst, ◌∙◌, arith}
+use Rattle.std.specs.Prelude.{◌==◌, ◌&&◌, ◌||◌}
+use Rattle.std.specs.List.{AllByRecursion, list_all}
 use Rattle.std.proofs.lemmas.Bool.{eqb-true}
 use Rattle.std.proofs.lemmas.List.{length-set}
 use Rattle.std.proofs.lemmas.List.Folds.{list_any-append}
 use Rattle.td_nets.specs.Netlist.{Netlist}
 use Rattle.td_circuit.specs.Settings.{Setting}
 use Rattle.td_domain.specs.declared.cubes.Trit.{Trit}
-use Rattle.td_domain.specs.declared.cubes.Trit.TheVariants.{Zero, One, Free}
+use Rattle.td_domain.specs.declared.cubes.Trit.TheVariants.{Zero, One}
 use Rattle.td_domain.specs.Pairs.{Pair}
 use Rattle.td_domain.specs.Cubes.{IsIn}
 use Rattle.td_domain.specs.Admits.{Admitted, HasAdmitted}
@@ -26,7 +26,7 @@ use Rattle.td_join.specs.Joining.{pins_of, says_none, has_none}
 use Rattle.td_join.specs.Steps.{HasFit}
 use Rattle.td_join.proofs.Acceptance.{both_parts}
 use Rattle.td_join.proofs.Cubing.{wider}
-use Rattle.td_join.proofs.Spelled.{first_bits, second_bits, in_cube, first_count, second_count, both_true, none_held, few_flips, all_admitted}
+use Rattle.td_join.proofs.Spelled.{first_bits, second_bits, in_cube, first_count, both_true, none_held, few_flips, all_admitted}
 
 neither : (a b : Bool) → a ≡ false → b ≡ false → (a || b) ≡ false
 neither false b e f = f

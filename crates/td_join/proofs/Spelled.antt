@@ -1,6 +1,6 @@
 -- Where certificates have a text, so has what they are joined into.
-use Rattle.std.proofs.Common.{◌≡◌, ◌≢◌, ◌≤◌, ◌<◌, ◌+◌, ◌*◌, ℕ, zero, suc, Bool, true, false, List, [], ◌∷◌, ◌++◌, length, set, Some, None, refl, sym, ap, subst, ◌∙◌, arith}
-use Rattle.std.specs.Prelude.{slice_get, All, Contains, not, ◌==◌, ◌&&◌, if◌then◌else◌}
+use Rattle.std.proofs.Common.{◌≡◌, ◌≢◌, ◌≤◌, ◌*◌, ℕ, zero, suc, Bool, true, false, List, [], ◌∷◌, length, refl, sym, ap, subst, ◌∙◌, arith}
+use Rattle.std.specs.Prelude.{slice_get, All, ◌==◌, ◌&&◌, if◌then◌else◌}
 use Rattle.std.specs.List.{AllByRecursion, list_all}
 use Rattle.std.proofs.lemmas.Bool.{eqb-true}
 use Rattle.std.proofs.lemmas.List.{length-set}
@@ -25,16 +25,16 @@ use Rattle.td_join.proofs.Acceptance.{both_lists}
 
 -- ---- where all pairs are admitted, one lies in each cube
 
-low_bit : Trit → Bool
+abbrev low_bit : Trit → Bool
 low_bit One = true
 low_bit Zero = false
 low_bit Free = false
 
-pub first_bits : List Trit → List Bool
+abbrev pub first_bits : List Trit → List Bool
 first_bits (p ∷ q ∷ cube) = low_bit p ∷ first_bits cube
 first_bits cube = []
 
-pub second_bits : List Trit → List Bool
+abbrev pub second_bits : List Trit → List Bool
 second_bits (p ∷ q ∷ cube) = low_bit q ∷ second_bits cube
 second_bits cube = []
 

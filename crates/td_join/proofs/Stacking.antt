@@ -1,8 +1,8 @@
 -- A joining under way: each step leads on.
-use Rattle.std.proofs.Common.{◌≡◌, ◌≢◌, ◌<◌, ◌≤◌, ◌+◌, ◌*◌, ℕ, zero, suc, Bool, true, false, List, [], ◌∷◌, ◌++◌, length, map, set, Some, None, Option, refl, sym, ap, subst, ◌∙◌, arith, append_assoc, inl, inr}
+use Rattle.std.proofs.Common.{◌≡◌, ℕ, zero, suc, true, List, [], ◌∷◌, ◌++◌, length, set, Some, None, Option, refl, sym, ap, subst, ◌∙◌, arith, append_assoc, inl, inr}
 use Rattle.std.specs.Prelude.{slice_get, All, Contains}
 use Rattle.std.proofs.lemmas.List.{append-nil, length-set}
-use Rattle.std.proofs.lemmas.List.Elements.{All-filter, All-contains, All-push, All-append, All-nil, All-cons, All-same}
+use Rattle.std.proofs.lemmas.List.Elements.{All-filter, All-contains, All-push, All-nil, All-cons, All-same}
 use Rattle.td_gates.proofs.Places.{All-from_contains}
 use Rattle.td_domain.specs.declared.cubes.Trit.{Trit}
 use Rattle.td_domain.specs.declared.cubes.Trit.TheVariants.{Zero, One, Free}
@@ -17,13 +17,12 @@ use Rattle.td_join.specs.declared.fault.JoinFault.TheVariants as fault
 use Rattle.td_join.specs.declared.parts.Part.{Part}
 use Rattle.td_join.specs.declared.parts.Group.{Group}
 use Rattle.td_join.specs.Joining.{pins_of, is_zero, is_one, is_known, zeros, ones, AreKnownAt, AreJoined, halved}
-use Rattle.td_join.specs.Faults.{IsOverlap, IsGap}
 use Rattle.td_join.specs.Steps.{certificate_of, certificates_of, IsPlaced, zero_parts, one_parts, IsJoinable, IsStuck}
 use Rattle.td_join.specs.Stacks.{members, AreAllJoined, IsGroup, IsUnderWay, IsTreeFault}
 use Rattle.td_join.proofs.Cubing.{wider, Meet, meet_at, map_filter, filter_has, Contains-less, Contains-more}
 use Rattle.td_join.proofs.Restricting.{is_known_at, zero_joinable, one_joinable}
 use Rattle.std.proofs.lemmas.Option.{slice_get_within}
-use Rattle.td_gates.proofs.Places.{slice_get-set_same, slice_get-within}
+use Rattle.td_gates.proofs.Places.{slice_get-set_same}
 
 -- ---- the stack
 

@@ -2,11 +2,10 @@
 use Rattle.std.proofs.Common.{◌≡◌, ◌<◌, ◌≤◌, ◌+◌, ℕ, List, Some, length, take, get_or, sym, subst, ◌∙◌, arith}
 use Rattle.std.specs.Prelude.{All, slice_get}
 use Rattle.td_gates.proofs.Places.{slice_get-get, get-slice_get}
-use Rattle.std.specs.List.Sorted.{IsPermutation}
 use Rattle.std.proofs.lemmas.List.Elements.{All-contains, All-more, All-weaker}
 use Rattle.std.proofs.lemmas.List.Sorted.{Contains-permutation, All-permutation}
 use Rattle.td_certificate.specs.declared.certificate.Certificate.{Certificate}
-use Rattle.td_join.specs.Joining.{IsJoined, SameTime}
+use Rattle.td_join.specs.Joining.{SameTime}
 
 pub same_time : SameTime
 same_time these those pins others this that moved one other =

@@ -1,5 +1,5 @@
 -- The certificate of the whole.
-use Rattle.std.proofs.Common.{◌≡◌, ◌<◌, ◌≤◌, ◌*◌, ℕ, List, Bool, length, Some, refl, sym, ap, subst, ◌∙◌}
+use Rattle.std.proofs.Common.{◌≡◌, ◌<◌, ◌≤◌, ℕ, List, length, Some, refl, sym, ap, subst, ◌∙◌}
 use Rattle.std.specs.Prelude.{All, Contains, slice_get}
 use Rattle.std.proofs.lemmas.List.Elements.{All-weaker, All-contains}
 use Rattle.td_domain.specs.declared.cubes.Trit.{Trit}
@@ -9,7 +9,7 @@ use Rattle.td_certificate.specs.declared.certificate.Certificate.{Certificate}
 use Rattle.td_certificate.specs.declared.question.Version.TheVariants.{First}
 use Rattle.td_certificate.specs.Questions.{Question, version_of}
 use Rattle.td_gates.proofs.Places.{slice_get-Contains, slice_get-within}
-use Rattle.td_join.specs.Joining.{pins_of, with_pins, AreJoined, IsAlike, IsJoined}
+use Rattle.td_join.specs.Joining.{with_pins, AreJoined, IsAlike, IsJoined}
 use Rattle.td_domain.specs.Admits.{Admitted}
 use Rattle.td_join.specs.declared.fault.JoinFault.{JoinFault}
 use Rattle.td_join.specs.declared.fault.JoinFault.TheVariants as fault

@@ -1,5 +1,5 @@
 -- Cubes that are widened.
-use Rattle.std.proofs.Common.{◌≡◌, ◌≢◌, ◌<◌, ◌≤◌, ◌+◌, get_or, take_all, drop-cons, ℕ, zero, suc, List, [], ◌∷◌, ◌++◌, length, set, Some, None, Option, take, drop, refl, sym, ap, subst, ◌∙◌, arith}
+use Rattle.std.proofs.Common.{◌≡◌, ◌≢◌, ◌<◌, ◌≤◌, ◌+◌, get_or, take_all, drop-cons, ℕ, zero, suc, List, [], ◌∷◌, ◌++◌, length, set, Some, take, drop, refl, sym, ap, ◌∙◌, arith}
 use Rattle.std.specs.Prelude.{slice_get}
 use Rattle.std.proofs.lemmas.List.{append-nil, drop_all}
 use Rattle.std.proofs.lemmas.Option.{none-some}

@@ -54,12 +54,13 @@ fn join_alike(
     ensures fault { IfErr result (IsJoinFault certificates.items question.admit.pins) }
 {
     without_false_none(&question, &certificates)?;
-    let _fit = question.admit().pins();
+    let admit = question.admit();
+    let _fit = admit.pins();
     let first = &certificates[greatest(&certificates)];
     let time = first.time;
     let pair = first.pair.copy(alloc)?;
     let parts = numbered(alloc, certificates)?;
-    let nodes = joined_nodes(alloc, question.admit(), parts)?;
+    let nodes = joined_nodes(alloc, admit, parts)?;
     Ok(Certificate {
         gates,
         question,

@@ -1,4 +1,4 @@
-use Rattle.std.proofs.Common.{◌≡◌, take}
+use Rattle.std.proofs.Common.{take}
 use Rattle.std.specs.Prelude.{All}
 use Rattle.td_certificate.specs.Trees.{IsTree}
 use Rattle.td_join.specs.Joining.{IsAlike}

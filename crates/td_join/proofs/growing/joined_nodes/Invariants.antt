@@ -1,4 +1,3 @@
-use Rattle.std.proofs.Common.{◌≡◌}
 use Rattle.td_join.specs.Steps.{certificates_of}
 use Rattle.td_join.specs.Stacks.{IsUnderWay, weights}
 use Rattle.td_join.proofs.growing.joined_nodes.Given as goal

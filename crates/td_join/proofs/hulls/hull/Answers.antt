@@ -1,5 +1,4 @@
-use Rattle.std.proofs.Common.{rules, ◌≡◌, ◌∙◌, ◌<◌, sym, ap, length}
-use Rattle.std.specs.Prelude.{slice_get}
+use Rattle.std.proofs.Common.{rules, ◌≡◌, ◌∙◌, sym, ap, length}
 use Rattle.td_domain.specs.Admits.{Admitted}
 use Rattle.td_join.specs.Joining.{pins_of, both}
 use Rattle.td_join.proofs.Widening.{more, both_fits}

@@ -1,4 +1,4 @@
-use Rattle.std.proofs.Common.{rules, ◌≡◌, ◌∙◌, List, refl, ap, subst}
+use Rattle.std.proofs.Common.{rules, ◌∙◌, List, refl, ap, subst}
 use Rattle.td_domain.specs.declared.cubes.Trit.{Trit}
 use Rattle.td_domain.specs.Admits.{Admitted}
 use Rattle.td_join.specs.Faults.{IsOutside}

@@ -1,4 +1,4 @@
-use Rattle.std.proofs.Common.{rules, ◌≡◌, ◌∙◌, sym, ap, length}
+use Rattle.std.proofs.Common.{◌∙◌, ap, length}
 use Rattle.std.proofs.lemmas.List.{length-set}
 use Rattle.td_join.proofs.Widening.{widened}
 use Rattle.td_join.proofs.hulls.widen.Goals as goal

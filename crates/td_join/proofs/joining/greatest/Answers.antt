@@ -1,4 +1,4 @@
-use Rattle.std.proofs.Common.{rules, ◌≡◌, ◌∙◌, ◌≤◌, List, subst, take_all}
+use Rattle.std.proofs.Common.{rules, ◌≤◌, List, subst, take_all}
 use Rattle.std.specs.Prelude.{All}
 use Rattle.td_certificate.specs.declared.certificate.Certificate.{Certificate}
 use Rattle.td_join.proofs.Times.{newer, older}

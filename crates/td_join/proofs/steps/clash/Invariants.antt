@@ -1,4 +1,3 @@
-use Rattle.std.proofs.Common.{◌≡◌}
 use Rattle.td_join.specs.Steps.{IsPartAt}
 use Rattle.td_join.proofs.steps.clash.Given as goal
 

@@ -1,6 +1,5 @@
-use Rattle.std.proofs.Common.{rules, ◌≡◌, List, [], ◌∷◌, ◌++◌, sym, ap, subst, ◌∙◌}
+use Rattle.std.proofs.Common.{rules, List, [], sym, subst}
 use Rattle.td_certificate.specs.declared.tree.Node.{Node}
-use Rattle.td_certificate.specs.declared.tree.Node.TheVariants as node
 use Rattle.td_join.specs.Joining.{AreJoined, missing}
 use Rattle.td_join.proofs.steps.empty_leaf.Goals as goal
 

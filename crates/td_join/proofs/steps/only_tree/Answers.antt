@@ -1,4 +1,4 @@
-use Rattle.std.proofs.Common.{rules, ◌≡◌, ◌∷◌, [], sym, ap, ◌∙◌}
+use Rattle.std.proofs.Common.{sym, ◌∙◌}
 use Rattle.td_join.proofs.Joins.{own_tree, last_part}
 use Rattle.td_join.proofs.steps.only_tree.Goals as goal
 

@@ -1,5 +1,4 @@
-use Rattle.td_join.specs.declared.parts.Part.{Part}
-use Rattle.std.proofs.Common.{rules, ◌≡◌, List, [], ◌∷◌, sym, ap, ◌∙◌}
+use Rattle.std.proofs.Common.{rules}
 use Rattle.std.proofs.lemmas.Option.{slice_get_within}
 use Rattle.td_domain.specs.declared.cubes.Trit.TheVariants.{Free}
 use Rattle.td_join.proofs.Joins.{stuck, is_stuck}
