@@ -1,6 +1,6 @@
 //! What is left of a search, and what is known of the delays while it goes on.
 
-ghost use Rattle.std.specs.Prelude.{◌≡◌, ◌+◌, ◌<◌, [], ◌∷◌, ◌++◌, length, take, drop, List, slice_get, Some, IfOk, IfSome, OnOk, OnErr};
+ghost use Rattle.std.specs.Prelude.{◌≡◌, ℕ, ◌+◌, ◌<◌, [], ◌∷◌, ◌++◌, length, take, drop, List, slice_get, Some, IfOk, IfSome, OnOk, OnErr};
 ghost use Rattle.td_domain.specs.declared.cubes.Trit.TheVariants.{Free};
 ghost use Rattle.td_domain.specs.Worst.{IsUpperBound};
 ghost use Rattle.td_search.specs.CutShort.{greatest_of};
@@ -40,13 +40,20 @@ pub struct Frontier<L: Subject> {
     ghost cover: { IsCover L.asked closed leaves.items },
 }
 
+// The greater of a figure and of the bound of a leaf.
+fn greater_bound(leaf: &OpenLeaf, low: u64) -> u64
+    ensures { (others : List ℕ) → greatest_of result others ≡ greatest_of low (leaf.now.bound ∷ others) }
+{
+    low.max(leaf.bound)
+}
+
 // The greatest of a figure and of the bounds of these leaves.
 fn greatest_bound(leaves: &[OpenLeaf], low: u64) -> u64
     ensures { result ≡ greatest_of low (bounds_of leaves.now) }
 {
     let mut greatest = low;
     for leaf in leaves {
-        greatest = greatest.max(leaf.bound);
+        greatest = greater_bound(leaf, greatest);
     }
     greatest
 }
