@@ -1,6 +1,6 @@
 //! The parts of a question, as files hold them.
 
-ghost use Rattle.std.specs.Prelude.{◌≡◌, ◌≢◌, ◌↔◌, map, IfOk, IfErr, IsTrue};
+ghost use Rattle.std.specs.Prelude.{◌≡◌, ◌≢◌, ◌↔◌, ℕ, List, true, map, IfOk, IfErr, IsTrue};
 ghost use Rattle.td_nets.specs.Netlist.{Netlist};
 ghost use Rattle.td_gates.specs.declared.timing.Delay.{Delay as Default};
 ghost use Rattle.td_certificate.specs.Accepts.{IsOfSize};
