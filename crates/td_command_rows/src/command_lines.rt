@@ -62,7 +62,7 @@ fn asks_for_parts(rt: HostRuntime) -> Result<(), Fail> {
         ),
     ];
     for (line, want) in rows {
-        assert_eq!(rt; asked(alloc, line)?, want, "{line}");
+        assert_eq!(rt; asked(alloc, line)?.as_str(), want, "{line}");
     }
     Ok(())
 }
@@ -103,7 +103,7 @@ fn asks_for_joined_certificates(rt: HostRuntime) -> Result<(), Fail> {
         ),
     ];
     for (line, want) in rows {
-        assert_eq!(rt; asked(alloc, line)?, want, "{line}");
+        assert_eq!(rt; asked(alloc, line)?.as_str(), want, "{line}");
     }
     Ok(())
 }
@@ -127,7 +127,7 @@ fn asks_for_progress(rt: HostRuntime) -> Result<(), Fail> {
         ),
     ];
     for (line, want) in rows {
-        assert_eq!(rt; asked(alloc, line)?, want, "{line}");
+        assert_eq!(rt; asked(alloc, line)?.as_str(), want, "{line}");
     }
     Ok(())
 }
@@ -163,7 +163,7 @@ fn asks_for_the_others(rt: HostRuntime) -> Result<(), Fail> {
         ("tdelay halve c17.v", "InvalidSubcommand"),
     ];
     for (line, want) in rows {
-        assert_eq!(rt; asked(alloc, line)?, want, "{line}");
+        assert_eq!(rt; asked(alloc, line)?.as_str(), want, "{line}");
     }
     Ok(())
 }
