@@ -128,7 +128,7 @@ module _ (cubes : Cubes) (n : ℕ) (cube : List Trit) (position : ℕ) (at : sli
 
 -- ---- shares
 
-abbrev share_of : (admit : Admitted) (cubes : Cubes) (n : ℕ) (cube : List Trit) → AreShares admit cubes → slice_get cubes n ≡ Some cube → IsShare admit cube
+abbrev pub share_of : (admit : Admitted) (cubes : Cubes) (n : ℕ) (cube : List Trit) → AreShares admit cubes → slice_get cubes n ≡ Some cube → IsShare admit cube
 share_of admit cubes n cube shares at = All-contains (IsShare admit) cubes cube shares.shares (slice_get-Contains cubes n cube at)
 
 half_share : (admit : Admitted) (t : Trit) (cube : List Trit) (position : ℕ) → slice_get cube position ≡ Some Free → IsShare admit cube

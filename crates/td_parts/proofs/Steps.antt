@@ -15,7 +15,10 @@ use Rattle.td_parts.specs.declared.part.Part.{Part}
 use Rattle.td_parts.specs.declared.split.Split.{Split}
 use Rattle.td_parts.specs.Queues.{AreBelow}
 use Rattle.td_parts.specs.Splits.{IsSplitFree, cube_of, cubes_of}
-use Rattle.td_parts.specs.Sharing.{IsShare, AreShares, IsFreeIn, IsCutting}
+use Rattle.td_parts.specs.Sharing.{IsShare, AreShares, IsFreeIn, IsCutting, weight}
+use Rattle.td_join.proofs.Weights.{Known}
+use Rattle.td_parts.proofs.Shares.{share_of, only_high, only_low, both_sides}
+use Rattle.td_parts.proofs.Weighing.{one_less, both_less}
 
 -- ---- the first part, and none
 
@@ -71,6 +74,72 @@ two_halves admit old new cubes half shares before e splits queued = record {
   splits = splits;
   queued = subst (λ (n : ℕ). AreBelow n new.queue) (sym (added_length new.parts.items old.parts.items half e)) queued;
 }
+
+-- ---- a part that is halved
+
+module _ (admit : Admitted) (old : Cutting) (place : ℕ) (part : Part) (position : ℕ) (cutting : IsCutting admit old)
+    (at : slice_get old.parts.items place ≡ Some part) (free_at : IsFreeIn (cubes_of old.parts.items) place position) where
+  at_cube : slice_get (cubes_of old.parts.items) place ≡ Some part.cube
+  at_cube = slice_get-map_some cube_of old.parts.items place part at
+
+  free : slice_get part.cube position ≡ Some Free
+  free = free_at part.cube at_cube
+
+  pub half_fits : (t : Trit) (half : List Trit) → half ≡ set part.cube position t → length half ≡ length admit.pins
+  half_fits t half e = ap length e ∙ length-set part.cube position t ∙ (share_of admit (cubes_of old.parts.items) place part.cube cutting.shares at_cube).fits
+
+  -- the zero side has no admitted pair
+  pub high_kept : (new : Cutting) (low high : List Trit) → low ≡ set part.cube position Zero → high ≡ set part.cube position One → (¬ HasAdmitted admit low)
+      → cubes_of new.parts.items ≡ set (cubes_of old.parts.items) place high → All IsSplitFree new.parts.items
+      → AreBelow (length old.parts.items) new.queue → IsCutting admit new
+  high_kept new low high is_low is_high none e splits queued =
+      one_half admit old new place high
+      (subst (λ (h : List Trit). AreShares admit (set (cubes_of old.parts.items) place h)) (sym is_high)
+      (only_high admit (cubes_of old.parts.items) place part.cube position cutting.shares at_cube free
+      (subst (λ (l : List Trit). ¬ HasAdmitted admit l) is_low none)))
+      e splits queued
+
+  -- the one side has none
+  pub low_kept : (new : Cutting) (low high : List Trit) → low ≡ set part.cube position Zero → high ≡ set part.cube position One → HasAdmitted admit low
+      → (¬ HasAdmitted admit high) → cubes_of new.parts.items ≡ set (cubes_of old.parts.items) place low → All IsSplitFree new.parts.items
+      → AreBelow (length old.parts.items) new.queue → IsCutting admit new
+  low_kept new low high is_low is_high some none e splits queued =
+      one_half admit old new place low
+      (subst (λ (l : List Trit). AreShares admit (set (cubes_of old.parts.items) place l)) (sym is_low)
+      (only_low admit (cubes_of old.parts.items) place part.cube position cutting.shares at_cube free
+      (subst (λ (l : List Trit). HasAdmitted admit l) is_low some) (subst (λ (h : List Trit). ¬ HasAdmitted admit h) is_high none)))
+      e splits queued
+
+  pub both_kept : (mid new : Cutting) (low high : List Trit) → low ≡ set part.cube position Zero → high ≡ set part.cube position One → HasAdmitted admit low
+      → HasAdmitted admit high → cubes_of mid.parts.items ≡ set (cubes_of old.parts.items) place low
+      → cubes_of new.parts.items ≡ cubes_of mid.parts.items ++ high ∷ [] → All IsSplitFree new.parts.items
+      → AreBelow (length old.parts.items) mid.queue
+      → (AreBelow (length mid.parts.items) mid.queue → AreBelow (length mid.parts.items + 1) new.queue) → IsCutting admit new
+  both_kept mid new low high is_low is_high some more before e splits queued adds =
+      two_halves admit mid new (set (cubes_of old.parts.items) place low) high
+      (subst (λ (h : List Trit). AreShares admit (set (cubes_of old.parts.items) place low ++ h ∷ [])) (sym is_high)
+      (subst (λ (l : List Trit). AreShares admit (set (cubes_of old.parts.items) place l ++ set part.cube position One ∷ [])) (sym is_low)
+      (both_sides admit (cubes_of old.parts.items) place part.cube position cutting.shares at_cube free
+      (subst (λ (l : List Trit). HasAdmitted admit l) is_low some) (subst (λ (h : List Trit). HasAdmitted admit h) is_high more))))
+      before e splits
+      (adds (subst (λ (n : ℕ). AreBelow n mid.queue) (sym (narrowed_length mid.parts.items old.parts.items place low before)) queued))
+
+  pub one_smaller : (t : Trit) → Known t → (new : Cutting) (half : List Trit) → half ≡ set part.cube position t
+      → cubes_of new.parts.items ≡ set (cubes_of old.parts.items) place half → weight (cubes_of new.parts.items) < weight (cubes_of old.parts.items)
+  one_smaller t known new half is e =
+      subst (λ (cubes : List (List Trit)). weight cubes < weight (cubes_of old.parts.items))
+      (sym (e ∙ ap (λ (h : List Trit). set (cubes_of old.parts.items) place h) is))
+      (one_less (cubes_of old.parts.items) place part.cube position at_cube free t known)
+
+  pub both_smaller : (mid new : Cutting) (low high : List Trit) → low ≡ set part.cube position Zero → high ≡ set part.cube position One
+      → cubes_of mid.parts.items ≡ set (cubes_of old.parts.items) place low → cubes_of new.parts.items ≡ cubes_of mid.parts.items ++ high ∷ []
+      → weight (cubes_of new.parts.items) < weight (cubes_of old.parts.items)
+  both_smaller mid new low high is_low is_high before e =
+      subst (λ (cubes : List (List Trit)). weight cubes < weight (cubes_of old.parts.items))
+      (sym (e ∙ ap (λ (cubes : List (List Trit)). cubes ++ high ∷ []) before
+      ∙ ap (λ (l : List Trit). set (cubes_of old.parts.items) place l ++ high ∷ []) is_low
+      ∙ ap (λ (h : List Trit). set (cubes_of old.parts.items) place (set part.cube position Zero) ++ h ∷ []) is_high))
+      (both_less (cubes_of old.parts.items) place part.cube position at_cube free)
 
 -- ---- where the next part is halved
 
