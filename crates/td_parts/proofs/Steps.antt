@@ -1,5 +1,5 @@
 -- Parts under way: each step leads on.
-use Rattle.std.proofs.Common.{◌≡◌, ◌<◌, ◌≤◌, ◌+◌, ℕ, zero, suc, List, [], ◌∷◌, ◌++◌, length, map, set, Some, None, Option, refl, sym, ap, subst, ◌∙◌, arith}
+use Rattle.std.proofs.Common.{◌≡◌, ◌<◌, ◌+◌, ℕ, zero, suc, List, [], ◌∷◌, ◌++◌, length, set, Some, refl, sym, ap, subst, ◌∙◌, arith}
 use Rattle.std.specs.Prelude.{slice_get, All}
 use Rattle.std.proofs.lemmas.List.{length-set, length-map}
 use Rattle.std.proofs.lemmas.List.Elements.{All-weaker, All-cons, All-nil}
@@ -7,8 +7,7 @@ use Rattle.std.proofs.lemmas.Option.{none-some}
 use Rattle.td_gates.proofs.Places.{slice_get-map_some}
 use Rattle.td_domain.specs.declared.cubes.Trit.{Trit}
 use Rattle.td_domain.specs.declared.cubes.Trit.TheVariants.{Zero, One, Free}
-use Rattle.td_domain.specs.Pairs.{Pair}
-use Rattle.td_domain.specs.Admits.{Admitted, HasAdmitted, IsAdmitted}
+use Rattle.td_domain.specs.Admits.{Admitted, HasAdmitted}
 use Rattle.td_search.specs.Problems.{IsPart}
 use Rattle.td_parts.specs.declared.cutting.Cutting.{Cutting}
 use Rattle.td_parts.specs.declared.part.Part.{Part}

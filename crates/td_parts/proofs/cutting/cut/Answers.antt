@@ -1,4 +1,4 @@
-use Rattle.std.proofs.Common.{◌≡◌, ◌∙◌, ◌≤◌, ℕ, List, length, max, sym, ap, subst}
+use Rattle.std.proofs.Common.{◌∙◌, ◌≤◌, ℕ, List, length, max, sym, ap, subst}
 use Rattle.std.proofs.lemmas.List.{length-map}
 use Rattle.td_domain.specs.declared.cubes.Trit.{Trit}
 use Rattle.td_parts.specs.Splits.{cube_of}

@@ -1,4 +1,4 @@
-use Rattle.std.proofs.Common.{rules, ◌∙◌, ◌*◌, ℕ, length, refl, ap, arith}
+use Rattle.std.proofs.Common.{rules, ◌∙◌, ◌*◌, ℕ, length, refl, ap}
 use Rattle.std.proofs.lemmas.Option.{slice_get_read}
 use Rattle.td_domain.specs.declared.cubes.Trit.TheVariants.{Zero, One}
 use Rattle.td_join.proofs.Weights.{zero_is, one_is}
