@@ -29,7 +29,23 @@ const ROWS: &str = "
 ";
 
 /// What is told of the rows.
-const TOLD: &str = "?
+const TOLD: &str = "no certificate: NoCertificate
+5, s 0, b a 3, b a 5
+5, s 0, s 2, b a 3, b a 2, b a 5
+5, s 0, s 1, b a 3, none, s 1, none, b a 5
+5, s 1, none, b a 5
+other circuits: OtherCircuit(0, 1)
+other circuits: OtherCircuit(0, 1)
+other inputs held: OtherHold(0, 1)
+other flips: OtherFlips(0, 1)
+other moments: OtherMoments(0, 1)
+other pins: Outside(1)
+other pins: Outside(0)
+a pair in both: Overlap(0, 2)
+a pair in both: Overlap(0, 1)
+no position parts them: Crossed(0, 2)
+a part is missing: Gap(Cube { trits: [One, Free, Free, Free] })
+a leaf without a pair: FalseNone(1)
 ";
 
 /// A word of a certificate.
