@@ -1,9 +1,8 @@
 -- Parts under way: each step leads on.
-use Rattle.std.proofs.Common.{◌≡◌, ◌<◌, ◌+◌, ℕ, zero, suc, List, [], ◌∷◌, ◌++◌, length, set, Some, refl, sym, ap, subst, ◌∙◌, arith}
+use Rattle.std.proofs.Common.{◌≡◌, ◌<◌, ◌+◌, ℕ, List, [], ◌∷◌, ◌++◌, length, set, Some, sym, ap, subst, ◌∙◌, arith}
 use Rattle.std.specs.Prelude.{slice_get, All}
 use Rattle.std.proofs.lemmas.List.{length-set, length-map}
-use Rattle.std.proofs.lemmas.List.Elements.{All-weaker, All-cons, All-nil}
-use Rattle.std.proofs.lemmas.Option.{none-some}
+use Rattle.std.proofs.lemmas.List.Elements.{All-weaker}
 use Rattle.td_gates.proofs.Places.{slice_get-map_some}
 use Rattle.td_domain.specs.declared.cubes.Trit.{Trit}
 use Rattle.td_domain.specs.declared.cubes.Trit.TheVariants.{Zero, One, Free}
@@ -11,37 +10,12 @@ use Rattle.td_domain.specs.Admits.{Admitted, HasAdmitted}
 use Rattle.td_search.specs.Problems.{IsPart}
 use Rattle.td_parts.specs.declared.cutting.Cutting.{Cutting}
 use Rattle.td_parts.specs.declared.part.Part.{Part}
-use Rattle.td_parts.specs.declared.split.Split.{Split}
 use Rattle.td_parts.specs.Queues.{AreBelow}
 use Rattle.td_parts.specs.Splits.{IsSplitFree, cube_of, cubes_of}
 use Rattle.td_parts.specs.Sharing.{IsShare, AreShares, IsFreeIn, IsCutting, weight}
 use Rattle.td_join.proofs.Weights.{Known}
 use Rattle.td_parts.proofs.Shares.{share_of, only_high, only_low, both_sides}
 use Rattle.td_parts.proofs.Weighing.{one_less, both_less}
-
--- ---- the first part, and none
-
-alone : (pins that : List Trit) (other : ℕ) → slice_get (pins ∷ []) other ≡ Some that → other ≡ 0
-alone pins that zero stands = refl
-alone pins that (suc other) stands = absurd (none-some that stands)
-
-pub whole : (admit : Admitted) → HasAdmitted admit admit.pins → AreShares admit (admit.pins ∷ [])
-whole admit has = record {
-  partition = λ pair admitted. record {
-    place = 0;
-    cube = admit.pins;
-    at = refl;
-    inside = admitted.pinned;
-    in_no_other = λ other that stands inside. alone admit.pins that other stands;
-  };
-  shares = All-cons (IsShare admit) admit.pins [] (record { some = has; inside = λ pair h. h; fits = refl }) (All-nil (IsShare admit));
-}
-
-pub no_parts : (admit : Admitted) → (¬ HasAdmitted admit admit.pins) → AreShares admit []
-no_parts admit none = record {
-  partition = λ pair admitted. absurd (none (pair, admitted, admitted.pinned));
-  shares = All-nil (IsShare admit);
-}
 
 -- ---- halves
 
@@ -139,20 +113,6 @@ module _ (admit : Admitted) (old : Cutting) (place : ℕ) (part : Part) (positio
       ∙ ap (λ (l : List Trit). set (cubes_of old.parts.items) place l ++ high ∷ []) is_low
       ∙ ap (λ (h : List Trit). set (cubes_of old.parts.items) place (set part.cube position Zero) ++ h ∷ []) is_high))
       (both_less (cubes_of old.parts.items) place part.cube position at_cube free)
-
--- ---- where the next part is halved
-
-free_part : (part : Part) (split : Split) → IsSplitFree part → part.split ≡ Some split → slice_get part.cube split.position ≡ Some Free
-free_part part split h e = rw e at h
-
-pub free_in : (parts : List Part) (place : ℕ) (part : Part) (split : Split) → slice_get parts place ≡ Some part → IsSplitFree part → part.split ≡ Some split
-    → IsFreeIn (cubes_of parts) place split.position
-free_in parts place part split at h e cube stands =
-    let same : part.cube ≡ cube = some_same part.cube cube (sym (slice_get-map_some cube_of parts place part at) ∙ stands) in
-    subst (λ (c : List Trit). slice_get c split.position ≡ Some Free) same (free_part part split h e)
-  where
-    some_same : (this that : List Trit) → Some this ≡ Some that → this ≡ that
-    some_same this that e = cc
 
 -- ---- what the shares say of each cube
 
