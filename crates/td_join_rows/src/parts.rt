@@ -1,57 +1,40 @@
 //! Questions that are cut, searched in parts, and joined again.
 
-use crate::questions::{
-    C17, RECONVERGENT, admit_of, circuit_of, cube_of, joined, parted, searched,
-};
+use crate::questions::{C17, RECONVERGENT, circuit_of, joined, parted, question_of, searched};
 use std::alloc::{AllocError, Global};
 use std::process::Abort;
 use std::test::*;
 use td_search::Strategy;
 
-/// What is asked of a netlist: the trits of both vectors, the inputs that are held, and the flips.
+/// What is asked of a netlist: the question of a certificate in words.
 #[derive(Clone, Copy, Drop)]
 struct Asked {
     netlist: &'static str,
-    first: &'static str,
-    second: &'static str,
-    hold: &'static str,
-    flips: u32,
+    words: &'static str,
 }
 
 /// All pairs of six nand gates.
 const ALL: Asked = Asked {
     netlist: C17,
-    first: ".....",
-    second: ".....",
-    hold: ".....",
-    flips: 5,
+    words: "5 6,.....,.....,.....,5,,0,00000,00000,none",
 };
 
 /// Few of their pairs.
 const FEW: Asked = Asked {
     netlist: C17,
-    first: "1..0.",
-    second: "...0.",
-    hold: "..=..",
-    flips: 2,
+    words: "5 6,1..0.,...0.,..=..,2,,0,00000,00000,none",
 };
 
 /// All pairs of a signal that meets itself again.
 const MET: Asked = Asked {
     netlist: RECONVERGENT,
-    first: "..",
-    second: "..",
-    hold: "..",
-    flips: 2,
+    words: "2 3,..,..,..,2,,0,00,00,none",
 };
 
 /// The pairs of it in which one input changes.
 const ONE: Asked = Asked {
     netlist: RECONVERGENT,
-    first: "..",
-    second: "..",
-    hold: ".=",
-    flips: 1,
+    words: "2 3,..,..,.=,1,,0,00,00,none",
 };
 
 /// How many parts a question is cut into, the time of the whole search, and what the parts are joined into, in their order or turned
@@ -65,15 +48,15 @@ fn told(
     turned: bool,
 ) -> Result<String, AllocError> {
     let circuit = circuit_of(alloc, asked.netlist)?;
-    let pins = cube_of(alloc, asked.first, asked.second)?;
-    let admit = admit_of(rt, alloc, pins.copy(alloc)?, asked.hold, asked.flips)?;
-    let mut certificates = parted(rt, alloc, &circuit, &admit, strategy, count)?;
+    let question = question_of(alloc, asked.words)?;
+    let admit = question.admit();
+    let mut certificates = parted(rt, alloc, &circuit, admit, strategy, count)?;
     let number = certificates.len();
     if turned {
         certificates.reverse();
     }
-    let whole = joined(alloc, asked.netlist, certificates, &pins)?;
-    let time = searched(rt, alloc, &circuit, admit, strategy)?.time;
+    let whole = joined(alloc, asked.netlist, certificates, admit.pins())?;
+    let time = searched(rt, alloc, &circuit, admit.copy(alloc)?, strategy)?.time;
     format!(in alloc; "{number} of {time}: {whole}")
 }
 
