@@ -57,9 +57,6 @@ uncut_more P Q n below at k less p q =
 
 -- ---- numbered parts
 
-abbrev same_certificates : List Part → List Certificate → List Certificate → Type 0
-same_certificates parts rest all = certificates_of parts ++ rest ≡ all
-
 certificates_snoc : (parts : List Part) (p : Part) (rest : List Certificate) → certificates_of (parts ++ p ∷ []) ++ rest ≡ certificates_of parts ++ p.certificate ∷ rest
 certificates_snoc [] p rest = refl
 certificates_snoc (q ∷ parts) p rest = ap (λ (cs : List Certificate). q.certificate ∷ cs) (certificates_snoc parts p rest)

@@ -1,18 +1,17 @@
 -- Parts that are halved go on to share out the admitted pairs.
-use Rattle.std.proofs.Common.{◌≡◌, ◌≢◌, ◌<◌, ◌≤◌, ◌+◌, ℕ, Bool, true, false, List, [], ◌∷◌, ◌++◌, length, set, Some, None, Option, refl, sym, ap, subst, ◌∙◌, arith, inl, inr, ◌⊎◌}
-use Rattle.std.specs.Prelude.{slice_get, All}
+use Rattle.std.proofs.Common.{◌≡◌, ℕ, List, [], ◌∷◌, ◌++◌, length, set, Some, None, Option, sym, ap, subst, ◌∙◌, arith, inl, inr, ◌⊎◌}
+use Rattle.std.specs.Prelude.{slice_get}
 use Rattle.std.proofs.lemmas.List.{length-set}
 use Rattle.std.proofs.lemmas.List.Elements.{All-set, All-push, All-contains}
 use Rattle.td_gates.proofs.Places.{slice_get-set_same, slice_get-set_other, slice_get-set_cases, slice_get-push_cases, slice_get-append_left, slice_get-append_right, slice_get-Contains}
-use Rattle.std.proofs.lemmas.Option.{slice_get_within, slice_get_read}
+use Rattle.std.proofs.lemmas.Option.{slice_get_within}
 use Rattle.td_domain.specs.declared.cubes.Trit.{Trit}
 use Rattle.td_domain.specs.declared.cubes.Trit.TheVariants.{Zero, One, Free}
 use Rattle.td_domain.specs.Pairs.{Pair}
 use Rattle.td_domain.specs.Cubes.{IsIn}
 use Rattle.td_domain.specs.Admits.{Admitted, IsAdmitted, HasAdmitted}
 use Rattle.td_certificate.proofs.Acceptance.{side, low, high}
-use Rattle.td_search.specs.Problems.{IsPart}
-use Rattle.td_join.specs.Partition.{LiesInOne, IsPartition}
+use Rattle.td_join.specs.Partition.{LiesInOne}
 use Rattle.td_join.proofs.Cubing.{wider, meet_at}
 use Rattle.td_join.proofs.Restricting.{order, same, apart}
 use Rattle.td_parts.specs.Sharing.{IsShare, AreShares}
@@ -128,7 +127,7 @@ module _ (cubes : Cubes) (n : ℕ) (cube : List Trit) (position : ℕ) (at : sli
 
 -- ---- shares
 
-abbrev share_of : (admit : Admitted) (cubes : Cubes) (n : ℕ) (cube : List Trit) → AreShares admit cubes → slice_get cubes n ≡ Some cube → IsShare admit cube
+abbrev pub share_of : (admit : Admitted) (cubes : Cubes) (n : ℕ) (cube : List Trit) → AreShares admit cubes → slice_get cubes n ≡ Some cube → IsShare admit cube
 share_of admit cubes n cube shares at = All-contains (IsShare admit) cubes cube shares.shares (slice_get-Contains cubes n cube at)
 
 half_share : (admit : Admitted) (t : Trit) (cube : List Trit) (position : ℕ) → slice_get cube position ≡ Some Free → IsShare admit cube

@@ -1,45 +1,21 @@
 -- Parts under way: each step leads on.
-use Rattle.std.proofs.Common.{◌≡◌, ◌<◌, ◌≤◌, ◌+◌, ℕ, zero, suc, List, [], ◌∷◌, ◌++◌, length, map, set, Some, None, Option, refl, sym, ap, subst, ◌∙◌, arith}
+use Rattle.std.proofs.Common.{◌≡◌, ◌<◌, ◌+◌, ℕ, List, [], ◌∷◌, ◌++◌, length, set, Some, sym, ap, subst, ◌∙◌, arith}
 use Rattle.std.specs.Prelude.{slice_get, All}
 use Rattle.std.proofs.lemmas.List.{length-set, length-map}
-use Rattle.std.proofs.lemmas.List.Elements.{All-weaker, All-cons, All-nil}
-use Rattle.std.proofs.lemmas.Option.{none-some}
+use Rattle.std.proofs.lemmas.List.Elements.{All-weaker}
 use Rattle.td_gates.proofs.Places.{slice_get-map_some}
 use Rattle.td_domain.specs.declared.cubes.Trit.{Trit}
 use Rattle.td_domain.specs.declared.cubes.Trit.TheVariants.{Zero, One, Free}
-use Rattle.td_domain.specs.Pairs.{Pair}
-use Rattle.td_domain.specs.Admits.{Admitted, HasAdmitted, IsAdmitted}
+use Rattle.td_domain.specs.Admits.{Admitted, HasAdmitted}
 use Rattle.td_search.specs.Problems.{IsPart}
 use Rattle.td_parts.specs.declared.cutting.Cutting.{Cutting}
 use Rattle.td_parts.specs.declared.part.Part.{Part}
-use Rattle.td_parts.specs.declared.split.Split.{Split}
 use Rattle.td_parts.specs.Queues.{AreBelow}
 use Rattle.td_parts.specs.Splits.{IsSplitFree, cube_of, cubes_of}
-use Rattle.td_parts.specs.Sharing.{IsShare, AreShares, IsFreeIn, IsCutting}
-
--- ---- the first part, and none
-
-alone : (pins that : List Trit) (other : ℕ) → slice_get (pins ∷ []) other ≡ Some that → other ≡ 0
-alone pins that zero stands = refl
-alone pins that (suc other) stands = absurd (none-some that stands)
-
-pub whole : (admit : Admitted) → HasAdmitted admit admit.pins → AreShares admit (admit.pins ∷ [])
-whole admit has = record {
-  partition = λ pair admitted. record {
-    place = 0;
-    cube = admit.pins;
-    at = refl;
-    inside = admitted.pinned;
-    in_no_other = λ other that stands inside. alone admit.pins that other stands;
-  };
-  shares = All-cons (IsShare admit) admit.pins [] (record { some = has; inside = λ pair h. h; fits = refl }) (All-nil (IsShare admit));
-}
-
-pub no_parts : (admit : Admitted) → (¬ HasAdmitted admit admit.pins) → AreShares admit []
-no_parts admit none = record {
-  partition = λ pair admitted. absurd (none (pair, admitted, admitted.pinned));
-  shares = All-nil (IsShare admit);
-}
+use Rattle.td_parts.specs.Sharing.{IsShare, AreShares, IsFreeIn, IsCutting, weight}
+use Rattle.td_join.proofs.Weights.{Known}
+use Rattle.td_parts.proofs.Shares.{share_of, only_high, only_low, both_sides}
+use Rattle.td_parts.proofs.Weighing.{one_less, both_less}
 
 -- ---- halves
 
@@ -72,19 +48,71 @@ two_halves admit old new cubes half shares before e splits queued = record {
   queued = subst (λ (n : ℕ). AreBelow n new.queue) (sym (added_length new.parts.items old.parts.items half e)) queued;
 }
 
--- ---- where the next part is halved
+-- ---- a part that is halved
 
-free_part : (part : Part) (split : Split) → IsSplitFree part → part.split ≡ Some split → slice_get part.cube split.position ≡ Some Free
-free_part part split h e = rw e at h
+module _ (admit : Admitted) (old : Cutting) (place : ℕ) (part : Part) (position : ℕ) (cutting : IsCutting admit old)
+    (at : slice_get old.parts.items place ≡ Some part) (free_at : IsFreeIn (cubes_of old.parts.items) place position) where
+  at_cube : slice_get (cubes_of old.parts.items) place ≡ Some part.cube
+  at_cube = slice_get-map_some cube_of old.parts.items place part at
 
-pub free_in : (parts : List Part) (place : ℕ) (part : Part) (split : Split) → slice_get parts place ≡ Some part → IsSplitFree part → part.split ≡ Some split
-    → IsFreeIn (cubes_of parts) place split.position
-free_in parts place part split at h e cube stands =
-    let same : part.cube ≡ cube = some_same part.cube cube (sym (slice_get-map_some cube_of parts place part at) ∙ stands) in
-    subst (λ (c : List Trit). slice_get c split.position ≡ Some Free) same (free_part part split h e)
-  where
-    some_same : (this that : List Trit) → Some this ≡ Some that → this ≡ that
-    some_same this that e = cc
+  free : slice_get part.cube position ≡ Some Free
+  free = free_at part.cube at_cube
+
+  pub half_fits : (t : Trit) (half : List Trit) → half ≡ set part.cube position t → length half ≡ length admit.pins
+  half_fits t half e = ap length e ∙ length-set part.cube position t ∙ (share_of admit (cubes_of old.parts.items) place part.cube cutting.shares at_cube).fits
+
+  -- the zero side has no admitted pair
+  pub high_kept : (new : Cutting) (low high : List Trit) → low ≡ set part.cube position Zero → high ≡ set part.cube position One → (¬ HasAdmitted admit low)
+      → cubes_of new.parts.items ≡ set (cubes_of old.parts.items) place high → All IsSplitFree new.parts.items
+      → AreBelow (length old.parts.items) new.queue → IsCutting admit new
+  high_kept new low high is_low is_high none e splits queued =
+      one_half admit old new place high
+      (subst (λ (h : List Trit). AreShares admit (set (cubes_of old.parts.items) place h)) (sym is_high)
+      (only_high admit (cubes_of old.parts.items) place part.cube position cutting.shares at_cube free
+      (subst (λ (l : List Trit). ¬ HasAdmitted admit l) is_low none)))
+      e splits queued
+
+  -- the one side has none
+  pub low_kept : (new : Cutting) (low high : List Trit) → low ≡ set part.cube position Zero → high ≡ set part.cube position One → HasAdmitted admit low
+      → (¬ HasAdmitted admit high) → cubes_of new.parts.items ≡ set (cubes_of old.parts.items) place low → All IsSplitFree new.parts.items
+      → AreBelow (length old.parts.items) new.queue → IsCutting admit new
+  low_kept new low high is_low is_high some none e splits queued =
+      one_half admit old new place low
+      (subst (λ (l : List Trit). AreShares admit (set (cubes_of old.parts.items) place l)) (sym is_low)
+      (only_low admit (cubes_of old.parts.items) place part.cube position cutting.shares at_cube free
+      (subst (λ (l : List Trit). HasAdmitted admit l) is_low some) (subst (λ (h : List Trit). ¬ HasAdmitted admit h) is_high none)))
+      e splits queued
+
+  pub both_kept : (mid new : Cutting) (low high : List Trit) → low ≡ set part.cube position Zero → high ≡ set part.cube position One → HasAdmitted admit low
+      → HasAdmitted admit high → cubes_of mid.parts.items ≡ set (cubes_of old.parts.items) place low
+      → cubes_of new.parts.items ≡ cubes_of mid.parts.items ++ high ∷ [] → All IsSplitFree new.parts.items
+      → AreBelow (length old.parts.items) mid.queue
+      → (AreBelow (length mid.parts.items) mid.queue → AreBelow (length mid.parts.items + 1) new.queue) → IsCutting admit new
+  both_kept mid new low high is_low is_high some more before e splits queued adds =
+      two_halves admit mid new (set (cubes_of old.parts.items) place low) high
+      (subst (λ (h : List Trit). AreShares admit (set (cubes_of old.parts.items) place low ++ h ∷ [])) (sym is_high)
+      (subst (λ (l : List Trit). AreShares admit (set (cubes_of old.parts.items) place l ++ set part.cube position One ∷ [])) (sym is_low)
+      (both_sides admit (cubes_of old.parts.items) place part.cube position cutting.shares at_cube free
+      (subst (λ (l : List Trit). HasAdmitted admit l) is_low some) (subst (λ (h : List Trit). HasAdmitted admit h) is_high more))))
+      before e splits
+      (adds (subst (λ (n : ℕ). AreBelow n mid.queue) (sym (narrowed_length mid.parts.items old.parts.items place low before)) queued))
+
+  pub one_smaller : (t : Trit) → Known t → (new : Cutting) (half : List Trit) → half ≡ set part.cube position t
+      → cubes_of new.parts.items ≡ set (cubes_of old.parts.items) place half → weight (cubes_of new.parts.items) < weight (cubes_of old.parts.items)
+  one_smaller t known new half is e =
+      subst (λ (cubes : List (List Trit)). weight cubes < weight (cubes_of old.parts.items))
+      (sym (e ∙ ap (λ (h : List Trit). set (cubes_of old.parts.items) place h) is))
+      (one_less (cubes_of old.parts.items) place part.cube position at_cube free t known)
+
+  pub both_smaller : (mid new : Cutting) (low high : List Trit) → low ≡ set part.cube position Zero → high ≡ set part.cube position One
+      → cubes_of mid.parts.items ≡ set (cubes_of old.parts.items) place low → cubes_of new.parts.items ≡ cubes_of mid.parts.items ++ high ∷ []
+      → weight (cubes_of new.parts.items) < weight (cubes_of old.parts.items)
+  both_smaller mid new low high is_low is_high before e =
+      subst (λ (cubes : List (List Trit)). weight cubes < weight (cubes_of old.parts.items))
+      (sym (e ∙ ap (λ (cubes : List (List Trit)). cubes ++ high ∷ []) before
+      ∙ ap (λ (l : List Trit). set (cubes_of old.parts.items) place l ++ high ∷ []) is_low
+      ∙ ap (λ (h : List Trit). set (cubes_of old.parts.items) place (set part.cube position Zero) ++ h ∷ []) is_high))
+      (both_less (cubes_of old.parts.items) place part.cube position at_cube free)
 
 -- ---- what the shares say of each cube
 

@@ -1,5 +1,5 @@
 -- Internal: parts, and where a search would split them.
-use Rattle.std.specs.Prelude.{◌≡◌, ℕ, ◌<◌, List, map, slice_get, Some, IfSome}
+use Rattle.std.specs.Prelude.{◌≡◌, ◌<◌, List, map, slice_get, Some, IfSome}
 use Rattle.td_circuit.specs.Settings.{Setting}
 use Rattle.td_domain.specs.declared.cubes.Trit.{Trit}
 use Rattle.td_domain.specs.declared.cubes.Trit.TheVariants.{Free}

@@ -213,5 +213,6 @@ pub fn cut(
     let mut scratch = Scratch::new(alloc, circuit, pins)?;
     let mut cutting = Cutting::begin(alloc, &mut scratch, circuit, admit, strategy)?;
     cutting.halve_until(alloc, &mut scratch, circuit, admit, strategy, parts)?;
-    cubes_of(alloc, cutting.parts)
+    let cubes = cubes_of(alloc, cutting.parts)?;
+    Ok(cubes)
 }
