@@ -1,5 +1,5 @@
 -- Parts that are read from files, and joined.
-use Rattle.std.proofs.Common.{◌≡◌, ◌≢◌, ◌∙◌, ◌⊎◌, ◌++◌, ◌<◌, ◌≤◌, ◌+◌, ℕ, Bool, true, false, List, [], ◌∷◌, length, take, get_or, Option, Some, None, refl, sym, ap, subst, inl, inr, absurd}
+use Rattle.std.proofs.Common.{◌≡◌, ◌≢◌, ◌∙◌, ◌⊎◌, ◌++◌, ◌<◌, ◌≤◌, ◌+◌, ℕ, Bool, true, false, List, [], ◌∷◌, length, take, get_or, Option, Some, None, refl, sym, ap, subst, inl, inr, arith}
 use Rattle.std.specs.Prelude.{map, All, Contains}
 use Rattle.std.specs.List.{AllZip, flat_map}
 use Rattle.std.specs.Borrow.{Bor}
@@ -88,7 +88,7 @@ module _ (disk : Disk) (text : List ℕ) (default : Delay) (netlist : Netlist) (
 
   -- parts have texts
   pub parts_spelled : (names : List (List ℕ)) (parts : List Certificate) → AreParts disk text default netlist check names parts → All HasSpelling parts
-  parts_spelled [] [] all = λ k d less. absurd (omega less)
+  parts_spelled [] [] all = λ k d less. absurd (omega (arith, less))
   parts_spelled [] (p ∷ parts) all = absurd all
   parts_spelled (n ∷ names) [] all = absurd all
   parts_spelled (n ∷ names) (p ∷ parts) all =

@@ -33,7 +33,7 @@ fn unread<'a>(name: &'a str, fault: CertFault) -> Refusal<'a>
 /// The certificate that a file's bytes spell.
 fn read_part<'a>(alloc: Global, name: &'a str, bytes: &[u8]) -> Result<Certificate, Refusal<'a>>
     ensures spelled { IfOk result (λ part. Spells part bytes.now) }
-    ensures refusal { (text : List ℕ) (default : Default) (netlist : Netlist) → IfErr result (TellsNoPart text default netlist name.now bytes.now) }
+    ensures refusal { IfErr result (λ reason. (text : List ℕ) (default : Default) (netlist : Netlist) → TellsNoPart text default netlist name.now bytes.now reason) }
 {
     match read(alloc, bytes) {
         Ok(part) => Ok(part),
@@ -63,7 +63,7 @@ fn accepted_part<'a>(
 ) -> Result<Certificate, Refusal<'a>>
     ensures spelled { IfOk result (λ part. Spells part bytes.now) }
     ensures accepted { IfOk result (λ part. HaveVerdict text.now default bytes.now Told.Accepted) }
-    ensures refusal { (netlist : Netlist) → IfErr result (TellsNoPart text.now default netlist name.now bytes.now) }
+    ensures refusal { IfErr result (λ reason. (netlist : Netlist) → TellsNoPart text.now default netlist name.now bytes.now reason) }
 {
     let checked = match check(alloc, text, default, bytes) {
         Ok(checked) => checked,
@@ -86,7 +86,7 @@ fn judged_part<'a>(
 ) -> Result<Certificate, Refusal<'a>>
     ensures spelled { IfOk result (λ part. Spells part bytes.now) }
     ensures accepted { IfOk result (λ part. is_checked ≡ true → HaveVerdict text.now default bytes.now Told.Accepted) }
-    ensures refusal { (netlist : Netlist) → IfErr result (TellsNoPart text.now default netlist name.now bytes.now) }
+    ensures refusal { IfErr result (λ reason. (netlist : Netlist) → TellsNoPart text.now default netlist name.now bytes.now reason) }
 {
     if is_checked {
         accepted_part(alloc, text, default, name, bytes)

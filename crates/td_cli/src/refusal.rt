@@ -2,7 +2,7 @@
 
 ghost use Rattle.std.specs.Prelude.{◌≡◌, ◌++◌, OnOk};
 ghost use Rattle.td_cli.specs.CheckReports.{refusing_text};
-ghost use Rattle.td_cli.specs.Refusals.{vector_word, number_and_name, fault_text, certificate_fault_text, unreadable_text, one_file_text, bad_part_text, unaccepted_text, other_circuit_text, reason_text, refusal_text};
+ghost use Rattle.td_cli.specs.Refusals.{vector_word, number_and_name, fault_text, certificate_fault_text, unreadable_text, one_file_text, loop_text, certificate_text, bad_vector_text, too_long_text, bad_part_text, unaccepted_text, other_circuit_text, reason_text, refusal_text};
 ghost use Rattle.td_nets.specs.Views.{name_of};
 ghost use Rattle.td_cli.specs.Ends.{status_of};
 
@@ -107,34 +107,57 @@ impl<'a> Refusal<'a> {
         ensures { OnOk result (text.new ≡ text.old ++ reason_text self.now) }
     {
         match self {
-            Refusal::OutOfMemory => text.push(b"tdelay: out of memory"),
-            Refusal::Unreadable(name) => tell_unreadable(text, name),
+            Refusal::OutOfMemory => text.push(b"tdelay: out of memory")?,
+            Refusal::Unreadable(name) => tell_unreadable(text, name)?,
             Refusal::Netlist(fault) => {
                 text.push(b"tdelay: netlist fault ")?;
-                tell_fault(text, *fault)
+                tell_fault(text, *fault)?;
             }
-            Refusal::Loop(name) => {
-                text.push(b"tdelay: circuit fault 1 Loop on ")?;
-                text.name(name)
-            }
-            Refusal::Certificate(fault) => {
-                text.push(b"tdelay: certificate fault ")?;
-                tell_certificate_fault(text, *fault)
-            }
-            Refusal::BadVector(word) => {
-                text.push(b"tdelay: bad vector ")?;
-                text.push(word.word())
-            }
-            Refusal::NoOutput => text.push(b"tdelay: no output of this name"),
-            Refusal::NoPair => text.push(b"tdelay: no admitted pair"),
-            Refusal::OneFile(out, file) => tell_one_file(text, out, file),
-            Refusal::BadPart(name, fault) => tell_bad_part(text, name, *fault),
-            Refusal::Unaccepted(name, verdict) => tell_unaccepted(text, name, *verdict),
-            Refusal::OtherCircuit(name) => tell_other_circuit(text, name),
-            Refusal::NotJoined(fault, one, other) => tell_unjoined(text, fault, one, other),
-            Refusal::TooLong => text.push(b"tdelay: too many nodes"),
+            Refusal::Loop(name) => tell_loop(text, name)?,
+            Refusal::Certificate(fault) => tell_certificate(text, *fault)?,
+            Refusal::BadVector(word) => tell_bad_vector(text, *word)?,
+            Refusal::NoOutput => text.push(b"tdelay: no output of this name")?,
+            Refusal::NoPair => text.push(b"tdelay: no admitted pair")?,
+            Refusal::OneFile(out, file) => tell_one_file(text, out, file)?,
+            Refusal::BadPart(name, fault) => tell_bad_part(text, name, *fault)?,
+            Refusal::Unaccepted(name, verdict) => tell_unaccepted(text, name, *verdict)?,
+            Refusal::OtherCircuit(name) => tell_other_circuit(text, name)?,
+            Refusal::NotJoined(fault, one, other) => tell_unjoined(text, fault, one, other)?,
+            Refusal::TooLong => tell_too_long(text)?,
         }
+        Ok(())
     }
+}
+
+/// Appends the line, but for its end, that tells a net on a loop.
+fn tell_loop(text: &mut Text, name: &td_netlist::Name) -> Result<(), AllocError>
+    ensures { OnOk result (text.new ≡ text.old ++ loop_text (name_of name.now)) }
+{
+    text.push(b"tdelay: circuit fault 1 Loop on ")?;
+    text.name(name)
+}
+
+/// Appends the line, but for its end, that tells a fault of a certificate's text.
+fn tell_certificate(text: &mut Text, fault: CertFault) -> Result<(), AllocError>
+    ensures { OnOk result (text.new ≡ text.old ++ certificate_text fault) }
+{
+    text.push(b"tdelay: certificate fault ")?;
+    tell_certificate_fault(text, fault)
+}
+
+/// Appends the line, but for its end, that tells a word that gives nothing.
+fn tell_bad_vector(text: &mut Text, word: VectorWord) -> Result<(), AllocError>
+    ensures { OnOk result (text.new ≡ text.old ++ bad_vector_text word) }
+{
+    text.push(b"tdelay: bad vector ")?;
+    text.push(word.word())
+}
+
+/// Appends the line, but for its end, that tells a whole with too many nodes.
+fn tell_too_long(text: &mut Text) -> Result<(), AllocError>
+    ensures { OnOk result (text.new ≡ text.old ++ too_long_text) }
+{
+    text.push(b"tdelay: too many nodes")
 }
 
 /// Appends the line, but for its end, that tells a fault of a part's text.
