@@ -24,7 +24,7 @@ use Rattle.td_cli.specs.declared.refusal.Refusal.{Refusal}
 use Rattle.td_cli.specs.declared.refusal.Refusal.TheVariants as refusal
 use Rattle.td_cli.specs.Disks.{Disk, HoldsOnFile}
 use Rattle.td_cli.specs.Outcomes.{IsCircuitOf, HasNoCircuit, IsRefusedFor}
-use Rattle.td_cli.specs.JoinReports.{TellsPart, TellsNoPart, GivesPart, AreParts, HasNoPart, IsUnjoinedFor, HasNoJoin, pin_words}
+use Rattle.td_cli.specs.JoinReports.{TellsPart, TellsNoPart, GivesPart, AreParts, HasNoPart, ArePinned, whole_pins, IsToJoin, IsUnjoinedFor, pin_words}
 use Rattle.td_cli.specs.Parts.{IsOfPart, unjudged, IsOfUnjoined}
 
 -- ---- lists
@@ -101,6 +101,19 @@ pub no_part : (disk : Disk) (text : List ℕ) (default : Delay) (netlist : Netli
 no_part disk text default netlist words i d reason less holds = ((get_or words i d).now, contains_word words i d less, holds)
 
 -- ---- what is joined
+
+-- what is to be joined
+pub to_join : (disk : Disk) (text : List ℕ) (default : Delay) (names : List (List ℕ)) (check : Bool) (first second : Option (List ℕ)) (circuit : Numbered)
+    (count : ℕ) (parts : List Certificate) (given : Option (List Trit)) → IsCircuitOf text default circuit → count ≡ length circuit.netlist.inputs
+    → AreParts disk text default circuit.netlist check names parts → ArePinned count first second given
+    → IsToJoin disk text default names check first second circuit.netlist parts (whole_pins given parts)
+to_join disk text default names check first second circuit count parts given is counts are pinned = record {
+  circuit = record { means = is.means; acyclic = is.acyclic };
+  are_parts = are;
+  given = given;
+  pinned = subst (λ (inputs : ℕ). ArePinned inputs first second given) counts pinned;
+  pins_are = refl;
+}
 
 pub not_joined : (names : List (List ℕ)) (parts : List Certificate) (pins : List Trit) (fault : JoinFault) (reason : Refusal)
     → IsJoinFault parts pins fault → IsOfUnjoined names fault reason → reason ≢ refusal.OutOfMemory → IsUnjoinedFor names parts pins reason
