@@ -1,6 +1,7 @@
 -- The leaves that are left hold each pair with a greater delay than was found, after a leaf was closed or split.
 use Rattle.std.proofs.Common.{◌≡◌, ℕ, zero, suc, ◌+◌, ◌<◌, ◌≤◌, ◌⊎◌, max, List, [], ◌∷◌, ◌++◌, map, take, drop, refl, sym, ap, subst, ◌∙◌, inl, inr, ⊎_elim, arith}
 use Rattle.std.specs.Prelude.{slice_get, Some}
+use Rattle.std.specs.List.{AllByRecursion}
 use Rattle.td_domain.specs.declared.cubes.Trit.{Trit}
 use Rattle.td_domain.specs.declared.cubes.Trit.TheVariants.{Free}
 use Rattle.td_domain.specs.Pairs.{Pair}
@@ -14,50 +15,26 @@ use Rattle.td_search.specs.declared.findings.Finding.TheVariants.{Closed, Split}
 use Rattle.td_search.specs.Findings.{IsTrueOf, AreTrue}
 use Rattle.td_search.specs.Problems.{Problem, has_delay, IsAbove}
 use Rattle.td_pool.specs.declared.leaf.OpenLeaf.{OpenLeaf}
-use Rattle.td_pool.specs.Frontiers.{IsLeft, IsCover, IsSplit, IsSettled, leaf_of, bounds_of}
+use Rattle.td_pool.specs.Frontiers.{IsWithin, IsCover, IsSplit, IsSettled, leaf_of, bounds_of}
 
--- the pair lies in this leaf, whose bound is no less than the delay
-abbrev LiesIn : Pair → ℕ → OpenLeaf → Type 0
-LiesIn pair delay leaf = IsIn pair leaf.cube × (delay ≤ leaf.bound)
+module _ {X : Type 0} (P : X → Type 0) where
+  all_behind : (xs : List X) (y : X) → AllByRecursion P xs → P y → AllByRecursion P (xs ++ y ∷ [])
+  all_behind [] y h p = (p, tt)
+  all_behind (x ∷ xs) y h p = (h.0, all_behind xs y h.1 p)
 
-module _ (pair : Pair) (delay : ℕ) where
-  left_front : (xs ys : List OpenLeaf) → IsLeft pair delay xs → IsLeft pair delay (xs ++ ys)
-  left_front [] ys h = absurd h
-  left_front (x ∷ xs) ys h = ⊎_elim (λ (a : LiesIn pair delay x). inl a) (λ (b : IsLeft pair delay xs). inr (left_front xs ys b)) h
+  all_before : (xs : List X) (y : X) → AllByRecursion P (xs ++ y ∷ []) → AllByRecursion P xs
+  all_before [] y h = tt
+  all_before (x ∷ xs) y h = (h.0, all_before xs y h.1)
 
-  left_last : (xs : List OpenLeaf) (y : OpenLeaf) → LiesIn pair delay y → IsLeft pair delay (xs ++ y ∷ [])
-  left_last [] y h = inl h
-  left_last (x ∷ xs) y h = inr (left_last xs y h)
+  all_last : (xs : List X) (y : X) → AllByRecursion P (xs ++ y ∷ []) → P y
+  all_last [] y h = h.0
+  all_last (x ∷ xs) y h = all_last xs y h.1
 
-  left_cases : (xs : List OpenLeaf) (y : OpenLeaf) → IsLeft pair delay (xs ++ y ∷ []) → IsLeft pair delay xs ⊎ LiesIn pair delay y
-  left_cases [] y h = ⊎_elim (λ (a : LiesIn pair delay y). inr a) (λ (none : ⊥). absurd none) h
-  left_cases (x ∷ xs) y h = ⊎_elim
-      (λ (a : LiesIn pair delay x). inl (inl a))
-      (λ (b : IsLeft pair delay (xs ++ y ∷ [])). ⊎_elim
-      (λ (c : IsLeft pair delay xs). inl (inr c))
-      (λ (d : LiesIn pair delay y). inr d)
-      (left_cases xs y b))
-      h
-
-  left_moved : (xs : List OpenLeaf) (k : ℕ) (y : OpenLeaf) → slice_get xs k ≡ Some y → IsLeft pair delay xs
-      → IsLeft pair delay ((take k xs ++ drop (suc k) xs) ++ y ∷ [])
-  left_moved [] k y at h = absurd h
-  left_moved (x ∷ xs) zero y at h =
-      let same : x ≡ y = cc in ⊎_elim
-      (λ (a : LiesIn pair delay x). left_last xs y (subst (LiesIn pair delay) same a))
-      (λ (b : IsLeft pair delay xs). left_front xs (y ∷ []) b)
-      h
-  left_moved (x ∷ xs) (suc k) y at h = ⊎_elim
-      (λ (a : LiesIn pair delay x). inl a)
-      (λ (b : IsLeft pair delay xs). inr (left_moved xs k y at b))
-      h
-
-  left_within : (closed : ℕ) (xs : List OpenLeaf) → IsLeft pair delay xs → delay ≤ greatest_of closed (bounds_of xs)
-  left_within closed [] h = absurd h
-  left_within closed (x ∷ xs) h = ⊎_elim
-      (λ (a : LiesIn pair delay x). let e = a.1 in omega arith)
-      (λ (b : IsLeft pair delay xs). let e = left_within closed xs b in omega arith)
-      h
+  all_moved : (xs : List X) (k : ℕ) (y : X) → slice_get xs k ≡ Some y → AllByRecursion P ((take k xs ++ drop (suc k) xs) ++ y ∷ []) → AllByRecursion P xs
+  all_moved [] k y at h = tt
+  all_moved (x ∷ xs) zero y at h =
+      let same : y ≡ x = cc in (subst P same (all_last xs y h), all_before xs y h)
+  all_moved (x ∷ xs) (suc k) y at h = (h.0, all_moved xs k y at h.1)
 
 -- a greater figure to begin with
 pub greatest_max : (low bound : ℕ) (others : List ℕ) → greatest_of (max low bound) others ≡ max bound (greatest_of low others)
@@ -68,50 +45,77 @@ closed_within : (closed : ℕ) (xs : List ℕ) → closed ≤ greatest_of closed
 closed_within closed [] = omega arith
 closed_within closed (x ∷ xs) = let e = closed_within closed xs in omega arith
 
+more_within : (pair : Pair) (top more : ℕ) (leaves : List OpenLeaf) → top ≤ more → AllByRecursion (IsWithin pair top) leaves → AllByRecursion (IsWithin pair more) leaves
+more_within pair top more [] le h = tt
+more_within pair top more (x ∷ leaves) le h = ((λ is_in. let e = h.0 is_in in omega arith), more_within pair top more leaves le h.1)
+
+all_within : (pair : Pair) (closed : ℕ) (leaves : List OpenLeaf) → AllByRecursion (IsWithin pair (greatest_of closed (bounds_of leaves))) leaves
+all_within pair closed [] = tt
+all_within pair closed (x ∷ leaves) =
+    ((λ is_in. omega arith), more_within pair (greatest_of closed (bounds_of leaves)) (greatest_of closed (bounds_of (x ∷ leaves))) leaves (omega arith) (all_within pair closed leaves))
+
+either : (m n : ℕ) → (m ≤ n) ⊎ (n < m)
+either zero n = inl (omega arith)
+either (suc m) zero = inr (omega arith)
+either (suc m) (suc n) = ⊎_elim (λ (a : m ≤ n). inl (omega arith)) (λ (b : n < m). inr (omega arith)) (either m n)
+
 module _ (asked : Problem) (closed : ℕ) where
+  -- the one leaf is that of the pins
+  pub cover_begins : (leaf : OpenLeaf) → leaf.cube ≡ asked.admit.pins → IsAbove asked asked.admit.pins leaf.bound → IsCover asked closed (leaf ∷ [])
+  cover_begins leaf whole above pair delay top is low all =
+      let within = above pair delay is.0.pinned is in
+      let here = all.0 (subst (IsIn pair) (sym whole) is.0.pinned) in omega arith
+
+  -- nothing is left above this
+  pub cover_none : IsAbove asked asked.admit.pins closed → IsCover asked closed []
+  cover_none above pair delay top is low all = let within = above pair delay is.0.pinned is in omega arith
+
   -- a leaf is the last one
   pub cover_moved : (leaves : List OpenLeaf) (k : ℕ) (leaf : OpenLeaf) → slice_get leaves k ≡ Some leaf → IsCover asked closed leaves
       → IsCover asked closed ((take k leaves ++ drop (k + 1) leaves) ++ leaf ∷ [])
-  cover_moved leaves k leaf at cover =
-      let next : suc k ≡ k + 1 = omega arith in
-      record { left = λ pair delay is more.
-          subst (λ (n : ℕ). IsLeft pair delay ((take k leaves ++ drop n leaves) ++ leaf ∷ [])) next (left_moved pair delay leaves k leaf at (cover.left pair delay is more)) }
+  cover_moved leaves k leaf at cover pair delay top is low all =
+      let next : k + 1 ≡ suc k = omega arith in
+      cover pair delay top is low (all_moved (IsWithin pair top) leaves k leaf at
+      (subst (λ (n : ℕ). AllByRecursion (IsWithin pair top) ((take k leaves ++ drop n leaves) ++ leaf ∷ [])) next all))
+
+  -- a pair of the last leaf has no delay above a figure that is no less than a bound of it
+  last_within : (leaf : OpenLeaf) (pair : Pair) (delay top : ℕ) → top < delay → (IsIn pair leaf.cube → delay ≤ top) → IsWithin pair top leaf
+  last_within leaf pair delay top more within is_in = absurd (let e = within is_in in omega arith)
 
   -- the last leaf is closed with a bound of its cube
   pub cover_closed : (rest : List OpenLeaf) (leaf : OpenLeaf) (bound : ℕ) → IsAbove asked leaf.cube bound → IsCover asked closed (rest ++ leaf ∷ [])
       → IsCover asked (max closed bound) rest
-  cover_closed rest leaf bound above cover = record { left = λ pair delay is more. ⊎_elim
-      (λ (a : IsLeft pair delay rest). a)
-      (λ (b : LiesIn pair delay leaf). let within = above pair delay b.0 is in absurd (omega arith))
-      (left_cases pair delay rest leaf (cover.left pair delay is (omega arith))) }
+  cover_closed rest leaf bound above cover pair delay top is low all = ⊎_elim
+      (λ (a : delay ≤ top). a)
+      (λ (b : top < delay). cover pair delay top is (omega arith) (all_behind (IsWithin pair top) rest leaf all
+      (last_within leaf pair delay top b (λ is_in. let e = above pair delay is_in is in omega arith))))
+      (either delay top)
 
   -- the last leaf is split
   pub cover_split : (rest : List OpenLeaf) (leaf : OpenLeaf) (position bound : ℕ) (leaves : List OpenLeaf) → slice_get leaf.cube position ≡ Some Free
       → IsAbove asked leaf.cube bound → IsSplit rest leaf position bound leaves → IsCover asked closed (rest ++ leaf ∷ []) → IsCover asked closed leaves
-  cover_split rest leaf position bound leaves free above split cover =
+  cover_split rest leaf position bound leaves free above split cover pair delay top is low all =
       let zero_leaf : OpenLeaf = leaf_of split.0 (zero_side leaf.cube position) bound in
       let one_leaf : OpenLeaf = leaf_of split.1 (one_side leaf.cube position) bound in
-      subst (IsCover asked closed) (sym split.2) (record { left = λ pair delay is more. ⊎_elim
-      (λ (a : IsLeft pair delay rest). left_front pair delay (rest ++ one_leaf ∷ []) (zero_leaf ∷ []) (left_front pair delay rest (one_leaf ∷ []) a))
-      (λ (b : LiesIn pair delay leaf).
-          let within = above pair delay b.0 is in
-          elim (side leaf.cube position pair.first pair.second free b.0) [
-            | low here ↦ left_last pair delay (rest ++ one_leaf ∷ []) zero_leaf (here, within)
-            | high here ↦ left_front pair delay (rest ++ one_leaf ∷ []) (zero_leaf ∷ []) (left_last pair delay rest one_leaf (here, within))
-          ])
-      (left_cases pair delay rest leaf (cover.left pair delay is more)) })
+      let both : AllByRecursion (IsWithin pair top) ((rest ++ one_leaf ∷ []) ++ zero_leaf ∷ []) = subst (AllByRecursion (IsWithin pair top)) split.2 all in
+      let most = all_before (IsWithin pair top) (rest ++ one_leaf ∷ []) zero_leaf both in
+      let zero_within : IsIn pair (zero_side leaf.cube position) → bound ≤ top = all_last (IsWithin pair top) (rest ++ one_leaf ∷ []) zero_leaf both in
+      let one_within : IsIn pair (one_side leaf.cube position) → bound ≤ top = all_last (IsWithin pair top) rest one_leaf most in
+      ⊎_elim
+      (λ (a : delay ≤ top). a)
+      (λ (b : top < delay). cover pair delay top is low (all_behind (IsWithin pair top) rest leaf (all_before (IsWithin pair top) rest one_leaf most)
+      (last_within leaf pair delay top b (λ is_in.
+          let within = above pair delay is_in is in
+          elim (side leaf.cube position pair.first pair.second free is_in) [
+            | low here ↦ let e = zero_within here in omega arith
+            | high here ↦ let e = one_within here in omega arith
+          ]))))
+      (either delay top)
 
   -- no admitted pair's delay is above the greatest of what is left and of what was closed
   pub cover_within : (leaves : List OpenLeaf) → IsCover asked closed leaves → IsUpperBound asked.setting asked.admit (greatest_of closed (bounds_of leaves))
-  cover_within leaves cover pair delay admitted is = ⊎_elim
-      (λ (a : delay ≤ closed). let e = closed_within closed (bounds_of leaves) in omega arith)
-      (λ (b : closed < delay). left_within pair delay closed leaves (cover.left pair delay (admitted, is) b))
-      (either delay closed)
-    where
-      either : (m n : ℕ) → (m ≤ n) ⊎ (n < m)
-      either zero n = inl (omega arith)
-      either (suc m) zero = inr (omega arith)
-      either (suc m) (suc n) = ⊎_elim (λ (a : m ≤ n). inl (omega arith)) (λ (b : n < m). inr (omega arith)) (either m n)
+  cover_within leaves cover pair delay admitted is =
+      cover pair delay (greatest_of closed (bounds_of leaves)) (admitted, is) (closed_within closed (bounds_of leaves)) (all_within pair closed leaves)
 
 -- ---- a walk over what was found
 

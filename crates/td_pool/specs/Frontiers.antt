@@ -1,5 +1,6 @@
 -- The leaves that are left of a search, with their bounds.
-use Rattle.std.specs.Prelude.{◌≡◌, ℕ, ◌<◌, ◌≤◌, ◌⊎◌, List, [], ◌∷◌, ◌++◌, map}
+use Rattle.std.specs.Prelude.{◌≡◌, ℕ, ◌≤◌, List, [], ◌∷◌, ◌++◌, map}
+use Rattle.std.specs.List.{AllByRecursion}
 use Rattle.td_domain.specs.declared.cubes.Trit.{Trit}
 use Rattle.td_certificate.specs.Cubes.{zero_side, one_side}
 use Rattle.td_domain.specs.Pairs.{Pair}
@@ -9,14 +10,14 @@ use Rattle.td_search.specs.declared.findings.Finding.TheVariants.{Closed, Split}
 use Rattle.td_search.specs.Problems.{Problem, has_delay}
 use Rattle.td_pool.specs.declared.leaf.OpenLeaf.{OpenLeaf}
 
--- the pair lies in one of these leaves, whose bound is no less than this delay
-abbrev pub IsLeft : Pair → ℕ → List OpenLeaf → Type 0
-IsLeft pair delay [] = ⊥
-IsLeft pair delay (leaf ∷ leaves) = (IsIn pair leaf.cube × (delay ≤ leaf.bound)) ⊎ IsLeft pair delay leaves
+-- the bound of the leaf is no greater than this figure, if the pair lies in it
+abbrev pub IsWithin : Pair → ℕ → OpenLeaf → Type 0
+IsWithin pair top leaf = IsIn pair leaf.cube → leaf.bound ≤ top
 
--- each admitted pair whose delay is above `closed` lies in one of these leaves, whose bound is no less
-pub record IsCover (asked : Problem) (closed : ℕ) (leaves : List OpenLeaf) : Type 0 where
-  pub left : (pair : Pair) (delay : ℕ) → has_delay asked pair delay → closed < delay → IsLeft pair delay leaves
+-- A pair's delay is no greater than `closed` or than the bound of a leaf in which the pair lies: a figure that is no less than these is
+-- no less than the delay.
+abbrev pub IsCover : Problem → ℕ → List OpenLeaf → Type 0
+IsCover asked closed leaves = (pair : Pair) (delay top : ℕ) → has_delay asked pair delay → closed ≤ top → AllByRecursion (IsWithin pair top) leaves → delay ≤ top
 
 -- a leaf with this cube
 abbrev pub leaf_of : ℕ → List Trit → ℕ → OpenLeaf

@@ -1,15 +1,14 @@
 -- What a watch is told of a search.
-use Rattle.std.specs.Prelude.{ℕ}
-use Rattle.td_domain.specs.Pairs.{Pair}
-use Rattle.td_domain.specs.Worst.{IsUpperBound}
-use Rattle.td_search.specs.Problems.{Problem, has_delay}
+use Rattle.std.specs.Prelude.{ℕ, ◌≤◌}
+use Rattle.td_domain.specs.Worst.{IsUpperBound, IsWorst}
+use Rattle.td_search.specs.Problems.{Problem}
 use Rattle.td_pool.specs.declared.watch.Progress.{Progress}
 
--- an admitted pair has this delay
-abbrev pub IsFound : Problem → ℕ → Type 0
-IsFound asked delay = (pair : Pair) × has_delay asked pair delay
+-- the worst delay is no less
+abbrev pub IsLowerBound : Problem → ℕ → Type 0
+IsLowerBound asked low = (worst : ℕ) → IsWorst asked.setting asked.admit worst → low ≤ worst
 
--- an admitted pair has the lower delay, and none has one above the upper figure
+-- the worst delay is no less than the lower figure, and no admitted pair has a delay above the upper one
 pub record IsTrueProgress (asked : Problem) (progress : Progress) : Type 0 where
-  pub found : IsFound asked progress.low
+  pub least : IsLowerBound asked progress.low
   pub greatest : IsUpperBound asked.setting asked.admit progress.high

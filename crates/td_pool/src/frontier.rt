@@ -9,7 +9,7 @@ ghost use Rattle.td_search.specs.Problems.{problem_by, IsAbove};
 ghost use Rattle.td_pool.specs.declared.leaf.OpenLeaf.{OpenLeaf};
 ghost use Rattle.td_pool.specs.Frontiers.{IsCover, IsSplit, IsSettled, bounds_of};
 ghost use Rattle.td_pool.specs.Truth.{IsRoot};
-ghost use Rattle.td_pool.specs.Watched.{IsFound};
+ghost use Rattle.td_pool.specs.Watched.{IsLowerBound};
 
 use crate::leaf::OpenLeaf;
 use crate::root::Root;
@@ -25,9 +25,9 @@ use td_search::{Evidence, Finding, Strategy};
 #[derive(Drop)]
 pub struct Frontier<L: Subject> {
     alloc: Global,
-    // An admitted pair has this delay.
+    // The worst delay is no less,
     low: u64,
-    // None has a greater one.
+    // nor is it greater than this.
     high: u64,
     // The greatest bound of a leaf that was closed.
     closed: u64,
@@ -35,7 +35,7 @@ pub struct Frontier<L: Subject> {
     // The number of the next node.
     next: u32,
     asked: PhantomData<L>,
-    ghost found: { IsFound L.asked low },
+    ghost least: { IsLowerBound L.asked low },
     ghost greatest: { IsUpperBound L.asked.setting L.asked.admit high },
     ghost cover: { IsCover L.asked closed leaves.items },
 }
@@ -162,9 +162,9 @@ impl<L: Subject> Frontier<L> {
         }
     }
 
-    /// A delay of an admitted pair, the greatest that was told.
+    /// The greatest delay that was found of an admitted pair.
     pub fn low(&self) -> u64
-        ensures { IsFound L.asked result }
+        ensures { IsLowerBound L.asked result }
     {
         self.low
     }
@@ -190,9 +190,9 @@ impl<L: Subject> Frontier<L> {
         self.high = self.high.min(high);
     }
 
-    /// An admitted pair has this delay.
+    /// The worst delay is no less than this.
     pub fn reach(&mut self, delay: u64)
-        requires { IsFound L.asked delay }
+        requires { IsLowerBound L.asked delay }
     {
         self.low = self.low.max(delay);
     }

@@ -1,6 +1,6 @@
 //! At how many nodes a watch is told how far a search has come.
 
-ghost use Rattle.std.specs.Prelude.{◌<◌};
+ghost use Rattle.std.specs.Prelude.{◌+◌, ◌<◌};
 
 /// The milestones up to the greatest budget.
 const MILESTONES: [u64; 13] = [

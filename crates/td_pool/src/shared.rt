@@ -5,7 +5,7 @@ ghost use Rattle.td_search.specs.Findings.{IsTrueEvidence};
 ghost use Rattle.td_search.specs.Problems.{problem, problem_by};
 ghost use Rattle.td_pool.specs.Truth.{IsWithin, IsBelow};
 ghost use Rattle.td_pool.specs.Turning.{IsPinned, IsTurn};
-ghost use Rattle.td_pool.specs.Watched.{IsFound, IsTrueProgress};
+ghost use Rattle.td_pool.specs.Watched.{IsLowerBound, IsTrueProgress};
 
 use crate::hints::Hints;
 use crate::standing::Standing;
@@ -181,7 +181,7 @@ impl<L: Subject> Shared<L> {
         requires few { length subtree.states ≤ lease.allowance }
         requires part { 0 < mine.old.parts }
         requires evidence { IsTrueEvidence (problem_by strategy circuit.now admit.now) evidence.now }
-        requires best { IsFound (problem_by strategy circuit.now admit.now) best }
+        requires best { IsLowerBound (problem_by strategy circuit.now admit.now) best }
         ensures { mine.new.parts ≡ mine.old.parts }
     {
         let mut standing = self.standing.lock(rt);

@@ -3,7 +3,7 @@
 ghost use Rattle.std.specs.Prelude.{◌≡◌, ◌<◌, ◌≤◌, length, IfSome};
 ghost use Rattle.td_search.specs.Findings.{IsTrueEvidence};
 ghost use Rattle.td_search.specs.Problems.{problem_by};
-ghost use Rattle.td_pool.specs.Watched.{IsFound, IsTrueProgress};
+ghost use Rattle.td_pool.specs.Watched.{IsLowerBound, IsTrueProgress};
 
 use crate::frontier::Frontier;
 use crate::subject::Subject;
@@ -57,7 +57,7 @@ impl<L: Subject> Standing<L> {
         requires few { length subtree.states ≤ lease.allowance }
         requires part { 0 < mine.old.parts }
         requires evidence { IsTrueEvidence (problem_by strategy circuit.now admit.now) evidence.now }
-        requires best { IsFound (problem_by strategy circuit.now admit.now) best }
+        requires best { IsLowerBound (problem_by strategy circuit.now admit.now) best }
         ensures { mine.new.parts ≡ mine.old.parts }
     {
         self.frontier.reach(best);

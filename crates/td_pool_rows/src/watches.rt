@@ -41,7 +41,7 @@ impl Watch for Keeping {
 
 /// A watched search of all pairs: its times in words, its nodes, and what was told of it.
 #[derive(Drop)]
-struct Watched {
+struct Seen {
     times: String,
     nodes: u64,
     told: Vec<Progress>,
@@ -55,7 +55,7 @@ fn watched<R: Threads + Wait + Sync + Abort>(
     strategy: Strategy,
     workers: u32,
     budget: u64,
-) -> Result<Watched, Fail> {
+) -> Result<Seen, Fail> {
     let admit = all_of(rt, alloc, circuit)?;
     assert!(rt; 0 < workers && workers <= 64);
     assert!(rt; budget <= 10_000_000);
@@ -81,7 +81,7 @@ fn watched<R: Threads + Wait + Sync + Abort>(
     };
     let Keeping { told, lost } = keeping;
     assert!(rt; !lost);
-    Ok(Watched {
+    Ok(Seen {
         times: answer.times,
         nodes: answer.nodes,
         told,
@@ -177,7 +177,7 @@ fn check_led<R: Threads + Wait + Sync + Abort>(
     gates: &str,
 ) -> Result<(), Fail> {
     let circuit = circuit_of(alloc, inputs, gates)?;
-    for budget in 0..12 {
+    for budget in [0, 3, 1_000_000] {
         let seen = watched(rt, alloc, &circuit, Strategy::Lead, 1, budget)?;
         let wanted = led(rt, alloc, &circuit, budget)?;
         assert_eq!(rt; seen.times, wanted.times);
@@ -190,7 +190,6 @@ fn check_led<R: Threads + Wait + Sync + Abort>(
 #[test]
 fn lead_is_as_unwatched(rt: HostRuntime) -> Result<(), Fail> {
     let alloc = rt.alloc();
-    check_led(&rt, alloc, "a, b", RECONVERGENT)?;
     check_led(&rt, alloc, "a, b", SLOW_ARM)?;
     check_led(&rt, alloc, "a, b, c, d", NEVER_AS_LATE)
 }
