@@ -1,7 +1,8 @@
 -- The leaves that are left hold each pair with a greater delay than was found, after a leaf was closed or split.
-use Rattle.std.proofs.Common.{◌≡◌, ℕ, zero, suc, ◌+◌, ◌<◌, ◌≤◌, ◌⊎◌, max, List, [], ◌∷◌, ◌++◌, map, take, drop, refl, sym, ap, subst, ◌∙◌, inl, inr, ⊎_elim, arith}
+use Rattle.std.proofs.Common.{◌≡◌, ℕ, zero, suc, ◌+◌, ◌<◌, ◌≤◌, ◌⊎◌, max, List, [], ◌∷◌, ◌++◌, length, map, take, drop, get_or, refl, sym, ap, subst, ◌∙◌, inl, inr, ⊎_elim, arith}
 use Rattle.std.specs.Prelude.{slice_get, Some}
 use Rattle.std.specs.List.{AllByRecursion}
+use Rattle.std.proofs.lemmas.Option.{slice_get-get_or}
 use Rattle.td_domain.specs.declared.cubes.Trit.{Trit}
 use Rattle.td_domain.specs.declared.cubes.Trit.TheVariants.{Free}
 use Rattle.td_domain.specs.Pairs.{Pair}
@@ -179,3 +180,20 @@ same_ends (z ∷ xs) (w ∷ ys) x y e =
     let rest = same_ends xs ys x y behind in
     let all : z ∷ xs ≡ w ∷ ys = λ k. first k ∷ rest.0 k in
     (all, rest.1)
+
+-- the next of what was found, where a walk has come to it
+drop_step : (findings : List Finding) (i : ℕ) (f : Finding) → slice_get findings i ≡ Some f → drop i findings ≡ f ∷ drop (suc i) findings
+drop_step [] i f is = cc
+drop_step (g ∷ findings) zero f is = let same : g ≡ f = cc in ap (λ (h : Finding). h ∷ findings) same
+drop_step (g ∷ findings) (suc i) f is = drop_step findings i f is
+
+pub walk_next : (asked : Problem) (leaves : List OpenLeaf) (findings : List Finding) (i : ℕ) (f : Finding) → slice_get findings i ≡ Some f
+    → IsWalk asked leaves (drop i findings) → IsAt asked leaves f (drop (i + 1) findings)
+walk_next asked leaves findings i f is walk =
+    let next : suc i ≡ i + 1 = omega arith in
+    subst (λ (n : ℕ). IsAt asked leaves f (drop n findings)) next
+    (walk_at asked leaves f (drop (suc i) findings) (subst (IsWalk asked leaves) (drop_step findings i f is) walk))
+
+-- the element of a list at a place that was read
+pub read_at : {X : Type 0} (xs : List X) (k : ℕ) (x : X) → k < length xs → x ≡ get_or xs k x → slice_get xs k ≡ Some x
+read_at xs k x low is = slice_get-get_or xs k x low ∙ ap Some (sym is)
