@@ -1,6 +1,6 @@
 -- The leaves that are left hold each pair with a greater delay than was found, after a leaf was closed or split.
 use Rattle.std.proofs.Common.{◌≡◌, ℕ, zero, suc, ◌+◌, ◌<◌, ◌≤◌, ◌⊎◌, max, List, [], ◌∷◌, ◌++◌, length, map, take, drop, get_or, refl, sym, ap, subst, ◌∙◌, inl, inr, ⊎_elim, arith}
-use Rattle.std.specs.Prelude.{slice_get, Some}
+use Rattle.std.specs.Prelude.{slice_get, Some, Result, Ok, Err, OnOk, OnErr}
 use Rattle.std.specs.List.{AllByRecursion}
 use Rattle.std.proofs.lemmas.Option.{slice_get-get_or}
 use Rattle.td_domain.specs.declared.cubes.Trit.{Trit}
@@ -15,6 +15,7 @@ use Rattle.td_search.specs.declared.findings.Finding.{Finding}
 use Rattle.td_search.specs.declared.findings.Finding.TheVariants.{Closed, Split}
 use Rattle.td_search.specs.Findings.{IsTrueOf, AreTrue}
 use Rattle.td_search.specs.Problems.{Problem, has_delay, IsAbove}
+use Rattle.td_search.proofs.Found.{nothing}
 use Rattle.td_pool.specs.declared.leaf.OpenLeaf.{OpenLeaf}
 use Rattle.td_pool.specs.Frontiers.{IsWithin, IsCover, IsSplit, IsSettled, leaf_of, bounds_of}
 
@@ -38,9 +39,9 @@ module _ {X : Type 0} (P : X → Type 0) where
   all_moved (x ∷ xs) (suc k) y at h = (h.0, all_moved xs k y at h.1)
 
 -- a greater figure to begin with
-pub greatest_max : (low bound : ℕ) (others : List ℕ) → greatest_of (max low bound) others ≡ max bound (greatest_of low others)
-greatest_max low bound [] = omega arith
-greatest_max low bound (x ∷ others) = let e = greatest_max low bound others in omega arith
+pub greatest_max : (from bound : ℕ) (others : List ℕ) → greatest_of (max from bound) others ≡ max bound (greatest_of from others)
+greatest_max from bound [] = omega arith
+greatest_max from bound (x ∷ others) = let e = greatest_max from bound others in omega arith
 
 closed_within : (closed : ℕ) (xs : List ℕ) → closed ≤ greatest_of closed xs
 closed_within closed [] = omega arith
@@ -63,18 +64,18 @@ either (suc m) (suc n) = ⊎_elim (λ (a : m ≤ n). inl (omega arith)) (λ (b :
 module _ (asked : Problem) (closed : ℕ) where
   -- the one leaf is that of the pins
   pub cover_begins : (leaf : OpenLeaf) → leaf.cube ≡ asked.admit.pins → IsAbove asked asked.admit.pins leaf.bound → IsCover asked closed (leaf ∷ [])
-  cover_begins leaf whole above pair delay top is low all =
+  cover_begins leaf whole above pair delay top is least all =
       let within = above pair delay is.0.pinned is in
       let here = all.0 (subst (IsIn pair) (sym whole) is.0.pinned) in omega arith
 
   -- nothing is left above this
   pub cover_none : IsAbove asked asked.admit.pins closed → IsCover asked closed []
-  cover_none above pair delay top is low all = let within = above pair delay is.0.pinned is in omega arith
+  cover_none above pair delay top is least all = let within = above pair delay is.0.pinned is in omega arith
 
   -- a leaf is the last one
   pub cover_moved : (leaves : List OpenLeaf) (k : ℕ) (leaf : OpenLeaf) → slice_get leaves k ≡ Some leaf → IsCover asked closed leaves
       → IsCover asked closed ((take k leaves ++ drop (k + 1) leaves) ++ leaf ∷ [])
-  cover_moved leaves k leaf at cover pair delay top is low all =
+  cover_moved leaves k leaf at cover pair delay top is least all =
       let next : k + 1 ≡ suc k = omega arith in
       cover pair delay top is low (all_moved (IsWithin pair top) leaves k leaf at
       (subst (λ (n : ℕ). AllByRecursion (IsWithin pair top) ((take k leaves ++ drop n leaves) ++ leaf ∷ [])) next all))
@@ -86,7 +87,7 @@ module _ (asked : Problem) (closed : ℕ) where
   -- the last leaf is closed with a bound of its cube
   pub cover_closed : (rest : List OpenLeaf) (leaf : OpenLeaf) (bound : ℕ) → IsAbove asked leaf.cube bound → IsCover asked closed (rest ++ leaf ∷ [])
       → IsCover asked (max closed bound) rest
-  cover_closed rest leaf bound above cover pair delay top is low all = ⊎_elim
+  cover_closed rest leaf bound above cover pair delay top is least all = ⊎_elim
       (λ (a : delay ≤ top). a)
       (λ (b : top < delay). cover pair delay top is (omega arith) (all_behind (IsWithin pair top) rest leaf all
       (last_within leaf pair delay top b (λ is_in. let e = above pair delay is_in is in omega arith))))
@@ -95,7 +96,7 @@ module _ (asked : Problem) (closed : ℕ) where
   -- the last leaf is split
   pub cover_split : (rest : List OpenLeaf) (leaf : OpenLeaf) (position bound : ℕ) (leaves : List OpenLeaf) → slice_get leaf.cube position ≡ Some Free
       → IsAbove asked leaf.cube bound → IsSplit rest leaf position bound leaves → IsCover asked closed (rest ++ leaf ∷ []) → IsCover asked closed leaves
-  cover_split rest leaf position bound leaves free above split cover pair delay top is low all =
+  cover_split rest leaf position bound leaves free above split cover pair delay top is least all =
       let zero_leaf : OpenLeaf = leaf_of split.0 (zero_side leaf.cube position) bound in
       let one_leaf : OpenLeaf = leaf_of split.1 (one_side leaf.cube position) bound in
       let both : AllByRecursion (IsWithin pair top) ((rest ++ one_leaf ∷ []) ++ zero_leaf ∷ []) = subst (AllByRecursion (IsWithin pair top)) split.2 all in
@@ -112,6 +113,14 @@ module _ (asked : Problem) (closed : ℕ) where
             | high here ↦ let e = one_within here in omega arith
           ]))))
       (either delay top)
+
+  -- where memory ran out the leaves are as before
+  pub cover_halved : {X Y : Type 0} (r : Result X Y) (rest : List OpenLeaf) (leaf : OpenLeaf) (position bound : ℕ) (old new : List OpenLeaf)
+      → OnOk r ((front : List OpenLeaf) (last : OpenLeaf) → old ≡ front ++ last ∷ [] → IsSplit front last position bound new) → OnErr r (new ≡ old)
+      → old ≡ rest ++ leaf ∷ [] → slice_get leaf.cube position ≡ Some Free → IsAbove asked leaf.cube bound → IsCover asked closed old → IsCover asked closed new
+  cover_halved (Ok x) rest leaf position bound old new split same is free above cover =
+      cover_split rest leaf position bound new free above (split rest leaf is) (subst (IsCover asked closed) is cover)
+  cover_halved (Err y) rest leaf position bound old new split same is free above cover = subst (IsCover asked closed) (sym same) cover
 
   -- no admitted pair's delay is above the greatest of what is left and of what was closed
   pub cover_within : (leaves : List OpenLeaf) → IsCover asked closed leaves → IsUpperBound asked.setting asked.admit (greatest_of closed (bounds_of leaves))
@@ -196,4 +205,10 @@ walk_next asked leaves findings i f is walk =
 
 -- the element of a list at a place that was read
 pub read_at : {X : Type 0} (xs : List X) (k : ℕ) (x : X) → k < length xs → x ≡ get_or xs k x → slice_get xs k ≡ Some x
-read_at xs k x low is = slice_get-get_or xs k x low ∙ ap Some (sym is)
+read_at xs k x inside is = slice_get-get_or xs k x inside ∙ ap Some (sym is)
+
+-- a walk at a place of what was found
+pub finding_at : (asked : Problem) (leaves : List OpenLeaf) (findings : List Finding) (i : ℕ) → i < length findings → IsWalk asked leaves (drop i findings)
+    → IsAt asked leaves (get_or findings i nothing) (drop (i + 1) findings)
+finding_at asked leaves findings i inside walk =
+    walk_next asked leaves findings i (get_or findings i nothing) (slice_get-get_or findings i nothing inside) walk

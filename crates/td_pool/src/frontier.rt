@@ -72,6 +72,13 @@ fn place_of(leaves: &[OpenLeaf], evidence: &Evidence) -> Option<usize>
     None
 }
 
+// Takes the last leaf away.
+fn drop_last(leaves: &mut Vec<OpenLeaf>)
+    ensures { (rest : List OpenLeaf) (leaf : OpenLeaf) → leaves.old.items ≡ rest ++ leaf ∷ [] → leaves.new.items ≡ rest }
+{
+    let _dropped = leaves.pop();
+}
+
 // Splits the last leaf at a position of its cube. The sides get this bound and the next two numbers, and the zero side is the last
 // leaf then. The error is want of memory, and then the leaves are as before.
 fn split_last(
@@ -211,7 +218,7 @@ impl<L: Subject> Frontier<L> {
         requires { (rest : List OpenLeaf) × (leaf : OpenLeaf) × (self.old.leaves.items ≡ rest ++ leaf ∷ []) × IsAbove L.asked leaf.cube bound }
         ensures { (rest : List OpenLeaf) (leaf : OpenLeaf) → self.old.leaves.items ≡ rest ++ leaf ∷ [] → self.new.leaves.items ≡ rest }
     {
-        let _closed = self.leaves.pop();
+        drop_last(&mut self.leaves);
         self.closed = self.closed.max(bound);
     }
 
@@ -220,9 +227,9 @@ impl<L: Subject> Frontier<L> {
         requires { (rest : List OpenLeaf) × (leaf : OpenLeaf) × (self.old.leaves.items ≡ rest ++ leaf ∷ []) × (slice_get leaf.cube position ≡ Some Free) × IsAbove L.asked leaf.cube bound }
         ensures { OnOk result ((rest : List OpenLeaf) (leaf : OpenLeaf) → self.old.leaves.items ≡ rest ++ leaf ∷ [] → IsSplit rest leaf position bound self.new.leaves.items) }
     {
-        split_last(self.alloc, &mut self.leaves, position, bound, self.next)?;
+        let done = split_last(self.alloc, &mut self.leaves, position, bound, self.next);
         self.next = self.next.wrapping_add(2);
-        Ok(())
+        done
     }
 
     // The last leaf is closed or split, as it was found of its cube. The error is want of memory.
