@@ -1,5 +1,5 @@
 -- The leaves that are left hold each pair with a greater delay than was found, after a leaf was closed or split.
-use Rattle.std.proofs.Common.{◌≡◌, ℕ, zero, suc, ◌+◌, ◌<◌, ◌≤◌, ◌⊎◌, max, List, [], ◌∷◌, ◌++◌, length, map, take, drop, get_or, refl, sym, ap, subst, ◌∙◌, inl, inr, ⊎_elim, arith}
+use Rattle.std.proofs.Common.{◌≡◌, ℕ, zero, suc, ◌+◌, ◌<◌, ◌≤◌, ◌⊎◌, max, List, [], ◌∷◌, ◌++◌, length, map, take, drop, get_or, min, refl, sym, ap, subst, ◌∙◌, inl, inr, ⊎_elim, arith}
 use Rattle.std.specs.Prelude.{slice_get, Some, Result, Ok, Err, OnOk, OnErr}
 use Rattle.std.specs.List.{AllByRecursion}
 use Rattle.std.proofs.lemmas.Option.{slice_get-get_or}
@@ -14,9 +14,18 @@ use Rattle.td_search.specs.CutShort.{greatest_of}
 use Rattle.td_search.specs.declared.findings.Finding.{Finding}
 use Rattle.td_search.specs.declared.findings.Finding.TheVariants.{Closed, Split}
 use Rattle.td_search.specs.Findings.{IsTrueOf, AreTrue}
-use Rattle.td_search.specs.Problems.{Problem, has_delay, IsAbove}
+use Rattle.td_circuit.specs.Settings.{AreMoments}
+use Rattle.td_circuit.specs.Numbering.{Numbered, setting, IsNumbering}
+use Rattle.td_domain.specs.Admits.{Admitted}
+use Rattle.td_search.specs.declared.strategy.Strategy.{Strategy}
+use Rattle.td_search.specs.Problems.{Problem, problem_by, has_delay, IsAbove}
+use Rattle.td_search.specs.Representatives.{representative}
+use Rattle.td_search.proofs.Bounded.{above_bound}
 use Rattle.td_search.proofs.Found.{nothing}
 use Rattle.td_pool.specs.declared.leaf.OpenLeaf.{OpenLeaf}
+use Rattle.td_pool.specs.declared.root.Root.{Root}
+use Rattle.td_pool.specs.Truth.{IsRoot}
+use Rattle.td_pool.specs.Watched.{IsLowerBound}
 use Rattle.td_pool.specs.Frontiers.{IsWithin, IsCover, IsSplit, IsSettled, leaf_of, bounds_of}
 
 module _ {X : Type 0} (P : X → Type 0) where
@@ -77,7 +86,7 @@ module _ (asked : Problem) (closed : ℕ) where
       → IsCover asked closed ((take k leaves ++ drop (k + 1) leaves) ++ leaf ∷ [])
   cover_moved leaves k leaf at cover pair delay top is least all =
       let next : k + 1 ≡ suc k = omega arith in
-      cover pair delay top is low (all_moved (IsWithin pair top) leaves k leaf at
+      cover pair delay top is least (all_moved (IsWithin pair top) leaves k leaf at
       (subst (λ (n : ℕ). AllByRecursion (IsWithin pair top) ((take k leaves ++ drop n leaves) ++ leaf ∷ [])) next all))
 
   -- a pair of the last leaf has no delay above a figure that is no less than a bound of it
@@ -105,7 +114,7 @@ module _ (asked : Problem) (closed : ℕ) where
       let one_within : IsIn pair (one_side leaf.cube position) → bound ≤ top = all_last (IsWithin pair top) rest one_leaf most in
       ⊎_elim
       (λ (a : delay ≤ top). a)
-      (λ (b : top < delay). cover pair delay top is low (all_behind (IsWithin pair top) rest leaf (all_before (IsWithin pair top) rest one_leaf most)
+      (λ (b : top < delay). cover pair delay top is least (all_behind (IsWithin pair top) rest leaf (all_before (IsWithin pair top) rest one_leaf most)
       (last_within leaf pair delay top b (λ is_in.
           let within = above pair delay is_in is in
           elim (side leaf.cube position pair.first pair.second free is_in) [
@@ -126,6 +135,30 @@ module _ (asked : Problem) (closed : ℕ) where
   pub cover_within : (leaves : List OpenLeaf) → IsCover asked closed leaves → IsUpperBound asked.setting asked.admit (greatest_of closed (bounds_of leaves))
   cover_within leaves cover pair delay admitted is =
       cover pair delay (greatest_of closed (bounds_of leaves)) (admitted, is) (closed_within closed (bounds_of leaves)) (all_within pair closed leaves)
+
+-- ---- what is known of the delays
+
+-- a delay of an admitted pair
+pub found_least : (asked : Problem) (pair : Pair) (delay time : ℕ) → has_delay asked pair delay → time ≡ delay → IsLowerBound asked time
+found_least asked pair delay time is same worst w = let e = w.greatest pair delay is.0 is.1 in omega arith
+
+pub least_max : (asked : Problem) (a b n : ℕ) → n ≡ max a b → IsLowerBound asked a → IsLowerBound asked b → IsLowerBound asked n
+least_max asked a b n same one other worst w = let e = one worst w in let f = other worst w in omega arith
+
+pub upper_min : (asked : Problem) (a b n : ℕ) → n ≡ min a b → IsUpperBound asked.setting asked.admit a → IsUpperBound asked.setting asked.admit b
+    → IsUpperBound asked.setting asked.admit n
+upper_min asked a b n same one other pair delay admitted is = let e = one pair delay admitted is in let f = other pair delay admitted is in omega arith
+
+pub root_least : (asked : Problem) (root : Root) → IsRoot asked root → IsLowerBound asked root.first
+root_least asked root is = found_least asked (representative asked.admit asked.admit.pins) root.first root.first is.first refl
+
+module _ (strategy : Strategy) (circuit : Numbered) (admit : Admitted) (numbering : IsNumbering circuit) (fit : AreMoments circuit.netlist circuit.moments)
+    (root : Root) (known : IsRoot (problem_by strategy circuit admit) root) where
+  pub root_above : IsAbove (problem_by strategy circuit admit) admit.pins root.bound
+  root_above pair delay is_in is = above_bound strategy circuit numbering fit admit.pins root.bound pair delay known.bound is_in is.1
+
+  pub root_greatest : IsUpperBound (setting circuit) admit root.bound
+  root_greatest pair delay admitted is = root_above pair delay admitted.pinned (admitted, is)
 
 -- ---- a walk over what was found
 

@@ -7,7 +7,7 @@ ghost use Rattle.td_search.specs.CutShort.{greatest_of};
 ghost use Rattle.td_search.specs.Findings.{IsTrueOf, IsTrueEvidence};
 ghost use Rattle.td_search.specs.Problems.{problem_by, IsAbove};
 ghost use Rattle.td_pool.specs.declared.leaf.OpenLeaf.{OpenLeaf};
-ghost use Rattle.td_pool.specs.Frontiers.{IsCover, IsSplit, IsSettled, bounds_of};
+ghost use Rattle.td_pool.specs.Frontiers.{IsCover, IsSplit, IsSettled, leaf_of, bounds_of};
 ghost use Rattle.td_pool.specs.Truth.{IsRoot};
 ghost use Rattle.td_pool.specs.Watched.{IsLowerBound};
 
@@ -56,6 +56,20 @@ fn greatest_bound(leaves: &[OpenLeaf], low: u64) -> u64
         greatest = greater_bound(leaf, greatest);
     }
     greatest
+}
+
+// The root of the tree, whose cube is that of the pins, with this bound. The error is want of memory.
+fn first_leaf(alloc: Global, admit: &Admit, bound: u64) -> Result<Vec<OpenLeaf>, AllocError>
+    ensures { IfOk result (λ leaves. leaves.items ≡ leaf_of 0 admit.now.pins bound ∷ []) }
+{
+    let mut leaves = Vec::with_capacity(alloc, 1)?;
+    let cube = admit.pins().copy(alloc)?;
+    leaves.push_reserved(OpenLeaf {
+        number: 0,
+        cube,
+        bound,
+    });
+    Ok(leaves)
 }
 
 // The place of the leaf at which a piece of evidence begins.
@@ -128,12 +142,7 @@ impl<L: Subject> Frontier<L> {
     {
         let _numbering = circuit.gates();
         let _moments = circuit.moments();
-        let mut leaves = Vec::with_capacity(alloc, 1)?;
-        leaves.push_reserved(OpenLeaf {
-            number: 0,
-            cube: admit.pins().copy(alloc)?,
-            bound: root.bound,
-        });
+        let leaves = first_leaf(alloc, admit, root.bound)?;
         Ok(Frontier {
             alloc,
             low: root.first,

@@ -121,6 +121,22 @@ fn hinted_turn<L: Subject>(
     }
 }
 
+// What a worker of this search is to do next, with or without such a number.
+fn turn_of<L: Subject>(
+    book: &mut Counted<L>,
+    circuit: &Circuit,
+    admit: &Admit,
+    worker: u32,
+    hint: Option<u32>,
+) -> Turn
+    ensures { IsTurn (problem circuit.now admit.now) result }
+{
+    match hint {
+        Some(number) => hinted_turn(book, circuit, admit, worker, number),
+        None => next_turn(book, circuit, admit, worker),
+    }
+}
+
 // A number from the worker's own place, else from another's.
 fn hint_from<D: Hints>(deck: &mut D) -> Option<u32> {
     if let Some(number) = deck.pop() {
@@ -144,11 +160,7 @@ impl<L: Subject> Shared<L> {
         for _ in rt.forever() {
             let hint = hint_from(deck);
             let mut standing = self.standing.lock(rt);
-            let turn = match hint {
-                Some(number) => hinted_turn(&mut standing.book, circuit, admit, worker, number),
-                None => next_turn(&mut standing.book, circuit, admit, worker),
-            };
-            match turn {
+            match turn_of(&mut standing.book, circuit, admit, worker, hint) {
                 Turn::Work(lease) => return Some(lease),
                 Turn::Seek => drop(standing),
                 Turn::Wait => {
