@@ -116,11 +116,11 @@ module _ (asked : Problem) (closed : ℕ) where
       (λ (a : delay ≤ top). a)
       (λ (b : top < delay). cover pair delay top is least (all_behind (IsWithin pair top) rest leaf (all_before (IsWithin pair top) rest one_leaf most)
       (last_within leaf pair delay top b (λ is_in.
-          let within = above pair delay is_in is in
-          elim (side leaf.cube position pair.first pair.second free is_in) [
-            | low here ↦ let e = zero_within here in omega arith
-            | high here ↦ let e = one_within here in omega arith
-          ]))))
+      let within = above pair delay is_in is in
+      elim (side leaf.cube position pair.first pair.second free is_in) [
+        | low here ↦ let e = zero_within here in omega arith
+        | high here ↦ let e = one_within here in omega arith
+      ]))))
       (either delay top)
 
   -- where memory ran out the leaves are as before

@@ -266,7 +266,13 @@ impl<L: Subject> Frontier<L> {
 
     /// What was found below a leaf that is left was done there in the shared tree. Where memory runs out more leaves are kept than are
     /// left, so that the figures stay true.
-    pub fn settle(&mut self, circuit: &Circuit, admit: &Admit, strategy: Strategy, evidence: &Evidence)
+    pub fn settle(
+        &mut self,
+        circuit: &Circuit,
+        admit: &Admit,
+        strategy: Strategy,
+        evidence: &Evidence,
+    )
         requires asked { L.asked ≡ problem_by strategy circuit.now admit.now }
         requires evidence { IsTrueEvidence (problem_by strategy circuit.now admit.now) evidence.now }
     {

@@ -153,12 +153,7 @@ pub fn watched_by<P: Prober + Sync, D: Hints + Drop + Send, W: Watch, R: Threads
 
 /// What so many workers find, of which this thread is one, and what this thread ends from what is known of the pins. The error is want of
 /// memory before they begin.
-pub fn search<
-    F: Finder + Sync,
-    D: Hints + Drop + Send,
-    W: Watch,
-    R: Threads + Wait + Sync,
->(
+pub fn search<F: Finder + Sync, D: Hints + Drop + Send, W: Watch, R: Threads + Wait + Sync>(
     rt: &R,
     alloc: Global,
     circuit: &Circuit,

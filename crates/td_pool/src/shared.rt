@@ -197,7 +197,9 @@ impl<L: Subject> Shared<L> {
         ensures { mine.new.parts ≡ mine.old.parts }
     {
         let mut standing = self.standing.lock(rt);
-        let left = standing.graft(circuit, admit, strategy, lease, subtree, evidence, best, mine);
+        let left = standing.graft(
+            circuit, admit, strategy, lease, subtree, evidence, best, mine,
+        );
         drop(standing);
         self.moved.notify_all();
         left

@@ -117,7 +117,9 @@ fn least<P: Prober + Sync, W: Watch, R: Threads + Wait + Sync>(
     ensures told { W.told (problem circuit.now admit.now) watch.old watch.new }
 {
     let decks = Deck::deal(alloc, workers as usize)?;
-    watched_by(rt, alloc, circuit, admit, prober, decks, workers, budget, watch)
+    watched_by(
+        rt, alloc, circuit, admit, prober, decks, workers, budget, watch,
+    )
 }
 
 // As `worst_watched`, with `Lead`.

@@ -50,7 +50,13 @@ impl Watch for Unwatched {
         false
     }
 
-    fn passed(&mut self, _circuit: &Circuit, _admit: &Admit, _strategy: Strategy, _progress: Progress) {}
+    fn passed(
+        &mut self,
+        _circuit: &Circuit,
+        _admit: &Admit,
+        _strategy: Strategy,
+        _progress: Progress,
+    ) {}
 
     ghost told_nothing = { λ _ _. tt };
 

@@ -229,11 +229,27 @@ pub fn work<L: Subject, F: Finder, D: Hints + Drop, W: Watch, R: Wait>(
             &mut found,
             &mut share,
         );
-        tell_progress(rt, circuit, admit, F::strategy(), shared, &mut milestone, watch);
+        tell_progress(
+            rt,
+            circuit,
+            admit,
+            F::strategy(),
+            shared,
+            &mut milestone,
+            watch,
+        );
         if !goes_on {
             break;
         }
     }
-    tell_progress(rt, circuit, admit, F::strategy(), shared, &mut milestone, watch);
+    tell_progress(
+        rt,
+        circuit,
+        admit,
+        F::strategy(),
+        shared,
+        &mut milestone,
+        watch,
+    );
     Report { found, share }
 }

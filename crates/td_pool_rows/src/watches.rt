@@ -28,7 +28,13 @@ impl Watch for Keeping {
         true
     }
 
-    fn passed(&mut self, _circuit: &Circuit, _admit: &Admit, _strategy: Strategy, progress: Progress) {
+    fn passed(
+        &mut self,
+        _circuit: &Circuit,
+        _admit: &Admit,
+        _strategy: Strategy,
+        progress: Progress,
+    ) {
         if self.told.push(progress).is_err() {
             self.lost = true;
         }
@@ -153,12 +159,7 @@ fn milestones_of_more_workers(rt: HostRuntime) -> Result<(), Fail> {
 }
 
 /// What a search of all pairs with `lead` by one worker that isn't watched answers.
-fn led(
-    rt: &impl Abort,
-    alloc: Global,
-    circuit: &Circuit,
-    budget: u64,
-) -> Result<Told, Fail> {
+fn led(rt: &impl Abort, alloc: Global, circuit: &Circuit, budget: u64) -> Result<Told, Fail> {
     let admit = all_of(rt, alloc, circuit)?;
     assert!(rt; budget <= 10_000_000);
     assert_eq!(rt; admit.held().len(), circuit.input_count());
