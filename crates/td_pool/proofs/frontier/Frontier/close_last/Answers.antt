@@ -1,4 +1,4 @@
-use Rattle.std.proofs.Common.{◌≡◌, ℕ, max, List, [], ◌∷◌, ◌++◌, sym, subst}
+use Rattle.std.proofs.Common.{◌≡◌, ℕ, List, [], ◌∷◌, ◌++◌, sym, subst}
 use Rattle.td_pool.specs.declared.leaf.OpenLeaf.{OpenLeaf}
 use Rattle.td_pool.specs.Frontiers.{IsCover}
 use Rattle.td_pool.proofs.Covers.{cover_closed}

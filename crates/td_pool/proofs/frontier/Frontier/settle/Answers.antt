@@ -5,7 +5,7 @@ use Rattle.td_search.specs.Findings.{AreTrue}
 use Rattle.td_search.specs.Problems.{Problem, problem_by}
 use Rattle.td_search.proofs.Found.{nothing}
 use Rattle.td_pool.specs.declared.leaf.OpenLeaf.{OpenLeaf}
-use Rattle.td_pool.proofs.Covers.{IsWalk, IsAt, walk_begins, walk_next, finding_at}
+use Rattle.td_pool.proofs.Covers.{IsAt, walk_begins, finding_at}
 use Rattle.td_pool.proofs.frontier.Frontier.settle.Goals as goal
 
 pub loop-finding-init : goal.loop-finding-init

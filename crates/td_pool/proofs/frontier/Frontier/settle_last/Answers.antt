@@ -1,4 +1,4 @@
-use Rattle.std.proofs.Common.{◌≡◌, List, sym, subst}
+use Rattle.std.proofs.Common.{List, sym, subst}
 use Rattle.td_search.specs.declared.findings.Finding.TheVariants.{Closed, Split}
 use Rattle.td_search.specs.Findings.{IsTrueOf}
 use Rattle.td_search.specs.Problems.{Problem, problem_by, IsAbove}
