@@ -66,7 +66,8 @@ fn by_both(tree: &Tree) -> usize {
         .count()
 }
 
-fn in_words(alloc: Global, answer: &Answer) -> Result<Told, Fail> {
+/// An answer in words.
+pub fn in_words(alloc: Global, answer: &Answer) -> Result<Told, Fail> {
     Ok(match answer {
         Answer::Exact { time, tree, .. } => Told {
             times: format!(in alloc; "exact {time}")?,

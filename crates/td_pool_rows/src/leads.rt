@@ -16,7 +16,7 @@ use td_pool::worst_with;
 use td_search::{Answer, Own, SearchFault, Strategy, certificate_of};
 
 /// No pair changes as late as edges let it, so that cubes are split.
-const NEVER_AS_LATE: &str =
+pub const NEVER_AS_LATE: &str =
     "xnor #(3,4) (w,b,d,a); and #(2,1) (v,c,a,b); xor #(6,1) (u,a,v); xnor #(2,6) (y,w,u);";
 
 /// Appends the bits of a vector, on a line with this word.

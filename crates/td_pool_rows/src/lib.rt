@@ -13,3 +13,5 @@ mod probers;
 mod refusals;
 #[cfg(test)]
 mod searches;
+#[cfg(test)]
+mod watches;
