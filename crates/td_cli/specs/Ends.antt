@@ -128,3 +128,10 @@ module _ (IsProduct : Product → Type 0) (Holds : Refusal → Type 0) (breaks :
   -- how a command ends that says such a product, and is refused for such reasons
   abbrev pub Ends : Type 0
   Ends = Finishes ⊎ (Refuses ⊎ (LosesReport ⊎ LosesFile))
+
+-- lines were told on standard error, and behind them the command ended so
+pub record EndsBehind (Told : Output → Output → Type 0) (IsProduct : Product → Type 0) (Holds : Refusal → Type 0) (breaks : List ℕ → Type 0)
+    (steps : List FileStep) (status : Status) (old new : Streams) : Type 0 where
+  pub mid : Output
+  pub told : Told old.err mid
+  pub ends : Ends IsProduct Holds breaks steps status (streams old.out mid) new

@@ -21,6 +21,8 @@ pub mod Outcomes
 pub mod JoinReports
 pub mod Parts
 pub mod Ends
+pub mod Progress
+pub mod ProgressLaws
 pub mod Requests
 pub mod MemoryFiles
 pub mod Dumps

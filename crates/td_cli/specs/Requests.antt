@@ -38,7 +38,8 @@ use Rattle.td_cli.specs.Refusals.{refusal_text, unwritten_text}
 use Rattle.td_cli.specs.Outcomes.{HasNoCircuit, HasNoReport, HasNoPath, HasNoBounds, HasNoAnswer, HasNoVerdict}
 use Rattle.td_cli.specs.Files.{FileStep, FileText}
 use Rattle.td_cli.specs.Disks.{Disk, Reads, HoldsOnFile}
-use Rattle.td_cli.specs.Ends.{Product, IsReportOnly, Streams, Tells, Ends}
+use Rattle.td_cli.specs.Ends.{Product, IsReportOnly, Streams, Tells, EndsBehind}
+use Rattle.td_cli.specs.Progress.{TellsSearch}
 
 -- ---- the commands, on bytes that were read
 
@@ -185,9 +186,15 @@ is_search other = false
 abbrev pub AsksSearch : List (List ℕ) → Type 0
 AsksSearch words = (asked : Request) × Asks words asked × (is_search asked ≡ true)
 
+-- what standard error gets before a command ends: of a search, lines of progress where they are asked for
+abbrev pub TellsBefore : Disk → Request → Output → Output → Type 0
+TellsBefore disk (request.Worst asked) old mid =
+    (mid ≡ old) ⊎ Reads disk asked.file.now (λ text. TellsSearch asked.progress text (delays asked.rise asked.fall) (words_in asked) old mid)
+TellsBefore disk other old mid = mid ≡ old
+
 -- how the command that is asked for ends, once it is known that no file of it is written over another
 abbrev pub RequestRuns : Disk → Request → List FileStep → Status → Streams → Streams → Type 0
-RequestRuns disk asked = Ends (IsProductOf disk asked) (HoldsOf disk asked) disk.breaks
+RequestRuns disk asked = EndsBehind (TellsBefore disk asked) (IsProductOf disk asked) (HoldsOf disk asked) disk.breaks
 
 -- the names that are given are of different files
 abbrev pub AreApart : Disk → Option (List ℕ) → Option (List ℕ) → Type 0
@@ -241,7 +248,7 @@ Overwrites disk other reason = ⊥
 -- how the command that is asked for ends: none that says something writes one of its files over another
 abbrev pub RequestEnds : Disk → Request → List FileStep → Status → Streams → Streams → Type 0
 RequestEnds disk asked =
-    Ends (λ product. KeepsFiles disk asked × IsProductOf disk asked product) (λ reason. Overwrites disk asked reason ⊎ HoldsOf disk asked reason) disk.breaks
+    EndsBehind (TellsBefore disk asked) (λ product. KeepsFiles disk asked × IsProductOf disk asked product) (λ reason. Overwrites disk asked reason ⊎ HoldsOf disk asked reason) disk.breaks
 
 -- ---- the program
 

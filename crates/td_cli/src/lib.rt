@@ -18,6 +18,7 @@ mod overwriting;
 mod parting;
 mod pinning;
 mod program;
+mod progress;
 mod real_files;
 mod refusal;
 mod report;

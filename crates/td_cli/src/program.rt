@@ -6,10 +6,11 @@ ghost use Rattle.clap.specs.declared.error.kind.ErrorKind.TheVariants as Kind;
 ghost use Rattle.td_gates.specs.Delays.{IsInRange};
 ghost use Rattle.td_certificate.specs.Spelling.{HasSpelling, spelling};
 ghost use Rattle.td_command.specs.CommandLine.{delays, IsCarriedOut};
-ghost use Rattle.td_cli.specs.Ends.{Ends, LosesOne, Tells, TellsReason, TellsUnread, TellsUnwritten, Says, streams};
+ghost use Rattle.td_cli.specs.Ends.{Ends, EndsBehind, LosesOne, Tells, TellsReason, TellsUnread, TellsUnwritten, Says, streams};
 ghost use Rattle.td_cli.specs.Files.{IsWritten, AreWritten, IsLeft, Takes};
 ghost use Rattle.td_cli.specs.Dumps.{file_of, dump_files, HasRun};
 ghost use Rattle.td_cli.specs.Outcomes.{HasNoReport, HasNoPath, HasNoBounds, HasNoAnswer, HasNoVerdict};
+ghost use Rattle.td_cli.specs.Progress.{TellsSearch};
 ghost use Rattle.td_cli.specs.Refusals.{unwritten_text};
 ghost use Rattle.td_cli.specs.Vectors.{words_of};
 ghost use Rattle.td_cli.specs.Disks.{disk_of, Reads, HoldsOnFile};
@@ -29,8 +30,8 @@ use crate::informing::run_info;
 use crate::joining::run_join;
 use crate::overwriting::overwriting;
 use crate::parting::run_parts;
+use crate::progress::searched;
 use crate::refusal::Refusal;
-use crate::searching::worst;
 use crate::simulate::sim;
 use crate::status::Status;
 use crate::text::Text;
@@ -341,6 +342,7 @@ fn run_worst<R: Threads + Wait + Sync, F: Files, O: Sink, E: Sink>(
                 request.path,
                 request.certificate,
                 request.vcd,
+                request.progress,
                 out,
                 err,
             )
@@ -521,7 +523,7 @@ pub fn carry_out_check<O: Sink, E: Sink>(
 
 /// Carries out `worst` on bytes that were read, with 1 to 64 workers and a budget of at most 10,000,000 nodes: the report goes to `out`, then the
 /// certificate of an exact answer to the file of this name, and then the waves of the given pair to that of the name `vcd`; why
-/// there is none goes to `err`.
+/// there is none goes to `err`, and before that, where it is asked for, lines that tell how far the search has come.
 pub fn carry_out_worst<R: Threads + Wait + Sync, F: Files, O: Sink, E: Sink>(
     rt: &R,
     alloc: Global,
@@ -534,6 +536,7 @@ pub fn carry_out_worst<R: Threads + Wait + Sync, F: Files, O: Sink, E: Sink>(
     path: bool,
     name: Option<&str>,
     vcd: Option<&str>,
+    progress: bool,
     out: &mut O,
     err: &mut E,
 ) -> Status
@@ -541,10 +544,13 @@ pub fn carry_out_worst<R: Threads + Wait + Sync, F: Files, O: Sink, E: Sink>(
     requires few { workers ≤ 64 }
     requires modest { budget ≤ 10000000 }
     ensures { Takes (F.did files.old files.new) (λ steps.
-        Ends (IsWorstProduct text.now default words.entry budget path (words_of name.entry) (words_of vcd.entry)) (HasNoAnswer text.now default words.entry) (F.breaks files.old) steps result
+        EndsBehind (TellsSearch progress text.now default words.entry) (IsWorstProduct text.now default words.entry budget path (words_of name.entry) (words_of vcd.entry)) (HasNoAnswer text.now default words.entry) (F.breaks files.old) steps result
         (streams (O.output out.old) (E.output err.old)) (streams (O.output out.new) (E.output err.new))) }
 {
-    let found = match worst(rt, alloc, text, default, words, workers, budget, path, vcd) {
+    let answer = searched(
+        rt, alloc, text, default, words, workers, budget, path, vcd, progress, err,
+    );
+    let found = match answer {
         Ok(found) => found,
         Err(refusal) => return tell_refusal(alloc, err, &refusal),
     };
