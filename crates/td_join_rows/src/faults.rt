@@ -1,12 +1,14 @@
 //! What certificates are joined into, and what keeps them from being joined.
 
-use crate::questions::{cube_of, words_text};
+use crate::questions::cube_of;
 use std::alloc::Global;
 use std::test::*;
 use td_certificate::{Certificate, read};
 use td_join::{JoinFault, join, join_in};
 
-/// On each line the pins of the whole, or nothing where they are the least cube, and certificates in words behind bars.
+/// On each line the pins of the whole, or nothing where they are the least cube, and certificates behind bars: the circuit, the trits of
+/// both vectors, what is held, the flips, the moments where they aren't all 0, the time, the pair that has it, and the tree. A slash
+/// stands for the end of a line.
 const ROWS: &str = "
 |2 1,0.,..,..,2,,3,00,11,b a 3|2 1,1.,..,..,2,,5,10,01,b a 5
 |2 1,1.,..,..,2,,5,10,01,b a 5|2 1,0.,..,..,2,,3,00,11,s 2/b a 3/b a 2
@@ -46,12 +48,45 @@ a part is missing: Gap(Cube { trits: [One, Free, Free, Free] })
 a leaf without a pair: FalseNone(1)
 ";
 
+/// A word of a certificate.
+fn word(words: &str, place: usize) -> &str {
+    words.split(',').nth(place).unwrap_or("")
+}
+
+/// The text of a certificate in words.
+fn text_of(alloc: Global, words: &str) -> Result<String, Fail> {
+    let circuit = word(words, 0);
+    let first = word(words, 1);
+    let second = word(words, 2);
+    let hold = word(words, 3);
+    let flips = word(words, 4);
+    let at = word(words, 5);
+    let version = if at == "" { 2 } else { 3 };
+    let mut lines = format!(in alloc;
+        "tdelay-cert {version}/circuit {circuit}/first {first}/second {second}/hold {hold}/flips {flips}/"
+    )?;
+    if at != "" {
+        lines.push_str(&format!(in alloc; "at {at}/")?)?;
+    }
+    let time = word(words, 6);
+    let from = word(words, 7);
+    let to = word(words, 8);
+    let tree = word(words, 9);
+    lines.push_str(&format!(in alloc; "time {time}/from {from}/to {to}/{tree}")?)?;
+    let mut text = String::new(alloc);
+    for line in lines.split('/') {
+        text.push_str(line)?;
+        text.push('\n')?;
+    }
+    Ok(text)
+}
+
 /// The certificates of a row.
 fn certificates_of(alloc: Global, row: &str) -> Result<Vec<Certificate>, Fail> {
     let mut certificates = Vec::new(alloc);
     for (place, words) in row.split('|').enumerate() {
         if place > 0 {
-            let text = words_text(alloc, words)?;
+            let text = text_of(alloc, words)?;
             certificates.push(read(alloc, text.as_bytes())?)?;
         }
     }

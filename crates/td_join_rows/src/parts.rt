@@ -1,40 +1,57 @@
 //! Questions that are cut, searched in parts, and joined again.
 
-use crate::questions::{C17, RECONVERGENT, circuit_of, joined, parted, question_of, searched};
+use crate::questions::{
+    C17, RECONVERGENT, admit_of, circuit_of, cube_of, joined, parted, searched,
+};
 use std::alloc::{AllocError, Global};
 use std::process::Abort;
 use std::test::*;
 use td_search::Strategy;
 
-/// What is asked of a netlist: the question of a certificate in words.
+/// What is asked of a netlist: the trits of both vectors, the inputs that are held, and the flips.
 #[derive(Clone, Copy, Drop)]
 struct Asked {
     netlist: &'static str,
-    words: &'static str,
+    first: &'static str,
+    second: &'static str,
+    hold: &'static str,
+    flips: u32,
 }
 
 /// All pairs of six nand gates.
 const ALL: Asked = Asked {
     netlist: C17,
-    words: "5 6,.....,.....,.....,5,,0,00000,00000,none",
+    first: ".....",
+    second: ".....",
+    hold: ".....",
+    flips: 5,
 };
 
 /// Few of their pairs.
 const FEW: Asked = Asked {
     netlist: C17,
-    words: "5 6,1..0.,...0.,..=..,2,,0,00000,00000,none",
+    first: "1..0.",
+    second: "...0.",
+    hold: "..=..",
+    flips: 2,
 };
 
 /// All pairs of a signal that meets itself again.
 const MET: Asked = Asked {
     netlist: RECONVERGENT,
-    words: "2 3,..,..,..,2,,0,00,00,none",
+    first: "..",
+    second: "..",
+    hold: "..",
+    flips: 2,
 };
 
 /// The pairs of it in which one input changes.
 const ONE: Asked = Asked {
     netlist: RECONVERGENT,
-    words: "2 3,..,..,.=,1,,0,00,00,none",
+    first: "..",
+    second: "..",
+    hold: ".=",
+    flips: 1,
 };
 
 /// How many parts a question is cut into, the time of the whole search, and what the parts are joined into, in their order or turned
@@ -48,15 +65,15 @@ fn told(
     turned: bool,
 ) -> Result<String, AllocError> {
     let circuit = circuit_of(alloc, asked.netlist)?;
-    let question = question_of(alloc, asked.words)?;
-    let admit = question.admit();
-    let mut certificates = parted(rt, alloc, &circuit, admit, strategy, count)?;
+    let pins = cube_of(alloc, asked.first, asked.second)?;
+    let admit = admit_of(rt, alloc, pins.copy(alloc)?, asked.hold, asked.flips)?;
+    let mut certificates = parted(rt, alloc, &circuit, &admit, strategy, count)?;
     let number = certificates.len();
     if turned {
         certificates.reverse();
     }
-    let whole = joined(alloc, asked.netlist, certificates, admit.pins())?;
-    let time = searched(rt, alloc, &circuit, admit.copy(alloc)?, strategy)?.time;
+    let whole = joined(alloc, asked.netlist, certificates, &pins)?;
+    let time = searched(rt, alloc, &circuit, admit, strategy)?.time;
     format!(in alloc; "{number} of {time}: {whole}")
 }
 

@@ -1,11 +1,9 @@
 //! Questions for the tests, in words, and what becomes of their parts.
 
-ghost use Rattle.std.specs.Prelude.{◌≡◌, length};
-
 use std::alloc::{AllocError, Global};
 use std::process::Abort;
 use std::test::*;
-use td_certificate::{Certificate, Question, push_question, read as read_certificate};
+use td_certificate::{Certificate, Question, push_question};
 use td_checker::check;
 use td_circuit::{Circuit, build};
 use td_domain::{Admit, Cube, Trit};
@@ -71,47 +69,20 @@ pub fn cube_of(alloc: Global, first: &str, second: &str) -> Result<Cube, AllocEr
     Ok(Cube::new(trits))
 }
 
-/// A word of a certificate.
-fn word(words: &str, place: usize) -> &str {
-    words.split(',').nth(place).unwrap_or("")
-}
-
-/// The text of a certificate in words: the circuit, the trits of both vectors, what is held, the flips, the moments where they aren't all
-/// 0, the time, the pair that has it, and the tree, with a slash between its lines.
-pub fn words_text(alloc: Global, words: &str) -> Result<String, AllocError> {
-    let circuit = word(words, 0);
-    let first = word(words, 1);
-    let second = word(words, 2);
-    let hold = word(words, 3);
-    let flips = word(words, 4);
-    let at = word(words, 5);
-    let version = if at == "" { 2 } else { 3 };
-    let mut lines = format!(in alloc;
-        "tdelay-cert {version}/circuit {circuit}/first {first}/second {second}/hold {hold}/flips {flips}/"
-    )?;
-    if at != "" {
-        lines.push_str(&format!(in alloc; "at {at}/")?)?;
+/// The pairs of a circuit with these pins, that hold the inputs with `=`, and differ at so many inputs at most.
+pub fn admit_of(
+    rt: &impl Abort,
+    alloc: Global,
+    pins: Cube,
+    hold: &str,
+    flips: u32,
+) -> Result<Admit, AllocError> {
+    let mut held = Vec::new(alloc);
+    for mark in hold.as_bytes() {
+        held.push(*mark == b'=')?;
     }
-    let time = word(words, 6);
-    let from = word(words, 7);
-    let to = word(words, 8);
-    let tree = word(words, 9);
-    lines.push_str(&format!(in alloc; "time {time}/from {from}/to {to}/{tree}")?)?;
-    let mut text = String::new(alloc);
-    for line in lines.split('/') {
-        text.push_str(line)?;
-        text.push('\n')?;
-    }
-    Ok(text)
-}
-
-/// The question of a certificate in words.
-pub fn question_of(alloc: Global, words: &str) -> Result<Question, AllocError> {
-    let text = words_text(alloc, words)?;
-    match read_certificate(alloc, text.as_bytes()) {
-        Ok(certificate) => Ok(certificate.question),
-        Err(_) => Err(AllocError),
-    }
+    assert!(rt; pins.len() % 2 == 0 && pins.len() / 2 == held.len());
+    Ok(Admit::new(pins, held, flips))
 }
 
 /// The certificate that a search ends with.
@@ -136,12 +107,10 @@ pub fn searched(
 }
 
 /// The same pairs with these pins.
-fn pinned(alloc: Global, admit: &Admit, pins: &Cube) -> Result<Admit, AllocError>
-    requires { length pins.now ≡ length admit.now.pins }
-{
-    let _fit = admit.pins();
-    let pins = pins.copy(alloc)?;
+fn pinned(rt: &impl Abort, alloc: Global, admit: &Admit, pins: &Cube) -> Result<Admit, AllocError> {
     let held = Vec::from_slice(alloc, admit.held())?;
+    let pins = pins.copy(alloc)?;
+    assert!(rt; pins.len() % 2 == 0 && pins.len() / 2 == held.len());
     Ok(Admit::new(pins, held, admit.flips()))
 }
 
@@ -155,10 +124,9 @@ pub fn parted(
     count: usize,
 ) -> Result<Vec<Certificate>, AllocError> {
     assert_eq!(rt; admit.held().len(), circuit.input_count());
-    let cubes = cut(alloc, circuit, admit, strategy, count)?;
     let mut certificates = Vec::new(alloc);
-    for cube in &cubes {
-        let part = pinned(alloc, admit, cube)?;
+    for cube in &cut(alloc, circuit, admit, strategy, count)? {
+        let part = pinned(rt, alloc, admit, cube)?;
         certificates.push(searched(rt, alloc, circuit, part, strategy)?)?;
     }
     Ok(certificates)

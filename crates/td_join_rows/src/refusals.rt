@@ -1,7 +1,7 @@
 //! What is cut and joined again where memory was refused. Nothing is refused where this test runs by itself; with each growth of memory
 //! refused in turn it passes too.
 
-use crate::questions::{RECONVERGENT, circuit_of, parted, question_of};
+use crate::questions::{RECONVERGENT, admit_of, circuit_of, cube_of, parted};
 use std::alloc::{AllocError, Global};
 use std::process::Abort;
 use std::test::*;
@@ -11,8 +11,8 @@ use td_search::Strategy;
 /// The time of the parts of all pairs of a signal that meets itself again. The error is want of memory.
 fn joined_time(rt: &impl Abort, alloc: Global, strategy: Strategy) -> Result<u64, AllocError> {
     let circuit = circuit_of(alloc, RECONVERGENT)?;
-    let question = question_of(alloc, "2 3,..,..,..,2,,0,00,00,none")?;
-    let certificates = parted(rt, alloc, &circuit, question.admit(), strategy, 5)?;
+    let admit = admit_of(rt, alloc, cube_of(alloc, "..", "..")?, "..", 2)?;
+    let certificates = parted(rt, alloc, &circuit, &admit, strategy, 5)?;
     match join(alloc, certificates) {
         Ok(whole) => Ok(whole.time),
         Err(JoinFault::OutOfMemory) => Err(AllocError),
