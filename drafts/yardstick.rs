@@ -8,6 +8,7 @@
 
 use std::collections::HashMap;
 use std::fmt::Write as _;
+use std::io::Write as _;
 use std::process::ExitCode;
 
 const NEVER: u64 = u64::MAX;
@@ -1798,15 +1799,15 @@ fn worst(file: &str, options: &[String]) -> Result<bool, String> {
     search.run(budget);
     let time = search.best.time;
     let is_exact = search.open.is_empty();
-    if is_exact {
-        println!("exact {time}");
+    let answer = if is_exact {
+        format!("exact {time}")
     } else {
         let high = search.open.iter().map(|open| open.bound).fold(time, u64::max);
-        println!("between {time} {high}\ncause budget");
-    }
-    println!("from {}", bits(&search.best.pair.first));
-    println!("to {}", bits(&search.best.pair.second));
-    println!("nodes {}", search.tree.len());
+        format!("between {time} {high}\ncause budget")
+    };
+    let Pair { first, second } = &search.best.pair;
+    let report = format!("{answer}\nfrom {}\nto {}\nnodes {}\n", bits(first), bits(second), search.tree.len());
+    std::io::stdout().write_all(report.as_bytes()).map_err(|error| error.to_string())?;
     if let Some(file) = tree_file {
         std::fs::write(file, tree_lines(&search.tree)).map_err(|error| format!("{file}: {error}"))?;
     }
@@ -1885,35 +1886,37 @@ fn adder(width: usize) -> String {
     text.module(&format!("adder{width}"), &inputs, &outputs)
 }
 
-/// An array multiplier, in which a row of adders takes in the products of each bit of b.
+/// An array multiplier: the products of each bit of b are added to the sum of those before it by a row of adders.
 fn mult(width: usize) -> String {
     let mut text = Text::default();
     let (a, b, outputs) = (numbered("a", width), numbered("b", width), numbered("p", 2 * width));
-    let mut columns: Vec<Vec<String>> = vec![Vec::new(); 2 * width];
-    for i in 0..width {
-        for j in 0..width {
-            let product = text.wire("and", &[&a[j], &b[i]]);
-            columns[i + j].push(product);
-        }
+    let mut rows = Vec::new();
+    for b in &b {
+        rows.push(a.iter().map(|a| text.wire("and", &[a, b])).collect::<Vec<_>>());
     }
-    for column in 0..2 * width {
-        let mut summands = std::mem::take(&mut columns[column]);
-        while summands.len() > 1 {
-            let (sum, carry) = if summands.len() > 2 {
-                let (x, y, z) = (summands.remove(0), summands.remove(0), summands.remove(0));
-                text.full_adder(&x, &y, &z)
-            } else {
-                let (x, y) = (summands.remove(0), summands.remove(0));
-                text.half_adder(&x, &y)
+    let mut sums = rows.remove(0);
+    let mut products = Vec::new();
+    for row in rows {
+        products.push(sums.remove(0));
+        let mut carry: Option<String> = None;
+        let mut next = Vec::new();
+        for (bit, product) in row.iter().enumerate() {
+            let (sum, carried) = match (sums.get(bit), carry) {
+                (Some(other), Some(carry)) => text.full_adder(product, other, &carry),
+                (Some(other), None) => text.half_adder(product, other),
+                (None, Some(carry)) => text.half_adder(product, &carry),
+                (None, None) => (product.clone(), "1'b0".to_string()),
             };
-            summands.push(sum);
-            columns[column + 1].push(carry);
+            next.push(sum);
+            carry = Some(carried);
         }
-        if let Some(sum) = summands.pop() {
-            text.gate("buf", &outputs[column], &[&sum]);
-        } else {
-            text.gate("buf", &outputs[column], &["1'b0"]);
-        }
+        next.extend(carry);
+        sums = next;
+    }
+    products.extend(sums);
+    products.resize(2 * width, "1'b0".to_string());
+    for (output, product) in outputs.iter().zip(&products) {
+        text.gate("buf", output, &[product]);
     }
     text.module(&format!("mult{width}"), &[a, b].concat(), &outputs)
 }
