@@ -510,69 +510,98 @@ impl Queue {
     }
 }
 
+/// What is known of a net at a moment.
+#[derive(Clone, Copy)]
+struct Net {
+    /// The moment of its event.
+    when: u64,
+    /// How many inputs of its gate are at 1.
+    ones: u32,
+    level: bool,
+    is_output: bool,
+}
+
+/// How a gate's target follows from how many of its inputs are at 1, and its delays.
+#[derive(Clone, Copy)]
+struct Rule {
+    wanted: u32,
+    is_parity: bool,
+    is_negated: bool,
+    rise: u32,
+    fall: u32,
+}
+
+impl Rule {
+    fn new(gate: &Gate) -> Rule {
+        Rule {
+            wanted: if matches!(gate.kind, Kind::Or | Kind::Nor) { 0 } else { gate.count },
+            is_parity: matches!(gate.kind, Kind::Xor | Kind::Xnor),
+            is_negated: matches!(gate.kind, Kind::Nand | Kind::Not | Kind::Or | Kind::Xnor),
+            rise: gate.rise,
+            fall: gate.fall,
+        }
+    }
+
+    /// Whether the target is 1 where so many inputs are at 1.
+    fn target(&self, ones: u32) -> bool {
+        let is_met = if self.is_parity { ones % 2 == 1 } else { ones == self.wanted };
+        is_met != self.is_negated
+    }
+}
+
 struct Simulator {
-    levels: Vec<bool>,
-    /// How many inputs of each gate are at 1.
-    ones: Vec<u32>,
-    /// The moment of the event of each net.
-    whens: Vec<u64>,
-    is_output: Vec<bool>,
+    nets: Vec<Net>,
+    rules: Vec<Rule>,
     queue: Queue,
     taken: Vec<u32>,
     changed: Vec<u32>,
 }
 
-/// Whether the target is 1 where so many of a gate's inputs are at 1.
-fn target(gate: &Gate, ones: u32) -> bool {
-    match gate.kind {
-        Kind::And | Kind::Buf => ones == gate.count,
-        Kind::Nand | Kind::Not => ones != gate.count,
-        Kind::Or => ones != 0,
-        Kind::Nor => ones == 0,
-        Kind::Xor => ones % 2 == 1,
-        Kind::Xnor => ones % 2 == 0,
-    }
-}
-
 impl Simulator {
     fn new(circuit: &Circuit) -> Simulator {
-        let mut is_output = vec![false; circuit.nets()];
+        let blank = Net {
+            when: NEVER,
+            ones: 0,
+            level: false,
+            is_output: false,
+        };
+        let mut nets = vec![blank; circuit.nets()];
         for net in &circuit.outputs {
-            is_output[*net as usize] = true;
+            nets[*net as usize].is_output = true;
         }
         Simulator {
-            levels: vec![false; circuit.nets()],
-            ones: vec![0; circuit.gates.len()],
-            whens: vec![NEVER; circuit.nets()],
-            is_output,
+            nets,
+            rules: circuit.gates.iter().map(Rule::new).collect(),
             queue: Queue::new(),
             taken: Vec::new(),
             changed: Vec::new(),
         }
     }
 
+    /// Settles the circuit under a vector.
     fn settle(&mut self, circuit: &Circuit, first: &[bool]) {
-        self.levels[0] = false;
-        self.levels[1] = true;
-        self.levels[2..2 + first.len()].copy_from_slice(first);
+        self.nets[1].level = true;
+        for (net, level) in self.nets[2..].iter_mut().zip(first) {
+            net.level = *level;
+        }
         let start = circuit.first_output();
         for (place, gate) in circuit.gates.iter().enumerate() {
             let mut ones = 0;
             for net in circuit.inputs_of(gate) {
-                ones += u32::from(self.levels[*net as usize]);
+                ones += u32::from(self.nets[*net as usize].level);
             }
-            self.ones[place] = ones;
-            self.levels[start + place] = target(gate, ones);
+            let net = &mut self.nets[start + place];
+            net.ones = ones;
+            net.level = self.rules[place].target(ones);
         }
     }
 
     /// The latest moment at which an output changes, 0 where none does.
     fn delay_of(&mut self, circuit: &Circuit, first: &[bool], second: &[bool]) -> u64 {
         self.settle(circuit, first);
-        self.whens.fill(NEVER);
         for input in 0..circuit.inputs {
             if first[input] != second[input] {
-                self.whens[2 + input] = 0;
+                self.nets[2 + input].when = 0;
                 self.queue.add((2 + input) as u32, 0);
             }
         }
@@ -592,24 +621,23 @@ impl Simulator {
 
     /// The events of a moment take place. Answers whether an output changes.
     fn update(&mut self, circuit: &Circuit, moment: u64) -> bool {
-        let start = circuit.first_output();
         let mut is_seen = false;
         self.changed.clear();
-        for net in &self.taken {
-            let place = *net as usize;
-            let when = self.whens[place];
+        for number in &self.taken {
+            let net = &mut self.nets[*number as usize];
+            let when = net.when;
             if when == moment {
-                self.whens[place] = NEVER;
-                let level = !self.levels[place];
-                self.levels[place] = level;
-                for reader in circuit.readers_of(place) {
-                    let ones = &mut self.ones[*reader as usize - start];
-                    *ones = if level { *ones + 1 } else { *ones - 1 };
+                net.when = NEVER;
+                net.level = !net.level;
+                is_seen |= net.is_output;
+                let by = if net.level { 1 } else { u32::MAX };
+                for reader in circuit.readers_of(*number as usize) {
+                    let ones = &mut self.nets[*reader as usize].ones;
+                    *ones = ones.wrapping_add(by);
                 }
-                is_seen |= self.is_output[place];
-                self.changed.push(*net);
+                self.changed.push(*number);
             } else if when != NEVER && when % SLOTS as u64 == moment % SLOTS as u64 {
-                self.queue.add(*net, when);
+                self.queue.add(*number, when);
             }
         }
         is_seen
@@ -618,17 +646,16 @@ impl Simulator {
     /// Evaluates the gates that read a net that changed.
     fn evaluate(&mut self, circuit: &Circuit, moment: u64) {
         let start = circuit.first_output();
-        for net in &self.changed {
-            for reader in circuit.readers_of(*net as usize) {
-                let output = *reader as usize;
-                let gate = &circuit.gates[output - start];
-                let target = target(gate, self.ones[output - start]);
-                if target == self.levels[output] {
-                    self.whens[output] = NEVER;
-                } else if self.whens[output] == NEVER {
-                    let when = moment + u64::from(if target { gate.rise } else { gate.fall });
-                    self.whens[output] = when;
-                    self.queue.add(*reader, when);
+        for number in &self.changed {
+            for reader in circuit.readers_of(*number as usize) {
+                let rule = &self.rules[*reader as usize - start];
+                let net = &mut self.nets[*reader as usize];
+                let target = rule.target(net.ones);
+                if target == net.level {
+                    net.when = NEVER;
+                } else if net.when == NEVER {
+                    net.when = moment + u64::from(if target { rule.rise } else { rule.fall });
+                    self.queue.add(*reader, net.when);
                 }
             }
         }
@@ -1830,6 +1857,8 @@ impl Text {
             "and" => "3,2",
             "or" => "2,3",
             "xor" => "4,4",
+            "nand" => "2,1",
+            "nor" => "1,2",
             _ => "1,1",
         };
         let _ = writeln!(self.gates, "{kind} #({delay}) ({output}, {});", inputs.join(", "));
@@ -1921,35 +1950,30 @@ fn mult(width: usize) -> String {
     text.module(&format!("mult{width}"), &[a, b].concat(), &outputs)
 }
 
-/// Gates of two or three inputs, each drawn from the nets of the last thousand or, one time in eight, from all.
+/// Gates of two or three inputs, each among the 200 nets before it; the last 50 nets are outputs.
 fn random(gates: usize, inputs: usize, seed: u64) -> String {
-    const KINDS: [&str; 6] = ["and", "nand", "or", "nor", "xor", "xnor"];
+    const KINDS: [&str; 5] = ["and", "or", "nand", "nor", "xor"];
     let mut draws = Draws(seed);
+    let mut text = Text::default();
     let mut nets = numbered("i", inputs);
-    let mut is_read = vec![false; inputs + gates];
-    let mut text = String::new();
-    for gate in 0..gates {
+    for _ in 0..gates {
         let kind = KINDS[draws.below(KINDS.len())];
-        let (rise, fall) = (1 + draws.below(9), 1 + draws.below(9));
-        let name = format!("w{gate}");
-        let _ = write!(text, "{kind} #({rise},{fall}) ({name}");
-        for _ in 0..2 + draws.below(2) {
-            let reach = if draws.below(8) == 0 { nets.len() } else { nets.len().min(1000) };
-            let place = nets.len() - 1 - draws.below(reach);
-            is_read[place] = true;
-            let _ = write!(text, ", {}", nets[place]);
+        let count = [2, 2, 3][draws.below(3)];
+        let mut reads: Vec<&str> = Vec::new();
+        while reads.len() < count {
+            let name = &nets[nets.len() - 1 - draws.below(nets.len().min(200))];
+            if !reads.contains(&name.as_str()) {
+                reads.push(name);
+            }
         }
-        text.push_str(");\n");
-        nets.push(name);
+        let net = text.wire(kind, &reads);
+        nets.push(net);
     }
-    let mut outputs = Vec::new();
-    for (place, name) in nets.iter().enumerate().skip(inputs) {
-        if !is_read[place] {
-            outputs.push(name.clone());
-        }
+    let outputs = numbered("o", 50.min(gates));
+    for (output, net) in outputs.iter().zip(&nets[nets.len() - outputs.len()..]) {
+        text.gate("buf", output, &[net]);
     }
-    let module = Text { gates: text, wires: 0 };
-    module.module("random", &nets[..inputs], &outputs)
+    text.module("random", &nets[..inputs], &outputs)
 }
 
 fn generated(words: &[String]) -> Result<String, String> {
