@@ -136,10 +136,6 @@ impl Circuit {
         &self.terminals[gate.first as usize..(gate.first + gate.count) as usize]
     }
 
-    fn readers_of(&self, net: usize) -> &[u32] {
-        &self.readers[self.reader_starts[net] as usize..self.reader_starts[net + 1] as usize]
-    }
-
     /// The outputs of the gates that an input reaches, in topological order.
     fn cone(&self, input: usize) -> Vec<u32> {
         let mut reached = vec![false; self.nets()];
@@ -463,16 +459,16 @@ const SLOTS: usize = 256;
 
 /// Nets that wait for moments, in a wheel of slots, and the least moment of each slot in a tree of minima.
 struct Queue {
-    lists: Vec<Vec<u32>>,
+    lists: [Vec<u32>; SLOTS],
     /// Node 1 is the root, the leaves are the second half.
-    least: Vec<u64>,
+    least: [u64; 2 * SLOTS],
 }
 
 impl Queue {
     fn new() -> Queue {
         Queue {
-            lists: vec![Vec::new(); SLOTS],
-            least: vec![NEVER; 2 * SLOTS],
+            lists: [const { Vec::new() }; SLOTS],
+            least: [NEVER; 2 * SLOTS],
         }
     }
 
@@ -510,69 +506,75 @@ impl Queue {
     }
 }
 
-/// What is known of a net at a moment.
+/// What is known of a net at a moment, and of the gate whose output it is.
 #[derive(Clone, Copy)]
 struct Net {
     /// The moment of its event.
     when: u64,
     /// How many inputs of its gate are at 1.
     ones: u32,
-    level: bool,
-    is_output: bool,
-}
-
-/// How a gate's target follows from how many of its inputs are at 1, and its delays.
-#[derive(Clone, Copy)]
-struct Rule {
+    /// Of a gate that is no parity, how many ones tell its target from the other one.
     wanted: u32,
-    is_parity: bool,
-    is_negated: bool,
     rise: u32,
     fall: u32,
+    first_reader: u32,
+    last_reader: u32,
+    level: bool,
+    is_output: bool,
+    is_parity: bool,
+    is_negated: bool,
 }
 
-impl Rule {
-    fn new(gate: &Gate) -> Rule {
-        Rule {
-            wanted: if matches!(gate.kind, Kind::Or | Kind::Nor) { 0 } else { gate.count },
-            is_parity: matches!(gate.kind, Kind::Xor | Kind::Xnor),
-            is_negated: matches!(gate.kind, Kind::Nand | Kind::Not | Kind::Or | Kind::Xnor),
-            rise: gate.rise,
-            fall: gate.fall,
-        }
+impl Net {
+    /// Whether the target of its gate is 1.
+    fn target(&self) -> bool {
+        let is_met = if self.is_parity { self.ones % 2 == 1 } else { self.ones == self.wanted };
+        is_met != self.is_negated
     }
 
-    /// Whether the target is 1 where so many inputs are at 1.
-    fn target(&self, ones: u32) -> bool {
-        let is_met = if self.is_parity { ones % 2 == 1 } else { ones == self.wanted };
-        is_met != self.is_negated
+    fn drive(&mut self, gate: &Gate) {
+        self.wanted = if matches!(gate.kind, Kind::Or | Kind::Nor) { 0 } else { gate.count };
+        self.is_parity = matches!(gate.kind, Kind::Xor | Kind::Xnor);
+        self.is_negated = matches!(gate.kind, Kind::Nand | Kind::Not | Kind::Or | Kind::Xnor);
+        self.rise = gate.rise;
+        self.fall = gate.fall;
     }
 }
 
 struct Simulator {
     nets: Vec<Net>,
-    rules: Vec<Rule>,
-    queue: Queue,
+    queue: Box<Queue>,
     taken: Vec<u32>,
     changed: Vec<u32>,
 }
 
 impl Simulator {
     fn new(circuit: &Circuit) -> Simulator {
-        let blank = Net {
-            when: NEVER,
-            ones: 0,
-            level: false,
-            is_output: false,
-        };
-        let mut nets = vec![blank; circuit.nets()];
+        let mut nets = Vec::with_capacity(circuit.nets());
+        for ends in circuit.reader_starts.windows(2) {
+            nets.push(Net {
+                when: NEVER,
+                ones: 0,
+                wanted: 0,
+                rise: 0,
+                fall: 0,
+                first_reader: ends[0],
+                last_reader: ends[1],
+                level: false,
+                is_output: false,
+                is_parity: false,
+                is_negated: false,
+            });
+        }
         for net in &circuit.outputs {
             nets[*net as usize].is_output = true;
         }
+        for (net, gate) in nets[circuit.first_output()..].iter_mut().zip(&circuit.gates) {
+            net.drive(gate);
+        }
         Simulator {
             nets,
-            rules: circuit.gates.iter().map(Rule::new).collect(),
-            queue: Queue::new(),
+            queue: Box::new(Queue::new()),
             taken: Vec::new(),
             changed: Vec::new(),
         }
@@ -592,7 +594,7 @@ impl Simulator {
             }
             let net = &mut self.nets[start + place];
             net.ones = ones;
-            net.level = self.rules[place].target(ones);
+            net.level = net.target();
         }
     }
 
@@ -631,7 +633,7 @@ impl Simulator {
                 net.level = !net.level;
                 is_seen |= net.is_output;
                 let by = if net.level { 1 } else { u32::MAX };
-                for reader in circuit.readers_of(*number as usize) {
+                for reader in &circuit.readers[net.first_reader as usize..net.last_reader as usize] {
                     let ones = &mut self.nets[*reader as usize].ones;
                     *ones = ones.wrapping_add(by);
                 }
@@ -645,16 +647,15 @@ impl Simulator {
 
     /// Evaluates the gates that read a net that changed.
     fn evaluate(&mut self, circuit: &Circuit, moment: u64) {
-        let start = circuit.first_output();
         for number in &self.changed {
-            for reader in circuit.readers_of(*number as usize) {
-                let rule = &self.rules[*reader as usize - start];
+            let Net { first_reader, last_reader, .. } = self.nets[*number as usize];
+            for reader in &circuit.readers[first_reader as usize..last_reader as usize] {
                 let net = &mut self.nets[*reader as usize];
-                let target = rule.target(net.ones);
+                let target = net.target();
                 if target == net.level {
                     net.when = NEVER;
                 } else if net.when == NEVER {
-                    net.when = moment + u64::from(if target { rule.rise } else { rule.fall });
+                    net.when = moment + u64::from(if target { net.rise } else { net.fall });
                     self.queue.add(*reader, net.when);
                 }
             }
