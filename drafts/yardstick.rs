@@ -5,6 +5,14 @@
 //!
 //! yardstick worst FILE [--budget N] [--strategy least|lead]
 //! yardstick gen adder BITS | gen mult BITS | gen random GATES INPUTS SEED
+//!
+//! `--tree OUT` writes the tree's lines of a certificate; `--lazy` lets `lead` ask for possible levels only where the finish of the
+//! latest output is known, which gives the same tree. Of a netlist it reads one module of gates on scalar nets.
+//!
+//! What it does otherwise than the product, with the same steps of the search: the waves of possible levels stand in one list that
+//! grows and shrinks with the narrowings, and no wave is a vector of its own; a sheet goes from cube to cube along the path from the
+//! root and not by position; what the simulator knows of a net and of its gate is one record; the changes of two inputs are merged
+//! and not sorted; a domain's gate is worked out in one pass over its inputs. There is no `unsafe`.
 
 use std::collections::HashMap;
 use std::fmt::Write as _;
