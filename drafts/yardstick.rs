@@ -521,7 +521,8 @@ struct Net {
     when: u64,
     /// How many inputs of its gate are at 1.
     ones: u32,
-    /// Of a gate that is no parity, how many ones tell its target from the other one.
+    /// The target tells whether the ones, of which the mask leaves the last digit for a parity, are as wanted.
+    mask: u32,
     wanted: u32,
     rise: u32,
     fall: u32,
@@ -529,20 +530,21 @@ struct Net {
     last_reader: u32,
     level: bool,
     is_output: bool,
-    is_parity: bool,
     is_negated: bool,
 }
 
 impl Net {
     /// Whether the target of its gate is 1.
     fn target(&self) -> bool {
-        let is_met = if self.is_parity { self.ones % 2 == 1 } else { self.ones == self.wanted };
-        is_met != self.is_negated
+        (self.ones & self.mask == self.wanted) != self.is_negated
     }
 
     fn drive(&mut self, gate: &Gate) {
-        self.wanted = if matches!(gate.kind, Kind::Or | Kind::Nor) { 0 } else { gate.count };
-        self.is_parity = matches!(gate.kind, Kind::Xor | Kind::Xnor);
+        (self.mask, self.wanted) = match gate.kind {
+            Kind::And | Kind::Nand | Kind::Buf | Kind::Not => (u32::MAX, gate.count),
+            Kind::Or | Kind::Nor => (u32::MAX, 0),
+            Kind::Xor | Kind::Xnor => (1, 1),
+        };
         self.is_negated = matches!(gate.kind, Kind::Nand | Kind::Not | Kind::Or | Kind::Xnor);
         self.rise = gate.rise;
         self.fall = gate.fall;
@@ -563,6 +565,7 @@ impl Simulator {
             nets.push(Net {
                 when: NEVER,
                 ones: 0,
+                mask: 0,
                 wanted: 0,
                 rise: 0,
                 fall: 0,
@@ -570,7 +573,6 @@ impl Simulator {
                 last_reader: ends[1],
                 level: false,
                 is_output: false,
-                is_parity: false,
                 is_negated: false,
             });
         }
@@ -914,12 +916,9 @@ impl Domain for Edges {
             earliest = signal.earliest.min(earliest);
             ends[0] = signal.until[0].max(ends[0]);
             ends[1] = signal.until[1].max(ends[1]);
-            if signal.finish == control {
-                closes = signal.until[usize::from(control == ONE)].min(closes);
-            }
-            if signal.start == control && !signal.is_still() {
-                opens = signal.earliest.max(opens);
-            }
+            let end = signal.until[usize::from(control == ONE)];
+            closes = closes.min(if signal.finish == control { end } else { NEVER });
+            opens = opens.max(if !signal.is_still() & (signal.start == control) { signal.earliest } else { 0 });
         }
         let (start, finish) = (starts.level(gate.kind), finishes.level(gate.kind));
         if earliest == NEVER {
