@@ -18,6 +18,8 @@ mod paths;
 #[cfg(test)]
 mod plain;
 #[cfg(test)]
+mod progress;
+#[cfg(test)]
 mod runs;
 #[cfg(test)]
 mod searches;

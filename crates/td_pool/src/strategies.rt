@@ -145,7 +145,7 @@ fn lead<W: Watch, R: Threads + Wait + Sync>(
         return Err(SearchFault::NoPair);
     }
     let decks = Deck::deal(alloc, workers as usize)?;
-    let (climbs, root) = ByClimbs::of(alloc, circuit, admit)?;
+    let (climbs, root) = ByClimbs::of(alloc, circuit, admit, workers)?;
     let answer = search(
         rt, alloc, circuit, admit, &climbs, decks, workers, budget, root, watch,
     )?;
