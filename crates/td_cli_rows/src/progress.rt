@@ -15,7 +15,7 @@ const FILES: [(&str, &[u8]); 1] = [("long.v", LONG)];
 
 const REPORT: &[u8] = b"unit 1 ns\ndefaulted 0\nbetween 3 4\ncause budget\nfrom 000000\nto 111111\nnodes 6000\n";
 
-const LINES: &[u8] = b"nodes 1000 low 3 high 4 open 1\nnodes 2000 low 3 high 4 open 1\nnodes 5000 low 3 high 4 open 1\n";
+const LINES: &[u8] = b"nodes 1026 low 3 high 4 open 3\nnodes 2049 low 3 high 4 open 2\nnodes 5058 low 3 high 4 open 3\n";
 
 /// What a search of 6,000 nodes writes to standard error, which takes so many bytes; its report and its status are always the same.
 fn told<R: Threads + Wait + Sync>(
@@ -48,14 +48,13 @@ fn lines_of_progress(rt: HostRuntime) -> Result<(), Fail> {
     Ok(())
 }
 
-/// Where standard error fails, the search goes on, and what went out is a beginning of a line each time.
+/// Where standard error takes no more, the search goes on.
 #[test]
 fn lines_that_are_lost(rt: HostRuntime) -> Result<(), Fail> {
     let words = ["tdelay", "worst", "long.v", "--budget=6000", "--progress"];
     for room in [0, 1, 40] {
         let err = told(&rt, rt.alloc(), &words, room)?;
-        assert_eq!(rt; err.bytes().len() <= room, true);
-        assert_eq!(rt; LINES.starts_with(err.bytes()), room <= 31);
+        assert_eq!(rt; err.bytes(), &LINES[..room]);
     }
     Ok(())
 }
