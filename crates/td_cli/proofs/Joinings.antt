@@ -1,6 +1,6 @@
 -- Parts that are read from files, and joined.
 use Rattle.std.proofs.Common.{◌≡◌, ◌≢◌, ◌∙◌, ◌⊎◌, ◌++◌, ◌<◌, ◌≤◌, ◌+◌, ℕ, Bool, true, false, List, [], ◌∷◌, length, take, get_or, Option, Some, None, refl, sym, ap, subst, inl, inr, arith}
-use Rattle.std.specs.Prelude.{map, All, Contains}
+use Rattle.std.specs.Prelude.{map, All, Contains, IfNone}
 use Rattle.std.specs.List.{AllZip, flat_map}
 use Rattle.std.specs.Borrow.{Bor}
 use Rattle.std.proofs.lemmas.List.{take_more, take_all, get_or-map, length-map, append-nil}
@@ -23,7 +23,12 @@ use Rattle.td_cli.specs.declared.vector.VectorWord.{VectorWord}
 use Rattle.td_cli.specs.declared.refusal.Refusal.{Refusal}
 use Rattle.td_cli.specs.declared.refusal.Refusal.TheVariants as refusal
 use Rattle.td_cli.specs.Disks.{Disk, HoldsOnFile}
-use Rattle.td_cli.specs.Outcomes.{IsCircuitOf, HasNoCircuit, IsRefusedFor}
+use Rattle.td_cli.specs.Outcomes.{IsCircuitOf, HasNoCircuit, IsRefusedFor, HasNoAnswer}
+use Rattle.td_cli.specs.declared.asking.QuestionWords.{QuestionWords}
+use Rattle.td_cli.specs.WorstReports.{IsAsked}
+use Rattle.td_search.specs.Problems.{Problem}
+use Rattle.td_join.specs.Partition.{IsPartition}
+use Rattle.td_gates.proofs.Places.{slice_get-some}
 use Rattle.td_cli.specs.JoinReports.{TellsPart, TellsNoPart, GivesPart, AreParts, HasNoPart, ArePinned, whole_pins, IsToJoin, IsUnjoinedFor, pin_words}
 use Rattle.td_cli.specs.Parts.{IsOfPart, unjudged, IsOfUnjoined}
 
@@ -149,3 +154,17 @@ no_circuit text default first second (refusal.Unaccepted name verdict) has = abs
 no_circuit text default first second (refusal.OtherCircuit name) has = absurd has
 no_circuit text default first second (refusal.NotJoined fault one other) has = absurd has
 no_circuit text default first second refusal.TooLong has = absurd has
+
+-- where there is no value, and this follows
+pub none_with : {X A B : Type 0} (r : Option X) → (A → B) → IfNone r A → IfNone r B
+none_with (Some x) follows none = tt
+none_with None follows none = follows none
+
+-- without parts no pair is admitted
+pub no_parts : (text : List ℕ) (default : Delay) (words : QuestionWords) (asked : Problem) (cubes : List (List Trit)) (reason : Refusal)
+    → IsAsked text default words asked → IsPartition asked.admit cubes → (reason ≡ refusal.OutOfMemory) ⊎ ((reason ≡ refusal.NoPair) × (length cubes ≡ 0))
+    → HasNoAnswer text default words reason
+no_parts text default words asked cubes reason is partition (inl memory) = subst (λ (r : Refusal). HasNoAnswer text default words r) (sym memory) tt
+no_parts text default words asked cubes reason is partition (inr none) =
+    subst (λ (r : Refusal). HasNoAnswer text default words r) (sym none.0) (asked, is, λ pair admitted.
+    (let lies = partition pair admitted in absurd (omega (arith, slice_get-some cubes lies.place lies.cube lies.at, none.1))))

@@ -1,6 +1,6 @@
 //! The command `parts`: a question that is cut into parts, each of them a search of its own.
 
-ghost use Rattle.std.specs.Prelude.{◌≡◌, ◌<◌, ◌++◌, [], length, map, IfOk, IfErr, OnOk};
+ghost use Rattle.std.specs.Prelude.{◌≡◌, ◌<◌, ◌⊎◌, ◌++◌, [], length, map, IfOk, IfErr, OnOk};
 ghost use Rattle.std.specs.List.{flat_map};
 ghost use Rattle.td_gates.specs.Delays.{IsInRange};
 ghost use Rattle.td_command.specs.CommandLine.{delays};
@@ -11,6 +11,7 @@ ghost use Rattle.td_cli.specs.Outcomes.{HasNoAnswer};
 ghost use Rattle.td_cli.specs.PartReports.{option_text, flips_text, part_line, IsPartsReport};
 ghost use Rattle.td_cli.specs.Disks.{disk_of};
 ghost use Rattle.td_cli.specs.Requests.{parts_words, IsPartsProduct, RequestRuns};
+ghost use Rattle.td_cli.specs.declared.refusal.Refusal.TheVariants as Reason;
 ghost use Rattle.td_command.specs.declared.command.Request.TheVariants as Asked;
 
 use crate::asking::QuestionWords;
@@ -48,11 +49,23 @@ pub fn parts<'a>(
         words.strategy,
         parts as usize,
     )?;
+    some_lines(alloc, &cubes, words)
+}
+
+/// A line for each part, of which there has to be one.
+fn some_lines<'a>(
+    alloc: Global,
+    cubes: &[Cube],
+    words: QuestionWords<'_>,
+) -> Result<Text, Refusal<'a>>
+    ensures lines { IfOk result (λ text. text ≡ flat_map (part_line words.entry) cubes.now) }
+    ensures none { IfErr result (λ reason. (reason ≡ Reason.OutOfMemory) ⊎ ((reason ≡ Reason.NoPair) × (length cubes.now ≡ 0))) }
+{
     if cubes.is_empty() {
         return Err(Refusal::NoPair);
     }
-    let report = lines(alloc, &cubes, words)?;
-    Ok(report)
+    let text = lines(alloc, cubes, words)?;
+    Ok(text)
 }
 
 /// A line for each part.

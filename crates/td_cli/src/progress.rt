@@ -1,6 +1,6 @@
 //! Lines on standard error that tell how far a search has come.
 
-ghost use Rattle.std.specs.Prelude.{◌≡◌, ◌<◌, ◌≤◌, ◌++◌, IfOk, IfErr, IfSome};
+ghost use Rattle.std.specs.Prelude.{◌≡◌, ◌<◌, ◌≤◌, ◌++◌, true, IfOk, IfErr, IfSome};
 ghost use Rattle.td_certificate.specs.Spelling.{HasSpelling};
 ghost use Rattle.td_cli.specs.Dumps.{dump_files, HasRun};
 ghost use Rattle.td_cli.specs.Vectors.{words_of};
@@ -9,8 +9,10 @@ ghost use Rattle.td_cli.specs.Outcomes.{HasNoAnswer};
 ghost use Rattle.td_cli.specs.Progress.{progress_line, TellsSearch};
 
 use crate::asking::QuestionWords;
+use crate::program::tell;
 use crate::refusal::Refusal;
 use crate::searching::{Found, worst};
+use crate::status::Status;
 use crate::text::Text;
 use std::alloc::{AllocError, Global};
 use std::sync::Wait;
@@ -60,7 +62,7 @@ impl<'e, E: Sink> Watch for ProgressLines<'e, E> {
         let Ok(line) = line_of(self.alloc, progress) else {
             return;
         };
-        let _lost = self.err.write_all(line.bytes());
+        let _status = tell(self.err, line.bytes(), Status::Done);
     }
 
     ghost told_nothing = { λ asked lines. (told_nothing asked (E.output lines.err.now), refl) };
@@ -73,8 +75,39 @@ fn take_back<E>(err: &mut E)
     ensures { err.new ≡ err.old }
 {}
 
-/// As `worst`, with a line on standard error each time that the nodes handled have passed 1, 2 or 5 thousand, ten thousand and so on, where
-/// that is asked for.
+/// As `worst`, with a line on standard error each time that the nodes handled have passed 1, 2 or 5 thousand, ten thousand and so on.
+fn watched<'a, 'v, R: Threads + Wait + Sync, E: Sink>(
+    rt: &R,
+    alloc: Global,
+    text: &'a [u8],
+    default: Delay,
+    words: QuestionWords<'_>,
+    workers: u32,
+    budget: u64,
+    path: bool,
+    vcd: Option<&'v str>,
+    err: &mut E,
+) -> Result<Found<'v>, Refusal<'a>>
+    requires some { 0 < workers }
+    requires few { workers ≤ 64 }
+    requires modest { budget ≤ 10000000 }
+    ensures report { IfOk result (λ found.
+        IsWorstReport text.now default words.entry budget path (words_of vcd.entry) found.report found.certificate (dump_files found.dump)) }
+    ensures refusal { IfErr result (λ refusal. HasNoAnswer text.now default words.entry refusal) }
+    ensures spelled { IfOk result (λ found. IfSome found.certificate HasSpelling) }
+    ensures has { IfOk result (λ found. IfSome found.dump HasRun) }
+    ensures told { TellsSearch true text.now default words.entry (E.output err.old) (E.output err.new) }
+{
+    let mut lines = ProgressLines { alloc, err };
+    let found = worst(
+        rt, alloc, text, default, words, workers, budget, &mut lines, path, vcd,
+    );
+    let ProgressLines { err, .. } = lines;
+    take_back(err);
+    found
+}
+
+/// As `worst`, with lines that tell how far the search has come where they are asked for.
 pub fn searched<'a, 'v, R: Threads + Wait + Sync, E: Sink>(
     rt: &R,
     alloc: Global,
@@ -98,17 +131,13 @@ pub fn searched<'a, 'v, R: Threads + Wait + Sync, E: Sink>(
     ensures has { IfOk result (λ found. IfSome found.dump HasRun) }
     ensures told { TellsSearch progress text.now default words.entry (E.output err.old) (E.output err.new) }
 {
-    if !progress {
-        let mut nobody = Unwatched;
-        return worst(
-            rt, alloc, text, default, words, workers, budget, &mut nobody, path, vcd,
+    if progress {
+        return watched(
+            rt, alloc, text, default, words, workers, budget, path, vcd, err,
         );
     }
-    let mut lines = ProgressLines { alloc, err };
-    let found = worst(
-        rt, alloc, text, default, words, workers, budget, &mut lines, path, vcd,
-    );
-    let ProgressLines { err, .. } = lines;
-    take_back(err);
-    found
+    let mut nobody = Unwatched;
+    worst(
+        rt, alloc, text, default, words, workers, budget, &mut nobody, path, vcd,
+    )
 }
