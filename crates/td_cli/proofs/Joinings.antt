@@ -1,10 +1,10 @@
 -- Parts that are read from files, and joined.
-use Rattle.std.proofs.Common.{◌≡◌, ◌≢◌, ◌∙◌, ◌⊎◌, ◌++◌, ◌<◌, ◌≤◌, ◌+◌, ℕ, Bool, true, false, List, [], ◌∷◌, length, take, get_or, Option, Some, None, refl, sym, ap, subst, inl, inr, arith}
+use Rattle.std.proofs.Common.{◌≡◌, ◌≢◌, ◌⊎◌, ◌++◌, ◌<◌, ◌≤◌, ◌+◌, ℕ, Bool, List, [], ◌∷◌, length, take, get_or, Option, Some, None, refl, sym, subst, inl, inr, arith}
 use Rattle.std.specs.Prelude.{map, All, Contains, IfNone}
-use Rattle.std.specs.List.{AllZip, flat_map}
+use Rattle.std.specs.List.{AllZip}
 use Rattle.std.specs.Borrow.{Bor}
-use Rattle.std.proofs.lemmas.List.{take_more, take_all, get_or-map, length-map, append-nil}
-use Rattle.std.proofs.lemmas.List.Elements.{Contains-get_or, All-cons, All-map, All-more}
+use Rattle.std.proofs.lemmas.List.{take_more, take_all, get_or-map, length-map}
+use Rattle.std.proofs.lemmas.List.Elements.{Contains-get_or, All-cons, All-map}
 use Rattle.td_gates.specs.declared.timing.Delay.{Delay}
 use Rattle.td_nets.specs.Netlist.{Netlist}
 use Rattle.td_circuit.specs.Numbering.{Numbered}
@@ -12,14 +12,12 @@ use Rattle.td_domain.specs.declared.cubes.Trit.{Trit}
 use Rattle.td_certificate.specs.declared.certificate.Certificate.{Certificate}
 use Rattle.td_certificate.specs.declared.fault.CertFault.{CertFault}
 use Rattle.td_certificate.specs.Faults.{IsFault}
-use Rattle.td_certificate.specs.Spelling.{HasSpelling, Spells}
-use Rattle.td_certificate.specs.Accepts.{Accepts, IsOfSize}
+use Rattle.td_certificate.specs.Spelling.{HasSpelling}
 use Rattle.td_checker.specs.declared.verdict.CheckFault.{CheckFault}
 use Rattle.td_checker.specs.declared.verdict.CheckFault.TheVariants as check
-use Rattle.td_checker.specs.Checks.{HasCircuit, HaveVerdict, IsCheckFault}
+use Rattle.td_checker.specs.Checks.{IsCheckFault}
 use Rattle.td_join.specs.declared.fault.JoinFault.{JoinFault}
 use Rattle.td_join.specs.Faults.{IsJoinFault}
-use Rattle.td_cli.specs.declared.vector.VectorWord.{VectorWord}
 use Rattle.td_cli.specs.declared.refusal.Refusal.{Refusal}
 use Rattle.td_cli.specs.declared.refusal.Refusal.TheVariants as refusal
 use Rattle.td_cli.specs.Disks.{Disk, HoldsOnFile}
@@ -29,7 +27,7 @@ use Rattle.td_cli.specs.WorstReports.{IsAsked}
 use Rattle.td_search.specs.Problems.{Problem}
 use Rattle.td_join.specs.Partition.{IsPartition}
 use Rattle.td_gates.proofs.Places.{slice_get-some}
-use Rattle.td_cli.specs.JoinReports.{TellsPart, TellsNoPart, GivesPart, AreParts, HasNoPart, ArePinned, whole_pins, IsToJoin, IsUnjoinedFor, pin_words}
+use Rattle.td_cli.specs.JoinReports.{TellsNoPart, GivesPart, AreParts, HasNoPart, ArePinned, whole_pins, IsToJoin, IsUnjoinedFor, pin_words}
 use Rattle.td_cli.specs.Parts.{IsOfPart, unjudged, IsOfUnjoined}
 
 -- ---- lists
@@ -166,5 +164,9 @@ pub no_parts : (text : List ℕ) (default : Delay) (words : QuestionWords) (aske
     → HasNoAnswer text default words reason
 no_parts text default words asked cubes reason is partition (inl memory) = subst (λ (r : Refusal). HasNoAnswer text default words r) (sym memory) tt
 no_parts text default words asked cubes reason is partition (inr none) =
-    subst (λ (r : Refusal). HasNoAnswer text default words r) (sym none.0) (asked, is, λ pair admitted.
-    (let lies = partition pair admitted in absurd (omega (arith, slice_get-some cubes lies.place lies.cube lies.at, none.1))))
+    subst (λ (r : Refusal). HasNoAnswer text default words r) (sym none.0) (
+      asked,
+      is,
+      λ pair admitted.
+          (let lies = partition pair admitted in absurd (omega (arith, slice_get-some cubes lies.place lies.cube lies.at, none.1))),
+    )

@@ -1,6 +1,6 @@
 -- Internal: what was told of a search one after another, which stands here since an impl block may name no proofs.
-use Rattle.std.proofs.Common.{refl, subst, sym}
-use Rattle.std.specs.Prelude.{◌≡◌, List, [], ◌∷◌, ◌++◌}
+use Rattle.std.proofs.Common.{refl, subst}
+use Rattle.std.specs.Prelude.{List, [], ◌∷◌, ◌++◌}
 use Rattle.td_gates.specs.Output.{Output}
 use Rattle.td_search.specs.Problems.{Problem}
 use Rattle.td_pool.specs.declared.watch.Progress.{Progress}

@@ -216,16 +216,17 @@ pub fn carry_out_join<F: Files, O: Sink, E: Sink>(
 ) -> Status
     ensures { Takes (F.did files.old files.new) (λ steps.
         Ends (IsJoinProduct (disk_of (F.holds files.old) (F.fails files.old) (F.breaks files.old) (F.is_one files.old)) text.now default
-            (map (λ part. part.now) names.now) is_checked (words_of first.entry) (words_of second.entry) (words_of name.entry))
+        (map (λ part. part.now) names.now) is_checked (words_of first.entry) (words_of second.entry) (words_of name.entry))
         (HasNoJoin (disk_of (F.holds files.old) (F.fails files.old) (F.breaks files.old) (F.is_one files.old)) text.now default
-            (map (λ part. part.now) names.now) is_checked (words_of first.entry) (words_of second.entry)) (F.breaks files.old) steps result
+        (map (λ part. part.now) names.now) is_checked (words_of first.entry) (words_of second.entry)) (F.breaks files.old) steps result
         (streams (O.output out.old) (E.output err.old)) (streams (O.output out.new) (E.output err.new))) }
 {
-    let Joined { report, whole } =
-        match join_files(alloc, files, text, default, names, is_checked, first, second) {
-            Ok(joined) => joined,
-            Err(refusal) => return tell_refusal(alloc, err, &refusal),
-        };
+    let Joined { report, whole } = match join_files(
+        alloc, files, text, default, names, is_checked, first, second,
+    ) {
+        Ok(joined) => joined,
+        Err(refusal) => return tell_refusal(alloc, err, &refusal),
+    };
     let certificate = Some(whole);
     let shown = beside_files(&report, name, &certificate, &None);
     let Ok(()) = out.write_all(shown) else {

@@ -58,7 +58,13 @@ impl<'e, E: Sink> Watch for ProgressLines<'e, E> {
         true
     }
 
-    fn passed(&mut self, _circuit: &Circuit, _admit: &Admit, _strategy: Strategy, progress: Progress) {
+    fn passed(
+        &mut self,
+        _circuit: &Circuit,
+        _admit: &Admit,
+        _strategy: Strategy,
+        progress: Progress,
+    ) {
         let Ok(line) = line_of(self.alloc, progress) else {
             return;
         };
@@ -138,6 +144,15 @@ pub fn searched<'a, 'v, R: Threads + Wait + Sync, E: Sink>(
     }
     let mut nobody = Unwatched;
     worst(
-        rt, alloc, text, default, words, workers, budget, &mut nobody, path, vcd,
+        rt,
+        alloc,
+        text,
+        default,
+        words,
+        workers,
+        budget,
+        &mut nobody,
+        path,
+        vcd,
     )
 }

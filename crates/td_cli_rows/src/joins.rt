@@ -9,15 +9,19 @@ use std::thread::Threads;
 use td_cli::MemoryFiles;
 
 /// The two halves of the question about `lost.v`, by the first level of its input.
-const ZERO: &[u8] = b"tdelay-cert 2\ncircuit 1 2\nfirst 0\nsecond .\nhold .\nflips 1\ntime 0\nfrom 0\nto 1\ns 1\nb a 0\nb a 0\n";
+const ZERO: &[u8] =
+    b"tdelay-cert 2\ncircuit 1 2\nfirst 0\nsecond .\nhold .\nflips 1\ntime 0\nfrom 0\nto 1\ns 1\nb a 0\nb a 0\n";
 
-const ONE: &[u8] = b"tdelay-cert 2\ncircuit 1 2\nfirst 1\nsecond .\nhold .\nflips 1\ntime 0\nfrom 1\nto 0\ns 1\nb a 0\nb a 0\n";
+const ONE: &[u8] =
+    b"tdelay-cert 2\ncircuit 1 2\nfirst 1\nsecond .\nhold .\nflips 1\ntime 0\nfrom 1\nto 0\ns 1\nb a 0\nb a 0\n";
 
 /// A half with a time that its pair hasn't.
-const LATER: &[u8] = b"tdelay-cert 2\ncircuit 1 2\nfirst 1\nsecond .\nhold .\nflips 1\ntime 1\nfrom 1\nto 0\ns 1\nb a 0\nb a 0\n";
+const LATER: &[u8] =
+    b"tdelay-cert 2\ncircuit 1 2\nfirst 1\nsecond .\nhold .\nflips 1\ntime 1\nfrom 1\nto 0\ns 1\nb a 0\nb a 0\n";
 
 /// A half of the question in which no bit may differ.
-const STILL: &[u8] = b"tdelay-cert 2\ncircuit 1 2\nfirst 1\nsecond .\nhold .\nflips 0\ntime 0\nfrom 1\nto 1\ns 1\nnone\nb a 0\n";
+const STILL: &[u8] =
+    b"tdelay-cert 2\ncircuit 1 2\nfirst 1\nsecond .\nhold .\nflips 0\ntime 0\nfrom 1\nto 1\ns 1\nnone\nb a 0\n";
 
 const OTHER: &[u8] = b"tdelay-cert 1\ncircuit 1 1\ntime 3\nfrom 0\nto 1\nb a 3\n";
 
@@ -48,37 +52,85 @@ fn run_over<R: Threads + Wait + Sync>(
 fn parts_of_questions(rt: HostRuntime) -> Result<(), Fail> {
     let cases: [([&str; 7], &[u8], &[u8], u8); 6] = [
         (
-            ["tdelay", "parts", "lost.v", "--parts=1", "--strategy=least", "--flips=1", "--at=0"],
+            [
+                "tdelay",
+                "parts",
+                "lost.v",
+                "--parts=1",
+                "--strategy=least",
+                "--flips=1",
+                "--at=0",
+            ],
             b"--first . --second . --flips 1 --at 0\n",
             b"",
             0,
         ),
         (
-            ["tdelay", "parts", "lost.v", "--parts=2", "--strategy=least", "--first=.", "--second=."],
+            [
+                "tdelay",
+                "parts",
+                "lost.v",
+                "--parts=2",
+                "--strategy=least",
+                "--first=.",
+                "--second=.",
+            ],
             b"--first 0 --second .\n--first 1 --second .\n",
             b"",
             0,
         ),
         (
-            ["tdelay", "parts", "lost.v", "--parts=9", "--strategy=lead", "--first=1", "--hold=."],
+            [
+                "tdelay",
+                "parts",
+                "lost.v",
+                "--parts=9",
+                "--strategy=lead",
+                "--first=1",
+                "--hold=.",
+            ],
             b"--first 1 --second 0 --hold .\n--first 1 --second 1 --hold .\n",
             b"",
             0,
         ),
         (
-            ["tdelay", "parts", "inverter.v", "--parts=9", "--strategy=least", "--first=.", "--hold=="],
+            [
+                "tdelay",
+                "parts",
+                "inverter.v",
+                "--parts=9",
+                "--strategy=least",
+                "--first=.",
+                "--hold==",
+            ],
             b"--first 0 --second 0 --hold =\n--first 1 --second 1 --hold =\n",
             b"",
             0,
         ),
         (
-            ["tdelay", "parts", "lost.v", "--parts=2", "--first=0", "--second=1", "--hold=="],
+            [
+                "tdelay",
+                "parts",
+                "lost.v",
+                "--parts=2",
+                "--first=0",
+                "--second=1",
+                "--hold==",
+            ],
             b"",
             b"tdelay: no admitted pair\n",
             1,
         ),
         (
-            ["tdelay", "parts", "lost.v", "--parts=2", "--first=00", "--second=1", "--hold=."],
+            [
+                "tdelay",
+                "parts",
+                "lost.v",
+                "--parts=2",
+                "--first=00",
+                "--second=1",
+                "--hold=.",
+            ],
             b"",
             b"tdelay: bad vector first\n",
             2,
@@ -116,10 +168,19 @@ fn joined_parts(rt: HostRuntime) -> Result<(), Fail> {
 fn certificates_of_wholes(rt: HostRuntime) -> Result<(), Fail> {
     let words = ["tdelay", "join", "lost.v", "one", "zero", "--cert", "c"];
     let ended = run_over(&rt, rt.alloc(), &words)?;
-    assert_eq!(rt; (ended.status, ended.out.bytes()), (0, b"unit 1 ns\ndefaulted 0\nexact 0\nfrom 1\nto 0\nnodes 7\n".as_slice()));
+    assert_eq!(rt;
+        (ended.status, ended.out.bytes()),
+        (
+            0,
+            b"unit 1 ns\ndefaulted 0\nexact 0\nfrom 1\nto 0\nnodes 7\n".as_slice()
+        )
+    );
     match one_file(ended.files.steps(), b"c") {
         Some(file) => {
-            assert_eq!(rt; file.bytes(), b"tdelay-cert 1\ncircuit 1 2\ntime 0\nfrom 1\nto 0\ns 0\ns 1\nb a 0\nb a 0\ns 1\nb a 0\nb a 0\n".as_slice())
+            assert_eq!(rt;
+                file.bytes(),
+                b"tdelay-cert 1\ncircuit 1 2\ntime 0\nfrom 1\nto 0\ns 0\ns 1\nb a 0\nb a 0\ns 1\nb a 0\nb a 0\n".as_slice()
+            )
         }
         None => assert_eq!(rt; ended.files.steps().len(), 2),
     }
@@ -143,7 +204,14 @@ fn not_joined(rt: HostRuntime) -> Result<(), Fail> {
             4,
         ),
         (
-            ["tdelay", "join", "lost.v", "zero", "--first=.", "--second=."],
+            [
+                "tdelay",
+                "join",
+                "lost.v",
+                "zero",
+                "--first=.",
+                "--second=.",
+            ],
             b"tdelay: no part for --first 1 --second .\n",
             4,
         ),

@@ -9,13 +9,16 @@ use td_cli::{MemoryFiles, run};
 use td_gates::MemorySink;
 
 /// Four inputs that no gate reads make the search long.
-const LONG: &[u8] = b"module t(e, f, g, h, a, b, y);\ninput e, f, g, h, a, b;\noutput y;\nbuf #1 p1(p,b); buf #1 p2(q,b); xor #3 g1(y,a,p,q);\nendmodule\n";
+const LONG: &[u8] =
+    b"module t(e, f, g, h, a, b, y);\ninput e, f, g, h, a, b;\noutput y;\nbuf #1 p1(p,b); buf #1 p2(q,b); xor #3 g1(y,a,p,q);\nendmodule\n";
 
 const FILES: [(&str, &[u8]); 1] = [("long.v", LONG)];
 
-const REPORT: &[u8] = b"unit 1 ns\ndefaulted 0\nbetween 3 4\ncause budget\nfrom 000000\nto 111111\nnodes 6000\n";
+const REPORT: &[u8] =
+    b"unit 1 ns\ndefaulted 0\nbetween 3 4\ncause budget\nfrom 000000\nto 111111\nnodes 6000\n";
 
-const LINES: &[u8] = b"nodes 1026 low 3 high 4 open 3\nnodes 2049 low 3 high 4 open 2\nnodes 5058 low 3 high 4 open 3\n";
+const LINES: &[u8] =
+    b"nodes 1026 low 3 high 4 open 3\nnodes 2049 low 3 high 4 open 2\nnodes 5058 low 3 high 4 open 3\n";
 
 /// What a search of 6,000 nodes writes to standard error, which takes so many bytes; its report and its status are always the same.
 fn told<R: Threads + Wait + Sync>(

@@ -20,8 +20,8 @@ loop-name-preserved g c =
     let disk = disk_of (g.F.Files.holds c.args.files.now) (g.F.Files.fails c.args.files.now) (g.F.Files.breaks c.args.files.now) (g.F.Files.is_one c.args.files.now) in (
       c.part_in.ensures.stays ∙ c.loop-name.invariant.0,
       rw c.in_ok-push.ensures.items (zip_more (λ (word : Bor (List ℕ)) (part : Certificate). GivesPart disk c.args.text.now c.args.default c.args.circuit.now.netlist c.args.is_checked word.now part)
-      c.args.names.now c.loop-name.parts.items c.loop-name.name-index _ c.in_ok-part.part c.loop-name-test.true c.loop-name.invariant.1
-      (rw c.loop-name.invariant.0 at c.in_ok-part.ensures.part)),
+          c.args.names.now c.loop-name.parts.items c.loop-name.name-index _ c.in_ok-part.part c.loop-name-test.true c.loop-name.invariant.1
+          (rw c.loop-name.invariant.0 at c.in_ok-part.ensures.part)),
     )
 
 pub returns-clause-parts : goal.returns-clause-parts

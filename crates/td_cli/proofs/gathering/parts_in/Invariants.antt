@@ -10,4 +10,4 @@ abbrev pub invariant-loop-name : goal.invariant-loop-name
 invariant-loop-name g l =
     (l.files ≡ l.initial.files)
     × AllZip (λ (word : Bor (List ℕ)) (part : Certificate). GivesPart (disk_of (g.F.Files.holds l.initial.files) (g.F.Files.fails l.initial.files) (g.F.Files.breaks l.initial.files) (g.F.Files.is_one l.initial.files))
-        l.text l.default l.circuit.netlist l.is_checked word.now part) (take l.name-index l.names) l.parts.items
+    l.text l.default l.circuit.netlist l.is_checked word.now part) (take l.name-index l.names) l.parts.items

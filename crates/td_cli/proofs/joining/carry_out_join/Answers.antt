@@ -1,4 +1,4 @@
-use Rattle.std.proofs.Common.{map, refl, ◌∙◌}
+use Rattle.std.proofs.Common.{map, refl}
 use Rattle.td_cli.specs.Vectors.{words_of}
 use Rattle.td_cli.specs.Disks.{disk_of}
 use Rattle.td_cli.specs.JoinReports.{HasNoJoin}

@@ -18,7 +18,7 @@ loop-name-preserved g c =
     let disk = disk_of (g.F.Files.holds c.args.files.now) (g.F.Files.fails c.args.files.now) (g.F.Files.breaks c.args.files.now) (g.F.Files.is_one c.args.files.now) in (
       c.over_read.ensures.stays ∙ c.loop-name.invariant.0,
       All-more (λ (word : Bor (List ℕ)). KeepsRead disk (words_of c.args.out) word.now) c.args.names.now c.loop-name.name-index _ c.loop-name-test.true c.loop-name.invariant.1
-      (rw c.loop-name.invariant.0 at c.in_default.ensures.none),
+          (rw c.loop-name.invariant.0 at c.in_default.ensures.none),
     )
 
 pub returns-clause-none : goal.returns-clause-none

@@ -9,4 +9,4 @@ abbrev pub invariant-loop-name : goal.invariant-loop-name
 invariant-loop-name g l =
     (l.files ≡ l.initial.files)
     × All (λ word. KeepsRead (disk_of (g.F.Files.holds l.initial.files) (g.F.Files.fails l.initial.files) (g.F.Files.breaks l.initial.files) (g.F.Files.is_one l.initial.files))
-        (words_of l.out) word.now) (take l.name-index l.names)
+    (words_of l.out) word.now) (take l.name-index l.names)

@@ -1,5 +1,5 @@
 use Rattle.std.proofs.Common.{arith}
-use Rattle.td_certificate.proofs.Batches.{trit_pushed, trits_pushed, none_pushed}
+use Rattle.td_certificate.proofs.Batches.{trit_pushed, trits_pushed}
 use Rattle.td_cli.proofs.pinning.push_trits.Goals as goal
 
 pub loop-input-preserved : goal.loop-input-preserved
