@@ -79,7 +79,8 @@ The number of a leaf is the least that is accepted. One more is above the time, 
   > echo $count certificates
   76 certificates
 
-The time 0 and a pair without a change, where the worst delay is greater: refused, whichever leaf has the number 0.
+The time 0 and a pair without a change, where the worst delay is greater: refused as a certificate or as a text, whichever leaf has the
+number 0.
 
   $ . ./lines
   > while IFS='|' read -r netlist front time from to tree; do
@@ -87,7 +88,7 @@ The time 0 and a pair without a change, where the worst delay is greater: refuse
   >   begin 0 $from
   >   for place in "${!lines[@]}"; do
   >     [[ ${lines[place]} = [bp]* ]] || continue
-  >     for leaf in 'b a 0' 'b t 0' 'b m 0' 'p 0'; do expect $place "$leaf" 'refused *'; done
+  >     for leaf in 'b a 0' 'b t 0' 'b m 0' 'p 0'; do expect $place "$leaf" '[rt]*'; done
   >   done
   > done < searches
   > echo $count certificates
