@@ -117,29 +117,24 @@ fn agrees(
     }
 }
 
-/// Checks searches of these pairs within some budgets.
+/// Checks searches by a strategy, within each budget below a number and within an ample one.
 fn check(
     rt: &impl Abort,
     alloc: Global,
     circuit: &Circuit,
     admit: &Admit,
     budgets: u64,
+    strategy: Strategy,
 ) -> Result<(), Fail> {
     let worst = worst_of(alloc, circuit, admit)?;
     for budget in 0..budgets {
         assert!(rt;
-            agrees(rt, alloc, circuit, admit, budget, worst, Strategy::Least)?,
+            agrees(rt, alloc, circuit, admit, budget, worst, strategy)?,
             "budget {budget}"
         );
     }
-    for budget in [3, 1_000] {
-        assert!(rt;
-            agrees(rt, alloc, circuit, admit, budget, worst, Strategy::Lead)?,
-            "budget {budget} with lead"
-        );
-    }
     assert!(rt;
-        agrees(rt, alloc, circuit, admit, 1_000, worst, Strategy::Least)?
+        agrees(rt, alloc, circuit, admit, 1_000, worst, strategy)?
     );
     Ok(())
 }
@@ -152,19 +147,23 @@ fn every_pair(rt: HostRuntime) -> Result<(), Fail> {
         let circuit = generated(alloc, 1 + seed % 3, 2 + seed % 4, seed).ok_or("a circuit")?;
         assert!(rt; circuit.input_count() <= 4096);
         let admit = Admit::all(alloc, circuit.input_count())?;
-        check(&rt, alloc, &circuit, &admit, 41)?;
+        check(&rt, alloc, &circuit, &admit, 41, Strategy::Least)?;
+        check(&rt, alloc, &circuit, &admit, 3, Strategy::Lead)?;
     }
     Ok(())
 }
 
-/// Some pairs, within an ample budget and a small one.
+/// Some pairs, within some small budgets and an ample one. A search with `lead` climbs long, and so there are few of them.
 #[test]
 fn every_admitted_pair(rt: HostRuntime) -> Result<(), Fail> {
     let alloc = rt.alloc();
-    for seed in 0..100 {
+    for seed in 0..200 {
         let circuit = generated(alloc, 1 + seed % 3, 2 + seed % 4, seed).ok_or("a circuit")?;
         let admit = random_pairs(&rt, alloc, circuit.input_count(), next(seed))?;
-        check(&rt, alloc, &circuit, &admit, random(next(seed), 20))?;
+        check(&rt, alloc, &circuit, &admit, random(next(seed), 20), Strategy::Least)?;
+        if seed % 25 == 0 {
+            check(&rt, alloc, &circuit, &admit, 1, Strategy::Lead)?;
+        }
     }
     Ok(())
 }
