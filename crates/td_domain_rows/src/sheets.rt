@@ -27,7 +27,11 @@ fn redone<D: Domain>(
 }
 
 /// How many gates the narrowings at each input's first position evaluate, one figure for each bit.
-fn redone_each<D: Domain>(rt: &impl Abort, alloc: Global, circuit: &Circuit) -> Result<String, Fail> {
+fn redone_each<D: Domain>(
+    rt: &impl Abort,
+    alloc: Global,
+    circuit: &Circuit,
+) -> Result<String, Fail> {
     let mut figures = String::new(alloc);
     for input in 0..circuit.input_count() {
         let zero = redone::<D>(rt, alloc, circuit, 2 * input, false)?;
@@ -55,12 +59,24 @@ endmodule
 fn gates_evaluated(rt: HostRuntime) -> Result<(), Fail> {
     let alloc = rt.alloc();
     let six = circuit_of(alloc, C17).ok_or("a circuit")?;
-    assert_eq!(rt; redone_each::<Arrival>(&rt, alloc, &six)?.as_str(), "22 33 66 55 22 ");
-    assert_eq!(rt; redone_each::<Possible>(&rt, alloc, &six)?.as_str(), "22 33 66 55 22 ");
-    assert_eq!(rt; redone_each::<Edges>(&rt, alloc, &six)?.as_str(), "22 33 66 55 22 ");
+    assert_eq!(rt;
+        redone_each::<Arrival>(&rt, alloc, &six)?.as_str(),
+        "22 33 66 55 22 "
+    );
+    assert_eq!(rt;
+        redone_each::<Possible>(&rt, alloc, &six)?.as_str(),
+        "22 33 66 55 22 "
+    );
+    assert_eq!(rt;
+        redone_each::<Edges>(&rt, alloc, &six)?.as_str(),
+        "22 33 66 55 22 "
+    );
     let slow = module(alloc, "a, b", "y", "buf #4 (t,a); or #1 (y,b,t);")?;
     let slow = circuit_of(alloc, &slow).ok_or("a circuit")?;
-    assert_eq!(rt; redone_each::<Arrival>(&rt, alloc, &slow)?.as_str(), "22 11 ");
+    assert_eq!(rt;
+        redone_each::<Arrival>(&rt, alloc, &slow)?.as_str(),
+        "22 11 "
+    );
     Ok(())
 }
 

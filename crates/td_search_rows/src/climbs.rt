@@ -127,13 +127,22 @@ fn among_admitted_pairs(rt: HostRuntime) -> Result<(), Fail> {
     let circuit = circuit(alloc)?;
     let admit = some_pairs(&rt, alloc, 0, Trit::Zero, Some(1), 4)?;
     let found = climbs(&rt, alloc, &circuit, &admit, 3, 30)?;
-    assert_eq!(rt; found.as_str(), "0011 1010 11\n0011 1010 11\n0001 1010 11\n");
+    assert_eq!(rt;
+        found.as_str(),
+        "0011 1010 11\n0011 1010 11\n0001 1010 11\n"
+    );
     let admit = some_pairs(&rt, alloc, 0, Trit::Free, None, 1)?;
     let found = climbs(&rt, alloc, &circuit, &admit, 3, 30)?;
-    assert_eq!(rt; found.as_str(), "1110 0110 11\n0010 1010 11\n1110 0110 11\n");
+    assert_eq!(rt;
+        found.as_str(),
+        "1110 0110 11\n0010 1010 11\n1110 0110 11\n"
+    );
     let admit = some_pairs(&rt, alloc, 5, Trit::One, None, 2)?;
     let found = climbs(&rt, alloc, &circuit, &admit, 3, 30)?;
-    assert_eq!(rt; found.as_str(), "1100 1010 11\n1111 1010 11\n1100 1010 11\n");
+    assert_eq!(rt;
+        found.as_str(),
+        "1100 1010 11\n1111 1010 11\n1100 1010 11\n"
+    );
     Ok(())
 }
 

@@ -110,8 +110,9 @@ fn agrees(
         found_by(rt, alloc, circuit, admit, budget, strategy)?,
         worst,
     ) {
-        (Some(answer), Some(worst)) => Ok(figures_fit(&answer, budget, worst)
-            && pair_fits(rt, alloc, circuit, admit, &answer)?),
+        (Some(answer), Some(worst)) => Ok(
+            figures_fit(&answer, budget, worst) && pair_fits(rt, alloc, circuit, admit, &answer)?,
+        ),
         (None, None) => Ok(true),
         _ => Ok(false),
     }
@@ -133,9 +134,7 @@ fn check(
             "budget {budget}"
         );
     }
-    assert!(rt;
-        agrees(rt, alloc, circuit, admit, 1_000, worst, strategy)?
-    );
+    assert!(rt; agrees(rt, alloc, circuit, admit, 1_000, worst, strategy)?);
     Ok(())
 }
 
@@ -160,7 +159,14 @@ fn every_admitted_pair(rt: HostRuntime) -> Result<(), Fail> {
     for seed in 0..200 {
         let circuit = generated(alloc, 1 + seed % 3, 2 + seed % 4, seed).ok_or("a circuit")?;
         let admit = random_pairs(&rt, alloc, circuit.input_count(), next(seed))?;
-        check(&rt, alloc, &circuit, &admit, random(next(seed), 20), Strategy::Least)?;
+        check(
+            &rt,
+            alloc,
+            &circuit,
+            &admit,
+            random(next(seed), 20),
+            Strategy::Least,
+        )?;
         if seed % 25 == 0 {
             check(&rt, alloc, &circuit, &admit, 1, Strategy::Lead)?;
         }
