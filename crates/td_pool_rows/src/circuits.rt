@@ -11,7 +11,7 @@ use td_domain::Admit;
 use td_gates::Delay;
 use td_netlist::read;
 use td_pool::{Hints, worst_by, worst_with};
-use td_search::{Answer, Own, Prober, SearchFault, Strategy};
+use td_search::{Answer, Own, Prober, SearchFault, Strategy, alone};
 
 /// A pulse that is lost.
 pub const LOST: &str =
@@ -43,10 +43,13 @@ pub fn all_of(rt: &impl Abort, alloc: Global, circuit: &Circuit) -> Result<Admit
     Admit::all(alloc, inputs)
 }
 
-/// What a search came to: its worst delay, the number of its nodes, and how many leaves of its tree are bounded by both domains at once.
+/// What a search came to: the two figures around the worst delay, whether it is exact, the number of its nodes, and how many leaves of its
+/// tree are bounded by both domains at once.
 #[derive(Clone, Copy, Drop)]
 pub struct Told {
-    pub time: u64,
+    pub low: u64,
+    pub high: u64,
+    pub is_exact: bool,
     pub nodes: u64,
     pub by_both: usize,
 }
@@ -59,15 +62,30 @@ fn by_both(tree: &Tree) -> usize {
         .count()
 }
 
-// What an exact answer says.
+// What an answer says.
 fn as_told(answer: Result<Answer, SearchFault>) -> Result<Told, Fail> {
     match answer {
         Ok(Answer::Exact { time, tree, .. }) => Ok(Told {
-            time,
+            low: time,
+            high: time,
+            is_exact: true,
             nodes: tree.nodes().len() as u64,
             by_both: by_both(&tree),
         }),
-        Ok(Answer::Between { .. }) => Err(Fail::from("no exact answer")),
+        Ok(
+            Answer::Between {
+                low,
+                high,
+                nodes,
+                ..
+            },
+        ) => Ok(Told {
+            low,
+            high,
+            is_exact: false,
+            nodes,
+            by_both: 0,
+        }),
         Err(_) => Err(Fail::from("no answer")),
     }
 }
@@ -79,10 +97,11 @@ pub fn found<P: Prober + Sync, R: Threads + Wait + Sync + Abort>(
     netlist: &str,
     prober: &P,
     workers: u32,
+    budget: u64,
 ) -> Result<Told, Fail> {
     let circuit = circuit_of(alloc, netlist)?;
     let admit = all_of(rt, alloc, &circuit)?;
-    assert!(rt; 0 < workers && workers <= 64);
+    assert!(rt; 0 < workers && workers <= 64 && budget <= 10_000_000);
     assert_eq!(rt; admit.held().len(), circuit.input_count());
     as_told(worst_with(
         rt,
@@ -92,7 +111,7 @@ pub fn found<P: Prober + Sync, R: Threads + Wait + Sync + Abort>(
         prober,
         Strategy::Least,
         workers,
-        1_000_000,
+        budget,
     ))
 }
 
@@ -110,4 +129,18 @@ pub fn found_by<D: Hints + Drop + Send, R: Threads + Wait + Sync + Abort>(
     assert_eq!(rt; decks.len(), workers as usize);
     assert_eq!(rt; admit.held().len(), circuit.input_count());
     as_told(worst_by(rt, alloc, &circuit, &admit, &Own, decks, workers, 1_000_000))
+}
+
+/// What a search of all pairs in one thread comes to.
+pub fn found_alone(
+    rt: &impl Abort,
+    alloc: Global,
+    netlist: &str,
+    budget: u64,
+) -> Result<Told, Fail> {
+    let circuit = circuit_of(alloc, netlist)?;
+    let admit = all_of(rt, alloc, &circuit)?;
+    assert!(rt; budget <= 10_000_000);
+    assert_eq!(rt; admit.held().len(), circuit.input_count());
+    as_told(alone(alloc, &circuit, &admit, budget))
 }

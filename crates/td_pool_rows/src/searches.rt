@@ -1,6 +1,6 @@
 //! Searches of worked circuits, by one worker and by more.
 
-use crate::circuits::{LOST, RECONVERGENT, SLOW_ARM, Told, WIDE, found, found_by};
+use crate::circuits::{LOST, RECONVERGENT, SLOW_ARM, Told, WIDE, found, found_alone, found_by};
 use crate::decks::{Passing, Refusing};
 use crate::prober::Watching;
 use std::alloc::{AllocError, Global};
@@ -10,6 +10,7 @@ use std::sync::atomic::{AtomicU64, Ordering};
 use std::test::*;
 use std::thread::Threads;
 use td_pool::{Deck, Hints};
+use td_search::Own;
 
 /// What a search by so many workers comes to, and how many pairs were measured.
 fn counted<R: Threads + Wait + Sync + Abort>(
@@ -19,7 +20,7 @@ fn counted<R: Threads + Wait + Sync + Abort>(
     workers: u32,
 ) -> Result<(Told, u64), Fail> {
     let prober = Watching::new(0, false);
-    let told = found(rt, alloc, netlist, &prober, workers)?;
+    let told = found(rt, alloc, netlist, &prober, workers, 1_000_000)?;
     Ok((told, prober.measured.load(Ordering::SeqCst)))
 }
 
@@ -30,9 +31,9 @@ fn probes_counted(rt: HostRuntime) -> Result<(), Fail> {
     let alloc = rt.alloc();
     for workers in 1..5 {
         let (told, measured) = counted(&rt, alloc, RECONVERGENT, workers)?;
-        assert!(&rt; (told.time, told.nodes, measured) == (3, 31, 32));
+        assert!(&rt; (told.is_exact, told.low, told.nodes, measured) == (true, 3, 31, 32));
         let (told, measured) = counted(&rt, alloc, SLOW_ARM, workers)?;
-        assert!(&rt; told.time == 5 && told.nodes >= 9 && told.by_both >= 1);
+        assert!(&rt; told.is_exact && told.low == 5 && told.nodes >= 9 && told.by_both >= 1);
         assert_eq!(&rt; measured, told.nodes.saturating_add(1));
     }
     Ok(())
@@ -42,10 +43,21 @@ fn probes_counted(rt: HostRuntime) -> Result<(), Fail> {
 #[test]
 fn two_probes_at_once(rt: HostRuntime) -> Result<(), Fail> {
     let prober = Watching::new(0, true);
-    let told = found(&rt, rt.alloc(), LOST, &prober, 2)?;
-    assert!(&rt; (told.time, told.nodes) == (0, 7));
+    let told = found(&rt, rt.alloc(), LOST, &prober, 2, 1_000_000)?;
+    assert!(&rt; (told.is_exact, told.low, told.nodes) == (true, 0, 7));
     assert_eq!(&rt; prober.missed.load(Ordering::SeqCst), 0);
     assert_eq!(&rt; prober.bounded.load(Ordering::SeqCst), 2);
+    Ok(())
+}
+
+#[test]
+fn one_worker_answers_as_alone(rt: HostRuntime) -> Result<(), Fail> {
+    for budget in 0..10 {
+        let told = found(&rt, rt.alloc(), SLOW_ARM, &Own, 1, budget)?;
+        let wanted = found_alone(&rt, rt.alloc(), SLOW_ARM, budget)?;
+        assert!(&rt; (told.low, told.high, told.nodes) == (wanted.low, wanted.high, wanted.nodes));
+        assert!(&rt; told.is_exact == wanted.is_exact && told.is_exact == (budget == 9));
+    }
     Ok(())
 }
 
@@ -66,7 +78,7 @@ fn without_numbers<R: Threads + Wait + Sync + Abort>(
 fn numbers_refused(rt: HostRuntime) -> Result<(), Fail> {
     for workers in 1..5 {
         let told = without_numbers(&rt, rt.alloc(), workers)?;
-        assert!(&rt; (told.time, told.nodes) == (3, 2047));
+        assert!(&rt; (told.is_exact, told.low, told.nodes) == (true, 3, 2047));
     }
     Ok(())
 }
@@ -89,7 +101,7 @@ fn numbers_given(rt: HostRuntime) -> Result<(), Fail> {
     let given = AtomicU64::new(0);
     let decks = counting(rt.alloc(), 1, &given)?;
     let told = found_by(&rt, rt.alloc(), WIDE, decks, 1)?;
-    assert!(&rt; (told.time, told.nodes) == (3, 2047));
+    assert!(&rt; (told.is_exact, told.low, told.nodes) == (true, 3, 2047));
     assert!(&rt; given.load(Ordering::SeqCst) >= 1);
     Ok(())
 }
