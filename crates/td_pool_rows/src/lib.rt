@@ -6,12 +6,8 @@ mod circuits;
 #[cfg(test)]
 mod decks;
 #[cfg(test)]
-mod leads;
-#[cfg(test)]
-mod probers;
+mod prober;
 #[cfg(test)]
 mod refusals;
 #[cfg(test)]
 mod searches;
-#[cfg(test)]
-mod watches;
