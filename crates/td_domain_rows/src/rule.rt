@@ -68,9 +68,11 @@ fn compare_starts(rt: &impl Abort, circuit: &Circuit, levels: &[Level], run: &Ru
     requires { length run.now.waves ≡ length (nets circuit.now) }
 {
     assert_eq!(rt; levels.len(), circuit.net_count());
-    for (net, level) in levels.iter().enumerate() {
-        assert!(rt; net < circuit.net_count());
-        assert_eq!(rt; run.wave(net as u32).start(), *level);
+    let mut net = 0u32;
+    for level in levels {
+        assert!(rt; (net as usize) < circuit.net_count());
+        assert_eq!(rt; run.wave(net).start(), *level);
+        net = net.saturating_add(1);
     }
 }
 

@@ -26,7 +26,7 @@ fn redone<D: Domain>(
     Ok(sheet.redone())
 }
 
-/// How many gates the narrowings at each input's first position evaluate, one figure for each bit.
+/// How many gates the narrowings at each input's first position reach, one figure for each bit.
 fn redone_each<D: Domain>(
     rt: &impl Abort,
     alloc: Global,
@@ -34,8 +34,9 @@ fn redone_each<D: Domain>(
 ) -> Result<String, Fail> {
     let mut figures = String::new(alloc);
     for input in 0..circuit.input_count() {
-        let zero = redone::<D>(rt, alloc, circuit, 2 * input, false)?;
-        let one = redone::<D>(rt, alloc, circuit, 2 * input, true)?;
+        let position = input.saturating_mul(2);
+        let zero = redone::<D>(rt, alloc, circuit, position, false)?;
+        let one = redone::<D>(rt, alloc, circuit, position, true)?;
         figures.push_str(&format!(in alloc; "{zero}{one} ")?)?;
     }
     Ok(figures)
