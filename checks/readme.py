@@ -84,7 +84,7 @@ def shown(folder):
     yield ["parts", "inverter.v", "--parts", "2"], ["./tdelay parts inverter.v --parts 2", cut], cut, 0, ""
     for first, name in ("0", "low.cert"), ("1", "high.cert"):
         yield ["worst", "inverter.v", "--first", first, "--second", ".", "--cert", name], [], None, 0, ""
-    whole = exact.replace("nodes 1", "nodes 3")
+    whole = exact.replace("nodes 1", "nodes 5")
     words = ["join", "inverter.v", "low.cert", "high.cert", "--cert", "whole.cert"]
     yield words, ["./tdelay " + " ".join(words), whole], whole, 0, ""
     yield ["check", "inverter.v", "whole.cert"], [], None, 0, ""
