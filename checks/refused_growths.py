@@ -18,6 +18,7 @@ TOP = os.path.dirname(os.path.dirname(os.path.abspath(__file__)))
 
 # Between the program and the C library: counts the growths, and refuses those that the environment names.
 SHIM = r"""
+#include <errno.h>
 #include <stddef.h>
 #include <stdio.h>
 #include <stdlib.h>
@@ -54,7 +55,9 @@ void _exit(int status) {
 }
 static int refused(void) {
   long now = __atomic_add_fetch(&met, 1, __ATOMIC_SEQ_CST);
-  return first <= now && now <= last;
+  if (now < first || last < now) return 0;
+  errno = ENOMEM;
+  return 1;
 }
 void *malloc(size_t size) { return refused() ? NULL : __libc_malloc(size); }
 void *calloc(size_t count, size_t size) { return refused() ? NULL : __libc_calloc(count, size); }
