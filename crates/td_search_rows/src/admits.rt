@@ -50,7 +50,8 @@ pub fn random_pairs(
     let pins = random_cube(alloc, inputs, seed)?;
     let held = random_marks(alloc, inputs, next(seed ^ 5))?;
     assert!(rt; pins.len() % 2 == 0 && pins.len() / 2 == held.len());
-    Ok(Admit::new(pins, held, random(next(seed ^ 9), 4) as u32))
+    let flips = random(next(seed ^ 9), 4).min(3) as u32;
+    Ok(Admit::new(pins, held, flips))
 }
 
 /// Whether a trit allows a bit.
