@@ -78,6 +78,16 @@ def shown(folder):
     yield ["worst", "inverter.v", "--cert", "inverter.cert"], ["./tdelay worst inverter.v --cert inverter.cert", exact], exact, 0, ""
     yield ["worst", "lost.v", "--budget", "1"], [LOST_GATES, short], head + short, 3, ""
     yield ["check", "inverter.v", "inverter.cert"], ["./tdelay check inverter.v inverter.cert", "`accepted 3`"], "accepted 3\n", 0, ""
+    inside = "module t\nunit 1 ns\ninputs 1\noutputs 1\ngates 1\ndefaulted 0\ndepth 1\ndelay 2 3\ninput 0 a\noutput 0 y\n"
+    yield ["info", "inverter.v"], ["./tdelay info inverter.v", inside], inside, 0, ""
+    cut = "--first 0 --second .\n--first 1 --second .\n"
+    yield ["parts", "inverter.v", "--parts", "2"], ["./tdelay parts inverter.v --parts 2", cut], cut, 0, ""
+    for first, name in ("0", "low.cert"), ("1", "high.cert"):
+        yield ["worst", "inverter.v", "--first", first, "--second", ".", "--cert", name], [], None, 0, ""
+    whole = exact.replace("nodes 1", "nodes 5")
+    words = ["join", "inverter.v", "low.cert", "high.cert", "--cert", "whole.cert"]
+    yield words, ["./tdelay " + " ".join(words), whole], whole, 0, ""
+    yield ["check", "inverter.v", "whole.cert"], [], None, 0, ""
     shown_words = ["./tdelay worst inverter.v --flips 0 --cert still.cert", still]
     yield ["worst", "inverter.v", "--flips", "0", "--cert", "still.cert"], shown_words, head + still, 0, ""
     yield ["check", "inverter.v", "still.cert"], ["./tdelay check inverter.v still.cert", named], named, 0, ""

@@ -18,6 +18,7 @@ TOP = os.path.dirname(os.path.dirname(os.path.abspath(__file__)))
 
 # Between the program and the C library: counts the growths, and refuses those that the environment names.
 SHIM = r"""
+#include <errno.h>
 #include <stddef.h>
 #include <stdio.h>
 #include <stdlib.h>
@@ -54,7 +55,9 @@ void _exit(int status) {
 }
 static int refused(void) {
   long now = __atomic_add_fetch(&met, 1, __ATOMIC_SEQ_CST);
-  return first <= now && now <= last;
+  if (now < first || last < now) return 0;
+  errno = ENOMEM;
+  return 1;
 }
 void *malloc(size_t size) { return refused() ? NULL : __libc_malloc(size); }
 void *calloc(size_t count, size_t size) { return refused() ? NULL : __libc_calloc(count, size); }
@@ -154,6 +157,10 @@ def main():
         made = run(program, shim, folder, ["worst", "apart.v", "--flips", "1", "--at", "0,2", "--cert", "out.cert"], 0, -1)
         with open(os.path.join(folder, "few.cert"), "wb") as file:
             file.write(made[3])
+        for name, first in (("zero.cert", "0."), ("one.cert", "1.")):
+            made = run(program, shim, folder, ["worst", "apart.v", "--first", first, "--cert", "out.cert"], 0, -1)
+            with open(os.path.join(folder, name), "wb") as file:
+                file.write(made[3])
         commands = [
             ["sim", "inverter.v", "0", "1"],
             ["sim", "c17.v", "01010", "01110"],
@@ -168,6 +175,11 @@ def main():
             ["worst", "apart.v", "--first", "0.", "--hold", ".=", "--at", "3,0", "--cert", "out.cert"],
             ["worst", "apart.v", "--flips", "1", "--budget", "2"],
             ["check", "apart.v", "few.cert"],
+            ["worst", "apart.v", "--workers", "2", "--cert", "out.cert"],
+            ["worst", "apart.v", "--workers", "2", "--strategy", "lead", "--cert", "out.cert"],
+            ["parts", "apart.v", "--parts", "5"],
+            ["parts", "apart.v", "--parts", "5", "--strategy", "lead"],
+            ["join", "apart.v", "zero.cert", "one.cert", "--cert", "out.cert"],
         ]
         for words in commands:
             ample = run(program, shim, folder, words, 0, -1)

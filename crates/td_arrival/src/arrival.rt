@@ -67,6 +67,10 @@ impl Domain for Arrival {
         Ok(*signal)
     }
 
+    fn is_same(left: &Signal, right: &Signal) -> bool {
+        left == right
+    }
+
     fn last(signal: &Signal) -> Option<u64> {
         Some(match signal.changes {
             None => 0,

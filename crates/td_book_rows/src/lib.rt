@@ -1,11 +1,13 @@
-//! Books that are claimed by number, grafted and shared by threads. There are tests here, and nothing else.
+//! Books whose leaves are claimed, split, closed, released and grafted, and one that threads share. There are tests here, and nothing else.
 #![tactic(auto)]
 
 #[cfg(test)]
-mod books;
-#[cfg(test)]
 mod claims;
 #[cfg(test)]
-mod grafts;
+mod runs;
+#[cfg(test)]
+mod steps;
 #[cfg(test)]
 mod totals;
+#[cfg(test)]
+mod walks;

@@ -1,42 +1,32 @@
-//! The settlements and offers of four threads, added up.
+//! The settlements of four threads, added up.
 
-ghost use Rattle.std.specs.Prelude.{◌≡◌, ◌+◌, ◌<◌, max, IfOk, IfSome};
+ghost use Rattle.std.specs.Prelude.{◌≡◌, ◌+◌, ◌<◌, IfOk, IfSome};
 
 use crate::claims::free_book;
 use std::alloc::{AllocError, Global};
 use std::marker::Brand;
-use std::snapshot::Snapshot;
 use std::sync::ledger::{Blank, Ledger, Share};
 use std::sync::{Mutex, Wait};
 use std::test::Fail;
 use std::thread;
 use std::thread::{Promise, Threads};
 use td_book::{Claim, Counted, Lease, Mark};
-use td_incumbent::{Incumbent, Seat};
 
-// What a thread has: one part of the ledger, and a seat.
+// What a thread has: one part of the ledger.
 #[derive(Drop)]
 struct Hand<L: Ledger> {
     share: Share<L>,
-    seat: Seat,
     ghost one_part: { share.parts ≡ 1 },
 }
 
-// What the threads share: the book under its lock, and the word.
+// What a thread promises: nothing but a hand.
 #[derive(Drop)]
-struct Shared<L: Ledger> {
-    book: Mutex<Counted<L>>,
-    word: Incumbent,
-}
-
-// What a thread promises: its seat, with this offer made.
-#[derive(Drop)]
-struct Promised(Snapshot<Seat>, u64);
+struct Promised;
 
 impl<L: Ledger> Promise<Hand<L>> for Promised {
-    ghost use Rattle.std.specs.Prelude.{◌≡◌, max};
+    ghost use Rattle.std.specs.Prelude.{⊤};
 
-    ghost kept_by = { λ p h. h.seat ≡ record p.0.value { seen = h.seat.seen; offer = max p.0.value.offer p.1 } };
+    ghost kept_by = { λ _ _. ⊤ };
 }
 
 // The lease that a claim gives, if it gives one.
@@ -102,24 +92,16 @@ fn close_one<L: Ledger, R: Wait>(
     }
 }
 
-// Closes one leaf, and makes an offer.
+// Closes one leaf.
 fn work<L: Ledger, R: Wait>(
     rt: &R,
-    shared: &Shared<L>,
+    book: &Mutex<Counted<L>>,
     hand: Hand<L>,
     worker: u32,
-    offer: u64,
-) -> Hand<L>
-    requires { hand.seat.table ≡ shared.now.word.table }
-    ensures { result.seat ≡ record hand.seat { seen = result.seat.seen; offer = max hand.seat.offer offer } }
-{
-    let Hand {
-        mut share,
-        mut seat,
-    } = hand;
-    let _closed = close_one(rt, &shared.book, &mut share, worker);
-    shared.word.raise(&mut seat, offer);
-    Hand { share, seat }
+) -> Hand<L> {
+    let Hand { mut share } = hand;
+    let _closed = close_one(rt, book, &mut share, worker);
+    Hand { share }
 }
 
 // The number of settlements, once all shares are merged.
@@ -140,49 +122,23 @@ fn audited<L: Ledger, R: Wait>(
     book.lock(rt).audit(&mut all)
 }
 
-// Four threads, all started before one is joined, close a leaf each and make an offer.
+// Four threads, all started before one is joined, close a leaf each.
 fn run_four<L: Ledger + Send + Sync, R: Threads + Wait + Sync>(
     rt: &R,
-    shared: &Shared<L>,
+    book: &Mutex<Counted<L>>,
     first: Hand<L>,
     second: Hand<L>,
     third: Hand<L>,
     fourth: Hand<L>,
-) -> Result<(Hand<L>, Hand<L>, Hand<L>, Hand<L>), AllocError>
-    requires first { first.seat.table ≡ shared.now.word.table }
-    requires second { second.seat.table ≡ shared.now.word.table }
-    requires third { third.seat.table ≡ shared.now.word.table }
-    requires fourth { fourth.seat.table ≡ shared.now.word.table }
-    ensures first { IfOk result (λ r. r.0.seat ≡ record first.seat { seen = r.0.seat.seen; offer = max first.seat.offer 1 }) }
-    ensures second { IfOk result (λ r. r.1.seat ≡ record second.seat { seen = r.1.seat.seen; offer = max second.seat.offer 2 }) }
-    ensures third { IfOk result (λ r. r.2.seat ≡ record third.seat { seen = r.2.seat.seen; offer = max third.seat.offer 3 }) }
-    ensures fourth { IfOk result (λ r. r.3.seat ≡ record fourth.seat { seen = r.3.seat.seen; offer = max fourth.seat.offer 4 }) }
-{
+) -> Result<(Hand<L>, Hand<L>, Hand<L>, Hand<L>), AllocError> {
     thread::scope(
         thread::scope_env(),
         rt,
-        |scope| -> Result<(Hand<L>, Hand<L>, Hand<L>, Hand<L>), AllocError>
-            requires first { first.seat.table ≡ shared.now.word.table }
-            requires second { second.seat.table ≡ shared.now.word.table }
-            requires third { third.seat.table ≡ shared.now.word.table }
-            requires fourth { fourth.seat.table ≡ shared.now.word.table }
-            ensures first { IfOk result (λ r. r.0.seat ≡ record first.seat { seen = r.0.seat.seen; offer = max first.seat.offer 1 }) }
-            ensures second { IfOk result (λ r. r.1.seat ≡ record second.seat { seen = r.1.seat.seen; offer = max second.seat.offer 2 }) }
-            ensures third { IfOk result (λ r. r.2.seat ≡ record third.seat { seen = r.2.seat.seen; offer = max third.seat.offer 3 }) }
-            ensures fourth { IfOk result (λ r. r.3.seat ≡ record fourth.seat { seen = r.3.seat.seen; offer = max fourth.seat.offer 4 }) }
-        {
-            let first = scope.spawn_with(Promised(Snapshot::of(&first.seat), 1), move || {
-                work(rt, shared, first, 0, 1)
-            })?;
-            let second = scope.spawn_with(Promised(Snapshot::of(&second.seat), 2), move || {
-                work(rt, shared, second, 1, 2)
-            })?;
-            let third = scope.spawn_with(Promised(Snapshot::of(&third.seat), 3), move || {
-                work(rt, shared, third, 2, 3)
-            })?;
-            let fourth = scope.spawn_with(Promised(Snapshot::of(&fourth.seat), 4), move || {
-                work(rt, shared, fourth, 3, 4)
-            })?;
+        |scope| -> Result<(Hand<L>, Hand<L>, Hand<L>, Hand<L>), AllocError> {
+            let first = scope.spawn_with(Promised, move || work(rt, book, first, 0))?;
+            let second = scope.spawn_with(Promised, move || work(rt, book, second, 1))?;
+            let third = scope.spawn_with(Promised, move || work(rt, book, third, 2))?;
+            let fourth = scope.spawn_with(Promised, move || work(rt, book, fourth, 3))?;
             Ok((
                 first.join(rt),
                 second.join(rt),
@@ -193,12 +149,22 @@ fn run_four<L: Ledger + Send + Sync, R: Threads + Wait + Sync>(
     )
 }
 
-// The number of settlements, and the greatest offer, once four threads have closed a leaf each and made an offer.
+// One part of a share.
+fn part_of<L: Ledger>(all: &mut Share<L>) -> Hand<L>
+    requires { 1 < all.old.parts }
+    ensures { all.new.parts + 1 ≡ all.old.parts }
+{
+    Hand {
+        share: all.split_off(1, 0),
+    }
+}
+
+// The number of settlements, once four threads have closed a leaf each.
 fn totals<L: Ledger + Send + Sync, R: Threads + Wait + Sync>(
     rt: &R,
     alloc: Global,
     blank: Blank,
-) -> Result<Option<(u64, u64)>, AllocError>
+) -> Result<Option<u64>, AllocError>
     requires name { blank.name ≡ L.name }
     requires parts { blank.parts ≡ L.parts }
     requires four { blank.parts ≡ 4 }
@@ -206,58 +172,22 @@ fn totals<L: Ledger + Send + Sync, R: Threads + Wait + Sync>(
     let Some((book, mut all)) = split_book::<L>(alloc, blank)? else {
         return Ok(None);
     };
-    let (word, mut seats) = Incumbent::new(alloc, 4)?;
-    let Some(fourth) = seats.pop() else {
-        return Ok(None);
-    };
-    let Some(third) = seats.pop() else {
-        return Ok(None);
-    };
-    let Some(second) = seats.pop() else {
-        return Ok(None);
-    };
-    let Some(first) = seats.pop() else {
-        return Ok(None);
-    };
-    let shared = Shared {
-        book: Mutex::new(book),
-        word,
-    };
-    let second = Hand {
-        share: all.split_off(1, 0),
-        seat: second,
-    };
-    let third = Hand {
-        share: all.split_off(1, 0),
-        seat: third,
-    };
-    let fourth = Hand {
-        share: all.split_off(1, 0),
-        seat: fourth,
-    };
-    let first = Hand {
-        share: all,
-        seat: first,
-    };
+    let shared = Mutex::new(book);
+    let second = part_of(&mut all);
+    let third = part_of(&mut all);
+    let fourth = part_of(&mut all);
+    let first = Hand { share: all };
     let (one, two, three, four) = run_four(rt, &shared, first, second, third, fourth)?;
-    let Shared { book, word } = shared;
-    let pair = word.join(one.seat, two.seat);
-    let triple = word.join(pair, three.seat);
-    let seat = word.join(triple, four.seat);
-    let settled = audited(rt, &book, one.share, two.share, three.share, four.share);
-    Ok(Some((settled, word.close(seat))))
+    Ok(Some(audited(rt, &shared, one.share, two.share, three.share, four.share)))
 }
 
 // As `totals`, with a ledger of its own.
-fn own_totals<R: Threads + Wait + Sync>(
-    rt: &R,
-    alloc: Global,
-) -> Result<Option<(u64, u64)>, AllocError> {
+fn own_totals<R: Threads + Wait + Sync>(rt: &R, alloc: Global) -> Result<Option<u64>, AllocError> {
     totals::<Brand, R>(rt, alloc, Blank::new(4))
 }
 
 #[test]
 fn totals_agree(rt: HostRuntime) -> Result<(), Fail> {
-    assert!(rt; own_totals(&rt, rt.alloc())? == Some((7, 4)));
+    assert!(rt; own_totals(&rt, rt.alloc())? == Some(7));
     Ok(())
 }

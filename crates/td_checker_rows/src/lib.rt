@@ -1,7 +1,7 @@
-//! Verdicts on certificates of worked circuits. There are tests here, and nothing else.
+//! Certificates, and what is checked of them. There are tests here, and nothing else.
 #![tactic(auto)]
 
 #[cfg(test)]
-mod searched;
+mod certificates;
 #[cfg(test)]
 mod verdicts;

@@ -1,5 +1,9 @@
-//! Netlists of texts, and their circuits or loops. There are tests here, and nothing else.
+//! Texts, and their syntax trees, netlists and circuits. There are tests here, and nothing else.
 #![tactic(auto)]
 
 #[cfg(test)]
 mod circuits;
+#[cfg(test)]
+mod netlists;
+#[cfg(test)]
+mod trees;

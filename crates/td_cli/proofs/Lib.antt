@@ -8,3 +8,4 @@ pub mod Paths
 pub mod Questions
 pub mod Searches
 pub mod Listing
+pub mod Joinings

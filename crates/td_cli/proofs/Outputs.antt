@@ -99,3 +99,9 @@ four_pushed old front name middle other first second third new is_first is_secon
       append_assoc old front (name ++ (middle ++ other)),
       append_assoc name middle other,
     ) refl
+
+-- a text to which six were appended in turn
+pub six_pushed : (old a b c d e f first second third fourth fifth new : List ℕ) → first ≡ old ++ a → second ≡ first ++ b → third ≡ second ++ c
+    → fourth ≡ third ++ d → fifth ≡ fourth ++ e → new ≡ fifth ++ f → new ≡ old ++ (a ++ ((((b ++ c) ++ d) ++ e) ++ f))
+six_pushed old a b c d e f first second third fourth fifth new is_first is_second is_third is_fourth is_fifth is_new =
+    rw (is_new, is_fifth, is_fourth, is_third, is_second, is_first) (simp append_assoc)

@@ -18,15 +18,18 @@ use Rattle.td_cli.specs.declared.status.Status.TheVariants.{Done, Device}
 use Rattle.td_cli.specs.declared.refusal.Refusal.{Refusal}
 use Rattle.td_cli.specs.declared.refusal.Refusal.TheVariants as refusal
 use Rattle.td_command.specs.declared.command.Request.{Request}
+use Rattle.td_command.specs.declared.command.Request.TheVariants as request
 use Rattle.td_cli.specs.Files.{FileStep, Made, Ended, FileText, HasBeginning, IsWritten, IsLeft, AreWritten, Takes}
 use Rattle.td_cli.specs.declared.asking.QuestionWords.{QuestionWords}
 use Rattle.td_cli.specs.Vectors.{words_of}
 use Rattle.td_cli.specs.Refusals.{unwritten_text}
 use Rattle.td_cli.specs.Reports.{IsSimReport}
 use Rattle.td_cli.specs.WorstReports.{IsWorstReport}
+use Rattle.td_cli.specs.JoinReports.{IsJoinReport}
 use Rattle.td_command.specs.CommandLine.{kinds_of}
-use Rattle.td_cli.specs.Ends.{Product, Streams, streams, Tells, TellsReason, TellsUnread, TellsUnwritten, LosesOne, Says, Ends}
-use Rattle.td_cli.specs.Requests.{Disk, Reads, HoldsOnFile, certificate_files, search_ending, IsBeside, IsSimProduct, IsWorstProduct, IsOutOfMemory, IsShown, TellsText, IsProductOf, HoldsOf, KeepsFiles, Overwrites, RequestRuns, RequestEnds, ProgramEnds}
+use Rattle.td_cli.specs.Ends.{Product, Streams, streams, Tells, TellsReason, TellsUnread, TellsUnwritten, LosesOne, Says, Ends, EndsBehind}
+use Rattle.td_cli.specs.Disks.{Disk, Reads, HoldsOnFile}
+use Rattle.td_cli.specs.Requests.{certificate_files, search_ending, IsBeside, IsSimProduct, IsWorstProduct, IsJoinProduct, IsOutOfMemory, IsShown, TellsText, IsProductOf, HoldsOf, KeepsFiles, Overwrites, TellsBefore, RequestRuns, RequestEnds, ProgramEnds}
 
 -- a kind whose text goes to standard error isn't
 pub not_shown : (k : ErrorKind) → (k ≢ kind.DisplayHelp) × (k ≢ kind.DisplayVersion) → ¬ IsShown k
@@ -241,6 +244,44 @@ on_file_taking WereTaken disk name text held P H status old new taken = (
   on_file disk name text held P H disk.breaks disk.breaks (λ name may. may) taken.0 status old new taken.2,
 )
 
+module _ (Told : Output → Output → Type 0) (P : Product → Type 0) (H : Refusal → Type 0) (b : List ℕ → Type 0) where
+  -- lines were told before a command ended
+  pub behind : (steps : List FileStep) (status : Status) (old : Streams) (mid : Output) (new : Streams) → Told old.err mid
+      → Ends P H b steps status (streams old.out mid) new → EndsBehind Told P H b steps status old new
+  behind steps status old mid new told ends = record { mid = mid; told = told; ends = ends }
+
+  -- no line was told before a command ended that may take steps on files
+  pub behind_nothing : (WereTaken : List FileStep → Type 0) (status : Status) (old new : Streams) → Told old.err old.err
+      → Takes WereTaken (λ steps. Ends P H b steps status old new) → Takes WereTaken (λ steps. EndsBehind Told P H b steps status old new)
+  behind_nothing WereTaken status old new told taken = (taken.0, taken.1, behind taken.0 status old old.err new told taken.2)
+
+-- what a search of a text does, said of the file that was read as it
+pub search_on_file : (WereTaken : List FileStep → Type 0) (disk : Disk) (name text : List ℕ) → disk.holds name text
+    → (T : List ℕ → Output → Output → Type 0) (P : List ℕ → Product → Type 0) (H : List ℕ → Refusal → Type 0) (status : Status) (old new : Streams)
+    → Takes WereTaken (λ steps. EndsBehind (T text) (P text) (H text) disk.breaks steps status old new)
+    → Takes WereTaken (λ steps. EndsBehind (λ before mid. (mid ≡ before) ⊎ Reads disk name (λ read. T read before mid))
+    (λ product. Reads disk name (λ read. P read product)) (HoldsOnFile disk name H) disk.breaks steps status old new)
+search_on_file WereTaken disk name text held T P H status old new taken = (
+  taken.0,
+  taken.1,
+  record {
+    mid = taken.2.mid;
+    told = inr (text, held, taken.2.told);
+    ends = on_file disk name text held P H disk.breaks disk.breaks (λ name may. may) taken.0 status (streams old.out taken.2.mid) new taken.2.ends;
+  },
+)
+
+-- before a command ends nothing has to be told
+pub tells_nothing : (disk : Disk) (asked : Request) (err : Output) → TellsBefore disk asked err err
+tells_nothing disk (request.Sim asked) err = refl
+tells_nothing disk (request.Path asked) err = refl
+tells_nothing disk (request.Bound asked) err = refl
+tells_nothing disk (request.Worst asked) err = inl refl
+tells_nothing disk (request.Parts asked) err = refl
+tells_nothing disk (request.Join asked) err = refl
+tells_nothing disk (request.Check asked) err = refl
+tells_nothing disk (request.Info asked) err = refl
+
 -- why a file can't be read was told
 pub told_memory : (file : Bor (List ℕ)) (fault : ReadFault) (status : Status) (old new : Output) → fault ≡ unread.OutOfMemory
     → TellsReason refusal.OutOfMemory status old new → TellsUnread file fault status old new
@@ -306,17 +347,24 @@ pub runs_apart : (WereTaken : List FileStep → Type 0) (disk : Disk) (asked : R
 runs_apart WereTaken disk asked status old new keeps taken = (
   taken.0,
   taken.1,
-  lifted (IsProductOf disk asked) (HoldsOf disk asked) disk.breaks (λ product. KeepsFiles disk asked × IsProductOf disk asked product)
-      (λ reason. Overwrites disk asked reason ⊎ HoldsOf disk asked reason) disk.breaks (λ product is. (keeps, is)) (λ reason holds. inr holds)
-      (λ name may. may) taken.0 status old new taken.2,
+  record {
+    mid = taken.2.mid;
+    told = taken.2.told;
+    ends = lifted (IsProductOf disk asked) (HoldsOf disk asked) disk.breaks (λ product. KeepsFiles disk asked × IsProductOf disk asked product)
+        (λ reason. Overwrites disk asked reason ⊎ HoldsOf disk asked reason) disk.breaks (λ product is. (keeps, is)) (λ reason holds. inr holds)
+        (λ name may. may) taken.0 status (streams old.out taken.2.mid) new taken.2.ends;
+  },
 )
 
 -- a command that would overwrite a file is refused
 pub refused_over : (disk : Disk) (asked : Request) (reason : Refusal) (status : Status) (out err_old err_new : Output) → Overwrites disk asked reason
     → TellsReason reason status err_old err_new → RequestEnds disk asked [] status (streams out err_old) (streams out err_new)
-refused_over disk asked reason status out err_old err_new over told =
-    refused (λ product. KeepsFiles disk asked × IsProductOf disk asked product) (λ reason. Overwrites disk asked reason ⊎ HoldsOf disk asked reason) disk.breaks
-    reason status out err_old err_new (λ other. inl over) told
+refused_over disk asked reason status out err_old err_new over told = record {
+  mid = err_old;
+  told = tells_nothing disk asked err_old;
+  ends = refused (λ product. KeepsFiles disk asked × IsProductOf disk asked product) (λ reason. Overwrites disk asked reason ⊎ HoldsOf disk asked reason) disk.breaks
+      reason status out err_old err_new (λ other. inl over) told;
+}
 
 -- ---- the files of a search
 
@@ -372,3 +420,17 @@ pub due_certificate : (word : Option (Bor (List ℕ))) (name : Bor (List ℕ)) (
     → given ≡ Some certificate → certificate_files (words_of word) given ≡ certificate_file name.now certificate ∷ []
 due_certificate word name given certificate is has =
     ap (λ (it : Option (Bor (List ℕ))). certificate_files (words_of it) given) is ∙ ap (certificate_files (Some name.now)) has
+
+-- what a join says
+pub join_product : (disk : Disk) (text : List ℕ) (default : Delay) (names : List (List ℕ)) (check : Bool) (first second name : Option (List ℕ))
+    (report shown : List ℕ) (whole : Certificate) → IsJoinReport disk text default names check first second report whole
+    → IsBeside (certificate_files name (Some whole) ++ []) report shown → IsJoinProduct disk text default names check first second name
+    (record { report = shown; files = certificate_files name (Some whole); ending = Done })
+join_product disk text default names check first second name report shown whole is beside = record {
+  report = report;
+  whole = whole;
+  is = is;
+  files = refl;
+  shown = subst (λ (files : List FileText). IsBeside files report shown) (append-nil (certificate_files name (Some whole))) beside;
+  ends = refl;
+}

@@ -22,6 +22,8 @@ plain_name name rows (request.Sim asked) plain is same = other_word (codes "sim"
 plain_name name rows (request.Path asked) plain is same = other_word (codes "path") (codes "worst") refl (sym is.0 ∙ same)
 plain_name name rows (request.Bound asked) plain is same = other_word (codes "bound") (codes "worst") refl (sym is.0 ∙ same)
 plain_name name rows (request.Worst asked) plain is same = absurd (true≢false plain)
+plain_name name rows (request.Parts asked) plain is same = other_word (codes "parts") (codes "worst") refl (sym is.0 ∙ same)
+plain_name name rows (request.Join asked) plain is same = other_word (codes "join") (codes "worst") refl (sym is.0 ∙ same)
 plain_name name rows (request.Check asked) plain is same = other_word (codes "check") (codes "worst") refl (sym is.0 ∙ same)
 plain_name name rows (request.Info asked) plain is same = other_word (codes "info") (codes "worst") refl (sym is.0 ∙ same)
 
@@ -30,6 +32,8 @@ search_name name rows (request.Sim asked) search is = absurd (true≢false (sym 
 search_name name rows (request.Path asked) search is = absurd (true≢false (sym search))
 search_name name rows (request.Bound asked) search is = absurd (true≢false (sym search))
 search_name name rows (request.Worst asked) search is = is.0
+search_name name rows (request.Parts asked) search is = absurd (true≢false (sym search))
+search_name name rows (request.Join asked) search is = absurd (true≢false (sym search))
 search_name name rows (request.Check asked) search is = absurd (true≢false (sym search))
 search_name name rows (request.Info asked) search is = absurd (true≢false (sym search))
 

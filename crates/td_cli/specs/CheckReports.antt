@@ -22,9 +22,12 @@ place_text None = []
 place_text (Some line) = codes " line " ++ decimal line
 
 -- the number and the name of a verdict that refuses, and its line
+abbrev pub refusing_text : Verdict → List ℕ
+refusing_text verdict =
+    codes "refused " ++ decimal (verdict_number verdict) ++ codes " " ++ verdict_name verdict ++ place_text (verdict_line verdict)
+
 abbrev pub refused_text : Verdict → List ℕ
-refused_text verdict =
-    codes "refused " ++ decimal (verdict_number verdict) ++ codes " " ++ verdict_name verdict ++ place_text (verdict_line verdict) ++ newline
+refused_text verdict = refusing_text verdict ++ newline
 
 -- the program ends so with this verdict
 abbrev pub ending_of : Verdict → Status

@@ -7,7 +7,7 @@ use Rattle.td_certificate.specs.declared.fault.WriteFault.TheVariants as unwritt
 use Rattle.td_cli.specs.declared.files.ReadFault.{ReadFault}
 use Rattle.td_cli.specs.declared.files.ReadFault.TheVariants as unread
 use Rattle.td_cli.specs.declared.status.Status.{Status}
-use Rattle.td_cli.specs.declared.status.Status.TheVariants.{Refused, BadCommand, Device}
+use Rattle.td_cli.specs.declared.status.Status.TheVariants.{Refused, BadCommand, Rejected, Device}
 use Rattle.td_cli.specs.declared.refusal.Refusal.{Refusal}
 use Rattle.td_cli.specs.declared.refusal.Refusal.TheVariants as refusal
 use Rattle.td_cli.specs.Files.{FileStep, FileText, AreWritten, IsLeft}
@@ -41,6 +41,10 @@ status_of (refusal.Unreadable name) = Device
 status_of (refusal.BadVector word) = BadCommand
 status_of refusal.NoOutput = BadCommand
 status_of (refusal.OneFile out file) = BadCommand
+status_of (refusal.Unaccepted name verdict) = Rejected
+status_of (refusal.OtherCircuit name) = Rejected
+status_of (refusal.NotJoined fault one other) = Rejected
+status_of refusal.TooLong = Rejected
 status_of reason = Refused
 
 -- a line was told: all of it went out, or the writer failed behind a beginning of it
@@ -124,3 +128,10 @@ module _ (IsProduct : Product → Type 0) (Holds : Refusal → Type 0) (breaks :
   -- how a command ends that says such a product, and is refused for such reasons
   abbrev pub Ends : Type 0
   Ends = Finishes ⊎ (Refuses ⊎ (LosesReport ⊎ LosesFile))
+
+-- lines were told on standard error, and behind them the command ended so
+pub record EndsBehind (Told : Output → Output → Type 0) (IsProduct : Product → Type 0) (Holds : Refusal → Type 0) (breaks : List ℕ → Type 0)
+    (steps : List FileStep) (status : Status) (old new : Streams) : Type 0 where
+  pub mid : Output
+  pub told : Told old.err mid
+  pub ends : Ends IsProduct Holds breaks steps status (streams old.out mid) new

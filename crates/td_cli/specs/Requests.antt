@@ -1,5 +1,6 @@
 -- How each command and the program end.
-use Rattle.std.specs.Prelude.{◌≡◌, ◌≢◌, ℕ, Bool, true, false, List, [], ◌∷◌, ◌++◌, ◌⊎◌, Option, Some, None, ⊤, codes}
+use Rattle.std.specs.Prelude.{◌≡◌, ◌≢◌, ℕ, Bool, true, false, List, [], ◌∷◌, ◌++◌, ◌⊎◌, All, Option, Some, None, ⊤, codes}
+use Rattle.std.specs.List.{Contains}
 use Rattle.std.specs.Borrow.{Bor}
 use Rattle.clap.specs.Words.{IsAmong}
 use Rattle.clap.specs.declared.error.kind.ErrorKind.{ErrorKind}
@@ -19,6 +20,7 @@ use Rattle.td_search.specs.declared.strategy.Strategy.TheVariants as strategy
 use Rattle.td_command.specs.declared.command.StrategyWord.{StrategyWord}
 use Rattle.td_command.specs.declared.command.StrategyWord.TheVariants as word
 use Rattle.td_command.specs.declared.command.WorstRequest.{WorstRequest}
+use Rattle.td_command.specs.declared.command.PartsRequest.{PartsRequest}
 use Rattle.td_command.specs.declared.command.Request.{Request}
 use Rattle.td_command.specs.declared.command.Request.TheVariants as request
 use Rattle.td_command.specs.CommandLine.{delays, kinds_of, Asks}
@@ -30,10 +32,14 @@ use Rattle.td_cli.specs.BoundReports.{IsBoundReport}
 use Rattle.td_cli.specs.CheckReports.{IsCheckReport}
 use Rattle.td_cli.specs.WorstReports.{IsWorstReport}
 use Rattle.td_cli.specs.InfoReports.{IsInfoReport}
+use Rattle.td_cli.specs.PartReports.{IsPartsReport}
+use Rattle.td_cli.specs.JoinReports.{IsJoinReport, HasNoJoin}
 use Rattle.td_cli.specs.Refusals.{refusal_text, unwritten_text}
 use Rattle.td_cli.specs.Outcomes.{HasNoCircuit, HasNoReport, HasNoPath, HasNoBounds, HasNoAnswer, HasNoVerdict}
 use Rattle.td_cli.specs.Files.{FileStep, FileText}
-use Rattle.td_cli.specs.Ends.{Product, IsReportOnly, Streams, Tells, Ends}
+use Rattle.td_cli.specs.Disks.{Disk, Reads, HoldsOnFile}
+use Rattle.td_cli.specs.Ends.{Product, IsReportOnly, Streams, Tells, EndsBehind}
+use Rattle.td_cli.specs.Progress.{TellsSearch}
 
 -- ---- the commands, on bytes that were read
 
@@ -66,6 +72,10 @@ abbrev pub IsCheckProduct : List ℕ → Delay → List ℕ → Product → Type
 IsCheckProduct text default certificate product =
     IsReportOnly (IsCheckReport text default certificate product.ending) product.ending product
 
+-- what `parts` says
+abbrev pub IsPartsProduct : List ℕ → Delay → QuestionWords → ℕ → Product → Type 0
+IsPartsProduct text default words parts = IsReportOnly (IsPartsReport text default words parts) Done
+
 -- what `info` says
 abbrev pub IsInfoProduct : List ℕ → Delay → Product → Type 0
 IsInfoProduct text default = IsReportOnly (IsInfoReport text default) Done
@@ -91,30 +101,17 @@ pub record IsWorstProduct (text : List ℕ) (default : Delay) (words : QuestionW
   pub shown : IsBeside product.files report product.report
   pub ends : product.ending ≡ search_ending certificate
 
+-- what `join` says: the file is the certificate of the whole, where a name is given
+pub record IsJoinProduct (disk : Disk) (text : List ℕ) (default : Delay) (names : List (List ℕ)) (check : Bool) (first second name : Option (List ℕ))
+    (product : Product) : Type 0 where
+  pub report : List ℕ
+  pub whole : Certificate
+  pub is : IsJoinReport disk text default names check first second report whole
+  pub files : product.files ≡ certificate_files name (Some whole)
+  pub shown : IsBeside product.files report product.report
+  pub ends : product.ending ≡ Done
+
 -- ---- the commands, on files
-
--- what is known of files: the bytes that a read of a name may give, which names a device may fail to read, of which it may fail to
--- make or end a file, and what may be answered where it is asked whether two names are of one file
-pub record Disk : Type 1 where
-  pub holds : List ℕ → List ℕ → Type 0
-  pub fails : List ℕ → Type 0
-  pub breaks : List ℕ → Type 0
-  pub is_one : List ℕ → List ℕ → Bool → Type 0
-
-abbrev pub disk_of : (List ℕ → List ℕ → Type 0) → (List ℕ → Type 0) → (List ℕ → Type 0) → (List ℕ → List ℕ → Bool → Type 0) → Disk
-disk_of holds fails breaks is_one = record { holds = holds; fails = fails; breaks = breaks; is_one = is_one }
-
--- the file of this name was read, as bytes of which this holds
-abbrev pub Reads : Disk → List ℕ → (List ℕ → Type 0) → Type 0
-Reads disk name Holds = (text : List ℕ) × disk.holds name text × Holds text
-
--- the reason tells a file of this name, which a device may fail to read
-abbrev pub IsUnreadable : Disk → List ℕ → Refusal → Type 0
-IsUnreadable disk name reason = (word : Bor (List ℕ)) × (reason ≡ refusal.Unreadable word) × (word.now ≡ name) × disk.fails name
-
--- the reason tells that the file of this name can't be read, or holds of the bytes that were read
-abbrev pub HoldsOnFile : Disk → List ℕ → (List ℕ → Refusal → Type 0) → Refusal → Type 0
-HoldsOnFile disk name HoldsOn reason = IsUnreadable disk name reason ⊎ Reads disk name (λ text. HoldsOn text reason)
 
 -- the strategy that a word names
 abbrev pub strategy_of : StrategyWord → Strategy
@@ -124,6 +121,17 @@ strategy_of word.Lead = strategy.Lead
 -- the words of a request that say what its search is about, and by which strategy it goes
 abbrev pub words_in : WorstRequest → QuestionWords
 words_in asked = record {
+  first = asked.first;
+  second = asked.second;
+  hold = asked.hold;
+  flips = asked.flips;
+  at = asked.at;
+  strategy = strategy_of asked.strategy;
+}
+
+-- the words of a request that say which question has parts, and by which strategy their searches go
+abbrev pub parts_words : PartsRequest → QuestionWords
+parts_words asked = record {
   first = asked.first;
   second = asked.second;
   hold = asked.hold;
@@ -145,6 +153,11 @@ IsProductOf disk (request.Worst asked) product =
 IsProductOf disk (request.Check asked) product =
     Reads disk asked.file.now (λ text. Reads disk asked.certificate.now (λ certificate.
     IsCheckProduct text (delays asked.rise asked.fall) certificate product))
+IsProductOf disk (request.Parts asked) product =
+    Reads disk asked.file.now (λ text. IsPartsProduct text (delays asked.rise asked.fall) (parts_words asked) asked.parts product)
+IsProductOf disk (request.Join asked) product =
+    Reads disk asked.file.now (λ text. IsJoinProduct disk text (delays asked.rise asked.fall) asked.certificates asked.check (words_of asked.first)
+    (words_of asked.second) (words_of asked.certificate) product)
 IsProductOf disk (request.Info asked) product = Reads disk asked.file.now (λ text. IsInfoProduct text (delays asked.rise asked.fall) product)
 
 -- why a request is refused
@@ -158,6 +171,10 @@ HoldsOf disk (request.Bound asked) =
 HoldsOf disk (request.Worst asked) = HoldsOnFile disk asked.file.now (λ text. HasNoAnswer text (delays asked.rise asked.fall) (words_in asked))
 HoldsOf disk (request.Check asked) =
     HoldsOnFile disk asked.file.now (λ text. HoldsOnFile disk asked.certificate.now (HasNoVerdict text (delays asked.rise asked.fall)))
+HoldsOf disk (request.Parts asked) = HoldsOnFile disk asked.file.now (λ text. HasNoAnswer text (delays asked.rise asked.fall) (parts_words asked))
+HoldsOf disk (request.Join asked) =
+    HoldsOnFile disk asked.file.now (λ text. HasNoJoin disk text (delays asked.rise asked.fall) asked.certificates asked.check (words_of asked.first)
+    (words_of asked.second))
 HoldsOf disk (request.Info asked) = HoldsOnFile disk asked.file.now (λ text. HasNoCircuit text (delays asked.rise asked.fall))
 
 -- whether a search is asked for
@@ -169,9 +186,15 @@ is_search other = false
 abbrev pub AsksSearch : List (List ℕ) → Type 0
 AsksSearch words = (asked : Request) × Asks words asked × (is_search asked ≡ true)
 
+-- what standard error gets before a command ends: of a search, lines of progress where they are asked for
+abbrev pub TellsBefore : Disk → Request → Output → Output → Type 0
+TellsBefore disk (request.Worst asked) old mid =
+    (mid ≡ old) ⊎ Reads disk asked.file.now (λ text. TellsSearch asked.progress text (delays asked.rise asked.fall) (words_in asked) old mid)
+TellsBefore disk other old mid = mid ≡ old
+
 -- how the command that is asked for ends, once it is known that no file of it is written over another
 abbrev pub RequestRuns : Disk → Request → List FileStep → Status → Streams → Streams → Type 0
-RequestRuns disk asked = Ends (IsProductOf disk asked) (HoldsOf disk asked) disk.breaks
+RequestRuns disk asked = EndsBehind (TellsBefore disk asked) (IsProductOf disk asked) (HoldsOf disk asked) disk.breaks
 
 -- the names that are given are of different files
 abbrev pub AreApart : Disk → Option (List ℕ) → Option (List ℕ) → Type 0
@@ -191,21 +214,30 @@ pub record IsOverwritten (disk : Disk) (out file : Option (List ℕ)) (reason : 
 abbrev pub IsReadAs : List ℕ → List ℕ → Type 0
 IsReadAs name read = ((name ≢ codes "-") × (read ≡ name)) ⊎ ((name ≡ codes "-") × (read ≡ codes "stdin"))
 
--- no file that a command writes is its netlist, or another file that it writes
+-- a file that a command writes, where it writes one, isn't this one that it reads
+abbrev pub KeepsRead : Disk → Option (List ℕ) → List ℕ → Type 0
+KeepsRead disk out file = (read : List ℕ) × IsReadAs file read × AreApart disk out (Some read)
+
+-- no file that a command writes is one that it reads, or another one that it writes
 abbrev pub KeepsFiles : Disk → Request → Type 0
 KeepsFiles disk (request.Sim asked) = (read : List ℕ) × IsReadAs asked.file.now read × AreApart disk (words_of asked.vcd) (Some read)
+KeepsFiles disk (request.Join asked) =
+    KeepsRead disk (words_of asked.certificate) asked.file.now × All (KeepsRead disk (words_of asked.certificate)) asked.certificates
 KeepsFiles disk (request.Worst asked) =
     (read : List ℕ) × IsReadAs asked.file.now read
     × AreApart disk (words_of asked.certificate) (Some read) × AreApart disk (words_of asked.vcd) (Some read)
     × AreApart disk (words_of asked.vcd) (words_of asked.certificate)
 KeepsFiles disk other = ⊤
 
--- a file that a command would write is its netlist
+-- a file that a command would write is this one that it reads
 abbrev pub OverwritesRead : Disk → List ℕ → Option (List ℕ) → Refusal → Type 0
 OverwritesRead disk file out reason = (read : List ℕ) × IsReadAs file read × IsOverwritten disk out (Some read) reason
 
--- a file that a command would write is its netlist, or another file that it would write
+-- a file that a command would write is one that it reads, or another one that it would write
 abbrev pub Overwrites : Disk → Request → Refusal → Type 0
+Overwrites disk (request.Join asked) reason =
+    OverwritesRead disk asked.file.now (words_of asked.certificate) reason
+    ⊎ ((name : List ℕ) × Contains asked.certificates name × OverwritesRead disk name (words_of asked.certificate) reason)
 Overwrites disk (request.Sim asked) reason = OverwritesRead disk asked.file.now (words_of asked.vcd) reason
 Overwrites disk (request.Worst asked) reason =
     OverwritesRead disk asked.file.now (words_of asked.certificate) reason
@@ -216,7 +248,7 @@ Overwrites disk other reason = ⊥
 -- how the command that is asked for ends: none that says something writes one of its files over another
 abbrev pub RequestEnds : Disk → Request → List FileStep → Status → Streams → Streams → Type 0
 RequestEnds disk asked =
-    Ends (λ product. KeepsFiles disk asked × IsProductOf disk asked product) (λ reason. Overwrites disk asked reason ⊎ HoldsOf disk asked reason) disk.breaks
+    EndsBehind (TellsBefore disk asked) (λ product. KeepsFiles disk asked × IsProductOf disk asked product) (λ reason. Overwrites disk asked reason ⊎ HoldsOf disk asked reason) disk.breaks
 
 -- ---- the program
 

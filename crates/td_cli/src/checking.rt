@@ -4,7 +4,7 @@ ghost use Rattle.std.specs.Prelude.{◌≡◌, ◌++◌, ℕ, List, IfOk, IfErr,
 ghost use Rattle.td_certificate.specs.Spelling.{version_in, question_text};
 ghost use Rattle.td_checker.specs.Checks.{HaveVerdict, TellsWorst};
 ghost use Rattle.td_checker.specs.declared.verdict.Verdict.TheVariants as Told;
-ghost use Rattle.td_cli.specs.CheckReports.{accepted_text, refused_text, place_text, verdict_text, ending_of, IsCheckReport};
+ghost use Rattle.td_cli.specs.CheckReports.{accepted_text, refusing_text, refused_text, place_text, verdict_text, ending_of, IsCheckReport};
 ghost use Rattle.td_cli.specs.Outcomes.{HasNoVerdict, refusal_of};
 
 use crate::refusal::Refusal;
@@ -49,7 +49,7 @@ pub fn verdict_on<'a>(
 }
 
 /// The reason that tells a fault of the checker.
-fn refused<'a>(fault: CheckFault<'a>) -> Refusal<'a>
+pub fn refused<'a>(fault: CheckFault<'a>) -> Refusal<'a>
     ensures { result ≡ refusal_of fault.entry }
 {
     match fault {
@@ -103,12 +103,19 @@ fn about(alloc: Global, text: &mut Text, certificate: &Certificate) -> Result<()
 fn refuses(text: &mut Text, verdict: Verdict) -> Result<(), AllocError>
     ensures { OnOk result (text.new ≡ text.old ++ refused_text verdict) }
 {
+    refusing(text, verdict)?;
+    text.push(b"\n")
+}
+
+/// Appends the line, but for its end, that tells a verdict that refuses.
+pub fn refusing(text: &mut Text, verdict: Verdict) -> Result<(), AllocError>
+    ensures { OnOk result (text.new ≡ text.old ++ refusing_text verdict) }
+{
     text.push(b"refused ")?;
     text.number(u64::from(verdict.number()))?;
     text.push(b" ")?;
     text.word(verdict.name())?;
-    place(text, verdict.line())?;
-    text.push(b"\n")
+    place(text, verdict.line())
 }
 
 fn place(text: &mut Text, line: Option<u32>) -> Result<(), AllocError>

@@ -6,7 +6,8 @@ ghost use Rattle.td_command.specs.CommandLine.{delays};
 ghost use Rattle.td_cli.specs.Ends.{Ends, streams};
 ghost use Rattle.td_cli.specs.Files.{Takes};
 ghost use Rattle.td_cli.specs.Outcomes.{HasNoCircuit};
-ghost use Rattle.td_cli.specs.Requests.{disk_of, IsInfoProduct, RequestRuns};
+ghost use Rattle.td_cli.specs.Disks.{disk_of};
+ghost use Rattle.td_cli.specs.Requests.{IsInfoProduct, RequestRuns};
 ghost use Rattle.td_command.specs.declared.command.Request.TheVariants as Asked;
 
 use crate::describing::info;

@@ -6,13 +6,15 @@ ghost use Rattle.clap.specs.declared.error.kind.ErrorKind.TheVariants as Kind;
 ghost use Rattle.td_gates.specs.Delays.{IsInRange};
 ghost use Rattle.td_certificate.specs.Spelling.{HasSpelling, spelling};
 ghost use Rattle.td_command.specs.CommandLine.{delays, IsCarriedOut};
-ghost use Rattle.td_cli.specs.Ends.{Ends, LosesOne, Tells, TellsReason, TellsUnread, TellsUnwritten, Says, streams};
+ghost use Rattle.td_cli.specs.Ends.{Ends, EndsBehind, LosesOne, Tells, TellsReason, TellsUnread, TellsUnwritten, Says, streams};
 ghost use Rattle.td_cli.specs.Files.{IsWritten, AreWritten, IsLeft, Takes};
 ghost use Rattle.td_cli.specs.Dumps.{file_of, dump_files, HasRun};
 ghost use Rattle.td_cli.specs.Outcomes.{HasNoReport, HasNoPath, HasNoBounds, HasNoAnswer, HasNoVerdict};
+ghost use Rattle.td_cli.specs.Progress.{TellsSearch};
 ghost use Rattle.td_cli.specs.Refusals.{unwritten_text};
 ghost use Rattle.td_cli.specs.Vectors.{words_of};
-ghost use Rattle.td_cli.specs.Requests.{disk_of, is_search, AsksSearch, strategy_of, words_in, IsBeside, IsSimProduct, IsPathProduct, IsBoundProduct, IsCheckProduct, IsWorstProduct, certificate_files, search_ending, Reads, HoldsOnFile, RequestRuns, RequestEnds, IsOutOfMemory, IsShown, TellsText, ProgramEnds, RefusesWords};
+ghost use Rattle.td_cli.specs.Disks.{disk_of, Reads, HoldsOnFile};
+ghost use Rattle.td_cli.specs.Requests.{is_search, AsksSearch, strategy_of, words_in, IsBeside, IsSimProduct, IsPathProduct, IsBoundProduct, IsCheckProduct, IsWorstProduct, certificate_files, search_ending, RequestRuns, RequestEnds, IsOutOfMemory, IsShown, TellsText, ProgramEnds, RefusesWords};
 ghost use Rattle.td_command.specs.declared.command.Request.TheVariants as Asked;
 ghost use Rattle.td_cli.specs.declared.refusal.Refusal.TheVariants as Reason;
 ghost use Rattle.td_cli.specs.declared.files.ReadFault.TheVariants as Fault;
@@ -25,9 +27,11 @@ use crate::dumping::{Dump, write_dump};
 use crate::explaining::path;
 use crate::files::{Files, ReadFault};
 use crate::informing::run_info;
+use crate::joining::run_join;
 use crate::overwriting::overwriting;
+use crate::parting::run_parts;
+use crate::progress::searched;
 use crate::refusal::Refusal;
-use crate::searching::worst;
 use crate::simulate::sim;
 use crate::status::Status;
 use crate::text::Text;
@@ -203,6 +207,8 @@ fn run_plain_request<F: Files, O: Sink, E: Sink>(
         Request::Path(request) => run_path(alloc, files, *request, out, err),
         Request::Bound(request) => run_bound(alloc, files, *request, out, err),
         Request::Check(request) => run_check(alloc, files, *request, out, err),
+        Request::Parts(request) => run_parts(alloc, files, *request, out, err),
+        Request::Join(request) => run_join(alloc, files, request, out, err),
         Request::Info(request) => run_info(alloc, files, *request, out, err),
         Request::Worst(_) => unreachable!(),
     }
@@ -336,6 +342,7 @@ fn run_worst<R: Threads + Wait + Sync, F: Files, O: Sink, E: Sink>(
                 request.path,
                 request.certificate,
                 request.vcd,
+                request.progress,
                 out,
                 err,
             )
@@ -359,7 +366,7 @@ fn words_in(request: WorstRequest<'_>) -> QuestionWords<'_>
 }
 
 /// The strategy that a word names.
-fn strategy_of(word: StrategyWord) -> Strategy
+pub fn strategy_of(word: StrategyWord) -> Strategy
     ensures { result ≡ strategy_of word }
 {
     match word {
@@ -516,7 +523,7 @@ pub fn carry_out_check<O: Sink, E: Sink>(
 
 /// Carries out `worst` on bytes that were read, with 1 to 64 workers and a budget of at most 10,000,000 nodes: the report goes to `out`, then the
 /// certificate of an exact answer to the file of this name, and then the waves of the given pair to that of the name `vcd`; why
-/// there is none goes to `err`.
+/// there is none goes to `err`, and before that, where it is asked for, lines that tell how far the search has come.
 pub fn carry_out_worst<R: Threads + Wait + Sync, F: Files, O: Sink, E: Sink>(
     rt: &R,
     alloc: Global,
@@ -529,6 +536,7 @@ pub fn carry_out_worst<R: Threads + Wait + Sync, F: Files, O: Sink, E: Sink>(
     path: bool,
     name: Option<&str>,
     vcd: Option<&str>,
+    progress: bool,
     out: &mut O,
     err: &mut E,
 ) -> Status
@@ -536,10 +544,13 @@ pub fn carry_out_worst<R: Threads + Wait + Sync, F: Files, O: Sink, E: Sink>(
     requires few { workers ≤ 64 }
     requires modest { budget ≤ 10000000 }
     ensures { Takes (F.did files.old files.new) (λ steps.
-        Ends (IsWorstProduct text.now default words.entry budget path (words_of name.entry) (words_of vcd.entry)) (HasNoAnswer text.now default words.entry) (F.breaks files.old) steps result
+        EndsBehind (TellsSearch progress text.now default words.entry) (IsWorstProduct text.now default words.entry budget path (words_of name.entry) (words_of vcd.entry)) (HasNoAnswer text.now default words.entry) (F.breaks files.old) steps result
         (streams (O.output out.old) (E.output err.old)) (streams (O.output out.new) (E.output err.new))) }
 {
-    let found = match worst(rt, alloc, text, default, words, workers, budget, path, vcd) {
+    let answer = searched(
+        rt, alloc, text, default, words, workers, budget, path, vcd, progress, err,
+    );
+    let found = match answer {
         Ok(found) => found,
         Err(refusal) => return tell_refusal(alloc, err, &refusal),
     };
@@ -567,7 +578,7 @@ fn beside_dump<'a>(report: &'a Text, dump: &Option<Dump<'_>>) -> &'a [u8]
 }
 
 /// What is shown beside the files of a search: the report, unless one of them goes to standard output.
-fn beside_files<'a>(
+pub fn beside_files<'a>(
     report: &'a Text,
     name: Option<&str>,
     certificate: &Option<Certificate>,
@@ -595,7 +606,7 @@ fn ending(certificate: &Option<Certificate>) -> Status
 }
 
 /// Writes a certificate to a new file, if there is one and a name is given for it. Where that fails, it is told.
-fn keep_certificate<F: Files, E: Sink>(
+pub fn keep_certificate<F: Files, E: Sink>(
     alloc: Global,
     files: &mut F,
     name: Option<&str>,
@@ -719,7 +730,7 @@ fn unwritten_line(text: &mut Text, file: &str) -> Result<(), AllocError>
 }
 
 /// Tells a line on standard error, where a failure is ignored.
-fn tell<E: Sink>(err: &mut E, line: &[u8], status: Status) -> Status
+pub fn tell<E: Sink>(err: &mut E, line: &[u8], status: Status) -> Status
     ensures status { result ≡ status }
     ensures told { Tells (E.output err.old) (E.output err.new) line.now }
 {

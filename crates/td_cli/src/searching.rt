@@ -1,7 +1,7 @@
 //! The command `worst`: the search for the worst delay.
 
-ghost use Rattle.std.specs.Prelude.{◌≡◌, ◌<◌, ◌≤◌, ◌++◌, length, IfOk, IfErr, IfSome, OnOk};
-ghost use Rattle.td_search.specs.Problems.{problem_by};
+ghost use Rattle.std.specs.Prelude.{◌≡◌, ◌<◌, ◌≤◌, ◌⊎◌, ◌++◌, length, IfOk, IfErr, IfSome, OnOk};
+ghost use Rattle.td_search.specs.Problems.{Problem, problem_by};
 ghost use Rattle.td_certificate.specs.Spelling.{HasSpelling};
 ghost use Rattle.td_certificate.specs.Text.{bits};
 ghost use Rattle.td_cli.specs.Dumps.{dump_files, HasRun};
@@ -26,7 +26,7 @@ use td_certificate::{Certificate, Question};
 use td_circuit::Circuit;
 use td_domain::{Admit, Pair};
 use td_gates::Delay;
-use td_pool::worst_with;
+use td_pool::{Watch, worst_watched};
 use td_search::{Answer, Cause, Own, SearchFault, Strategy, certificate_of};
 
 /// The report of a search, the certificate of an exact answer, and the waves of the given pair's run where a name is given for
@@ -40,13 +40,13 @@ pub struct Found<'v> {
 
 /// What is asked: a circuit with its moments, and which pairs of its inputs are admitted.
 #[derive(Drop)]
-struct Asked {
-    circuit: Circuit,
-    admit: Admit,
+pub struct Asked {
+    pub circuit: Circuit,
+    pub admit: Admit,
 }
 
 /// What the words ask of a text.
-fn question_of<'a>(
+pub fn question_of<'a>(
     alloc: Global,
     text: &'a [u8],
     default: Delay,
@@ -70,8 +70,9 @@ fn question_of<'a>(
 
 /// The report of the search for the worst delay of what the words ask, by so many workers, from 1 to 64, which handles at most so
 /// many nodes. The budget is at most 10,000,000. Where they are asked for, the changes that lead to the last change of the given pair's run
-/// stand behind the report's other lines. The waves of that run too, where a name is given for their file.
-pub fn worst<'a, 'v, R: Threads + Wait + Sync>(
+/// stand behind the report's other lines. The waves of that run too, where a name is given for their file. The watch is told how far the search
+/// has come.
+pub fn worst<'a, 'v, W: Watch, R: Threads + Wait + Sync>(
     rt: &R,
     alloc: Global,
     text: &'a [u8],
@@ -79,6 +80,7 @@ pub fn worst<'a, 'v, R: Threads + Wait + Sync>(
     words: QuestionWords<'_>,
     workers: u32,
     budget: u64,
+    watch: &mut W,
     path: bool,
     vcd: Option<&'v str>,
 ) -> Result<Found<'v>, Refusal<'a>>
@@ -92,10 +94,12 @@ pub fn worst<'a, 'v, R: Threads + Wait + Sync>(
     // A certificate has a text.
     ensures spelled { IfOk result (λ found. IfSome found.certificate HasSpelling) }
     ensures has { IfOk result (λ found. IfSome found.dump HasRun) }
+    // What the watch was told, if anything, is true of what is asked.
+    ensures told { (watch.new ≡ watch.old) ⊎ ((asked : Problem) × IsAsked text.now default words.entry asked × W.told asked watch.old watch.new) }
 {
     let Asked { circuit, admit } = question_of(alloc, text, default, words)?;
     let moments = Vec::from_slice(alloc, circuit.moments())?;
-    let searched = worst_with(
+    let searched = worst_watched(
         rt,
         alloc,
         &circuit,
@@ -104,6 +108,7 @@ pub fn worst<'a, 'v, R: Threads + Wait + Sync>(
         words.strategy,
         workers,
         budget,
+        watch,
     );
     let answer = match searched {
         Ok(answer) => answer,
@@ -195,7 +200,7 @@ fn answer_of(text: &mut Text, answer: &Answer) -> Result<(), AllocError>
     }
 }
 
-fn exact(text: &mut Text, time: u64) -> Result<(), AllocError>
+pub fn exact(text: &mut Text, time: u64) -> Result<(), AllocError>
     ensures { OnOk result (text.new ≡ text.old ++ exact_line time) }
 {
     text.push(b"exact ")?;
@@ -225,7 +230,7 @@ fn cause_of(text: &mut Text, cause: Cause) -> Result<(), AllocError>
 }
 
 /// The lines of a pair, and of a number of nodes.
-fn pair_of(text: &mut Text, pair: &Pair, nodes: u64) -> Result<(), AllocError>
+pub fn pair_of(text: &mut Text, pair: &Pair, nodes: u64) -> Result<(), AllocError>
     ensures { OnOk result (text.new ≡ text.old ++ pair_lines pair.now nodes) }
 {
     text.push(b"from ")?;

@@ -7,17 +7,19 @@ use Rattle.clap.specs.Facts.{unwrap_or_range}
 use Rattle.clap.specs.Simple.{App, Shape, built_leaf, inherited, marked_built, with_leaf_noted}
 use Rattle.clap.specs.declared.builder.value_parser.ValueParser.TheVariants.{Bool as AsBool, Names, Signed, Unsigned}
 use Rattle.clap.specs.Walk.{Row, Rule, Text, action_of, arg_by_id, first_of, most_values}
-use Rattle.clap.specs.declared.builder.action.ArgAction.TheVariants.{Set, SetTrue, Help}
-use Rattle.td_command.specs.CommandLine.{AsksBound, AsksCheck, AsksInfo, AsksPath, AsksSim, AsksWorst, HasWord, behind, bound_command, check_command, info_command, listed, path_command, program, sim_command, strategy_names, worst_command}
+use Rattle.clap.specs.declared.builder.action.ArgAction.TheVariants.{Append, Set, SetTrue, Help}
+use Rattle.td_command.specs.CommandLine.{AsksBound, AsksCheck, AsksInfo, AsksJoin, AsksParts, AsksPath, AsksSim, AsksWorst, HasWord, behind, bound_command, check_command, info_command, join_command, listed, parts_command, path_command, program, sim_command, strategy_names, worst_command}
 use Rattle.td_command.specs.declared.command.SimRequest.{SimRequest}
 use Rattle.td_command.specs.declared.command.PathRequest.{PathRequest}
 use Rattle.td_command.specs.declared.command.BoundRequest.{BoundRequest}
 use Rattle.td_command.specs.declared.command.WorstRequest.{WorstRequest}
+use Rattle.td_command.specs.declared.command.PartsRequest.{PartsRequest}
+use Rattle.td_command.specs.declared.command.JoinRequest.{JoinRequest}
 use Rattle.td_command.specs.declared.command.CheckRequest.{CheckRequest}
 use Rattle.td_command.specs.declared.command.InfoRequest.{InfoRequest}
 use Rattle.td_command.proofs.Rows.{IsKnown}
 use Rattle.td_command.proofs.Levels.{IsPlainLeaf, IsTaken, has_default}
-use Rattle.td_command.proofs.Numbers.{HasCountOption, HasOption, count_there, default_there, given_text, number_there, text_there}
+use Rattle.td_command.proofs.Numbers.{HasCountOption, HasNeededOption, HasOption, count_there, default_there, given_text, needed_there, number_there, text_there, words_there}
 use Rattle.td_command.proofs.Choices.{HasNameOption, IsFlag, flag_there, strategy_there}
 
 -- ---- the commands
@@ -37,6 +39,12 @@ bound = filled_in bound_command
 abbrev pub worst : Shape
 worst = filled_in (worst_command (listed strategy_names))
 
+abbrev pub parts : Shape
+parts = filled_in (parts_command (listed strategy_names))
+
+abbrev pub join : Shape
+join = filled_in join_command
+
 abbrev pub check : Shape
 check = filled_in check_command
 
@@ -51,22 +59,34 @@ known_one found action least most default = record {
   default = default;
 }
 
+known_more : {command : List Rule} {rule : Rule} → arg_by_id command rule.id ≡ Some rule → action_of rule ≡ Append
+    → (unwrap_or_range rule.range).start_inclusive ≡ 1 → most_values rule ≡ 1 → length rule.defaults ≤ 1 → IsKnown command rule
+known_more found action least most default = record {
+  found = found;
+  kind = inr (inl (record { action = action; least = least; most = most }));
+  default = default;
+}
+
 known_help : {command : List Rule} {rule : Rule} → arg_by_id command rule.id ≡ Some rule → action_of rule ≡ Help → length rule.defaults ≤ 1
     → IsKnown command rule
-known_help found action default = record { found = found; kind = inr (inr action); default = default }
+known_help found action default = record { found = found; kind = inr (inr (inr action)); default = default }
 
 known_flag : {command : List Rule} {rule : Rule} {value : Text} → arg_by_id command rule.id ≡ Some rule → action_of rule ≡ SetTrue
     → (unwrap_or_range rule.range).start_inclusive ≡ 0 → most_values rule ≡ 0 → rule.missing ≡ value ∷ [] → length rule.defaults ≤ 1
     → IsKnown command rule
 known_flag found action least most stands default = record {
   found = found;
-  kind = inr (inl (record { action = action; least = least; most = most; value = _; stands = stands }));
+  kind = inr (inr (inl (record { action = action; least = least; most = most; value = _; stands = stands })));
   default = default;
 }
 
 has_option : {shape : Shape} {id : Text} {least most : ℕ} (rule : Rule) → arg_by_id shape.rules id ≡ Some rule
     → rule.parser ≡ Some (Signed (pos least) (pos most)) → list_any (has_default id) shape.rules ≡ true → HasOption shape id least most
 has_option rule named parser left_out = record { rule = rule; named = named; parser = parser; left_out = left_out }
+
+has_needed : {shape : Shape} {id : Text} {least most : ℕ} (rule : Rule) → arg_by_id shape.rules id ≡ Some rule
+    → rule.parser ≡ Some (Signed (pos least) (pos most)) → HasNeededOption shape id least most
+has_needed rule named parser = record { rule = rule; named = named; parser = parser }
 
 has_count_option : {shape : Shape} {id : Text} (rule : Rule) → arg_by_id shape.rules id ≡ Some rule
     → rule.parser ≡ Some (Unsigned 0 18446744073709551615) → HasCountOption shape id
@@ -82,163 +102,28 @@ is_flag : {shape : Shape} {id : Text} (rule : Rule) → arg_by_id shape.rules id
 is_flag rule named parser left_out = record { rule = rule; named = named; parser = parser; left_out = left_out }
 
 pub sim_is_plain : IsPlainLeaf sim
-sim_is_plain = record {
-  known = (
-    known_one refl refl refl refl (omega arith),
-    (
-      known_one refl refl refl refl (omega arith),
-      (
-        known_one refl refl refl refl (omega arith),
-        (
-          known_one refl refl refl refl (omega arith),
-          (
-            known_one refl refl refl refl (omega arith),
-            (
-              known_one refl refl refl refl (omega arith),
-              (
-                known_one refl refl refl refl (omega arith),
-                (known_help refl refl (omega arith), tt),
-              ),
-            ),
-          ),
-        ),
-      ),
-    ),
-  );
-  once = refl;
-}
+sim_is_plain = record { known = (known_one refl refl refl refl (omega arith), (known_one refl refl refl refl (omega arith), (known_one refl refl refl refl (omega arith), (known_one refl refl refl refl (omega arith), (known_one refl refl refl refl (omega arith), (known_one refl refl refl refl (omega arith), (known_one refl refl refl refl (omega arith), (known_help refl refl (omega arith), tt)))))))); once = refl }
 
 pub path_is_plain : IsPlainLeaf path
-path_is_plain = record {
-  known = (
-    known_one refl refl refl refl (omega arith),
-    (
-      known_one refl refl refl refl (omega arith),
-      (
-        known_one refl refl refl refl (omega arith),
-        (
-          known_one refl refl refl refl (omega arith),
-          (
-            known_one refl refl refl refl (omega arith),
-            (
-              known_one refl refl refl refl (omega arith),
-              (
-                known_one refl refl refl refl (omega arith),
-                (known_help refl refl (omega arith), tt),
-              ),
-            ),
-          ),
-        ),
-      ),
-    ),
-  );
-  once = refl;
-}
+path_is_plain = record { known = (known_one refl refl refl refl (omega arith), (known_one refl refl refl refl (omega arith), (known_one refl refl refl refl (omega arith), (known_one refl refl refl refl (omega arith), (known_one refl refl refl refl (omega arith), (known_one refl refl refl refl (omega arith), (known_one refl refl refl refl (omega arith), (known_help refl refl (omega arith), tt)))))))); once = refl }
 
 pub bound_is_plain : IsPlainLeaf bound
-bound_is_plain = record {
-  known = (
-    known_one refl refl refl refl (omega arith),
-    (
-      known_one refl refl refl refl (omega arith),
-      (
-        known_one refl refl refl refl (omega arith),
-        (
-          known_one refl refl refl refl (omega arith),
-          (
-            known_flag refl refl refl refl refl (omega arith),
-            (
-              known_one refl refl refl refl (omega arith),
-              (
-                known_one refl refl refl refl (omega arith),
-                (known_help refl refl (omega arith), tt),
-              ),
-            ),
-          ),
-        ),
-      ),
-    ),
-  );
-  once = refl;
-}
+bound_is_plain = record { known = (known_one refl refl refl refl (omega arith), (known_one refl refl refl refl (omega arith), (known_one refl refl refl refl (omega arith), (known_one refl refl refl refl (omega arith), (known_flag refl refl refl refl refl (omega arith), (known_one refl refl refl refl (omega arith), (known_one refl refl refl refl (omega arith), (known_help refl refl (omega arith), tt)))))))); once = refl }
 
 pub worst_is_plain : IsPlainLeaf worst
-worst_is_plain = record {
-  known = (
-    known_one refl refl refl refl (omega arith),
-    (
-      known_one refl refl refl refl (omega arith),
-      (
-        known_one refl refl refl refl (omega arith),
-        (
-          known_one refl refl refl refl (omega arith),
-          (
-            known_one refl refl refl refl (omega arith),
-            (
-              known_one refl refl refl refl (omega arith),
-              (
-                known_one refl refl refl refl (omega arith),
-                (
-                  known_one refl refl refl refl (omega arith),
-                  (
-                    known_one refl refl refl refl (omega arith),
-                    (
-                      known_one refl refl refl refl (omega arith),
-                      (
-                        known_one refl refl refl refl (omega arith),
-                        (
-                          known_flag refl refl refl refl refl (omega arith),
-                          (
-                            known_one refl refl refl refl (omega arith),
-                            (
-                              known_one refl refl refl refl (omega arith),
-                              (known_help refl refl (omega arith), tt),
-                            ),
-                          ),
-                        ),
-                      ),
-                    ),
-                  ),
-                ),
-              ),
-            ),
-          ),
-        ),
-      ),
-    ),
-  );
-  once = refl;
-}
+worst_is_plain = record { known = (known_one refl refl refl refl (omega arith), (known_one refl refl refl refl (omega arith), (known_one refl refl refl refl (omega arith), (known_one refl refl refl refl (omega arith), (known_one refl refl refl refl (omega arith), (known_one refl refl refl refl (omega arith), (known_one refl refl refl refl (omega arith), (known_one refl refl refl refl (omega arith), (known_one refl refl refl refl (omega arith), (known_one refl refl refl refl (omega arith), (known_one refl refl refl refl (omega arith), (known_flag refl refl refl refl refl (omega arith), (known_flag refl refl refl refl refl (omega arith), (known_one refl refl refl refl (omega arith), (known_one refl refl refl refl (omega arith), (known_help refl refl (omega arith), tt)))))))))))))))); once = refl }
+
+pub parts_is_plain : IsPlainLeaf parts
+parts_is_plain = record { known = (known_one refl refl refl refl (omega arith), (known_one refl refl refl refl (omega arith), (known_one refl refl refl refl (omega arith), (known_one refl refl refl refl (omega arith), (known_one refl refl refl refl (omega arith), (known_one refl refl refl refl (omega arith), (known_one refl refl refl refl (omega arith), (known_one refl refl refl refl (omega arith), (known_one refl refl refl refl (omega arith), (known_one refl refl refl refl (omega arith), (known_help refl refl (omega arith), tt))))))))))); once = refl }
+
+pub join_is_plain : IsPlainLeaf join
+join_is_plain = record { known = (known_one refl refl refl refl (omega arith), (known_more refl refl refl refl (omega arith), (known_one refl refl refl refl (omega arith), (known_flag refl refl refl refl refl (omega arith), (known_one refl refl refl refl (omega arith), (known_one refl refl refl refl (omega arith), (known_one refl refl refl refl (omega arith), (known_one refl refl refl refl (omega arith), (known_help refl refl (omega arith), tt))))))))); once = refl }
 
 pub check_is_plain : IsPlainLeaf check
-check_is_plain = record {
-  known = (
-    known_one refl refl refl refl (omega arith),
-    (
-      known_one refl refl refl refl (omega arith),
-      (
-        known_one refl refl refl refl (omega arith),
-        (
-          known_one refl refl refl refl (omega arith),
-          (known_help refl refl (omega arith), tt),
-        ),
-      ),
-    ),
-  );
-  once = refl;
-}
+check_is_plain = record { known = (known_one refl refl refl refl (omega arith), (known_one refl refl refl refl (omega arith), (known_one refl refl refl refl (omega arith), (known_one refl refl refl refl (omega arith), (known_help refl refl (omega arith), tt))))); once = refl }
 
 pub info_is_plain : IsPlainLeaf info
-info_is_plain = record {
-  known = (
-    known_one refl refl refl refl (omega arith),
-    (
-      known_one refl refl refl refl (omega arith),
-      (known_one refl refl refl refl (omega arith), (known_help refl refl (omega arith), tt)),
-    ),
-  );
-  once = refl;
-}
+info_is_plain = record { known = (known_one refl refl refl refl (omega arith), (known_one refl refl refl refl (omega arith), (known_one refl refl refl refl (omega arith), (known_help refl refl (omega arith), tt)))); once = refl }
 
 -- ---- what the words ask for
 
@@ -331,6 +216,7 @@ asks_worst rows taken =
     let strategy = strategy_there worst rows (has_name_option _ refl refl refl refl) taken in
     let budget = number_there worst (codes "budget") 0 10000000 rows (has_option _ refl refl refl) taken in
     let path = flag_there worst (codes "path") rows (is_flag _ refl refl refl) taken in
+    let progress = flag_there worst (codes "progress") rows (is_flag _ refl refl refl) taken in
     let default = default_there worst rows (has_option _ refl refl refl) (has_option _ refl refl refl) taken in (
       record {
         file = behind file.0;
@@ -345,6 +231,7 @@ asks_worst rows taken =
         certificate = word_of (codes "cert") rows;
         vcd = word_of (codes "vcd") rows;
         path = path.0;
+        progress = progress.0;
         rise = default.0.rise;
         fall = default.0.fall;
       },
@@ -361,6 +248,66 @@ asks_worst rows taken =
         certificate = word_there (codes "cert") rows;
         vcd = word_there (codes "vcd") rows;
         path = path.1;
+        progress = progress.1;
+        default = default.1;
+      },
+    )
+
+pub asks_parts : (rows : List Row) → IsTaken parts rows → (asked : PartsRequest) × AsksParts rows asked
+asks_parts rows taken =
+    let file = text_there parts.rules (codes "FILE") rows (taken.given.0 refl) taken.rules in
+    let number = needed_there parts (codes "parts") 1 65536 rows (has_needed _ refl refl) (taken.given.1.0 refl) taken.rules in
+    let flips = count_there parts (codes "flips") rows (has_count_option _ refl refl) taken in
+    let strategy = strategy_there parts rows (has_name_option _ refl refl refl refl) taken in
+    let default = default_there parts rows (has_option _ refl refl refl) (has_option _ refl refl refl) taken in (
+      record {
+        file = behind file.0;
+        parts = number.0;
+        first = word_of (codes "first") rows;
+        second = word_of (codes "second") rows;
+        hold = word_of (codes "hold") rows;
+        flips = flips.0;
+        at = word_of (codes "at") rows;
+        strategy = strategy.0;
+        rise = default.0.rise;
+        fall = default.0.fall;
+      },
+      record {
+        file = file.1;
+        parts = (number.1, number.2, number.3);
+        first = word_there (codes "first") rows;
+        second = word_there (codes "second") rows;
+        hold = word_there (codes "hold") rows;
+        flips = flips.1;
+        at = word_there (codes "at") rows;
+        strategy = strategy.1;
+        default = default.1;
+      },
+    )
+
+pub asks_join : (rows : List Row) → IsTaken join rows → (asked : JoinRequest) × AsksJoin rows asked
+asks_join rows taken =
+    let file = text_there join.rules (codes "FILE") rows (taken.given.0 refl) taken.rules in
+    let certificates = words_there join.rules (codes "CERT") rows (taken.given.1.0 refl) taken.rules in
+    let check = flag_there join (codes "check") rows (is_flag _ refl refl refl) taken in
+    let default = default_there join rows (has_option _ refl refl refl) (has_option _ refl refl refl) taken in (
+      record {
+        file = behind file.0;
+        certificates = certificates.0;
+        certificate = word_of (codes "cert") rows;
+        check = check.0;
+        first = word_of (codes "first") rows;
+        second = word_of (codes "second") rows;
+        rise = default.0.rise;
+        fall = default.0.fall;
+      },
+      record {
+        file = file.1;
+        certificates = certificates.1;
+        certificate = word_there (codes "cert") rows;
+        check = check.1;
+        first = word_there (codes "first") rows;
+        second = word_there (codes "second") rows;
         default = default.1;
       },
     )

@@ -31,7 +31,7 @@ default_keeps command rule rows is none all = go (has_row rule.id rows) refl non
     left_out [] few absent none = all
     left_out (value ∷ []) few absent none =
         let parts = neither (request_kinds (action_of rule)) _ none in
-        joined command rule DefaultValue value rows is.found (one_passes rule.ignore_case (parser_of_value rule.parser) value parts.1) absent all
+        joined command rule DefaultValue value rows is.found (one_passes rule.ignore_case (parser_of_value rule.parser) value parts.1) all
     left_out (value ∷ next ∷ rest) few absent none = absurd (omega arith)
 
     go : (has : Bool) → has_row rule.id rows ≡ has → cond (has || is_empty rule.defaults) [] (given_default_fault rule rule.defaults) ≡ []
@@ -211,7 +211,7 @@ reads command id rule rows named has all =
 
 -- ---- a level of the command line
 
--- each rule takes one value or asks for help, and a second use replaces no first
+-- each rule is one of the known kinds, and a second use replaces no first
 pub record IsPlainLeaf (shape : Shape) : Type 0 where
   pub known : AllByRecursion (IsKnown shape.rules) shape.rules
   pub once : shape.args_override_self ≡ false

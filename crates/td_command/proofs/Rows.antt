@@ -1,4 +1,4 @@
--- The rows that the words leave, where each argument of a command takes one value, is a flag or asks for help.
+-- The rows that the words leave, where each use of a command's arguments has one value, is a flag or asks for help.
 use Rattle.std.proofs.Common.{◌≡◌, ◌⊎◌, ◌∙◌, ◌==◌, ◌||◌, ◌&&◌, ◌≤◌, ℕ, Bool, cond, true, false, List, [], ◌∷◌, ◌++◌, length, Some, None, refl, sym, ap, ap₂, subst, arith, ne_eqb, append-nil}
 use Rattle.std.specs.List.{AllByRecursion, find}
 use Rattle.std.specs.Str.{bytes_eq}
@@ -6,8 +6,8 @@ use Rattle.clap.specs.Facts.{parser_of_value, unwrap_or_range}
 use Rattle.clap.specs.ValueTests.{accepts}
 use Rattle.clap.specs.Kinds.{Kinds, or_else, range_kinds, value_kinds, values_kinds}
 use Rattle.clap.specs.Faults.{repeat_fault, set_fault}
-use Rattle.clap.specs.Walk.{Row, Rule, Text, action_of, arg_by_id, at_row, has_row, more_values, most_values, reading_by, with_values, without}
-use Rattle.clap.specs.declared.builder.action.ArgAction.TheVariants.{Set, SetTrue, Help}
+use Rattle.clap.specs.Walk.{Row, Rule, Text, action_of, arg_by_id, at_row, has_row, more_values, most_values, reading_by, stronger, with_values, without}
+use Rattle.clap.specs.declared.builder.action.ArgAction.TheVariants.{Append, Set, SetTrue, Help}
 use Rattle.clap.specs.declared.builder.value_parser.ValueParser.{ValueParser}
 use Rattle.clap.specs.declared.parser.matches.ValueSource.{ValueSource}
 use Rattle.clap.specs.declared.error.kind.ErrorKind.TheVariants as kind
@@ -24,6 +24,12 @@ pub record TakesOne (rule : Rule) : Type 0 where
   pub least : (unwrap_or_range rule.range).start_inclusive ≡ 1
   pub most : most_values rule ≡ 1
 
+-- the rule takes one value, and a second use adds one more
+pub record TakesMore (rule : Rule) : Type 0 where
+  pub action : action_of rule ≡ Append
+  pub least : (unwrap_or_range rule.range).start_inclusive ≡ 1
+  pub most : most_values rule ≡ 1
+
 -- the rule takes no value, one stands for its use, and a second use is none that replaces the first
 pub record TakesNone (rule : Rule) : Type 0 where
   pub action : action_of rule ≡ SetTrue
@@ -32,18 +38,19 @@ pub record TakesNone (rule : Rule) : Type 0 where
   pub value : Text
   pub stands : rule.missing ≡ value ∷ []
 
--- the rule is the first of its id, takes one value, is a flag or asks for help, and has at most one value where it is left out
+-- the rule is the first of its id, takes one value, or one at each use, is a flag or asks for help, and has at most one value where it is left out
 pub record IsKnown (command : List Rule) (rule : Rule) : Type 0 where
   pub found : arg_by_id command rule.id ≡ Some rule
-  pub kind : TakesOne rule ⊎ (TakesNone rule ⊎ (action_of rule ≡ Help))
+  pub kind : TakesOne rule ⊎ (TakesMore rule ⊎ (TakesNone rule ⊎ (action_of rule ≡ Help)))
   pub default : length rule.defaults ≤ 1
 
--- the row has the one value that its rule took
+-- the row has a value that its rule took, and maybe more of them behind it
 pub record IsOfRule (command : List Rule) (row : Row) : Type 0 where
   pub rule : Rule
   pub value : Text
   pub found : arg_by_id command row.id ≡ Some rule
-  pub values : row.values ≡ value ∷ []
+  pub more : List Text
+  pub values : row.values ≡ value ∷ more
   pub passes : Passes rule value
   pub reading : row.reading ≡ reading_by rule
 
@@ -121,10 +128,6 @@ found_has P test (first ∷ rest) x found all = go (test first) refl (λ same. f
         (subst P here all.0, ap test (sym here) ∙ is)
     go false is behind same = behind same
 
-pub and_one : {X : Type 0} (P : X → Type 0) (xs : List X) (x : X) → AllByRecursion P xs → P x → AllByRecursion P (xs ++ x ∷ [])
-and_one P [] x all one = (one, tt)
-and_one P (first ∷ rest) x all one = (all.0, and_one P rest x all.1 one)
-
 -- a change at an id that no row has adds what is missing
 pub added_at : (id : Text) (change : Row → List Row) (missing rows : List Row) → has_row id rows ≡ false
     → at_row id change missing rows ≡ rows ++ missing
@@ -147,18 +150,35 @@ row_of_rule command rule source value found passes = record {
   rule = rule;
   value = value;
   found = found;
+  more = [];
   values = refl;
   passes = passes;
   reading = refl;
 }
 
--- a value joins the rows, where none of its id is there
+-- a value joins the rows: it stands behind those of its id, or in a row of its own
 pub joined : (command : List Rule) (rule : Rule) (source : ValueSource) (value : Text) (rows : List Row) → arg_by_id command rule.id ≡ Some rule
-    → Passes rule value → has_row rule.id rows ≡ false → AreOfRules command rows
+    → Passes rule value → AreOfRules command rows
     → AreOfRules command (with_values rule.id (reading_by rule) source (value ∷ []) rows)
-joined command rule source value rows found passes none all =
-    subst (AreOfRules command) (sym (added_at rule.id (more_values source (value ∷ [])) (row_with rule source value ∷ []) rows none))
-    (and_one (IsOfRule command) rows (row_with rule source value) all (row_of_rule command rule source value found passes))
+joined command rule source value [] found passes all = (row_of_rule command rule source value found passes, tt)
+joined command rule source value (row ∷ rest) found passes all =
+    go (bytes_eq row.id rule.id) (joined command rule source value rest found passes all.1)
+  where
+    more : IsOfRule command (record row { values = row.values ++ value ∷ []; source = Some (stronger row.source source) })
+    more = record {
+      rule = all.0.rule;
+      value = all.0.value;
+      found = all.0.found;
+      more = all.0.more ++ value ∷ [];
+      values = ap (λ values. values ++ value ∷ []) all.0.values;
+      passes = all.0.passes;
+      reading = all.0.reading;
+    }
+
+    go : (is : Bool) → AreOfRules command (with_values rule.id (reading_by rule) source (value ∷ []) rest)
+        → AreOfRules command (cond is (more_values source (value ∷ []) row ++ rest) (row ∷ with_values rule.id (reading_by rule) source (value ∷ []) rest))
+    go true behind = (more, all.1)
+    go false behind = (all.0, behind)
 
 pub set_joins : (command : List Rule) (rule : Rule) (source : ValueSource) (value : Text) (rows : List Row) → arg_by_id command rule.id ≡ Some rule
     → set_fault false rule (value ∷ []) rows ≡ [] → AreOfRules command rows
@@ -168,4 +188,4 @@ set_joins command rule source value rows found none all =
     let unused = first_use rule.id rows parts.0 in
     subst (λ (before : List Row). AreOfRules command (with_values rule.id (reading_by rule) source (value ∷ []) before))
     (sym (without_none rule.id rows unused))
-    (joined command rule source value rows found (one_passes rule.ignore_case (parser_of_value rule.parser) value parts.1) unused all)
+    (joined command rule source value rows found (one_passes rule.ignore_case (parser_of_value rule.parser) value parts.1) all)

@@ -1,10 +1,10 @@
 -- The command line as the parser of command lines is told it, and what the words ask for.
-use Rattle.std.specs.Prelude.{◌≡◌, ℕ, ◌≤◌, ◌<◌, ◌^◌, Bool, List, [], ◌∷◌, codes, map, pos, true, Option, Some, None, option_map}
+use Rattle.std.specs.Prelude.{◌≡◌, ℕ, ◌≤◌, ◌<◌, ◌^◌, Bool, List, [], ◌∷◌, codes, length, map, pos, true, Option, Some, None, option_map}
 use Rattle.std.specs.Borrow.{Bor}
 use Rattle.std.specs.Str.Parse.{IsNumeral, digits_value, without_leading_plus}
-use Rattle.clap.specs.Words.{App, Kinds, Row, Rule, Text, fault_of, first_of, new_app, new_rule, one_of, subcommand_of, with_rule, with_subcommand}
+use Rattle.clap.specs.Words.{App, Kinds, Row, Rule, Text, all_of, fault_of, first_of, new_app, new_rule, one_of, subcommand_of, with_rule, with_subcommand}
 use Rattle.clap.specs.Values.{bool_text}
-use Rattle.clap.specs.declared.builder.action.ArgAction.TheVariants.{SetTrue}
+use Rattle.clap.specs.declared.builder.action.ArgAction.TheVariants.{Append, SetTrue}
 use Rattle.clap.specs.declared.builder.value_parser.ValueParser.TheVariants.{Names, Signed, Unsigned}
 use Rattle.td_gates.specs.Delays.{Delays, IsInRange}
 use Rattle.td_command.specs.declared.command.SimRequest.{SimRequest}
@@ -13,6 +13,8 @@ use Rattle.td_command.specs.declared.command.BoundRequest.{BoundRequest}
 use Rattle.td_command.specs.declared.command.StrategyWord.{StrategyWord}
 use Rattle.td_command.specs.declared.command.StrategyWord.TheVariants.{Least, Lead}
 use Rattle.td_command.specs.declared.command.WorstRequest.{WorstRequest}
+use Rattle.td_command.specs.declared.command.PartsRequest.{PartsRequest}
+use Rattle.td_command.specs.declared.command.JoinRequest.{JoinRequest}
 use Rattle.td_command.specs.declared.command.CheckRequest.{CheckRequest}
 use Rattle.td_command.specs.declared.command.InfoRequest.{InfoRequest}
 use Rattle.td_command.specs.declared.command.Request.{Request}
@@ -24,6 +26,10 @@ use Rattle.td_command.specs.declared.command.Request.TheVariants as request
 abbrev pub needed : Text → Rule
 needed id = record (new_rule id) { required = true }
 
+-- words of their own, one or more, which have to be given
+abbrev pub needed_words : Text → Rule
+needed_words id = record (needed id) { action = Some Append }
+
 -- an option with a text
 abbrev pub option : Text → Rule
 option id = record (new_rule id) { long = Some id; value_names = 1 }
@@ -32,6 +38,10 @@ option id = record (new_rule id) { long = Some id; value_names = 1 }
 abbrev pub number_option : Text → ℕ → ℕ → Text → Rule
 number_option id least most left_out =
     record (option id) { parser = Some (Signed (pos least) (pos most)); defaults = left_out ∷ [] }
+
+-- an option with a number in a range, which has to be given
+abbrev pub needed_number : Text → ℕ → ℕ → Rule
+needed_number id least most = record (option id) { parser = Some (Signed (pos least) (pos most)); required = true }
 
 -- an option with any number of 64 bits, and none where it is left out
 abbrev pub count_option : Text → Rule
@@ -82,20 +92,31 @@ with_cube app = with_rule (with_rule app (option (codes "first"))) (option (code
 abbrev pub with_edges : App → App
 with_edges app = with_rule app (flag (codes "edges"))
 
--- whether the chain of the given pair is asked for too
-abbrev pub with_path : App → App
-with_path app = with_rule app (flag (codes "path"))
+-- whether the chain of the given pair is asked for too, and how far the search is
+abbrev pub with_told : App → App
+with_told app = with_rule (with_rule app (flag (codes "path"))) (flag (codes "progress"))
 
 -- the pairs that a search admits: those of a cube, where some inputs are held and only so many may flip
 abbrev pub with_admitted : App → App
 with_admitted app = with_rule (with_rule (with_cube app) (option (codes "hold"))) (count_option (codes "flips"))
 
+-- by which strategy a search goes
+abbrev pub with_strategy : Listed → App → App
+with_strategy strategies app = with_rule app (name_option (codes "strategy") strategies (codes "least"))
+
 -- how a search goes, and where its certificate goes
 abbrev pub with_search : Listed → App → App
 with_search strategies app =
-    with_rule (with_rule (with_rule (with_rule app (number_option (codes "workers") 1 64 (codes "1")))
-    (name_option (codes "strategy") strategies (codes "least")))
+    with_rule (with_rule (with_strategy strategies (with_rule app (number_option (codes "workers") 1 64 (codes "1"))))
     (number_option (codes "budget") 0 10000000 (codes "1000000"))) (option (codes "cert"))
+
+-- how many parts a question has
+abbrev pub with_parts : App → App
+with_parts app = with_rule app (needed_number (codes "parts") 1 65536)
+
+-- the certificates that are joined, where theirs goes, and whether each is checked
+abbrev pub with_joined : App → App
+with_joined app = with_rule (with_rule (with_rule app (needed_words (codes "CERT"))) (option (codes "cert"))) (flag (codes "check"))
 
 abbrev pub sim_command : App
 sim_command = with_default (with_vcd (with_moments (with_pair (new_app (codes "sim")))))
@@ -108,7 +129,14 @@ bound_command = with_default (with_edges (with_moments (with_cube (with_rule (ne
 
 abbrev pub worst_command : Listed → App
 worst_command strategies =
-    with_default (with_path (with_vcd (with_search strategies (with_moments (with_admitted (with_rule (new_app (codes "worst")) (needed (codes "FILE"))))))))
+    with_default (with_told (with_vcd (with_search strategies (with_moments (with_admitted (with_rule (new_app (codes "worst")) (needed (codes "FILE"))))))))
+
+abbrev pub parts_command : Listed → App
+parts_command strategies =
+    with_default (with_strategy strategies (with_moments (with_admitted (with_parts (with_rule (new_app (codes "parts")) (needed (codes "FILE")))))))
+
+abbrev pub join_command : App
+join_command = with_default (with_cube (with_joined (with_rule (new_app (codes "join")) (needed (codes "FILE")))))
 
 abbrev pub check_command : App
 check_command = with_default (with_rule (with_rule (new_app (codes "check"))
@@ -119,8 +147,9 @@ info_command = with_default (with_rule (new_app (codes "info")) (needed (codes "
 
 abbrev pub with_commands : Listed → App → App
 with_commands strategies app =
-    with_subcommand (with_subcommand (with_subcommand (with_subcommand (with_subcommand (with_subcommand app sim_command.top) path_command.top)
-    bound_command.top) (worst_command strategies).top) check_command.top) info_command.top
+    with_subcommand (with_subcommand (with_subcommand (with_subcommand (with_subcommand (with_subcommand (with_subcommand (with_subcommand app
+    sim_command.top) path_command.top) bound_command.top) (worst_command strategies).top) (parts_command strategies).top) join_command.top)
+    check_command.top) info_command.top
 
 abbrev pub named : App
 named = new_app (codes "tdelay")
@@ -172,6 +201,10 @@ HasCount id rows (Some number) = HasNumber id rows number × (number < 2 ^ 64)
 abbrev pub HasWord : Text → List Row → Option (Bor Text) → Type 0
 HasWord id rows word = first_of id rows ≡ option_map (λ word. word.now) word
 
+-- the argument is given as these words, all of them in order, of which there is one
+abbrev pub HasWords : Text → List Row → List Text → Type 0
+HasWords id rows words = (all_of id rows ≡ Some words) × (0 < length words)
+
 -- the flag is given, or left out
 abbrev pub HasFlag : Text → List Row → Bool → Type 0
 HasFlag id rows given = one_of id rows ≡ Some (bool_text given)
@@ -201,6 +234,10 @@ HasBudget rows budget = HasNumber (codes "budget") rows budget × (budget ≤ 10
 -- how many threads search
 abbrev pub HasWorkers : List Row → ℕ → Type 0
 HasWorkers rows workers = HasNumber (codes "workers") rows workers × (0 < workers) × (workers ≤ 64)
+
+-- how many parts a question has
+abbrev pub HasParts : List Row → ℕ → Type 0
+HasParts rows parts = HasNumber (codes "parts") rows parts × (0 < parts) × (parts ≤ 65536)
 
 -- the words of `sim` ask for this
 pub record AsksSim (rows : List Row) (asked : SimRequest) : Type 0 where
@@ -243,6 +280,29 @@ pub record AsksWorst (rows : List Row) (asked : WorstRequest) : Type 0 where
   pub certificate : HasWord (codes "cert") rows asked.certificate
   pub vcd : HasWord (codes "vcd") rows asked.vcd
   pub path : HasFlag (codes "path") rows asked.path
+  pub progress : HasFlag (codes "progress") rows asked.progress
+  pub default : HasDefault rows (delays asked.rise asked.fall)
+
+-- the words of `parts` ask for this
+pub record AsksParts (rows : List Row) (asked : PartsRequest) : Type 0 where
+  pub file : first_of (codes "FILE") rows ≡ Some asked.file.now
+  pub parts : HasParts rows asked.parts
+  pub first : HasWord (codes "first") rows asked.first
+  pub second : HasWord (codes "second") rows asked.second
+  pub hold : HasWord (codes "hold") rows asked.hold
+  pub flips : HasCount (codes "flips") rows asked.flips
+  pub at : HasWord (codes "at") rows asked.at
+  pub strategy : HasStrategy rows asked.strategy
+  pub default : HasDefault rows (delays asked.rise asked.fall)
+
+-- the words of `join` ask for this
+pub record AsksJoin (rows : List Row) (asked : JoinRequest) : Type 0 where
+  pub file : first_of (codes "FILE") rows ≡ Some asked.file.now
+  pub certificates : HasWords (codes "CERT") rows asked.certificates
+  pub certificate : HasWord (codes "cert") rows asked.certificate
+  pub check : HasFlag (codes "check") rows asked.check
+  pub first : HasWord (codes "first") rows asked.first
+  pub second : HasWord (codes "second") rows asked.second
   pub default : HasDefault rows (delays asked.rise asked.fall)
 
 -- the words of `check` ask for this
@@ -262,6 +322,8 @@ CommandAsks name rows (request.Sim asked) = (name ≡ codes "sim") × AsksSim ro
 CommandAsks name rows (request.Path asked) = (name ≡ codes "path") × AsksPath rows asked
 CommandAsks name rows (request.Bound asked) = (name ≡ codes "bound") × AsksBound rows asked
 CommandAsks name rows (request.Worst asked) = (name ≡ codes "worst") × AsksWorst rows asked
+CommandAsks name rows (request.Parts asked) = (name ≡ codes "parts") × AsksParts rows asked
+CommandAsks name rows (request.Join asked) = (name ≡ codes "join") × AsksJoin rows asked
 CommandAsks name rows (request.Check asked) = (name ≡ codes "check") × AsksCheck rows asked
 CommandAsks name rows (request.Info asked) = (name ≡ codes "info") × AsksInfo rows asked
 
@@ -290,6 +352,8 @@ IsCarriedOut (request.Path asked) = IsInRange (delays asked.rise asked.fall)
 IsCarriedOut (request.Bound asked) = IsInRange (delays asked.rise asked.fall)
 IsCarriedOut (request.Worst asked) =
     IsInRange (delays asked.rise asked.fall) × (asked.budget ≤ 10000000) × (0 < asked.workers) × (asked.workers ≤ 64)
+IsCarriedOut (request.Parts asked) = IsInRange (delays asked.rise asked.fall) × (0 < asked.parts) × (asked.parts ≤ 65536)
+IsCarriedOut (request.Join asked) = IsInRange (delays asked.rise asked.fall)
 IsCarriedOut (request.Check asked) = IsInRange (delays asked.rise asked.fall)
 IsCarriedOut (request.Info asked) = IsInRange (delays asked.rise asked.fall)
 

@@ -9,6 +9,8 @@ Examples:
   tdelay path c17.v 00000 11111
   tdelay bound c17.v --first 0....
   tdelay worst c17.v --cert c17.cert
+  tdelay parts c17.v --parts 4
+  tdelay join c17.v 1.cert 2.cert 3.cert 4.cert --cert c17.cert
   tdelay check c17.v c17.cert
   tdelay info c17.v
 
@@ -20,10 +22,10 @@ Standard output has one figure a line, a key and its value: docs/OUTPUT.md.
 
 Exit status:
   0  done
-  1  the text of the netlist or certificate is refused, or no pair is admitted
+  1  the text of the netlist or of a certificate is refused, or no pair is admitted
   2  the command line is bad, or a vector on it
   3  the search was cut short: the worst delay lies between two figures
-  4  the certificate is refused
+  4  the certificate is refused, that of a part with `join --check`, or they can't be joined
   5  a device failed, or memory ran out";
 
 pub const SIM_HELP: &str = "\
@@ -44,7 +46,21 @@ Examples:
   tdelay worst c17.v --workers 4 --cert c17.cert --vcd c17.vcd
   tdelay worst adder_8.v --strategy lead --cert adder_8.cert
   tdelay worst c17.v --path
+  tdelay worst c17.v --progress
 It ends with status 3 where the budget or memory cuts the search short.";
+
+pub const PARTS_HELP: &str = "\
+Example:
+  tdelay parts c17.v --parts 4
+Each part has options of its own: `worst` with them and --cert answers it, wherever it runs,
+and `join` makes one certificate of those of all parts.";
+
+pub const JOIN_HELP: &str = "\
+Examples:
+  tdelay join c17.v 1.cert 2.cert 3.cert 4.cert --cert c17.cert
+  tdelay join c17.v --check 1.cert 2.cert 3.cert 4.cert
+It ends with status 4 where the certificates can't be joined, or with --check where that of a part
+is refused, and with status 1 where the text of one is.";
 
 pub const CHECK_HELP: &str = "\
 Example:

@@ -1,11 +1,14 @@
 //! The command line of `tdelay`: what its words ask for.
 #![tactic(auto)]
 
+mod arguments;
+mod certificates;
 mod command;
 mod help;
 pub mod laws;
 
+pub use certificates::Certificates;
 pub use command::{
-    BoundRequest, CheckRequest, InfoRequest, PathRequest, Request, SimRequest, StrategyWord,
-    WorstRequest, parse,
+    BoundRequest, CheckRequest, InfoRequest, JoinRequest, PartsRequest, PathRequest, Request,
+    SimRequest, StrategyWord, WorstRequest, parse,
 };

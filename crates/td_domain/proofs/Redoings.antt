@@ -8,7 +8,7 @@ use Rattle.std.proofs.lemmas.List.{length-set}
 use Rattle.std.proofs.lemmas.List.Elements.{recursion_from_All, All-from_recursion, Contains-get_or}
 use Rattle.td_gates.specs.declared.primitives.Kind.{Kind}
 use Rattle.td_gates.specs.declared.timing.Delay.{Delay}
-use Rattle.td_gates.proofs.Places.{some-same, slice_get-set_same, slice_get-set_cases, slice_get-set_other, All-from_contains, Contains-slice_get, slice_get-Contains, get-slice_get, slice_get-take, take_push}
+use Rattle.td_gates.proofs.Places.{some-same, slice_get-set_same, slice_get-set_cases, slice_get-set_other, All-from_contains, Contains-slice_get, slice_get-Contains, slice_get-within, get-slice_get, slice_get-take, take_push}
 use Rattle.td_circuit.specs.Numbering.{NumberedGate, Numbered, nets, first_output, IsNumbering}
 use Rattle.td_circuit.proofs.Nets.{lower-at, length-nets, few_gates}
 use Rattle.td_domain.specs.declared.cubes.Trit.{Trit}
@@ -175,6 +175,23 @@ module _ {Sig : Type 0} (functions : Functions Sig) (reach : Sig → ℕ) (circu
       omega (arith, can.rising here.0 j output (get_or cone j 0) early.0 early.1 there, place.2)) in
       let step = redo-step law (take j cone) base signals (get_or cone j 0 - (inputs + 2)) gate x stands can.count before are is in
       rw (after_is, next, take_push cone j (get_or cone j 0) there) (rw place.2 at step)
+
+  -- the same, where the gate is told by its place
+  pub redo-next-at : ((kind : Kind) (delay : Delay) (signals : List Sig) (moment : ℕ) → All (λ signal. reach signal ≤ moment) signals
+      → reach (functions.gate_of kind delay signals) ≤ moment + max delay.rise delay.fall)
+      → (cone : List ℕ) (j inputs : ℕ) (base signals after : List Sig)
+      → CanRedo reach circuit cone base → j < length cone → inputs ≡ length circuit.netlist.inputs
+      → AreAllRedone functions reach circuit (take j cone) base signals
+      → ((gate : NumberedGate) → slice_get circuit.gates (get_or cone j 0 - (inputs + 2)) ≡ Some gate
+      → after ≡ set signals (first_output circuit + (get_or cone j 0 - (inputs + 2))) (functions.gate_of gate.kind gate.delay (filter_map (slice_get signals) gate.inputs)))
+      → AreAllRedone functions reach circuit (take (j + 1) cone) base after
+  redo-next-at law cone j inputs base signals after can less count are is =
+      let place = numbered cone base j inputs can less count in
+      let it = slice_get-within circuit.gates (get_or cone j 0 - (inputs + 2)) place.1 in
+      redo-next law cone j inputs base signals after it.0
+      (functions.gate_of it.0.kind it.0.delay (filter_map (slice_get signals) it.0.inputs))
+      can less count it.1 are refl
+      (is it.0 it.1 ∙ ap (λ n. set signals n (functions.gate_of it.0.kind it.0.delay (filter_map (slice_get signals) it.0.inputs))) place.2)
 
   -- the signals with the input's own
   pub near-input : ((first second : Trit) (moment : ℕ) → moment ≤ 10 ^ 9 → reach (functions.input_of first second moment) ≤ 10 ^ 9)

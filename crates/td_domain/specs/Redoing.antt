@@ -1,5 +1,5 @@
 -- Evaluating some gates anew.
-use Rattle.std.specs.Prelude.{◌≡◌, ℕ, ◌+◌, ◌*◌, ◌<◌, ◌≤◌, ◌^◌, List, length, slice_get, filter_map, Some}
+use Rattle.std.specs.Prelude.{◌≡◌, ℕ, ◌+◌, ◌*◌, ◌<◌, ◌≤◌, ◌^◌, Bool, false, List, length, slice_get, filter_map, Some}
 use Rattle.std.specs.List.{Contains}
 use Rattle.td_circuit.specs.Numbering.{NumberedGate, Numbered, nets, first_output}
 use Rattle.td_domain.specs.Functions.{Functions}
@@ -26,3 +26,9 @@ pub record AreAllRedone {Sig : Type 0} (functions : Functions Sig) (reach : Sig 
   pub each : (place : ℕ) (gate : NumberedGate) → slice_get circuit.gates place ≡ Some gate
       → Contains outputs (first_output circuit + place)
       → slice_get new (first_output circuit + place) ≡ Some (functions.gate_of gate.kind gate.delay (filter_map (slice_get new) gate.inputs))
+
+-- the output of each gate that reads no marked net has the signal of its gate
+abbrev pub AreSettled : {Sig : Type 0} → Functions Sig → Numbered → List Bool → List Sig → Type 0
+AreSettled functions circuit marks signals = (place : ℕ) (gate : NumberedGate) → slice_get circuit.gates place ≡ Some gate
+    → ((net : ℕ) → Contains gate.inputs net → slice_get marks net ≡ Some false)
+    → slice_get signals (first_output circuit + place) ≡ Some (functions.gate_of gate.kind gate.delay (filter_map (slice_get signals) gate.inputs))

@@ -18,7 +18,7 @@ pub record Page (Sig : Type 0) : Type 0 where
   pub signals : List Sig
 
 -- What is seen of a sheet: its cube and signals, those before the narrowings that still stand, the latest first, how many
--- gates the latest narrowing evaluated, the numbers of the outputs, and by input the gates that it reaches, where they
+-- gates the input of the latest narrowing reaches, the numbers of the outputs, and by input the gates that it reaches, where they
 -- are known.
 pub record Shown (Sig : Type 0) : Type 0 where
   pub cube : List Trit

@@ -1,12 +1,14 @@
 //! The signals of a narrower cube, from those of a wider one.
 
-ghost use Rattle.std.specs.Prelude.{◌≡◌, ◌+◌, ◌*◌, ◌/◌, ◌<◌, ◌≤◌, [], length, set, slice_get, Some, OnOk, OnErr, IfOk, vec_len, vec_capacity};
+ghost use Rattle.std.specs.Prelude.{◌≡◌, ◌+◌, ◌*◌, ◌/◌, ◌<◌, ◌≤◌, [], length, set, slice_get, filter_map, Some, OnOk, OnErr, IfOk, vec_len, vec_capacity};
 ghost use Rattle.td_domain.specs.declared.cubes.Trit.TheVariants.{Free};
 ghost use Rattle.td_domain.specs.Cones.{IsCone};
-ghost use Rattle.td_domain.specs.Redoing.{AreAllRedone, CanRedo};
+ghost use Rattle.td_circuit.specs.Numbering.{NumberedGate, nets, first_output};
+ghost use Rattle.td_domain.specs.Redoing.{AreAllRedone, AreNear, AreSettled, CanRedo};
 ghost use Rattle.td_domain.specs.Sheets.{IsPage};
 ghost use Rattle.td_domain.specs.Undoing.{undone, AreWithin};
 
+use crate::cones::reads_one;
 use crate::cubes::Cube;
 use crate::domain::Domain;
 use crate::undoing::{Replaced, put, undo};
@@ -14,7 +16,8 @@ use std::alloc::{AllocError, Global};
 use td_circuit::Circuit;
 
 /// Makes the signals of the cube from those of the same cube with this position free, where the position's input reaches
-/// the outputs in `cone`, and answers what it replaced. The error is want of memory: the signals are then as before.
+/// the outputs in `cone`, and answers what it replaced. Only gates that read a changed signal are evaluated; `changed` is room
+/// for a mark of each net. The error is want of memory: the signals are then as before.
 pub fn redo<D: Domain>(
     alloc: Global,
     circuit: &Circuit,
@@ -22,14 +25,17 @@ pub fn redo<D: Domain>(
     position: usize,
     cone: &[u32],
     signals: &mut [D::Sig],
+    changed: &mut [bool],
 ) -> Result<Vec<Replaced<D::Sig>>, AllocError>
     requires position { position < length cube.now }
     requires page { IsPage D.functions D.reach circuit.now (record { cube = set cube.now position Free; signals = signals.old }) }
     requires cone { IsCone circuit.now (2 + position / 2) cone.now }
+    requires marks { length changed.old ≡ length signals.old }
     ensures page { OnOk result (IsPage D.functions D.reach circuit.now (record { cube = cube.now; signals = signals.new })) }
     ensures undone { IfOk result (λ replaced. undone signals.new replaced.items ≡ signals.old) }
     ensures within { IfOk result (λ replaced. AreWithin (length signals.old) replaced.items) }
     ensures len { length signals.new ≡ length signals.old }
+    ensures marks { length changed.new ≡ length changed.old }
     ensures refused { OnErr result (signals.new ≡ signals.old) }
 {
     let _numbering = circuit.gates();
@@ -43,7 +49,9 @@ pub fn redo<D: Domain>(
         moments[input],
     )?;
     put(signals, &mut replaced, 2 + input, signal);
-    match redo_gates::<D>(alloc, circuit, cone, signals, &mut replaced) {
+    changed.fill(false);
+    changed[2 + input] = true;
+    match redo_gates::<D>(alloc, circuit, cone, signals, changed, &mut replaced) {
         Ok(()) => Ok(replaced),
         Err(error) => {
             undo(signals, replaced);
@@ -52,29 +60,72 @@ pub fn redo<D: Domain>(
     }
 }
 
-/// Evaluates the gates with these outputs anew, in this order.
+/// Evaluates those of the gates with these outputs anew that read a changed signal, in this order.
 fn redo_gates<D: Domain>(
     alloc: Global,
     circuit: &Circuit,
     cone: &[u32],
     signals: &mut [D::Sig],
+    changed: &mut [bool],
     replaced: &mut Vec<Replaced<D::Sig>>,
 ) -> Result<(), AllocError>
     requires can { CanRedo D.reach circuit.now cone.now signals.old }
+    requires marks { length changed.old ≡ length signals.old }
+    requires settled { AreSettled D.functions circuit.now changed.old signals.old }
     requires within { AreWithin (length signals.old) replaced.old.items }
     requires room { vec_len replaced.old + length cone.now ≤ vec_capacity replaced.old }
     ensures redone { OnOk result (AreAllRedone D.functions D.reach circuit.now cone.now signals.old signals.new) }
     ensures undone { undone signals.new replaced.new.items ≡ undone signals.old replaced.old.items }
     ensures within { AreWithin (length signals.old) replaced.new.items }
     ensures len { length signals.new ≡ length signals.old }
+    ensures marks { length changed.new ≡ length changed.old }
 {
-    let gates = circuit.gates();
+    let _numbering = circuit.gates();
     let first = circuit.input_count() + 2;
     for output in cone {
         let net = *output as usize;
-        let gate = &gates[net - first];
-        let signal = D::gate(alloc, gate.kind, gate.delay, signals, &gate.inputs)?;
-        put(signals, replaced, net, signal);
+        redo_gate::<D>(alloc, circuit, net - first, signals, changed, replaced)?;
     }
+    Ok(())
+}
+
+/// Evaluates the gate at a place anew, where it reads a changed signal. Its output is marked where its signal has changed.
+fn redo_gate<D: Domain>(
+    alloc: Global,
+    circuit: &Circuit,
+    place: usize,
+    signals: &mut [D::Sig],
+    changed: &mut [bool],
+    replaced: &mut Vec<Replaced<D::Sig>>,
+) -> Result<(), AllocError>
+    requires place { place < length circuit.now.gates }
+    requires count { length signals.old ≡ length (nets circuit.now) }
+    requires near { AreNear D.reach signals.old }
+    requires marks { length changed.old ≡ length signals.old }
+    requires settled { AreSettled D.functions circuit.now changed.old signals.old }
+    requires within { AreWithin (length signals.old) replaced.old.items }
+    requires room { vec_len replaced.old < vec_capacity replaced.old }
+    ensures gate { OnOk result ((gate : NumberedGate) → slice_get circuit.now.gates place ≡ Some gate
+        → signals.new ≡ set signals.old (first_output circuit.now + place) (D.functions.gate_of gate.kind gate.delay (filter_map (slice_get signals.old) gate.inputs))) }
+    ensures settled { OnOk result (AreSettled D.functions circuit.now changed.new signals.new) }
+    ensures undone { undone signals.new replaced.new.items ≡ undone signals.old replaced.old.items }
+    ensures within { AreWithin (length signals.old) replaced.new.items }
+    ensures len { length signals.new ≡ length signals.old }
+    ensures marks { length changed.new ≡ length changed.old }
+    ensures room { vec_len replaced.new ≤ vec_len replaced.old + 1 }
+    ensures capacity { vec_capacity replaced.new ≡ vec_capacity replaced.old }
+{
+    let gates = circuit.gates();
+    let gate = &gates[place];
+    if !reads_one(changed, &gate.inputs) {
+        return Ok(());
+    }
+    let signal = D::gate(alloc, gate.kind, gate.delay, signals, &gate.inputs)?;
+    let net = circuit.input_count() + 2 + place;
+    if D::is_same(&signal, &signals[net]) {
+        return Ok(());
+    }
+    put(signals, replaced, net, signal);
+    changed[net] = true;
     Ok(())
 }

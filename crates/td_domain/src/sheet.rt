@@ -33,10 +33,12 @@ pub struct Sheet<D: Domain> {
     outputs: Vec<u32>,
     // By input the outputs of the gates that it reaches, once they were asked for.
     cones: Vec<Option<Vec<u32>>>,
+    // Room for a mark of each net while signals are made anew.
+    changed: Vec<bool>,
 }
 
 impl<D: Domain> Model for Sheet<D> {
-    ghost use Rattle.std.specs.Prelude.{◌<◌, length, reverse};
+    ghost use Rattle.std.specs.Prelude.{◌≡◌, ◌<◌, length, reverse};
     ghost use Rattle.std.specs.List.{All};
     ghost use Rattle.td_domain.specs.Sheets.{Shown, pages_before, CanBeUndone};
 
@@ -44,7 +46,7 @@ impl<D: Domain> Model for Sheet<D> {
 
     ghost view = { λ s. record { cube = s.cube; signals = s.signals.items; wider = pages_before s.cube s.signals.items (reverse s.narrowings.items); redone = s.redone; outputs = s.outputs.items; cones = s.cones.items } };
 
-    ghost invariant = { λ s. CanBeUndone (length s.cube) (length s.signals.items) (reverse s.narrowings.items) × All (λ net. net < length s.signals.items) s.outputs.items };
+    ghost invariant = { λ s. CanBeUndone (length s.cube) (length s.signals.items) (reverse s.narrowings.items) × All (λ net. net < length s.signals.items) s.outputs.items × (length s.changed.items ≡ length s.signals.items) };
 }
 
 impl<D: Domain> Sheet<D> {
@@ -64,6 +66,7 @@ impl<D: Domain> Sheet<D> {
             redone: 0,
             outputs: Vec::from_slice(alloc, circuit.outputs())?,
             cones: no_cones(alloc, circuit)?,
+            changed: vec![in alloc; false; circuit.net_count()]?,
         })
     }
 
@@ -83,7 +86,8 @@ impl<D: Domain> Sheet<D> {
         &self.signals
     }
 
-    /// How many gates the latest narrowing evaluated, 0 after `new` and after `widen`.
+    /// How many gates the input of the latest narrowing reaches, 0 after `new` and after `widen`. Of these only those were evaluated
+    /// that read a changed signal.
     pub fn redone(&self) -> u32
         ensures { result ≡ self.now.redone }
     {
@@ -115,6 +119,7 @@ impl<D: Domain> Sheet<D> {
             position,
             &cone,
             &mut self.signals,
+            &mut self.changed,
         );
         let count = cone.len() as u32;
         self.cones[input] = kept(circuit, cone);

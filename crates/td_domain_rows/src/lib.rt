@@ -1,21 +1,21 @@
-//! The bounds of circuits made by hand. There are tests here, and nothing else.
+//! Runs, the event queue, bounds and dumps of small circuits. There are tests here, and nothing else.
 #![tactic(auto)]
 
 #[cfg(test)]
-mod admits;
-#[cfg(test)]
-mod bounds;
-#[cfg(test)]
 mod cubes;
 #[cfg(test)]
-mod named;
+mod dumps;
+#[cfg(test)]
+mod edges;
 #[cfg(test)]
 mod points;
 #[cfg(test)]
-mod rows;
+mod queue;
+#[cfg(test)]
+mod rule;
 #[cfg(test)]
 mod sheets;
 #[cfg(test)]
-mod sound;
+mod sinks;
 #[cfg(test)]
-mod unknown;
+mod sound;

@@ -1,15 +1,17 @@
-//! Sheets: how many gates a narrowing evaluates, and the bounds on the way.
+//! Sheets: how many gates a narrowing evaluates, and what is taken back.
 
-use crate::rows::{HIDDEN_PULSE, TWO_INPUTS, bound_in, made, number, numbered_cube, part};
 use std::alloc::Global;
 use std::process::Abort;
 use std::test::*;
 use td_arrival::Arrival;
 use td_circuit::Circuit;
-use td_domain::{Both, Cube, Domain, Sheet, bound_together, move_to};
+use td_domain::{Cube, Domain, Sheet};
+use td_edges::Edges;
+use td_rows::circuit_of;
+use td_rows::texts::module;
 use td_ternary::Possible;
 
-/// How many gates a narrowing of the free cube evaluates.
+/// How many gates the narrowing of the free cube at this position evaluates.
 fn redone<D: Domain>(
     rt: &impl Abort,
     alloc: Global,
@@ -24,99 +26,58 @@ fn redone<D: Domain>(
     Ok(sheet.redone())
 }
 
-/// How many gates a narrowing of a row's circuit evaluates, in the domain of its letter.
-fn redone_in_row(rt: &impl Abort, alloc: Global, row: &str) -> Result<u32, Fail> {
-    let circuit = made(rt, alloc, row)?;
-    let position = number(part(row, '|', 4)) as usize;
-    let bit = part(row, '|', 5) == "1";
-    if part(row, '|', 3) == "a" {
-        redone::<Arrival>(rt, alloc, &circuit, position, bit)
-    } else {
-        redone::<Possible>(rt, alloc, &circuit, position, bit)
-    }
-}
-
-/// How many gates a narrowing evaluates: of c17, its gates in the order of its text, by a bit at each position of its first
-/// vector, and of the gate with a slow arm.
-const REDONE: &str =
-    "5||nand 1 1 0 2/nand 1 1 2 3/nand 1 1 1 6/nand 1 1 6 4/nand 1 1 5 7/nand 1 1 7 8|a|0|0|2
-5||nand 1 1 0 2/nand 1 1 2 3/nand 1 1 1 6/nand 1 1 6 4/nand 1 1 5 7/nand 1 1 7 8|t|0|0|2
-5||nand 1 1 0 2/nand 1 1 2 3/nand 1 1 1 6/nand 1 1 6 4/nand 1 1 5 7/nand 1 1 7 8|a|2|0|3
-5||nand 1 1 0 2/nand 1 1 2 3/nand 1 1 1 6/nand 1 1 6 4/nand 1 1 5 7/nand 1 1 7 8|t|2|0|3
-5||nand 1 1 0 2/nand 1 1 2 3/nand 1 1 1 6/nand 1 1 6 4/nand 1 1 5 7/nand 1 1 7 8|a|4|0|6
-5||nand 1 1 0 2/nand 1 1 2 3/nand 1 1 1 6/nand 1 1 6 4/nand 1 1 5 7/nand 1 1 7 8|t|4|0|6
-5||nand 1 1 0 2/nand 1 1 2 3/nand 1 1 1 6/nand 1 1 6 4/nand 1 1 5 7/nand 1 1 7 8|a|6|0|5
-5||nand 1 1 0 2/nand 1 1 2 3/nand 1 1 1 6/nand 1 1 6 4/nand 1 1 5 7/nand 1 1 7 8|t|6|0|5
-5||nand 1 1 0 2/nand 1 1 2 3/nand 1 1 1 6/nand 1 1 6 4/nand 1 1 5 7/nand 1 1 7 8|a|8|0|2
-5||nand 1 1 0 2/nand 1 1 2 3/nand 1 1 1 6/nand 1 1 6 4/nand 1 1 5 7/nand 1 1 7 8|t|8|0|2
-2||buf 4 4 0/or 1 1 1 2|a|0|0|2
-2||buf 4 4 0/or 1 1 1 2|a|2|0|1
-5||nand 1 1 0 2/nand 1 1 2 3/nand 1 1 1 6/nand 1 1 6 4/nand 1 1 5 7/nand 1 1 7 8|a|0|1|2
-5||nand 1 1 0 2/nand 1 1 2 3/nand 1 1 1 6/nand 1 1 6 4/nand 1 1 5 7/nand 1 1 7 8|t|0|1|2
-5||nand 1 1 0 2/nand 1 1 2 3/nand 1 1 1 6/nand 1 1 6 4/nand 1 1 5 7/nand 1 1 7 8|a|2|1|3
-5||nand 1 1 0 2/nand 1 1 2 3/nand 1 1 1 6/nand 1 1 6 4/nand 1 1 5 7/nand 1 1 7 8|t|2|1|3
-5||nand 1 1 0 2/nand 1 1 2 3/nand 1 1 1 6/nand 1 1 6 4/nand 1 1 5 7/nand 1 1 7 8|a|4|1|6
-5||nand 1 1 0 2/nand 1 1 2 3/nand 1 1 1 6/nand 1 1 6 4/nand 1 1 5 7/nand 1 1 7 8|t|4|1|6
-5||nand 1 1 0 2/nand 1 1 2 3/nand 1 1 1 6/nand 1 1 6 4/nand 1 1 5 7/nand 1 1 7 8|a|6|1|5
-5||nand 1 1 0 2/nand 1 1 2 3/nand 1 1 1 6/nand 1 1 6 4/nand 1 1 5 7/nand 1 1 7 8|t|6|1|5
-5||nand 1 1 0 2/nand 1 1 2 3/nand 1 1 1 6/nand 1 1 6 4/nand 1 1 5 7/nand 1 1 7 8|a|8|1|2
-5||nand 1 1 0 2/nand 1 1 2 3/nand 1 1 1 6/nand 1 1 6 4/nand 1 1 5 7/nand 1 1 7 8|t|8|1|2
-2||buf 4 4 0/or 1 1 1 2|a|0|1|2
-2||buf 4 4 0/or 1 1 1 2|a|2|1|1
-";
-
-#[test]
-fn gates_evaluated(rt: HostRuntime) -> Result<(), Fail> {
-    for row in REDONE.lines() {
-        let redone = redone_in_row(&rt, rt.alloc(), row)?;
-        assert_eq!(rt; redone, number(part(row, '|', 6)), "{row}");
-    }
-    Ok(())
-}
-
-/// The bounds of a cube by arrivals, by possible levels and by both, from sheets that come from another cube.
-fn bounds_by_sheets(
+/// How many gates the narrowings at each input's first position reach, one figure for each bit.
+fn redone_each<D: Domain>(
     rt: &impl Abort,
     alloc: Global,
     circuit: &Circuit,
-    from: &Cube,
-    to: &Cube,
-) -> Result<[Option<u64>; 3], Fail> {
-    assert_eq!(rt; from.len() % 2, 0);
-    assert_eq!(rt; from.len() / 2, circuit.input_count());
-    assert_eq!(rt; to.len(), from.len());
-    let mut arrival = Sheet::<Arrival>::new(alloc, circuit, from)?;
-    move_to(alloc, circuit, &mut arrival, to)?;
-    let mut possible = Sheet::<Possible>::new(alloc, circuit, from)?;
-    move_to(alloc, circuit, &mut possible, to)?;
-    Ok([
-        arrival.bound(),
-        possible.bound(),
-        bound_together(circuit, &arrival, &possible),
-    ])
-}
-
-/// Takes sheets from each cube of two inputs to another one, and compares the bounds.
-fn walk(rt: &impl Abort, alloc: Global, circuit: &Circuit) -> Result<(), Fail> {
-    for place in 0..81 {
-        let from = numbered_cube(alloc, 2, place)?;
-        let to = numbered_cube(alloc, 2, 80 - place)?;
-        let found = bounds_by_sheets(rt, alloc, circuit, &from, &to)?;
-        assert_eq!(rt; found[0], bound_in::<Arrival>(rt, alloc, circuit, &to)?);
-        assert_eq!(rt; found[1], bound_in::<Possible>(rt, alloc, circuit, &to)?);
-        assert_eq!(rt;
-            found[2],
-            bound_in::<Both<Arrival, Possible>>(rt, alloc, circuit, &to)?
-        );
+) -> Result<String, Fail> {
+    let mut figures = String::new(alloc);
+    for input in 0..circuit.input_count() {
+        let position = input.saturating_mul(2);
+        let zero = redone::<D>(rt, alloc, circuit, position, false)?;
+        let one = redone::<D>(rt, alloc, circuit, position, true)?;
+        figures.push_str(&format!(in alloc; "{zero}{one} ")?)?;
     }
-    Ok(())
+    Ok(figures)
 }
 
+const C17: &str = "module c17 (N1,N2,N3,N6,N7,N22,N23);
+input N1,N2,N3,N6,N7;
+output N22,N23;
+nand (N10,N1,N3);
+nand (N11,N3,N6);
+nand (N16,N2,N11);
+nand (N19,N11,N7);
+nand (N22,N10,N16);
+nand (N23,N16,N19);
+endmodule
+";
+
+/// Those behind the input, as far as their signals change: behind N1 N10 and N22, behind N2 N16, N22 and N23, and so on; and of the gate with a
+/// slow arm that arm and itself, or itself alone.
 #[test]
-fn walks(rt: HostRuntime) -> Result<(), Fail> {
-    for row in TWO_INPUTS.lines() {
-        walk(&rt, rt.alloc(), &made(&rt, rt.alloc(), row)?)?;
-    }
+fn gates_evaluated(rt: HostRuntime) -> Result<(), Fail> {
+    let alloc = rt.alloc();
+    let six = circuit_of(alloc, C17).ok_or("a circuit")?;
+    assert_eq!(rt;
+        redone_each::<Arrival>(&rt, alloc, &six)?.as_str(),
+        "22 33 66 55 22 "
+    );
+    assert_eq!(rt;
+        redone_each::<Possible>(&rt, alloc, &six)?.as_str(),
+        "22 33 66 55 22 "
+    );
+    assert_eq!(rt;
+        redone_each::<Edges>(&rt, alloc, &six)?.as_str(),
+        "22 33 66 55 22 "
+    );
+    let slow = module(alloc, "a, b", "y", "buf #4 (t,a); or #1 (y,b,t);")?;
+    let slow = circuit_of(alloc, &slow).ok_or("a circuit")?;
+    assert_eq!(rt;
+        redone_each::<Arrival>(&rt, alloc, &slow)?.as_str(),
+        "22 11 "
+    );
     Ok(())
 }
 
@@ -124,7 +85,7 @@ fn walks(rt: HostRuntime) -> Result<(), Fail> {
 #[test]
 fn taken_back(rt: HostRuntime) -> Result<(), Fail> {
     let alloc = rt.alloc();
-    let circuit = made(&rt, alloc, HIDDEN_PULSE)?;
+    let circuit = circuit_of(alloc, C17).ok_or("a circuit")?;
     let free = Cube::free(alloc, circuit.input_count())?;
     let mut sheet = Sheet::<Possible>::new(alloc, &circuit, &free)?;
     let before = sheet.bound();

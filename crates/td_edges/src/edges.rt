@@ -63,6 +63,10 @@ impl Domain for Edges {
         Ok(*signal)
     }
 
+    fn is_same(left: &Signal, right: &Signal) -> bool {
+        left == right
+    }
+
     fn last(signal: &Signal) -> Option<u64> {
         Some(until_of(Level::X, signal.changes).saturating_sub(1))
     }

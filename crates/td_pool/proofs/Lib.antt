@@ -1,3 +1,4 @@
+pub mod Covers
 pub mod Dealing
 pub mod Digs
 pub mod Fairness

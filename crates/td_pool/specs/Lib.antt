@@ -1,3 +1,6 @@
 pub mod Fair
+pub mod Frontiers
+pub mod Subjects
 pub mod Turning
 pub mod Truth
+pub mod Watched

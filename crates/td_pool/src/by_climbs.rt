@@ -26,6 +26,8 @@ use td_search::{Finding, Scratch, Step, Strategy, measure, next_step, strongest_
 pub struct ByClimbs {
     /// The bound of the pins by edges.
     pub enough: u64,
+    /// How often each worker's climb tries.
+    pub tries: u32,
     /// Whether a climb has found as much.
     pub is_found: AtomicBool,
 }
@@ -77,12 +79,14 @@ impl Finder for ByClimbs {
 }
 
 impl ByClimbs {
-    /// What is known of the pins, and nothing climbed yet. The error is want of memory.
+    /// What is known of the pins, and nothing climbed yet by so many workers, who share out the tries of a climb. The error is want of memory.
     pub fn of(
         alloc: Global,
         circuit: &Circuit,
         admit: &Admit,
+        workers: u32,
     ) -> Result<(ByClimbs, Root), AllocError>
+        requires some { 0 < workers }
         requires held { length admit.now.held ≡ length circuit.now.netlist.inputs }
         requires any { HasAdmitted admit.now admit.now.pins }
         ensures { IfOk result (λ answer. IsRoot (problem_by Lead circuit.now admit.now) answer.1) }
@@ -93,6 +97,7 @@ impl ByClimbs {
         let bound = strongest_with_edges(alloc, &mut scratch, circuit, pins)?;
         let climbs = ByClimbs {
             enough: bound_by_edges(&scratch),
+            tries: (tries_for(circuit) / workers).max(1),
             is_found: AtomicBool::new(false),
         };
         Ok((climbs, Root { first, bound }))
@@ -129,7 +134,7 @@ fn begin(
     let start = found.best.timed(alloc)?;
     let plan = Plan {
         seed: u64::from(worker) + 1,
-        tries: tries_for(circuit),
+        tries: climbs.tries,
         enough: climbs.enough,
     };
     let timed = climb_beside(

@@ -13,9 +13,14 @@ use crate::by_prober::ByProber;
 use crate::deck::Deck;
 use crate::finder::Finder;
 use crate::found::{Found, Report};
+use crate::frontier::Frontier;
 use crate::hints::Hints;
+use crate::lent::{Lent, take_back};
 use crate::root::{Root, measure_root};
 use crate::shared::Shared;
+use crate::standing::Standing;
+use crate::subject::Subject;
+use crate::watch::{Unwatched, Watch};
 use crate::working::work;
 use std::alloc::{AllocError, Global};
 use std::marker::Brand;
@@ -100,24 +105,87 @@ pub fn worst_by<P: Prober + Sync, D: Hints + Drop + Send, R: Threads + Wait + Sy
     ensures text { IfOk result (CanBeWritten (problem circuit.now admit.now)) }
     ensures fault { IfErr result (IsSearchFault (problem circuit.now admit.now)) }
 {
+    let mut nobody = Unwatched;
+    watched_by(
+        rt,
+        alloc,
+        circuit,
+        admit,
+        prober,
+        decks,
+        workers,
+        budget,
+        &mut nobody,
+    )
+}
+
+/// As `worst_by`, and tells a watch how far the search has come.
+pub fn watched_by<P: Prober + Sync, D: Hints + Drop + Send, W: Watch, R: Threads + Wait + Sync>(
+    rt: &R,
+    alloc: Global,
+    circuit: &Circuit,
+    admit: &Admit,
+    prober: &P,
+    decks: Vec<D>,
+    workers: u32,
+    budget: u64,
+    watch: &mut W,
+) -> Result<Answer, SearchFault>
+    requires some { 0 < workers }
+    requires few { workers ≤ 64 }
+    requires modest { budget ≤ 10000000 }
+    requires held { length admit.now.held ≡ length circuit.now.netlist.inputs }
+    ensures answer { IfOk result (IsAnswer (problem circuit.now admit.now) budget) }
+    ensures text { IfOk result (CanBeWritten (problem circuit.now admit.now)) }
+    ensures fault { IfErr result (IsSearchFault (problem circuit.now admit.now)) }
+    ensures told { W.told (problem circuit.now admit.now) watch.old watch.new }
+{
     if !admit.any(admit.pins()) {
         return Err(SearchFault::NoPair);
     }
     let root = measure_root(alloc, circuit, admit, prober)?;
     let finder = ByProber { prober };
-    let blank = Blank::new(u64::from(workers));
-    let answer = search_all::<Brand, _, _, _>(
-        rt, alloc, circuit, admit, &finder, decks, workers, budget, root, blank,
+    let answer = search(
+        rt, alloc, circuit, admit, &finder, decks, workers, budget, root, watch,
     )?;
     Ok(answer)
 }
 
-/// What so many workers find, of which this thread is one, and what this thread ends from what is known of the pins. There is a part
-/// of the ledger for each worker. The error is want of memory before they begin.
-pub fn search_all<
-    L: Ledger + Send + Sync,
+/// What so many workers find, of which this thread is one, and what this thread ends from what is known of the pins. The error is want of
+/// memory before they begin.
+pub fn search<F: Finder + Sync, D: Hints + Drop + Send, W: Watch, R: Threads + Wait + Sync>(
+    rt: &R,
+    alloc: Global,
+    circuit: &Circuit,
+    admit: &Admit,
+    finder: &F,
+    decks: Vec<D>,
+    workers: u32,
+    budget: u64,
+    root: Root,
+    watch: &mut W,
+) -> Result<Answer, AllocError>
+    requires some { 0 < workers }
+    requires few { workers ≤ 64 }
+    requires modest { budget ≤ 10000000 }
+    requires held { length admit.now.held ≡ length circuit.now.netlist.inputs }
+    requires root { IsRoot (problem_by F.by circuit.now admit.now) root }
+    ensures answer { IfOk result (IsAnswer (problem_by F.by circuit.now admit.now) budget) }
+    ensures text { IfOk result (CanBeWritten (problem_by F.by circuit.now admit.now)) }
+    ensures told { W.told (problem_by F.by circuit.now admit.now) watch.old watch.new }
+{
+    let blank = Blank::new(u64::from(workers));
+    search_all::<Brand, _, _, _, _>(
+        rt, alloc, circuit, admit, finder, decks, workers, budget, root, blank, watch,
+    )
+}
+
+// As `search`, with a ledger that has a part for each worker.
+fn search_all<
+    L: Subject + Send + Sync,
     F: Finder + Sync,
     D: Hints + Drop + Send,
+    W: Watch,
     R: Threads + Wait + Sync,
 >(
     rt: &R,
@@ -130,7 +198,9 @@ pub fn search_all<
     budget: u64,
     root: Root,
     blank: Blank,
+    watch: &mut W,
 ) -> Result<Answer, AllocError>
+    requires asked { L.asked ≡ problem_by F.by circuit.now admit.now }
     requires some { 0 < workers }
     requires few { workers ≤ 64 }
     requires modest { budget ≤ 10000000 }
@@ -141,24 +211,43 @@ pub fn search_all<
     requires parts { blank.parts ≡ workers }
     ensures answer { IfOk result (IsAnswer (problem_by F.by circuit.now admit.now) budget) }
     ensures text { IfOk result (CanBeWritten (problem_by F.by circuit.now admit.now)) }
+    ensures told { W.told (problem_by F.by circuit.now admit.now) watch.old watch.new }
 {
     let _numbering = circuit.gates();
     let first = first_best::<F>(alloc, circuit, admit, root.first)?;
     let (word, seats) = seats_of(alloc, workers as usize)?;
     let found = fresh_of::<F>(alloc, circuit, admit, &word, seats, root.first)?;
     let book = Book::new(alloc, admit.pins().copy(alloc)?, workers, budget)?;
+    let frontier = frontier_of::<L, W>(alloc, circuit, admit, F::strategy(), root, watch)?;
     let (ledger, share) = blank.open::<L>();
     let shared = Shared {
-        book: Mutex::new(Counted::new(book, ledger)),
+        standing: Mutex::new(Standing {
+            book: Counted::new(book, ledger),
+            frontier,
+        }),
         moved: Condvar::new(),
         word,
     };
-    let all = found_by_all(
-        rt, alloc, circuit, admit, finder, decks, &shared, workers, found, share,
-    )?;
+    let (all, lent) = found_by_all(
+        rt,
+        alloc,
+        circuit,
+        admit,
+        finder,
+        decks,
+        &shared,
+        workers,
+        found,
+        share,
+        Lent { watch },
+    );
+    let Lent { watch } = lent;
+    take_back(watch);
+    let all = all?;
     let (evidence, best) = gather::<L, F>(alloc, circuit, admit, all, first);
-    let Shared { book, .. } = shared;
-    let partial = book.into_inner().into_book().into_tree();
+    let Shared { standing, .. } = shared;
+    let Standing { book, .. } = standing.into_inner();
+    let partial = book.into_book().into_tree();
     Ok(finish_by(
         alloc,
         circuit,
@@ -170,6 +259,24 @@ pub fn search_all<
         budget,
         F::strategy(),
     ))
+}
+
+// What is left at the beginning, for a watch that looks. The error is want of memory.
+fn frontier_of<L: Subject, W: Watch>(
+    alloc: Global,
+    circuit: &Circuit,
+    admit: &Admit,
+    strategy: Strategy,
+    root: Root,
+    watch: &W,
+) -> Result<Frontier<L>, AllocError>
+    requires asked { L.asked ≡ problem_by strategy circuit.now admit.now }
+    requires root { IsRoot (problem_by strategy circuit.now admit.now) root }
+{
+    if watch.is_looking() {
+        return Frontier::new(alloc, circuit, admit, strategy, root);
+    }
+    Ok(Frontier::unkept(alloc, circuit, admit, strategy, root))
 }
 
 // The word at 0, and a seat for each worker.
@@ -247,11 +354,13 @@ fn fresh<F: Finder>(
     })
 }
 
-// What all workers found: this thread, and another one for each further worker, where a thread can be made.
+// What all workers found: this thread, and another one for each further worker, where a thread can be made. The watch, which this thread
+// tells how far the search has come, comes back.
 fn found_by_all<
-    L: Ledger + Send + Sync,
+    L: Subject + Send + Sync,
     F: Finder + Sync,
     D: Hints + Drop + Send,
+    W: Watch,
     R: Threads + Wait + Sync,
 >(
     rt: &R,
@@ -264,25 +373,29 @@ fn found_by_all<
     workers: u32,
     found: Vec<Found>,
     share: Share<L>,
-) -> Result<Vec<Report<L>>, AllocError>
+    watch: W,
+) -> (Result<Vec<Report<L>>, AllocError>, W)
+    requires asked { L.asked ≡ problem_by F.by circuit.now admit.now }
     requires some { 0 < workers }
     requires held { length admit.now.held ≡ length circuit.now.netlist.inputs }
     requires parts { share.parts ≡ workers }
     requires amount { share.amount ≡ 0 }
     requires count { length found.items ≡ workers }
     requires found { AllByRecursion (IsStarting (problem_by F.by circuit.now admit.now) shared.now.word) found.items }
-    ensures { IfOk result (λ all. AllByRecursion (λ report. IsTrueFound (problem_by F.by circuit.now admit.now) report.found) all.items) }
+    ensures reports { IfOk result.0 (λ all. AllByRecursion (λ report. IsTrueFound (problem_by F.by circuit.now admit.now) report.found) all.items) }
+    ensures told { W.told (problem_by F.by circuit.now admit.now) watch result.1 }
 {
     let Ok(handles) = Vec::with_capacity(alloc, found.len()) else {
-        return Err(AllocError);
+        return (Err(AllocError), watch);
     };
     let Ok(all) = Vec::with_capacity(alloc, found.len()) else {
-        return Err(AllocError);
+        return (Err(AllocError), watch);
     };
-    Ok(thread::scope(
+    let (all, watch) = thread::scope(
         thread::scope_env(),
         rt,
-        |scope| -> Vec<Report<L>>
+        |scope| -> (Vec<Report<L>>, W)
+            requires asked { L.asked ≡ problem_by F.by circuit.now admit.now }
             requires some { 0 < workers }
             requires held { length admit.now.held ≡ length circuit.now.netlist.inputs }
             requires parts { share.parts ≡ workers }
@@ -293,8 +406,10 @@ fn found_by_all<
             requires all { all.items ≡ [] }
             requires handles_room { workers ≤ vec_capacity handles }
             requires all_room { workers ≤ vec_capacity all }
-            ensures { AllByRecursion (λ report. IsTrueFound (problem_by F.by circuit.entry.now admit.entry.now) report.found) result.items }
+            ensures reports { AllByRecursion (λ report. IsTrueFound (problem_by F.by circuit.entry.now admit.entry.now) report.found) result.0.items }
+            ensures told { W.told (problem_by F.by circuit.entry.now admit.entry.now) watch result.1 }
         {
+            let mut watch = watch;
             let mut handles = handles;
             let mut own = share;
             let mut waiting = found;
@@ -308,14 +423,26 @@ fn found_by_all<
                 };
                 let share = own.split_off(1, 0);
                 let job = move || -> Report<L>
+                    requires asked { L.asked ≡ problem_by F.by circuit.now admit.now }
                     requires held { length admit.now.held ≡ length circuit.now.netlist.inputs }
                     requires seat { found.seat.table ≡ shared.now.word.table }
                     requires found { IsTrueFound (problem_by F.by circuit.now admit.now) found }
                     requires part { 0 < share.parts }
                     ensures { IsTrueFound (problem_by F.by circuit.entry.now admit.entry.now) result.found }
                 {
+                    let mut nobody = Unwatched;
                     work(
-                        rt, alloc, circuit, admit, finder, shared, worker, deck, found, share,
+                        rt,
+                        alloc,
+                        circuit,
+                        admit,
+                        finder,
+                        shared,
+                        worker,
+                        deck,
+                        found,
+                        share,
+                        &mut nobody,
                     )
                 };
                 let truthful = Truthful {
@@ -339,14 +466,17 @@ fn found_by_all<
                 first,
                 own,
                 all,
+                &mut watch,
             );
-            join_all::<L, F, R>(rt, circuit, admit, handles, all)
+            let all = join_all::<L, F, R>(rt, circuit, admit, handles, all);
+            (all, watch)
         },
-    ))
+    );
+    (Ok(all), watch)
 }
 
 // The last of these.
-fn next_found<L: Ledger, F: Finder>(
+fn next_found<L: Subject, F: Finder>(
     circuit: &Circuit,
     admit: &Admit,
     _shared: &Shared<L>,
@@ -363,7 +493,7 @@ fn next_found<L: Ledger, F: Finder>(
 }
 
 // What this thread finds as the first worker, in a vector that has room for it and more. Nothing where it has nothing to begin with.
-fn with_first<L: Ledger, F: Finder, D: Hints + Drop, R: Wait>(
+fn with_first<L: Subject, F: Finder, D: Hints + Drop, W: Watch, R: Wait>(
     rt: &R,
     alloc: Global,
     circuit: &Circuit,
@@ -374,7 +504,9 @@ fn with_first<L: Ledger, F: Finder, D: Hints + Drop, R: Wait>(
     found: Option<Found>,
     share: Share<L>,
     all: Vec<Report<L>>,
+    watch: &mut W,
 ) -> Vec<Report<L>>
+    requires asked { L.asked ≡ problem_by F.by circuit.now admit.now }
     requires held { length admit.now.held ≡ length circuit.now.netlist.inputs }
     requires found { IfSome found (IsStarting (problem_by F.by circuit.now admit.now) shared.now.word) }
     requires part { 0 < share.parts }
@@ -383,6 +515,7 @@ fn with_first<L: Ledger, F: Finder, D: Hints + Drop, R: Wait>(
     ensures reports { AllByRecursion (λ report. IsTrueFound (problem_by F.by circuit.now admit.now) report.found) result.items }
     ensures few { length result.items ≤ 1 }
     ensures room { vec_capacity result ≡ vec_capacity all }
+    ensures told { W.told (problem_by F.by circuit.now admit.now) watch.old watch.new }
 {
     let mut all = all;
     let Some(found) = found else {
@@ -392,14 +525,14 @@ fn with_first<L: Ledger, F: Finder, D: Hints + Drop, R: Wait>(
         return all;
     };
     let report = work(
-        rt, alloc, circuit, admit, finder, shared, 0, deck, found, share,
+        rt, alloc, circuit, admit, finder, shared, 0, deck, found, share, watch,
     );
     all.push_reserved(report);
     all
 }
 
 // What these threads hand back, behind what is there, in a vector that has room for all.
-fn join_all<L: Ledger, F: Finder, R: Threads>(
+fn join_all<L: Subject, F: Finder, R: Threads>(
     rt: &R,
     circuit: &Circuit,
     admit: &Admit,
@@ -419,7 +552,7 @@ fn join_all<L: Ledger, F: Finder, R: Threads>(
 }
 
 // The evidence of all workers, and the best of their pairs and this one. Of evidence that memory is refused for nothing is kept.
-fn gather<L: Ledger, F: Finder>(
+fn gather<L: Subject, F: Finder>(
     alloc: Global,
     circuit: &Circuit,
     admit: &Admit,

@@ -1,22 +1,28 @@
 //! What workers share.
 
 ghost use Rattle.std.specs.Prelude.{◌≡◌, ◌*◌, ◌<◌, ◌≤◌, length, IsTrue, IfOk, IfSome};
-ghost use Rattle.td_search.specs.Problems.{problem};
+ghost use Rattle.td_search.specs.Findings.{IsTrueEvidence};
+ghost use Rattle.td_search.specs.Problems.{problem, problem_by};
 ghost use Rattle.td_pool.specs.Truth.{IsWithin, IsBelow};
 ghost use Rattle.td_pool.specs.Turning.{IsPinned, IsTurn};
+ghost use Rattle.td_pool.specs.Watched.{IsLowerBound, IsTrueProgress};
 
 use crate::hints::Hints;
-use std::sync::ledger::{Ledger, Share};
+use crate::standing::Standing;
+use crate::subject::Subject;
+use crate::watch::Progress;
+use std::sync::ledger::Share;
 use std::sync::{Condvar, Mutex, Wait as MayWait};
-use td_book::{Claim, Counted, GraftFault, Lease, Subtree};
+use td_book::{Claim, Counted, Lease, Subtree};
 use td_circuit::Circuit;
 use td_domain::{Admit, Cube, Trit};
 use td_incumbent::Incumbent;
+use td_search::{Evidence, Strategy};
 
-/// The book of the search beside its ledger, what wakes those that wait for an open leaf, and the best time.
+/// The book of the search and what is left of it, what wakes those that wait for an open leaf, and the best time.
 #[derive(Drop)]
-pub struct Shared<L: Ledger> {
-    pub book: Mutex<Counted<L>>,
+pub struct Shared<L: Subject> {
+    pub standing: Mutex<Standing<L>>,
     pub moved: Condvar,
     pub word: Incumbent,
 }
@@ -61,7 +67,7 @@ fn is_pinned(pin: Trit, trit: Trit) -> bool
 }
 
 // To handle this leaf, which the book just gave, if it is one of this search.
-fn turn_with<L: Ledger>(
+fn turn_with<L: Subject>(
     book: &mut Counted<L>,
     circuit: &Circuit,
     admit: &Admit,
@@ -77,7 +83,7 @@ fn turn_with<L: Ledger>(
 }
 
 // What a worker of this search is to do next, by the book alone. Of the book under the lock nothing is known.
-fn next_turn<L: Ledger>(
+fn next_turn<L: Subject>(
     book: &mut Counted<L>,
     circuit: &Circuit,
     admit: &Admit,
@@ -96,7 +102,7 @@ fn next_turn<L: Ledger>(
 }
 
 // As `next_turn`, where a leaf of this number may be open.
-fn hinted_turn<L: Ledger>(
+fn hinted_turn<L: Subject>(
     book: &mut Counted<L>,
     circuit: &Circuit,
     admit: &Admit,
@@ -115,6 +121,22 @@ fn hinted_turn<L: Ledger>(
     }
 }
 
+// What a worker of this search is to do next, with or without such a number.
+fn turn_of<L: Subject>(
+    book: &mut Counted<L>,
+    circuit: &Circuit,
+    admit: &Admit,
+    worker: u32,
+    hint: Option<u32>,
+) -> Turn
+    ensures { IsTurn (problem circuit.now admit.now) result }
+{
+    match hint {
+        Some(number) => hinted_turn(book, circuit, admit, worker, number),
+        None => next_turn(book, circuit, admit, worker),
+    }
+}
+
 // A number from the worker's own place, else from another's.
 fn hint_from<D: Hints>(deck: &mut D) -> Option<u32> {
     if let Some(number) = deck.pop() {
@@ -123,7 +145,7 @@ fn hint_from<D: Hints>(deck: &mut D) -> Option<u32> {
     deck.steal()
 }
 
-impl<L: Ledger> Shared<L> {
+impl<L: Subject> Shared<L> {
     /// The next leaf for this worker, and none where it is to end. A number from its deck comes first, then the first open leaf.
     pub fn lease<D: Hints, R: MayWait>(
         &self,
@@ -137,17 +159,13 @@ impl<L: Ledger> Shared<L> {
     {
         for _ in rt.forever() {
             let hint = hint_from(deck);
-            let mut book = self.book.lock(rt);
-            let turn = match hint {
-                Some(number) => hinted_turn(&mut book, circuit, admit, worker, number),
-                None => next_turn(&mut book, circuit, admit, worker),
-            };
-            match turn {
+            let mut standing = self.standing.lock(rt);
+            match turn_of(&mut standing.book, circuit, admit, worker, hint) {
                 Turn::Work(lease) => return Some(lease),
-                Turn::Seek => drop(book),
+                Turn::Seek => drop(standing),
                 Turn::Wait => {
-                    let book = self.moved.wait(rt, book);
-                    drop(book);
+                    let standing = self.moved.wait(rt, standing);
+                    drop(standing);
                 }
                 Turn::End => return None,
             }
@@ -155,59 +173,51 @@ impl<L: Ledger> Shared<L> {
         None
     }
 
-    /// Tells the book what was split and closed below a leaf, under one hold, and wakes those that wait. Where nothing was, or memory
-    /// runs out, the leaf is opened again. Answers the numbers of the leaves that are left open there, in the tree's order, and
-    /// none where the worker is to end.
+    /// Tells the book what was split and closed below a leaf, under one hold, with the evidence of it and the delay of a pair that was
+    /// found, and wakes those that wait. Where nothing was, or memory runs out, the leaf is opened again. Answers the numbers of the leaves
+    /// that are left open there, in the tree's order, and none where the worker is to end.
     pub fn graft<R: MayWait>(
         &self,
         rt: &R,
+        circuit: &Circuit,
+        admit: &Admit,
+        strategy: Strategy,
         lease: Lease,
         subtree: Subtree,
+        evidence: &Evidence,
+        best: u64,
         mine: &mut Share<L>,
     ) -> Option<Vec<u32>>
+        requires asked { L.asked ≡ problem_by strategy circuit.now admit.now }
         requires cube { subtree.cube ≡ lease.cube }
         requires few { length subtree.states ≤ lease.allowance }
         requires part { 0 < mine.old.parts }
+        requires evidence { IsTrueEvidence (problem_by strategy circuit.now admit.now) evidence.now }
+        requires best { IsLowerBound (problem_by strategy circuit.now admit.now) best }
         ensures { mine.new.parts ≡ mine.old.parts }
     {
-        let mut book = self.book.lock(rt);
-        let left = graft_in(&mut book, lease, subtree, mine);
-        drop(book);
+        let mut standing = self.standing.lock(rt);
+        let left = standing.graft(
+            circuit, admit, strategy, lease, subtree, evidence, best, mine,
+        );
+        drop(standing);
         self.moved.notify_all();
         left
     }
 
+    /// How far the search has come, where so many nodes are handled.
+    pub fn progress<R: MayWait>(&self, rt: &R, milestone: u64) -> Option<Progress>
+        ensures { IfSome result (IsTrueProgress L.asked) }
+    {
+        let mut standing = self.standing.lock(rt);
+        standing.progress(milestone)
+    }
+
     /// Opens a leaf again, and wakes those that wait.
     pub fn release<R: MayWait>(&self, rt: &R, lease: Lease) {
-        let mut book = self.book.lock(rt);
-        let _opened = book.release(lease);
-        drop(book);
+        let mut standing = self.standing.lock(rt);
+        let _opened = standing.book.release(lease);
+        drop(standing);
         self.moved.notify_all();
-    }
-}
-
-// As `graft`, in the book.
-fn graft_in<L: Ledger>(
-    book: &mut Counted<L>,
-    lease: Lease,
-    subtree: Subtree,
-    mine: &mut Share<L>,
-) -> Option<Vec<u32>>
-    requires cube { subtree.cube ≡ lease.cube }
-    requires few { length subtree.states ≤ lease.allowance }
-    requires part { 0 < mine.old.parts }
-    ensures { mine.new.parts ≡ mine.old.parts }
-{
-    if subtree.states().is_empty() {
-        let _opened = book.release(lease);
-        return None;
-    }
-    match book.graft(lease, subtree, mine) {
-        Ok(left) => Some(left),
-        Err(GraftFault::OutOfMemory(lease, _subtree)) => {
-            let _opened = book.release(lease);
-            None
-        }
-        Err(GraftFault::Stranger(_lease, _subtree)) => None,
     }
 }

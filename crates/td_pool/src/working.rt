@@ -8,15 +8,18 @@ use crate::below::Below;
 use crate::finder::Finder;
 use crate::found::{Found, Report};
 use crate::hints::Hints;
+use crate::milestones::milestone_above;
 use crate::shared::Shared;
+use crate::subject::Subject;
+use crate::watch::Watch;
 use std::alloc::{AllocError, Global};
 use std::sync::Wait;
-use std::sync::ledger::{Ledger, Share};
+use std::sync::ledger::Share;
 use td_book::Lease;
 use td_circuit::Circuit;
 use td_domain::{Admit, Cube};
 use td_incumbent::Incumbent;
-use td_search::Evidence;
+use td_search::{Evidence, Strategy};
 
 // Splits and closes below a leaf, depth first, zero side first, until nothing is left there, the allowance is used up, or memory runs
 // out. Answers false at want of memory.
@@ -67,7 +70,7 @@ fn tell<D: Hints>(deck: &mut D, opened: &[u32]) {
 
 // Handles a leaf, and as much below it as its lease allows, and tells the book under one hold of the lock, then the worker's deck. What
 // was found becomes evidence. No lock is held meanwhile. Answers whether the worker may go on: not at want of memory.
-fn handle<L: Ledger, F: Finder, D: Hints, R: Wait>(
+fn handle<L: Subject, F: Finder, D: Hints, R: Wait>(
     rt: &R,
     alloc: Global,
     circuit: &Circuit,
@@ -80,6 +83,7 @@ fn handle<L: Ledger, F: Finder, D: Hints, R: Wait>(
     found: &mut Found,
     share: &mut Share<L>,
 ) -> bool
+    requires asked { L.asked ≡ problem_by F.by circuit.now admit.now }
     requires held { length admit.now.held ≡ length circuit.now.netlist.inputs }
     requires scratch { F.is_for scratch.old circuit.now }
     requires within { IsWithin (problem_by F.by circuit.now admit.now) lease.cube }
@@ -107,12 +111,24 @@ fn handle<L: Ledger, F: Finder, D: Hints, R: Wait>(
         &mut below,
     );
     let Below { subtree, findings } = below;
-    found.evidence.push_reserved(Evidence {
+    let evidence = Evidence {
         number: lease.number,
         cube,
         findings,
-    });
-    let Some(opened) = shared.graft(rt, lease, subtree, share) else {
+    };
+    let opened = shared.graft(
+        rt,
+        circuit,
+        admit,
+        F::strategy(),
+        lease,
+        subtree,
+        &evidence,
+        found.best.time(),
+        share,
+    );
+    found.evidence.push_reserved(evidence);
+    let Some(opened) = opened else {
         return false;
     };
     tell(deck, &opened);
@@ -142,8 +158,32 @@ fn begin<F: Finder>(
     ))
 }
 
-/// Handles leaves until the book gives none or memory runs out. All that it hands back is true.
-pub fn work<L: Ledger, F: Finder, D: Hints + Drop, R: Wait>(
+// Tells a watch how far the search has come, where it has passed a milestone. The next one is behind what was told.
+fn tell_progress<L: Subject, W: Watch, R: Wait>(
+    rt: &R,
+    circuit: &Circuit,
+    admit: &Admit,
+    strategy: Strategy,
+    shared: &Shared<L>,
+    milestone: &mut u64,
+    watch: &mut W,
+)
+    requires asked { L.asked ≡ problem_by strategy circuit.now admit.now }
+    ensures { W.told (problem_by strategy circuit.now admit.now) watch.old watch.new }
+{
+    if !watch.is_looking() {
+        return;
+    }
+    let Some(progress) = shared.progress(rt, *milestone) else {
+        return;
+    };
+    *milestone = milestone_above(progress.nodes);
+    watch.passed(circuit, admit, strategy, progress);
+}
+
+/// Handles leaves until the book gives none or memory runs out, and tells a watch of each milestone that the search has passed when the
+/// worker has handled a leaf. All that it hands back is true.
+pub fn work<L: Subject, F: Finder, D: Hints + Drop, W: Watch, R: Wait>(
     rt: &R,
     alloc: Global,
     circuit: &Circuit,
@@ -154,12 +194,15 @@ pub fn work<L: Ledger, F: Finder, D: Hints + Drop, R: Wait>(
     deck: D,
     found: Found,
     share: Share<L>,
+    watch: &mut W,
 ) -> Report<L>
+    requires asked { L.asked ≡ problem_by F.by circuit.now admit.now }
     requires held { length admit.now.held ≡ length circuit.now.netlist.inputs }
     requires seat { found.seat.table ≡ shared.now.word.table }
     requires found { IsTrueFound (problem_by F.by circuit.now admit.now) found }
     requires part { 0 < share.parts }
-    ensures { IsTrueFound (problem_by F.by circuit.now admit.now) result.found }
+    ensures found { IsTrueFound (problem_by F.by circuit.now admit.now) result.found }
+    ensures told { W.told (problem_by F.by circuit.now admit.now) watch.old watch.new }
 {
     let mut deck = deck;
     let mut found = found;
@@ -168,6 +211,7 @@ pub fn work<L: Ledger, F: Finder, D: Hints + Drop, R: Wait>(
     else {
         return Report { found, share };
     };
+    let mut milestone = milestone_above(0);
     for _ in rt.forever() {
         let Some(lease) = shared.lease(rt, circuit, admit, worker, &mut deck) else {
             break;
@@ -185,9 +229,27 @@ pub fn work<L: Ledger, F: Finder, D: Hints + Drop, R: Wait>(
             &mut found,
             &mut share,
         );
+        tell_progress(
+            rt,
+            circuit,
+            admit,
+            F::strategy(),
+            shared,
+            &mut milestone,
+            watch,
+        );
         if !goes_on {
             break;
         }
     }
+    tell_progress(
+        rt,
+        circuit,
+        admit,
+        F::strategy(),
+        shared,
+        &mut milestone,
+        watch,
+    );
     Report { found, share }
 }

@@ -1,4 +1,4 @@
-//! Circuits and searches for the tests, in words.
+//! Circuits and searches for the tests, and what a search comes to as plain values.
 
 use std::alloc::{AllocError, Global};
 use std::process::Abort;
@@ -10,37 +10,30 @@ use td_circuit::{Circuit, build};
 use td_domain::Admit;
 use td_gates::Delay;
 use td_netlist::read;
-use td_pool::{Hints, worst, worst_by};
-use td_search::{Answer, Own, Prober, SearchFault, alone};
-
-/// An inverter.
-pub const INVERTER: &str = "not #(2,3) g(y,a);";
+use td_pool::{Hints, worst_by, worst_with};
+use td_search::{Answer, Own, Prober, SearchFault, Strategy, alone};
 
 /// A pulse that is lost.
-pub const LOST: &str = "not #1 n(b,a); and #2 g(y,a,b);";
+pub const LOST: &str =
+    "module t (a, y); input a; output y; not #1 n(b,a); and #2 g(y,a,b); endmodule";
 
 /// A signal that meets itself again.
-pub const RECONVERGENT: &str = "buf #1 p1(p,b); buf #1 p2(q,b); xor #3 g(y,a,p,q);";
+pub const RECONVERGENT: &str = "module t (a, b, y); input a, b; output y;
+    buf #1 p1(p,b); buf #1 p2(q,b); xor #3 g(y,a,p,q); endmodule";
+
+/// The same beside three inputs that no gate reads.
+pub const WIDE: &str = "module t (e, f, g, a, b, y); input e, f, g, a, b; output y;
+    buf #1 p1(p,b); buf #1 p2(q,b); xor #3 r(y,a,p,q); endmodule";
 
 /// An or with a slow arm.
-pub const SLOW_ARM: &str = "buf #4 s(t,a); or #1 g(y,b,t);";
+pub const SLOW_ARM: &str =
+    "module t (a, b, y); input a, b; output y; buf #4 s(t,a); or #1 g(y,b,t); endmodule";
 
-/// The text of a module with these inputs and gates, and the output y.
-pub fn module_of(alloc: Global, inputs: &str, gates: &str) -> Result<String, AllocError> {
-    format!(in alloc; "module t ({inputs}, y);\ninput {inputs};\noutput y;\n{gates}\nendmodule\n")
-}
-
-/// A circuit with these inputs and gates, and the output y. The error is want of memory, or a text that is refused.
-pub fn circuit_of(alloc: Global, inputs: &str, gates: &str) -> Result<Circuit, AllocError> {
+/// The circuit of a netlist. The error is want of memory, or a text that is refused.
+pub fn circuit_of(alloc: Global, text: &str) -> Result<Circuit, AllocError> {
     let unit = Delay { rise: 1, fall: 1 };
-    let text = module_of(alloc, inputs, gates)?;
-    let Ok(netlist) = read(alloc, text.as_bytes(), unit) else {
-        return Err(AllocError);
-    };
-    match build(alloc, netlist) {
-        Ok(circuit) => Ok(circuit),
-        Err(_) => Err(AllocError),
-    }
+    let netlist = read(alloc, text.as_bytes(), unit).ok().ok_or(AllocError)?;
+    build(alloc, netlist).ok().ok_or(AllocError)
 }
 
 /// All pairs of a circuit.
@@ -50,10 +43,13 @@ pub fn all_of(rt: &impl Abort, alloc: Global, circuit: &Circuit) -> Result<Admit
     Admit::all(alloc, inputs)
 }
 
-/// An answer: its times in words, the number of its nodes, and how many leaves of its tree are bounded by both domains at once.
-#[derive(Drop)]
+/// What a search came to: the two figures around the worst delay, whether it is exact, the number of its nodes, and how many leaves of its
+/// tree are bounded by both domains at once.
+#[derive(Clone, Copy, Drop)]
 pub struct Told {
-    pub times: String,
+    pub low: u64,
+    pub high: u64,
+    pub is_exact: bool,
     pub nodes: u64,
     pub by_both: usize,
 }
@@ -66,78 +62,85 @@ fn by_both(tree: &Tree) -> usize {
         .count()
 }
 
-fn in_words(alloc: Global, answer: &Answer) -> Result<Told, Fail> {
-    Ok(match answer {
-        Answer::Exact { time, tree, .. } => Told {
-            times: format!(in alloc; "exact {time}")?,
+// What an answer says.
+fn as_told(answer: Result<Answer, SearchFault>) -> Result<Told, Fail> {
+    match answer {
+        Ok(Answer::Exact { time, tree, .. }) => Ok(Told {
+            low: time,
+            high: time,
+            is_exact: true,
             nodes: tree.nodes().len() as u64,
-            by_both: by_both(tree),
-        },
-        Answer::Between {
+            by_both: by_both(&tree),
+        }),
+        Ok(
+            Answer::Between {
+                low,
+                high,
+                nodes,
+                ..
+            },
+        ) => Ok(Told {
             low,
             high,
+            is_exact: false,
             nodes,
-            ..
-        } => Told {
-            times: format!(in alloc; "between {low} {high}")?,
-            nodes: *nodes,
             by_both: 0,
-        },
-    })
+        }),
+        Err(_) => Err(Fail::from("no answer")),
+    }
 }
 
-/// What a search of all pairs by so many workers answers.
+/// What a search of all pairs by so many workers comes to.
 pub fn found<P: Prober + Sync, R: Threads + Wait + Sync + Abort>(
     rt: &R,
     alloc: Global,
-    circuit: &Circuit,
+    netlist: &str,
     prober: &P,
     workers: u32,
     budget: u64,
 ) -> Result<Told, Fail> {
-    let admit = all_of(rt, alloc, circuit)?;
-    assert!(rt; 0 < workers && workers <= 64);
-    assert!(rt; budget <= 10_000_000);
+    let circuit = circuit_of(alloc, netlist)?;
+    let admit = all_of(rt, alloc, &circuit)?;
+    assert!(rt; 0 < workers && workers <= 64 && budget <= 10_000_000);
     assert_eq!(rt; admit.held().len(), circuit.input_count());
-    match worst(rt, alloc, circuit, &admit, prober, workers, budget) {
-        Ok(answer) => in_words(alloc, &answer),
-        Err(SearchFault::NoPair) => Err(Fail::from("no pair")),
-        Err(SearchFault::OutOfMemory) => Err(Fail::from("out of memory")),
-    }
+    as_told(worst_with(
+        rt,
+        alloc,
+        &circuit,
+        &admit,
+        prober,
+        Strategy::Least,
+        workers,
+        budget,
+    ))
 }
 
-/// What a search of all pairs answers by a worker for each of these decks.
+/// What a search of all pairs by a worker for each of these decks comes to.
 pub fn found_by<D: Hints + Drop + Send, R: Threads + Wait + Sync + Abort>(
     rt: &R,
     alloc: Global,
-    circuit: &Circuit,
+    netlist: &str,
     decks: Vec<D>,
     workers: u32,
 ) -> Result<Told, Fail> {
-    let admit = all_of(rt, alloc, circuit)?;
+    let circuit = circuit_of(alloc, netlist)?;
+    let admit = all_of(rt, alloc, &circuit)?;
     assert!(rt; 0 < workers && workers <= 64);
     assert_eq!(rt; decks.len(), workers as usize);
     assert_eq!(rt; admit.held().len(), circuit.input_count());
-    match worst_by(rt, alloc, circuit, &admit, &Own, decks, workers, 1_000_000) {
-        Ok(answer) => in_words(alloc, &answer),
-        Err(SearchFault::NoPair) => Err(Fail::from("no pair")),
-        Err(SearchFault::OutOfMemory) => Err(Fail::from("out of memory")),
-    }
+    as_told(worst_by(rt, alloc, &circuit, &admit, &Own, decks, workers, 1_000_000))
 }
 
-/// What a search of all pairs in one thread answers.
+/// What a search of all pairs in one thread comes to.
 pub fn found_alone(
     rt: &impl Abort,
     alloc: Global,
-    circuit: &Circuit,
+    netlist: &str,
     budget: u64,
 ) -> Result<Told, Fail> {
-    let admit = all_of(rt, alloc, circuit)?;
+    let circuit = circuit_of(alloc, netlist)?;
+    let admit = all_of(rt, alloc, &circuit)?;
     assert!(rt; budget <= 10_000_000);
     assert_eq!(rt; admit.held().len(), circuit.input_count());
-    match alone(alloc, circuit, &admit, budget) {
-        Ok(answer) => in_words(alloc, &answer),
-        Err(SearchFault::NoPair) => Err(Fail::from("no pair")),
-        Err(SearchFault::OutOfMemory) => Err(Fail::from("out of memory")),
-    }
+    as_told(alone(alloc, &circuit, &admit, budget))
 }

@@ -6,9 +6,7 @@ mod circuits;
 #[cfg(test)]
 mod decks;
 #[cfg(test)]
-mod leads;
-#[cfg(test)]
-mod probers;
+mod prober;
 #[cfg(test)]
 mod refusals;
 #[cfg(test)]

@@ -1,67 +1,19 @@
-//! Circuits made by hand, for tests.
+//! Small circuits, runs and the scheduling rule as it is defined, for tests.
 #![tactic(auto)]
 
-ghost use Rattle.std.specs.Prelude.{◌≡◌, ◌≤◌, ◌<◌, ◌+◌, ◌↔◌, ◌⊎◌, length, map, nat_lt, IfOk, IfErr, IsTrue};
-ghost use Rattle.std.specs.List.{All, list_all};
+ghost use Rattle.std.specs.Prelude.{◌≡◌, ◌≤◌, ◌↔◌, length, IfOk, IsTrue};
+ghost use Rattle.std.specs.List.{All};
 ghost use Rattle.td_gates.specs.Table.{TakesInputs};
-ghost use Rattle.td_nets.specs.Views.{name_of, net_of, gate_of};
-ghost use Rattle.td_nets.specs.Netlist.{Netlist};
-ghost use Rattle.td_circuit.specs.Loops.{Loop};
-ghost use Rattle.td_rows.specs.Cells.{w, named, gate_at, IsCell, AreCells, AreInputs, AreMade, IsMade};
-ghost use Rattle.td_rows.specs.Cells.{IsBadCell, HasBadCell, IsMalformed, IsRefused};
 
 pub mod slow;
+pub mod texts;
 
-use std::alloc::{AllocError, AllocFailed, Global};
-use td_circuit::{BuildFault, Circuit, build};
-use td_gates::{Delay, Kind};
-use td_nets::{Gate, Name, Net, Netlist, Scale, Unit};
-
-/// A gate that reads nets by number: first come the inputs, and then the gates in order.
-#[derive(Clone, Copy)]
-pub struct Cell<'a> {
-    pub kind: Kind,
-    pub delay: Delay,
-    pub reads: &'a [u32],
-}
-
-/// Why there is no circuit.
-#[derive(Debug, Drop)]
-pub enum Refused {
-    OutOfMemory,
-    Malformed,
-}
-
-impl From<AllocError> for Refused {
-    ghost use Rattle.std.specs.Prelude.{◌≡◌};
-    ghost use Rattle.td_rows.specs.declared.Refused.TheVariants.{OutOfMemory};
-
-    ghost from_gives = { λ _ refused. refused ≡ OutOfMemory };
-
-    fn from(_error: AllocError) -> Self {
-        Refused::OutOfMemory
-    }
-}
-
-impl<T: Drop> From<AllocFailed<T>> for Refused {
-    ghost use Rattle.std.specs.Prelude.{◌≡◌};
-    ghost use Rattle.td_rows.specs.declared.Refused.TheVariants.{OutOfMemory};
-
-    ghost from_gives = { λ _ refused. refused ≡ OutOfMemory };
-
-    fn from(_error: AllocFailed<T>) -> Self {
-        Refused::OutOfMemory
-    }
-}
-
-fn name_at(alloc: Global, place: u32) -> Name
-    ensures { name_of result ≡ w place }
-{
-    Name {
-        text: Vec::new(alloc),
-        bit: Some(place),
-    }
-}
+use crate::texts::{generated_text, next, random};
+use std::alloc::{AllocError, Global};
+use td_circuit::{Circuit, build};
+use td_gates::{Delay, Kind, Level};
+use td_netlist::read;
+use td_run::waves;
 
 /// Whether a gate of this kind can have so many inputs.
 pub fn takes(kind: Kind, count: usize) -> bool
@@ -79,99 +31,15 @@ pub fn takes(kind: Kind, count: usize) -> bool
     }
 }
 
-fn are_lower(reads: &[u32], end: u32) -> bool
-    ensures { result ≡ list_all (λ read. nat_lt read end) reads.now }
-{
-    reads.iter().all(|read| *read < end)
-}
-
-fn named_nets(alloc: Global, reads: &[u32]) -> Result<Vec<Net>, AllocError>
-    ensures { IfOk result (λ nets. map net_of nets.items ≡ map named reads.now) }
-{
-    let mut nets = Vec::new(alloc);
-    for read in reads {
-        nets.push(Net::Named(name_at(alloc, *read)))?;
-    }
-    Ok(nets)
-}
-
-fn cell_gate(alloc: Global, cell: &Cell<'_>, place: u32) -> Result<Gate, Refused>
-    ensures made { IfOk result (λ gate. gate_of gate ≡ gate_at place cell.now) }
-    ensures fits { IfOk result (λ gate. IsCell place (gate_of gate)) }
-    ensures refused { IfErr result (IsRefused (IsBadCell place cell.now)) }
-{
-    if cell.reads.len() > 1023 || !takes(cell.kind, cell.reads.len()) {
-        return Err(Refused::Malformed);
-    }
-    if !are_lower(cell.reads, place) {
-        return Err(Refused::Malformed);
-    }
-    let inputs = named_nets(alloc, cell.reads)?;
-    let delay = cell.delay;
-    let _rise = delay.rise;
-    Ok(Gate {
-        kind: cell.kind,
-        delay,
-        output: name_at(alloc, place),
-        inputs,
-    })
-}
-
-fn input_names(alloc: Global, count: u32) -> Result<Vec<Name>, AllocError>
-    ensures { IfOk result (λ names. AreInputs count (map name_of names.items)) }
-{
-    let mut names = Vec::new(alloc);
-    for place in 0..count {
-        names.push(name_at(alloc, place))?;
-    }
-    Ok(names)
-}
-
-fn cell_gates(alloc: Global, inputs: u32, cells: &[Cell<'_>]) -> Result<Vec<Gate>, Refused>
-    requires few_inputs { inputs ≤ 4096 }
-    requires few_cells { length cells.now ≤ 200000 }
-    ensures made { IfOk result (λ gates. AreMade inputs cells.now (map gate_of gates.items)) }
-    ensures cells { IfOk result (λ gates. AreCells inputs (map gate_of gates.items)) }
-    ensures count { IfOk result (λ gates. length gates.items ≡ length cells.now) }
-    ensures refused { IfErr result (IsRefused (HasBadCell inputs cells.now)) }
-{
-    let mut gates = Vec::new(alloc);
-    for (i, cell) in cells.iter().enumerate() {
-        gates.push(cell_gate(alloc, cell, inputs + i as u32)?)?;
-    }
-    Ok(gates)
-}
-
-/// The netlist of these gates, whose output is the last one's.
-pub fn netlist_of(alloc: Global, inputs: u32, cells: &[Cell<'_>]) -> Result<Netlist, Refused>
-    ensures made { IfOk result (λ netlist. IsMade inputs cells.now netlist) }
-    ensures refused { IfErr result (IsRefused (IsMalformed inputs cells.now)) }
-{
-    let count = cells.len();
-    if inputs > 4096 || count == 0 || count > 200_000 {
-        return Err(Refused::Malformed);
-    }
-    let names = input_names(alloc, inputs)?;
-    let gates = cell_gates(alloc, inputs, cells)?;
-    let mut outputs = Vec::new(alloc);
-    outputs.push(name_at(alloc, inputs + (count - 1) as u32))?;
-    let unit = Unit {
-        magnitude: 1,
-        scale: Scale::Nanoseconds,
+/// The circuit of a text whose gates have delay 1 unless it says otherwise, if it has one.
+pub fn circuit_of(alloc: Global, text: &str) -> Option<Circuit> {
+    let default = Delay::new(1, 1)?;
+    let Ok(netlist) = read(alloc, text.as_bytes(), default) else {
+        return None;
     };
-    Ok(Netlist::new(Vec::new(alloc), names, outputs, gates, unit, 0))
-}
-
-/// The circuit of these gates, whose output is the last one's.
-pub fn circuit_of(alloc: Global, inputs: u32, cells: &[Cell<'_>]) -> Result<Circuit, Refused>
-    ensures made { IfOk result (λ circuit. IsMade inputs cells.now circuit.netlist) }
-    ensures refused { IfErr result (IsRefused (IsMalformed inputs cells.now
-        ⊎ ((netlist : Netlist) × IsMade inputs cells.now netlist × Loop netlist))) }
-{
-    match build(alloc, netlist_of(alloc, inputs, cells)?) {
-        Ok(circuit) => Ok(circuit),
-        Err((_, BuildFault::OutOfMemory)) => Err(Refused::OutOfMemory),
-        Err((_, BuildFault::Loop(_))) => Err(Refused::Malformed),
+    match build(alloc, netlist) {
+        Ok(circuit) => Some(circuit),
+        Err(_) => None,
     }
 }
 
@@ -185,4 +53,88 @@ pub fn moments_of(alloc: Global, moments: &[u64]) -> Result<Vec<u64>, AllocError
         own.push((*moment).min(1_000_000_000))?;
     }
     Ok(own)
+}
+
+/// The same circuit with inputs that change at these moments, if there is one for each.
+pub fn at(alloc: Global, mut circuit: Circuit, moments: &[u64]) -> Option<Circuit> {
+    let Ok(own) = moments_of(alloc, moments) else {
+        return None;
+    };
+    if own.len() != circuit.input_count() {
+        return None;
+    }
+    circuit.set_moments(own);
+    Some(circuit)
+}
+
+/// Moments from 0 to 7 for so many inputs, half of them 0, that follow from a number.
+fn random_moments(alloc: Global, inputs: usize, seed: u64) -> Result<Vec<u64>, AllocError> {
+    let mut seed = seed;
+    let mut moments = Vec::new(alloc);
+    for _ in 0..inputs {
+        seed = next(seed);
+        moments.push(random(seed, 14).saturating_sub(6))?;
+    }
+    Ok(moments)
+}
+
+/// A circuit with so many inputs, from 1 to 3, that change at moments from 0 to 7, and so many gates whose delays are from 1 to 4. It
+/// follows from a number.
+pub fn generated(alloc: Global, inputs: u64, gates: u64, seed: u64) -> Option<Circuit> {
+    let Ok(text) = generated_text(alloc, inputs, gates, seed) else {
+        return None;
+    };
+    let circuit = circuit_of(alloc, &text)?;
+    let Ok(moments) = random_moments(alloc, circuit.input_count(), next(seed ^ 77)) else {
+        return None;
+    };
+    at(alloc, circuit, &moments)
+}
+
+/// So many bits of a number, the least first.
+pub fn bits_of(alloc: Global, number: u32, count: usize) -> Result<Vec<bool>, AllocError>
+    ensures { IfOk result (λ bits. length bits.items ≡ count) }
+{
+    let mut bits = Vec::new(alloc);
+    let mut rest = number;
+    for _ in 0..count {
+        bits.push(rest % 2 == 1)?;
+        rest /= 2;
+    }
+    Ok(bits)
+}
+
+/// How many numbers there are of so many bits, up to 31.
+pub fn vectors_of(count: usize) -> u32 {
+    let mut vectors = 1u32;
+    for _ in 0..count {
+        vectors = vectors.saturating_mul(2);
+    }
+    vectors
+}
+
+/// The levels of these bits.
+pub fn levels_of(alloc: Global, bits: &[bool]) -> Result<Vec<Level>, AllocError>
+    ensures { IfOk result (λ levels. length levels.items ≡ length bits.now) }
+{
+    let mut levels = Vec::new(alloc);
+    for bit in bits {
+        levels.push(Level::from(*bit))?;
+    }
+    Ok(levels)
+}
+
+/// The delay of two vectors by waves.
+pub fn delay_by_waves(
+    alloc: Global,
+    circuit: &Circuit,
+    first: &[bool],
+    second: &[bool],
+) -> Result<u64, AllocError>
+    requires first { length first.now ≡ length circuit.now.netlist.inputs }
+    requires second { length second.now ≡ length circuit.now.netlist.inputs }
+{
+    let firsts = levels_of(alloc, first)?;
+    let seconds = levels_of(alloc, second)?;
+    Ok(waves(alloc, circuit, &firsts, &seconds)?.last_of_outputs())
 }

@@ -1,15 +1,9 @@
-//! Searches of worked circuits. There are tests here, and nothing else.
+//! Searches, climbs and admitted pairs of small circuits. There are tests here, and nothing else.
 #![tactic(auto)]
 
 #[cfg(test)]
-mod admitted;
+mod admits;
 #[cfg(test)]
-mod circuits;
-#[cfg(test)]
-mod leads;
+mod climbs;
 #[cfg(test)]
 mod pairs;
-#[cfg(test)]
-mod representatives;
-#[cfg(test)]
-mod texts;

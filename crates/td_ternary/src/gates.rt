@@ -48,7 +48,7 @@ fn possible_after(alloc: Global, delay: Delay, target: &Wave) -> Result<Wave, Al
     let reversed = reversed(delay);
     let start = begun(target.start());
     let mut now = start;
-    let mut changes = Vec::new(alloc);
+    let mut changes = Vec::with_capacity(alloc, target.changes().len())?;
     for change in target.changes() {
         let next = pass(&mut changes, now, reversed, delay, *change)?;
         now = next;

@@ -56,6 +56,10 @@ impl Domain for Possible {
         Ok(Wave::from_changes(signal.start(), Vec::from_slice(alloc, signal.changes())?))
     }
 
+    fn is_same(left: &Wave, right: &Wave) -> bool {
+        left.start() == right.start() && left.changes() == right.changes()
+    }
+
     fn last(signal: &Wave) -> Option<u64> {
         match signal.changes().last() {
             None => moment_of(signal.start(), 0),

@@ -1,4 +1,4 @@
-use Rattle.td_cli.specs.Requests.{disk_of}
+use Rattle.td_cli.specs.Disks.{disk_of}
 use Rattle.td_cli.proofs.Programs.{nothing_done, refused_over, runs_apart}
 use Rattle.td_cli.proofs.program.carry_out_plain.Goals as goal
 

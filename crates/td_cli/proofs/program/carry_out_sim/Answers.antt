@@ -1,5 +1,4 @@
-use Rattle.std.proofs.Common.{List, ℕ, refl, subst}
-use Rattle.td_gates.specs.Output.{Sent, Failed}
+use Rattle.std.proofs.Common.{refl}
 use Rattle.td_cli.specs.Dumps.{dump_files}
 use Rattle.td_cli.specs.Vectors.{words_of}
 use Rattle.td_cli.specs.Outcomes.{HasNoReport}

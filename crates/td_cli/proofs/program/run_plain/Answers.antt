@@ -1,10 +1,10 @@
 use Rattle.std.proofs.Common.{map, refl}
-use Rattle.td_cli.specs.Requests.{disk_of}
+use Rattle.td_cli.specs.Disks.{disk_of}
 use Rattle.td_cli.proofs.Programs.{nothing_done, refused_words}
 use Rattle.td_cli.proofs.program.run_plain.Goals as goal
 
-pub returns-in-Err-clause-ends : goal.returns-in-Err-clause-ends
-returns-in-Err-clause-ends g c = (
+pub returns-clause-ends : goal.returns-clause-ends
+returns-clause-ends g c = (
   _,
   nothing_done g.F.Files.did g.met.F.Files.did_nothing _ _ refl,
   refused_words (disk_of (g.F.Files.holds c.args.files.now) (g.F.Files.fails c.args.files.now) (g.F.Files.breaks c.args.files.now) (g.F.Files.is_one c.args.files.now)) (map g.S.AsStr.text c.args.words.now) c.in-Err.error c.tell_error.result _ _

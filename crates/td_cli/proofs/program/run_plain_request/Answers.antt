@@ -1,4 +1,4 @@
-use Rattle.td_cli.specs.Requests.{disk_of}
+use Rattle.td_cli.specs.Disks.{disk_of}
 use Rattle.td_cli.proofs.Programs.{asked_as}
 use Rattle.td_cli.proofs.program.run_plain_request.Goals as goal
 
@@ -21,3 +21,11 @@ returns-in-Check g c = asked_as _ (disk_of (g.F.Files.holds c.args.files.now) (g
 pub returns-in-Info : goal.returns-in-Info
 returns-in-Info g c = asked_as _ (disk_of (g.F.Files.holds c.args.files.now) (g.F.Files.fails c.args.files.now) (g.F.Files.breaks c.args.files.now) (g.F.Files.is_one c.args.files.now))
     _ _ _ _ _ c.in-Info.is c.run_info.ensures
+
+pub returns-in-Parts : goal.returns-in-Parts
+returns-in-Parts g c = asked_as _ (disk_of (g.F.Files.holds c.args.files.now) (g.F.Files.fails c.args.files.now) (g.F.Files.breaks c.args.files.now) (g.F.Files.is_one c.args.files.now))
+    _ _ _ _ _ c.in-Parts.is c.run_parts.ensures
+
+pub returns-in-Join : goal.returns-in-Join
+returns-in-Join g c = asked_as _ (disk_of (g.F.Files.holds c.args.files.now) (g.F.Files.fails c.args.files.now) (g.F.Files.breaks c.args.files.now) (g.F.Files.is_one c.args.files.now))
+    _ _ _ _ _ c.in-Join.is c.run_join.ensures

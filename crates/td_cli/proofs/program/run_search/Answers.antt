@@ -1,5 +1,5 @@
 use Rattle.std.proofs.Common.{map, refl}
-use Rattle.td_cli.specs.Requests.{disk_of}
+use Rattle.td_cli.specs.Disks.{disk_of}
 use Rattle.td_cli.proofs.Programs.{nothing_done, refused_words}
 use Rattle.td_cli.proofs.program.run_search.Goals as goal
 

@@ -1,20 +1,21 @@
-use Rattle.std.proofs.Common.{sym, subst}
+use Rattle.std.proofs.Common.{sym, subst, refl}
 use Rattle.td_command.specs.CommandLine.{delays}
 use Rattle.td_cli.specs.Vectors.{words_of}
 use Rattle.td_cli.specs.Outcomes.{HasNoReport}
-use Rattle.td_cli.specs.Requests.{disk_of, IsSimProduct}
-use Rattle.td_cli.proofs.Programs.{nothing_done, not_read, on_file_taking}
+use Rattle.td_cli.specs.Disks.{disk_of}
+use Rattle.td_cli.specs.Requests.{IsSimProduct}
+use Rattle.td_cli.proofs.Programs.{behind, behind_nothing, nothing_done, not_read, on_file_taking}
 use Rattle.td_cli.proofs.program.run_sim.Goals as goal
 
 pub returns-in-Err : goal.returns-in-Err
 returns-in-Err g c = (
   _,
   nothing_done g.F.Files.did g.met.F.Files.did_nothing _ _ c.read.ensures.stays,
-  not_read (disk_of (g.F.Files.holds c.args.files.now) (g.F.Files.fails c.args.files.now) (g.F.Files.breaks c.args.files.now) (g.F.Files.is_one c.args.files.now)) c.args.request.file _ _ _ c.in-Err.fault _ _ _ _ c.in-Err.ensures.fault c.tell_unread.ensures,
+  behind _ _ _ _ _ _ _ _ _ refl (not_read (disk_of (g.F.Files.holds c.args.files.now) (g.F.Files.fails c.args.files.now) (g.F.Files.breaks c.args.files.now) (g.F.Files.is_one c.args.files.now)) c.args.request.file _ _ _ c.in-Err.fault _ _ _ _ c.in-Err.ensures.fault c.tell_unread.ensures),
 )
 
 pub returns-in-Ok : goal.returns-in-Ok
 returns-in-Ok g c =
-    on_file_taking (g.F.Files.did c.args.files.now c.carry_out_sim.new.files) (disk_of (g.F.Files.holds c.args.files.now) (g.F.Files.fails c.args.files.now) (g.F.Files.breaks c.args.files.now) (g.F.Files.is_one c.args.files.now)) c.args.request.file.now c.deref.result.now (subst (λ bytes. g.F.Files.holds c.args.files.now c.args.request.file.now bytes) (sym c.deref.ensures.value) c.in-Ok.ensures.bytes)
+    behind_nothing _ _ _ _ _ _ _ _ refl (on_file_taking (g.F.Files.did c.args.files.now c.carry_out_sim.new.files) (disk_of (g.F.Files.holds c.args.files.now) (g.F.Files.fails c.args.files.now) (g.F.Files.breaks c.args.files.now) (g.F.Files.is_one c.args.files.now)) c.args.request.file.now c.deref.result.now (subst (λ bytes. g.F.Files.holds c.args.files.now c.args.request.file.now bytes) (sym c.deref.ensures.value) c.in-Ok.ensures.bytes)
     (λ text. IsSimProduct text (delays c.args.request.rise c.args.request.fall) c.args.request.from.now c.args.request.to.now (words_of c.args.request.at) (words_of c.args.request.vcd)) (λ text. HasNoReport text (delays c.args.request.rise c.args.request.fall) c.args.request.from.now c.args.request.to.now (words_of c.args.request.at)) _ _ _
-    (rw (c.read.ensures.stays, c.in-Some.ensures.delay) at c.carry_out_sim.ensures)
+    (rw (c.read.ensures.stays, c.in-Some.ensures.delay) at c.carry_out_sim.ensures))

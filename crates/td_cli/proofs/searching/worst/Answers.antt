@@ -1,10 +1,11 @@
+use Rattle.std.proofs.Common.{inr}
 use Rattle.std.proofs.lemmas.Result.{err_from_is_err_and}
 use Rattle.td_search.specs.Problems.{problem_by}
 use Rattle.td_cli.proofs.Questions.{asked_held, asked_flips, no_answer, certificate_spelled, pair_fits}
 use Rattle.td_cli.proofs.searching.worst.Goals as goal
 
-pub worst_with-searched-requires-clause-held : goal.worst_with-searched-requires-clause-held
-worst_with-searched-requires-clause-held g c κs within = asked_held c.args.text.now c.args.default c.args.words _ c.in_ok-circuit.ensures.asked
+pub worst_watched-searched-requires-clause-held : goal.worst_watched-searched-requires-clause-held
+worst_watched-searched-requires-clause-held g c κs within = asked_held c.args.text.now c.args.default c.args.words _ c.in_ok-circuit.ensures.asked
 
 pub returns-in-Err-clause-refusal : goal.returns-in-Err-clause-refusal
 returns-in-Err-clause-refusal g c =
@@ -40,3 +41,27 @@ with_chain-requires-clause-second_fits g c =
 pub returns-in_err-explained-clause-refusal : goal.returns-in_err-explained-clause-refusal
 returns-in_err-explained-clause-refusal g c =
     let p = err_from_is_err_and c.from_residual-in_err-explained.result c.from_residual-in_err-explained.ensures.1 in rw (p.1, p.2) tt
+
+pub returns-in-Err-clause-told : goal.returns-in-Err-clause-told
+returns-in-Err-clause-told g c =
+    inr (problem_by c.args.words.strategy c.in_ok-circuit.field-0.circuit c.in_ok-circuit.field-0.admit, c.in_ok-circuit.ensures.asked, c.worst_watched-searched.ensures.told)
+
+pub returns-in_err-report-clause-told : goal.returns-in_err-report-clause-told
+returns-in_err-report-clause-told g c =
+    inr (problem_by c.args.words.strategy c.in_ok-circuit.field-0.circuit c.in_ok-circuit.field-0.admit, c.in_ok-circuit.ensures.asked, c.worst_watched-searched.ensures.told)
+
+pub returns-in_err-pair-clause-told : goal.returns-in_err-pair-clause-told
+returns-in_err-pair-clause-told g c =
+    inr (problem_by c.args.words.strategy c.in_ok-circuit.field-0.circuit c.in_ok-circuit.field-0.admit, c.in_ok-circuit.ensures.asked, c.worst_watched-searched.ensures.told)
+
+pub returns-in_err-explained-clause-told : goal.returns-in_err-explained-clause-told
+returns-in_err-explained-clause-told g c =
+    inr (problem_by c.args.words.strategy c.in_ok-circuit.field-0.circuit c.in_ok-circuit.field-0.admit, c.in_ok-circuit.ensures.asked, c.worst_watched-searched.ensures.told)
+
+pub returns-in_err-dump-clause-told : goal.returns-in_err-dump-clause-told
+returns-in_err-dump-clause-told g c =
+    inr (problem_by c.args.words.strategy c.in_ok-circuit.field-0.circuit c.in_ok-circuit.field-0.admit, c.in_ok-circuit.ensures.asked, c.worst_watched-searched.ensures.told)
+
+pub returns-clause-told : goal.returns-clause-told
+returns-clause-told g c =
+    inr (problem_by c.args.words.strategy c.in_ok-circuit.field-0.circuit c.in_ok-circuit.field-0.admit, c.in_ok-circuit.ensures.asked, c.worst_watched-searched.ensures.told)

@@ -1,43 +1,51 @@
-use Rattle.std.proofs.Common.{◌≡◌, ◌∙◌, sym, codes, Some, None}
+use Rattle.std.proofs.Common.{◌≡◌, ◌∙◌, sym, refl, codes, Some, None}
 use Rattle.clap.specs.Words.{found_of}
 use Rattle.clap.proofs.WalkLemmas.{first_value-rows}
+use Rattle.td_command.proofs.CommandLines.{only_worst}
 use Rattle.td_command.proofs.command.worst_of.Goals as goal
 
 pub returns-in_err-file : goal.returns-in_err-file
-returns-in_err-file c = rw c.from_residual.ensures (λ asked has.
-    let no : None ≡ Some asked.file.now = c.in_err-file.ensures ∙ first_value-rows (found_of c.args.matches.now) (codes "FILE") ∙ has.file in cc)
+returns-in_err-file c = rw c.from_residual.ensures (only_worst (λ asked has.
+    let no : None ≡ Some asked.file.now = c.in_err-file.ensures ∙ first_value-rows (found_of c.args.matches.now) (codes "FILE") ∙ has.file in cc))
 
 pub returns-in_err-flips : goal.returns-in_err-flips
-returns-in_err-flips c = rw c.from_residual-in_err-flips.ensures (λ asked has. c.in_err-flips.ensures _ has.flips)
+returns-in_err-flips c = rw c.from_residual-in_err-flips.ensures (only_worst (λ asked has. c.in_err-flips.ensures _ has.flips))
 
 pub returns-in_err-workers : goal.returns-in_err-workers
-returns-in_err-workers c = rw c.from_residual-in_err-workers.ensures (λ asked has. c.in_err-workers.ensures _ has.workers)
+returns-in_err-workers c = rw c.from_residual-in_err-workers.ensures (only_worst (λ asked has. c.in_err-workers.ensures _ has.workers))
 
 pub returns-in_err-strategy : goal.returns-in_err-strategy
-returns-in_err-strategy c = rw c.from_residual-in_err-strategy.ensures (λ asked has. c.in_err-strategy.ensures _ has.strategy)
+returns-in_err-strategy c = rw c.from_residual-in_err-strategy.ensures (only_worst (λ asked has. c.in_err-strategy.ensures _ has.strategy))
 
 pub returns-in_err-budget : goal.returns-in_err-budget
-returns-in_err-budget c = rw c.from_residual-in_err-budget.ensures (λ asked has. c.in_err-budget.ensures _ has.budget)
+returns-in_err-budget c = rw c.from_residual-in_err-budget.ensures (only_worst (λ asked has. c.in_err-budget.ensures _ has.budget))
 
 pub returns-in_err-path : goal.returns-in_err-path
-returns-in_err-path c = rw c.from_residual-in_err-path.ensures (λ asked has. c.in_err-path.ensures _ has.path)
+returns-in_err-path c = rw c.from_residual-in_err-path.ensures (only_worst (λ asked has. c.in_err-path.ensures _ has.path))
+
+pub returns-in_err-progress : goal.returns-in_err-progress
+returns-in_err-progress c = rw c.from_residual-in_err-progress.ensures (only_worst (λ asked has. c.in_err-progress.ensures _ has.progress))
 
 pub returns-in_err-default : goal.returns-in_err-default
-returns-in_err-default c = rw c.from_residual-in_err-default.ensures (λ asked has. c.in_err-default.ensures _ has.default)
+returns-in_err-default c = rw c.from_residual-in_err-default.ensures (only_worst (λ asked has. c.in_err-default.ensures _ has.default))
 
 pub returns : goal.returns
-returns c = record {
-  file = sym (c.in_ok-file.ensures ∙ first_value-rows (found_of c.args.matches.now) (codes "FILE"));
-  first = sym (c.get_str-2.ensures ∙ first_value-rows (found_of c.args.matches.now) (codes "first"));
-  second = sym (c.get_str-3.ensures ∙ first_value-rows (found_of c.args.matches.now) (codes "second"));
-  hold = sym (c.get_str-4.ensures ∙ first_value-rows (found_of c.args.matches.now) (codes "hold"));
-  flips = c.in_ok-flips.ensures;
-  at = sym (c.get_str-5.ensures ∙ first_value-rows (found_of c.args.matches.now) (codes "at"));
-  workers = c.in_ok-workers.ensures;
-  strategy = c.in_ok-strategy.ensures;
-  budget = c.in_ok-budget.ensures;
-  certificate = sym (c.get_str-6.ensures ∙ first_value-rows (found_of c.args.matches.now) (codes "cert"));
-  vcd = sym (c.get_str-7.ensures ∙ first_value-rows (found_of c.args.matches.now) (codes "vcd"));
-  path = c.in_ok-path.ensures;
-  default = rw c.default-2.view_is c.in_ok-default.ensures;
-}
+returns c = (
+  refl,
+  record {
+    file = sym (c.in_ok-file.ensures ∙ first_value-rows (found_of c.args.matches.now) (codes "FILE"));
+    first = sym (c.get_str-2.ensures ∙ first_value-rows (found_of c.args.matches.now) (codes "first"));
+    second = sym (c.get_str-3.ensures ∙ first_value-rows (found_of c.args.matches.now) (codes "second"));
+    hold = sym (c.get_str-4.ensures ∙ first_value-rows (found_of c.args.matches.now) (codes "hold"));
+    flips = c.in_ok-flips.ensures;
+    at = sym (c.get_str-5.ensures ∙ first_value-rows (found_of c.args.matches.now) (codes "at"));
+    workers = c.in_ok-workers.ensures;
+    strategy = c.in_ok-strategy.ensures;
+    budget = c.in_ok-budget.ensures;
+    certificate = sym (c.get_str-6.ensures ∙ first_value-rows (found_of c.args.matches.now) (codes "cert"));
+    vcd = sym (c.get_str-7.ensures ∙ first_value-rows (found_of c.args.matches.now) (codes "vcd"));
+    path = c.in_ok-path.ensures;
+    progress = c.in_ok-progress.ensures;
+    default = rw c.default-2.view_is c.in_ok-default.ensures;
+  },
+)

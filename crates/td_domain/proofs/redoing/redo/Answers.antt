@@ -1,9 +1,12 @@
-use Rattle.std.proofs.Common.{◌≡◌, ◌*◌, ◌/◌, ◌<◌, ◌∙◌, ℕ, List, length, set, arith}
+use Rattle.std.proofs.Common.{◌≡◌, ◌+◌, ◌*◌, ◌/◌, ◌<◌, ◌∙◌, ℕ, true, List, length, set, arith}
 use Rattle.std.proofs.lemmas.List.{length-set}
 use Rattle.td_domain.specs.declared.cubes.Trit.{Trit}
 use Rattle.td_domain.specs.declared.cubes.Trit.TheVariants.{Free}
 use Rattle.td_domain.proofs.Moments.{moment_at, moment_early}
 use Rattle.td_domain.proofs.Redoings.{can-redo, near-input, redone-page}
+use Rattle.td_domain.proofs.Settling.{settled-first}
+use Rattle.td_gates.proofs.Places.{slice_get-set_same}
+use Rattle.td_circuit.proofs.Nets.{length-nets}
 use Rattle.td_domain.proofs.redoing.redo.Goals as goal
 
 -- there is a moment for the input of a position
@@ -34,6 +37,15 @@ redo_gates-requires-clause-can g c =
     (below_here c.args.circuit.now.moments c.moments-moments.result.now c.args.cube.now c.args.position _
     c.moments-moments.ensures.moments c.moments-moments.ensures.fit.count c.requires.position c.requires.page.positions)
     c.moments-moments.ensures.fit.within) c.in_ok-signal.ensures c.requires.page.front.reaches))
+
+pub redo_gates-requires-clause-settled : goal.redo_gates-requires-clause-settled
+redo_gates-requires-clause-settled g c =
+    let early : c.args.position / 2 < length c.args.circuit.now.netlist.inputs =
+    omega (arith, c.requires.position, length-set c.args.cube.now c.args.position Free, c.requires.page.positions) in
+    rw c.put.ensures.signals (settled-first g.D.Domain.functions c.args.circuit.now c.gates-numbering.ensures.numbering g.D.Domain.reach
+    _ c.args.signals.now (c.args.position / 2) c.in_ok-signal.signal _ c.requires.page.count c.requires.page.front early
+    (slice_get-set_same c.fill.new.self (2 + c.args.position / 2) true
+    (omega (arith, early, c.fill.ensures.len, c.requires.marks, c.requires.page.count, length-nets c.args.circuit.now c.gates-numbering.ensures.numbering))))
 
 pub returns-in-Ok-clause-page : goal.returns-in-Ok-clause-page
 returns-in-Ok-clause-page g c =

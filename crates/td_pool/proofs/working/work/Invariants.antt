@@ -9,4 +9,5 @@ invariant-loop g l = record {
   seat : l.found.seat.table ≡ l.fn.shared.word.table;
   found : IsTrueFound (problem_by g.F.Finder.by l.fn.circuit l.fn.admit) l.found;
   part : 0 < l.share.parts;
+  told : g.W.Watch.told (problem_by g.F.Finder.by l.fn.circuit l.fn.admit) l.fn.watch l.watch;
 }

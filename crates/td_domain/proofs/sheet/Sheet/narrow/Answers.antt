@@ -1,9 +1,9 @@
-use Rattle.std.proofs.Common.{◌≡◌, ◌∙◌, ◌/◌, ◌++◌, ◌∷◌, [], length, set, take, drop, sym, ap, arith}
+use Rattle.std.proofs.Common.{◌≡◌, ◌∙◌, ◌/◌, ◌++◌, ◌∷◌, [], length, set, take, drop, sym, ap, subst, arith}
 use Rattle.std.proofs.lemmas.List.{length-set}
 use Rattle.std.specs.Prelude.{slice_get}
 use Rattle.td_gates.proofs.Places.{slice_get-some}
 use Rattle.td_domain.specs.declared.cubes.Trit.TheVariants.{Free}
-use Rattle.td_domain.specs.Sheets.{Shown, page_of}
+use Rattle.td_domain.specs.Sheets.{Shown, page_of, IsPage}
 use Rattle.td_domain.proofs.Sheeting.{written, free-again, few-reached, cones-kept, pages-more, undoable-more, still-sheet}
 use Rattle.td_domain.proofs.sheet.Sheet.narrow.Goals as goal
 
@@ -19,6 +19,14 @@ index_mut-requires g c =
     ap (λ (s : Shown _). length s.cones) c.self.view_is ∙ c.requires.sheet.cones.count in
     omega (arith, here, count, c.requires.sheet.page.positions, ap length c.deref_mut.ensures.value, c.deref_mut.ensures.len)
 
+pub redo-redone-requires-clause-page : goal.redo-redone-requires-clause-page
+redo-redone-requires-clause-page g c =
+    let free : set c.set.new.self c.args.position Free ≡ c.self.inside.cube =
+    ap (λ q. set q c.args.position Free) c.set.ensures
+    ∙ free-again c.self.inside.cube c.args.position c.known.result (ap (λ (s : Shown _). slice_get s.cube c.args.position) c.self.view_is ∙ c.requires.free) in
+    rw (free, c.deref_mut-2.ensures.value) (subst (λ (s : Shown _). IsPage g.D.Domain.functions g.D.Domain.reach c.args.circuit.now (page_of s))
+    (sym c.self.view_is) c.requires.sheet.page)
+
 pub invariant_of-self-in-Ok : goal.invariant_of-self-in-Ok
 invariant_of-self-in-Ok g c =
     let signals : take c.self.inside.signals.len (c.redo-redone.new.signals ++ drop (length c.redo-redone.new.signals) c.self.inside.signals.items) ≡ c.redo-redone.new.signals =
@@ -28,12 +36,17 @@ invariant_of-self-in-Ok g c =
     let positions : length c.set.new.self ≡ length c.self.inside.cube = ap length c.set.ensures ∙ length-set c.self.inside.cube c.args.position c.known.result in
     let here = slice_get-some c.args.self.now.cube c.args.position Free c.requires.free in
     let cube : c.self.inside.cube ≡ c.args.self.now.cube = ap (λ (s : Shown _). s.cube) c.self.view_is in
-    rw (signals, count, positions) (
+    let marks : take c.self.inside.changed.len (c.redo-redone.new.changed ++ drop (length c.redo-redone.new.changed) c.self.inside.changed.items) ≡ c.redo-redone.new.changed =
+    written c.self.inside.changed.items c.redo-redone.new.changed c.self.inside.changed.len
+    (c.redo-redone.ensures.marks ∙ ap length c.deref_mut-3.ensures.value) (omega (arith, ap length c.deref_mut-3.ensures.value, c.deref_mut-3.ensures.len)) in
+    let marks_count : length c.redo-redone.new.changed ≡ length c.self.inside.signals.items = c.redo-redone.ensures.marks ∙ ap length c.deref_mut-3.ensures.value ∙ c.self.invariant.2 in
+    rw (signals, count, positions, marks) (
       undoable-more (length c.self.inside.cube) (length c.self.inside.signals.items) c.args.position c.in-Ok.replaced
           c.self.inside.narrowings.items c.push_reserved.new.self.items
           (c.push_reserved.ensures.items ∙ ap (λ ns. ns ++ record { position = c.args.position; replaced = c.in-Ok.replaced } ∷ []) c.reserve.ensures.items)
           (omega (arith, here, ap length cube)) (rw c.deref_mut-2.ensures.value at c.in-Ok.ensures.within) c.self.invariant.0,
       c.self.invariant.1,
+      marks_count,
     )
 
 pub set-requires-in-Err : goal.set-requires-in-Err
@@ -50,7 +63,11 @@ invariant_of-self-in-Err g c =
     let count : length c.redo-redone.new.signals ≡ length c.self.inside.signals.items = c.redo-redone.ensures.len ∙ ap length c.deref_mut-2.ensures.value in
     let positions : length c.set-in-Err.new.self ≡ length c.self.inside.cube =
     ap length c.set-in-Err.ensures ∙ length-set c.set.new.self c.args.position Free ∙ ap length c.set.ensures ∙ length-set c.self.inside.cube c.args.position c.known.result in
-    rw (signals, count, positions, c.reserve.ensures.items) c.self.invariant
+    let marks : take c.self.inside.changed.len (c.redo-redone.new.changed ++ drop (length c.redo-redone.new.changed) c.self.inside.changed.items) ≡ c.redo-redone.new.changed =
+    written c.self.inside.changed.items c.redo-redone.new.changed c.self.inside.changed.len
+    (c.redo-redone.ensures.marks ∙ ap length c.deref_mut-3.ensures.value) (omega (arith, ap length c.deref_mut-3.ensures.value, c.deref_mut-3.ensures.len)) in
+    let marks_count : length c.redo-redone.new.changed ≡ length c.self.inside.signals.items = c.redo-redone.ensures.marks ∙ ap length c.deref_mut-3.ensures.value ∙ c.self.invariant.2 in
+    rw (signals, count, positions, c.reserve.ensures.items, marks) (c.self.invariant.0, c.self.invariant.1, marks_count)
 
 pub returns-in-Ok-clause-sheet : goal.returns-in-Ok-clause-sheet
 returns-in-Ok-clause-sheet g c =

@@ -1,4 +1,4 @@
-use Rattle.std.proofs.Common.{◌∙◌}
+use Rattle.std.proofs.Common.{◌∙◌, arith}
 use Rattle.td_circuit.specs.Numbering.{nets}
 use Rattle.td_circuit.proofs.Nets.{numbers-below}
 use Rattle.td_domain.proofs.sheet.Sheet.new.Goals as goal
@@ -8,6 +8,7 @@ invariant_of-result g c = (
   rw c.new.ensures.items tt,
   rw (c.in_ok-from_slice.ensures.items, c.outputs.ensures, c.in_ok-signals.ensures.all)
       (numbers-below (nets c.args.circuit.now) c.args.circuit.now.outputs _ c.in_ok-signals.ensures.numbering.outputs),
+  omega (arith, c.in_ok-vec.ensures.len, c.in_ok-vec.field-0.ok, c.net_count.ensures, c.in_ok-signals.ensures.all),
 )
 
 pub returns-clause-sheet : goal.returns-clause-sheet

@@ -1,0 +1,100 @@
+Dumps of runs. An inverter with rise delay 2 and fall delay 3: its input rises; becomes unknown; stays; and begins unknown. The levels before
+the first change stand under #0, those from moment t on under #(t+1).
+
+  $ cat > inverter.v <<'END'
+  > module t (a, y);
+  > input a;
+  > output y;
+  > not #(2,3) g(y,a);
+  > endmodule
+  > END
+  $ tdelay sim inverter.v 0 1 --vcd -
+  $version tdelay 1 $end
+  $timescale 1 ns $end
+  $scope module t $end
+  $var wire 1 ! a $end
+  $var wire 1 " y $end
+  $upscope $end
+  $enddefinitions $end
+  #0
+  $dumpvars
+  0!
+  1"
+  $end
+  #1
+  1!
+  #4
+  0"
+  $ tdelay sim inverter.v 0 x --vcd - | sed '1,/enddefinitions/d' | paste -sd' '
+  #0 $dumpvars 0! 1" $end #1 x! #3 x"
+  $ tdelay sim inverter.v 0 0 --vcd - | sed '1,/enddefinitions/d' | paste -sd' '
+  #0 $dumpvars 0! 1" $end
+  $ tdelay sim inverter.v x 0 --vcd - | sed '1,/enddefinitions/d' | paste -sd' '
+  #0 $dumpvars x! x" $end #1 0! #3 1"
+
+A pulse of one moment.
+
+  $ echo 'module t (a, y); input a; output y; not #1 n(b,a); and #1 g(y,a,b); endmodule' > pulse.v
+  $ tdelay sim pulse.v 0 1 --vcd -
+  $version tdelay 1 $end
+  $timescale 1 ns $end
+  $scope module t $end
+  $var wire 1 ! a $end
+  $var wire 1 " b $end
+  $var wire 1 # y $end
+  $upscope $end
+  $enddefinitions $end
+  #0
+  $dumpvars
+  0!
+  1"
+  0#
+  $end
+  #1
+  1!
+  #2
+  0"
+  1#
+  #3
+  0#
+
+Constants have no variable.
+
+  $ echo "module t (y); output y; and #1 g(y,1'b1,1'b1); endmodule" > constant.v
+  $ tdelay sim constant.v none none --vcd -
+  $version tdelay 1 $end
+  $timescale 1 ns $end
+  $scope module t $end
+  $var wire 1 ! y $end
+  $upscope $end
+  $enddefinitions $end
+  #0
+  $dumpvars
+  1!
+  $end
+
+Names of each kind, and another unit.
+
+  $ cat > names.v <<'END'
+  > `timescale 10ps/10ps
+  > module \a+b (input [1:0] a, input \p+q , output y);
+  > and (y, a[1], a[0], \p+q );
+  > endmodule
+  > END
+  $ tdelay sim names.v 000 000 --vcd -
+  $version tdelay 1 $end
+  $timescale 10 ps $end
+  $scope module \a+b $end
+  $var wire 1 ! a[1] $end
+  $var wire 1 " a[0] $end
+  $var wire 1 # \p+q $end
+  $var wire 1 $ y $end
+  $upscope $end
+  $enddefinitions $end
+  #0
+  $dumpvars
+  0!
+  0"
+  0#
+  0$
+  $end

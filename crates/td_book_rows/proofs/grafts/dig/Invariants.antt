@@ -1,5 +1,0 @@
-use Rattle.std.proofs.Common.{◌≡◌}
-use Rattle.td_book_rows.proofs.grafts.dig.Given as goal
-
-abbrev pub invariant-loop : goal.invariant-loop
-invariant-loop l = record { cube : l.tree.cube ≡ l.initial.tree.cube }

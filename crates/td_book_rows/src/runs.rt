@@ -1,0 +1,214 @@
+//! Books step by step, and what they tell: of a lease its worker, number, allowance and cube.
+
+use crate::claims::free_book;
+use crate::steps::told;
+use std::alloc::{AllocError, Global};
+use std::process::Abort;
+use std::test::Fail;
+use td_book::Book;
+use td_domain::{Cube, Trit};
+
+// The nodes of a book's tree, if they are the same in a vector that has their room.
+fn nodes_told(alloc: Global, book: Book) -> Result<String, AllocError> {
+    let tree = book.into_tree();
+    let nodes = tree.nodes(alloc)?;
+    let again = tree.nodes_in(Vec::with_capacity(alloc, tree.len() as usize)?);
+    if again != nodes
+        || !tree
+            .cube()
+            .has_trits(&[Trit::One, Trit::Free, Trit::Free, Trit::Zero])
+    {
+        return Err(AllocError);
+    }
+    format!(in alloc; "{nodes:?}")
+}
+
+// A book whose root has two known bits.
+fn known_book(rt: &impl Abort, alloc: Global) -> Result<Book, AllocError> {
+    let trits = Vec::from_slice(alloc, &[Trit::One, Trit::Free, Trit::Free, Trit::Zero])?;
+    let cube = Cube::new(trits);
+    assert!(rt; cube.len() == 4);
+    Book::new(alloc, cube, 1, 3)
+}
+
+#[test]
+fn a_split_and_two_closes(rt: HostRuntime) -> Result<(), Fail> {
+    let alloc = rt.alloc();
+    let mut book = known_book(&rt, alloc)?;
+    assert!(rt; book.positions() == 4 && book.workers() == 1);
+    assert_eq!(rt;
+        told(alloc, &mut book, "00s0b0e0")?.as_str(),
+        "0 0 3 1..0
+idle
+split 1 2
+0 1 2 10.0
+closed
+0 2 1 11.0
+closed
+done
+3 handled
+"
+    );
+    assert_eq!(rt;
+        nodes_told(alloc, book)?.as_str(),
+        "[Node { number: 0, state: Split(1) }, Node { number: 1, state: Closed(Bound(Arrival), 3, 4) }, Node { number: 2, state: Closed(Empty, 3, 4) }]"
+    );
+    Ok(())
+}
+
+#[test]
+fn a_released_leaf_is_leased_again(rt: HostRuntime) -> Result<(), Fail> {
+    let mut book = free_book(rt.alloc(), 1, 1, 1)?;
+    assert_eq!(rt;
+        told(rt.alloc(), &mut book, "0r0")?.as_str(),
+        "0 0 1 ..
+released
+0 0 1 ..
+0 handled
+"
+    );
+    Ok(())
+}
+
+#[test]
+fn no_more_than_the_budget(rt: HostRuntime) -> Result<(), Fail> {
+    let mut book = free_book(rt.alloc(), 2, 1, 0)?;
+    assert_eq!(rt;
+        told(rt.alloc(), &mut book, "0")?.as_str(),
+        "spent\n0 handled\n"
+    );
+    let mut book = free_book(rt.alloc(), 2, 2, 2)?;
+    assert_eq!(rt;
+        told(rt.alloc(), &mut book, "1s01p1")?.as_str(),
+        "1 0 1 ....
+split 1 2
+0 1 1 0...
+idle
+closed
+spent
+2 handled
+"
+    );
+    Ok(())
+}
+
+#[test]
+fn claims_by_number(rt: HostRuntime) -> Result<(), Fail> {
+    let mut book = free_book(rt.alloc(), 1, 2, 10)?;
+    assert_eq!(rt;
+        told(rt.alloc(), &mut book, "0XYsZCA")?.as_str(),
+        "0 0 1 ..
+none
+none
+split 1 2
+1 2 1 1.
+none
+none
+1 handled
+"
+    );
+    // beyond the budget
+    let mut book = free_book(rt.alloc(), 1, 2, 2)?;
+    assert_eq!(rt;
+        told(rt.alloc(), &mut book, "0sZBrB")?.as_str(),
+        "0 0 1 ..
+split 1 2
+1 2 1 1.
+none
+released
+0 1 1 0.
+1 handled
+"
+    );
+    Ok(())
+}
+
+#[test]
+fn allowances_of_a_root(rt: HostRuntime) -> Result<(), Fail> {
+    let mut book = free_book(rt.alloc(), 2, 1, 100)?;
+    assert_eq!(rt;
+        told(rt.alloc(), &mut book, "0")?.as_str(),
+        "0 0 64 ....\n0 handled\n"
+    );
+    let mut book = free_book(rt.alloc(), 2, 1, 63)?;
+    assert_eq!(rt;
+        told(rt.alloc(), &mut book, "0")?.as_str(),
+        "0 0 63 ....\n0 handled\n"
+    );
+    Ok(())
+}
+
+// Of two workers, with a budget of 15, where the nodes lie deeper and deeper.
+#[test]
+fn allowances_from_eight_fixed_positions(rt: HostRuntime) -> Result<(), Fail> {
+    let mut book = free_book(rt.alloc(), 5, 2, 15)?;
+    assert_eq!(rt;
+        told(rt.alloc(), &mut book, "0s0s0s0s0s0s0s0s0s0s")?.as_str(),
+        "0 0 1 ..........
+split 1 2
+0 1 1 0.........
+split 3 4
+0 3 1 00........
+split 5 6
+0 5 1 000.......
+split 7 8
+0 7 1 0000......
+split 9 10
+0 9 1 00000.....
+split 11 12
+0 11 1 000000....
+split 13 14
+0 13 1 0000000...
+split 15 16
+0 15 7 00000000..
+split 17 18
+0 17 6 000000000.
+split 19 20
+10 handled
+"
+    );
+    Ok(())
+}
+
+// Leases of another worker, number, allowance and of other cubes, and one that is closed already.
+#[test]
+fn strangers_come_back(rt: HostRuntime) -> Result<(), Fail> {
+    let mut book = free_book(rt.alloc(), 1, 2, 9)?;
+    assert_eq!(rt;
+        told(rt.alloc(), &mut book, "1cwrnplpmpkswglgpp")?.as_str(),
+        "1 0 1 ..
+stranger 0 0 1 ..
+stranger 1 7 1 ..
+stranger 1 0 2 ..
+stranger 1 0 1 .
+stranger 1 0 1 1.
+1 in a tree, stranger 0 0 1 ..
+2 in a tree, stranger 1 0 2 ..
+closed
+stranger 1 0 1 ..
+1 handled
+"
+    );
+    Ok(())
+}
+
+// The numbers of what a graft leaves open come in the tree's order: where zero sides alone are split, and where the zero sides are closed.
+#[test]
+fn the_numbers_in_the_trees_order(rt: HostRuntime) -> Result<(), Fail> {
+    let mut book = free_book(rt.alloc(), 2, 1, 5)?;
+    assert_eq!(rt;
+        told(rt.alloc(), &mut book, "0g")?.as_str(),
+        "0 0 5 ....\ngrafted 8 6 4 2\n5 handled\n"
+    );
+    let mut book = free_book(rt.alloc(), 2, 1, 64)?;
+    assert_eq!(rt;
+        told(rt.alloc(), &mut book, "0h0h")?.as_str(),
+        "0 0 64 ....
+grafted 5 6
+0 5 59 110.
+grafted
+8 handled
+"
+    );
+    Ok(())
+}

@@ -1,0 +1,172 @@
+-- Parts that are read from files, and joined.
+use Rattle.std.proofs.Common.{◌≡◌, ◌≢◌, ◌⊎◌, ◌++◌, ◌<◌, ◌≤◌, ◌+◌, ℕ, Bool, List, [], ◌∷◌, length, take, get_or, Option, Some, None, refl, sym, subst, inl, inr, arith}
+use Rattle.std.specs.Prelude.{map, All, Contains, IfNone}
+use Rattle.std.specs.List.{AllZip}
+use Rattle.std.specs.Borrow.{Bor}
+use Rattle.std.proofs.lemmas.List.{take_more, take_all, get_or-map, length-map}
+use Rattle.std.proofs.lemmas.List.Elements.{Contains-get_or, All-cons, All-map}
+use Rattle.td_gates.specs.declared.timing.Delay.{Delay}
+use Rattle.td_nets.specs.Netlist.{Netlist}
+use Rattle.td_circuit.specs.Numbering.{Numbered}
+use Rattle.td_domain.specs.declared.cubes.Trit.{Trit}
+use Rattle.td_certificate.specs.declared.certificate.Certificate.{Certificate}
+use Rattle.td_certificate.specs.declared.fault.CertFault.{CertFault}
+use Rattle.td_certificate.specs.Faults.{IsFault}
+use Rattle.td_certificate.specs.Spelling.{HasSpelling}
+use Rattle.td_checker.specs.declared.verdict.CheckFault.{CheckFault}
+use Rattle.td_checker.specs.declared.verdict.CheckFault.TheVariants as check
+use Rattle.td_checker.specs.Checks.{IsCheckFault}
+use Rattle.td_join.specs.declared.fault.JoinFault.{JoinFault}
+use Rattle.td_join.specs.Faults.{IsJoinFault}
+use Rattle.td_cli.specs.declared.refusal.Refusal.{Refusal}
+use Rattle.td_cli.specs.declared.refusal.Refusal.TheVariants as refusal
+use Rattle.td_cli.specs.Disks.{Disk, HoldsOnFile}
+use Rattle.td_cli.specs.Outcomes.{IsCircuitOf, HasNoCircuit, IsRefusedFor, HasNoAnswer}
+use Rattle.td_cli.specs.declared.asking.QuestionWords.{QuestionWords}
+use Rattle.td_cli.specs.WorstReports.{IsAsked}
+use Rattle.td_search.specs.Problems.{Problem}
+use Rattle.td_join.specs.Partition.{IsPartition}
+use Rattle.td_gates.proofs.Places.{slice_get-some}
+use Rattle.td_cli.specs.JoinReports.{TellsNoPart, GivesPart, AreParts, HasNoPart, ArePinned, whole_pins, IsToJoin, IsUnjoinedFor, pin_words}
+use Rattle.td_cli.specs.Parts.{IsOfPart, unjudged, IsOfUnjoined}
+
+-- ---- lists
+
+module _ {A B : Type 0} (R : A → B → Type 0) where
+  zip_push : (xs : List A) (ys : List B) (x : A) (y : B) → AllZip R xs ys → R x y → AllZip R (xs ++ x ∷ []) (ys ++ y ∷ [])
+  zip_push [] [] x y all r = (r, tt)
+  zip_push [] (b ∷ ys) x y all r = absurd all
+  zip_push (a ∷ xs) [] x y all r = absurd all
+  zip_push (a ∷ xs) (b ∷ ys) x y all r = (all.0, zip_push xs ys x y all.1 r)
+
+  pub zip_more : (xs : List A) (ys : List B) (i : ℕ) (d : A) (y : B) → i < length xs → AllZip R (take i xs) ys → R (get_or xs i d) y
+      → AllZip R (take (i + 1) xs) (ys ++ y ∷ [])
+  zip_more xs ys i d y less all r =
+      subst (λ (front : List A). AllZip R front (ys ++ y ∷ [])) (sym (take_more xs i d less)) (zip_push (take i xs) ys (get_or xs i d) y all r)
+
+  pub zip_all : (xs : List A) (ys : List B) (i : ℕ) → length xs ≤ i → AllZip R (take i xs) ys → AllZip R xs ys
+  zip_all xs ys i past all = subst (λ (front : List A). AllZip R front ys) (take_all i xs past) all
+
+zip_mapped : {A B C : Type 0} (f : A → C) (R : C → B → Type 0) (xs : List A) (ys : List B) → AllZip (λ x y. R (f x) y) xs ys → AllZip R (map f xs) ys
+zip_mapped f R [] [] all = tt
+zip_mapped f R [] (b ∷ ys) all = absurd all
+zip_mapped f R (a ∷ xs) [] all = absurd all
+zip_mapped f R (a ∷ xs) (b ∷ ys) all = (all.0, zip_mapped f R xs ys all.1)
+
+-- the text behind a word
+abbrev pub now_of : Bor (List ℕ) → List ℕ
+now_of word = word.now
+
+contains_word : (words : List (Bor (List ℕ))) (i : ℕ) (d : Bor (List ℕ)) → i < length words → Contains (map now_of words) (get_or words i d).now
+contains_word words i d less =
+    let here = Contains-get_or (map now_of words) i d.now (subst (λ count. i < count) (sym (length-map words now_of)) less) in
+    subst (λ (name : List ℕ). Contains (map now_of words) name) (get_or-map now_of words i d d.now less) here
+
+-- ---- the parts
+
+-- a fault of a part's text
+pub bad_part : (text : List ℕ) (default : Delay) (netlist : Netlist) (name : Bor (List ℕ)) (read : List ℕ) (fault : CertFault) (reason : Refusal)
+    → IsFault fault.kind fault.line read → IsOfPart name fault reason → TellsNoPart text default netlist name.now read reason
+bad_part text default netlist name read fault reason is (inl memory) =
+    subst (λ (r : Refusal). TellsNoPart text default netlist name.now read r) (sym memory) tt
+bad_part text default netlist name read fault reason is (inr told) =
+    subst (λ (r : Refusal). TellsNoPart text default netlist name.now read r) (sym told) (refl, is)
+
+-- why a certificate wasn't judged
+pub not_judged : (text : List ℕ) (default : Delay) (netlist : Netlist) (name : Bor (List ℕ)) (read : List ℕ) (fault : CheckFault)
+    → IsCheckFault text default read fault → TellsNoPart text default netlist name.now read (unjudged name fault)
+not_judged text default netlist name read check.OutOfMemory is = tt
+not_judged text default netlist name read (check.Netlist told) is = record { told = is.0; means_none = is.1; has = is.2 }
+not_judged text default netlist name read (check.Loop net) is = is
+not_judged text default netlist name read (check.Certificate told) is = (refl, is.3)
+
+module _ (disk : Disk) (text : List ℕ) (default : Delay) (netlist : Netlist) (check : Bool) where
+  -- all files were read
+  pub parts_read : (words : List (Bor (List ℕ))) (parts : List Certificate) (i : ℕ) → length words ≤ i
+      → AllZip (λ (word : Bor (List ℕ)) (part : Certificate). GivesPart disk text default netlist check word.now part) (take i words) parts
+      → AreParts disk text default netlist check (map now_of words) parts
+  parts_read words parts i past all =
+      zip_mapped now_of (GivesPart disk text default netlist check) words parts
+      (zip_all (λ (word : Bor (List ℕ)) (part : Certificate). GivesPart disk text default netlist check word.now part) words parts i past all)
+
+  -- parts have texts
+  pub parts_spelled : (names : List (List ℕ)) (parts : List Certificate) → AreParts disk text default netlist check names parts → All HasSpelling parts
+  parts_spelled [] [] all = λ k d less. absurd (omega (arith, less))
+  parts_spelled [] (p ∷ parts) all = absurd all
+  parts_spelled (n ∷ names) [] all = absurd all
+  parts_spelled (n ∷ names) (p ∷ parts) all =
+      All-cons HasSpelling p parts (all.0.2.spells.has) (parts_spelled names parts all.1)
+
+-- the file of one word tells no part
+pub no_part : (disk : Disk) (text : List ℕ) (default : Delay) (netlist : Netlist) (words : List (Bor (List ℕ))) (i : ℕ) (d : Bor (List ℕ)) (reason : Refusal)
+    → i < length words → HoldsOnFile disk (get_or words i d).now (TellsNoPart text default netlist (get_or words i d).now) reason
+    → HasNoPart disk text default netlist (map now_of words) reason
+no_part disk text default netlist words i d reason less holds = ((get_or words i d).now, contains_word words i d less, holds)
+
+-- ---- what is joined
+
+-- what is to be joined
+pub to_join : (disk : Disk) (text : List ℕ) (default : Delay) (names : List (List ℕ)) (check : Bool) (first second : Option (List ℕ)) (circuit : Numbered)
+    (count : ℕ) (parts : List Certificate) (given : Option (List Trit)) → IsCircuitOf text default circuit → count ≡ length circuit.netlist.inputs
+    → AreParts disk text default circuit.netlist check names parts → ArePinned count first second given
+    → IsToJoin disk text default names check first second circuit.netlist parts (whole_pins given parts)
+to_join disk text default names check first second circuit count parts given is counts are pinned = record {
+  circuit = record { means = is.means; acyclic = is.acyclic };
+  are_parts = are;
+  given = given;
+  pinned = subst (λ (inputs : ℕ). ArePinned inputs first second given) counts pinned;
+  pins_are = refl;
+}
+
+pub not_joined : (names : List (List ℕ)) (parts : List Certificate) (pins : List Trit) (fault : JoinFault) (reason : Refusal)
+    → IsJoinFault parts pins fault → IsOfUnjoined names fault reason → reason ≢ refusal.OutOfMemory → IsUnjoinedFor names parts pins reason
+not_joined names parts pins fault reason has (inl memory) other = absurd (other memory)
+not_joined names parts pins fault reason has (inr told) other =
+    subst (λ (r : Refusal). IsUnjoinedFor names parts pins r) (sym told.is) (told.told, has, told.one_is, told.other_is)
+
+-- no file that is read is written over
+pub all_kept : (P : List ℕ → Type 0) (words : List (Bor (List ℕ))) (i : ℕ) → length words ≤ i → All (λ (word : Bor (List ℕ)). P word.now) (take i words)
+    → All P (map now_of words)
+all_kept P words i past all =
+    All-map P now_of words (subst (λ (front : List (Bor (List ℕ))). All (λ (word : Bor (List ℕ)). P word.now) front) (take_all i words past) all)
+
+-- one of those that are read is written over
+pub one_over : (P : List ℕ → Type 0) (words : List (Bor (List ℕ))) (i : ℕ) (d : Bor (List ℕ)) → i < length words → P (get_or words i d).now
+    → (name : List ℕ) × Contains (map now_of words) name × P name
+one_over P words i d less holds = ((get_or words i d).now, contains_word words i d less, holds)
+
+-- a netlist without a circuit has no parts to join
+pub no_circuit : (text : List ℕ) (default : Delay) (first second : Option (List ℕ)) (reason : Refusal) → HasNoCircuit text default reason
+    → IsRefusedFor text default (pin_words first second) reason
+no_circuit text default first second refusal.OutOfMemory has = tt
+no_circuit text default first second (refusal.Netlist fault) has = has
+no_circuit text default first second (refusal.Loop net) has = has
+no_circuit text default first second (refusal.BadVector word) has = absurd has.first_bad
+no_circuit text default first second (refusal.Unreadable name) has = absurd has
+no_circuit text default first second (refusal.Certificate fault) has = absurd has
+no_circuit text default first second refusal.NoOutput has = absurd has
+no_circuit text default first second refusal.NoPair has = absurd has
+no_circuit text default first second (refusal.OneFile out file) has = absurd has
+no_circuit text default first second (refusal.BadPart name fault) has = absurd has
+no_circuit text default first second (refusal.Unaccepted name verdict) has = absurd has
+no_circuit text default first second (refusal.OtherCircuit name) has = absurd has
+no_circuit text default first second (refusal.NotJoined fault one other) has = absurd has
+no_circuit text default first second refusal.TooLong has = absurd has
+
+-- where there is no value, and this follows
+pub none_with : {X A B : Type 0} (r : Option X) → (A → B) → IfNone r A → IfNone r B
+none_with (Some x) follows none = tt
+none_with None follows none = follows none
+
+-- without parts no pair is admitted
+pub no_parts : (text : List ℕ) (default : Delay) (words : QuestionWords) (asked : Problem) (cubes : List (List Trit)) (reason : Refusal)
+    → IsAsked text default words asked → IsPartition asked.admit cubes → (reason ≡ refusal.OutOfMemory) ⊎ ((reason ≡ refusal.NoPair) × (length cubes ≡ 0))
+    → HasNoAnswer text default words reason
+no_parts text default words asked cubes reason is partition (inl memory) = subst (λ (r : Refusal). HasNoAnswer text default words r) (sym memory) tt
+no_parts text default words asked cubes reason is partition (inr none) =
+    subst (λ (r : Refusal). HasNoAnswer text default words r) (sym none.0) (
+      asked,
+      is,
+      λ pair admitted.
+          (let lies = partition pair admitted in absurd (omega (arith, slice_get-some cubes lies.place lies.cube lies.at, none.1))),
+    )

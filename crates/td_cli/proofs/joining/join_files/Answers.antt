@@ -1,0 +1,62 @@
+use Rattle.std.proofs.Common.{map, refl, inl, inr}
+use Rattle.std.proofs.lemmas.Result.{err_from_is_err_and}
+use Rattle.td_cli.specs.Vectors.{words_of}
+use Rattle.td_cli.specs.Disks.{disk_of}
+use Rattle.td_cli.specs.JoinReports.{pin_words, whole_pins}
+use Rattle.td_cli.proofs.Refusing.{bad_word}
+use Rattle.td_cli.proofs.Joinings.{now_of, to_join, parts_spelled}
+use Rattle.td_cli.proofs.joining.join_files.Goals as goal
+
+pub returns-in-Err-clause-refusal : goal.returns-in-Err-clause-refusal
+returns-in-Err-clause-refusal g c = λ other. inl
+    (bad_word c.args.text.now c.args.default c.in_ok-circuit.circuit c.input_count.result (pin_words (words_of c.args.first) (words_of c.args.second)) c.in-Err.word
+    c.in_ok-circuit.ensures.circuit c.input_count.ensures (rw c.in-Err.is at c.in_ok-pins.ensures.bad))
+
+pub returns-in_err-parts-clause-refusal : goal.returns-in_err-parts-clause-refusal
+returns-in_err-parts-clause-refusal g c =
+    let told = err_from_is_err_and c.from_residual-in_err-parts.result c.from_residual-in_err-parts.ensures.1 in
+    rw (told.1, told.2) (λ other. inr (inl (
+      c.in_ok-circuit.circuit.netlist,
+      record { means = c.in_ok-circuit.ensures.circuit.means; acyclic = c.in_ok-circuit.ensures.circuit.acyclic },
+      c.in_err-parts.ensures.refusal other,
+    )))
+
+pub returns-in_err-whole-clause-refusal : goal.returns-in_err-whole-clause-refusal
+returns-in_err-whole-clause-refusal g c =
+    let disk = disk_of (g.F.Files.holds c.args.files.now) (g.F.Files.fails c.args.files.now) (g.F.Files.breaks c.args.files.now) (g.F.Files.is_one c.args.files.now) in
+    let told = err_from_is_err_and c.from_residual-in_err-whole.result c.from_residual-in_err-whole.ensures.1 in
+    rw (told.1, told.2) (λ other. inr (inr (record {
+      netlist = c.in_ok-circuit.circuit.netlist;
+      parts = c.in_ok-parts.parts.items;
+      pins = whole_pins c.in-Ok.pins c.in_ok-parts.parts.items;
+      to_join = to_join disk c.args.text.now c.args.default (map now_of c.args.names.now) c.args.is_checked (words_of c.args.first) (words_of c.args.second)
+          c.in_ok-circuit.circuit c.input_count.result c.in_ok-parts.parts.items c.in-Ok.pins c.in_ok-circuit.ensures.circuit c.input_count.ensures
+          c.in_ok-parts.ensures.parts (rw c.in-Ok.is at c.in_ok-pins.ensures.pinned);
+      unjoined = c.in_err-whole.ensures.refusal other;
+    })))
+
+pub returns-in_err-report-clause-refusal : goal.returns-in_err-report-clause-refusal
+returns-in_err-report-clause-refusal g c =
+    let told = err_from_is_err_and c.from_residual-in_err-report.result c.from_residual-in_err-report.ensures.1 in
+    rw (told.1, told.2) (λ other. absurd (other refl))
+
+pub returns-clause-report : goal.returns-clause-report
+returns-clause-report g c =
+    let disk = disk_of (g.F.Files.holds c.args.files.now) (g.F.Files.fails c.args.files.now) (g.F.Files.breaks c.args.files.now) (g.F.Files.is_one c.args.files.now) in
+    record {
+      netlist = c.in_ok-circuit.circuit.netlist;
+      parts = c.in_ok-parts.parts.items;
+      pins = whole_pins c.in-Ok.pins c.in_ok-parts.parts.items;
+      to_join = to_join disk c.args.text.now c.args.default (map now_of c.args.names.now) c.args.is_checked (words_of c.args.first) (words_of c.args.second)
+          c.in_ok-circuit.circuit c.input_count.result c.in_ok-parts.parts.items c.in-Ok.pins c.in_ok-circuit.ensures.circuit c.input_count.ensures
+          c.in_ok-parts.ensures.parts (rw c.in-Ok.is at c.in_ok-pins.ensures.pinned);
+      joined = c.in_ok-whole.ensures.joined;
+      accepted = c.in_ok-whole.ensures.accepted;
+      is = c.in_ok-report.ensures;
+    }
+
+pub returns-clause-spelled : goal.returns-clause-spelled
+returns-clause-spelled g c =
+    let disk = disk_of (g.F.Files.holds c.args.files.now) (g.F.Files.fails c.args.files.now) (g.F.Files.breaks c.args.files.now) (g.F.Files.is_one c.args.files.now) in
+    c.in_ok-whole.ensures.spelled (parts_spelled disk c.args.text.now c.args.default c.in_ok-circuit.circuit.netlist c.args.is_checked (map now_of c.args.names.now)
+    c.in_ok-parts.parts.items c.in_ok-parts.ensures.parts)

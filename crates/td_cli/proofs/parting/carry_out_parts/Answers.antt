@@ -1,0 +1,16 @@
+use Rattle.std.proofs.Common.{refl}
+use Rattle.td_cli.specs.declared.status.Status.TheVariants.{Done}
+use Rattle.td_cli.specs.Outcomes.{HasNoAnswer}
+use Rattle.td_cli.specs.Requests.{IsPartsProduct}
+use Rattle.td_cli.proofs.Programs.{said, refused}
+use Rattle.td_cli.proofs.parting.carry_out_parts.Goals as goal
+
+pub returns-in-Ok : goal.returns-in-Ok
+returns-in-Ok g c =
+    said (IsPartsProduct c.args.text.now c.args.default c.args.words c.args.count) (HasNoAnswer c.args.text.now c.args.default c.args.words) _ c.in-Ok.report Done _ _ _
+    (record { is = c.in-Ok.ensures.report; no_file = refl; ends = refl })
+    _ c.bytes.ensures c.say.ensures
+
+pub returns-in-Err : goal.returns-in-Err
+returns-in-Err g c =
+    refused (IsPartsProduct c.args.text.now c.args.default c.args.words c.args.count) (HasNoAnswer c.args.text.now c.args.default c.args.words) _ c.in-Err.refusal _ _ _ _ (λ _. c.in-Err.ensures.refusal) c.tell_refusal.ensures

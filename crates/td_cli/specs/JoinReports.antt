@@ -1,0 +1,126 @@
+-- What `join` prints, and why it joins nothing.
+use Rattle.std.specs.Prelude.{◌≡◌, ◌≢◌, ◌<◌, ℕ, Bool, true, List, [], ◌∷◌, All, length, get_or, ◌⊎◌, Option, Some, None}
+use Rattle.std.specs.List.{AllZip, Contains}
+use Rattle.td_gates.specs.declared.timing.Delay.{Delay}
+use Rattle.td_nets.specs.Netlist.{Netlist}
+use Rattle.td_domain.specs.declared.cubes.Trit.{Trit}
+use Rattle.td_certificate.specs.declared.certificate.Certificate.{Certificate}
+use Rattle.td_certificate.specs.Accepts.{Accepts, IsOfSize}
+use Rattle.td_certificate.specs.Faults.{IsFault}
+use Rattle.td_certificate.specs.Spelling.{Spells}
+use Rattle.td_checker.specs.declared.verdict.Verdict.TheVariants.{Accepted}
+use Rattle.td_checker.specs.Checks.{HasCircuit, HaveVerdict}
+use Rattle.td_join.specs.declared.fault.JoinFault.TheVariants as fault
+use Rattle.td_join.specs.Joining.{IsJoined, hull}
+use Rattle.td_join.specs.Faults.{IsJoinFault}
+use Rattle.td_search.specs.declared.answers.Answer.TheVariants.{Exact}
+use Rattle.td_cli.specs.declared.vector.VectorWord.TheVariants as vector
+use Rattle.td_cli.specs.declared.refusal.Refusal.{Refusal}
+use Rattle.td_cli.specs.declared.refusal.Refusal.TheVariants as refusal
+use Rattle.td_cli.specs.Vectors.{AreTrits, woven, VectorWords, GivesTrits}
+use Rattle.td_cli.specs.WorstReports.{worst_text}
+use Rattle.td_cli.specs.Outcomes.{HasNoCircuit, IsRefusedFor}
+use Rattle.td_cli.specs.Disks.{Disk, Reads, HoldsOnFile}
+use Rattle.td_cli.specs.JoinTexts.{first_place, second_place}
+
+-- ---- the pins of the whole
+
+-- the options that pin the whole
+abbrev pub pin_words : Option (List ℕ) → Option (List ℕ) → VectorWords
+pin_words first second = (vector.First, GivesTrits first) ∷ (vector.Second, GivesTrits second) ∷ []
+
+-- the pins that the options give for so many inputs, none where both are left out
+abbrev pub ArePinned : ℕ → Option (List ℕ) → Option (List ℕ) → Option (List Trit) → Type 0
+ArePinned inputs first second None = (first ≡ None) × (second ≡ None)
+ArePinned inputs first second (Some pins) =
+    ¬ ((first ≡ None) × (second ≡ None))
+    × (firsts seconds : List Trit) × AreTrits inputs first firsts × AreTrits inputs second seconds × (pins ≡ woven firsts seconds)
+
+-- the pins of the whole: those that are given, or else the least cube that has the pins of all parts
+abbrev pub whole_pins : Option (List Trit) → List Certificate → List Trit
+whole_pins None parts = hull parts
+whole_pins (Some pins) parts = pins
+
+-- ---- the parts
+
+-- For a netlist, a file's bytes spell this certificate, which is of a circuit of its size, and accepted where that is asked for.
+pub record TellsPart (text : List ℕ) (default : Delay) (netlist : Netlist) (check : Bool) (read : List ℕ) (part : Certificate) : Type 0 where
+  pub spells : Spells part read
+  pub sized : IsOfSize netlist part
+  pub accepted : check ≡ true → HaveVerdict text default read Accepted
+
+-- why a file's bytes tell no part; the file's name is told
+abbrev pub TellsNoPart : List ℕ → Delay → Netlist → List ℕ → List ℕ → Refusal → Type 0
+TellsNoPart text default netlist name read (refusal.BadPart told fault) = (told.now ≡ name) × IsFault fault.kind fault.line read
+TellsNoPart text default netlist name read (refusal.Unaccepted told verdict) =
+    (told.now ≡ name) × (verdict ≢ Accepted) × HaveVerdict text default read verdict
+TellsNoPart text default netlist name read (refusal.OtherCircuit told) =
+    (told.now ≡ name) × (part : Certificate) × Spells part read × ¬ IsOfSize netlist part
+TellsNoPart text default netlist name read other = HasNoCircuit text default other
+
+-- the file of this name was read as this part
+abbrev pub GivesPart : Disk → List ℕ → Delay → Netlist → Bool → List ℕ → Certificate → Type 0
+GivesPart disk text default netlist check name part = Reads disk name (λ read. TellsPart text default netlist check read part)
+
+-- the files of these names were read as these parts, in order
+abbrev pub AreParts : Disk → List ℕ → Delay → Netlist → Bool → List (List ℕ) → List Certificate → Type 0
+AreParts disk text default netlist check names parts = AllZip (GivesPart disk text default netlist check) names parts
+
+-- a file of these names can't be read, or tells no part
+abbrev pub HasNoPart : Disk → List ℕ → Delay → Netlist → List (List ℕ) → Refusal → Type 0
+HasNoPart disk text default netlist names reason =
+    (name : List ℕ) × Contains names name × HoldsOnFile disk name (TellsNoPart text default netlist name) reason
+
+-- ---- what is joined
+
+-- the text means a netlist without a loop, the files hold parts of a question about it, and the options give the pins of the whole
+pub record IsToJoin (disk : Disk) (text : List ℕ) (default : Delay) (names : List (List ℕ)) (check : Bool) (first second : Option (List ℕ))
+    (netlist : Netlist) (parts : List Certificate) (pins : List Trit) : Type 0 where
+  pub circuit : HasCircuit text default netlist
+  pub are_parts : AreParts disk text default netlist check names parts
+  pub given : Option (List Trit)
+  pub pinned : ArePinned (length netlist.inputs) first second given
+  pub pins_are : pins ≡ whole_pins given parts
+
+-- The parts are joined into one certificate, and the report tells its time, its pair and the number of its nodes, as that of a search does.
+-- Where each part is accepted of a netlist, so is the whole.
+pub record IsJoinReport (disk : Disk) (text : List ℕ) (default : Delay) (names : List (List ℕ)) (check : Bool) (first second : Option (List ℕ))
+    (report : List ℕ) (whole : Certificate) : Type 0 where
+  pub netlist : Netlist
+  pub parts : List Certificate
+  pub pins : List Trit
+  pub to_join : IsToJoin disk text default names check first second netlist parts pins
+  pub joined : IsJoined parts pins whole
+  pub accepted : (any : Netlist) → All (Accepts any) parts → Accepts any whole
+  pub is : report ≡ worst_text netlist (Exact whole.time whole.pair whole.tree)
+
+-- ---- why nothing is joined
+
+-- the most nodes of a whole
+abbrev pub most_nodes : ℕ
+most_nodes = 10000000
+
+-- why parts aren't joined into a certificate with these pins, told by the files of the two that the fault tells; or what they are joined
+-- into has too many nodes
+abbrev pub IsUnjoinedFor : List (List ℕ) → List Certificate → List Trit → Refusal → Type 0
+IsUnjoinedFor names parts pins (refusal.NotJoined told one other) =
+    (told ≢ fault.OutOfMemory) × IsJoinFault parts pins told
+    × (one.now ≡ get_or names (first_place told) []) × (other.now ≡ get_or names (second_place told) [])
+IsUnjoinedFor names parts pins refusal.TooLong = (whole : Certificate) × IsJoined parts pins whole × (most_nodes < length whole.tree)
+IsUnjoinedFor names parts pins other = ⊥
+
+-- the parts aren't joined
+pub record IsNotJoined (disk : Disk) (text : List ℕ) (default : Delay) (names : List (List ℕ)) (check : Bool) (first second : Option (List ℕ))
+    (reason : Refusal) : Type 0 where
+  pub netlist : Netlist
+  pub parts : List Certificate
+  pub pins : List Trit
+  pub to_join : IsToJoin disk text default names check first second netlist parts pins
+  pub unjoined : IsUnjoinedFor names parts pins reason
+
+-- why `join` has no report: the netlist's text or an option is bad, or a file tells no part, or the parts aren't joined
+abbrev pub HasNoJoin : Disk → List ℕ → Delay → List (List ℕ) → Bool → Option (List ℕ) → Option (List ℕ) → Refusal → Type 0
+HasNoJoin disk text default names check first second reason =
+    IsRefusedFor text default (pin_words first second) reason
+    ⊎ (((netlist : Netlist) × HasCircuit text default netlist × HasNoPart disk text default netlist names reason)
+    ⊎ IsNotJoined disk text default names check first second reason)

@@ -1,0 +1,39 @@
+-- What `parts` prints.
+use Rattle.std.specs.Prelude.{◌≡◌, ◌≤◌, ℕ, List, [], ◌++◌, All, codes, decimal, length, Option, Some, None}
+use Rattle.std.specs.List.{flat_map}
+use Rattle.td_gates.specs.declared.timing.Delay.{Delay}
+use Rattle.td_domain.specs.declared.cubes.Trit.{Trit}
+use Rattle.td_domain.specs.Admits.{HasAdmitted}
+use Rattle.td_search.specs.Problems.{Problem}
+use Rattle.td_join.specs.Partition.{IsPartition}
+use Rattle.td_cli.specs.declared.asking.QuestionWords.{QuestionWords}
+use Rattle.td_cli.specs.Vectors.{words_of}
+use Rattle.td_cli.specs.Reports.{newline}
+use Rattle.td_cli.specs.WorstReports.{IsAsked}
+use Rattle.td_cli.specs.Pinning.{pins_text}
+
+-- an option as it was given, where it was
+abbrev pub option_text : List ℕ → Option (List ℕ) → List ℕ
+option_text name None = []
+option_text name (Some word) = name ++ word
+
+abbrev pub flips_text : Option ℕ → List ℕ
+flips_text None = []
+flips_text (Some flips) = codes " --flips " ++ decimal flips
+
+-- the options of one part: its pins, and what else the question says of its pairs and of the moments
+abbrev pub part_line : QuestionWords → List Trit → List ℕ
+part_line words pins =
+    pins_text pins ++ option_text (codes " --hold ") (words_of words.hold) ++ flips_text words.flips
+    ++ option_text (codes " --at ") (words_of words.at) ++ newline
+
+-- The report has a line for each of at most so many cubes, which share out the admitted pairs of what the words ask of the text: each lies in
+-- exactly one, and in each lies one.
+pub record IsPartsReport (text : List ℕ) (default : Delay) (words : QuestionWords) (parts : ℕ) (report : List ℕ) : Type 0 where
+  pub asked : Problem
+  pub is_asked : IsAsked text default words asked
+  pub cubes : List (List Trit)
+  pub partition : IsPartition asked.admit cubes
+  pub few : length cubes ≤ parts
+  pub some : All (HasAdmitted asked.admit) cubes
+  pub is : report ≡ flat_map (part_line words) cubes

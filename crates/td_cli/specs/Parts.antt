@@ -1,0 +1,35 @@
+-- Internal: how faults of a part's bytes are told.
+use Rattle.std.specs.Prelude.{◌≡◌, ◌≢◌, ℕ, List, [], get_or, ◌⊎◌}
+use Rattle.std.specs.Borrow.{Bor}
+use Rattle.td_certificate.specs.declared.fault.CertFault.{CertFault}
+use Rattle.td_checker.specs.declared.verdict.CheckFault.{CheckFault}
+use Rattle.td_checker.specs.declared.verdict.CheckFault.TheVariants as check
+use Rattle.td_join.specs.declared.fault.JoinFault.{JoinFault}
+use Rattle.td_join.specs.declared.fault.JoinFault.TheVariants as join
+use Rattle.td_cli.specs.JoinTexts.{first_place, second_place}
+use Rattle.td_cli.specs.declared.refusal.Refusal.{Refusal}
+use Rattle.td_cli.specs.declared.refusal.Refusal.TheVariants as refusal
+
+-- the reason tells this fault of the text in the file of this name, or want of memory
+abbrev pub IsOfPart : Bor (List ℕ) → CertFault → Refusal → Type 0
+IsOfPart name fault reason = (reason ≡ refusal.OutOfMemory) ⊎ (reason ≡ refusal.BadPart name fault)
+
+-- the reason that tells why the certificate in the file of this name wasn't judged
+abbrev pub unjudged : Bor (List ℕ) → CheckFault → Refusal
+unjudged name check.OutOfMemory = refusal.OutOfMemory
+unjudged name (check.Netlist fault) = refusal.Netlist fault
+unjudged name (check.Loop net) = refusal.Loop net
+unjudged name (check.Certificate fault) = refusal.BadPart name fault
+
+-- the fault is told, by the names at its places
+pub record TellsUnjoined (names : List (List ℕ)) (fault : JoinFault) (reason : Refusal) : Type 0 where
+  pub one : Bor (List ℕ)
+  pub other : Bor (List ℕ)
+  pub told : fault ≢ join.OutOfMemory
+  pub one_is : one.now ≡ get_or names (first_place fault) []
+  pub other_is : other.now ≡ get_or names (second_place fault) []
+  pub is : reason ≡ refusal.NotJoined fault one other
+
+-- the reason tells this fault, or want of memory
+abbrev pub IsOfUnjoined : List (List ℕ) → JoinFault → Refusal → Type 0
+IsOfUnjoined names fault reason = (reason ≡ refusal.OutOfMemory) ⊎ TellsUnjoined names fault reason

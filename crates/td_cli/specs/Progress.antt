@@ -1,0 +1,33 @@
+-- What is told of a search while it goes on.
+use Rattle.std.specs.Prelude.{◌≡◌, ℕ, Bool, true, false, List, [], ◌∷◌, ◌++◌, ◌⊎◌, codes, decimal}
+use Rattle.td_gates.specs.Output.{Output}
+use Rattle.td_gates.specs.declared.timing.Delay.{Delay}
+use Rattle.td_search.specs.Problems.{Problem}
+use Rattle.td_pool.specs.declared.watch.Progress.{Progress}
+use Rattle.td_pool.specs.Watched.{IsTrueProgress}
+use Rattle.td_cli.specs.declared.asking.QuestionWords.{QuestionWords}
+use Rattle.td_cli.specs.Reports.{newline}
+use Rattle.td_cli.specs.WorstReports.{IsAsked}
+use Rattle.td_cli.specs.Ends.{Tells}
+
+-- how many nodes are handled, a delay that was found, a figure above which none is, and how many leaves are left
+abbrev pub progress_line : Progress → List ℕ
+progress_line progress =
+    codes "nodes " ++ decimal progress.nodes ++ codes " low " ++ decimal progress.low ++ codes " high " ++ decimal progress.high
+    ++ codes " open " ++ decimal progress.open ++ newline
+
+-- a line was told of each of these, which are true of what is asked, and nothing else
+abbrev pub TellsLines : Problem → List Progress → Output → Output → Type 0
+TellsLines asked [] old new = new ≡ old
+TellsLines asked (progress ∷ more) old new =
+    (mid : Output) × IsTrueProgress asked progress × Tells old mid (progress_line progress) × TellsLines asked more mid new
+
+-- lines were told of some progress
+abbrev pub TellsProgress : Problem → Output → Output → Type 0
+TellsProgress asked old new = (told : List Progress) × TellsLines asked told old new
+
+-- what standard error gets while a search goes on: lines of progress where they are asked for, and else nothing
+abbrev pub TellsSearch : Bool → List ℕ → Delay → QuestionWords → Output → Output → Type 0
+TellsSearch false text default words old new = new ≡ old
+TellsSearch true text default words old new =
+    (new ≡ old) ⊎ ((asked : Problem) × IsAsked text default words asked × TellsProgress asked old new)

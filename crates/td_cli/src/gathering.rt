@@ -1,0 +1,171 @@
+//! The parts of a question, as files hold them.
+
+ghost use Rattle.std.specs.Prelude.{◌≡◌, ◌≢◌, ◌↔◌, ℕ, List, true, map, IfOk, IfErr, IsTrue};
+ghost use Rattle.td_nets.specs.Netlist.{Netlist};
+ghost use Rattle.td_gates.specs.declared.timing.Delay.{Delay as Default};
+ghost use Rattle.td_certificate.specs.Accepts.{IsOfSize};
+ghost use Rattle.td_certificate.specs.Spelling.{Spells};
+ghost use Rattle.td_checker.specs.declared.verdict.Verdict.TheVariants as Told;
+ghost use Rattle.td_checker.specs.Checks.{HaveVerdict, HasCircuit};
+ghost use Rattle.td_cli.specs.Disks.{disk_of, HoldsOnFile};
+ghost use Rattle.td_cli.specs.JoinReports.{TellsPart, TellsNoPart, GivesPart, AreParts, HasNoPart};
+ghost use Rattle.td_cli.specs.Parts.{IsOfPart, unjudged};
+ghost use Rattle.td_cli.specs.declared.refusal.Refusal.TheVariants as Reason;
+
+use crate::files::{Files, ReadFault};
+use crate::refusal::Refusal;
+use std::alloc::Global;
+use td_certificate::{CertFault, CertFaultKind, Certificate, read};
+use td_checker::{CheckFault, Verdict, check};
+use td_circuit::Circuit;
+use td_gates::Delay;
+
+/// The reason that tells a fault of a part's text, in the file of this name.
+fn unread<'a>(name: &'a str, fault: CertFault) -> Refusal<'a>
+    ensures { IsOfPart name.entry fault result }
+{
+    match fault.kind {
+        CertFaultKind::OutOfMemory => Refusal::OutOfMemory,
+        _ => Refusal::BadPart(name, fault),
+    }
+}
+
+/// The certificate that a file's bytes spell.
+fn read_part<'a>(alloc: Global, name: &'a str, bytes: &[u8]) -> Result<Certificate, Refusal<'a>>
+    ensures spelled { IfOk result (λ part. Spells part bytes.now) }
+    ensures refusal { IfErr result (λ reason. (text : List ℕ) (default : Default) (netlist : Netlist) → TellsNoPart text default netlist name.now bytes.now reason) }
+{
+    match read(alloc, bytes) {
+        Ok(part) => Ok(part),
+        Err(fault) => Err(unread(name, fault)),
+    }
+}
+
+/// The reason that tells why the certificate in the file of this name wasn't judged.
+fn unjudged<'a>(name: &'a str, fault: CheckFault<'a>) -> Refusal<'a>
+    ensures { result ≡ unjudged name.entry fault.entry }
+{
+    match fault {
+        CheckFault::OutOfMemory => Refusal::OutOfMemory,
+        CheckFault::Netlist(fault) => Refusal::Netlist(fault),
+        CheckFault::Loop(net) => Refusal::Loop(net),
+        CheckFault::Certificate(fault) => Refusal::BadPart(name, fault),
+    }
+}
+
+/// The certificate that a file's bytes spell, if it is accepted.
+fn accepted_part<'a>(
+    alloc: Global,
+    text: &'a [u8],
+    default: Delay,
+    name: &'a str,
+    bytes: &[u8],
+) -> Result<Certificate, Refusal<'a>>
+    ensures spelled { IfOk result (λ part. Spells part bytes.now) }
+    ensures accepted { IfOk result (λ part. HaveVerdict text.now default bytes.now Told.Accepted) }
+    ensures refusal { IfErr result (λ reason. (netlist : Netlist) → TellsNoPart text.now default netlist name.now bytes.now reason) }
+{
+    let checked = match check(alloc, text, default, bytes) {
+        Ok(checked) => checked,
+        Err(fault) => return Err(unjudged(name, fault)),
+    };
+    match checked.verdict {
+        Verdict::Accepted => Ok(checked.certificate),
+        verdict => Err(Refusal::Unaccepted(name, verdict)),
+    }
+}
+
+/// The certificate that a file's bytes spell, which is accepted where that is asked for.
+fn judged_part<'a>(
+    alloc: Global,
+    text: &'a [u8],
+    default: Delay,
+    is_checked: bool,
+    name: &'a str,
+    bytes: &[u8],
+) -> Result<Certificate, Refusal<'a>>
+    ensures spelled { IfOk result (λ part. Spells part bytes.now) }
+    ensures accepted { IfOk result (λ part. is_checked ≡ true → HaveVerdict text.now default bytes.now Told.Accepted) }
+    ensures refusal { IfErr result (λ reason. (netlist : Netlist) → TellsNoPart text.now default netlist name.now bytes.now reason) }
+{
+    if is_checked {
+        accepted_part(alloc, text, default, name, bytes)
+    } else {
+        read_part(alloc, name, bytes)
+    }
+}
+
+/// Whether a certificate is of a circuit with so many inputs and gates.
+fn is_of_size(circuit: &Circuit, part: &Certificate) -> bool
+    ensures { IsTrue result ↔ IsOfSize circuit.now.netlist part.now }
+{
+    circuit.input_count() == part.question.inputs() && circuit.gates().len() == part.gates as usize
+}
+
+/// The part of a question about a circuit that a file's bytes tell.
+fn part<'a>(
+    alloc: Global,
+    text: &'a [u8],
+    default: Delay,
+    circuit: &Circuit,
+    is_checked: bool,
+    name: &'a str,
+    bytes: &[u8],
+) -> Result<Certificate, Refusal<'a>>
+    ensures part { IfOk result (TellsPart text.now default circuit.now.netlist is_checked bytes.now) }
+    ensures refusal { IfErr result (TellsNoPart text.now default circuit.now.netlist name.now bytes.now) }
+{
+    let part = judged_part(alloc, text, default, is_checked, name, bytes)?;
+    if is_of_size(circuit, &part) {
+        Ok(part)
+    } else {
+        Err(Refusal::OtherCircuit(name))
+    }
+}
+
+/// The part that the file of this name holds.
+fn part_in<'a, F: Files>(
+    alloc: Global,
+    files: &mut F,
+    text: &'a [u8],
+    default: Delay,
+    circuit: &Circuit,
+    is_checked: bool,
+    name: &'a str,
+) -> Result<Certificate, Refusal<'a>>
+    ensures part { IfOk result (GivesPart (disk_of (F.holds files.old) (F.fails files.old) (F.breaks files.old) (F.is_one files.old)) text.now default circuit.now.netlist is_checked name.now) }
+    ensures refusal { IfErr result (λ reason. reason ≢ Reason.OutOfMemory
+        → HoldsOnFile (disk_of (F.holds files.old) (F.fails files.old) (F.breaks files.old) (F.is_one files.old)) name.now (TellsNoPart text.now default circuit.now.netlist name.now) reason) }
+    ensures stays { files.new ≡ files.old }
+{
+    match files.read(alloc, name) {
+        Ok(bytes) => part(alloc, text, default, circuit, is_checked, name, &bytes),
+        Err(ReadFault::OutOfMemory) => Err(Refusal::OutOfMemory),
+        Err(ReadFault::Device) => Err(Refusal::Unreadable(name)),
+    }
+}
+
+/// The parts of a question about a circuit that the files of these names hold, in order; each of them accepted where that is asked for.
+pub fn parts_in<'a, F: Files>(
+    alloc: Global,
+    files: &mut F,
+    text: &'a [u8],
+    default: Delay,
+    circuit: &Circuit,
+    is_checked: bool,
+    names: &[&'a str],
+) -> Result<Vec<Certificate>, Refusal<'a>>
+    ensures parts { IfOk result (λ parts. AreParts (disk_of (F.holds files.old) (F.fails files.old) (F.breaks files.old) (F.is_one files.old)) text.now default circuit.now.netlist is_checked
+        (map (λ name. name.now) names.now) parts.items) }
+    ensures refusal { IfErr result (λ reason. reason ≢ Reason.OutOfMemory
+        → HasNoPart (disk_of (F.holds files.old) (F.fails files.old) (F.breaks files.old) (F.is_one files.old)) text.now default circuit.now.netlist
+        (map (λ name. name.now) names.now) reason) }
+    ensures stays { files.new ≡ files.old }
+{
+    let mut parts = Vec::new(alloc);
+    for name in names {
+        let part = part_in(alloc, files, text, default, circuit, is_checked, name)?;
+        parts.push(part)?;
+    }
+    Ok(parts)
+}

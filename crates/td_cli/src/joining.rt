@@ -1,0 +1,239 @@
+//! The command `join`: certificates of the parts of a question, joined into one.
+
+ghost use Rattle.std.specs.Prelude.{◌≡◌, ◌≢◌, ◌<◌, ◌≤◌, ◌^◌, ◌++◌, [], length, map, All, IfOk, IfErr, IfSome, Some};
+ghost use Rattle.td_gates.specs.Delays.{IsInRange};
+ghost use Rattle.td_nets.specs.Netlist.{Netlist};
+ghost use Rattle.td_certificate.specs.Accepts.{Accepts};
+ghost use Rattle.td_certificate.specs.Spelling.{HasSpelling};
+ghost use Rattle.td_join.specs.Joining.{IsJoined};
+ghost use Rattle.td_join.specs.Faults.{IsJoinFault};
+ghost use Rattle.td_command.specs.CommandLine.{delays};
+ghost use Rattle.td_cli.specs.Disks.{disk_of};
+ghost use Rattle.td_cli.specs.Ends.{Ends, streams};
+ghost use Rattle.td_cli.specs.Files.{Takes};
+ghost use Rattle.td_cli.specs.Vectors.{words_of, IsFirstBad};
+ghost use Rattle.td_cli.specs.JoinReports.{pin_words, ArePinned, whole_pins, IsUnjoinedFor, IsToJoin, IsJoinReport, HasNoJoin};
+ghost use Rattle.td_cli.specs.Parts.{IsOfUnjoined};
+ghost use Rattle.td_cli.specs.WorstReports.{worst_text};
+ghost use Rattle.td_search.specs.declared.answers.Answer.TheVariants as Answered;
+ghost use Rattle.td_cli.specs.Requests.{IsJoinProduct, RequestRuns};
+ghost use Rattle.td_cli.specs.declared.refusal.Refusal.TheVariants as Reason;
+ghost use Rattle.td_command.specs.declared.command.Request.TheVariants as Asked;
+
+use crate::files::Files;
+use crate::gathering::parts_in;
+use crate::hindrance::{first_place, name_at, second_place};
+use crate::program::{beside_files, keep_certificate, tell, tell_refusal, tell_unread};
+use crate::refusal::Refusal;
+use crate::report;
+use crate::searching::{exact, pair_of};
+use crate::simulate::circuit;
+use crate::status::Status;
+use crate::text::Text;
+use crate::vector::{VectorWord, cube, given};
+use std::alloc::{AllocError, Global};
+use td_certificate::Certificate;
+use td_circuit::Circuit;
+use td_command::JoinRequest;
+use td_domain::{Cube, Trit};
+use td_gates::{Delay, Sink};
+use td_join::{JoinFault, join, join_in};
+
+/// The most nodes of a whole.
+const MOST_NODES: usize = 10_000_000;
+
+/// What parts were joined into, and its report.
+#[derive(Drop)]
+pub struct Joined {
+    pub report: Text,
+    pub whole: Certificate,
+}
+
+/// The pins that two options give for so many inputs, none where both are left out; or the first that gives nothing for them.
+fn pins_given(
+    alloc: Global,
+    first: Option<&str>,
+    second: Option<&str>,
+    inputs: usize,
+) -> Result<Result<Option<Cube>, VectorWord>, AllocError>
+    ensures pinned { IfOk result (λ told. IfOk told (ArePinned inputs (words_of first.entry) (words_of second.entry))) }
+    ensures bad { IfOk result (λ told. IfErr told (IsFirstBad inputs (pin_words (words_of first.entry) (words_of second.entry)))) }
+{
+    if first.is_none() && second.is_none() {
+        return Ok(Ok(None));
+    }
+    let Some(firsts) = given(alloc, first, inputs, Trit::Free)? else {
+        return Ok(Err(VectorWord::First));
+    };
+    let Some(seconds) = given(alloc, second, inputs, Trit::Free)? else {
+        return Ok(Err(VectorWord::Second));
+    };
+    let pins = cube(alloc, &firsts, &seconds)?;
+    Ok(Ok(Some(pins)))
+}
+
+/// Parts joined into one certificate with these pins, or with the least that have the pins of all.
+fn joined_with(
+    alloc: Global,
+    parts: Vec<Certificate>,
+    pins: &Option<Cube>,
+) -> Result<Certificate, JoinFault>
+    ensures joined { IfOk result (IsJoined parts.items (whole_pins pins.now parts.items)) }
+    ensures accepted { IfOk result (λ whole. (any : Netlist) → All (Accepts any) parts.items → Accepts any whole) }
+    ensures spelled { IfOk result (λ whole. All HasSpelling parts.items → HasSpelling whole) }
+    ensures fault { IfErr result (IsJoinFault parts.items (whole_pins pins.now parts.items)) }
+{
+    match pins {
+        None => join(alloc, parts),
+        Some(pins) => join_in(alloc, parts, pins),
+    }
+}
+
+/// The reason that tells why parts aren't joined, by the names of their files.
+fn unjoined<'a>(fault: JoinFault, names: &[&'a str]) -> Refusal<'a>
+    ensures { IsOfUnjoined (map (λ name. name.now) names.now) fault result }
+{
+    if let JoinFault::OutOfMemory = fault {
+        return Refusal::OutOfMemory;
+    }
+    let one = name_at(names, first_place(&fault));
+    let other = name_at(names, second_place(&fault));
+    Refusal::NotJoined(fault, one, other)
+}
+
+/// What the parts in the files of these names are joined into.
+fn whole_of<'a>(
+    alloc: Global,
+    parts: Vec<Certificate>,
+    pins: &Option<Cube>,
+    names: &[&'a str],
+) -> Result<Certificate, Refusal<'a>>
+    ensures joined { IfOk result (IsJoined parts.items (whole_pins pins.now parts.items)) }
+    ensures accepted { IfOk result (λ whole. (any : Netlist) → All (Accepts any) parts.items → Accepts any whole) }
+    ensures spelled { IfOk result (λ whole. All HasSpelling parts.items → HasSpelling whole) }
+    ensures refusal { IfErr result (λ reason. reason ≢ Reason.OutOfMemory → IsUnjoinedFor (map (λ name. name.now) names.now) parts.items (whole_pins pins.now parts.items) reason) }
+{
+    let whole = match joined_with(alloc, parts, pins) {
+        Ok(whole) => whole,
+        Err(fault) => return Err(unjoined(fault, names)),
+    };
+    if whole.tree.nodes().len() > MOST_NODES {
+        return Err(Refusal::TooLong);
+    }
+    Ok(whole)
+}
+
+/// The report of a whole, as that of a search.
+fn report_of(alloc: Global, circuit: &Circuit, whole: &Certificate) -> Result<Text, AllocError>
+    ensures { IfOk result (λ text. text ≡ worst_text circuit.now.netlist (Answered.Exact whole.now.time whole.now.pair whole.now.tree)) }
+{
+    let mut text = Text::new(alloc);
+    report::unit(&mut text, circuit.unit())?;
+    report::defaulted(&mut text, circuit.defaulted())?;
+    exact(&mut text, whole.time)?;
+    pair_of(&mut text, &whole.pair, whole.tree.nodes().len() as u64)?;
+    Ok(text)
+}
+
+/// What the parts of a question about a text's netlist are joined into: the parts that the files of these names hold, each of them accepted
+/// where that is asked for. Two options give the pins of the whole; where both are left out they are the least that have the pins of all parts.
+pub fn join_files<'a, F: Files>(
+    alloc: Global,
+    files: &mut F,
+    text: &'a [u8],
+    default: Delay,
+    names: &[&'a str],
+    is_checked: bool,
+    first: Option<&str>,
+    second: Option<&str>,
+) -> Result<Joined, Refusal<'a>>
+    ensures report { IfOk result (λ joined. IsJoinReport (disk_of (F.holds files.old) (F.fails files.old) (F.breaks files.old) (F.is_one files.old)) text.now default
+        (map (λ name. name.now) names.now) is_checked (words_of first.entry) (words_of second.entry) joined.report joined.whole) }
+    ensures refusal { IfErr result (λ reason. reason ≢ Reason.OutOfMemory
+        → HasNoJoin (disk_of (F.holds files.old) (F.fails files.old) (F.breaks files.old) (F.is_one files.old)) text.now default
+        (map (λ name. name.now) names.now) is_checked (words_of first.entry) (words_of second.entry) reason) }
+    ensures spelled { IfOk result (λ joined. HasSpelling joined.whole) }
+    ensures stays { files.new ≡ files.old }
+{
+    let circuit = circuit(alloc, text, default)?;
+    let pins = match pins_given(alloc, first, second, circuit.input_count())? {
+        Ok(pins) => pins,
+        Err(word) => return Err(Refusal::BadVector(word)),
+    };
+    let parts = parts_in(alloc, files, text, default, &circuit, is_checked, names)?;
+    let whole = whole_of(alloc, parts, &pins, names)?;
+    let report = report_of(alloc, &circuit, &whole)?;
+    Ok(Joined { report, whole })
+}
+
+/// The command `join`.
+pub fn run_join<F: Files, O: Sink, E: Sink>(
+    alloc: Global,
+    files: &mut F,
+    request: &JoinRequest<'_>,
+    out: &mut O,
+    err: &mut E,
+) -> Status
+    requires { IsInRange (delays request.now.rise request.now.fall) }
+    ensures { Takes (F.did files.old files.new) (λ steps. RequestRuns (disk_of (F.holds files.old) (F.fails files.old) (F.breaks files.old) (F.is_one files.old)) (Asked.Join request.now) steps result
+        (streams (O.output out.old) (E.output err.old)) (streams (O.output out.new) (E.output err.new))) }
+{
+    let Some(default) = Delay::new(request.rise, request.fall) else {
+        return Status::BadCommand;
+    };
+    match files.read(alloc, request.file) {
+        Ok(text) => carry_out_join(
+            alloc,
+            files,
+            &text,
+            default,
+            request.certificates.as_slice(),
+            request.check,
+            request.first,
+            request.second,
+            request.certificate,
+            out,
+            err,
+        ),
+        Err(fault) => tell_unread(alloc, err, request.file, fault),
+    }
+}
+
+/// Carries out `join` on a netlist's bytes that were read: the report goes to `out`, and then the certificate to the file of the name `name`; why
+/// there is none goes to `err`.
+pub fn carry_out_join<F: Files, O: Sink, E: Sink>(
+    alloc: Global,
+    files: &mut F,
+    text: &[u8],
+    default: Delay,
+    names: &[&str],
+    is_checked: bool,
+    first: Option<&str>,
+    second: Option<&str>,
+    name: Option<&str>,
+    out: &mut O,
+    err: &mut E,
+) -> Status
+    ensures { Takes (F.did files.old files.new) (λ steps.
+        Ends (IsJoinProduct (disk_of (F.holds files.old) (F.fails files.old) (F.breaks files.old) (F.is_one files.old)) text.now default
+        (map (λ part. part.now) names.now) is_checked (words_of first.entry) (words_of second.entry) (words_of name.entry))
+        (HasNoJoin (disk_of (F.holds files.old) (F.fails files.old) (F.breaks files.old) (F.is_one files.old)) text.now default
+        (map (λ part. part.now) names.now) is_checked (words_of first.entry) (words_of second.entry)) (F.breaks files.old) steps result
+        (streams (O.output out.old) (E.output err.old)) (streams (O.output out.new) (E.output err.new))) }
+{
+    let Joined { report, whole } = match join_files(
+        alloc, files, text, default, names, is_checked, first, second,
+    ) {
+        Ok(joined) => joined,
+        Err(refusal) => return tell_refusal(alloc, err, &refusal),
+    };
+    let certificate = Some(whole);
+    let shown = beside_files(&report, name, &certificate, &None);
+    let Ok(()) = out.write_all(shown) else {
+        return tell(err, b"tdelay: cannot write stdout\n", Status::Device);
+    };
+    let Ok(()) = keep_certificate(alloc, files, name, &certificate, err) else {
+        return Status::Device;
+    };
+    Status::Done
+}

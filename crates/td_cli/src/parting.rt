@@ -1,0 +1,181 @@
+//! The command `parts`: a question that is cut into parts, each of them a search of its own.
+
+ghost use Rattle.std.specs.Prelude.{◌≡◌, ◌<◌, ◌⊎◌, ◌++◌, [], length, map, IfOk, IfErr, OnOk};
+ghost use Rattle.std.specs.List.{flat_map};
+ghost use Rattle.td_gates.specs.Delays.{IsInRange};
+ghost use Rattle.td_command.specs.CommandLine.{delays};
+ghost use Rattle.td_cli.specs.Ends.{Ends, streams};
+ghost use Rattle.td_cli.specs.Files.{Takes};
+ghost use Rattle.td_cli.specs.Vectors.{words_of};
+ghost use Rattle.td_cli.specs.Outcomes.{HasNoAnswer};
+ghost use Rattle.td_cli.specs.PartReports.{option_text, flips_text, part_line, IsPartsReport};
+ghost use Rattle.td_cli.specs.Disks.{disk_of};
+ghost use Rattle.td_cli.specs.Requests.{parts_words, IsPartsProduct, RequestRuns};
+ghost use Rattle.td_cli.specs.declared.refusal.Refusal.TheVariants as Reason;
+ghost use Rattle.td_command.specs.declared.command.Request.TheVariants as Asked;
+
+use crate::asking::QuestionWords;
+use crate::files::Files;
+use crate::pinning::push_pins;
+use crate::program::{say, strategy_of, tell_refusal, tell_unread};
+use crate::refusal::Refusal;
+use crate::searching::question_of;
+use crate::status::Status;
+use crate::text::Text;
+use std::alloc::{AllocError, Global};
+use td_command::PartsRequest;
+use td_domain::Cube;
+use td_gates::{Delay, Sink};
+use td_parts::cut;
+
+/// The report of the parts of what the words ask, of which there are at most so many, at least 1: a line for each, with the options by which
+/// `worst` searches it.
+pub fn parts<'a>(
+    alloc: Global,
+    text: &'a [u8],
+    default: Delay,
+    words: QuestionWords<'_>,
+    parts: u32,
+) -> Result<Text, Refusal<'a>>
+    requires { 0 < parts }
+    ensures report { IfOk result (IsPartsReport text.now default words.entry parts) }
+    ensures refusal { IfErr result (HasNoAnswer text.now default words.entry) }
+{
+    let asked = question_of(alloc, text, default, words)?;
+    let cubes = cut(
+        alloc,
+        &asked.circuit,
+        &asked.admit,
+        words.strategy,
+        parts as usize,
+    )?;
+    some_lines(alloc, &cubes, words)
+}
+
+/// A line for each part, of which there has to be one.
+fn some_lines<'a>(
+    alloc: Global,
+    cubes: &[Cube],
+    words: QuestionWords<'_>,
+) -> Result<Text, Refusal<'a>>
+    ensures lines { IfOk result (λ text. text ≡ flat_map (part_line words.entry) cubes.now) }
+    ensures none { IfErr result (λ reason. (reason ≡ Reason.OutOfMemory) ⊎ ((reason ≡ Reason.NoPair) × (length cubes.now ≡ 0))) }
+{
+    if cubes.is_empty() {
+        return Err(Refusal::NoPair);
+    }
+    let text = lines(alloc, cubes, words)?;
+    Ok(text)
+}
+
+/// A line for each part.
+fn lines(alloc: Global, cubes: &[Cube], words: QuestionWords<'_>) -> Result<Text, AllocError>
+    ensures { IfOk result (λ text. text ≡ flat_map (part_line words.entry) cubes.now) }
+{
+    let mut text = Text::new(alloc);
+    for cube in cubes {
+        push_part(&mut text, cube, words)?;
+    }
+    Ok(text)
+}
+
+/// The line of one part.
+fn push_part(text: &mut Text, cube: &Cube, words: QuestionWords<'_>) -> Result<(), AllocError>
+    ensures { OnOk result (text.new ≡ text.old ++ part_line words.entry cube.now) }
+{
+    push_pins(text, cube)?;
+    push_option(text, b" --hold ", words.hold)?;
+    push_flips(text, words.flips)?;
+    push_option(text, b" --at ", words.at)?;
+    text.push(b"\n")
+}
+
+/// Appends an option as it was given, where it was.
+fn push_option(text: &mut Text, name: &[u8], word: Option<&str>) -> Result<(), AllocError>
+    ensures { OnOk result (text.new ≡ text.old ++ option_text name.now (words_of word.entry)) }
+{
+    match word {
+        None => Ok(()),
+        Some(word) => {
+            text.push(name)?;
+            text.word(word)
+        }
+    }
+}
+
+/// Appends the option of the most flips, where it was given.
+fn push_flips(text: &mut Text, flips: Option<u64>) -> Result<(), AllocError>
+    ensures { OnOk result (text.new ≡ text.old ++ flips_text flips) }
+{
+    match flips {
+        None => Ok(()),
+        Some(flips) => {
+            text.push(b" --flips ")?;
+            text.number(flips)
+        }
+    }
+}
+
+/// The command `parts`.
+pub fn run_parts<F: Files, O: Sink, E: Sink>(
+    alloc: Global,
+    files: &mut F,
+    request: PartsRequest<'_>,
+    out: &mut O,
+    err: &mut E,
+) -> Status
+    requires range { IsInRange (delays request.rise request.fall) }
+    requires some { 0 < request.parts }
+    ensures { Takes (F.did files.old files.new) (λ steps. RequestRuns (disk_of (F.holds files.old) (F.fails files.old) (F.breaks files.old) (F.is_one files.old)) (Asked.Parts request.entry) steps result
+        (streams (O.output out.old) (E.output err.old)) (streams (O.output out.new) (E.output err.new))) }
+{
+    let Some(default) = Delay::new(request.rise, request.fall) else {
+        return Status::BadCommand;
+    };
+    match files.read(alloc, request.file) {
+        Ok(text) => carry_out_parts(
+            alloc,
+            &text,
+            default,
+            words_in(request),
+            request.parts,
+            out,
+            err,
+        ),
+        Err(fault) => tell_unread(alloc, err, request.file, fault),
+    }
+}
+
+/// The words of a request that say what is asked, and by which strategy its searches go.
+fn words_in(request: PartsRequest<'_>) -> QuestionWords<'_>
+    ensures { result ≡ parts_words request.entry }
+{
+    QuestionWords {
+        first: request.first,
+        second: request.second,
+        hold: request.hold,
+        flips: request.flips,
+        at: request.at,
+        strategy: strategy_of(request.strategy),
+    }
+}
+
+/// Carries out `parts` on bytes that were read, with at least 1 part: the report goes to `out`, why there is none to `err`.
+pub fn carry_out_parts<O: Sink, E: Sink>(
+    alloc: Global,
+    text: &[u8],
+    default: Delay,
+    words: QuestionWords<'_>,
+    count: u32,
+    out: &mut O,
+    err: &mut E,
+) -> Status
+    requires { 0 < count }
+    ensures { Ends (IsPartsProduct text.now default words.entry count) (HasNoAnswer text.now default words.entry) (λ _. ⊥) [] result
+        (streams (O.output out.old) (E.output err.old)) (streams (O.output out.new) (E.output err.new)) }
+{
+    match parts(alloc, text, default, words, count) {
+        Ok(report) => say(report.bytes(), Status::Done, out, err),
+        Err(refusal) => tell_refusal(alloc, err, &refusal),
+    }
+}

@@ -1,0 +1,158 @@
+//! Lines on standard error that tell how far a search has come.
+
+ghost use Rattle.std.specs.Prelude.{◌≡◌, ◌<◌, ◌≤◌, ◌++◌, true, IfOk, IfErr, IfSome};
+ghost use Rattle.td_certificate.specs.Spelling.{HasSpelling};
+ghost use Rattle.td_cli.specs.Dumps.{dump_files, HasRun};
+ghost use Rattle.td_cli.specs.Vectors.{words_of};
+ghost use Rattle.td_cli.specs.WorstReports.{IsWorstReport};
+ghost use Rattle.td_cli.specs.Outcomes.{HasNoAnswer};
+ghost use Rattle.td_cli.specs.Progress.{progress_line, TellsSearch};
+
+use crate::asking::QuestionWords;
+use crate::program::tell;
+use crate::refusal::Refusal;
+use crate::searching::{Found, worst};
+use crate::status::Status;
+use crate::text::Text;
+use std::alloc::{AllocError, Global};
+use std::sync::Wait;
+use std::thread::Threads;
+use td_circuit::Circuit;
+use td_domain::Admit;
+use td_gates::{Delay, Sink};
+use td_pool::{Progress, Unwatched, Watch};
+use td_search::Strategy;
+
+/// Writes a line for each thing that it is told. Where it can't be written, or memory is refused, the search goes on.
+#[derive(Drop)]
+pub struct ProgressLines<'e, E> {
+    pub alloc: Global,
+    pub err: &'e mut E,
+}
+
+/// The line that tells this.
+fn line_of(alloc: Global, progress: Progress) -> Result<Text, AllocError>
+    ensures { IfOk result (λ text. text ≡ progress_line progress) }
+{
+    let mut text = Text::new(alloc);
+    text.push(b"nodes ")?;
+    text.number(progress.nodes)?;
+    text.push(b" low ")?;
+    text.number(progress.low)?;
+    text.push(b" high ")?;
+    text.number(progress.high)?;
+    text.push(b" open ")?;
+    text.number(progress.open)?;
+    text.push(b"\n")?;
+    Ok(text)
+}
+
+impl<'e, E: Sink> Watch for ProgressLines<'e, E> {
+    ghost use Rattle.std.proofs.Common.{◌≡◌, refl, ◌∙◌};
+    ghost use Rattle.td_cli.specs.Progress.{TellsProgress};
+    ghost use Rattle.td_cli.specs.ProgressLaws.{told_nothing, told_both};
+
+    ghost told = { λ asked first last. TellsProgress asked (E.output first.err.now) (E.output last.err.now) × (first.err.ghost_name ≡ last.err.ghost_name) };
+
+    fn is_looking(&self) -> bool {
+        true
+    }
+
+    fn passed(
+        &mut self,
+        _circuit: &Circuit,
+        _admit: &Admit,
+        _strategy: Strategy,
+        progress: Progress,
+    ) {
+        let Ok(line) = line_of(self.alloc, progress) else {
+            return;
+        };
+        let _status = tell(self.err, line.bytes(), Status::Done);
+    }
+
+    ghost told_nothing = { λ asked lines. (told_nothing asked (E.output lines.err.now), refl) };
+
+    ghost told_both = { λ asked first then last one two. (told_both asked (E.output first.err.now) (E.output then.err.now) (E.output last.err.now) one.0 two.0, one.1 ∙ two.1) };
+}
+
+/// Does nothing, but this use of a reference that came back ties it to the one that was lent.
+fn take_back<E>(err: &mut E)
+    ensures { err.new ≡ err.old }
+{}
+
+/// As `worst`, with a line on standard error each time that the nodes handled have passed 1, 2 or 5 thousand, ten thousand and so on.
+fn watched<'a, 'v, R: Threads + Wait + Sync, E: Sink>(
+    rt: &R,
+    alloc: Global,
+    text: &'a [u8],
+    default: Delay,
+    words: QuestionWords<'_>,
+    workers: u32,
+    budget: u64,
+    path: bool,
+    vcd: Option<&'v str>,
+    err: &mut E,
+) -> Result<Found<'v>, Refusal<'a>>
+    requires some { 0 < workers }
+    requires few { workers ≤ 64 }
+    requires modest { budget ≤ 10000000 }
+    ensures report { IfOk result (λ found.
+        IsWorstReport text.now default words.entry budget path (words_of vcd.entry) found.report found.certificate (dump_files found.dump)) }
+    ensures refusal { IfErr result (λ refusal. HasNoAnswer text.now default words.entry refusal) }
+    ensures spelled { IfOk result (λ found. IfSome found.certificate HasSpelling) }
+    ensures has { IfOk result (λ found. IfSome found.dump HasRun) }
+    ensures told { TellsSearch true text.now default words.entry (E.output err.old) (E.output err.new) }
+{
+    let mut lines = ProgressLines { alloc, err };
+    let found = worst(
+        rt, alloc, text, default, words, workers, budget, &mut lines, path, vcd,
+    );
+    let ProgressLines { err, .. } = lines;
+    take_back(err);
+    found
+}
+
+/// As `worst`, with lines that tell how far the search has come where they are asked for.
+pub fn searched<'a, 'v, R: Threads + Wait + Sync, E: Sink>(
+    rt: &R,
+    alloc: Global,
+    text: &'a [u8],
+    default: Delay,
+    words: QuestionWords<'_>,
+    workers: u32,
+    budget: u64,
+    path: bool,
+    vcd: Option<&'v str>,
+    progress: bool,
+    err: &mut E,
+) -> Result<Found<'v>, Refusal<'a>>
+    requires some { 0 < workers }
+    requires few { workers ≤ 64 }
+    requires modest { budget ≤ 10000000 }
+    ensures report { IfOk result (λ found.
+        IsWorstReport text.now default words.entry budget path (words_of vcd.entry) found.report found.certificate (dump_files found.dump)) }
+    ensures refusal { IfErr result (λ refusal. HasNoAnswer text.now default words.entry refusal) }
+    ensures spelled { IfOk result (λ found. IfSome found.certificate HasSpelling) }
+    ensures has { IfOk result (λ found. IfSome found.dump HasRun) }
+    ensures told { TellsSearch progress text.now default words.entry (E.output err.old) (E.output err.new) }
+{
+    if progress {
+        return watched(
+            rt, alloc, text, default, words, workers, budget, path, vcd, err,
+        );
+    }
+    let mut nobody = Unwatched;
+    worst(
+        rt,
+        alloc,
+        text,
+        default,
+        words,
+        workers,
+        budget,
+        &mut nobody,
+        path,
+        vcd,
+    )
+}

@@ -1,0 +1,163 @@
+//! Files that are made, in which order, and files whose writer fails.
+
+use crate::runs::{Ended, FILES, ROOM, carried_out, shows_a_beginning};
+use std::alloc::Global;
+use std::sync::Wait;
+use std::test::*;
+use std::thread::Threads;
+use td_cli::{MemoryFile, MemoryFiles, MemoryStep};
+
+const CERTIFICATE: &[u8] = b"tdelay-cert 1\ncircuit 1 1\ntime 3\nfrom 0\nto 1\nb a 3\n";
+
+const REPORT: &[u8] = b"unit 1 ns\ndefaulted 0\nexact 3\nfrom 0\nto 1\nnodes 1\n";
+
+/// The waves of an inverter whose input rises.
+const RISES: &[u8] =
+    b"$version tdelay 1 $end\n$timescale 1 ns $end\n$scope module t $end\n$var wire 1 ! a $end\n$var wire 1 \" y $end\n$upscope $end\n$enddefinitions $end\n#0\n$dumpvars\n0!\n1\"\n$end\n#1\n1!\n#4\n0\"\n";
+
+/// A file that was begun under this name and put there whole.
+fn is_put(begun: &MemoryStep, put: &MemoryStep, name: &[u8], bytes: &[u8]) -> bool {
+    match put.ended() {
+        Some(file) => begun.made() == Some(name) && is_file(file, name, bytes),
+        None => false,
+    }
+}
+
+fn is_file(file: &MemoryFile, name: &[u8], bytes: &[u8]) -> bool {
+    file.name() == name && file.bytes() == bytes
+}
+
+/// Whether a file for this name was begun, and nothing was put there or done else.
+fn is_given_up(steps: &[MemoryStep], name: &[u8]) -> bool {
+    match steps {
+        [step] => step.made() == Some(name),
+        _ => false,
+    }
+}
+
+/// Whether a certificate was put under the one name, behind it waves under the other one, and nothing else was done.
+fn are_both(steps: &[MemoryStep], certificate: &[u8], waves: &[u8]) -> bool {
+    match steps {
+        [first, second, third, fourth] => {
+            is_put(first, second, certificate, CERTIFICATE) && is_put(third, fourth, waves, RISES)
+        }
+        _ => false,
+    }
+}
+
+/// Whether a certificate was put under this name, and nothing else was done.
+fn is_one(steps: &[MemoryStep], name: &[u8]) -> bool {
+    match steps {
+        [begun, put] => is_put(begun, put, name, CERTIFICATE),
+        _ => false,
+    }
+}
+
+/// Carries out a command over the inverter, whose files take so many bytes.
+fn over_files<R: Threads + Wait + Sync>(
+    rt: &R,
+    alloc: Global,
+    words: &[&str],
+    room: usize,
+) -> Result<Ended<'static>, Fail> {
+    let files = MemoryFiles::new(alloc, &FILES).writing(room);
+    carried_out(rt, alloc, words, files, ROOM)
+}
+
+/// The status of a search that writes a certificate and waves, whether it reports, and whether it put them there in this order.
+fn writing_both<R: Threads + Wait + Sync>(rt: &R, alloc: Global) -> Result<(u8, bool, bool), Fail> {
+    let words = ["tdelay", "worst", "inverter.v", "--cert", "c", "--vcd", "o"];
+    let ended = over_files(rt, alloc, &words, ROOM)?;
+    let is_reported = ended.out.bytes() == REPORT && ended.err.bytes().is_empty();
+    let are_put = are_both(ended.files.steps(), b"c", b"o");
+    Ok((ended.status, is_reported, are_put))
+}
+
+/// The certificate is written first.
+#[test]
+fn waves_behind_a_certificate(rt: HostRuntime) -> Result<(), Fail> {
+    assert_eq!(rt; writing_both(&rt, rt.alloc())?, (0, true, true));
+    Ok(())
+}
+
+/// The status of a search from standard input to standard output, whether it reports nothing, and whether it put the certificate there.
+fn from_end_to_end<R: Threads + Wait + Sync>(
+    rt: &R,
+    alloc: Global,
+) -> Result<(u8, bool, bool), Fail> {
+    let words = ["tdelay", "worst", "-", "--cert", "-"];
+    let ended = over_files(rt, alloc, &words, ROOM)?;
+    let is_silent = ended.out.bytes().is_empty() && ended.err.bytes().is_empty();
+    let is_put = is_one(ended.files.steps(), b"-");
+    Ok((ended.status, is_silent, is_put))
+}
+
+/// Standard input and standard output may both be called `-`, and the file is alone there.
+#[test]
+fn both_ends(rt: HostRuntime) -> Result<(), Fail> {
+    assert_eq!(rt; from_end_to_end(&rt, rt.alloc())?, (0, true, true));
+    Ok(())
+}
+
+/// The status of a run whose files take so many bytes, whether it told this, and whether it gave up the file of this name and did
+/// nothing else.
+fn failing<R: Threads + Wait + Sync>(
+    rt: &R,
+    alloc: Global,
+    words: &[&str],
+    room: usize,
+    name: &[u8],
+    told: &[u8],
+) -> Result<(u8, bool, bool), Fail> {
+    let ended = over_files(rt, alloc, words, room)?;
+    let is_told = ended.err.bytes() == told;
+    Ok((
+        ended.status,
+        is_told,
+        is_given_up(ended.files.steps(), name),
+    ))
+}
+
+/// A file of waves whose writer fails after each number of bytes isn't put under its name.
+#[test]
+fn failing_waves(rt: HostRuntime) -> Result<(), Fail> {
+    let words = ["tdelay", "sim", "inverter.v", "0", "1", "--vcd", "o"];
+    let told = b"tdelay: cannot write o\n".as_slice();
+    for room in 0..RISES.len() {
+        let said = failing(&rt, rt.alloc(), &words, room, b"o", told)?;
+        assert_eq!(rt; said, (5, true, true));
+    }
+    Ok(())
+}
+
+/// A certificate whose writer fails after each number of bytes isn't put under its name, and where it fails, the waves are not begun.
+#[test]
+fn failing_certificates(rt: HostRuntime) -> Result<(), Fail> {
+    let words = ["tdelay", "worst", "inverter.v", "--cert", "c", "--vcd", "o"];
+    let told = b"tdelay: cannot write c\n".as_slice();
+    for room in 0..CERTIFICATE.len() {
+        let said = failing(&rt, rt.alloc(), &words, room, b"c", told)?;
+        assert_eq!(rt; said, (5, true, true));
+    }
+    Ok(())
+}
+
+/// The report goes out before the certificate fails.
+#[test]
+fn report_of_a_failing_certificate(rt: HostRuntime) -> Result<(), Fail> {
+    let words = ["tdelay", "worst", "inverter.v", "--cert", "c"];
+    let ended = over_files(&rt, rt.alloc(), &words, 9)?;
+    assert_eq!(rt; ended.out.bytes(), REPORT);
+    Ok(())
+}
+
+/// Where standard output fails, the certificate isn't begun.
+#[test]
+fn certificate_behind_a_failing_report(rt: HostRuntime) -> Result<(), Fail> {
+    let words = ["tdelay", "worst", "inverter.v", "--cert", "c"];
+    for room in 0..REPORT.len() {
+        let said = shows_a_beginning(&rt, rt.alloc(), &words, room, REPORT)?;
+        assert_eq!(rt; said, (5, true));
+    }
+    Ok(())
+}

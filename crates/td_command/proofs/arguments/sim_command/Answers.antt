@@ -1,0 +1,13 @@
+use Rattle.std.proofs.Common.{rules, ◌≡◌, ◌∙◌, ap, codes}
+use Rattle.std.proofs.lemmas.Result.{IfOk-weaker}
+use Rattle.clap.specs.Words.{app_of, new_app}
+use Rattle.td_command.specs.CommandLine.{with_default, with_moments, with_pair, with_vcd}
+use Rattle.td_command.proofs.arguments.sim_command.Goals as goal
+
+pub returns : goal.returns
+returns c =
+    let named : app_of c.after_help-command.result ≡ new_app (codes "sim") = search rules in
+    let pair = c.in_ok-with_pair.ensures ∙ ap with_pair named in
+    let moments = c.in_ok-command.ensures ∙ ap with_moments pair in
+    let dumped = c.in_ok-with_vcd.ensures ∙ ap with_vcd moments in
+    IfOk-weaker c.with_default.result _ _ (λ new with. with ∙ ap with_default dumped) c.with_default.ensures

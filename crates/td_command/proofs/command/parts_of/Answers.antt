@@ -1,0 +1,37 @@
+use Rattle.std.proofs.Common.{◌≡◌, ◌∙◌, sym, refl, codes, Some, None}
+use Rattle.clap.specs.Words.{found_of}
+use Rattle.clap.proofs.WalkLemmas.{first_value-rows}
+use Rattle.td_command.proofs.CommandLines.{only_parts}
+use Rattle.td_command.proofs.command.parts_of.Goals as goal
+
+pub returns-in_err-file : goal.returns-in_err-file
+returns-in_err-file c = rw c.from_residual.ensures (only_parts (λ asked has.
+    let no : None ≡ Some asked.file.now = c.in_err-file.ensures ∙ first_value-rows (found_of c.args.matches.now) (codes "FILE") ∙ has.file in cc))
+
+pub returns-in_err-parts : goal.returns-in_err-parts
+returns-in_err-parts c = rw c.from_residual-in_err-parts.ensures (only_parts (λ asked has. c.in_err-parts.ensures _ has.parts))
+
+pub returns-in_err-flips : goal.returns-in_err-flips
+returns-in_err-flips c = rw c.from_residual-in_err-flips.ensures (only_parts (λ asked has. c.in_err-flips.ensures _ has.flips))
+
+pub returns-in_err-strategy : goal.returns-in_err-strategy
+returns-in_err-strategy c = rw c.from_residual-in_err-strategy.ensures (only_parts (λ asked has. c.in_err-strategy.ensures _ has.strategy))
+
+pub returns-in_err-default : goal.returns-in_err-default
+returns-in_err-default c = rw c.from_residual-in_err-default.ensures (only_parts (λ asked has. c.in_err-default.ensures _ has.default))
+
+pub returns : goal.returns
+returns c = (
+  refl,
+  record {
+    file = sym (c.in_ok-file.ensures ∙ first_value-rows (found_of c.args.matches.now) (codes "FILE"));
+    parts = c.in_ok-parts.ensures;
+    first = sym (c.get_str-2.ensures ∙ first_value-rows (found_of c.args.matches.now) (codes "first"));
+    second = sym (c.get_str-3.ensures ∙ first_value-rows (found_of c.args.matches.now) (codes "second"));
+    hold = sym (c.get_str-4.ensures ∙ first_value-rows (found_of c.args.matches.now) (codes "hold"));
+    flips = c.in_ok-flips.ensures;
+    at = sym (c.get_str-5.ensures ∙ first_value-rows (found_of c.args.matches.now) (codes "at"));
+    strategy = c.in_ok-strategy.ensures;
+    default = rw c.default-2.view_is c.in_ok-default.ensures;
+  },
+)

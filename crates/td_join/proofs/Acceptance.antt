@@ -1,0 +1,252 @@
+-- Where certificates are accepted, so is what they are joined into.
+use Rattle.std.proofs.Common.{Bool, true, inl, inr, ◌≡◌, ◌≤◌, ℕ, List, [], ◌∷◌, ◌++◌, length, set, Some, None, Option, refl, sym, ap, subst, ◌∙◌, arith}
+use Rattle.std.specs.Prelude.{slice_get, All, Contains}
+use Rattle.std.specs.List.{AllByRecursion}
+use Rattle.std.proofs.lemmas.List.Elements.{All-filter, All-contains}
+use Rattle.td_circuit.specs.Settings.{Setting}
+use Rattle.td_circuit.specs.Run.{IsDelayOfBits}
+use Rattle.td_nets.specs.Netlist.{Netlist}
+use Rattle.td_domain.specs.declared.cubes.Trit.{Trit}
+use Rattle.td_domain.specs.declared.cubes.Trit.TheVariants.{Zero, One, Free}
+use Rattle.td_domain.specs.Pairs.{Pair}
+use Rattle.td_domain.specs.Cubes.{IsIn}
+use Rattle.td_domain.specs.Admits.{Admitted, AreHeld, flips_of, IsAdmitted, HasAdmitted}
+use Rattle.td_certificate.specs.declared.tree.Node.{Node}
+use Rattle.td_certificate.specs.declared.tree.Node.TheVariants as node
+use Rattle.td_certificate.specs.declared.certificate.Certificate.{Certificate}
+use Rattle.td_certificate.specs.Trees.{Tree, nodes_of, IsTree, lines_of}
+use Rattle.td_certificate.specs.Trees as trees
+use Rattle.td_certificate.specs.Walks.{Line, lines_from}
+use Rattle.td_certificate.specs.Accepts.{IsGood, IsOfCube, IsWithin, Accepts, setting_of}
+use Rattle.td_certificate.proofs.TreeLaws.{trees_are_counted}
+use Rattle.td_certificate.proofs.Walking.{lines_are_walked}
+use Rattle.td_join.specs.Joining.{pins_of, is_zero, is_one, is_known, AreJoined, alone, missing, halved, IsAlike, AcceptedTogether}
+use Rattle.td_join.proofs.Cubing.{wider, filter_has, Contains-less}
+use Rattle.td_join.proofs.Restricting.{is_known_at}
+use Rattle.td_gates.proofs.Places.{All-from_contains}
+
+abbrev pub same_pairs : Admitted → List Trit → Admitted
+same_pairs admit pins = record admit { pins = pins }
+
+pub both_lists : {A : Type 0} (P : A → Type 0) (xs ys : List A) → AllByRecursion P xs → AllByRecursion P ys → AllByRecursion P (xs ++ ys)
+both_lists P [] ys h k = k
+both_lists P (x ∷ xs) ys h k = (h.0, both_lists P xs ys h.1 k)
+
+pub both_parts : {A : Type 0} (P : A → Type 0) (xs ys : List A) → AllByRecursion P (xs ++ ys) → AllByRecursion P xs × AllByRecursion P ys
+both_parts P [] ys h = (tt, h)
+both_parts P (x ∷ xs) ys h = let rest = both_parts P xs ys h.1 in ((h.0, rest.0), rest.1)
+
+-- ---- a tree that is good with its own pins and time is so with wider pins and a greater time
+
+module _ (setting : Setting) (admit : Admitted) (own : List Trit) (least most : ℕ) (more : least ≤ most) where
+  -- what is said of a line holds with wider pins, where its cube is a part of its own
+  of_wider : (cube : List Trit) (n : Node) → ((pair : Pair) → IsIn pair cube → IsIn pair own)
+      → IsOfCube setting (same_pairs admit own) cube n → IsOfCube setting admit cube n
+  of_wider cube (node.Split position) part h = h
+  of_wider cube (node.Bound domain bound) part h = h
+  of_wider cube (node.Point time) part h = h
+  of_wider cube node.Empty part h = λ has. h (
+    has.0,
+    record { pinned = part has.0 has.2; held = has.1.held; few = has.1.few },
+    has.2,
+  )
+
+  within_more : (n : Node) → IsWithin least n → IsWithin most n
+  within_more (node.Split position) h = h
+  within_more (node.Bound domain bound) h = omega (arith, h, more)
+  within_more (node.Point time) h = omega (arith, h, more)
+  within_more node.Empty h = h
+
+  good_more : (cube : List Trit) (n : Node) → ((pair : Pair) → IsIn pair cube → IsIn pair own)
+      → IsGood setting (same_pairs admit own) least (record { cube = cube; node = n }) → IsGood setting admit most (record { cube = cube; node = n })
+  good_more cube n part good = record {
+    splits = good.splits;
+    one_pair = good.one_pair;
+    of_cube = of_wider cube n part good.of_cube;
+    within = within_more n good.within;
+  }
+
+  pub lines_more : (tree : Tree) (cube : List Trit) → ((pair : Pair) → IsIn pair cube → IsIn pair own)
+      → AllByRecursion (IsGood setting (same_pairs admit own) least) (lines_of cube tree) → AllByRecursion (IsGood setting admit most) (lines_of cube tree)
+  unfolding lines_of
+  lines_more (trees.Split position low high) cube part good =
+      let free = good.0.splits in
+      let sides = both_parts (IsGood setting (same_pairs admit own) least) (lines_of (set cube position Zero) low) (lines_of (set cube position One) high) good.1 in (
+        good_more cube (node.Split position) part good.0,
+        both_lists (IsGood setting admit most) (lines_of (set cube position Zero) low) (lines_of (set cube position One) high)
+            (lines_more low (set cube position Zero) (λ pair h. part pair (wider Zero cube position pair.first pair.second free h)) sides.0)
+            (lines_more high (set cube position One) (λ pair h. part pair (wider One cube position pair.first pair.second free h)) sides.1),
+      )
+  lines_more (trees.Bound domain bound) cube part good = (good_more cube (node.Bound domain bound) part good.0, tt)
+  lines_more (trees.Point time) cube part good = (good_more cube (node.Point time) part good.0, tt)
+  lines_more trees.Empty cube part good = (good_more cube node.Empty part good.0, tt)
+
+-- ---- joined trees
+
+-- the certificate's tree is good with its own pins and time, and its time is at most this
+record IsGoodPart (setting : Setting) (admit : Admitted) (most : ℕ) (c : Certificate) : Type 0 where
+  is_tree : IsTree c.tree
+  good : AllByRecursion (IsGood setting (same_pairs admit (pins_of c)) c.time) (lines_from (pins_of c ∷ []) c.tree)
+  less : c.time ≤ most
+
+-- the tree whose nodes these are is good
+record IsGoodTree (setting : Setting) (admit : Admitted) (most : ℕ) (cube : List Trit) (nodes : List Node) : Type 0 where
+  tree : Tree
+  nodes_are : nodes_of tree ≡ nodes
+  good : AllByRecursion (IsGood setting admit most) (lines_of cube tree)
+
+module _ (setting : Setting) (admit : Admitted) (most : ℕ) where
+  own_tree : (c : Certificate) → IsGoodPart setting admit most c → IsGoodTree setting admit most (pins_of c) c.tree
+  own_tree c part =
+      let t = trees_are_counted.has_tree c.tree part.is_tree in
+      let walked : lines_from (pins_of c ∷ []) c.tree ≡ lines_of (pins_of c) t.0 =
+      ap (λ (ns : List Node). lines_from (pins_of c ∷ []) ns) (sym t.1) ∙ lines_are_walked t.0 (pins_of c) in
+      record {
+        tree = t.0;
+        nodes_are = t.1;
+        good = lines_more setting admit (pins_of c) c.time most part.less t.0 (pins_of c) (λ pair h. h)
+            (subst (λ (ls : List Line). AllByRecursion (IsGood setting (same_pairs admit (pins_of c)) c.time) ls) walked part.good);
+      }
+
+  empty_tree : (cube : List Trit) → (¬ HasAdmitted admit cube) → IsGoodTree setting admit most cube (node.Empty ∷ [])
+  unfolding nodes_of lines_of
+  empty_tree cube none = record {
+    tree = trees.Empty;
+    nodes_are = refl;
+    good = (record { splits = tt; one_pair = tt; of_cube = none; within = tt }, tt);
+  }
+
+  split_tree : (cube : List Trit) (position : ℕ) (low high : List Node) → slice_get cube position ≡ Some Free
+      → IsGoodTree setting admit most (set cube position Zero) low → IsGoodTree setting admit most (set cube position One) high
+      → IsGoodTree setting admit most cube (node.Split position ∷ (low ++ high))
+  unfolding nodes_of lines_of
+  split_tree cube position low high free lows highs = record {
+    tree = trees.Split position lows.tree highs.tree;
+    nodes_are = ap (λ (ns : List Node). node.Split position ∷ (ns ++ nodes_of highs.tree)) lows.nodes_are
+        ∙ ap (λ (ns : List Node). node.Split position ∷ (low ++ ns)) highs.nodes_are;
+    good = (
+      record { splits = free; one_pair = tt; of_cube = tt; within = tt },
+      both_lists (IsGood setting admit most) (lines_of (set cube position Zero) lows.tree) (lines_of (set cube position One) highs.tree) lows.good highs.good,
+    );
+  }
+
+  joined_tree : (cube : List Trit) (certificates : List Certificate) (nodes : List Node) → AreJoined admit cube certificates nodes
+      → All (IsGoodPart setting admit most) certificates → IsGoodTree setting admit most cube nodes
+  joined_tree _ _ _ (alone c) parts = own_tree c (All-contains (IsGoodPart setting admit most) (c ∷ []) c parts (0, omega arith, refl))
+  joined_tree _ _ _ (missing cube none) parts = empty_tree cube none
+  joined_tree _ _ _ (halved cube certificates position low high free known lows highs) parts =
+      split_tree cube position low high free
+      (joined_tree _ _ low lows (All-filter (λ c. is_zero (slice_get (pins_of c) position)) (IsGoodPart setting admit most) certificates parts))
+      (joined_tree _ _ high highs (All-filter (λ c. is_one (slice_get (pins_of c) position)) (IsGoodPart setting admit most) certificates parts))
+
+-- ---- trees that are joined are a tree
+
+record HasTree (nodes : List Node) : Type 0 where
+  tree : Tree
+  nodes_are : nodes_of tree ≡ nodes
+
+split_of : (position : ℕ) (low high : List Node) → HasTree low → HasTree high → HasTree (node.Split position ∷ (low ++ high))
+unfolding nodes_of
+split_of position low high lows highs = record {
+  tree = trees.Split position lows.tree highs.tree;
+  nodes_are = ap (λ (ns : List Node). node.Split position ∷ (ns ++ nodes_of highs.tree)) lows.nodes_are
+      ∙ ap (λ (ns : List Node). node.Split position ∷ (low ++ ns)) highs.nodes_are;
+}
+
+empty_of : HasTree (node.Empty ∷ [])
+unfolding nodes_of
+empty_of = record { tree = trees.Empty; nodes_are = refl }
+
+abbrev has_own_tree : Certificate → Type 0
+has_own_tree c = IsTree c.tree
+
+tree_of_joined : (admit : Admitted) (cube : List Trit) (certificates : List Certificate) (nodes : List Node) → AreJoined admit cube certificates nodes
+    → All has_own_tree certificates → HasTree nodes
+tree_of_joined admit _ _ _ (alone c) all =
+    let t = trees_are_counted.has_tree c.tree (All-contains has_own_tree (c ∷ []) c all (0, omega arith, refl)) in
+    record { tree = t.0; nodes_are = t.1 }
+tree_of_joined admit _ _ _ (missing cube none) all = empty_of
+tree_of_joined admit _ _ _ (halved cube certificates position low high free known lows highs) all =
+    split_of position low high
+    (tree_of_joined admit _ _ low lows (All-filter (λ c. is_zero (slice_get (pins_of c) position)) has_own_tree certificates all))
+    (tree_of_joined admit _ _ high highs (All-filter (λ c. is_one (slice_get (pins_of c) position)) has_own_tree certificates all))
+
+pub joined_is_tree : (admit : Admitted) (cube : List Trit) (certificates : List Certificate) (nodes : List Node) → AreJoined admit cube certificates nodes
+    → All (λ c. IsTree c.tree) certificates → IsTree nodes
+joined_is_tree admit cube certificates nodes joined all =
+    let t = tree_of_joined admit cube certificates nodes joined all in
+    subst (λ (ns : List Node). IsTree ns) t.nodes_are (trees_are_counted.counted t.tree)
+
+-- ---- pins
+
+data Bit (o : Option Trit) : Type 0 where
+  bit_zero : is_zero o ≡ true → Bit o
+  bit_one : is_one o ≡ true → Bit o
+
+bit_of : (o : Option Trit) → is_known o ≡ true → Bit o
+bit_of (Some Zero) k = bit_zero refl
+bit_of (Some One) k = bit_one refl
+bit_of (Some Free) k = absurd cc
+bit_of None k = absurd cc
+
+-- the pins of each certificate are a part of the cube
+pub parts_inside : (admit : Admitted) (cube : List Trit) (certificates : List Certificate) (nodes : List Node) → AreJoined admit cube certificates nodes
+    → (c : Certificate) → Contains certificates c → (pair : Pair) → IsIn pair (pins_of c) → IsIn pair cube
+parts_inside admit _ _ _ (alone d) c has pair inside = elim (Contains-less d c [] has) [
+  | inl same ↦ subst (λ (x : Certificate). IsIn pair (pins_of x)) (sym same) inside
+  | inr none ↦ absurd (omega (arith, none.1))
+]
+parts_inside admit _ _ _ (missing cube none) c has pair inside = absurd (omega (arith, has.1))
+parts_inside admit _ _ _ (halved cube certificates position low high free known lows highs) c has pair inside =
+    elim (bit_of (slice_get (pins_of c) position) (All-contains (is_known_at position) certificates c known has)) [
+      | bit_zero e ↦
+          wider Zero cube position pair.first pair.second free
+          (parts_inside admit _ _ low lows c (filter_has (λ d. is_zero (slice_get (pins_of d) position)) certificates c has e) pair inside)
+      | bit_one e ↦
+          wider One cube position pair.first pair.second free
+          (parts_inside admit _ _ high highs c (filter_has (λ d. is_one (slice_get (pins_of d) position)) certificates c has e) pair inside)
+    ]
+
+-- ---- the law
+
+abbrev pub at_moments : Netlist → List ℕ → Setting
+at_moments netlist moments = record { netlist = netlist; moments = moments }
+
+same_question : (this that : Admitted) → this.held ≡ that.held → this.flips ≡ that.flips → that ≡ same_pairs this that.pins
+same_question this that held flips = rw (held, flips) refl
+
+pub accepted_together : AcceptedTogether
+accepted_together netlist certificates pins whole joined accepted =
+    let from : Certificate = joined.pair.certificate in
+    let alike = All-contains (IsAlike whole) certificates from joined.alike joined.pair.among in
+    let given = All-contains (Accepts netlist) certificates from accepted joined.pair.among in
+    let part : (c : Certificate) → Contains certificates c → IsGoodPart (setting_of netlist whole) whole.question.admit whole.time c =
+    λ c has. good_part c (All-contains (IsAlike whole) certificates c joined.alike has) (All-contains (Accepts netlist) certificates c accepted has)
+    (All-contains (λ d. d.time ≤ whole.time) certificates c joined.greatest has) in
+    let tree = joined_tree (setting_of netlist whole) whole.question.admit whole.time pins certificates whole.tree joined.tree (All-from_contains (IsGoodPart (setting_of netlist whole) whole.question.admit whole.time) certificates part) in
+    record {
+      size = record { inputs = given.size.inputs ∙ ap (λ (hs : List Bool). length hs) (sym alike.held); gates = given.size.gates ∙ sym alike.gates };
+      admitted = subst (λ (p : Pair). IsAdmitted whole.question.admit p) joined.pair.pair_is (record {
+        pinned = subst (λ (x : List Trit). IsIn from.pair x) (sym joined.pins_are)
+            (parts_inside whole.question.admit pins certificates whole.tree joined.tree from joined.pair.among from.pair given.admitted.pinned);
+        held = subst (λ (hs : List Bool). AreHeld hs from.pair.first from.pair.second) (sym alike.held) given.admitted.held;
+        few = subst (λ (n : ℕ). flips_of from.pair.first from.pair.second ≤ n) (sym alike.flips) given.admitted.few;
+      });
+      reached = subst (λ (n : ℕ). IsDelayOfBits (setting_of netlist whole) whole.pair.first whole.pair.second n) joined.pair.time_is
+          (subst (λ (p : Pair). IsDelayOfBits (setting_of netlist whole) p.first p.second from.time) joined.pair.pair_is
+          (subst (λ (ms : List ℕ). IsDelayOfBits (at_moments netlist ms) from.pair.first from.pair.second from.time) (sym alike.moments) given.reached));
+      tree = subst (λ (ns : List Node). IsTree ns) tree.nodes_are (trees_are_counted.counted tree.tree);
+      good = subst (λ (x : List Trit). AllByRecursion (IsGood (setting_of netlist whole) whole.question.admit whole.time) (lines_from (x ∷ []) whole.tree)) (sym joined.pins_are)
+          (subst (λ (ns : List Node). AllByRecursion (IsGood (setting_of netlist whole) whole.question.admit whole.time) (lines_from (pins ∷ []) ns)) tree.nodes_are
+          (subst (λ (ls : List Line). AllByRecursion (IsGood (setting_of netlist whole) whole.question.admit whole.time) ls) (sym (lines_are_walked tree.tree pins)) tree.good));
+    }
+  where
+    good_part : (c : Certificate) → IsAlike whole c → Accepts netlist c → c.time ≤ whole.time → IsGoodPart (setting_of netlist whole) whole.question.admit whole.time c
+    good_part c alike accepts less = record {
+      is_tree = accepts.tree;
+      good = subst (λ (s : Setting). AllByRecursion (IsGood s (same_pairs whole.question.admit (pins_of c)) c.time) (lines_from (pins_of c ∷ []) c.tree))
+          (ap (at_moments netlist) (sym alike.moments))
+          (subst (λ (a : Admitted). AllByRecursion (IsGood (setting_of netlist c) a c.time) (lines_from (pins_of c ∷ []) c.tree))
+          (same_question whole.question.admit c.question.admit alike.held alike.flips) accepts.good);
+      less = less;
+    }

@@ -1,0 +1,12 @@
+pub mod Parting
+pub mod Joins
+pub mod Cubing
+pub mod Restricting
+pub mod Stacking
+pub mod Weights
+pub mod Acceptance
+pub mod Times
+pub mod Widening
+pub mod Wholes
+pub mod Spelled
+pub mod Refused

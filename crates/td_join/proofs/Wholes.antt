@@ -1,0 +1,98 @@
+-- The certificate of the whole.
+use Rattle.std.proofs.Common.{◌≡◌, ◌<◌, ◌≤◌, ℕ, List, length, Some, refl, sym, ap, subst, ◌∙◌}
+use Rattle.std.specs.Prelude.{All, Contains, slice_get}
+use Rattle.std.proofs.lemmas.List.Elements.{All-weaker, All-contains}
+use Rattle.td_domain.specs.declared.cubes.Trit.{Trit}
+use Rattle.td_domain.specs.Pairs.{Pair}
+use Rattle.td_certificate.specs.declared.tree.Node.{Node}
+use Rattle.td_certificate.specs.declared.certificate.Certificate.{Certificate}
+use Rattle.td_certificate.specs.declared.question.Version.TheVariants.{First}
+use Rattle.td_certificate.specs.Questions.{Question, version_of}
+use Rattle.td_gates.proofs.Places.{slice_get-Contains, slice_get-within}
+use Rattle.td_join.specs.Joining.{with_pins, AreJoined, IsAlike, IsJoined}
+use Rattle.td_domain.specs.Admits.{Admitted}
+use Rattle.td_join.specs.declared.fault.JoinFault.{JoinFault}
+use Rattle.td_join.specs.declared.fault.JoinFault.TheVariants as fault
+use Rattle.td_join.specs.Faults.{IsGap, IsUnjoinable, IsJoinFault}
+use Rattle.td_join.specs.Steps.{HasFit, IsJoinable, IsFalseNoneIn}
+use Rattle.td_join.specs.Stacks.{IsOfQuestion, IsTreeFault}
+use Rattle.td_join.proofs.Refused.{refused}
+
+abbrev pub whole_of : ℕ → Question → ℕ → Pair → List Node → Certificate
+whole_of gates question time pair tree = record { gates = gates; question = question; time = time; pair = pair; tree = tree }
+
+abbrev with_trits : Admitted → List Trit → Admitted
+with_trits admit pins = record admit { pins = pins }
+
+pub is_joined : (certificates : List Certificate) (gates : ℕ) (question : Question) (first : Certificate) (place : ℕ) (pair : Pair) (tree nodes : List Node)
+    → slice_get certificates place ≡ Some first → All (IsOfQuestion gates question) certificates → All (λ c. c.time ≤ first.time) certificates
+    → pair ≡ first.pair → nodes ≡ tree → AreJoined question.admit question.admit.pins certificates tree
+    → IsJoined certificates question.admit.pins (whole_of gates question first.time pair nodes)
+is_joined certificates gates question first place pair tree nodes at alike greatest copied same joined = record {
+  alike = All-weaker (IsOfQuestion gates question) (IsAlike (whole_of gates question first.time pair nodes))
+      (λ c h. record { gates = h.gates_are; held = h.held; flips = h.flips; moments = h.moments }) certificates alike;
+  pins_are = refl;
+  tree = subst (λ (ns : List Node). AreJoined question.admit question.admit.pins certificates ns) (sym same) joined;
+  greatest = greatest;
+  pair = record { certificate = first; among = slice_get-Contains certificates place first at; time_is = refl; pair_is = sym copied };
+}
+
+-- ---- faults
+
+module _ (certificates : List Certificate) (gates : ℕ) (question : Question) (some : 0 < length certificates) (alike : All (IsOfQuestion gates question) certificates) where
+  first_of : (c : Certificate) × (slice_get certificates 0 ≡ Some c)
+  first_of = slice_get-within certificates 0 some
+
+  same_admit : (this that : Admitted) → this.held ≡ that.held → this.flips ≡ that.flips → this ≡ record that { pins = this.pins }
+  same_admit this that held flips = rw (held, flips) refl
+
+  of_first : (c : Certificate) → Contains certificates c → question.admit ≡ record c.question.admit { pins = question.admit.pins }
+  of_first c has =
+      let h = All-contains (IsOfQuestion gates question) certificates c alike has in
+      same_admit question.admit c.question.admit h.held h.flips
+
+  unjoinable : (¬ IsJoinable question.admit question.admit.pins certificates) → IsUnjoinable certificates question.admit.pins
+  unjoinable none whole joined =
+      let c = joined.pair.certificate in
+      let mine = of_first c joined.pair.among in
+      let yours = All-contains (IsAlike whole) certificates c joined.alike joined.pair.among in
+      let same : whole.question.admit ≡ question.admit =
+      same_admit whole.question.admit c.question.admit yours.held yours.flips
+      ∙ ap (λ (x : List Trit). with_trits c.question.admit x) joined.pins_are ∙ sym mine in
+      none (whole.tree, subst (λ (a : Admitted). AreJoined a question.admit.pins certificates whole.tree) same joined.tree)
+
+  pub told : (fault : JoinFault) → IsTreeFault question.admit certificates fault → IsJoinFault certificates question.admit.pins fault
+  told fault.OutOfMemory h = tt
+  told (fault.Overlap this that) h = (h.0, unjoinable h.1)
+  told (fault.Crossed this that) h = (h.0, unjoinable h.1)
+  told (fault.Gap cube) h =
+      let f = first_of in
+      (f.0, f.1, subst (λ (a : Admitted). IsGap a certificates cube) (of_first f.0 (slice_get-Contains certificates 0 f.0 f.1)) h)
+  told fault.NoCertificate h = absurd h
+  told (fault.OtherCircuit this that) h = absurd h
+  told (fault.OtherHold this that) h = absurd h
+  told (fault.OtherFlips this that) h = absurd h
+  told (fault.OtherMoments this that) h = absurd h
+  told (fault.Outside this) h = absurd h
+  told (fault.FalseNone this) h = absurd h
+
+  same_question : (this that : Question) → this.admit ≡ record that.admit { pins = this.admit.pins } → this.moments ≡ that.moments
+      → this ≡ with_pins that this.admit.pins
+  same_question this that admit moments = rw (admit, moments) refl
+
+  pub false_none : All HasFit certificates → (told : JoinFault) → IsFalseNoneIn certificates question told → IsJoinFault certificates question.admit.pins told
+  false_none fit told h =
+      let c = h.certificate in
+      let has = slice_get-Contains certificates h.place c h.at in
+      let mine = All-contains (IsOfQuestion gates question) certificates c alike has in
+      let first = All-contains (IsOfQuestion gates question) certificates first_of.0 alike (slice_get-Contains certificates 0 first_of.0 first_of.1) in
+      subst (λ (f : JoinFault). IsJoinFault certificates question.admit.pins f) (sym h.told_is) (record {
+        first = first_of.0;
+        certificate = c;
+        first_at = first_of.1;
+        at = h.at;
+        all = subst (λ (q : Question). version_of q ≡ First)
+            (same_question question first_of.0.question (of_first first_of.0 (slice_get-Contains certificates 0 first_of.0 first_of.1)) first.moments) h.all;
+        none = h.none;
+        refused = λ netlist. refused question c netlist h.all mine.held mine.flips (All-contains HasFit certificates c fit has) h.none;
+      })

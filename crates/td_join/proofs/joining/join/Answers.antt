@@ -1,0 +1,13 @@
+use Rattle.std.proofs.Common.{List, subst}
+use Rattle.std.proofs.lemmas.Result.{err_from_is_err_and}
+use Rattle.td_certificate.specs.declared.certificate.Certificate.{Certificate}
+use Rattle.td_join.specs.Joining.{hull}
+use Rattle.td_join.specs.Faults.{IsJoinFault}
+use Rattle.td_join.proofs.joining.join.Goals as goal
+
+pub returns-in_err-first-clause-fault : goal.returns-in_err-first-clause-fault
+returns-in_err-first-clause-fault c =
+    let told = err_from_is_err_and c.from_residual.result c.from_residual.ensures.1 in
+    rw (told.1, told.2)
+    (subst (λ (cs : List Certificate). IsJoinFault cs (hull c.args.certificates.items) c.in_err-first.field-0.0) c.deref.ensures.value
+    (c.in_err-first.ensures.fault (hull c.args.certificates.items)))

@@ -1,0 +1,57 @@
+use Rattle.std.proofs.Common.{◌≡◌, ◌<◌, ◌≤◌, ◌*◌, false, List, Some, length, refl, subst}
+use Rattle.std.specs.Prelude.{slice_get, All}
+use Rattle.std.proofs.lemmas.Option.{slice_get_read}
+use Rattle.std.proofs.lemmas.Result.{err_from_is_err_and}
+use Rattle.td_domain.specs.Admits.{Admitted}
+use Rattle.td_certificate.specs.declared.certificate.Certificate.{Certificate}
+use Rattle.td_join.specs.Joining.{AreJoined}
+use Rattle.td_join.specs.Stacks.{IsTreeFault}
+use Rattle.td_join.proofs.Acceptance.{joined_is_tree, accepted_together}
+use Rattle.td_join.specs.Joining.{has_none}
+use Rattle.td_join.specs.Steps.{certificates_of, IsFalseNoneIn}
+use Rattle.td_join.proofs.Spelled.{spelled_together}
+use Rattle.td_join.proofs.Wholes.{is_joined, told, false_none}
+use Rattle.td_join.proofs.joining.join_alike.Goals as goal
+
+pub from_nodes-requires : goal.from_nodes-requires
+from_nodes-requires c =
+    let joined = subst (λ (cs : List Certificate). AreJoined c.args.question.admit c.args.question.admit.pins cs c.in_ok-nodes.nodes.items) c.in_ok-parts.ensures.all
+    (subst (λ (a : Admitted). AreJoined a a.pins (certificates_of c.in_ok-parts.parts.items) c.in_ok-nodes.nodes.items) c.admit-admit.ensures c.in_ok-nodes.ensures.tree) in
+    joined_is_tree c.args.question.admit c.args.question.admit.pins c.args.certificates.items c.in_ok-nodes.nodes.items joined c.requires.trees
+
+pub returns-clause-joined : goal.returns-clause-joined
+returns-clause-joined c =
+    let joined = subst (λ (cs : List Certificate). AreJoined c.args.question.admit c.args.question.admit.pins cs c.in_ok-nodes.nodes.items) c.in_ok-parts.ensures.all
+    (subst (λ (a : Admitted). AreJoined a a.pins (certificates_of c.in_ok-parts.parts.items) c.in_ok-nodes.nodes.items) c.admit-admit.ensures c.in_ok-nodes.ensures.tree) in
+    let within = subst (λ (cs : List Certificate). c.greatest.result < length cs) c.deref-2.ensures.value c.greatest.ensures.within in
+    let stands = slice_get_read c.args.certificates.items (length c.args.certificates.items) c.greatest.result c.index-first.result.now refl within c.index-first.ensures in
+    let most = subst (λ (cs : List Certificate). (worst : Certificate) → slice_get cs c.greatest.result ≡ Some worst → All (λ d. d.time ≤ worst.time) cs)
+    c.deref-2.ensures.value c.greatest.ensures.greatest in
+    is_joined c.args.certificates.items c.args.gates c.args.question c.index-first.result.now c.greatest.result c.in_ok-pair.pair c.in_ok-nodes.nodes.items
+    c.from_nodes.result stands c.requires.alike (most c.index-first.result.now stands) c.in_ok-pair.ensures c.from_nodes.ensures joined
+
+pub returns-clause-accepted : goal.returns-clause-accepted
+returns-clause-accepted c netlist all =
+    accepted_together netlist c.args.certificates.items c.args.question.admit.pins _ (returns-clause-joined c) all
+
+pub returns-in_err-nodes-clause-fault : goal.returns-in_err-nodes-clause-fault
+returns-in_err-nodes-clause-fault c =
+    let said = subst (λ (a : Admitted). IsTreeFault a (certificates_of c.in_ok-parts.parts.items) c.in_err-nodes.field-0.0) c.admit-admit.ensures c.in_err-nodes.ensures.fault in
+    let seen = err_from_is_err_and c.from_residual-in_err-nodes.result c.from_residual-in_err-nodes.ensures.1 in
+    rw (seen.1, seen.2)
+    (told c.args.certificates.items c.args.gates c.args.question c.requires.some c.requires.alike _
+    (subst (λ (cs : List Certificate). IsTreeFault c.args.question.admit cs c.in_err-nodes.field-0.0) c.in_ok-parts.ensures.all said))
+
+pub returns-clause-spelled : goal.returns-clause-spelled
+returns-clause-spelled c all =
+    spelled_together c.args.certificates.items c.args.question.admit.pins _ (returns-clause-joined c)
+    (subst (λ (a : Admitted). length a.pins ≡ 2 * length a.held) c.admit-admit.ensures c.pins-fit.ensures.fit)
+    (λ first. subst (λ (cs : List Certificate). All (λ d. has_none d.tree ≡ false) cs) c.deref.ensures.value (c.in_ok-without_false_none.ensures.ok first))
+    (joined_is_tree c.args.question.admit c.args.question.admit.pins c.args.certificates.items c.from_nodes.result (returns-clause-joined c).tree c.requires.trees) all
+
+pub returns-in_err-without_false_none-clause-fault : goal.returns-in_err-without_false_none-clause-fault
+returns-in_err-without_false_none-clause-fault c =
+    let said = subst (λ (cs : List Certificate). IsFalseNoneIn cs c.args.question c.in_err-without_false_none.field-0.0) c.deref.ensures.value
+    c.in_err-without_false_none.ensures.fault in
+    let seen = err_from_is_err_and c.from_residual.result c.from_residual.ensures.1 in
+    rw (seen.1, seen.2) (false_none c.args.certificates.items c.args.gates c.args.question c.requires.some c.requires.alike c.requires.fit _ said)

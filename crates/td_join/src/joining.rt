@@ -1,0 +1,138 @@
+//! Joining certificates.
+
+ghost use Rattle.std.specs.Prelude.{◌≡◌, ◌<◌, ◌≤◌, List, IfOk, IfErr, All, length, slice_get, Some};
+ghost use Rattle.td_nets.specs.Netlist.{Netlist};
+ghost use Rattle.td_domain.specs.declared.cubes.Trit.{Trit};
+ghost use Rattle.td_certificate.specs.declared.certificate.Certificate.{Certificate as Told};
+ghost use Rattle.td_certificate.specs.Accepts.{Accepts};
+ghost use Rattle.td_certificate.specs.Spelling.{HasSpelling};
+ghost use Rattle.td_certificate.specs.Trees.{IsTree};
+ghost use Rattle.td_join.specs.Joining.{pins_of, with_pins, IsAlike, IsJoined, hull};
+ghost use Rattle.td_join.specs.Faults.{IsJoinFault};
+ghost use Rattle.td_join.specs.Steps.{HasFit};
+ghost use Rattle.td_join.specs.Stacks.{IsOfQuestion};
+
+use crate::alike::all_alike;
+use crate::fault::JoinFault;
+use crate::growing::joined_nodes;
+use crate::hulls::{all_inside, hull};
+use crate::nones::without_false_none;
+use crate::parts::numbered;
+use std::alloc::{AllocError, Global};
+use td_certificate::{Certificate, Question, Tree};
+use td_domain::{Admit, Cube};
+
+/// The place of the first certificate with the greatest time.
+fn greatest(certificates: &[Certificate]) -> usize
+    requires { 0 < length certificates.now }
+    ensures within { result < length certificates.now }
+    ensures greatest { (worst : Told) → slice_get certificates.now result ≡ Some worst → All (λ c. c.time ≤ worst.time) certificates.now }
+{
+    let mut greatest = 0;
+    for (place, certificate) in certificates.iter().enumerate() {
+        if certificate.time > certificates[greatest].time {
+            greatest = place;
+        }
+    }
+    greatest
+}
+
+/// Joins certificates that are of one circuit and one question but for their pins.
+fn join_alike(
+    alloc: Global,
+    certificates: Vec<Certificate>,
+    gates: u32,
+    question: Question,
+) -> Result<Certificate, JoinFault>
+    requires some { 0 < length certificates.items }
+    requires alike { All (IsOfQuestion gates question) certificates.items }
+    requires trees { All (λ c. IsTree c.tree) certificates.items }
+    requires fit { All HasFit certificates.items }
+    ensures joined { IfOk result (IsJoined certificates.items question.admit.pins) }
+    ensures accepted { IfOk result (λ whole. (netlist : Netlist) → All (Accepts netlist) certificates.items → Accepts netlist whole) }
+    ensures spelled { IfOk result (λ whole. All HasSpelling certificates.items → HasSpelling whole) }
+    ensures fault { IfErr result (IsJoinFault certificates.items question.admit.pins) }
+{
+    without_false_none(&question, &certificates)?;
+    let admit = question.admit();
+    let _fit = admit.pins();
+    let first = &certificates[greatest(&certificates)];
+    let time = first.time;
+    let pair = first.pair.copy(alloc)?;
+    let parts = numbered(alloc, certificates)?;
+    let nodes = joined_nodes(alloc, admit, parts)?;
+    Ok(Certificate {
+        gates,
+        question,
+        time,
+        pair,
+        tree: Tree::from_nodes(nodes),
+    })
+}
+
+/// The first certificate, as which all others are.
+fn alike_first(certificates: &[Certificate]) -> Result<&Certificate, JoinFault>
+    ensures first { IfOk result (λ first. slice_get certificates.now 0 ≡ Some first.now) }
+    ensures alike { IfOk result (λ first. All (IsAlike first.now) certificates.now) }
+    ensures trees { IfOk result (λ first. All (λ c. IsTree c.tree) certificates.now) }
+    ensures fit { IfOk result (λ first. All HasFit certificates.now) }
+    ensures fault { (pins : List Trit) → IfErr result (IsJoinFault certificates.now pins) }
+{
+    let Some(first) = certificates.first() else {
+        return Err(JoinFault::NoCertificate);
+    };
+    all_alike(first, certificates)?;
+    Ok(first)
+}
+
+/// The question of the whole: that of the first certificate, with these pins. The error is want of memory.
+fn question_with(alloc: Global, first: &Certificate, pins: Cube) -> Result<Question, AllocError>
+    requires { length pins ≡ length (pins_of first.now) }
+    ensures { IfOk result (λ question. question ≡ with_pins first.now.question pins) }
+{
+    let admit = first.question.admit();
+    let _fit = admit.pins();
+    let held = Vec::from_slice(alloc, admit.held())?;
+    let flips = admit.flips();
+    let moments = Vec::from_slice(alloc, first.question.moments())?;
+    Ok(Question::new(Admit::new(pins, held, flips), moments))
+}
+
+/// Joins certificates of parts of one question into one certificate, whose pins are these, two for each input. What lies in the
+/// pins and in no certificate's has to be without an admitted pair.
+///
+/// # Errors
+///
+/// The first that is there of: no certificate; one that isn't as the first; one whose pins aren't a part of these; a leaf of one that
+/// says that no admitted pair lies in its cube, where all pairs are admitted; what keeps them from being joined. `OutOfMemory` where a
+/// growth was refused.
+pub fn join_in(
+    alloc: Global,
+    certificates: Vec<Certificate>,
+    pins: &Cube,
+) -> Result<Certificate, JoinFault>
+    // They are joined into one with these pins. Where a netlist accepts each of them, it accepts the whole, and where each has a
+    // text, the whole has one.
+    ensures joined { IfOk result (IsJoined certificates.items pins.now) }
+    ensures accepted { IfOk result (λ whole. (netlist : Netlist) → All (Accepts netlist) certificates.items → Accepts netlist whole) }
+    ensures spelled { IfOk result (λ whole. All HasSpelling certificates.items → HasSpelling whole) }
+    ensures fault { IfErr result (IsJoinFault certificates.items pins.now) }
+{
+    let first = alike_first(&certificates)?;
+    all_inside(&certificates, pins)?;
+    let gates = first.gates;
+    let question = question_with(alloc, first, pins.copy(alloc)?)?;
+    join_alike(alloc, certificates, gates, question)
+}
+
+/// As `join_in`, with the least cube that has the pins of all certificates.
+pub fn join(alloc: Global, certificates: Vec<Certificate>) -> Result<Certificate, JoinFault>
+    ensures joined { IfOk result (IsJoined certificates.items (hull certificates.items)) }
+    ensures accepted { IfOk result (λ whole. (netlist : Netlist) → All (Accepts netlist) certificates.items → Accepts netlist whole) }
+    ensures spelled { IfOk result (λ whole. All HasSpelling certificates.items → HasSpelling whole) }
+    ensures fault { IfErr result (IsJoinFault certificates.items (hull certificates.items)) }
+{
+    let first = alike_first(&certificates)?;
+    let pins = hull(alloc, first, &certificates)?;
+    join_in(alloc, certificates, &pins)
+}

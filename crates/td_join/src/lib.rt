@@ -1,0 +1,15 @@
+//! Certificates of the parts of one question, joined into one certificate.
+#![tactic(auto)]
+
+mod alike;
+mod fault;
+mod growing;
+mod hulls;
+mod joining;
+pub mod laws;
+mod nones;
+mod parts;
+mod steps;
+
+pub use fault::JoinFault;
+pub use joining::{join, join_in};

@@ -1,0 +1,218 @@
+//! Cutting the pins of a question into parts.
+
+ghost use Rattle.std.specs.Prelude.{◌≡◌, ℕ, [], ◌∷◌, ◌++◌, ◌*◌, ◌<◌, ◌≤◌, ◌+◌, max, set, IfOk, IfSome, OnOk, All, length, slice_get, Some};
+ghost use Rattle.td_domain.specs.declared.cubes.Trit.TheVariants.{Free};
+ghost use Rattle.td_domain.specs.Admits.{HasAdmitted};
+ghost use Rattle.td_certificate.specs.Cubes.{zero_side, one_side};
+ghost use Rattle.td_search.specs.Problems.{IsPart};
+ghost use Rattle.td_search.specs.Sheeted.{IsScratch};
+ghost use Rattle.td_join.specs.Partition.{IsPartition};
+ghost use Rattle.td_parts.specs.Queues.{AreBelow};
+ghost use Rattle.td_parts.specs.Splits.{IsSplitFree, cubes_of as cubes};
+ghost use Rattle.td_parts.specs.Sharing.{IsCutting, IsFreeIn, weight};
+
+use crate::part::{Part, cubes_of};
+use crate::queue::Queue;
+use std::alloc::{AllocError, Global};
+use td_circuit::Circuit;
+use td_domain::{Admit, Cube, Trit};
+use td_search::{Scratch, Strategy};
+
+/// The zero side and the one side of a cube at a free position. The error is want of memory.
+fn sides(alloc: Global, cube: &Cube, position: usize) -> Result<(Cube, Cube), AllocError>
+    requires { slice_get cube.now position ≡ Some Free }
+    ensures low { IfOk result (λ both. both.0 ≡ zero_side cube.now position) }
+    ensures high { IfOk result (λ both. both.1 ≡ one_side cube.now position) }
+{
+    let mut low = cube.copy(alloc)?;
+    low.set(position, Trit::Zero);
+    let mut high = cube.copy(alloc)?;
+    high.set(position, Trit::One);
+    Ok((low, high))
+}
+
+/// Parts that share out the admitted pairs, and the order in which they are halved.
+#[derive(Drop)]
+pub struct Cutting {
+    pub parts: Vec<Part>,
+    pub queue: Queue,
+}
+
+impl Cutting {
+    /// The pins as one part. The error is want of memory.
+    fn begin(
+        alloc: Global,
+        scratch: &mut Scratch,
+        circuit: &Circuit,
+        admit: &Admit,
+        strategy: Strategy,
+    ) -> Result<Cutting, AllocError>
+        requires scratch { IsScratch circuit.now scratch.old }
+        requires held { length admit.now.held ≡ length circuit.now.netlist.inputs }
+        requires any { HasAdmitted admit.now admit.now.pins }
+        ensures cutting { IfOk result (IsCutting admit.now) }
+        ensures one { IfOk result (λ cutting. length cutting.parts.items ≡ 1) }
+        ensures scratch { IsScratch circuit.now scratch.new }
+    {
+        let pins = admit.pins().copy(alloc)?;
+        let part = Part::new(alloc, scratch, circuit, strategy, pins)?;
+        let mut queue = Queue::new(alloc);
+        queue.push(part.bound(), 0)?;
+        let mut parts = Vec::new(alloc);
+        parts.push(part)?;
+        Ok(Cutting { parts, queue })
+    }
+
+    /// Puts a half of the part of a place into its place. The error is want of memory.
+    fn narrow(
+        &mut self,
+        alloc: Global,
+        scratch: &mut Scratch,
+        circuit: &Circuit,
+        strategy: Strategy,
+        place: usize,
+        half: Cube,
+    ) -> Result<(), AllocError>
+        requires scratch { IsScratch circuit.now scratch.old }
+        requires positions { length half ≡ 2 * length circuit.now.netlist.inputs }
+        requires place { place < length self.old.parts.items }
+        ensures cubes { OnOk result (cubes self.new.parts.items ≡ set (cubes self.old.parts.items) place half) }
+        ensures splits { All IsSplitFree self.old.parts.items → OnOk result (All IsSplitFree self.new.parts.items) }
+        ensures queued { AreBelow (length self.old.parts.items) self.old.queue → OnOk result (AreBelow (length self.old.parts.items) self.new.queue) }
+        ensures scratch { IsScratch circuit.now scratch.new }
+    {
+        let part = Part::new(alloc, scratch, circuit, strategy, half)?;
+        self.queue.push(part.bound(), place)?;
+        self.parts[place] = part;
+        Ok(())
+    }
+
+    /// Adds a half as one part more. The error is want of memory.
+    fn add(
+        &mut self,
+        alloc: Global,
+        scratch: &mut Scratch,
+        circuit: &Circuit,
+        strategy: Strategy,
+        half: Cube,
+    ) -> Result<(), AllocError>
+        requires scratch { IsScratch circuit.now scratch.old }
+        requires positions { length half ≡ 2 * length circuit.now.netlist.inputs }
+        ensures cubes { OnOk result (cubes self.new.parts.items ≡ cubes self.old.parts.items ++ half ∷ []) }
+        ensures splits { All IsSplitFree self.old.parts.items → OnOk result (All IsSplitFree self.new.parts.items) }
+        ensures queued { AreBelow (length self.old.parts.items) self.old.queue → OnOk result (AreBelow (length self.old.parts.items + 1) self.new.queue) }
+        ensures scratch { IsScratch circuit.now scratch.new }
+    {
+        let part = Part::new(alloc, scratch, circuit, strategy, half)?;
+        self.queue.push(part.bound(), self.parts.len())?;
+        self.parts.push(part)?;
+        Ok(())
+    }
+
+    /// Halves the part of a place at a position that is free in it. A half without an admitted pair is left out. The error is want of
+    /// memory.
+    fn halve(
+        &mut self,
+        alloc: Global,
+        scratch: &mut Scratch,
+        circuit: &Circuit,
+        admit: &Admit,
+        strategy: Strategy,
+        place: usize,
+        position: usize,
+    ) -> Result<(), AllocError>
+        requires scratch { IsScratch circuit.now scratch.old }
+        requires held { length admit.now.held ≡ length circuit.now.netlist.inputs }
+        requires cutting { IsCutting admit.now self.old }
+        requires place { place < length self.old.parts.items }
+        requires free { IsFreeIn (cubes self.old.parts.items) place position }
+        ensures cutting { OnOk result (IsCutting admit.now self.new) }
+        ensures few { OnOk result (length self.new.parts.items ≤ length self.old.parts.items + 1) }
+        ensures smaller { OnOk result (weight (cubes self.new.parts.items) < weight (cubes self.old.parts.items)) }
+        ensures scratch { IsScratch circuit.now scratch.new }
+    {
+        let _fit = admit.pins();
+        let (low, high) = sides(alloc, &self.parts[place].cube, position)?;
+        if !admit.any(&low) {
+            self.narrow(alloc, scratch, circuit, strategy, place, high)?;
+            return Ok(());
+        }
+        self.narrow(alloc, scratch, circuit, strategy, place, low)?;
+        if !admit.any(&high) {
+            return Ok(());
+        }
+        self.add(alloc, scratch, circuit, strategy, high)?;
+        Ok(())
+    }
+
+    /// The place of the part that is halved next, and the position at which it is. None where no part can be halved.
+    fn next(&mut self) -> Option<(usize, usize)>
+        requires splits { All IsSplitFree self.old.parts.items }
+        requires queued { AreBelow (length self.old.parts.items) self.old.queue }
+        ensures place { IfSome result (λ next. next.0 < length self.old.parts.items) }
+        ensures free { IfSome result (λ next. IsFreeIn (cubes self.old.parts.items) next.0 next.1) }
+        ensures parts { self.new.parts ≡ self.old.parts }
+        ensures queued { AreBelow (length self.old.parts.items) self.new.queue }
+    {
+        let place = self.queue.pop()?;
+        let split = self.parts[place].split?;
+        Some((place, split.position))
+    }
+
+    /// Halves parts until there are so many, or none can be halved. The error is want of memory.
+    fn halve_until(
+        &mut self,
+        alloc: Global,
+        scratch: &mut Scratch,
+        circuit: &Circuit,
+        admit: &Admit,
+        strategy: Strategy,
+        parts: usize,
+    ) -> Result<(), AllocError>
+        requires scratch { IsScratch circuit.now scratch.old }
+        requires held { length admit.now.held ≡ length circuit.now.netlist.inputs }
+        requires cutting { IsCutting admit.now self.old }
+        requires few { length self.old.parts.items ≤ max 1 parts }
+        ensures cutting { OnOk result (IsCutting admit.now self.new) }
+        ensures few { OnOk result (length self.new.parts.items ≤ max 1 parts) }
+    {
+        while self.parts.len() < parts {
+            let Some((place, position)) = self.next() else {
+                break;
+            };
+            self.halve(alloc, scratch, circuit, admit, strategy, place, position)?;
+        }
+        Ok(())
+    }
+}
+
+/// Cuts the pins of a question into at most so many cubes (0 counts as 1), to be searched apart. The part whose strongest bound is
+/// greatest is halved, the first of several, at the position at which a search by the strategy would split it, until there are that many
+/// or a search would split no part. A cube without an admitted pair is left out, so that there is none at all where no pair is admitted.
+/// The error is want of memory.
+pub fn cut(
+    alloc: Global,
+    circuit: &Circuit,
+    admit: &Admit,
+    strategy: Strategy,
+    parts: usize,
+) -> Result<Vec<Cube>, AllocError>
+    requires held { length admit.now.held ≡ length circuit.now.netlist.inputs }
+    // Each admitted pair lies in exactly one of the cubes, and each cube has an admitted pair.
+    ensures partition { IfOk result (λ cubes. IsPartition admit.now cubes.items) }
+    ensures some { IfOk result (λ cubes. All (HasAdmitted admit.now) cubes.items) }
+    // Each is a part of the pins with as many positions.
+    ensures inside { IfOk result (λ cubes. All (λ cube. IsPart cube admit.now.pins) cubes.items) }
+    ensures fits { IfOk result (λ cubes. All (λ cube. length cube ≡ length admit.now.pins) cubes.items) }
+    ensures few { IfOk result (λ cubes. length cubes.items ≤ max 1 parts) }
+{
+    let pins = admit.pins();
+    if !admit.any(pins) {
+        return Ok(Vec::new(alloc));
+    }
+    let mut scratch = Scratch::new(alloc, circuit, pins)?;
+    let mut cutting = Cutting::begin(alloc, &mut scratch, circuit, admit, strategy)?;
+    cutting.halve_until(alloc, &mut scratch, circuit, admit, strategy, parts)?;
+    let cubes = cubes_of(alloc, cutting.parts)?;
+    Ok(cubes)
+}

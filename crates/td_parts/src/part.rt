@@ -1,0 +1,57 @@
+//! Parts of the pins.
+
+ghost use Rattle.std.specs.Prelude.{◌≡◌, ◌*◌, length, IfOk};
+ghost use Rattle.td_search.specs.Sheeted.{IsScratch};
+ghost use Rattle.td_parts.specs.Splits.{IsSplitFree, cubes_of};
+
+use crate::split::{Split, split_of};
+use std::alloc::{AllocError, Global};
+use td_circuit::Circuit;
+use td_domain::Cube;
+use td_search::{Scratch, Strategy};
+
+/// A part of the pins, and where a search would split it.
+#[derive(Debug, Drop)]
+pub struct Part {
+    pub cube: Cube,
+    pub split: Option<Split>,
+}
+
+impl Part {
+    /// The part of a cube. The error is want of memory, and the scratch may be used again.
+    pub fn new(
+        alloc: Global,
+        scratch: &mut Scratch,
+        circuit: &Circuit,
+        strategy: Strategy,
+        cube: Cube,
+    ) -> Result<Part, AllocError>
+        requires scratch { IsScratch circuit.now scratch.old }
+        requires positions { length cube ≡ 2 * length circuit.now.netlist.inputs }
+        ensures cube { IfOk result (λ part. part.cube ≡ cube) }
+        ensures split { IfOk result IsSplitFree }
+        ensures scratch { IsScratch circuit.now scratch.new }
+    {
+        let split = split_of(alloc, scratch, circuit, &cube, strategy)?;
+        Ok(Part { cube, split })
+    }
+
+    /// The strongest bound of a part that a search would split, else 0.
+    pub fn bound(&self) -> u64 {
+        match self.split {
+            Some(split) => split.bound,
+            None => 0,
+        }
+    }
+}
+
+/// The cubes of parts. The error is want of memory.
+pub fn cubes_of(alloc: Global, parts: Vec<Part>) -> Result<Vec<Cube>, AllocError>
+    ensures { IfOk result (λ cubes. cubes.items ≡ cubes_of parts.items) }
+{
+    let mut cubes = Vec::with_capacity(alloc, parts.len())?;
+    for part in parts {
+        cubes.push(part.cube)?;
+    }
+    Ok(cubes)
+}

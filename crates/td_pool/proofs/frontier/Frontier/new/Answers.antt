@@ -1,0 +1,27 @@
+use Rattle.std.proofs.Common.{List, [], ◌∷◌, refl, sym, subst}
+use Rattle.td_domain.specs.Worst.{IsUpperBound}
+use Rattle.td_search.specs.Problems.{Problem, problem_by}
+use Rattle.td_pool.specs.declared.leaf.OpenLeaf.{OpenLeaf}
+use Rattle.td_pool.specs.Frontiers.{IsCover, leaf_of}
+use Rattle.td_pool.specs.Watched.{IsLowerBound}
+use Rattle.td_pool.proofs.Covers.{root_least, root_above, root_greatest, cover_begins}
+use Rattle.td_pool.proofs.frontier.Frontier.new.Goals as goal
+
+pub invariant_of-result-clause-least : goal.invariant_of-result-clause-least
+invariant_of-result-clause-least g c =
+    subst (λ (a : Problem). IsLowerBound a c.args.root.first) (sym c.requires.asked)
+    (root_least (problem_by c.args.strategy c.args.circuit.now c.args.admit.now) c.args.root c.requires.root)
+
+pub invariant_of-result-clause-greatest : goal.invariant_of-result-clause-greatest
+invariant_of-result-clause-greatest g c =
+    subst (λ (a : Problem). IsUpperBound a.setting a.admit c.args.root.bound) (sym c.requires.asked)
+    (root_greatest c.args.strategy c.args.circuit.now c.args.admit.now c.gates-numbering.ensures.numbering c.moments-moments.ensures.fit c.args.root c.requires.root)
+
+pub invariant_of-result-clause-cover : goal.invariant_of-result-clause-cover
+invariant_of-result-clause-cover g c =
+    let asked : Problem = problem_by c.args.strategy c.args.circuit.now c.args.admit.now in
+    let leaf : OpenLeaf = leaf_of 0 c.args.admit.now.pins c.args.root.bound in
+    subst (λ (l : List OpenLeaf). IsCover g.L.Subject.asked 0 l) (sym c.in_ok-leaves.ensures)
+    (subst (λ (a : Problem). IsCover a 0 (leaf ∷ [])) (sym c.requires.asked)
+    (cover_begins asked 0 leaf refl
+    (root_above c.args.strategy c.args.circuit.now c.args.admit.now c.gates-numbering.ensures.numbering c.moments-moments.ensures.fit c.args.root c.requires.root)))

@@ -1,0 +1,34 @@
+use Rattle.std.proofs.Common.{◌≡◌, ◌+◌, List, [], ◌∷◌, ◌++◌, take, drop, sym, subst}
+use Rattle.std.specs.Prelude.{slice_get, slice_index_or, Some}
+use Rattle.td_search.specs.declared.findings.Finding.{Finding}
+use Rattle.td_search.specs.Findings.{AreTrue}
+use Rattle.td_search.specs.Problems.{Problem, problem_by}
+use Rattle.td_search.proofs.Found.{nothing}
+use Rattle.td_pool.specs.declared.leaf.OpenLeaf.{OpenLeaf}
+use Rattle.td_pool.proofs.Covers.{IsAt, walk_begins, finding_at}
+use Rattle.td_pool.proofs.frontier.Frontier.settle.Goals as goal
+
+pub loop-finding-init : goal.loop-finding-init
+loop-finding-init g c =
+    let asked : Problem = problem_by c.args.strategy c.args.circuit.now c.args.admit.now in
+    let leaf : OpenLeaf = c.in-Some.ensures.0 in
+    let old : List OpenLeaf = c.args.self.now.leaves.items in
+    let at : slice_get old c.in-Some.place ≡ Some leaf = subst (λ (l : List OpenLeaf). slice_get l c.in-Some.place ≡ Some leaf) c.deref.ensures.value c.in-Some.ensures.1 in
+    let found : AreTrue asked (c.args.evidence.now.cube ∷ []) c.deref-finding-items.result.now =
+    subst (λ (l : List Finding). AreTrue asked (c.args.evidence.now.cube ∷ []) l) (sym c.deref-finding-items.ensures.value) c.requires.evidence in
+    walk_begins asked (take c.in-Some.place old ++ drop (c.in-Some.place + 1) old) leaf c.args.evidence.now.cube c.deref-finding-items.result.now c.bring_last.new.self.leaves.items
+    (c.bring_last.ensures leaf at) c.in-Some.ensures.2 found
+
+pub settle_last-requires-clause-last : goal.settle_last-requires-clause-last
+settle_last-requires-clause-last g c =
+    let asked : Problem = problem_by c.args.strategy c.args.circuit.now c.args.admit.now in
+    let here : IsAt asked c.loop-finding.self.leaves.items (slice_index_or c.deref-finding-items.result.now c.loop-finding.finding-index nothing) (drop (c.loop-finding.finding-index + 1) c.deref-finding-items.result.now) =
+    finding_at asked c.loop-finding.self.leaves.items c.deref-finding-items.result.now c.loop-finding.finding-index c.loop-finding-test.true c.loop-finding.invariant in
+    (here.rest, here.leaf, here.is, here.holds)
+
+pub loop-finding-preserved : goal.loop-finding-preserved
+loop-finding-preserved g c =
+    let asked : Problem = problem_by c.args.strategy c.args.circuit.now c.args.admit.now in
+    let here : IsAt asked c.loop-finding.self.leaves.items (slice_index_or c.deref-finding-items.result.now c.loop-finding.finding-index nothing) (drop (c.loop-finding.finding-index + 1) c.deref-finding-items.result.now) =
+    finding_at asked c.loop-finding.self.leaves.items c.deref-finding-items.result.now c.loop-finding.finding-index c.loop-finding-test.true c.loop-finding.invariant in
+    here.goes_on c.settle_last.new.self.leaves.items (c.in-Ok.ensures here.rest here.leaf here.is)

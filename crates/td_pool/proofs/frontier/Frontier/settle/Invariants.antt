@@ -1,0 +1,7 @@
+use Rattle.std.proofs.Common.{drop}
+use Rattle.td_search.specs.Problems.{problem_by}
+use Rattle.td_pool.proofs.Covers.{IsWalk}
+use Rattle.td_pool.proofs.frontier.Frontier.settle.Given as goal
+
+abbrev pub invariant-loop-finding : goal.invariant-loop-finding
+invariant-loop-finding g l = IsWalk (problem_by l.strategy l.circuit l.admit) l.self.leaves.items (drop l.finding-index l.finding-items)

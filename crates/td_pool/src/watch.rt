@@ -1,0 +1,64 @@
+//! Who is told how far a search has come.
+
+use td_circuit::Circuit;
+use td_domain::Admit;
+use td_search::Strategy;
+
+/// How far a search has come: how many nodes were split or closed, the greatest delay that it has found of an admitted pair, a figure
+/// that no admitted pair's delay is above, and how many leaves are left. Delays are in steps.
+#[derive(Clone, Copy, Debug, PartialEq, Eq, Drop)]
+pub struct Progress {
+    pub nodes: u64,
+    pub low: u64,
+    pub high: u64,
+    pub open: u64,
+}
+
+/// Who watches a search. A search tells a watch how far it has come, in the thread that began it.
+pub trait Watch: Drop {
+    ghost use Rattle.td_search.specs.Problems.{Problem, problem_by};
+    ghost use Rattle.td_pool.specs.Watched.{IsTrueProgress};
+
+    /// Between the two moments the watch was told of a search that is asked this, any number of times.
+    ghost told: { Problem → Self → Self → Type 0 };
+
+    /// Whether it is to be told anything. A search keeps no account of what is left for a watch that doesn't look.
+    fn is_looking(&self) -> bool;
+
+    /// Tells how far the search has come. What is told of delays is true of the circuit's admitted pairs.
+    fn passed(&mut self, circuit: &Circuit, admit: &Admit, strategy: Strategy, progress: Progress)
+        requires { IsTrueProgress (problem_by strategy circuit.now admit.now) progress }
+        ensures { told (problem_by strategy circuit.now admit.now) self.old self.new };
+
+    /// It may be told nothing.
+    ghost told_nothing: { (asked : Problem) (watch : Self) → told asked watch watch };
+
+    /// And one thing after another.
+    ghost told_both: { (asked : Problem) (first then last : Self) → told asked first then → told asked then last → told asked first last };
+}
+
+/// Nobody watches.
+#[derive(Clone, Copy, Debug, Drop)]
+pub struct Unwatched;
+
+impl Watch for Unwatched {
+    ghost use Rattle.std.specs.Prelude.{⊤};
+
+    ghost told = { λ _ _ _. ⊤ };
+
+    fn is_looking(&self) -> bool {
+        false
+    }
+
+    fn passed(
+        &mut self,
+        _circuit: &Circuit,
+        _admit: &Admit,
+        _strategy: Strategy,
+        _progress: Progress,
+    ) {}
+
+    ghost told_nothing = { λ _ _. tt };
+
+    ghost told_both = { λ _ _ _ _ _ _. tt };
+}
