@@ -1,6 +1,6 @@
 //! Books for the tests, and what claims of them give.
 
-ghost use Rattle.std.specs.Prelude.{◌≤◌};
+ghost use Rattle.std.specs.Prelude.{◌≡◌, ◌≤◌, [], IfOk};
 
 use std::alloc::{AllocError, Global};
 use td_book::{Book, Claim, Lease};
@@ -15,6 +15,7 @@ pub fn free_book(
 ) -> Result<Book, AllocError>
     requires inputs { inputs ≤ 100 }
     requires budget { budget ≤ 10000000 }
+    ensures { IfOk result (λ book. book.order ≡ []) }
 {
     Book::new(alloc, Cube::free(alloc, inputs)?, workers, budget)
 }

@@ -1,25 +1,17 @@
 //! Books step by step, and what they tell: of a lease its worker, number, allowance and cube.
 
-use crate::claims::free_book;
-use crate::steps::told;
+use crate::steps::{ran, told};
 use std::alloc::{AllocError, Global};
 use std::process::Abort;
 use std::test::Fail;
 use td_book::Book;
 use td_domain::{Cube, Trit};
 
-// The nodes of a book's tree, if they are the same in a vector that has their room.
+// The nodes of a book's tree.
 fn nodes_told(alloc: Global, book: Book) -> Result<String, AllocError> {
     let tree = book.into_tree();
-    let nodes = tree.nodes(alloc)?;
-    let again = tree.nodes_in(Vec::with_capacity(alloc, tree.len() as usize)?);
-    if again != nodes
-        || !tree
-            .cube()
-            .has_trits(&[Trit::One, Trit::Free, Trit::Free, Trit::Zero])
-    {
-        return Err(AllocError);
-    }
+    let room = Vec::with_capacity(alloc, tree.len() as usize)?;
+    let nodes = tree.nodes_in(room);
     format!(in alloc; "{nodes:?}")
 }
 
@@ -31,13 +23,18 @@ fn known_book(rt: &impl Abort, alloc: Global) -> Result<Book, AllocError> {
     Book::new(alloc, cube, 1, 3)
 }
 
+// What comes of a split and two closes of it, and its tree.
+fn closed(rt: &impl Abort, alloc: Global) -> Result<String, AllocError> {
+    let mut book = known_book(rt, alloc)?;
+    let mut text = told(alloc, &mut book, "00s0b0e0")?;
+    text.push_str(&nodes_told(alloc, book)?)?;
+    Ok(text)
+}
+
 #[test]
 fn a_split_and_two_closes(rt: HostRuntime) -> Result<(), Fail> {
-    let alloc = rt.alloc();
-    let mut book = known_book(&rt, alloc)?;
-    assert!(rt; book.positions() == 4 && book.workers() == 1);
     assert_eq!(rt;
-        told(alloc, &mut book, "00s0b0e0")?.as_str(),
+        closed(&rt, rt.alloc())?.as_str(),
         "0 0 3 1..0
 idle
 split 1 2
@@ -47,20 +44,36 @@ closed
 closed
 done
 3 handled
-"
+[Node { number: 0, state: Split(1) }, Node { number: 1, state: Closed(Bound(Arrival), 3, 4) }, Node { number: 2, state: Closed(Empty, 3, 4) }]"
     );
-    assert_eq!(rt;
-        nodes_told(alloc, book)?.as_str(),
-        "[Node { number: 0, state: Split(1) }, Node { number: 1, state: Closed(Bound(Arrival), 3, 4) }, Node { number: 2, state: Closed(Empty, 3, 4) }]"
-    );
+    Ok(())
+}
+
+// The sizes of a book, and of its tree.
+fn sizes(rt: &impl Abort, alloc: Global) -> Result<(u32, u32, u32, bool), AllocError> {
+    let book = known_book(rt, alloc)?;
+    let positions = book.positions();
+    let workers = book.workers();
+    let tree = book.into_tree();
+    let known = [Trit::One, Trit::Free, Trit::Free, Trit::Zero];
+    Ok((
+        positions,
+        workers,
+        tree.len(),
+        tree.cube().has_trits(&known),
+    ))
+}
+
+#[test]
+fn a_new_book(rt: HostRuntime) -> Result<(), Fail> {
+    assert!(rt; sizes(&rt, rt.alloc())? == (4, 1, 1, true));
     Ok(())
 }
 
 #[test]
 fn a_released_leaf_is_leased_again(rt: HostRuntime) -> Result<(), Fail> {
-    let mut book = free_book(rt.alloc(), 1, 1, 1)?;
     assert_eq!(rt;
-        told(rt.alloc(), &mut book, "0r0")?.as_str(),
+        ran(rt.alloc(), 1, 1, 1, "0r0")?.as_str(),
         "0 0 1 ..
 released
 0 0 1 ..
@@ -72,14 +85,12 @@ released
 
 #[test]
 fn no_more_than_the_budget(rt: HostRuntime) -> Result<(), Fail> {
-    let mut book = free_book(rt.alloc(), 2, 1, 0)?;
     assert_eq!(rt;
-        told(rt.alloc(), &mut book, "0")?.as_str(),
+        ran(rt.alloc(), 2, 1, 0, "0")?.as_str(),
         "spent\n0 handled\n"
     );
-    let mut book = free_book(rt.alloc(), 2, 2, 2)?;
     assert_eq!(rt;
-        told(rt.alloc(), &mut book, "1s01p1")?.as_str(),
+        ran(rt.alloc(), 2, 2, 2, "1s01p1")?.as_str(),
         "1 0 1 ....
 split 1 2
 0 1 1 0...
@@ -94,9 +105,8 @@ spent
 
 #[test]
 fn claims_by_number(rt: HostRuntime) -> Result<(), Fail> {
-    let mut book = free_book(rt.alloc(), 1, 2, 10)?;
     assert_eq!(rt;
-        told(rt.alloc(), &mut book, "0XYsZCA")?.as_str(),
+        ran(rt.alloc(), 1, 2, 10, "0XYsZCA")?.as_str(),
         "0 0 1 ..
 none
 none
@@ -108,9 +118,8 @@ none
 "
     );
     // beyond the budget
-    let mut book = free_book(rt.alloc(), 1, 2, 2)?;
     assert_eq!(rt;
-        told(rt.alloc(), &mut book, "0sZBrB")?.as_str(),
+        ran(rt.alloc(), 1, 2, 2, "0sZBrB")?.as_str(),
         "0 0 1 ..
 split 1 2
 1 2 1 1.
@@ -125,14 +134,12 @@ released
 
 #[test]
 fn allowances_of_a_root(rt: HostRuntime) -> Result<(), Fail> {
-    let mut book = free_book(rt.alloc(), 2, 1, 100)?;
     assert_eq!(rt;
-        told(rt.alloc(), &mut book, "0")?.as_str(),
+        ran(rt.alloc(), 2, 1, 100, "0")?.as_str(),
         "0 0 64 ....\n0 handled\n"
     );
-    let mut book = free_book(rt.alloc(), 2, 1, 63)?;
     assert_eq!(rt;
-        told(rt.alloc(), &mut book, "0")?.as_str(),
+        ran(rt.alloc(), 2, 1, 63, "0")?.as_str(),
         "0 0 63 ....\n0 handled\n"
     );
     Ok(())
@@ -141,9 +148,8 @@ fn allowances_of_a_root(rt: HostRuntime) -> Result<(), Fail> {
 // Of two workers, with a budget of 15, where the nodes lie deeper and deeper.
 #[test]
 fn allowances_from_eight_fixed_positions(rt: HostRuntime) -> Result<(), Fail> {
-    let mut book = free_book(rt.alloc(), 5, 2, 15)?;
     assert_eq!(rt;
-        told(rt.alloc(), &mut book, "0s0s0s0s0s0s0s0s0s0s")?.as_str(),
+        ran(rt.alloc(), 5, 2, 15, "0s0s0s0s0s0s0s0s0s0s")?.as_str(),
         "0 0 1 ..........
 split 1 2
 0 1 1 0.........
@@ -173,9 +179,8 @@ split 19 20
 // Leases of another worker, number, allowance and of other cubes, and one that is closed already.
 #[test]
 fn strangers_come_back(rt: HostRuntime) -> Result<(), Fail> {
-    let mut book = free_book(rt.alloc(), 1, 2, 9)?;
     assert_eq!(rt;
-        told(rt.alloc(), &mut book, "1cwrnplpmpkswglgpp")?.as_str(),
+        ran(rt.alloc(), 1, 2, 9, "1cwrnplpmpkswglgpp")?.as_str(),
         "1 0 1 ..
 stranger 0 0 1 ..
 stranger 1 7 1 ..
@@ -195,14 +200,12 @@ stranger 1 0 1 ..
 // The numbers of what a graft leaves open come in the tree's order: where zero sides alone are split, and where the zero sides are closed.
 #[test]
 fn the_numbers_in_the_trees_order(rt: HostRuntime) -> Result<(), Fail> {
-    let mut book = free_book(rt.alloc(), 2, 1, 5)?;
     assert_eq!(rt;
-        told(rt.alloc(), &mut book, "0g")?.as_str(),
+        ran(rt.alloc(), 2, 1, 5, "0g")?.as_str(),
         "0 0 5 ....\ngrafted 8 6 4 2\n5 handled\n"
     );
-    let mut book = free_book(rt.alloc(), 2, 1, 64)?;
     assert_eq!(rt;
-        told(rt.alloc(), &mut book, "0h0h")?.as_str(),
+        ran(rt.alloc(), 2, 1, 64, "0h0h")?.as_str(),
         "0 0 64 ....
 grafted 5 6
 0 5 59 110.

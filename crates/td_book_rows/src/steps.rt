@@ -1,8 +1,8 @@
 //! Steps of a book, each of which tells what came of it.
 
-ghost use Rattle.std.specs.Prelude.{◌≡◌};
+ghost use Rattle.std.specs.Prelude.{◌≡◌, ◌≤◌};
 
-use crate::claims::{claimed, claimed_at};
+use crate::claims::{claimed, claimed_at, free_book};
 use std::alloc::{AllocError, Global};
 use td_book::{Book, BoundedBy, GraftFault, Lease, Mark, SplitFault, Stranger, Subtree};
 use td_domain::{Cube, Trit};
@@ -264,4 +264,19 @@ pub fn told(alloc: Global, book: &mut Book, steps: &str) -> Result<String, Alloc
     }
     told.push_str(&format!(in alloc; "{} handled\n", book.handled())?)?;
     Ok(told)
+}
+
+/// What comes of these steps of a new book, whose root has all pairs for so many inputs.
+pub fn ran(
+    alloc: Global,
+    inputs: usize,
+    workers: u32,
+    budget: u64,
+    steps: &str,
+) -> Result<String, AllocError>
+    requires inputs { inputs ≤ 100 }
+    requires budget { budget ≤ 10000000 }
+{
+    let mut book = free_book(alloc, inputs, workers, budget)?;
+    told(alloc, &mut book, steps)
 }

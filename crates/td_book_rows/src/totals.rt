@@ -1,6 +1,6 @@
-//! The settlements of four threads, added up.
+//! The settlements of two threads, added up.
 
-ghost use Rattle.std.specs.Prelude.{◌≡◌, ◌+◌, ◌<◌, IfOk, IfSome};
+ghost use Rattle.std.specs.Prelude.{◌≡◌, ◌<◌};
 
 use crate::claims::free_book;
 use std::alloc::{AllocError, Global};
@@ -54,27 +54,6 @@ fn split_next<L: Ledger>(book: &mut Counted<L>, share: &mut Share<L>) -> Result<
     Ok(book.split(lease, position, share).is_ok())
 }
 
-// A book of four workers with a budget of 7, and three splits made.
-fn split_book<L: Ledger>(
-    alloc: Global,
-    blank: Blank,
-) -> Result<Option<(Counted<L>, Share<L>)>, AllocError>
-    requires name { blank.name ≡ L.name }
-    requires parts { blank.parts ≡ L.parts }
-    requires some { 0 < blank.parts }
-    ensures { IfOk result (λ found. IfSome found (λ both. both.1.parts ≡ L.parts)) }
-{
-    let (ledger, mut all) = blank.open::<L>();
-    let mut book = Counted::new(free_book(alloc, 2, 4, 7)?, ledger);
-    if split_next(&mut book, &mut all)?
-        && split_next(&mut book, &mut all)?
-        && split_next(&mut book, &mut all)?
-    {
-        return Ok(Some((book, all)));
-    }
-    Ok(None)
-}
-
 // Claims a leaf and closes it, with one hold of the lock for each.
 fn close_one<L: Ledger, R: Wait>(
     rt: &R,
@@ -104,90 +83,55 @@ fn work<L: Ledger, R: Wait>(
     Hand { share }
 }
 
-// The number of settlements, once all shares are merged.
-fn audited<L: Ledger, R: Wait>(
-    rt: &R,
-    book: &Mutex<Counted<L>>,
-    one: Share<L>,
-    two: Share<L>,
-    three: Share<L>,
-    four: Share<L>,
-) -> u64
-    requires { one.parts + two.parts + three.parts + four.parts ≡ L.parts }
-{
-    let mut all = one;
-    all.merge(two);
-    all.merge(three);
-    all.merge(four);
-    book.lock(rt).audit(&mut all)
-}
-
-// Four threads, all started before one is joined, close a leaf each.
-fn run_four<L: Ledger + Send + Sync, R: Threads + Wait + Sync>(
+// Two threads, both started before one is joined, close a leaf each.
+fn run_two<L: Ledger + Send + Sync, R: Threads + Wait + Sync>(
     rt: &R,
     book: &Mutex<Counted<L>>,
     first: Hand<L>,
     second: Hand<L>,
-    third: Hand<L>,
-    fourth: Hand<L>,
-) -> Result<(Hand<L>, Hand<L>, Hand<L>, Hand<L>), AllocError> {
+) -> Result<(Hand<L>, Hand<L>), AllocError> {
     thread::scope(
         thread::scope_env(),
         rt,
-        |scope| -> Result<(Hand<L>, Hand<L>, Hand<L>, Hand<L>), AllocError> {
+        |scope| -> Result<(Hand<L>, Hand<L>), AllocError> {
             let first = scope.spawn_with(Promised, move || work(rt, book, first, 0))?;
             let second = scope.spawn_with(Promised, move || work(rt, book, second, 1))?;
-            let third = scope.spawn_with(Promised, move || work(rt, book, third, 2))?;
-            let fourth = scope.spawn_with(Promised, move || work(rt, book, fourth, 3))?;
-            Ok((
-                first.join(rt),
-                second.join(rt),
-                third.join(rt),
-                fourth.join(rt),
-            ))
+            Ok((first.join(rt), second.join(rt)))
         },
     )
 }
 
-// One part of a share.
-fn part_of<L: Ledger>(all: &mut Share<L>) -> Hand<L>
-    requires { 1 < all.old.parts }
-    ensures { all.new.parts + 1 ≡ all.old.parts }
-{
-    Hand {
-        share: all.split_off(1, 0),
-    }
-}
-
-// The number of settlements, once four threads have closed a leaf each.
+// The number of settlements, once a leaf was split and two threads have closed a side each, by the shares merged.
 fn totals<L: Ledger + Send + Sync, R: Threads + Wait + Sync>(
     rt: &R,
     alloc: Global,
     blank: Blank,
-) -> Result<Option<u64>, AllocError>
+) -> Result<u64, AllocError>
     requires name { blank.name ≡ L.name }
     requires parts { blank.parts ≡ L.parts }
-    requires four { blank.parts ≡ 4 }
+    requires two { blank.parts ≡ 2 }
 {
-    let Some((book, mut all)) = split_book::<L>(alloc, blank)? else {
-        return Ok(None);
-    };
+    let (ledger, mut all) = blank.open::<L>();
+    let mut book = Counted::new(free_book(alloc, 2, 2, 7)?, ledger);
+    let _split = split_next(&mut book, &mut all)?;
     let shared = Mutex::new(book);
-    let second = part_of(&mut all);
-    let third = part_of(&mut all);
-    let fourth = part_of(&mut all);
+    let second = Hand {
+        share: all.split_off(1, 0),
+    };
     let first = Hand { share: all };
-    let (one, two, three, four) = run_four(rt, &shared, first, second, third, fourth)?;
-    Ok(Some(audited(rt, &shared, one.share, two.share, three.share, four.share)))
+    let (one, two) = run_two(rt, &shared, first, second)?;
+    let mut whole = one.share;
+    whole.merge(two.share);
+    Ok(shared.lock(rt).audit(&mut whole))
 }
 
 // As `totals`, with a ledger of its own.
-fn own_totals<R: Threads + Wait + Sync>(rt: &R, alloc: Global) -> Result<Option<u64>, AllocError> {
-    totals::<Brand, R>(rt, alloc, Blank::new(4))
+fn own_totals<R: Threads + Wait + Sync>(rt: &R, alloc: Global) -> Result<u64, AllocError> {
+    totals::<Brand, R>(rt, alloc, Blank::new(2))
 }
 
 #[test]
 fn totals_agree(rt: HostRuntime) -> Result<(), Fail> {
-    assert!(rt; own_totals(&rt, rt.alloc())? == Some(7));
+    assert_eq!(rt; own_totals(&rt, rt.alloc())?, 3);
     Ok(())
 }

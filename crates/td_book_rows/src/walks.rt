@@ -7,7 +7,7 @@ use crate::claims::{claimed, free_book};
 use crate::steps::dig;
 use std::alloc::{AllocError, Global};
 use std::test::Fail;
-use td_book::{Book, Lease, Mark, State, Subtree};
+use td_book::{Book, Lease, Mark, Node, State, Subtree};
 use td_domain::{Cube, Trit};
 
 // Splits the first open leaf at its least free position, or closes it. Answers whether it did.
@@ -21,13 +21,20 @@ fn handle_first(book: &mut Book, closes: bool) -> Result<bool, AllocError> {
     }
 }
 
+// How many of so many steps go well, which split three leaves and close two in turn.
+fn handled_in(alloc: Global, steps: u32) -> Result<u64, AllocError> {
+    let mut book = free_book(alloc, 15, 1, 200_000)?;
+    for step in 0..steps {
+        if !handle_first(&mut book, step % 5 >= 3)? {
+            break;
+        }
+    }
+    Ok(book.handled())
+}
+
 #[test]
 fn many_claims_depth_first(rt: HostRuntime) -> Result<(), Fail> {
-    let mut book = free_book(rt.alloc(), 15, 1, 200_000)?;
-    for step in 0..200_000u32 {
-        assert!(rt; handle_first(&mut book, step % 5 >= 3)?, "step {step}");
-    }
-    assert!(rt; book.handled() == 200_000);
+    assert_eq!(rt; handled_in(rt.alloc(), 200_000)?, 200_000);
     Ok(())
 }
 
@@ -57,29 +64,36 @@ fn one_by_one(book: &mut Book, nodes: usize, seed: u64) -> Result<bool, AllocErr
     Ok(true)
 }
 
-// Whether the books have the same tree, number for number, and as many nodes handled.
-fn are_alike(alloc: Global, first: Book, second: Book) -> Result<bool, AllocError> {
-    let handled = first.handled() == second.handled();
-    let nodes = first.into_tree().nodes(alloc)?;
-    Ok(handled && nodes == second.into_tree().nodes(alloc)?)
+fn seed_of(step: usize) -> u64 {
+    (step as u64).wrapping_mul(0x9E37_79B9_7F4A_7C15)
 }
 
-// Grafts at the first open leaf leave what their splits and closes leave.
+// The tree of a book by grafts alone, and how many nodes each of them had.
+fn grafted(alloc: Global, sizes: &mut Vec<usize>) -> Result<Vec<Node>, AllocError> {
+    let mut book = free_book(alloc, 6, 1, 3000)?;
+    for step in 1..40u32 {
+        let settled = graft_first(alloc, &mut book, step, seed_of(step as usize))?;
+        sizes.push(settled)?;
+    }
+    book.into_tree().nodes(alloc)
+}
+
+// The tree of a book that gets there one by one.
+fn settled(alloc: Global, sizes: &[usize]) -> Result<Vec<Node>, AllocError> {
+    let mut book = free_book(alloc, 6, 1, 3000)?;
+    for (place, size) in sizes.iter().enumerate() {
+        let _done = one_by_one(&mut book, *size, seed_of(place.saturating_add(1)))?;
+    }
+    book.into_tree().nodes(alloc)
+}
+
+// Grafts at the first open leaf leave the tree, number for number, that their splits and closes leave.
 #[test]
 fn grafts_as_one_by_one(rt: HostRuntime) -> Result<(), Fail> {
-    let alloc = rt.alloc();
-    let mut first = free_book(alloc, 6, 1, 3000)?;
-    let mut second = free_book(alloc, 6, 1, 3000)?;
-    for step in 1..40u32 {
-        let seed = u64::from(step).wrapping_mul(0x9E37_79B9_7F4A_7C15);
-        let settled = graft_first(alloc, &mut first, step, seed)?;
-        assert!(rt;
-            settled > 0 && one_by_one(&mut second, settled, seed)?,
-            "step {step}"
-        );
-    }
-    assert!(rt; first.handled() > 300);
-    assert!(rt; are_alike(alloc, first, second)?);
+    let mut sizes = Vec::new(rt.alloc());
+    let nodes = grafted(rt.alloc(), &mut sizes)?;
+    assert!(rt; nodes.len() > 300 && !sizes.contains(&0));
+    assert!(rt; nodes == settled(rt.alloc(), &sizes)?);
     Ok(())
 }
 
@@ -143,34 +157,40 @@ fn step(book: &mut Book, leases: &mut Vec<Lease>, seed: u64) -> Result<bool, All
     Ok(give_back(book, lease, choice, random(next(next(seed)), 40)))
 }
 
-// How many nodes of a book's tree are split, and how many are open.
-fn counts(alloc: Global, book: Book) -> Result<(usize, usize, usize), AllocError> {
-    let nodes = book.into_tree().nodes(alloc)?;
-    let splits = nodes
-        .iter()
-        .filter(|node| matches!(node.state, State::Split(_)))
-        .count();
-    let open = nodes
-        .iter()
-        .filter(|node| node.state == State::Open)
-        .count();
-    Ok((nodes.len(), splits, open))
+// How many nodes are split, and how many are open.
+fn counts(nodes: &[Node]) -> (usize, usize) {
+    let mut splits: usize = 0;
+    let mut open: usize = 0;
+    for node in nodes {
+        match node.state {
+            State::Split(_) => splits = splits.saturating_add(1),
+            State::Open => open = open.saturating_add(1),
+            State::Held(..) | State::Closed(..) => {}
+        }
+    }
+    (splits, open)
+}
+
+// The tree after so many steps, and how many leases are out. None where a step goes wrong.
+fn walked(alloc: Global, steps: u32) -> Result<Option<(Vec<Node>, usize)>, AllocError> {
+    let mut book = free_book(alloc, 20, 4, 10_000)?;
+    let mut leases = Vec::new(alloc);
+    let mut seed = 12345;
+    for _ in 0..steps {
+        seed = next(seed);
+        if !step(&mut book, &mut leases, seed)? {
+            return Ok(None);
+        }
+    }
+    Ok(Some((book.into_tree().nodes(alloc)?, leases.len())))
 }
 
 // Leases are out by the dozen, and come back in any order.
 #[test]
 fn any_order_of_leases(rt: HostRuntime) -> Result<(), Fail> {
-    let alloc = rt.alloc();
-    let mut book = free_book(alloc, 20, 4, 10_000)?;
-    let mut leases = Vec::new(alloc);
-    let mut seed = 12345;
-    for turn in 0..6000u32 {
-        seed = next(seed);
-        assert!(rt; step(&mut book, &mut leases, seed)?, "step {turn}");
-    }
-    let handled = book.handled() as usize;
-    let (nodes, splits, open) = counts(alloc, book)?;
-    assert!(rt; nodes > 600 && nodes == splits.saturating_mul(2).saturating_add(1));
-    assert!(rt; nodes == handled.saturating_add(open) && open >= leases.len());
+    let (nodes, out) = walked(rt.alloc(), 6000)?.ok_or("each step")?;
+    let (splits, open) = counts(&nodes);
+    assert!(rt; nodes.len() > 600 && nodes.len() == splits.saturating_mul(2).saturating_add(1));
+    assert!(rt; open >= out && out > 0);
     Ok(())
 }
