@@ -110,7 +110,7 @@ workers, who tell a milestone later, or none but the last of those that were pas
 
   $ cat > order.awk <<'END'
   > { right += $2 > nodes && $4 >= low && (NR == 1 || $6 <= high) && $4 <= $6 && $8 >= 1; nodes = $2; low = $4; high = $6 }
-  > END { print NR > 0 && right == NR ? "ordered" : "not ordered" }
+  > END { print (NR > 0 && right == NR ? "ordered" : "not ordered") }
   > END
   $ for workers in 1 2 4; do
   >   tdelay worst long.v --budget 6000 --progress --workers $workers 2> told | grep '^nodes'
