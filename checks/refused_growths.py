@@ -18,6 +18,7 @@ TOP = os.path.dirname(os.path.dirname(os.path.abspath(__file__)))
 
 # Between the program and the C library: counts the growths, and refuses those that the environment names.
 SHIM = r"""
+#include <errno.h>
 #include <stddef.h>
 #include <stdio.h>
 #include <stdlib.h>
@@ -54,7 +55,9 @@ void _exit(int status) {
 }
 static int refused(void) {
   long now = __atomic_add_fetch(&met, 1, __ATOMIC_SEQ_CST);
-  return first <= now && now <= last;
+  if (now < first || last < now) return 0;
+  errno = ENOMEM;
+  return 1;
 }
 void *malloc(size_t size) { return refused() ? NULL : __libc_malloc(size); }
 void *calloc(size_t count, size_t size) { return refused() ? NULL : __libc_calloc(count, size); }
@@ -173,7 +176,6 @@ def main():
             ["worst", "apart.v", "--flips", "1", "--budget", "2"],
             ["check", "apart.v", "few.cert"],
             ["worst", "apart.v", "--workers", "2", "--cert", "out.cert"],
-            ["worst", "apart.v", "--workers", "2", "--strategy", "lead", "--cert", "out.cert"],
             ["parts", "apart.v", "--parts", "5"],
             ["parts", "apart.v", "--parts", "5", "--strategy", "lead"],
             ["join", "apart.v", "zero.cert", "one.cert", "--cert", "out.cert"],

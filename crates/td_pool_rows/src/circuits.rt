@@ -1,8 +1,10 @@
 //! Circuits and searches for the tests, and what a search comes to as plain values.
 
+use crate::decks::dealt;
 use std::alloc::{AllocError, Global};
 use std::process::Abort;
 use std::sync::Wait;
+use std::sync::atomic::AtomicU64;
 use std::test::Fail;
 use std::thread::Threads;
 use td_certificate::{BoundedBy, Node, Tree};
@@ -10,7 +12,7 @@ use td_circuit::{Circuit, build};
 use td_domain::Admit;
 use td_gates::Delay;
 use td_netlist::read;
-use td_pool::{Hints, worst_by, worst_with};
+use td_pool::{worst_by, worst_with};
 use td_search::{Answer, Own, Prober, SearchFault, Strategy, alone};
 
 /// A pulse that is lost.
@@ -115,19 +117,21 @@ pub fn found<P: Prober + Sync, R: Threads + Wait + Sync + Abort>(
     ))
 }
 
-/// What a search of all pairs by a worker for each of these decks comes to.
-pub fn found_by<D: Hints + Drop + Send, R: Threads + Wait + Sync + Abort>(
+/// What a search of all pairs by so many workers with decks of the tests comes to.
+pub fn found_by<R: Threads + Wait + Sync + Abort>(
     rt: &R,
     alloc: Global,
     netlist: &str,
-    decks: Vec<D>,
     workers: u32,
+    refuses: bool,
+    given: &AtomicU64,
 ) -> Result<Told, Fail> {
     let circuit = circuit_of(alloc, netlist)?;
     let admit = all_of(rt, alloc, &circuit)?;
     assert!(rt; 0 < workers && workers <= 64);
-    assert_eq!(rt; decks.len(), workers as usize);
     assert_eq!(rt; admit.held().len(), circuit.input_count());
+    let decks = dealt(alloc, workers, refuses, given)?;
+    assert_eq!(rt; decks.len(), workers as usize);
     as_told(worst_by(rt, alloc, &circuit, &admit, &Own, decks, workers, 1_000_000))
 }
 

@@ -1,31 +1,15 @@
 //! Decks for the tests.
 
+use std::alloc::{AllocError, Global};
 use std::sync::atomic::{AtomicU64, Ordering};
 use td_pool::{Deck, Hints};
 
-/// Refuses every number.
-#[derive(Drop)]
-pub struct Refusing;
-
-impl Hints for Refusing {
-    fn push(&mut self, number: u32) -> Result<(), u32> {
-        Err(number)
-    }
-
-    fn pop(&mut self) -> Option<u32> {
-        None
-    }
-
-    fn steal(&mut self) -> Option<u32> {
-        None
-    }
-}
-
-/// Passes all on to a deck, and counts the numbers that it gives.
+/// Passes all on to a deck, and counts the numbers that it gives; or refuses every number.
 #[derive(Drop)]
 pub struct Passing<'a> {
-    pub deck: Deck,
-    pub given: &'a AtomicU64,
+    deck: Deck,
+    refuses: bool,
+    given: &'a AtomicU64,
 }
 
 impl<'a> Passing<'a> {
@@ -39,6 +23,9 @@ impl<'a> Passing<'a> {
 
 impl<'a> Hints for Passing<'a> {
     fn push(&mut self, number: u32) -> Result<(), u32> {
+        if self.refuses {
+            return Err(number);
+        }
         self.deck.push(number)
     }
 
@@ -51,4 +38,22 @@ impl<'a> Hints for Passing<'a> {
         let number = self.deck.steal();
         self.counted(number)
     }
+}
+
+/// Such decks for so many workers, which count together.
+pub fn dealt<'a>(
+    alloc: Global,
+    workers: u32,
+    refuses: bool,
+    given: &'a AtomicU64,
+) -> Result<Vec<Passing<'a>>, AllocError> {
+    let mut decks = Vec::new(alloc);
+    for deck in Deck::deal(alloc, workers as usize)? {
+        decks.push(Passing {
+            deck,
+            refuses,
+            given,
+        })?;
+    }
+    Ok(decks)
 }

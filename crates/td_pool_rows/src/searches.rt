@@ -1,9 +1,8 @@
 //! Searches of worked circuits, by one worker and by more.
 
 use crate::circuits::{LOST, RECONVERGENT, SLOW_ARM, Told, WIDE, found, found_alone, found_by};
-use crate::decks::{Passing, Refusing};
 use crate::prober::Watching;
-use std::alloc::{AllocError, Global};
+use std::alloc::Global;
 use std::process::Abort;
 use std::sync::Wait;
 use std::sync::atomic::{AtomicU64, Ordering};
@@ -61,46 +60,22 @@ fn one_worker_answers_as_alone(rt: HostRuntime) -> Result<(), Fail> {
     Ok(())
 }
 
-/// What a search comes to where each deck refuses every number.
-fn without_numbers<R: Threads + Wait + Sync + Abort>(
-    rt: &R,
-    alloc: Global,
-    workers: u32,
-) -> Result<Told, Fail> {
-    let mut decks = Vec::new(alloc);
-    for _ in 0..workers {
-        decks.push(Refusing)?;
-    }
-    found_by(rt, alloc, WIDE, decks, workers)
-}
-
+/// Where every number is refused the book has the leaves nevertheless.
 #[test]
 fn numbers_refused(rt: HostRuntime) -> Result<(), Fail> {
+    let given = AtomicU64::new(0);
     for workers in 1..5 {
-        let told = without_numbers(&rt, rt.alloc(), workers)?;
+        let told = found_by(&rt, rt.alloc(), WIDE, workers, true, &given)?;
         assert!(&rt; (told.is_exact, told.low, told.nodes) == (true, 3, 2047));
     }
+    assert_eq!(&rt; given.load(Ordering::SeqCst), 0);
     Ok(())
-}
-
-/// Decks for so many workers that count the numbers that they give.
-fn counting<'a>(
-    alloc: Global,
-    workers: usize,
-    given: &'a AtomicU64,
-) -> Result<Vec<Passing<'a>>, AllocError> {
-    let mut decks = Vec::new(alloc);
-    for deck in Deck::deal(alloc, workers)? {
-        decks.push(Passing { deck, given })?;
-    }
-    Ok(decks)
 }
 
 #[test]
 fn numbers_given(rt: HostRuntime) -> Result<(), Fail> {
     let given = AtomicU64::new(0);
-    let decks = counting(rt.alloc(), 1, &given)?;
-    let told = found_by(&rt, rt.alloc(), WIDE, decks, 1)?;
+    let told = found_by(&rt, rt.alloc(), WIDE, 1, false, &given)?;
     assert!(&rt; (told.is_exact, told.low, told.nodes) == (true, 3, 2047));
     assert!(&rt; given.load(Ordering::SeqCst) >= 1);
     Ok(())
