@@ -176,7 +176,6 @@ def main():
             ["worst", "apart.v", "--flips", "1", "--budget", "2"],
             ["check", "apart.v", "few.cert"],
             ["worst", "apart.v", "--workers", "2", "--cert", "out.cert"],
-            ["worst", "apart.v", "--workers", "2", "--strategy", "lead", "--cert", "out.cert"],
             ["parts", "apart.v", "--parts", "5"],
             ["parts", "apart.v", "--parts", "5", "--strategy", "lead"],
             ["join", "apart.v", "zero.cert", "one.cert", "--cert", "out.cert"],
