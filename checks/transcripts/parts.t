@@ -67,3 +67,26 @@ With `lead`, which climbs at the begin of each part.
   5 parts of exact 2: exact 2 accepted 2 exact 2 accepted 2
   16 parts of exact 3: exact 3 accepted 3 exact 3 accepted 3
   2 parts of exact 3: exact 3 accepted 3 exact 3 accepted 3
+
+The part with the greatest bound is halved next, and not the first one. By edges the pairs of an inverter that end at 0 have the bound of its rise
+delay, those that end at 1 that of its fall delay.
+
+  $ cat > slow_rise.v <<'END'
+  > module t (a, y);
+  > input a;
+  > output y;
+  > not #(3,2) g(y,a);
+  > endmodule
+  > END
+  $ sed 's/3,2/2,3/' slow_rise.v > slow_fall.v
+  $ for netlist in slow_rise slow_fall; do tdelay parts $netlist.v --parts 2 --strategy lead | paste -sd,; done
+  --first . --second 0,--first . --second 1
+  --first . --second 0,--first . --second 1
+  $ tdelay parts slow_rise.v --parts 3 --strategy lead | sort
+  --first . --second 1
+  --first 0 --second 0
+  --first 1 --second 0
+  $ tdelay parts slow_fall.v --parts 3 --strategy lead | sort
+  --first . --second 0
+  --first 0 --second 1
+  --first 1 --second 1
