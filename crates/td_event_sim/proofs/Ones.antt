@@ -1,5 +1,5 @@
 -- How many inputs of each gate are at 1, as nets turn.
-use Rattle.std.proofs.Common.{◌≡◌, ◌≢◌, ℕ, suc, ◌+◌, ◌-◌, ◌^◌, ◌<◌, ◌≤◌, Bool, true, false, List, [], ◌∷◌, ◌++◌, length, take, get_or, set, refl, arith, ◌⊎◌, inl, inr, sym, ap, ◌∙◌, add-one, Some, length-set, get_or-set_same, get_or-set_other}
+use Rattle.std.proofs.Common.{◌≡◌, ◌≢◌, ℕ, suc, ◌+◌, ◌-◌, ◌<◌, ◌≤◌, Bool, true, false, List, [], ◌∷◌, ◌++◌, length, take, get_or, set, refl, arith, ◌⊎◌, inl, inr, sym, ap, ◌∙◌, add-one, Some, length-set, get_or-set_same, get_or-set_other}
 use Rattle.std.specs.Prelude.{slice_get, cond, not, count_by, ◌==◌, ◌%◌, ◌&&◌, ◌||◌}
 use Rattle.std.specs.List.{All, list_any, list_all}
 use Rattle.std.proofs.Math.Seq.{take-suc}
@@ -12,7 +12,8 @@ use Rattle.td_gates.proofs.Places.{slice_get-some, slice_get-get}
 use Rattle.td_circuit.specs.Numbering.{NumberedGate, Numbered, first_output, IsNumbering}
 use Rattle.td_circuit.proofs.Nets.{few-at, lower-at}
 use Rattle.td_event_sim.specs.Bits.{bit_at, target_of}
-use Rattle.td_event_sim.specs.Counting.{times, target_by, AreCounted, AreNarrow, recounted, AreRecounted, StayCounted}
+use Rattle.td_event_sim.specs.Rules.{target_by}
+use Rattle.td_event_sim.specs.Counting.{times, AreCounted, AreNarrow, recounted, AreRecounted, StayCounted}
 
 abbrev counted : (ℕ → Bool) → List ℕ → ℕ
 counted f [] = 0
@@ -97,9 +98,9 @@ pub times-more : (number : ℕ) (items : List ℕ) (k : ℕ) → k < length item
     → times number (take (k + 1) items) ≡ times number (take k items) + cond (get_or items k 0 == number) 1 0
 times-more number items k h = ap (times number) (rw add-one (take-suc items k 0 h)) ∙ times-append number (take k items) (get_or items k 0)
 
-recounted-none : (rises : Bool) (ones : ℕ) → ones < 2 ^ 32 → recounted rises 0 ones ≡ ones
-recounted-none true ones fits = omega arith
-recounted-none false ones fits = omega arith
+recounted-none : (rises : Bool) (ones : ℕ) → recounted rises 0 ones ≡ ones
+recounted-none true ones = omega arith
+recounted-none false ones = omega arith
 
 recounted-next : (rises : Bool) (inputs ones : ℕ) → recounted rises 1 (recounted rises inputs ones) ≡ recounted rises (inputs + 1) ones
 recounted-next true inputs ones = omega arith
@@ -108,10 +109,10 @@ recounted-next false inputs ones = omega arith
 recounted-same : (rises : Bool) (inputs ones : ℕ) → recounted rises (inputs + 0) ones ≡ recounted rises inputs ones
 recounted-same rises inputs ones = ap (λ n. recounted rises n ones) (omega arith)
 
-pub recount-begun : (first : ℕ) (readers : List ℕ) (rises : Bool) (ones : List ℕ) → All (λ count. count < 2 ^ 32) ones → AreRecounted first (take 0 readers) rises ones ones
-recount-begun first readers rises ones fits = record {
+pub recount-begun : (first : ℕ) (readers : List ℕ) (rises : Bool) (ones : List ℕ) → AreRecounted first (take 0 readers) rises ones ones
+recount-begun first readers rises ones = record {
   count = refl;
-  each = λ place h. sym (recounted-none rises (get_or ones place 0) (fits place 0 h));
+  each = λ place h. sym (recounted-none rises (get_or ones place 0));
 }
 
 pub recount-more : (first : ℕ) (readers : List ℕ) (k : ℕ) (rises : Bool) (ones now : List ℕ) (place : ℕ) → k < length readers

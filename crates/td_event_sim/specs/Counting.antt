@@ -1,7 +1,5 @@
 -- How many of a gate's inputs are at 1.
-use Rattle.std.specs.Prelude.{◌≡◌, ℕ, ◌+◌, ◌-◌, ◌^◌, ◌%◌, ◌==◌, ◌<◌, ◌≤◌, Bool, true, false, not, min, List, [], ◌∷◌, length, slice_get, slice_index, slice_index_or, Some, cond, count_by}
-use Rattle.td_gates.specs.declared.primitives.Kind.{Kind}
-use Rattle.td_gates.specs.declared.primitives.Kind.TheVariants.{And, Nand, Or, Nor, Xor, Xnor, Buf, Not}
+use Rattle.std.specs.Prelude.{◌≡◌, ℕ, ◌+◌, ◌-◌, ◌^◌, ◌==◌, ◌<◌, ◌≤◌, Bool, true, false, max, min, List, [], ◌∷◌, length, slice_get, slice_index, slice_index_or, Some, cond, count_by}
 use Rattle.td_circuit.specs.Numbering.{NumberedGate}
 use Rattle.td_event_sim.specs.Bits.{bit_at}
 
@@ -9,17 +7,6 @@ use Rattle.td_event_sim.specs.Bits.{bit_at}
 abbrev pub times : ℕ → List ℕ → ℕ
 times number [] = 0
 times number (first ∷ rest) = cond (first == number) (1 + times number rest) (times number rest)
-
--- whether the target of a gate with so many inputs, of which so many are at 1, is 1
-abbrev pub target_by : Kind → ℕ → ℕ → Bool
-target_by And inputs ones = ones == inputs
-target_by Nand inputs ones = not (ones == inputs)
-target_by Or inputs ones = not (ones == 0)
-target_by Nor inputs ones = ones == 0
-target_by Xor inputs ones = ones % 2 == 1
-target_by Xnor inputs ones = not (ones % 2 == 1)
-target_by Buf inputs ones = ones == inputs
-target_by Not inputs ones = not (ones == inputs)
 
 -- the count of each gate is how many of its inputs are at 1
 abbrev pub AreCounted : List NumberedGate → List Bool → List ℕ → Type 0
@@ -37,7 +24,7 @@ AreNarrow gates = (place : ℕ) (gate : NumberedGate) → slice_get gates place 
 
 -- a count after so many inputs rose, or fell
 abbrev pub recounted : Bool → ℕ → ℕ → ℕ
-recounted true inputs ones = min (ones + inputs) (2 ^ 32 - 1)
+recounted true inputs ones = max ones (min (ones + inputs) (2 ^ 32 - 1))
 recounted false inputs ones = ones - inputs
 
 -- the counts of the gates with these outputs after a net rose, or fell, that they read

@@ -4,7 +4,10 @@ ghost use Rattle.std.specs.Prelude.{◌≡◌, ◌+◌, ◌-◌, ◌<◌, ◌≤
 ghost use Rattle.std.specs.List.{All};
 ghost use Rattle.td_event_sim.specs.Bits.{bit_at};
 ghost use Rattle.td_event_sim.specs.Counting.{AreRecounted, recounted};
+ghost use Rattle.td_event_sim.specs.Rules.{ones_of, rules_of};
 ghost use Rattle.td_event_sim.specs.Scratch.{AreNets};
+
+use crate::rules::Tally;
 
 /// How many of these inputs are at 1.
 pub fn count(levels: &[bool], inputs: &[u32]) -> u32
@@ -31,12 +34,13 @@ fn recounted(ones: u32, rises: bool) -> u32
 }
 
 /// Counts a net that rose, or fell, for the gates that read it.
-pub fn recount(ones: &mut [u32], readers: &[u32], first_output: usize, rises: bool)
-    requires { AreNets first_output (first_output + length ones.old) readers.now }
-    ensures { AreRecounted first_output readers.now rises ones.old ones.new }
+pub fn recount(tallies: &mut [Tally], readers: &[u32], first_output: usize, rises: bool)
+    requires { AreNets first_output (first_output + length tallies.old) readers.now }
+    ensures counts { AreRecounted first_output readers.now rises (ones_of tallies.old) (ones_of tallies.new) }
+    ensures rules { rules_of tallies.new ≡ rules_of tallies.old }
 {
     for reader in readers {
         let place = *reader as usize - first_output;
-        ones[place] = recounted(ones[place], rises);
+        tallies[place].ones = recounted(tallies[place].ones, rises);
     }
 }

@@ -12,6 +12,7 @@ ghost use Rattle.td_event_sim.specs.Counting.{AreCounted};
 ghost use Rattle.td_event_sim.specs.Moment.{AreWaiting};
 ghost use Rattle.td_event_sim.specs.State.{IsRunBy, IsStateBefore};
 ghost use Rattle.td_event_sim.specs.Reached.{HasReached};
+ghost use Rattle.td_event_sim.specs.Rules.{AreRules, ones_of, rules_of};
 ghost use Rattle.td_event_sim.specs.Scratch.{AreReadersOf, IsFor};
 ghost use Rattle.td_event_sim.specs.Latest.{greatest_at};
 
@@ -19,6 +20,7 @@ use crate::earliest::NEVER;
 use crate::phases::{evaluate, schedule_inputs, settle, update};
 use crate::queue::Queue;
 use crate::readers::readers;
+use crate::rules::{Tally, tallies};
 use std::alloc::{AllocError, Global};
 use std::marker::Model;
 use td_circuit::Circuit;
@@ -27,7 +29,7 @@ use td_domain::Pair;
 /// The circuit settles under the first vector, and the inputs get their events.
 fn start(
     levels: &mut [bool],
-    ones: &mut [u32],
+    tallies: &mut [Tally],
     latest: &mut [u64],
     whens: &mut [u64],
     queue: &mut Queue,
@@ -39,8 +41,10 @@ fn start(
     requires levels_fit { length levels.old ≡ length (nets circuit.now) }
     requires latest_fit { length latest.old ≡ length (nets circuit.now) }
     requires whens_fit { length whens.old ≡ length (nets circuit.now) }
-    requires ones_fit { length ones.old ≡ length circuit.now.gates }
-    ensures counted { OnOk result (AreCounted circuit.now.gates levels.new ones.new) }
+    requires tallies_fit { length tallies.old ≡ length circuit.now.gates }
+    requires rules { AreRules circuit.now.gates (rules_of tallies.old) }
+    ensures counted { OnOk result (AreCounted circuit.now.gates levels.new (ones_of tallies.new)) }
+    ensures rules { rules_of tallies.new ≡ rules_of tallies.old }
     ensures reached { OnOk result (HasReached circuit.now pair.now 0 levels.new whens.new latest.new) }
     ensures waiting { OnOk result (AreWaiting queue.new whens.new) }
     ensures below { (limit : ℕ) → length (nets circuit.now) ≤ limit → AreBelow limit queue.old → AreBelow limit queue.new }
@@ -49,7 +53,7 @@ fn start(
     let first = pair.first();
     let second = pair.second();
     let moments = circuit.moments();
-    settle(levels, ones, circuit, first);
+    settle(levels, tallies, circuit, first);
     latest.fill(0);
     schedule_inputs(whens, queue, first, second, moments)?;
     Ok(())
@@ -58,7 +62,7 @@ fn start(
 /// The events of a moment take place, and the gates that read a net that changed are evaluated.
 fn advance(
     levels: &mut [bool],
-    ones: &mut [u32],
+    tallies: &mut [Tally],
     latest: &mut [u64],
     whens: &mut [u64],
     queue: &mut Queue,
@@ -72,8 +76,9 @@ fn advance(
     requires latest_fit { length latest.old ≡ length (nets circuit.now) }
     requires whens_fit { length whens.old ≡ length (nets circuit.now) }
     requires readers { AreReadersOf (first_output_of circuit.now) (length (nets circuit.now)) circuit.now.gates (map (λ outputs. outputs.items) readers.now) }
-    requires ones_fit { length ones.old ≡ length circuit.now.gates }
-    requires counted { AreCounted circuit.now.gates levels.old ones.old }
+    requires tallies_fit { length tallies.old ≡ length circuit.now.gates }
+    requires rules { AreRules circuit.now.gates (rules_of tallies.old) }
+    requires counted { AreCounted circuit.now.gates levels.old (ones_of tallies.old) }
     requires below { AreBelow (length (nets circuit.now)) queue.old }
     requires in_time { moment < 2 ^ 64 - 1 }
     requires first { IsFrom moment queue.old.firsts }
@@ -82,7 +87,8 @@ fn advance(
     ensures state { (waves : List Wave) (states : ℕ → ℕ → GateState) → IsRunBy circuit.now waves states
         → IsStateBefore circuit.now waves states moment levels.old whens.old latest.old
         → OnOk result (IsStateBefore circuit.now waves states (moment + 1) levels.new whens.new latest.new) }
-    ensures counted { OnOk result (AreCounted circuit.now.gates levels.new ones.new) }
+    ensures counted { OnOk result (AreCounted circuit.now.gates levels.new (ones_of tallies.new)) }
+    ensures rules { rules_of tallies.new ≡ rules_of tallies.old }
     ensures waiting { OnOk result (AreWaiting queue.new whens.new) }
     ensures from { OnOk result (IsFrom (moment + 1) queue.new.firsts) }
     ensures below { AreBelow (length (nets circuit.now)) queue.new }
@@ -92,7 +98,7 @@ fn advance(
     queue.take(moment, taken)?;
     update(
         levels,
-        ones,
+        tallies,
         latest,
         whens,
         queue,
@@ -106,7 +112,7 @@ fn advance(
         whens,
         queue,
         levels,
-        ones,
+        tallies,
         gates,
         readers,
         changed,
@@ -135,7 +141,7 @@ const MOST_MOMENTS: u32 = 1 << 30;
 /// The delay of a pair.
 fn simulate(
     levels: &mut [bool],
-    ones: &mut [u32],
+    tallies: &mut [Tally],
     latest: &mut [u64],
     whens: &mut [u64],
     queue: &mut Queue,
@@ -151,15 +157,17 @@ fn simulate(
     requires latest_fit { length latest.old ≡ length (nets circuit.now) }
     requires whens_fit { length whens.old ≡ length (nets circuit.now) }
     requires readers { AreReadersOf (first_output_of circuit.now) (length (nets circuit.now)) circuit.now.gates (map (λ outputs. outputs.items) readers.now) }
-    requires ones_fit { length ones.old ≡ length circuit.now.gates }
+    requires tallies_fit { length tallies.old ≡ length circuit.now.gates }
+    requires rules { AreRules circuit.now.gates (rules_of tallies.old) }
     requires below { AreBelow (length (nets circuit.now)) queue.old }
     ensures delay { IfOk result (IsDelayOfBits (setting circuit.now) pair.now.first pair.now.second) }
     ensures only { IfOk result (λ delay. (other : ℕ) → IsDelayOfBits (setting circuit.now) pair.now.first pair.now.second other → other ≡ delay) }
+    ensures rules { rules_of tallies.new ≡ rules_of tallies.old }
     ensures below { AreBelow (length (nets circuit.now)) queue.new }
 {
     let _gates = circuit.gates();
     let _moments = circuit.moments();
-    start(levels, ones, latest, whens, queue, circuit, pair)?;
+    start(levels, tallies, latest, whens, queue, circuit, pair)?;
     let mut moment = queue.first();
     let mut left = MOST_MOMENTS;
     while moment < NEVER {
@@ -168,7 +176,7 @@ fn simulate(
         }
         left -= 1;
         advance(
-            levels, ones, latest, whens, queue, taken, changed, readers, circuit, moment,
+            levels, tallies, latest, whens, queue, taken, changed, readers, circuit, moment,
         )?;
         moment = queue.first();
     }
@@ -183,8 +191,8 @@ pub struct Scratch {
     readers: Vec<Vec<u32>>,
     /// Whether each net is at 1.
     levels: Vec<bool>,
-    /// How many inputs of each gate are at 1.
-    ones: Vec<u32>,
+    /// How many inputs of each gate are at 1, and its rule.
+    tallies: Vec<Tally>,
     /// The moment of the latest change of each net, 0 where there was none.
     latest: Vec<u64>,
     /// The moment of the event of each net.
@@ -206,7 +214,7 @@ impl Model for Scratch {
     ghost view = { λ inside. record {
       readers = map (λ outputs. outputs.items) inside.readers.items;
       levels = inside.levels.items;
-      ones = inside.ones.items;
+      tallies = inside.tallies.items;
       latest = inside.latest.items;
       whens = inside.whens.items;
       queue = inside.queue;
@@ -235,17 +243,6 @@ fn zeros(alloc: Global, count: usize) -> Result<Vec<bool>, AllocError>
     Ok(levels)
 }
 
-/// So many counts.
-fn counts(alloc: Global, count: usize) -> Result<Vec<u32>, AllocError>
-    ensures { IfOk result (λ counts. length counts.items ≡ count) }
-{
-    let mut counts = Vec::new(alloc);
-    for _ in 0..count {
-        counts.push(0)?;
-    }
-    Ok(counts)
-}
-
 impl Scratch {
     /// A scratch for a circuit.
     pub fn new(alloc: Global, circuit: &Circuit) -> Result<Self, AllocError>
@@ -256,14 +253,14 @@ impl Scratch {
         let first_output = circuit.input_count() + 2;
         let readers = readers(alloc, gates, first_output, nets)?;
         let levels = zeros(alloc, nets)?;
-        let ones = counts(alloc, gates.len())?;
+        let tallies = tallies(alloc, gates)?;
         let latest = moments(alloc, nets, 0)?;
         let whens = moments(alloc, nets, NEVER)?;
         let queue = Queue::new(alloc)?;
         Ok(Scratch {
             readers,
             levels,
-            ones,
+            tallies,
             latest,
             whens,
             queue,
@@ -285,7 +282,7 @@ pub fn delay_of(scratch: &mut Scratch, circuit: &Circuit, pair: &Pair) -> Result
 {
     simulate(
         &mut scratch.levels,
-        &mut scratch.ones,
+        &mut scratch.tallies,
         &mut scratch.latest,
         &mut scratch.whens,
         &mut scratch.queue,

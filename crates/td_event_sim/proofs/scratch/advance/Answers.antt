@@ -1,6 +1,8 @@
 use Rattle.std.proofs.Common.{length, map, sym, ap, ◌∙◌, ◌+◌, arith, add-one, subst, Vec, ℕ, List, Global}
+use Rattle.std.proofs.lemmas.List.{length-map}
 use Rattle.td_circuit.specs.Numbering.{nets, first_output}
 use Rattle.td_circuit.proofs.Nets.{length-nets}
+use Rattle.td_event_sim.specs.declared.rules.Tally.{Tally}
 use Rattle.td_event_sim.specs.Counting.{AreListed}
 use Rattle.td_event_sim.specs.Moment.{AreWaitingBut}
 use Rattle.td_event_sim.proofs.Ones.{all-narrow}
@@ -23,19 +25,19 @@ evaluate-requires-clause-readers c = readers-within (first_output c.args.circuit
 pub update-requires-clause-readers : goal.update-requires-clause-readers
 update-requires-clause-readers c = readers-within (first_output c.args.circuit.now) (length (nets c.args.circuit.now)) _ _ c.args.readers.now
     (ap (λ (n : ℕ). n + 2) c.input_count-first_output.ensures)
-    (omega (arith, c.input_count-first_output.ensures, length-nets c.args.circuit.now c.gates-gates.ensures.numbering, c.requires.ones_fit)) c.requires.readers.outputs
+    (omega (arith, c.input_count-first_output.ensures, length-nets c.args.circuit.now c.gates-gates.ensures.numbering, c.requires.tallies_fit)) c.requires.readers.outputs
 
 pub evaluate-requires-clause-counted : goal.evaluate-requires-clause-counted
 evaluate-requires-clause-counted c = rw (c.gates-gates.ensures.gates) (c.in_ok-update.ensures.counted c.args.circuit.now.gates
     (subst (λ (first : ℕ). AreListed first c.args.circuit.now.gates (map (λ (v : Vec ℕ Global). v.items) c.args.readers.now)) (sym (ap (λ (n : ℕ). n + 2) c.input_count-first_output.ensures))
     c.requires.readers.listed)
-    (all-narrow c.args.circuit.now c.gates-gates.ensures.numbering) (omega (arith, c.requires.ones_fit)) c.requires.counted)
+    (all-narrow c.args.circuit.now c.gates-gates.ensures.numbering) (sym (length-map c.args.tallies.now (λ (t : Tally). t.ones) ∙ c.requires.tallies_fit)) c.requires.counted)
 
 pub returns-clause-counted : goal.returns-clause-counted
 returns-clause-counted c = c.in_ok-update.ensures.counted c.args.circuit.now.gates
     (subst (λ (first : ℕ). AreListed first c.args.circuit.now.gates (map (λ (v : Vec ℕ Global). v.items) c.args.readers.now)) (sym (ap (λ (n : ℕ). n + 2) c.input_count-first_output.ensures))
     c.requires.readers.listed)
-    (all-narrow c.args.circuit.now c.gates-gates.ensures.numbering) (omega (arith, c.requires.ones_fit)) c.requires.counted
+    (all-narrow c.args.circuit.now c.gates-gates.ensures.numbering) (sym (length-map c.args.tallies.now (λ (t : Tally). t.ones) ∙ c.requires.tallies_fit)) c.requires.counted
 
 pub returns-in_err-evaluate-clause-below : goal.returns-in_err-evaluate-clause-below
 returns-in_err-evaluate-clause-below c = c.evaluate.ensures.below (length (nets c.args.circuit.now)) (omega (arith, c.update.auto.levels, c.requires.levels_fit))

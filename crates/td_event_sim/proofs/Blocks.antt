@@ -1,0 +1,112 @@
+-- Lemmas on the earliest moments of blocks of slots.
+use Rattle.std.proofs.Common.{◌≡◌, ◌≢◌, ℕ, ◌+◌, ◌-◌, ◌*◌, ◌/◌, ◌^◌, ◌<◌, ◌≤◌, min, List, length, get_or, set, arith, ap, ◌∙◌, replicate, inl, inr, length-set, get_or-set_same, get_or-set_other}
+use Rattle.std.proofs.lemmas.Bool.{cases_eq}
+use Rattle.std.proofs.lemmas.List.{length-replicate, get_or-replicate}
+use Rattle.td_event_sim.specs.Earliest.{IsLeast, AreBlocks, IsFrom}
+
+-- ---- the least of some moments
+pub none-least : (start : ℕ) (moments : List ℕ) → IsLeast start start moments (2 ^ 64 - 1)
+none-least start moments = record {
+  low = λ place from before. absurd (omega arith);
+  greatest = λ from small all. small;
+}
+
+pub least-more : (start place : ℕ) (moments : List ℕ) (least : ℕ) → start ≤ place → IsLeast start place moments least
+    → IsLeast start (place + 1) moments (min least (get_or moments place 0))
+least-more start place moments least order is = record {
+  low = λ other from before. elim (cases_eq other place) [
+    | inl here ↦ rw here (omega arith)
+    | inr apart ↦ (let low : least ≤ get_or moments other 0 = is.low other from (omega arith) in omega arith)
+  ];
+  greatest = λ from small all.
+      let before : from ≤ least = is.greatest from small (λ other after h. all other after (omega arith)) in
+      let here : from ≤ get_or moments place 0 = all place order (omega arith) in
+      omega arith;
+}
+
+-- ---- the moment of a slot is another one
+lowered-least : (start end slot moment : ℕ) (moments : List ℕ) (least : ℕ) → slot < length moments → start ≤ slot → slot < end → moment ≤ get_or moments slot 0
+    → IsLeast start end moments least → IsLeast start end (set moments slot moment) (min least moment)
+lowered-least start end slot moment moments least inside after before earlier is = record {
+  low = λ other from h. elim (cases_eq other slot) [
+    | inl here ↦ rw (here, get_or-set_same moments slot moment 0 inside) (omega arith)
+    | inr apart ↦ rw (get_or-set_other moments slot other moment 0 apart) (let low : least ≤ get_or moments other 0 = is.low other from h in omega arith)
+  ];
+  greatest = λ from small all.
+      let here : from ≤ moment = rw (get_or-set_same moments slot moment 0 inside) at (all slot after before) in
+      let old : from ≤ least = is.greatest from small (λ other low h. elim (cases_eq other slot) [
+        | inl at_slot ↦ rw at_slot (omega arith)
+        | inr apart ↦ rw (get_or-set_other moments slot other moment 0 apart) at (all other low h)
+      ]) in
+      omega arith;
+}
+
+other-least : (start end slot moment : ℕ) (moments : List ℕ) (least : ℕ) → ((place : ℕ) → start ≤ place → place < end → place ≢ slot)
+    → IsLeast start end moments least → IsLeast start end (set moments slot moment) least
+other-least start end slot moment moments least apart is = record {
+  low = λ other from h. rw (get_or-set_other moments slot other moment 0 (apart other from h)) (is.low other from h);
+  greatest = λ from small all. is.greatest from small (λ other low h. rw (get_or-set_other moments slot other moment 0 (apart other low h)) at (all other low h));
+}
+
+pub changed : (moments blocks : List ℕ) (slot moment least : ℕ) → slot < length moments → moment ≤ 2 ^ 64 - 1 → AreBlocks moments blocks
+    → IsLeast (slot / 16 * 16) (slot / 16 * 16 + 16) (set moments slot moment) least
+    → AreBlocks (set moments slot moment) (set blocks (slot / 16) least)
+changed moments blocks slot moment least inside small are is = record {
+  some = rw (length-set blocks (slot / 16) least) are.some;
+  slots = rw (length-set moments slot moment, length-set blocks (slot / 16) least) are.slots;
+  within = λ other h. elim (cases_eq other slot) [
+    | inl here ↦ rw (here, get_or-set_same moments slot moment 0 inside) small
+    | inr apart ↦ rw (get_or-set_other moments slot other moment 0 apart) (are.within other (rw (length-set moments slot moment) at h))
+  ];
+  least = λ block h. elim (cases_eq block (slot / 16)) [
+    | inl here ↦ rw (here, get_or-set_same blocks (slot / 16) least 0 (omega (arith, are.slots))) is
+    | inr apart ↦ rw (get_or-set_other blocks (slot / 16) block least 0 apart)
+        (other-least (block * 16) (block * 16 + 16) slot moment moments (get_or blocks block 0) (λ place low high e. apart (omega arith))
+        (are.least block (rw (length-set blocks (slot / 16) least) at h)))
+  ];
+}
+
+pub lowered : (moments blocks : List ℕ) (slot moment : ℕ) → slot < length moments → moment ≤ get_or moments slot 0 → AreBlocks moments blocks
+    → AreBlocks (set moments slot moment) (set blocks (slot / 16) (min (get_or blocks (slot / 16) 0) moment))
+lowered moments blocks slot moment inside earlier are =
+    let small : get_or moments slot 0 ≤ 2 ^ 64 - 1 = are.within slot inside in
+    changed moments blocks slot moment (min (get_or blocks (slot / 16) 0) moment) inside (omega arith) are
+    (lowered-least (slot / 16 * 16) (slot / 16 * 16 + 16) slot moment moments (get_or blocks (slot / 16) 0) inside (omega arith) (omega arith) earlier
+    (are.least (slot / 16) (omega (arith, are.slots))))
+
+-- ---- all slots
+pub first-low : (moments blocks : List ℕ) (read : ℕ) → AreBlocks moments blocks → IsLeast 0 (length blocks) blocks read → IsFrom read moments
+first-low moments blocks read are is = λ slot h.
+    let block : ℕ = slot / 16 in
+    let inside : block < length blocks = omega (arith, are.slots) in
+    let first : read ≤ get_or blocks block 0 = is.low block (omega arith) inside in
+    let then : get_or blocks block 0 ≤ get_or moments slot 0 = (are.least block inside).low slot (omega arith) (omega arith) in
+    omega arith
+
+pub first-greatest : (moments blocks : List ℕ) (read : ℕ) → AreBlocks moments blocks → IsLeast 0 (length blocks) blocks read
+    → (from : ℕ) → IsFrom from moments → from ≤ read
+first-greatest moments blocks read are is from all =
+    let some : 0 < length moments = omega (arith, are.slots, are.some) in
+    let low : from ≤ get_or moments 0 0 = all 0 some in
+    let within : get_or moments 0 0 ≤ 2 ^ 64 - 1 = are.within 0 some in
+    let small : from ≤ 2 ^ 64 - 1 = omega arith in
+    is.greatest from small (λ block zero inside. (are.least block inside).greatest from small (λ slot lower upper. all slot (omega (arith, are.slots))))
+
+-- ---- no moment at all
+pub no-moments : (moments blocks : List ℕ) (count : ℕ) → 0 < count → moments ≡ replicate (count * 16) (2 ^ 64 - 1) → blocks ≡ replicate count (2 ^ 64 - 1)
+    → AreBlocks moments blocks
+no-moments moments blocks count some m b =
+    let long : length moments ≡ count * 16 = ap length m ∙ length-replicate (count * 16) (2 ^ 64 - 1) in
+    let many : length blocks ≡ count = ap length b ∙ length-replicate count (2 ^ 64 - 1) in
+    let each : (slot : ℕ) → slot < length moments → get_or moments slot 0 ≡ 2 ^ 64 - 1 = λ slot h. rw m (get_or-replicate (count * 16) slot (2 ^ 64 - 1) 0 (omega arith)) in
+    record {
+      some = omega arith;
+      slots = omega arith;
+      within = λ slot h. (let is = each slot h in omega arith);
+      least = λ block h.
+          let is : get_or blocks block 0 ≡ 2 ^ 64 - 1 = rw b (get_or-replicate count block (2 ^ 64 - 1) 0 (omega arith)) in
+          rw is record {
+            low = λ slot lower upper. (let at = each slot (omega arith) in omega arith);
+            greatest = λ from small all. small;
+          };
+    }

@@ -1,0 +1,40 @@
+-- How a gate's target follows from how many of its inputs are at 1.
+use Rattle.std.specs.Prelude.{◌≡◌, ℕ, ◌%◌, ◌==◌, Bool, not, List, length, map, slice_get, Some, cond}
+use Rattle.td_gates.specs.declared.primitives.Kind.{Kind}
+use Rattle.td_gates.specs.declared.primitives.Kind.TheVariants.{And, Nand, Or, Nor, Xor, Xnor, Buf, Not}
+use Rattle.td_circuit.specs.Numbering.{NumberedGate}
+use Rattle.td_event_sim.specs.declared.rules.Rule.{Rule}
+use Rattle.td_event_sim.specs.declared.rules.Tally.{Tally}
+
+-- whether the target of a gate with so many inputs, of which so many are at 1, is 1
+abbrev pub target_by : Kind → ℕ → ℕ → Bool
+target_by And inputs ones = ones == inputs
+target_by Nand inputs ones = not (ones == inputs)
+target_by Or inputs ones = not (ones == 0)
+target_by Nor inputs ones = ones == 0
+target_by Xor inputs ones = ones % 2 == 1
+target_by Xnor inputs ones = not (ones % 2 == 1)
+target_by Buf inputs ones = ones == inputs
+target_by Not inputs ones = not (ones == inputs)
+
+-- whether the target by a rule is 1, where so many inputs are
+abbrev pub target_by_rule : Rule → ℕ → Bool
+target_by_rule rule ones =
+    let is_wanted : Bool = cond rule.by_parity (ones % 2) ones == rule.wanted in
+    cond rule.is_negated (not is_wanted) is_wanted
+
+-- the rule gives the gate's targets, and has its delays
+pub record IsRuleOf (gate : NumberedGate) (rule : Rule) : Type 0 where
+  pub delay : rule.delay ≡ gate.delay
+  pub target : (ones : ℕ) → target_by_rule rule ones ≡ target_by gate.kind (length gate.inputs) ones
+
+abbrev pub ones_of : List Tally → List ℕ
+ones_of tallies = map (λ tally. tally.ones) tallies
+
+abbrev pub rules_of : List Tally → List Rule
+rules_of tallies = map (λ tally. tally.rule) tallies
+
+-- the rules are those of the gates
+abbrev pub AreRules : List NumberedGate → List Rule → Type 0
+AreRules gates rules = (place : ℕ) (gate : NumberedGate) (rule : Rule) → slice_get gates place ≡ Some gate → slice_get rules place ≡ Some rule
+    → IsRuleOf gate rule
