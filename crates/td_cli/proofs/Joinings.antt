@@ -65,20 +65,20 @@ contains_word words i d less =
 -- ---- the parts
 
 -- a fault of a part's text
-pub bad_part : (text : List ℕ) (default : Delay) (netlist : Netlist) (name : Bor (List ℕ)) (read : List ℕ) (fault : CertFault) (reason : Refusal)
-    → IsFault fault.kind fault.line read → IsOfPart name fault reason → TellsNoPart text default netlist name.now read reason
-bad_part text default netlist name read fault reason is (inl memory) =
-    subst (λ (r : Refusal). TellsNoPart text default netlist name.now read r) (sym memory) tt
-bad_part text default netlist name read fault reason is (inr told) =
-    subst (λ (r : Refusal). TellsNoPart text default netlist name.now read r) (sym told) (refl, is)
+pub bad_part : (text : List ℕ) (default : Delay) (netlist : Netlist) (check : Bool) (name : Bor (List ℕ)) (read : List ℕ) (fault : CertFault) (reason : Refusal)
+    → IsFault fault.kind fault.line read → IsOfPart name fault reason → TellsNoPart text default netlist check name.now read reason
+bad_part text default netlist check name read fault reason is (inl memory) =
+    subst (λ (r : Refusal). TellsNoPart text default netlist check name.now read r) (sym memory) tt
+bad_part text default netlist check name read fault reason is (inr told) =
+    subst (λ (r : Refusal). TellsNoPart text default netlist check name.now read r) (sym told) (refl, is)
 
 -- why a certificate wasn't judged
-pub not_judged : (text : List ℕ) (default : Delay) (netlist : Netlist) (name : Bor (List ℕ)) (read : List ℕ) (fault : CheckFault)
-    → IsCheckFault text default read fault → TellsNoPart text default netlist name.now read (unjudged name fault)
-not_judged text default netlist name read check.OutOfMemory is = tt
-not_judged text default netlist name read (check.Netlist told) is = record { told = is.0; means_none = is.1; has = is.2 }
-not_judged text default netlist name read (check.Loop net) is = is
-not_judged text default netlist name read (check.Certificate told) is = (refl, is.3)
+pub not_judged : (text : List ℕ) (default : Delay) (netlist : Netlist) (checked : Bool) (name : Bor (List ℕ)) (read : List ℕ) (fault : CheckFault)
+    → IsCheckFault text default read fault → TellsNoPart text default netlist checked name.now read (unjudged name fault)
+not_judged text default netlist checked name read check.OutOfMemory is = tt
+not_judged text default netlist checked name read (check.Netlist told) is = record { told = is.0; means_none = is.1; has = is.2 }
+not_judged text default netlist checked name read (check.Loop net) is = is
+not_judged text default netlist checked name read (check.Certificate told) is = (refl, is.3)
 
 module _ (disk : Disk) (text : List ℕ) (default : Delay) (netlist : Netlist) (check : Bool) where
   -- all files were read
@@ -98,10 +98,10 @@ module _ (disk : Disk) (text : List ℕ) (default : Delay) (netlist : Netlist) (
       All-cons HasSpelling p parts (all.0.2.spells.has) (parts_spelled names parts all.1)
 
 -- the file of one word tells no part
-pub no_part : (disk : Disk) (text : List ℕ) (default : Delay) (netlist : Netlist) (words : List (Bor (List ℕ))) (i : ℕ) (d : Bor (List ℕ)) (reason : Refusal)
-    → i < length words → HoldsOnFile disk (get_or words i d).now (TellsNoPart text default netlist (get_or words i d).now) reason
-    → HasNoPart disk text default netlist (map now_of words) reason
-no_part disk text default netlist words i d reason less holds = ((get_or words i d).now, contains_word words i d less, holds)
+pub no_part : (disk : Disk) (text : List ℕ) (default : Delay) (netlist : Netlist) (check : Bool) (words : List (Bor (List ℕ))) (i : ℕ) (d : Bor (List ℕ)) (reason : Refusal)
+    → i < length words → HoldsOnFile disk (get_or words i d).now (TellsNoPart text default netlist check (get_or words i d).now) reason
+    → HasNoPart disk text default netlist check (map now_of words) reason
+no_part disk text default netlist check words i d reason less holds = ((get_or words i d).now, contains_word words i d less, holds)
 
 -- ---- what is joined
 

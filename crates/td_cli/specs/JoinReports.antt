@@ -49,14 +49,14 @@ pub record TellsPart (text : List ℕ) (default : Delay) (netlist : Netlist) (ch
   pub sized : IsOfSize netlist part
   pub accepted : check ≡ true → HaveVerdict text default read Accepted
 
--- why a file's bytes tell no part; the file's name is told
-abbrev pub TellsNoPart : List ℕ → Delay → Netlist → List ℕ → List ℕ → Refusal → Type 0
-TellsNoPart text default netlist name read (refusal.BadPart told fault) = (told.now ≡ name) × IsFault fault.kind fault.line read
-TellsNoPart text default netlist name read (refusal.Unaccepted told verdict) =
-    (told.now ≡ name) × (verdict ≢ Accepted) × HaveVerdict text default read verdict
-TellsNoPart text default netlist name read (refusal.OtherCircuit told) =
+-- why a file's bytes tell no part, another verdict only where parts are checked; the file's name is told
+abbrev pub TellsNoPart : List ℕ → Delay → Netlist → Bool → List ℕ → List ℕ → Refusal → Type 0
+TellsNoPart text default netlist check name read (refusal.BadPart told fault) = (told.now ≡ name) × IsFault fault.kind fault.line read
+TellsNoPart text default netlist check name read (refusal.Unaccepted told verdict) =
+    (check ≡ true) × (told.now ≡ name) × (verdict ≢ Accepted) × HaveVerdict text default read verdict
+TellsNoPart text default netlist check name read (refusal.OtherCircuit told) =
     (told.now ≡ name) × (part : Certificate) × Spells part read × ¬ IsOfSize netlist part
-TellsNoPart text default netlist name read other = HasNoCircuit text default other
+TellsNoPart text default netlist check name read other = HasNoCircuit text default other
 
 -- the file of this name was read as this part
 abbrev pub GivesPart : Disk → List ℕ → Delay → Netlist → Bool → List ℕ → Certificate → Type 0
@@ -67,9 +67,9 @@ abbrev pub AreParts : Disk → List ℕ → Delay → Netlist → Bool → List 
 AreParts disk text default netlist check names parts = AllZip (GivesPart disk text default netlist check) names parts
 
 -- a file of these names can't be read, or tells no part
-abbrev pub HasNoPart : Disk → List ℕ → Delay → Netlist → List (List ℕ) → Refusal → Type 0
-HasNoPart disk text default netlist names reason =
-    (name : List ℕ) × Contains names name × HoldsOnFile disk name (TellsNoPart text default netlist name) reason
+abbrev pub HasNoPart : Disk → List ℕ → Delay → Netlist → Bool → List (List ℕ) → Refusal → Type 0
+HasNoPart disk text default netlist check names reason =
+    (name : List ℕ) × Contains names name × HoldsOnFile disk name (TellsNoPart text default netlist check name) reason
 
 -- ---- what is joined
 
@@ -122,5 +122,5 @@ pub record IsNotJoined (disk : Disk) (text : List ℕ) (default : Delay) (names 
 abbrev pub HasNoJoin : Disk → List ℕ → Delay → List (List ℕ) → Bool → Option (List ℕ) → Option (List ℕ) → Refusal → Type 0
 HasNoJoin disk text default names check first second reason =
     IsRefusedFor text default (pin_words first second) reason
-    ⊎ (((netlist : Netlist) × HasCircuit text default netlist × HasNoPart disk text default netlist names reason)
+    ⊎ (((netlist : Netlist) × HasCircuit text default netlist × HasNoPart disk text default netlist check names reason)
     ⊎ IsNotJoined disk text default names check first second reason)

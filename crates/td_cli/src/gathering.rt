@@ -1,6 +1,6 @@
 //! The parts of a question, as files hold them.
 
-ghost use Rattle.std.specs.Prelude.{◌≡◌, ◌≢◌, ◌↔◌, ℕ, List, true, map, IfOk, IfErr, IsTrue};
+ghost use Rattle.std.specs.Prelude.{◌≡◌, ◌≢◌, ◌↔◌, ℕ, Bool, List, true, map, IfOk, IfErr, IsTrue};
 ghost use Rattle.td_nets.specs.Netlist.{Netlist};
 ghost use Rattle.td_gates.specs.declared.timing.Delay.{Delay as Default};
 ghost use Rattle.td_certificate.specs.Accepts.{IsOfSize};
@@ -33,7 +33,7 @@ fn unread<'a>(name: &'a str, fault: CertFault) -> Refusal<'a>
 /// The certificate that a file's bytes spell.
 fn read_part<'a>(alloc: Global, name: &'a str, bytes: &[u8]) -> Result<Certificate, Refusal<'a>>
     ensures spelled { IfOk result (λ part. Spells part bytes.now) }
-    ensures refusal { IfErr result (λ reason. (text : List ℕ) (default : Default) (netlist : Netlist) → TellsNoPart text default netlist name.now bytes.now reason) }
+    ensures refusal { IfErr result (λ reason. (text : List ℕ) (default : Default) (netlist : Netlist) (check : Bool) → TellsNoPart text default netlist check name.now bytes.now reason) }
 {
     match read(alloc, bytes) {
         Ok(part) => Ok(part),
@@ -63,7 +63,7 @@ fn accepted_part<'a>(
 ) -> Result<Certificate, Refusal<'a>>
     ensures spelled { IfOk result (λ part. Spells part bytes.now) }
     ensures accepted { IfOk result (λ part. HaveVerdict text.now default bytes.now Told.Accepted) }
-    ensures refusal { IfErr result (λ reason. (netlist : Netlist) → TellsNoPart text.now default netlist name.now bytes.now reason) }
+    ensures refusal { IfErr result (λ reason. (netlist : Netlist) → TellsNoPart text.now default netlist true name.now bytes.now reason) }
 {
     let checked = match check(alloc, text, default, bytes) {
         Ok(checked) => checked,
@@ -86,7 +86,7 @@ fn judged_part<'a>(
 ) -> Result<Certificate, Refusal<'a>>
     ensures spelled { IfOk result (λ part. Spells part bytes.now) }
     ensures accepted { IfOk result (λ part. is_checked ≡ true → HaveVerdict text.now default bytes.now Told.Accepted) }
-    ensures refusal { IfErr result (λ reason. (netlist : Netlist) → TellsNoPart text.now default netlist name.now bytes.now reason) }
+    ensures refusal { IfErr result (λ reason. (netlist : Netlist) → TellsNoPart text.now default netlist is_checked name.now bytes.now reason) }
 {
     if is_checked {
         accepted_part(alloc, text, default, name, bytes)
@@ -113,7 +113,7 @@ fn part<'a>(
     bytes: &[u8],
 ) -> Result<Certificate, Refusal<'a>>
     ensures part { IfOk result (TellsPart text.now default circuit.now.netlist is_checked bytes.now) }
-    ensures refusal { IfErr result (TellsNoPart text.now default circuit.now.netlist name.now bytes.now) }
+    ensures refusal { IfErr result (TellsNoPart text.now default circuit.now.netlist is_checked name.now bytes.now) }
 {
     let part = judged_part(alloc, text, default, is_checked, name, bytes)?;
     if is_of_size(circuit, &part) {
@@ -135,7 +135,7 @@ fn part_in<'a, F: Files>(
 ) -> Result<Certificate, Refusal<'a>>
     ensures part { IfOk result (GivesPart (disk_of (F.holds files.old) (F.fails files.old) (F.breaks files.old) (F.is_one files.old)) text.now default circuit.now.netlist is_checked name.now) }
     ensures refusal { IfErr result (λ reason. reason ≢ Reason.OutOfMemory
-        → HoldsOnFile (disk_of (F.holds files.old) (F.fails files.old) (F.breaks files.old) (F.is_one files.old)) name.now (TellsNoPart text.now default circuit.now.netlist name.now) reason) }
+        → HoldsOnFile (disk_of (F.holds files.old) (F.fails files.old) (F.breaks files.old) (F.is_one files.old)) name.now (TellsNoPart text.now default circuit.now.netlist is_checked name.now) reason) }
     ensures stays { files.new ≡ files.old }
 {
     match files.read(alloc, name) {
@@ -158,7 +158,7 @@ pub fn parts_in<'a, F: Files>(
     ensures parts { IfOk result (λ parts. AreParts (disk_of (F.holds files.old) (F.fails files.old) (F.breaks files.old) (F.is_one files.old)) text.now default circuit.now.netlist is_checked
         (map (λ name. name.now) names.now) parts.items) }
     ensures refusal { IfErr result (λ reason. reason ≢ Reason.OutOfMemory
-        → HasNoPart (disk_of (F.holds files.old) (F.fails files.old) (F.breaks files.old) (F.is_one files.old)) text.now default circuit.now.netlist
+        → HasNoPart (disk_of (F.holds files.old) (F.fails files.old) (F.breaks files.old) (F.is_one files.old)) text.now default circuit.now.netlist is_checked
         (map (λ name. name.now) names.now) reason) }
     ensures stays { files.new ≡ files.old }
 {

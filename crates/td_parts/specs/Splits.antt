@@ -1,5 +1,5 @@
 -- Internal: parts, and where a search would split them.
-use Rattle.std.specs.Prelude.{◌≡◌, ◌<◌, List, map, slice_get, Some, IfSome}
+use Rattle.std.specs.Prelude.{◌≡◌, ◌<◌, ℕ, List, map, slice_get, Option, Some, None, IfSome}
 use Rattle.td_circuit.specs.Settings.{Setting}
 use Rattle.td_domain.specs.declared.cubes.Trit.{Trit}
 use Rattle.td_domain.specs.declared.cubes.Trit.TheVariants.{Free}
@@ -18,6 +18,11 @@ pub record IsSplit (strategy : Strategy) (given : Setting) (cube : List Trit) (s
 -- where the part may be split, the position is free in it
 abbrev pub IsSplitFree : Part → Type 0
 IsSplitFree part = IfSome part.split (λ split. slice_get part.cube split.position ≡ Some Free)
+
+-- the bound of where a part may be split, 0 where it may not
+abbrev pub bound_of : Option Split → ℕ
+bound_of None = 0
+bound_of (Some split) = split.bound
 
 abbrev pub cube_of : Part → List Trit
 cube_of part = part.cube

@@ -2,7 +2,7 @@
 
 ghost use Rattle.std.specs.Prelude.{◌≡◌, ◌*◌, length, IfOk};
 ghost use Rattle.td_search.specs.Sheeted.{IsScratch};
-ghost use Rattle.td_parts.specs.Splits.{IsSplitFree, cubes_of};
+ghost use Rattle.td_parts.specs.Splits.{IsSplitFree, bound_of, cubes_of};
 
 use crate::split::{Split, split_of};
 use std::alloc::{AllocError, Global};
@@ -37,7 +37,9 @@ impl Part {
     }
 
     /// The strongest bound of a part that a search would split, else 0.
-    pub fn bound(&self) -> u64 {
+    pub fn bound(&self) -> u64
+        ensures { result ≡ bound_of self.now.split }
+    {
         match self.split {
             Some(split) => split.bound,
             None => 0,
