@@ -1,17 +1,18 @@
 //! The strategy `lead`: what it does with a node.
 
-ghost use Rattle.std.specs.Prelude.{◌≡◌, ℕ, ◌*◌, ◌<◌, ◌^◌, Option, Some, length, IfOk};
+ghost use Rattle.std.specs.Prelude.{◌≡◌, ℕ, ◌*◌, ◌<◌, ◌^◌, Option, Some, length, IfOk, IfSome};
 ghost use Rattle.std.specs.List.{All};
 ghost use Rattle.td_circuit.specs.Numbering.{nets, setting};
 ghost use Rattle.td_certificate.specs.declared.tree.BoundedBy.TheVariants.{EdgesAndPossible};
 ghost use Rattle.td_certificate.specs.Accepts.{IsBoundBy};
 ghost use Rattle.td_domain.specs.Bounds.{IsUpperBoundIn};
 ghost use Rattle.td_domain.specs.Sheets.{IsSheet};
-ghost use Rattle.td_edges.specs.EdgeSignals.{edge_functions};
+ghost use Rattle.td_edges.specs.EdgeSignals.{edge_functions, last_of as edges_last_of};
 ghost use Rattle.td_edges.specs.Coverage.{span_reach};
 ghost use Rattle.td_ternary.specs.Possibles.{possible_functions, last_change};
 ghost use Rattle.td_search.specs.Guided.{IsGuide};
 ghost use Rattle.td_search.specs.Leading.{IsStep};
+ghost use Rattle.td_search.specs.OpenEnds.{HasOpenEnd};
 ghost use Rattle.td_search.specs.Sheeted.{AreSheets, IsScratch};
 
 use crate::guide::Guide;
@@ -23,6 +24,7 @@ use td_book::BoundedBy;
 use td_circuit::Circuit;
 use td_domain::{Cube, Domain, Sheet, bound_together, move_to};
 use td_edges::{Edges, Signal};
+use td_gates::Level;
 use td_ternary::Possible;
 
 /// What is to be done with a node.
@@ -112,6 +114,11 @@ fn step_by(
     if let Some(bound) = bound_within(alloc, circuit, &mut guide.edges, cube, cut)? {
         return Ok(Step::Close(BoundedBy::Edges, bound));
     }
+    if let Some((output, bound)) = open_output(circuit, &guide.edges) {
+        if bound > cut {
+            return Ok(open_step(circuit, guide, cube, output, bound));
+        }
+    }
     if let Some(bound) = bound_within(alloc, circuit, &mut sheets.possible, cube, cut)? {
         return Ok(Step::Close(BoundedBy::Possible, bound));
     }
@@ -119,7 +126,8 @@ fn step_by(
     if bound <= cut {
         return Ok(Step::Close(BoundedBy::EdgesAndPossible, bound));
     }
-    Ok(open_step(circuit, guide, &sheets.possible, cube, bound))
+    let output = latest_output(circuit, guide.edges.signals(), sheets.possible.signals());
+    Ok(open_step(circuit, guide, cube, output, bound))
 }
 
 /// As `strongest_with_edges`.
@@ -155,23 +163,48 @@ pub fn bound_with_edges(circuit: &Circuit, edges: &Sheet<Edges>, possible: &Shee
     bound_together(circuit, edges, possible).unwrap_or(0)
 }
 
-/// What is to be done with the cube of both sheets, whose bound is above the cut.
-fn open_step(
-    circuit: &Circuit,
-    guide: &mut Guide,
-    possible: &Sheet<Possible>,
-    cube: &Cube,
-    bound: u64,
-) -> Step
+/// The first output that changes last by edges, and the bound of the sheet's cube by them, where that output has no known level behind it.
+/// Then possible levels know no last moment of it, and the bound is the strongest domain's.
+fn open_output(circuit: &Circuit, edges: &Sheet<Edges>) -> Option<(u32, u64)>
+    requires sheet { IsSheet edge_functions (λ signal. span_reach signal.changes) circuit.now edges.now }
+    ensures output { IfSome result (λ found. found.0 < length (nets circuit.now)) }
+    ensures bound { IfSome result (λ found. IsBoundBy EdgesAndPossible (setting circuit.now) edges.now.cube (Some found.1)) }
+    ensures sound { IfSome result (λ found. IsUpperBoundIn (setting circuit.now) edges.now.cube found.1) }
+    ensures small { IfSome result (λ found. found.1 < 10 ^ 15) }
+{
+    let bound = edges.bound()?;
+    let output = open_end(edges.signals(), circuit.outputs(), bound)?;
+    Some((output, bound))
+}
+
+/// The first of some nets that may change last at this moment, if it has no known level behind it.
+fn open_end(signals: &[Signal], nets: &[u32], moment: u64) -> Option<u32>
+    requires { All (λ net. net < length signals.now) nets.now }
+    ensures net { IfSome result (λ net. net < length signals.now) }
+    ensures end { IfSome result (λ net. HasOpenEnd edges_last_of (λ signal. signal.finish) signals.now nets.now moment) }
+{
+    for net in nets {
+        let signal = &signals[*net as usize];
+        if Edges::last(signal) == Some(moment) {
+            if signal.finish == Level::X {
+                return Some(*net);
+            }
+            return None;
+        }
+    }
+    None
+}
+
+/// What is to be done with a cube whose bound is above the cut, by the output that changes last.
+fn open_step(circuit: &Circuit, guide: &mut Guide, cube: &Cube, output: u32, bound: u64) -> Step
     requires guide { IsGuide circuit.now guide.old }
-    requires possible { IsSheet possible_functions (λ signal. last_change signal.changes) circuit.now possible.now }
+    requires output { output < length (nets circuit.now) }
     requires positions { length cube.now ≡ 2 * length circuit.now.netlist.inputs }
     requires bound { IsBoundBy EdgesAndPossible (setting circuit.now) cube.now (Some bound) }
     requires small { bound < 10 ^ 15 }
     ensures step { (cut : ℕ) → cut < bound → IsStep (setting circuit.now) cube.now cut result }
     ensures guide { IsGuide circuit.now guide.new }
 {
-    let output = latest_output(circuit, guide.edges.signals(), possible.signals());
     let position = guide
         .fan
         .position(circuit, guide.edges.signals(), cube, output);

@@ -1,17 +1,22 @@
 //! A sheet of each domain, which goes from cube to cube.
 
-ghost use Rattle.std.specs.Prelude.{◌≡◌, ℕ, ◌*◌, ◌<◌, ◌≤◌, ◌^◌, Option, Some, length, IfOk, OnOk};
+ghost use Rattle.std.specs.Prelude.{◌≡◌, ℕ, ◌*◌, ◌<◌, ◌≤◌, ◌^◌, true, Option, Some, length, IfOk, IfSome, OnOk};
+ghost use Rattle.std.specs.List.{All};
 ghost use Rattle.td_circuit.specs.Numbering.{setting};
 ghost use Rattle.td_domain.specs.Bounds.{IsBound, IsUpperBoundIn};
 ghost use Rattle.td_domain.specs.Sheets.{IsSheet};
 ghost use Rattle.td_certificate.specs.declared.tree.BoundedBy.TheVariants.{Both};
 ghost use Rattle.td_certificate.specs.Accepts.{IsBoundBy};
+ghost use Rattle.td_arrival.specs.Arrivals.{arrival_functions, last_of as arrival_last_of};
+ghost use Rattle.td_arrival.specs.Coverage.{span_reach};
+ghost use Rattle.td_search.specs.OpenEnds.{HasOpenEnd};
 ghost use Rattle.td_search.specs.Sheeted.{AreSheets};
 
 use std::alloc::{AllocError, Global};
-use td_arrival::Arrival;
+use td_arrival::{Arrival, Signal};
 use td_circuit::Circuit;
 use td_domain::{Cube, Domain, Sheet, bound_together, move_to};
+use td_gates::Level;
 use td_ternary::Possible;
 
 /// A sheet of each domain.
@@ -72,6 +77,36 @@ pub fn strongest_bound(alloc: Global, circuit: &Circuit, cube: &Cube) -> Result<
     ensures small { IfOk result (λ bound. bound < 10 ^ 15) }
 {
     Ok(Sheets::new(alloc, circuit, cube)?.strongest(circuit))
+}
+
+/// The bound of a sheet's cube by arrival windows, where an output that may change as late as that has no known level behind it. Then
+/// possible levels know no last moment of that output, and the bound is the strongest domain's.
+pub fn open_bound(circuit: &Circuit, arrival: &Sheet<Arrival>) -> Option<u64>
+    requires sheet { IsSheet arrival_functions (λ signal. span_reach signal.changes) circuit.now arrival.now }
+    ensures bound { IfSome result (λ bound. IsBoundBy Both (setting circuit.now) arrival.now.cube (Some bound)) }
+    ensures sound { IfSome result (IsUpperBoundIn (setting circuit.now) arrival.now.cube) }
+    ensures small { IfSome result (λ bound. bound < 10 ^ 15) }
+{
+    let bound = arrival.bound()?;
+    if has_open_end(arrival.signals(), circuit.outputs(), bound) {
+        Some(bound)
+    } else {
+        None
+    }
+}
+
+/// Whether one of some nets may change last at this moment, and has no known level behind it.
+fn has_open_end(signals: &[Signal], nets: &[u32], moment: u64) -> bool
+    requires { All (λ net. net < length signals.now) nets.now }
+    ensures { result ≡ true → HasOpenEnd arrival_last_of (λ signal. signal.finish) signals.now nets.now moment }
+{
+    for net in nets {
+        let signal = &signals[*net as usize];
+        if signal.finish == Level::X && Arrival::last(signal) == Some(moment) {
+            return true;
+        }
+    }
+    false
 }
 
 /// The bound of a cube by the domain of a sheet, which is taken there, where the domain has one that is at most the cut. The

@@ -28,3 +28,11 @@ returns-clause-probe c = record {
   strongest = λ above. rw (← c.in_ok-bound.ensures.cube) c.strongest.ensures.bound;
   small = λ above. c.strongest.ensures.small;
 }
+
+pub returns-in-Some-open_bound-clause-probe : goal.returns-in-Some-open_bound-clause-probe
+returns-in-Some-open_bound-clause-probe c = record {
+  is = rw (← c.in_ok-bound.ensures.cube) c.in-Some-open_bound.ensures.bound;
+  sound = rw (← c.in_ok-bound.ensures.cube) c.in-Some-open_bound.ensures.sound;
+  strongest = λ above. rw (← c.in_ok-bound.ensures.cube) c.in-Some-open_bound.ensures.bound;
+  small = λ above. c.in-Some-open_bound.ensures.small;
+}

@@ -15,8 +15,11 @@ returns-in-Some-2-clause-step c = (
 )
 
 pub returns-then-bound-cut-clause-step : goal.returns-then-bound-cut-clause-step
-returns-then-bound-cut-clause-step c = (
+returns-then-bound-cut-clause-step c = c.open_step.ensures.step c.args.cut c.if-bound-cut.true
+
+pub returns-then-bound-cut-2-clause-step : goal.returns-then-bound-cut-2-clause-step
+returns-then-bound-cut-2-clause-step c = (
   rw (← c.in_ok-bound.ensures.cube) c.bound_with_edges-bound.ensures.bound,
   rw (← c.in_ok-bound.ensures.cube) c.bound_with_edges-bound.ensures.sound,
-  c.if-bound-cut.true,
+  c.if-bound-cut-2.true,
 )
