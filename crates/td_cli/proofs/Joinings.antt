@@ -70,7 +70,7 @@ pub bad_part : (text : List ℕ) (default : Delay) (netlist : Netlist) (check : 
 bad_part text default netlist check name read fault reason is (inl memory) =
     subst (λ (r : Refusal). TellsNoPart text default netlist check name.now read r) (sym memory) tt
 bad_part text default netlist check name read fault reason is (inr told) =
-    subst (λ (r : Refusal). TellsNoPart text default netlist check name.now read r) (sym told) (refl, is)
+    subst (λ (r : Refusal). TellsNoPart text default netlist check name.now read r) (sym told.1) (told.0, refl, is)
 
 -- why a certificate wasn't judged
 pub not_judged : (text : List ℕ) (default : Delay) (netlist : Netlist) (checked : Bool) (name : Bor (List ℕ)) (read : List ℕ) (fault : CheckFault)
@@ -78,7 +78,7 @@ pub not_judged : (text : List ℕ) (default : Delay) (netlist : Netlist) (checke
 not_judged text default netlist checked name read check.OutOfMemory is = tt
 not_judged text default netlist checked name read (check.Netlist told) is = record { told = is.0; means_none = is.1; has = is.2 }
 not_judged text default netlist checked name read (check.Loop net) is = is
-not_judged text default netlist checked name read (check.Certificate told) is = (refl, is.3)
+not_judged text default netlist checked name read (check.Certificate told) is = (is.2, refl, is.3)
 
 module _ (disk : Disk) (text : List ℕ) (default : Delay) (netlist : Netlist) (check : Bool) where
   -- all files were read

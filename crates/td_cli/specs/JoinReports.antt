@@ -1,13 +1,14 @@
 -- What `join` prints, and why it joins nothing.
-use Rattle.std.specs.Prelude.{◌≡◌, ◌≢◌, ◌<◌, ℕ, Bool, true, List, [], ◌∷◌, All, length, get_or, ◌⊎◌, Option, Some, None}
+use Rattle.std.specs.Prelude.{◌≡◌, ◌≢◌, ◌<◌, ◌≤◌, ℕ, Bool, true, List, [], ◌∷◌, All, length, get_or, ◌⊎◌, Option, Some, None}
 use Rattle.std.specs.List.{AllZip, Contains}
 use Rattle.td_gates.specs.declared.timing.Delay.{Delay}
 use Rattle.td_nets.specs.Netlist.{Netlist}
 use Rattle.td_domain.specs.declared.cubes.Trit.{Trit}
 use Rattle.td_certificate.specs.declared.certificate.Certificate.{Certificate}
 use Rattle.td_certificate.specs.Accepts.{Accepts, IsOfSize}
+use Rattle.td_certificate.specs.declared.fault.CertFaultKind.TheVariants as certificate_kind
 use Rattle.td_certificate.specs.Faults.{IsFault}
-use Rattle.td_certificate.specs.Spelling.{Spells}
+use Rattle.td_certificate.specs.Spelling.{Spells, HasSpelling}
 use Rattle.td_checker.specs.declared.verdict.Verdict.TheVariants.{Accepted}
 use Rattle.td_checker.specs.Checks.{HasCircuit, HaveVerdict}
 use Rattle.td_join.specs.declared.fault.JoinFault.TheVariants as fault
@@ -51,7 +52,8 @@ pub record TellsPart (text : List ℕ) (default : Delay) (netlist : Netlist) (ch
 
 -- why a file's bytes tell no part, another verdict only where parts are checked; the file's name is told
 abbrev pub TellsNoPart : List ℕ → Delay → Netlist → Bool → List ℕ → List ℕ → Refusal → Type 0
-TellsNoPart text default netlist check name read (refusal.BadPart told fault) = (told.now ≡ name) × IsFault fault.kind fault.line read
+TellsNoPart text default netlist check name read (refusal.BadPart told fault) =
+    (fault.kind ≢ certificate_kind.OutOfMemory) × (told.now ≡ name) × IsFault fault.kind fault.line read
 TellsNoPart text default netlist check name read (refusal.Unaccepted told verdict) =
     (check ≡ true) × (told.now ≡ name) × (verdict ≢ Accepted) × HaveVerdict text default read verdict
 TellsNoPart text default netlist check name read (refusal.OtherCircuit told) =
@@ -82,8 +84,12 @@ pub record IsToJoin (disk : Disk) (text : List ℕ) (default : Delay) (names : L
   pub pinned : ArePinned (length netlist.inputs) first second given
   pub pins_are : pins ≡ whole_pins given parts
 
--- The parts are joined into one certificate, and the report tells its time, its pair and the number of its nodes, as that of a search does.
--- Where each part is accepted of a netlist, so is the whole.
+-- the most nodes of a whole
+abbrev pub most_nodes : ℕ
+most_nodes = 10000000
+
+-- The parts are joined into one certificate, which has a text and not too many nodes, and the report tells its time, its pair and the number of
+-- its nodes, as that of a search does. Where each part is accepted of a netlist, so is the whole.
 pub record IsJoinReport (disk : Disk) (text : List ℕ) (default : Delay) (names : List (List ℕ)) (check : Bool) (first second : Option (List ℕ))
     (report : List ℕ) (whole : Certificate) : Type 0 where
   pub netlist : Netlist
@@ -91,14 +97,12 @@ pub record IsJoinReport (disk : Disk) (text : List ℕ) (default : Delay) (names
   pub pins : List Trit
   pub to_join : IsToJoin disk text default names check first second netlist parts pins
   pub joined : IsJoined parts pins whole
+  pub has_text : HasSpelling whole
+  pub few : length whole.tree ≤ most_nodes
   pub accepted : (any : Netlist) → All (Accepts any) parts → Accepts any whole
   pub is : report ≡ worst_text netlist (Exact whole.time whole.pair whole.tree)
 
 -- ---- why nothing is joined
-
--- the most nodes of a whole
-abbrev pub most_nodes : ℕ
-most_nodes = 10000000
 
 -- why parts aren't joined into a certificate with these pins, told by the files of the two that the fault tells; or what they are joined
 -- into has too many nodes

@@ -1,10 +1,10 @@
 -- What `parts` prints.
-use Rattle.std.specs.Prelude.{◌≡◌, ◌≤◌, ℕ, List, [], ◌++◌, All, codes, decimal, length, Option, Some, None}
+use Rattle.std.specs.Prelude.{◌≡◌, ◌<◌, ◌≤◌, ℕ, List, [], ◌++◌, All, codes, decimal, length, Option, Some, None}
 use Rattle.std.specs.List.{flat_map}
 use Rattle.td_gates.specs.declared.timing.Delay.{Delay}
 use Rattle.td_domain.specs.declared.cubes.Trit.{Trit}
 use Rattle.td_domain.specs.Admits.{HasAdmitted}
-use Rattle.td_search.specs.Problems.{Problem}
+use Rattle.td_search.specs.Problems.{Problem, IsPart}
 use Rattle.td_join.specs.Partition.{IsPartition}
 use Rattle.td_cli.specs.declared.asking.QuestionWords.{QuestionWords}
 use Rattle.td_cli.specs.Vectors.{words_of}
@@ -27,13 +27,15 @@ part_line words pins =
     pins_text pins ++ option_text (codes " --hold ") (words_of words.hold) ++ flips_text words.flips
     ++ option_text (codes " --at ") (words_of words.at) ++ newline
 
--- The report has a line for each of at most so many cubes, which share out the admitted pairs of what the words ask of the text: each lies in
--- exactly one, and in each lies one.
+-- The report has a line for each of at most so many cubes, at least one. They share out the admitted pairs of what the words ask of the text:
+-- each lies in exactly one, and in each lies one. No cube has a pair that isn't one of the pins.
 pub record IsPartsReport (text : List ℕ) (default : Delay) (words : QuestionWords) (parts : ℕ) (report : List ℕ) : Type 0 where
   pub asked : Problem
   pub is_asked : IsAsked text default words asked
   pub cubes : List (List Trit)
   pub partition : IsPartition asked.admit cubes
+  pub any : 0 < length cubes
   pub few : length cubes ≤ parts
   pub some : All (HasAdmitted asked.admit) cubes
+  pub inside : All (λ cube. IsPart cube asked.admit.pins) cubes
   pub is : report ≡ flat_map (part_line words) cubes

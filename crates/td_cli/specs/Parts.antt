@@ -2,6 +2,7 @@
 use Rattle.std.specs.Prelude.{◌≡◌, ◌≢◌, ℕ, List, [], get_or, ◌⊎◌}
 use Rattle.std.specs.Borrow.{Bor}
 use Rattle.td_certificate.specs.declared.fault.CertFault.{CertFault}
+use Rattle.td_certificate.specs.declared.fault.CertFaultKind.TheVariants as certificate_kind
 use Rattle.td_checker.specs.declared.verdict.CheckFault.{CheckFault}
 use Rattle.td_checker.specs.declared.verdict.CheckFault.TheVariants as check
 use Rattle.td_join.specs.declared.fault.JoinFault.{JoinFault}
@@ -12,7 +13,8 @@ use Rattle.td_cli.specs.declared.refusal.Refusal.TheVariants as refusal
 
 -- the reason tells this fault of the text in the file of this name, or want of memory
 abbrev pub IsOfPart : Bor (List ℕ) → CertFault → Refusal → Type 0
-IsOfPart name fault reason = (reason ≡ refusal.OutOfMemory) ⊎ (reason ≡ refusal.BadPart name fault)
+IsOfPart name fault reason =
+    (reason ≡ refusal.OutOfMemory) ⊎ ((fault.kind ≢ certificate_kind.OutOfMemory) × (reason ≡ refusal.BadPart name fault))
 
 -- the reason that tells why the certificate in the file of this name wasn't judged
 abbrev pub unjudged : Bor (List ℕ) → CheckFault → Refusal

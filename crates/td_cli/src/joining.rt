@@ -12,7 +12,7 @@ ghost use Rattle.td_cli.specs.Disks.{disk_of};
 ghost use Rattle.td_cli.specs.Ends.{Ends, streams};
 ghost use Rattle.td_cli.specs.Files.{Takes};
 ghost use Rattle.td_cli.specs.Vectors.{words_of, IsFirstBad};
-ghost use Rattle.td_cli.specs.JoinReports.{pin_words, ArePinned, whole_pins, IsUnjoinedFor, IsToJoin, IsJoinReport, HasNoJoin};
+ghost use Rattle.td_cli.specs.JoinReports.{pin_words, ArePinned, whole_pins, IsUnjoinedFor, IsToJoin, IsJoinReport, HasNoJoin, most_nodes};
 ghost use Rattle.td_cli.specs.Parts.{IsOfUnjoined};
 ghost use Rattle.td_cli.specs.WorstReports.{worst_text};
 ghost use Rattle.td_search.specs.declared.answers.Answer.TheVariants as Answered;
@@ -111,6 +111,7 @@ fn whole_of<'a>(
     ensures joined { IfOk result (IsJoined parts.items (whole_pins pins.now parts.items)) }
     ensures accepted { IfOk result (λ whole. (any : Netlist) → All (Accepts any) parts.items → Accepts any whole) }
     ensures spelled { IfOk result (λ whole. All HasSpelling parts.items → HasSpelling whole) }
+    ensures few { IfOk result (λ whole. length whole.tree ≤ most_nodes) }
     ensures refusal { IfErr result (λ reason. reason ≢ Reason.OutOfMemory → IsUnjoinedFor (map (λ name. name.now) names.now) parts.items (whole_pins pins.now parts.items) reason) }
 {
     let whole = match joined_with(alloc, parts, pins) {

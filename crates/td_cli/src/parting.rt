@@ -58,7 +58,7 @@ fn some_lines<'a>(
     cubes: &[Cube],
     words: QuestionWords<'_>,
 ) -> Result<Text, Refusal<'a>>
-    ensures lines { IfOk result (λ text. text ≡ flat_map (part_line words.entry) cubes.now) }
+    ensures lines { IfOk result (λ text. (0 < length cubes.now) × (text ≡ flat_map (part_line words.entry) cubes.now)) }
     ensures none { IfErr result (λ reason. (reason ≡ Reason.OutOfMemory) ⊎ ((reason ≡ Reason.NoPair) × (length cubes.now ≡ 0))) }
 {
     if cubes.is_empty() {

@@ -40,6 +40,12 @@ returns-in_err-report-clause-refusal g c =
     let told = err_from_is_err_and c.from_residual-in_err-report.result c.from_residual-in_err-report.ensures.1 in
     rw (told.1, told.2) (λ other. absurd (other refl))
 
+pub returns-clause-spelled : goal.returns-clause-spelled
+returns-clause-spelled g c =
+    let disk = disk_of (g.F.Files.holds c.args.files.now) (g.F.Files.fails c.args.files.now) (g.F.Files.breaks c.args.files.now) (g.F.Files.is_one c.args.files.now) in
+    c.in_ok-whole.ensures.spelled (parts_spelled disk c.args.text.now c.args.default c.in_ok-circuit.circuit.netlist c.args.is_checked (map now_of c.args.names.now)
+    c.in_ok-parts.parts.items c.in_ok-parts.ensures.parts)
+
 pub returns-clause-report : goal.returns-clause-report
 returns-clause-report g c =
     let disk = disk_of (g.F.Files.holds c.args.files.now) (g.F.Files.fails c.args.files.now) (g.F.Files.breaks c.args.files.now) (g.F.Files.is_one c.args.files.now) in
@@ -51,12 +57,8 @@ returns-clause-report g c =
           c.in_ok-circuit.circuit c.input_count.result c.in_ok-parts.parts.items c.in-Ok.pins c.in_ok-circuit.ensures.circuit c.input_count.ensures
           c.in_ok-parts.ensures.parts (rw c.in-Ok.is at c.in_ok-pins.ensures.pinned);
       joined = c.in_ok-whole.ensures.joined;
+      has_text = returns-clause-spelled g c;
+      few = c.in_ok-whole.ensures.few;
       accepted = c.in_ok-whole.ensures.accepted;
       is = c.in_ok-report.ensures;
     }
-
-pub returns-clause-spelled : goal.returns-clause-spelled
-returns-clause-spelled g c =
-    let disk = disk_of (g.F.Files.holds c.args.files.now) (g.F.Files.fails c.args.files.now) (g.F.Files.breaks c.args.files.now) (g.F.Files.is_one c.args.files.now) in
-    c.in_ok-whole.ensures.spelled (parts_spelled disk c.args.text.now c.args.default c.in_ok-circuit.circuit.netlist c.args.is_checked (map now_of c.args.names.now)
-    c.in_ok-parts.parts.items c.in_ok-parts.ensures.parts)

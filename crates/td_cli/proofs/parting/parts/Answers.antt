@@ -23,8 +23,10 @@ returns-clause-report c =
       is_asked = c.in_ok-asked.ensures.asked;
       cubes = c.in_ok-cubes.cubes.items;
       partition = c.in_ok-cubes.ensures.partition;
+      any = is.0;
       few = omega (arith, c.in_ok-cubes.ensures.few, c.requires);
       some = c.in_ok-cubes.ensures.some;
-      is = is;
+      inside = c.in_ok-cubes.ensures.inside;
+      is = is.1;
     })
     (rw c.deref.ensures.value at c.some_lines.ensures.lines)
