@@ -76,11 +76,12 @@ HEAD = re.compile(r"^(?:(?:abbrev|unfoldable|opaque) )*(?:pub )?(?:(record|data)
 def definitions_of(path):
     """The definitions of a file of specs/."""
     found, comment, current = [], [], None
+    broken = None  # the definition that a comment stands in, or behind
     header, inside = (), False
     for number, line in enumerate(open(path).read().split("\n"), 1):
         body = line.strip()
         if not body:
-            comment, current = [], None
+            comment, current, broken = [], None, None
             continue
         if line.startswith("use "):
             comment, current = [], None
@@ -97,9 +98,13 @@ def definitions_of(path):
         depth = len(line) - len(line.lstrip())
         if body.startswith("--") and depth == indent:
             if current is not None:
-                comment = []
+                comment, broken = [], current
             comment, current = comment + [line], None
             continue
+        if current is None and broken is not None and body.split()[0] in broken.names:
+            current = broken  # a clause behind a comment
+            current.lines += comment
+            comment = []
         is_head = depth == indent and (
             re.match(r"(abbrev|unfoldable|opaque|pub|record|data) ", body) or re.match(r"[^\s=]+ : ", body))
         if is_head and not (current and re.match(r"pub \S+ :", body) and depth > indent):
@@ -197,6 +202,10 @@ class Model:
                 yield from self.at(whole + "." + rest.split(".")[0]) or self.at(whole)
             elif (path, head) in self.by_name:
                 yield self.by_name[path, head]
+            elif (path, f"◌{head}◌") in self.by_name:
+                yield self.by_name[path, f"◌{head}◌"]
+            elif f"◌{head}◌" in names:
+                yield from self.at(names[f"◌{head}◌"])
             elif head in names:
                 yield from self.at(names[head])
 
