@@ -567,11 +567,6 @@ delay_to_greatest delay Low = omega arith
 delay_to_greatest delay High = omega arith
 delay_to_greatest delay X = omega arith
 
-delay_to_least : (delay : Delay) (level : Level) → min delay.rise delay.fall ≤ delay_to delay level
-delay_to_least delay Low = omega arith
-delay_to_least delay High = omega arith
-delay_to_least delay X = omega arith
-
 last_delay_greatest : (delay : Delay) (level : Level) → last_delay delay level ≤ max delay.rise delay.fall
 last_delay_greatest delay Low = omega arith
 last_delay_greatest delay High = omega arith

@@ -158,9 +158,6 @@ pub record IsBack (cube0 : List Trit) (path0 : List Turn) (cube : List Trit) (pa
   pub along : left_along cube path ≡ left_along cube0 path0
   pub short : length path ≤ length path0
 
-pub back_starts : (cube : List Trit) (path : List Turn) → AreWithin (length cube) path → IsBack cube path cube path
-back_starts cube path h = record { turns = h; root = refl; along = refl; short = omega arith }
-
 pub back_low : (cube0 : List Trit) (path0 : List Turn) (cube : List Trit) (path rest : List Turn) (t : Turn) → IsBack cube0 path0 cube path → path ≡ rest ++ t ∷ [] → t.position < length cube
 back_low cube0 path0 cube path rest t b e = within_last (length cube) rest t (subst (AreWithin (length cube)) e b.turns)
 
@@ -205,14 +202,4 @@ back_turns cube0 path0 cube path rest t cube' path' b e side is path_is =
       coming = some_to_come (length (left_along cube0 path0)) cube' path' (omega arith)
           ∙ (ap (λ (l : List (List Trit)). cube' ∷ l) now ∙ (ap (λ (q : List Trit). q ∷ left_along (set cube t.position Free) rest) (sym first) ∙ sym was));
       short = omega arith;
-    }
-
--- back at the root
-pub back_ends : (cube0 : List Trit) (path0 : List Turn) (cube : List Trit) (path : List Turn) → IsBack cube0 path0 cube path → path ≡ [] → IsTurned cube0 path0 cube path
-back_ends cube0 path0 cube path b e =
-    let none : left_along cube0 path0 ≡ [] = sym b.along ∙ ap (left_along cube) e in record {
-      turns = b.turns;
-      root = b.root;
-      coming = ap (λ (n : ℕ). to_come n cube path) (ap length none) ∙ sym none;
-      short = b.short;
     }

@@ -55,9 +55,6 @@ pub so_far_front : (a b : Output) (c : Certificate) (i : ℕ) (batch : List ℕ)
 so_far_front a b c i batch p =
     subst (λ (t : List ℕ). SentFront a b t) (sym (up_to-rest c i)) (SentTo-front a b (up_to c i) batch (text_of (map node_line (drop i c.tree))) p)
 
-pub nothing_front : (a : Output) (c : Certificate) → SentFront a a (spelling c)
-nothing_front a c = record { front = []; rest = spelling c; parts = refl; sent = (Sent-nothing a).sent }
-
 pub node_pushed : (a b : Output) (c : Certificate) (i : ℕ) (items : List Node) (d : Node) (batch batch' : List ℕ) → items ≡ c.tree → i < length items → SentTo a b (up_to c i) batch
     → batch' ≡ batch ++ (node_line (get_or items i d) ++ 10 ∷ []) → SentTo a b (up_to c (i + 1)) batch'
 node_pushed a b c i items d batch batch' is lt p e =
@@ -152,16 +149,6 @@ spaced m ms = ap (λ (t : List ℕ). codes "at" ++ t) (all_spaced m ms)
     all_spaced m (n ∷ ms) =
         flat_map-cons behind_at m (n ∷ ms) ∙ ap (λ (t : List ℕ). behind_at m ++ t) (all_spaced n ms)
         ∙ sym (append_assoc (behind_at m) (codes " ") (numbers (n ∷ ms)))
-
-pub moment_pushed : (ms : List ℕ) (i d : ℕ) (old text new : List ℕ) → i < length ms → text ≡ old ++ (codes "at" ++ flat_map behind_at (take i ms)) → new ≡ text ++ behind_at (get_or ms i d)
-    → new ≡ old ++ (codes "at" ++ flat_map behind_at (take (i + 1) ms))
-moment_pushed ms i d old text new lt before pushed =
-    let more : flat_map behind_at (take (i + 1) ms) ≡ flat_map behind_at (take i ms) ++ behind_at (get_or ms i d) =
-    ap (flat_map behind_at) (take_more ms i d lt) ∙ flat_map-append behind_at (take i ms) (get_or ms i d ∷ [])
-    ∙ ap (λ (t : List ℕ). flat_map behind_at (take i ms) ++ t) (flat_map-cons behind_at (get_or ms i d) [] ∙ append-nil (behind_at (get_or ms i d))) in
-    pushed ∙ ap (λ (t : List ℕ). t ++ behind_at (get_or ms i d)) before
-    ∙ append_assoc old (codes "at" ++ flat_map behind_at (take i ms)) (behind_at (get_or ms i d))
-    ∙ ap (λ (t : List ℕ). old ++ (codes "at" ++ t)) (sym more)
 
 pub moments_pushed : (ms : List ℕ) (i : ℕ) (old text new : List ℕ) → length ms ≢ 0 → length ms ≤ i → text ≡ old ++ (codes "at" ++ flat_map behind_at (take i ms)) → new ≡ text ++ codes "\n"
     → new ≡ old ++ ended (codes "at " ++ numbers ms)

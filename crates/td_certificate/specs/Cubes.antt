@@ -3,9 +3,6 @@ use Rattle.std.specs.Prelude.{ℕ, List, ◌∷◌, set, replicate, Option, Some
 use Rattle.td_domain.specs.declared.cubes.Trit.{Trit}
 use Rattle.td_domain.specs.declared.cubes.Trit.TheVariants.{Zero, One, Free}
 
-abbrev pub free_cube : ℕ → List Trit
-free_cube positions = replicate positions Free
-
 -- the two halves of a cube at a free position
 abbrev pub zero_side : List Trit → ℕ → List Trit
 zero_side cube position = set cube position Zero

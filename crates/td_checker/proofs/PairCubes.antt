@@ -63,18 +63,3 @@ rest_at : (xs : List Bool) (i : ℕ) (x : Bool) → slice_get xs i ≡ Some x �
 rest_at [] i x is = none_not x is
 rest_at (y ∷ xs) zero x is = ap (λ z. z ∷ xs) (some_is y x is)
 rest_at (y ∷ xs) (suc i) x is = rest_at xs i x is
-
--- one input more
-pub more_trits : (before after : List Bool) (i : ℕ) (a b : Bool) (done pushed both whole : List Trit) (t u : Trit)
-    → slice_get before i ≡ Some a → slice_get after i ≡ Some b → t ≡ trit_of a → u ≡ trit_of b → pushed ≡ done ++ t ∷ [] → both ≡ pushed ++ u ∷ []
-    → done ++ cube_of (drop i before) (drop i after) ≡ whole → both ++ cube_of (drop (i + 1) before) (drop (i + 1) after) ≡ whole
-more_trits before after i a b done pushed both whole t u at_a at_b t_is u_is p q was =
-    let next : suc i ≡ i + 1 = omega arith in
-    let rest : List Trit = cube_of (drop (i + 1) before) (drop (i + 1) after) in
-    let first : drop i before ≡ a ∷ drop (i + 1) before = rest_at before i a at_a ∙ ap (λ k. a ∷ drop k before) next in
-    let second : drop i after ≡ b ∷ drop (i + 1) after = rest_at after i b at_b ∙ ap (λ k. b ∷ drop k after) next in
-    let here : cube_of (drop i before) (drop i after) ≡ t ∷ u ∷ rest =
-    ap (λ l. cube_of l (drop i after)) first ∙ (ap (λ l. cube_of (a ∷ drop (i + 1) before) l) second
-    ∙ (ap (λ v. v ∷ trit_of b ∷ rest) (sym t_is) ∙ ap (λ v. t ∷ v ∷ rest) (sym u_is))) in
-    let joined : both ≡ done ++ t ∷ u ∷ [] = q ∙ (ap (λ l. l ++ u ∷ []) p ∙ append_assoc done (t ∷ []) (u ∷ [])) in
-    ap (λ l. l ++ rest) joined ∙ (append_assoc done (t ∷ u ∷ []) rest ∙ (ap (λ l. done ++ l) (sym here) ∙ was))

@@ -66,12 +66,6 @@ accepted_told netlist moments c e size admitted reached is_tree good = record {
   good = subst (λ s. AllByRecursion (IsGood s c.question.admit c.time) (lines_in c)) (setting_is netlist moments c e) good;
 }
 
--- the pair doesn't have the time
-pub missed_told : (netlist : Netlist) (moments : List ℕ) (c : Certificate) → moments ≡ c.question.moments
-    → (¬ IsDelayOfBits (at_moments netlist moments) c.pair.first c.pair.second c.time) → ¬ IsReached netlist c
-missed_told netlist moments c e missed reached =
-    missed (subst (λ s. IsDelayOfBits s c.pair.first c.pair.second c.time) (sym (setting_is netlist moments c e)) reached)
-
 -- the vectors of a certificate of this circuit are the circuit's
 pub first_fits : (netlist : Netlist) (c : Certificate) → IsOfSize netlist c → HasSpelling c → length c.pair.first ≡ length netlist.inputs
 first_fits netlist c size has = has.first ∙ sym size.inputs
@@ -98,6 +92,3 @@ counted First question a b x y z = refl
 counted Second question a b x y z = refl
 counted Third question a b x y z = refl
 counted Fourth question a b x y z = refl
-
-pub head_count : (c : Certificate) → first_of (version_in c) ≡ 1 + length (head_lines c)
-head_count c = counted (version_in c) c.question (version_line (version_in c)) (circuit_line c) (time_line c) (from_line c) (to_line c)

@@ -118,12 +118,6 @@ to_join disk text default names check first second circuit count parts given is 
   pins_are = refl;
 }
 
-pub not_joined : (names : List (List ℕ)) (parts : List Certificate) (pins : List Trit) (fault : JoinFault) (reason : Refusal)
-    → IsJoinFault parts pins fault → IsOfUnjoined names fault reason → reason ≢ refusal.OutOfMemory → IsUnjoinedFor names parts pins reason
-not_joined names parts pins fault reason has (inl memory) other = absurd (other memory)
-not_joined names parts pins fault reason has (inr told) other =
-    subst (λ (r : Refusal). IsUnjoinedFor names parts pins r) (sym told.is) (told.told, has, told.one_is, told.other_is)
-
 -- no file that is read is written over
 pub all_kept : (P : List ℕ → Type 0) (words : List (Bor (List ℕ))) (i : ℕ) → length words ≤ i → All (λ (word : Bor (List ℕ)). P word.now) (take i words)
     → All P (map now_of words)
@@ -134,24 +128,6 @@ all_kept P words i past all =
 pub one_over : (P : List ℕ → Type 0) (words : List (Bor (List ℕ))) (i : ℕ) (d : Bor (List ℕ)) → i < length words → P (get_or words i d).now
     → (name : List ℕ) × Contains (map now_of words) name × P name
 one_over P words i d less holds = ((get_or words i d).now, contains_word words i d less, holds)
-
--- a netlist without a circuit has no parts to join
-pub no_circuit : (text : List ℕ) (default : Delay) (first second : Option (List ℕ)) (reason : Refusal) → HasNoCircuit text default reason
-    → IsRefusedFor text default (pin_words first second) reason
-no_circuit text default first second refusal.OutOfMemory has = tt
-no_circuit text default first second (refusal.Netlist fault) has = has
-no_circuit text default first second (refusal.Loop net) has = has
-no_circuit text default first second (refusal.BadVector word) has = absurd has.first_bad
-no_circuit text default first second (refusal.Unreadable name) has = absurd has
-no_circuit text default first second (refusal.Certificate fault) has = absurd has
-no_circuit text default first second refusal.NoOutput has = absurd has
-no_circuit text default first second refusal.NoPair has = absurd has
-no_circuit text default first second (refusal.OneFile out file) has = absurd has
-no_circuit text default first second (refusal.BadPart name fault) has = absurd has
-no_circuit text default first second (refusal.Unaccepted name verdict) has = absurd has
-no_circuit text default first second (refusal.OtherCircuit name) has = absurd has
-no_circuit text default first second (refusal.NotJoined fault one other) has = absurd has
-no_circuit text default first second refusal.TooLong has = absurd has
 
 -- where there is no value, and this follows
 pub none_with : {X A B : Type 0} (r : Option X) → (A → B) → IfNone r A → IfNone r B

@@ -6,6 +6,5 @@ pub mod Missing
 pub mod Moments
 pub mod Paths
 pub mod Questions
-pub mod Searches
 pub mod Listing
 pub mod Joinings

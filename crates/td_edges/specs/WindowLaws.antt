@@ -32,10 +32,6 @@ pub record Ends (known : Level) (e : ℕ → Level) : Type 0 where
   pub from : ℕ
   pub ends : (n : ℕ) → from ≤ n → Agrees known (e n)
 
-pub still_all : (e : ℕ → Level) → IsStill e → (n : ℕ) → e n ≡ e 0
-still_all e still zero = refl
-still_all e still (suc n) = still n ∙ still_all e still n
-
 -- levels that aren't at v at one place and are at a later one change to v in between
 pub record Turns (e : ℕ → Level) (v : Level) (n : ℕ) : Type 0 where
   pub turn : ℕ

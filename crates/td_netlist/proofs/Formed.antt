@@ -204,9 +204,6 @@ declared_long (d ∷ ds) =
       sum_by-cons (λ (x : Declared). width_of x.range) d ds,
     )
 
-same_named : (x y : Name) → Named x ≡ Named y → x ≡ y
-same_named x y e = cc
-
 no_side : (r : Role) → is_input r ≡ true → is_output r ≡ true → ⊥
 no_side role.Input input output = cc
 no_side role.Output input output = cc

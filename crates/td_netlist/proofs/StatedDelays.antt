@@ -33,9 +33,3 @@ keeps_items tens (i ∷ is) h = subst (λ (ps : List Primitive). AreStatedDelays
 pub kept_by_code : (tens : ℕ) (ps : List code_primitive.Primitive) → AreStatedDelays tens (map primitive_of ps) → AllByRecursion (λ (p : code_primitive.Primitive). IsStatedDelay tens (option_delay_view p.delay)) ps
 kept_by_code tens [] h = tt
 kept_by_code tens (p ∷ ps) h = (h.0, kept_by_code tens ps h.1)
-
--- the ranges of declarations are within their limit
-pub ranged_items : (tens : ℕ) (is : List grammar.Item) → AllByRecursion (IsItem tens) is → AllByRecursion IsRanged is
-ranged_items tens [] all = tt
-ranged_items tens (grammar.Declares d ∷ is) all = (all.0.range, ranged_items tens is all.1)
-ranged_items tens (grammar.Gates g ∷ is) all = (tt, ranged_items tens is all.1)

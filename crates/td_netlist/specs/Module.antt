@@ -109,7 +109,7 @@ pub data Source : Type 0 where
   Joins : Net → Source
   -- a bit that the name doesn't have
   NoBit : Source
-  -- a vector of more bits, or fewer, than one
+  -- a vector of more bits than one
   NotOne : Source
 
 abbrev pub whole_source : List ℕ → Option Range → Source

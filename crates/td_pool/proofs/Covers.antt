@@ -209,20 +209,6 @@ pub walk_begins : (asked : Problem) (front : List OpenLeaf) (leaf : OpenLeaf) (c
 walk_begins asked front leaf cube findings leaves is same holds =
     record { front = front; stack = leaf ∷ []; is = is; holds = subst (λ (c : List Trit). AreTrue asked (c ∷ []) findings) (sym same) holds }
 
--- lists that end in one element
-pub same_ends : {X : Type 0} (xs ys : List X) (x y : X) → xs ++ x ∷ [] ≡ ys ++ y ∷ [] → (xs ≡ ys) × (x ≡ y)
-same_ends [] [] x y e = let same : x ≡ y = cc in (refl, same)
-same_ends [] (z ∷ []) x y e = cc
-same_ends [] (z ∷ w ∷ ys) x y e = cc
-same_ends (z ∷ []) [] x y e = cc
-same_ends (z ∷ w ∷ xs) [] x y e = cc
-same_ends (z ∷ xs) (w ∷ ys) x y e =
-    let first : z ≡ w = cc in
-    let behind : xs ++ x ∷ [] ≡ ys ++ y ∷ [] = cc in
-    let rest = same_ends xs ys x y behind in
-    let all : z ∷ xs ≡ w ∷ ys = λ k. first k ∷ rest.0 k in
-    (all, rest.1)
-
 -- the next of what was found, where a walk has come to it
 drop_step : (findings : List Finding) (i : ℕ) (f : Finding) → slice_get findings i ≡ Some f → drop i findings ≡ f ∷ drop (suc i) findings
 drop_step [] i f is = cc

@@ -54,11 +54,3 @@ all_push P (y ∷ ys) x h p = (h.0, all_push P ys x h.1 p)
 
 pub one_longer : {X : Type 0} (xs ys : List X) (x : X) → ys ≡ xs ++ x ∷ [] → length ys ≡ length xs + 1
 one_longer xs ys x e = ap length e ∙ length-append xs (x ∷ [])
-
--- all but the last, and the last
-pub all_front : {X : Type 0} (P : X → Type 0) (ys xs : List X) (x : X) → ys ≡ xs ++ x ∷ [] → AllByRecursion P ys → AllByRecursion P xs × P x
-all_front P ys xs x e h = at xs (subst (AllByRecursion P) e h)
-  where
-    at : (zs : List _) → AllByRecursion P (zs ++ x ∷ []) → AllByRecursion P zs × P x
-    at [] k = (tt, k.0)
-    at (z ∷ zs) k = let rest = at zs k.1 in ((k.0, rest.0), rest.1)

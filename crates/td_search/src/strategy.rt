@@ -1,6 +1,6 @@
 //! In which order a search goes, and by which domains it bounds.
 
-/// How a search goes about its work. With both the answer's time is the same.
+/// How a search goes about its work. Where both end with an exact answer, its time is the same.
 #[derive(Clone, Copy, Debug, PartialEq, Eq, Drop)]
 pub enum Strategy {
     /// Each cube's representative is measured, cubes are bounded by arrival and possible levels, and split at their least free

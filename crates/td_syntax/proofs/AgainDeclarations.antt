@@ -158,10 +158,6 @@ direction_again s r more no_wire e =
     let found : as_direction f.placed ≡ Some r = stable_direction f.placed.line f.placed.token ∙ ap as_direction f.same ∙ role_found r no_wire in
     record { rest = behind_front s; gives = rw (f.gives, found) refl; tokens = f.tokens }
 
--- the header without its attributes
-abbrev header_rest : grammar.Header → List Placed
-header_rest h = grammar.wire_word h.wire ++ (grammar.optional grammar.range h.range ++ grammar.name h.name)
-
 header_text : (h : grammar.Header) (more : List Placed) → grammar.header h ++ more ≡ grammar.attributes h.attributes ++ (role_token h.role ∷ (grammar.wire_word h.wire ++ (grammar.optional grammar.range h.range ++ (grammar.name h.name ++ more))))
 header_text h more =
     regroup (grammar.attributes h.attributes) (grammar.role_word h.role) (grammar.wire_word h.wire) (grammar.optional grammar.range h.range) (grammar.name h.name) more

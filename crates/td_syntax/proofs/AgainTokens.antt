@@ -153,9 +153,6 @@ name_again_member end other = record {
       record { rest = b.rest; gives = rw n.gives b.gives; tokens = b.tokens };
 }
 
-pub group3 : (a b c : List Placed) → a ++ b ++ c ≡ a ++ (b ++ c)
-group3 a b c = append_assoc a b c
-
 pub group4 : (a b c d : List Placed) → a ++ b ++ c ++ d ≡ a ++ (b ++ (c ++ d))
 group4 a b c d = simp append_assoc
 

@@ -257,7 +257,7 @@ abbrev pub IsMaybeRange : Option Range → Type 0
 IsMaybeRange None = Unit {0}
 IsMaybeRange (Some r) = IsRange r
 
--- a net declaration has no second `wire`, and names at least one name
+-- a declaration names at least one name, and one that begins with `wire` has no second `wire`
 pub record IsDeclaration (d : Declaration) : Type 0 where
   pub names : 1 ≤ length d.names
   pub wire : d.role ≡ role.Wire → d.wire ≡ false
