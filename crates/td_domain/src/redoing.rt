@@ -17,7 +17,7 @@ use td_circuit::Circuit;
 
 /// Makes the signals of the cube from those of the same cube with this position free, where the position's input reaches
 /// the outputs in `cone`, and answers what it replaced. Only gates that read a changed signal are evaluated; `changed` is room
-/// for a mark of each net. The error is want of memory: the signals are then as before.
+/// for a mark of each net, and `room` for what is replaced. The error is want of memory: the signals are then as before.
 pub fn redo<D: Domain>(
     alloc: Global,
     circuit: &Circuit,
@@ -26,11 +26,13 @@ pub fn redo<D: Domain>(
     cone: &[u32],
     signals: &mut [D::Sig],
     changed: &mut [bool],
+    room: Vec<Replaced<D::Sig>>,
 ) -> Result<Vec<Replaced<D::Sig>>, AllocError>
     requires position { position < length cube.now }
     requires page { IsPage D.functions D.reach circuit.now (record { cube = set cube.now position Free; signals = signals.old }) }
     requires cone { IsCone circuit.now (2 + position / 2) cone.now }
     requires marks { length changed.old ≡ length signals.old }
+    requires room { room.items ≡ [] }
     ensures page { OnOk result (IsPage D.functions D.reach circuit.now (record { cube = cube.now; signals = signals.new })) }
     ensures undone { IfOk result (λ replaced. undone signals.new replaced.items ≡ signals.old) }
     ensures within { IfOk result (λ replaced. AreWithin (length signals.old) replaced.items) }
@@ -41,7 +43,8 @@ pub fn redo<D: Domain>(
     let _numbering = circuit.gates();
     let moments = circuit.moments();
     let input = position / 2;
-    let mut replaced = Vec::with_capacity(alloc, cone.len() + 1)?;
+    let mut replaced = room;
+    replaced.reserve(cone.len() + 1)?;
     let signal = D::input(
         alloc,
         cube.trit(2 * input),
@@ -54,7 +57,7 @@ pub fn redo<D: Domain>(
     match redo_gates::<D>(alloc, circuit, cone, signals, changed, &mut replaced) {
         Ok(()) => Ok(replaced),
         Err(error) => {
-            undo(signals, replaced);
+            let _room = undo(signals, replaced);
             Err(error)
         }
     }

@@ -15,7 +15,7 @@ use crate::cones::cone;
 use crate::cubes::{Cube, Trit};
 use crate::domain::Domain;
 use crate::redoing::redo;
-use crate::undoing::{Narrowing, undo};
+use crate::undoing::{Narrowing, Replaced, put_aside, taken_room, undo};
 use std::alloc::{AllocError, Global};
 use std::marker::Model;
 use std::mem;
@@ -35,6 +35,8 @@ pub struct Sheet<D: Domain> {
     cones: Vec<Option<Vec<u32>>>,
     // Room for a mark of each net while signals are made anew.
     changed: Vec<bool>,
+    // The room of narrowings that were taken back, to be used again.
+    spare: Vec<Vec<Replaced<D::Sig>>>,
 }
 
 impl<D: Domain> Model for Sheet<D> {
@@ -67,6 +69,7 @@ impl<D: Domain> Sheet<D> {
             outputs: Vec::from_slice(alloc, circuit.outputs())?,
             cones: no_cones(alloc, circuit)?,
             changed: vec![in alloc; false; circuit.net_count()]?,
+            spare: Vec::new(alloc),
         })
     }
 
@@ -110,8 +113,10 @@ impl<D: Domain> Sheet<D> {
     {
         let input = position / 2;
         self.narrowings.reserve(1)?;
+        self.spare.reserve(self.narrowings.len().saturating_add(1))?;
         let cone = taken_cone(self.alloc, circuit, &mut self.cones, input)?;
         self.cube.set(position, known(bit));
+        let room = taken_room(self.alloc, &mut self.spare);
         let redone = redo::<D>(
             self.alloc,
             circuit,
@@ -120,6 +125,7 @@ impl<D: Domain> Sheet<D> {
             &cone,
             &mut self.signals,
             &mut self.changed,
+            room,
         );
         let count = cone.len() as u32;
         self.cones[input] = kept(circuit, cone);
@@ -147,7 +153,8 @@ impl<D: Domain> Sheet<D> {
         self.redone = 0;
         match self.narrowings.pop() {
             Some(narrowing) => {
-                undo(&mut self.signals, narrowing.replaced);
+                let room = undo(&mut self.signals, narrowing.replaced);
+                put_aside(&mut self.spare, room);
                 self.cube.set(narrowing.position, Trit::Free);
                 true
             }
