@@ -5,7 +5,6 @@ ghost use Rattle.td_domain.specs.Admits.{IsAdmitted, flip_of, flips_of};
 ghost use Rattle.td_domain.specs.Cubes.{Allows};
 ghost use Rattle.td_lead.specs.Bits.{IsFit, AreAdmitted};
 
-use std::alloc::{AllocError, Global};
 use td_domain::{Admit, Pair, Trit};
 
 /// The bits of an admitted pair, and at how many inputs they differ.
@@ -61,22 +60,29 @@ fn flips_of(first: &[bool], second: &[bool]) -> u32
 }
 
 impl Bits {
-    ghost use Rattle.std.specs.Prelude.{◌≡◌, ◌<◌, ◌≤◌, length, IfOk};
+    ghost use Rattle.std.specs.Prelude.{◌≡◌, ◌<◌, ◌≤◌, length};
     ghost use Rattle.td_domain.specs.Admits.{IsAdmitted};
     ghost use Rattle.td_lead.specs.Bits.{AreAdmitted};
 
-    /// The bits of an admitted pair. The error is want of memory.
-    pub fn of(alloc: Global, admit: &Admit, pair: &Pair) -> Result<Self, AllocError>
+    /// The bits of an admitted pair, written over those of another one.
+    pub fn of(admit: &Admit, pair: &Pair, other: Pair) -> Self
         requires admitted { IsAdmitted admit.now pair.now }
+        requires other { IsAdmitted admit.now other }
         requires few { length admit.now.held ≤ 4096 }
-        ensures { IfOk result (AreAdmitted admit.now) }
+        ensures bits { AreAdmitted admit.now result }
+        ensures first { result.first.items ≡ pair.now.first }
+        ensures second { result.second.items ≡ pair.now.second }
     {
         let _pins = admit.pins();
-        Ok(Bits {
-            first: Vec::from_slice(alloc, pair.first())?,
-            second: Vec::from_slice(alloc, pair.second())?,
-            flips: flips_of(pair.first(), pair.second()),
-        })
+        let flips = flips_of(pair.first(), pair.second());
+        let (mut first, mut second) = other.into_vectors();
+        first.copy_from_slice(pair.first());
+        second.copy_from_slice(pair.second());
+        Bits {
+            first,
+            second,
+            flips,
+        }
     }
 
     /// Gives an input these bits, where the pair stays admitted.

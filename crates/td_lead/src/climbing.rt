@@ -115,16 +115,18 @@ fn climb_on<O: Others>(
     let patience = 40 * inputs as u32;
     let mut draws = Draws { state: plan.seed };
     let mut here = best.copy(alloc)?;
+    let mut other = best.pair.copy(alloc)?;
     let mut grown = 0;
     for attempt in 0..plan.tries {
         if best.time >= plan.enough || others.have_enough() {
             break;
         }
         let is_stuck = attempt.saturating_sub(grown) > patience;
-        let (next, is_gain) = step(
-            alloc, scratch, circuit, admit, best, here, &mut draws, is_stuck,
+        let (next, left, is_gain) = step(
+            alloc, scratch, circuit, admit, best, here, other, &mut draws, is_stuck,
         )?;
         here = next;
+        other = left;
         if is_gain {
             grown = attempt;
         }
@@ -132,8 +134,9 @@ fn climb_on<O: Others>(
     Ok(())
 }
 
-/// The pair from which a climb goes on, and whether it has a greater delay or is drawn anew: a pair one move away, if its delay
-/// isn't less, else one drawn anew if the climb is stuck, else the same. The error is want of memory.
+/// The pair from which a climb goes on, another one whose vectors may be used again, and whether the first has a greater delay or is
+/// drawn anew: it is a pair one move away, if its delay isn't less, else one drawn anew if the climb is stuck, else the same. It is
+/// written over the other pair that is given. The error is want of memory.
 fn step(
     alloc: Global,
     scratch: &mut Scratch,
@@ -141,31 +144,36 @@ fn step(
     admit: &Admit,
     best: &mut Timed,
     here: Timed,
+    other: Pair,
     draws: &mut Draws,
     is_stuck: bool,
-) -> Result<(Timed, bool), AllocError>
+) -> Result<(Timed, Pair, bool), AllocError>
     requires scratch { IsFor circuit.now scratch.old }
     requires held { length admit.now.held ≡ length circuit.now.netlist.inputs }
     requires some { 0 < length circuit.now.netlist.inputs }
     requires best { IsTimed (setting circuit.now) admit.now best.old }
     requires here { IsTimed (setting circuit.now) admit.now here }
+    requires other { IsAdmitted admit.now other }
     ensures timed { IfOk result (λ next. IsTimed (setting circuit.now) admit.now next.0) }
+    ensures left { IfOk result (λ next. IsAdmitted admit.now next.1) }
     ensures best { IsTimed (setting circuit.now) admit.now best.new }
     ensures no_less { best.old.time ≤ best.new.time }
     ensures scratch { IsFor circuit.now scratch.new }
 {
     let _numbering = circuit.gates();
-    let pair = moved(alloc, admit, &here.pair, draws)?;
+    let pair = moved(admit, &here.pair, other, draws);
     let next = timed(scratch, circuit, admit, pair)?;
     if next.time >= here.time {
         let is_gain = next.time > here.time;
-        return Ok((kept(alloc, circuit, admit, best, next)?, is_gain));
+        let next = kept(alloc, circuit, admit, best, next)?;
+        return Ok((next, here.pair, is_gain));
     }
     if !is_stuck {
-        return Ok((here, false));
+        return Ok((here, next.pair, false));
     }
-    let pair = anywhere(alloc, admit, &here.pair, draws)?;
-    Ok((timed(scratch, circuit, admit, pair)?, true))
+    let pair = anywhere(admit, &here.pair, next.pair, draws);
+    let next = timed(scratch, circuit, admit, pair)?;
+    Ok((next, here.pair, true))
 }
 
 /// An admitted pair with its delay. The error is want of memory.
@@ -210,14 +218,15 @@ fn kept(
 }
 
 /// A pair that is one move from an admitted one: one to four times, an input's first bit, its second or both are flipped, where
-/// the pair stays admitted. The error is want of memory.
-fn moved(alloc: Global, admit: &Admit, pair: &Pair, draws: &mut Draws) -> Result<Pair, AllocError>
+/// the pair stays admitted. It is written over another one.
+fn moved(admit: &Admit, pair: &Pair, other: Pair, draws: &mut Draws) -> Pair
     requires some { 0 < length admit.now.held }
     requires few { length admit.now.held ≤ 4096 }
     requires admitted { IsAdmitted admit.now pair.now }
-    ensures { IfOk result (IsAdmitted admit.now) }
+    requires other { IsAdmitted admit.now other }
+    ensures { IsAdmitted admit.now result }
 {
-    let mut bits = Bits::of(alloc, admit, pair)?;
+    let mut bits = Bits::of(admit, pair, other);
     for _ in 0..1 + draws.below(4) {
         let input = draws.below(admit.held().len());
         let which = draws.below(3);
@@ -225,25 +234,21 @@ fn moved(alloc: Global, admit: &Admit, pair: &Pair, draws: &mut Draws) -> Result
         let after = bits.second[input] != (which != 0);
         bits.put(admit, input, before, after);
     }
-    Ok(bits.into_pair())
+    bits.into_pair()
 }
 
-/// A pair whose bits are drawn, input by input where the pair stays admitted. The error is want of memory.
-fn anywhere(
-    alloc: Global,
-    admit: &Admit,
-    pair: &Pair,
-    draws: &mut Draws,
-) -> Result<Pair, AllocError>
+/// A pair whose bits are drawn, input by input where the pair stays admitted. It is written over another one.
+fn anywhere(admit: &Admit, pair: &Pair, other: Pair, draws: &mut Draws) -> Pair
     requires few { length admit.now.held ≤ 4096 }
     requires admitted { IsAdmitted admit.now pair.now }
-    ensures { IfOk result (IsAdmitted admit.now) }
+    requires other { IsAdmitted admit.now other }
+    ensures { IsAdmitted admit.now result }
 {
-    let mut bits = Bits::of(alloc, admit, pair)?;
+    let mut bits = Bits::of(admit, pair, other);
     for input in 0..admit.held().len() {
         let before = draws.below(2) == 1;
         let after = draws.below(2) == 1;
         bits.put(admit, input, before, after);
     }
-    Ok(bits.into_pair())
+    bits.into_pair()
 }

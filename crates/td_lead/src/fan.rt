@@ -209,13 +209,18 @@ fn spread(
     let inputs = circuit.input_count();
     let first = inputs + 2;
     let mut digits = [0; DIGITS];
+    let mut is_any = false;
     for input in 0..inputs {
         let is_followed = feeds[2 + input] && cube.trit(2 * input + half) == Trit::Free;
         reached[2 + input] = if is_followed && start <= input && input - start < BATCH {
+            is_any = true;
             1 << (input - start)
         } else {
             0
         };
+    }
+    if !is_any {
+        return digits;
     }
     for net in first..output + 1 {
         reached[net] = if feeds[net] {
@@ -245,6 +250,9 @@ fn add(digits: &mut [u64], inputs: u64)
 {
     let mut carried = inputs;
     for digit in digits {
+        if carried == 0 {
+            break;
+        }
         let both = *digit & carried;
         *digit ^= carried;
         carried = both;

@@ -93,7 +93,14 @@ impl ByClimbs {
     {
         let pins = admit.pins();
         let mut scratch = Scratch::new(alloc, circuit, pins)?;
-        let first = measure(alloc, &mut scratch.events, circuit, admit, pins)?;
+        let first = measure(
+            alloc,
+            &mut scratch.events,
+            &mut scratch.pair,
+            circuit,
+            admit,
+            pins,
+        )?;
         let bound = strongest_with_edges(alloc, &mut scratch, circuit, pins)?;
         let climbs = ByClimbs {
             enough: bound_by_edges(&scratch),
@@ -189,7 +196,14 @@ fn find(
             Ok((Finding::Split(position as u32, bound, delay), cut))
         }
         Step::Measure => {
-            let time = measure(alloc, &mut scratch.events, circuit, admit, cube)?;
+            let time = measure(
+                alloc,
+                &mut scratch.events,
+                &mut scratch.pair,
+                circuit,
+                admit,
+                cube,
+            )?;
             let cut = offer(circuit, admit, Strategy::Lead, word, found, cube, time);
             Ok((Finding::Closed(Mark::Point, time), cut))
         }

@@ -7,11 +7,19 @@ use crate::finder::Finder;
 use crate::found::Found;
 use crate::offers::offer;
 use std::alloc::{AllocError, Global};
+use std::mem;
 use td_book::Mark;
 use td_circuit::Circuit;
-use td_domain::{Admit, Cube};
+use td_domain::{Admit, Cube, Pair};
 use td_incumbent::Incumbent;
-use td_search::{Decision, Finding, Prober, Strategy, decide, representative as representative_of};
+use td_search::{Decision, Finding, Prober, Strategy, decide, no_bits, representative_over};
+
+/// What a worker uses again: the prober's scratch, and room for the pair that it measures.
+#[derive(Drop)]
+pub struct Bench<S> {
+    pub scratch: S,
+    pub pair: Pair,
+}
 
 /// Each cube's representative is measured and each cube bounded by a prober.
 #[derive(Drop)]
@@ -22,11 +30,11 @@ pub struct ByProber<'a, P> {
 impl<'a, P: Prober> Finder for ByProber<'a, P> {
     ghost use Rattle.td_search.specs.declared.strategy.Strategy.TheVariants.{Least};
 
-    type Scratch = P::Scratch;
+    type Scratch = Bench<P::Scratch>;
 
     ghost by = { Least };
 
-    ghost is_for = { λ scratch circuit. P.is_for scratch circuit };
+    ghost is_for = { λ bench circuit. P.is_for bench.scratch circuit };
 
     fn strategy() -> Strategy {
         Strategy::Least
@@ -40,8 +48,11 @@ impl<'a, P: Prober> Finder for ByProber<'a, P> {
         _word: &Incumbent,
         _found: &mut Found,
         _worker: u32,
-    ) -> Result<P::Scratch, AllocError> {
-        self.prober.scratch(alloc, circuit)
+    ) -> Result<Bench<P::Scratch>, AllocError> {
+        Ok(Bench {
+            scratch: self.prober.scratch(alloc, circuit)?,
+            pair: no_bits(alloc),
+        })
     }
 
     fn find(
@@ -49,7 +60,7 @@ impl<'a, P: Prober> Finder for ByProber<'a, P> {
         alloc: Global,
         circuit: &Circuit,
         admit: &Admit,
-        scratch: &mut P::Scratch,
+        bench: &mut Bench<P::Scratch>,
         word: &Incumbent,
         found: &mut Found,
         cube: &Cube,
@@ -59,10 +70,14 @@ impl<'a, P: Prober> Finder for ByProber<'a, P> {
         if !admit.any(cube) {
             return Ok((Finding::Closed(Mark::Empty, 0), word.look(&mut found.seat)));
         }
-        let pair = representative_of(alloc, cube, admit)?;
-        let time = self.prober.measure(scratch, circuit, &pair)?;
+        let other = mem::replace(&mut bench.pair, no_bits(alloc));
+        let pair = representative_over(cube, admit, other)?;
+        let time = self.prober.measure(&mut bench.scratch, circuit, &pair)?;
+        bench.pair = pair;
         let cut = offer(circuit, admit, Strategy::Least, word, found, cube, time);
-        let probe = self.prober.bound(scratch, alloc, circuit, cube, cut)?;
+        let probe = self
+            .prober
+            .bound(&mut bench.scratch, alloc, circuit, cube, cut)?;
         let decision = decide(circuit, admit, cube, time, probe, cut);
         Ok((finding_of(decision, time), cut))
     }

@@ -1,6 +1,6 @@
 //! What is left of a search, and what is known of the delays while it goes on.
 
-ghost use Rattle.std.specs.Prelude.{◌≡◌, ℕ, ◌+◌, ◌<◌, [], ◌∷◌, ◌++◌, length, take, drop, List, slice_get, Some, IfOk, IfSome, OnOk, OnErr};
+ghost use Rattle.std.specs.Prelude.{◌≡◌, ℕ, ◌+◌, ◌<◌, [], ◌∷◌, ◌++◌, max, length, take, drop, List, slice_get, Some, IfOk, IfSome, OnOk, OnErr};
 ghost use Rattle.td_domain.specs.declared.cubes.Trit.TheVariants.{Free};
 ghost use Rattle.td_domain.specs.Worst.{IsUpperBound};
 ghost use Rattle.td_search.specs.CutShort.{greatest_of};
@@ -139,6 +139,9 @@ impl<L: Subject> Frontier<L> {
     ) -> Result<Frontier<L>, AllocError>
         requires asked { L.asked ≡ problem_by strategy circuit.now admit.now }
         requires root { IsRoot (problem_by strategy circuit.now admit.now) root }
+        ensures low { IfOk result (λ frontier. frontier.low ≡ root.first) }
+        ensures high { IfOk result (λ frontier. frontier.high ≡ root.bound) }
+        ensures leaves { IfOk result (λ frontier. frontier.leaves.items ≡ leaf_of 0 admit.now.pins root.bound ∷ []) }
     {
         let _numbering = circuit.gates();
         let _moments = circuit.moments();
@@ -164,6 +167,9 @@ impl<L: Subject> Frontier<L> {
     ) -> Frontier<L>
         requires asked { L.asked ≡ problem_by strategy circuit.now admit.now }
         requires root { IsRoot (problem_by strategy circuit.now admit.now) root }
+        ensures low { result.low ≡ root.first }
+        ensures high { result.high ≡ root.bound }
+        ensures leaves { result.leaves.items ≡ [] }
     {
         let _numbering = circuit.gates();
         let _moments = circuit.moments();
@@ -185,8 +191,10 @@ impl<L: Subject> Frontier<L> {
         self.low
     }
 
-    /// How many leaves are left.
-    pub fn open(&self) -> u64 {
+    /// How many leaves are kept.
+    pub fn open(&self) -> u64
+        ensures { result ≡ length self.now.leaves.items }
+    {
         self.leaves.len() as u64
     }
 
@@ -209,6 +217,9 @@ impl<L: Subject> Frontier<L> {
     /// The worst delay is no less than this.
     pub fn reach(&mut self, delay: u64)
         requires { IsLowerBound L.asked delay }
+        ensures low { self.new.low ≡ max self.old.low delay }
+        ensures high { self.new.high ≡ self.old.high }
+        ensures leaves { self.new.leaves.items ≡ self.old.leaves.items }
     {
         self.low = self.low.max(delay);
     }

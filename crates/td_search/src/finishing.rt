@@ -4,7 +4,7 @@ ghost use Rattle.std.specs.Prelude.{◌≡◌, ◌≤◌, ◌<◌, ◌^◌, leng
 ghost use Rattle.std.specs.List.{All};
 ghost use Rattle.td_search.specs.Answers.{IsAnswer};
 ghost use Rattle.td_search.specs.Findings.{IsTrueEvidence};
-ghost use Rattle.td_search.specs.Problems.{problem, problem_by, has_delay, has_bound};
+ghost use Rattle.td_search.specs.Problems.{problem_by, has_delay, has_bound};
 ghost use Rattle.td_search.specs.Progress.{IsUnderWay};
 ghost use Rattle.td_search.specs.Sheeted.{IsScratch};
 ghost use Rattle.td_search.specs.Splitting.{IsReached};
@@ -22,42 +22,6 @@ use std::alloc::{AllocError, Global};
 use td_book::{Node, Partial, State};
 use td_circuit::Circuit;
 use td_domain::Admit;
-
-/// What a shared search found that has ended: its tree is done again as far as the evidence, the strongest domain's bound of the
-/// pins and the best pair show it, and the nodes that are left open are handled in one thread, as `alone` handles them, until the
-/// budget is handled. Nothing of the tree is trusted. The budget is at most 10,000,000, and the pairs are of the circuit's inputs.
-pub fn finish(
-    alloc: Global,
-    circuit: &Circuit,
-    admit: &Admit,
-    partial: Partial,
-    evidence: Vec<Evidence>,
-    root: u64,
-    best: Best,
-    budget: u64,
-) -> Answer
-    requires modest { budget ≤ 10000000 }
-    requires held { length admit.now.held ≡ length circuit.now.netlist.inputs }
-    requires evidence { All (IsTrueEvidence (problem circuit.now admit.now)) evidence.items }
-    requires root { has_bound (problem circuit.now admit.now) admit.now.pins root }
-    requires small { root < 10 ^ 15 }
-    requires best { has_delay (problem circuit.now admit.now) best.pair best.time }
-    ensures answer { IsAnswer (problem circuit.now admit.now) budget result }
-    // The certificate of an exact answer has a text within the limit.
-    ensures text { CanBeWritten (problem circuit.now admit.now) result }
-{
-    finish_by(
-        alloc,
-        circuit,
-        admit,
-        partial,
-        evidence,
-        root,
-        best,
-        budget,
-        Strategy::Least,
-    )
-}
 
 /// What a shared search found that has ended: its tree is done again as far as the evidence, the strongest domain's bound of the
 /// pins and the best pair show it, and the nodes that are left open are handled in one thread, as `alone_by` handles them, until the

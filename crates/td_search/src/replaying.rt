@@ -363,7 +363,14 @@ impl Search {
         if !admit.any(cube) {
             return Ok(None);
         }
-        let time = measure(alloc, &mut scratch.events, circuit, admit, cube)?;
+        let time = measure(
+            alloc,
+            &mut scratch.events,
+            &mut scratch.pair,
+            circuit,
+            admit,
+            cube,
+        )?;
         self.offer(circuit, admit, Strategy::Least, cube, time);
         let bound = scratch.sheets.strongest_of(alloc, circuit, cube)?;
         Ok(if bound > self.best.time() {

@@ -4,16 +4,19 @@ ghost use Rattle.std.specs.Prelude.{◌≡◌, ◌*◌, length, IfOk};
 ghost use Rattle.td_search.specs.Sheeted.{IsScratch};
 
 use crate::guide::Guide;
+use crate::representatives::no_bits;
 use crate::sheets::Sheets;
 use std::alloc::{AllocError, Global};
 use td_circuit::Circuit;
-use td_domain::Cube;
+use td_domain::{Cube, Pair};
 use td_event_sim::Scratch as Events;
 
-/// Room to measure pairs of a circuit, a sheet of each domain of `least`, and what `lead` needs beside, once it was asked for.
+/// Room to measure pairs of a circuit and for the pair itself, a sheet of each domain of `least`, and what `lead` needs beside, once it
+/// was asked for.
 #[derive(Drop)]
 pub struct Scratch {
     pub events: Events,
+    pub pair: Pair,
     pub sheets: Sheets,
     pub guide: Option<Guide>,
 }
@@ -28,6 +31,7 @@ impl Scratch {
     {
         Ok(Scratch {
             events: Events::new(alloc, circuit)?,
+            pair: no_bits(alloc),
             sheets: Sheets::new(alloc, circuit, cube)?,
             guide: None,
         })
