@@ -5,8 +5,8 @@ use Rattle.td_search.specs.Problems.{problem}
 use Rattle.td_search.proofs.Bounded.{vectors_inside}
 use Rattle.td_search.proofs.measuring.measure.Goals as goal
 
-pub representative_over-representative-requires-clause-positions : goal.representative_over-representative-requires-clause-positions
-representative_over-representative-requires-clause-positions c = c.requires.positions ∙ ap (λ n. 2 * n) (sym c.requires.held)
+pub representative_over-requires-clause-positions : goal.representative_over-requires-clause-positions
+representative_over-requires-clause-positions c = c.requires.positions ∙ ap (λ n. 2 * n) (sym c.requires.held)
 
 pub delay_of-requires-clause-first_fits : goal.delay_of-requires-clause-first_fits
 delay_of-requires-clause-first_fits c =
