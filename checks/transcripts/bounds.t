@@ -20,7 +20,7 @@ An inverter, and a buffer that falls late: edges know that it only rises.
   0 .: a 9 e 1 n 1
   . .: a 9 e 9 n 9
 
-A pulse that is shorter than the delay, one that is as long as it, and one that falls late.
+A pulse that is shorter than the delay, one that is as long as it, one that falls late, and one between two ways.
 
   $ bash bounds <<'END'
   > 1|not #1 (n,a); and #2 (y,a,n);|0|0|1|atmen
@@ -28,12 +28,14 @@ A pulse that is shorter than the delay, one that is as long as it, and one that 
   > 1|not #1 (n,a); and #1 (y,a,n);|0|0|1|atm
   > 1|not #1 (n,a); and #1 (y,a,n);|0|.|.|atm
   > 1|not #1 (n,a); and #(1,3) (y,a,n);|0|0|1|atmen
+  > 1|buf #1 (p,a); not #2 (n,a); xor #2 (y,p,n);|0|0|1|atmen
   > END
   0 1: a 0 t 0 m 0 e 0 n 0
   0 0: a 0
   0 1: a 2 t 2 m 2
   . .: a 2 t none m 2
   0 1: a 4 t 4 m 4 e 4 n 4
+  0 1: a 0 t 0 m 0 e 0 n 0
 
 Two ways that cancel each other, which the possible levels of one pair know; a pulse that two inputs share; and a slow arm.
 

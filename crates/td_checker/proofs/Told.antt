@@ -9,7 +9,7 @@ use Rattle.td_certificate.specs.declared.question.Version.{Version}
 use Rattle.td_certificate.specs.declared.question.Version.TheVariants.{First, Second, Third, Fourth}
 use Rattle.td_certificate.specs.Questions.{Question}
 use Rattle.td_certificate.specs.Trees.{IsTree}
-use Rattle.td_certificate.specs.Spelling.{version_in, version_line, circuit_line, time_line, from_line, to_line, head_lines, fields_of, field_line, HasSpelling}
+use Rattle.td_certificate.specs.Spelling.{head_lines, fields_of, field_line, HasSpelling}
 use Rattle.td_certificate.specs.Accepts.{lines_in, IsGood, IsOfSize, setting_of, IsReached, Accepts}
 use Rattle.td_checker.specs.declared.judging.Flaw as code_flaw
 use Rattle.td_checker.specs.declared.judging.Flaw.TheVariants as code

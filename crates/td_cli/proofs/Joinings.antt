@@ -16,19 +16,17 @@ use Rattle.td_certificate.specs.Spelling.{HasSpelling}
 use Rattle.td_checker.specs.declared.verdict.CheckFault.{CheckFault}
 use Rattle.td_checker.specs.declared.verdict.CheckFault.TheVariants as check
 use Rattle.td_checker.specs.Checks.{IsCheckFault}
-use Rattle.td_join.specs.declared.fault.JoinFault.{JoinFault}
-use Rattle.td_join.specs.Faults.{IsJoinFault}
 use Rattle.td_cli.specs.declared.refusal.Refusal.{Refusal}
 use Rattle.td_cli.specs.declared.refusal.Refusal.TheVariants as refusal
 use Rattle.td_cli.specs.Disks.{Disk, HoldsOnFile}
-use Rattle.td_cli.specs.Outcomes.{IsCircuitOf, HasNoCircuit, IsRefusedFor, HasNoAnswer}
+use Rattle.td_cli.specs.Outcomes.{IsCircuitOf, HasNoAnswer}
 use Rattle.td_cli.specs.declared.asking.QuestionWords.{QuestionWords}
 use Rattle.td_cli.specs.WorstReports.{IsAsked}
 use Rattle.td_search.specs.Problems.{Problem}
 use Rattle.td_join.specs.Partition.{IsPartition}
 use Rattle.td_gates.proofs.Places.{slice_get-some}
-use Rattle.td_cli.specs.JoinReports.{TellsNoPart, GivesPart, AreParts, HasNoPart, ArePinned, whole_pins, IsToJoin, IsUnjoinedFor, pin_words}
-use Rattle.td_cli.specs.Parts.{IsOfPart, unjudged, IsOfUnjoined}
+use Rattle.td_cli.specs.JoinReports.{TellsNoPart, GivesPart, AreParts, HasNoPart, ArePinned, whole_pins, IsToJoin}
+use Rattle.td_cli.specs.Parts.{IsOfPart, unjudged}
 
 -- ---- lists
 
