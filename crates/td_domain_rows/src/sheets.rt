@@ -81,18 +81,21 @@ fn gates_evaluated(rt: HostRuntime) -> Result<(), Fail> {
     Ok(())
 }
 
-/// A narrowing that was refused leaves the sheet as it was, and one that wasn't is taken back.
+/// A narrowing that was refused leaves the sheet as it was, and one that wasn't is taken back: an inverter falls later than it rises, so
+/// that its bound is less where its input ends at 0.
 #[test]
 fn taken_back(rt: HostRuntime) -> Result<(), Fail> {
     let alloc = rt.alloc();
-    let circuit = circuit_of(alloc, C17).ok_or("a circuit")?;
+    let inverter = module(alloc, "a", "y", "not #(2,3) (y,a);")?;
+    let circuit = circuit_of(alloc, &inverter).ok_or("a circuit")?;
     let free = Cube::free(alloc, circuit.input_count())?;
-    let mut sheet = Sheet::<Possible>::new(alloc, &circuit, &free)?;
-    let before = sheet.bound();
-    assert!(rt; 0 < free.len());
-    let narrowed = sheet.narrow(&circuit, 0, true).is_ok();
+    let mut sheet = Sheet::<Arrival>::new(alloc, &circuit, &free)?;
+    assert_eq!(rt; sheet.bound(), Some(3));
+    assert!(rt; 1 < free.len());
+    let narrowed = sheet.narrow(&circuit, 1, false).is_ok();
+    assert_eq!(rt; sheet.bound(), Some(if narrowed { 2 } else { 3 }));
     assert_eq!(rt; sheet.widen(), narrowed);
-    assert_eq!(rt; sheet.bound(), before);
+    assert_eq!(rt; sheet.bound(), Some(3));
     assert_eq!(rt; sheet.cube().least_free(), Some(0));
     assert!(rt; !sheet.widen());
     Ok(())
