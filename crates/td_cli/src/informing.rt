@@ -12,8 +12,8 @@ ghost use Rattle.td_command.specs.declared.command.Request.TheVariants as Asked;
 
 use crate::describing::info;
 use crate::files::Files;
-use crate::program::{say, tell_refusal, tell_unread};
 use crate::status::Status;
+use crate::telling::{say, tell_refusal, tell_unread};
 use std::alloc::Global;
 use td_command::InfoRequest;
 use td_gates::{Delay, Sink};

@@ -25,6 +25,7 @@ mod report;
 mod searching;
 mod simulate;
 mod status;
+mod telling;
 mod text;
 mod timing;
 mod vector;

@@ -9,10 +9,10 @@ ghost use Rattle.td_cli.specs.Outcomes.{HasNoAnswer};
 ghost use Rattle.td_cli.specs.Progress.{progress_line, TellsSearch};
 
 use crate::asking::QuestionWords;
-use crate::program::tell;
 use crate::refusal::Refusal;
 use crate::searching::{Found, worst};
 use crate::status::Status;
+use crate::telling::tell;
 use crate::text::Text;
 use std::alloc::{AllocError, Global};
 use std::sync::Wait;

@@ -1,5 +1,5 @@
 use Rattle.td_cli.proofs.Programs.{none_kept, one_kept, one_not_kept, no_certificate, no_name, due_certificate}
-use Rattle.td_cli.proofs.program.keep_certificate.Goals as goal
+use Rattle.td_cli.proofs.telling.keep_certificate.Goals as goal
 
 pub returns-in_default-clause-kept : goal.returns-in_default-clause-kept
 returns-in_default-clause-kept g c = none_kept g.F.Files.did g.met.F.Files.did_nothing _ _ _ (no_certificate _ _ c.in_default.is)

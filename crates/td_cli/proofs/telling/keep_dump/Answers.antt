@@ -1,7 +1,7 @@
 use Rattle.std.proofs.Common.{ap}
 use Rattle.td_cli.specs.Dumps.{dump_files}
 use Rattle.td_cli.proofs.Programs.{none_kept, one_kept, one_not_kept}
-use Rattle.td_cli.proofs.program.keep_dump.Goals as goal
+use Rattle.td_cli.proofs.telling.keep_dump.Goals as goal
 
 pub returns-in_default-clause-kept : goal.returns-in_default-clause-kept
 returns-in_default-clause-kept g c = none_kept g.F.Files.did g.met.F.Files.did_nothing _ _ _ (ap dump_files c.in_default.is)

@@ -1,7 +1,7 @@
 use Rattle.std.proofs.lemmas.Result.{IfOk-weaker}
 use Rattle.td_certificate.specs.Spelling.{spelling}
 use Rattle.td_cli.proofs.Programs.{wrote, broke, unended, refused_with}
-use Rattle.td_cli.proofs.program.write_certificate.Goals as goal
+use Rattle.td_cli.proofs.telling.write_certificate.Goals as goal
 
 pub returns-in-Ok-clause-written : goal.returns-in-Ok-clause-written
 returns-in-Ok-clause-written g c = IfOk-weaker c.close.result _ _

@@ -1,7 +1,7 @@
 use Rattle.std.proofs.Common.{refl, inl, inr}
 use Rattle.clap.specs.Words.{kind_of}
 use Rattle.td_cli.proofs.Programs.{not_shown}
-use Rattle.td_cli.proofs.program.tell_error.Goals as goal
+use Rattle.td_cli.proofs.telling.tell_error.Goals as goal
 
 pub returns-then-use_stderr-clause-told : goal.returns-then-use_stderr-clause-told
 returns-then-use_stderr-clause-told g c =

@@ -1,5 +1,5 @@
 use Rattle.td_cli.proofs.Programs.{told_memory, told_device}
-use Rattle.td_cli.proofs.program.tell_unread.Goals as goal
+use Rattle.td_cli.proofs.telling.tell_unread.Goals as goal
 
 pub returns-in-OutOfMemory : goal.returns-in-OutOfMemory
 returns-in-OutOfMemory g c = told_memory c.args.file c.args.fault _ _ _ c.in-OutOfMemory.is c.tell_refusal.ensures

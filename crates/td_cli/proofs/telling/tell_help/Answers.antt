@@ -1,5 +1,5 @@
 use Rattle.std.proofs.Common.{inr}
-use Rattle.td_cli.proofs.program.tell_help.Goals as goal
+use Rattle.td_cli.proofs.telling.tell_help.Goals as goal
 
 pub returns-in-Err : goal.returns-in-Err
 returns-in-Err g c = (
