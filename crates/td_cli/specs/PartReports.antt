@@ -1,5 +1,5 @@
 -- What `parts` prints.
-use Rattle.std.specs.Prelude.{◌≡◌, ◌<◌, ◌≤◌, ℕ, List, [], ◌++◌, All, codes, length, Option, Some, None}
+use Rattle.std.specs.Prelude.{◌≡◌, ◌<◌, ◌≤◌, ℕ, List, [], ◌++◌, All, codes, decimal, length, Option, Some, None}
 use Rattle.std.specs.List.{flat_map}
 use Rattle.td_gates.specs.declared.timing.Delay.{Delay}
 use Rattle.td_domain.specs.declared.cubes.Trit.{Trit}
@@ -7,6 +7,8 @@ use Rattle.td_domain.specs.Admits.{HasAdmitted}
 use Rattle.td_search.specs.Problems.{Problem, IsPart}
 use Rattle.td_join.specs.Partition.{IsPartition}
 use Rattle.td_cli.specs.declared.asking.QuestionWords.{QuestionWords}
+use Rattle.td_cli.specs.Vectors.{words_of}
+use Rattle.td_cli.specs.Reports.{newline}
 use Rattle.td_cli.specs.WorstReports.{IsAsked}
 use Rattle.td_cli.specs.Pinning.{pins_text}
 
