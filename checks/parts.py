@@ -14,6 +14,7 @@ import argparse
 import itertools
 import os
 import random
+import shutil
 import subprocess
 import sys
 import tempfile
@@ -190,9 +191,19 @@ def wrong_script(program, path):
             return None if done.returncode in (0, 3) else f"script: {done.returncode} {done.stderr}"
         if done.returncode not in (0, 3):
             return f"script: {done.returncode} {done.stderr}"
-        if done.returncode == 0 and exact not in done.stdout.splitlines():
-            return f"script: {done.stdout} in place of {exact}"
+        wanted = {exact, exact.replace("exact", "accepted")}
+        if done.returncode == 0 and not wanted <= set(done.stdout.splitlines()):
+            return f"script: {done.stdout} in place of {exact}, accepted"
     return None
+
+
+def link_all_but(folder, name):
+    """Puts a link to each program on the path into a folder, but for one of this name."""
+    for there in os.environ["PATH"].split(os.pathsep):
+        for program in os.listdir(there) if os.path.isdir(there) else ():
+            link = os.path.join(folder, program)
+            if program != name and not os.path.lexists(link):
+                os.symlink(os.path.join(os.path.abspath(there), program), link)
 
 
 def main():
@@ -212,13 +223,15 @@ def main():
             print(found)
             return 1
         cut += was_cut
-    without = os.pathsep.join(folder for folder in os.environ["PATH"].split(os.pathsep) if not os.path.exists(os.path.join(folder, "parallel")))
-    for path in (os.environ["PATH"], without):
-        found = wrong_script(program, path)
-        if found:
-            print(found)
-            return 1
-    print(f"{cut} questions cut and joined, 0 wrong")
+    with tempfile.TemporaryDirectory() as folder:
+        link_all_but(folder, "parallel")
+        for path in (os.environ["PATH"], folder):
+            found = wrong_script(program, path)
+            if found:
+                print(found)
+                return 1
+    parallel = "with" if shutil.which("parallel") else "without"
+    print(f"{cut} questions cut and joined, 0 wrong; the script ran {parallel} GNU parallel" + (" and without" if parallel == "with" else ""))
     return 0
 
 
