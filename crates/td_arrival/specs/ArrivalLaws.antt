@@ -1,5 +1,5 @@
 -- Internal: proofs of the laws of arrival windows; an impl block takes them from specs/ alone.
-use Rattle.std.proofs.Common.{◌≡◌, ◌≢◌, ℕ, zero, suc, ◌+◌, ◌-◌, ◌<◌, ◌≤◌, ◌^◌, min, max, Bool, true, false, List, [], ◌∷◌, length, map, refl, arith, ap, ◌∙◌, sym, Option, Some, None, ◌⊎◌, inl, inr}
+use Rattle.std.proofs.Common.{◌≡◌, ◌≢◌, ℕ, zero, suc, ◌+◌, ◌-◌, ◌<◌, ◌≤◌, ◌^◌, max, Bool, true, false, List, [], ◌∷◌, length, map, refl, arith, ap, ◌∙◌, sym, Option, Some, None, ◌⊎◌, inl, inr}
 use Rattle.std.specs.Prelude.{slice_get, filter_map, nat_lt, ◌&&◌, ◌||◌, is_none, if◌then◌else◌}
 use Rattle.std.specs.List.{All, AllZip, AllByRecursion, list_any}
 use Rattle.std.proofs.lemmas.Bool.{cases_lt, le-ltb}

@@ -59,8 +59,7 @@ impl Domain for Arrival {
         all: &[Signal],
         ins: &[u32],
     ) -> Result<Signal, AllocError> {
-        let signals = gates::picked(alloc, all, ins)?;
-        Ok(gates::output(kind, delay, &signals))
+        gates::output_at(alloc, kind, delay, all, ins)
     }
 
     fn copy(_alloc: Global, signal: &Signal) -> Result<Signal, AllocError> {

@@ -10,8 +10,44 @@ use crate::signals::{Signal, Span};
 use std::alloc::{AllocError, Global};
 use td_gates::{Counts, Delay, Kind, Level, eval_counts};
 
+/// The signal of the output of a gate whose inputs have the signals at these places. Those of a gate with up to three inputs are gathered
+/// without taking memory.
+pub fn output_at(
+    alloc: Global,
+    kind: Kind,
+    delay: Delay,
+    all: &[Signal],
+    places: &[u32],
+) -> Result<Signal, AllocError>
+    requires places { All (λ place. place < length all.now) places.now }
+    requires takes { TakesInputs kind (length places.now) }
+    requires few { length places.now ≤ 1024 }
+    requires within { All (λ signal. span_reach signal.changes + max delay.rise delay.fall < 10 ^ 15) (filter_map (slice_get all.now) places.now) }
+    ensures { IfOk result (λ signal. signal ≡ gate_signal kind delay (filter_map (slice_get all.now) places.now)) }
+{
+    match places {
+        [one] => Ok(output(kind, delay, &[all[*one as usize]])),
+        [one, other] => {
+            let two = [all[*one as usize], all[*other as usize]];
+            Ok(output(kind, delay, &two))
+        }
+        [one, other, third] => {
+            let three = [
+                all[*one as usize],
+                all[*other as usize],
+                all[*third as usize],
+            ];
+            Ok(output(kind, delay, &three))
+        }
+        _ => {
+            let signals = picked(alloc, all, places)?;
+            Ok(output(kind, delay, &signals))
+        }
+    }
+}
+
 /// The signals at these places.
-pub fn picked(alloc: Global, all: &[Signal], places: &[u32]) -> Result<Vec<Signal>, AllocError>
+fn picked(alloc: Global, all: &[Signal], places: &[u32]) -> Result<Vec<Signal>, AllocError>
     requires { All (λ place. place < length all.now) places.now }
     ensures { IfOk result (λ signals. signals.items ≡ filter_map (slice_get all.now) places.now) }
 {
@@ -23,7 +59,7 @@ pub fn picked(alloc: Global, all: &[Signal], places: &[u32]) -> Result<Vec<Signa
 }
 
 /// The signal of the output of a gate whose inputs have these signals.
-pub fn output(kind: Kind, delay: Delay, signals: &[Signal]) -> Signal
+fn output(kind: Kind, delay: Delay, signals: &[Signal]) -> Signal
     requires takes { TakesInputs kind (length signals.now) }
     requires few { length signals.now ≤ 1024 }
     requires within { All (λ signal. span_reach signal.changes + max delay.rise delay.fall < 10 ^ 15) signals.now }

@@ -8,7 +8,7 @@ use Rattle.td_book.specs.declared.lease.SplitFault.{SplitFault}
 use Rattle.td_book.specs.declared.lease.SplitFault.TheVariants.{OutOfMemory, Stranger}
 use Rattle.td_book.specs.Board.{Board, handled, allowed}
 use Rattle.td_book.specs.Chained.{is_free, IsFirstOpen}
-use Rattle.td_book.specs.Steps.{Has, Leases, Claims, ClaimsAt, IsStranger}
+use Rattle.td_book.specs.Steps.{Leases, Claims, ClaimsAt, IsStranger}
 use Rattle.td_book.specs.Steps as steps
 
 -- how many positions of a cube are fixed

@@ -7,7 +7,7 @@ use Rattle.std.proofs.lemmas.List.Concat.{flat_map-append, flat_map-cons}
 use Rattle.std.proofs.lemmas.Option.{get_or_from_slice_get}
 use Rattle.td_domain.specs.declared.cubes.Trit.{Trit}
 use Rattle.td_gates.specs.Output.{Output, Sent, SentTo, SentFront, Failed}
-use Rattle.td_gates.proofs.Outputs.{Sent-nothing, SentTo-begins, SentTo-more, SentTo-front, Failed-longer}
+use Rattle.td_gates.proofs.Outputs.{SentTo-begins, SentTo-more, SentTo-front, Failed-longer}
 use Rattle.td_certificate.specs.declared.tree.Node.{Node}
 use Rattle.td_certificate.specs.Text.{row, bits, node_line, trit, first_trits, second_trits, numbers}
 use Rattle.td_certificate.proofs.CertificateCode.{head_text}

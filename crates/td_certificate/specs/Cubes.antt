@@ -1,7 +1,7 @@
 -- The cube of all pairs, the halves of a cube, and the way of a walk over a tree.
-use Rattle.std.specs.Prelude.{ℕ, List, ◌∷◌, set, replicate, Option, Some, None}
+use Rattle.std.specs.Prelude.{ℕ, List, ◌∷◌, set, Option, Some, None}
 use Rattle.td_domain.specs.declared.cubes.Trit.{Trit}
-use Rattle.td_domain.specs.declared.cubes.Trit.TheVariants.{Zero, One, Free}
+use Rattle.td_domain.specs.declared.cubes.Trit.TheVariants.{Zero, One}
 
 -- the two halves of a cube at a free position
 abbrev pub zero_side : List Trit → ℕ → List Trit

@@ -13,7 +13,7 @@ use Rattle.td_gates.specs.Wave.{Wave, before, level_after}
 use Rattle.td_gates.specs.Schedule.{target_before}
 use Rattle.td_gates.proofs.TableLaws.{Agrees, AllAgree, table_known}
 use Rattle.td_ternary.specs.Possibles as possible
-use Rattle.td_ternary.specs.Possibles.{has, set_of, change_at, changes_below, last_change, last_input, last_level, widened, capped, is_possible}
+use Rattle.td_ternary.specs.Possibles.{has, set_of, change_at, changes_below, last_input, last_level, widened, capped, is_possible}
 use Rattle.td_ternary.specs.PossibleLaws.{cases_bool, same_is, settled, possible_stays}
 
 -- the level that a signal of possible levels ends at
