@@ -23,7 +23,8 @@ from itertools import groupby
 X = 2  # the level that isn't known; of possible levels, both
 BILLION = 1_000_000_000
 LARGEST = 10**18
-sys.set_int_max_str_digits(0)  # the numbers of a text may be of any length
+if hasattr(sys, "set_int_max_str_digits"):
+    sys.set_int_max_str_digits(0)  # the numbers of a text may be of any length
 
 
 class Refusal(Exception):
