@@ -1,4 +1,4 @@
-//! Sheets: how many gates a narrowing evaluates, and what is taken back.
+//! Sheets: how many gates a narrowing reaches, and what is taken back.
 
 use std::alloc::Global;
 use std::process::Abort;
@@ -11,7 +11,7 @@ use td_rows::circuit_of;
 use td_rows::texts::module;
 use td_ternary::Possible;
 
-/// How many gates the narrowing of the free cube at this position evaluates.
+/// How many gates the narrowing of the free cube at this position reaches.
 fn redone<D: Domain>(
     rt: &impl Abort,
     alloc: Global,
@@ -54,10 +54,10 @@ nand (N23,N16,N19);
 endmodule
 ";
 
-/// Those behind the input, as far as their signals change: behind N1 N10 and N22, behind N2 N16, N22 and N23, and so on; and of the gate with a
-/// slow arm that arm and itself, or itself alone.
+/// Those behind the input: behind N1 N10 and N22, behind N2 N16, N22 and N23, and so on; and of the gate with a slow arm that arm and itself, or
+/// itself alone.
 #[test]
-fn gates_evaluated(rt: HostRuntime) -> Result<(), Fail> {
+fn gates_reached(rt: HostRuntime) -> Result<(), Fail> {
     let alloc = rt.alloc();
     let six = circuit_of(alloc, C17).ok_or("a circuit")?;
     assert_eq!(rt;
