@@ -33,7 +33,7 @@ cat > "$WORK/part" <<PART
 #!/bin/sh
 # The part of a number: status 0 where it is searched, be it cut short.
 line=\$(sed -n "\${1}p" "$WORK/parts")
-"$TDELAY" worst "$FILE" \$line $HOW $DEFAULTS --cert "$WORK/\$1.cert" > "$WORK/\$1.out"
+"$TDELAY" worst "$FILE" \$line $HOW --cert "$WORK/\$1.cert" > "$WORK/\$1.out"
 status=\$?
 [ \$status -eq 0 ] || [ \$status -eq 3 ]
 PART

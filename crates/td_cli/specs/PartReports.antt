@@ -1,5 +1,5 @@
 -- What `parts` prints.
-use Rattle.std.specs.Prelude.{◌≡◌, ◌<◌, ◌≤◌, ℕ, List, [], ◌++◌, All, codes, decimal, length, Option, Some, None}
+use Rattle.std.specs.Prelude.{◌≡◌, ◌<◌, ◌≤◌, ◌==◌, ℕ, List, [], ◌++◌, if◌then◌else◌, All, codes, decimal, length, Option, Some, None}
 use Rattle.std.specs.List.{flat_map}
 use Rattle.td_gates.specs.declared.timing.Delay.{Delay}
 use Rattle.td_domain.specs.declared.cubes.Trit.{Trit}
@@ -21,11 +21,16 @@ abbrev pub flips_text : Option ℕ → List ℕ
 flips_text None = []
 flips_text (Some flips) = codes " --flips " ++ decimal flips
 
--- the options of one part: its pins, and what else the question says of its pairs and of the moments
-abbrev pub part_line : QuestionWords → List Trit → List ℕ
-part_line words pins =
+-- a default delay, where it isn't that of one step
+abbrev pub default_text : List ℕ → ℕ → List ℕ
+default_text name steps = if steps == 1 then [] else (name ++ decimal steps)
+
+-- the options of one part: its pins, what else the question says of its pairs and of the moments, and the delays of gates that state none
+abbrev pub part_line : Delay → QuestionWords → List Trit → List ℕ
+part_line default words pins =
     pins_text pins ++ option_text (codes " --hold ") (words_of words.hold) ++ flips_text words.flips
-    ++ option_text (codes " --at ") (words_of words.at) ++ newline
+    ++ option_text (codes " --at ") (words_of words.at)
+    ++ default_text (codes " --default-rise ") default.rise ++ default_text (codes " --default-fall ") default.fall ++ newline
 
 -- The report has a line for each of at most so many cubes, at least one. They share out the admitted pairs of what the words ask of the text:
 -- each lies in exactly one, and in each lies one. No cube has a pair that isn't one of the pins.
@@ -38,4 +43,4 @@ pub record IsPartsReport (text : List ℕ) (default : Delay) (words : QuestionWo
   pub few : length cubes ≤ parts
   pub some : All (HasAdmitted asked.admit) cubes
   pub inside : All (λ cube. IsPart cube asked.admit.pins) cubes
-  pub is : report ≡ flat_map (part_line words) cubes
+  pub is : report ≡ flat_map (part_line default words) cubes

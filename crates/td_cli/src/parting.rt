@@ -8,7 +8,7 @@ ghost use Rattle.td_cli.specs.Ends.{Ends, streams};
 ghost use Rattle.td_cli.specs.Files.{Takes};
 ghost use Rattle.td_cli.specs.Vectors.{words_of};
 ghost use Rattle.td_cli.specs.Outcomes.{HasNoAnswer};
-ghost use Rattle.td_cli.specs.PartReports.{option_text, flips_text, part_line, IsPartsReport};
+ghost use Rattle.td_cli.specs.PartReports.{option_text, flips_text, default_text, part_line, IsPartsReport};
 ghost use Rattle.td_cli.specs.Disks.{disk_of};
 ghost use Rattle.td_cli.specs.Requests.{parts_words, IsPartsProduct, RequestRuns};
 ghost use Rattle.td_cli.specs.declared.refusal.Refusal.TheVariants as Reason;
@@ -50,44 +50,57 @@ pub fn parts<'a>(
         words.strategy,
         parts as usize,
     )?;
-    some_lines(alloc, &cubes, words)
+    some_lines(alloc, &cubes, default, words)
 }
 
 /// A line for each part, of which there has to be one.
 fn some_lines<'a>(
     alloc: Global,
     cubes: &[Cube],
+    default: Delay,
     words: QuestionWords<'_>,
 ) -> Result<Text, Refusal<'a>>
-    ensures lines { IfOk result (λ text. (0 < length cubes.now) × (text ≡ flat_map (part_line words.entry) cubes.now)) }
+    ensures lines { IfOk result (λ text. (0 < length cubes.now) × (text ≡ flat_map (part_line default words.entry) cubes.now)) }
     ensures none { IfErr result (λ reason. (reason ≡ Reason.OutOfMemory) ⊎ ((reason ≡ Reason.NoPair) × (length cubes.now ≡ 0))) }
 {
     if cubes.is_empty() {
         return Err(Refusal::NoPair);
     }
-    let text = lines(alloc, cubes, words)?;
+    let text = lines(alloc, cubes, default, words)?;
     Ok(text)
 }
 
 /// A line for each part.
-fn lines(alloc: Global, cubes: &[Cube], words: QuestionWords<'_>) -> Result<Text, AllocError>
-    ensures { IfOk result (λ text. text ≡ flat_map (part_line words.entry) cubes.now) }
+fn lines(
+    alloc: Global,
+    cubes: &[Cube],
+    default: Delay,
+    words: QuestionWords<'_>,
+) -> Result<Text, AllocError>
+    ensures { IfOk result (λ text. text ≡ flat_map (part_line default words.entry) cubes.now) }
 {
     let mut text = Text::new(alloc);
     for cube in cubes {
-        push_part(&mut text, cube, words)?;
+        push_part(&mut text, cube, default, words)?;
     }
     Ok(text)
 }
 
 /// The line of one part.
-fn push_part(text: &mut Text, cube: &Cube, words: QuestionWords<'_>) -> Result<(), AllocError>
-    ensures { OnOk result (text.new ≡ text.old ++ part_line words.entry cube.now) }
+fn push_part(
+    text: &mut Text,
+    cube: &Cube,
+    default: Delay,
+    words: QuestionWords<'_>,
+) -> Result<(), AllocError>
+    ensures { OnOk result (text.new ≡ text.old ++ part_line default words.entry cube.now) }
 {
     push_pins(text, cube)?;
     push_option(text, b" --hold ", words.hold)?;
     push_flips(text, words.flips)?;
     push_option(text, b" --at ", words.at)?;
+    push_default(text, b" --default-rise ", default.rise)?;
+    push_default(text, b" --default-fall ", default.fall)?;
     text.push(b"\n")
 }
 
@@ -115,6 +128,17 @@ fn push_flips(text: &mut Text, flips: Option<u64>) -> Result<(), AllocError>
             text.number(flips)
         }
     }
+}
+
+/// Appends the option of a default delay, where it isn't that of one step.
+fn push_default(text: &mut Text, name: &[u8], steps: u32) -> Result<(), AllocError>
+    ensures { OnOk result (text.new ≡ text.old ++ default_text name.now steps) }
+{
+    if steps == 1 {
+        return Ok(());
+    }
+    text.push(name)?;
+    text.number(u64::from(steps))
 }
 
 /// The command `parts`.
