@@ -25,12 +25,16 @@ flips_text (Some flips) = codes " --flips " ++ decimal flips
 abbrev pub default_text : List ℕ → ℕ → List ℕ
 default_text name steps = if steps == 1 then [] else (name ++ decimal steps)
 
--- the options of one part: its pins, what else the question says of its pairs and of the moments, and the delays of gates that state none
-abbrev pub part_line : Delay → QuestionWords → List Trit → List ℕ
-part_line default words pins =
+-- the options of one part: its pins, and what else the question says of its pairs and of the moments
+abbrev pub part_options : QuestionWords → List Trit → List ℕ
+part_options words pins =
     pins_text pins ++ option_text (codes " --hold ") (words_of words.hold) ++ flips_text words.flips
     ++ option_text (codes " --at ") (words_of words.at)
-    ++ default_text (codes " --default-rise ") default.rise ++ default_text (codes " --default-fall ") default.fall ++ newline
+
+-- its line: behind these the delays of gates that state none
+abbrev pub part_line : Delay → QuestionWords → List Trit → List ℕ
+part_line default words pins =
+    part_options words pins ++ default_text (codes " --default-rise ") default.rise ++ default_text (codes " --default-fall ") default.fall ++ newline
 
 -- The report has a line for each of at most so many cubes, at least one. They share out the admitted pairs of what the words ask of the text:
 -- each lies in exactly one, and in each lies one. No cube has a pair that isn't one of the pins.

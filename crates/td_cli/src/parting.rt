@@ -8,7 +8,7 @@ ghost use Rattle.td_cli.specs.Ends.{Ends, streams};
 ghost use Rattle.td_cli.specs.Files.{Takes};
 ghost use Rattle.td_cli.specs.Vectors.{words_of};
 ghost use Rattle.td_cli.specs.Outcomes.{HasNoAnswer};
-ghost use Rattle.td_cli.specs.PartReports.{option_text, flips_text, default_text, part_line, IsPartsReport};
+ghost use Rattle.td_cli.specs.PartReports.{option_text, flips_text, default_text, part_options, part_line, IsPartsReport};
 ghost use Rattle.td_cli.specs.Disks.{disk_of};
 ghost use Rattle.td_cli.specs.Requests.{parts_words, IsPartsProduct, RequestRuns};
 ghost use Rattle.td_cli.specs.declared.refusal.Refusal.TheVariants as Reason;
@@ -95,13 +95,20 @@ fn push_part(
 ) -> Result<(), AllocError>
     ensures { OnOk result (text.new ≡ text.old ++ part_line default words.entry cube.now) }
 {
-    push_pins(text, cube)?;
-    push_option(text, b" --hold ", words.hold)?;
-    push_flips(text, words.flips)?;
-    push_option(text, b" --at ", words.at)?;
+    push_options(text, cube, words)?;
     push_default(text, b" --default-rise ", default.rise)?;
     push_default(text, b" --default-fall ", default.fall)?;
     text.push(b"\n")
+}
+
+/// Appends what a part's line says of its pairs and of the moments.
+fn push_options(text: &mut Text, cube: &Cube, words: QuestionWords<'_>) -> Result<(), AllocError>
+    ensures { OnOk result (text.new ≡ text.old ++ part_options words.entry cube.now) }
+{
+    push_pins(text, cube)?;
+    push_option(text, b" --hold ", words.hold)?;
+    push_flips(text, words.flips)?;
+    push_option(text, b" --at ", words.at)
 }
 
 /// Appends an option as it was given, where it was.
