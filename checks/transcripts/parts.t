@@ -90,3 +90,22 @@ delay, those that end at 1 that of its fall delay.
   --first . --second 0
   --first 0 --second 1
   --first 1 --second 1
+
+Delays of gates that state none, where they aren't one step.
+
+  $ cat > plain.v <<'END'
+  > module t (a, y);
+  > input a;
+  > output y;
+  > not g(y,a);
+  > endmodule
+  > END
+  $ tdelay parts plain.v --parts 2 --default-rise 7 --default-fall 9 | tee lines
+  --first 0 --second . --default-rise 7 --default-fall 9
+  --first 1 --second . --default-rise 7 --default-fall 9
+  $ while read -r line; do tdelay worst plain.v $line | grep '^exact'; done < lines
+  exact 9
+  exact 7
+  $ tdelay parts plain.v --parts 1 --default-fall 9; tdelay parts plain.v --parts 1 --default-rise 1
+  --first . --second . --default-fall 9
+  --first . --second .
