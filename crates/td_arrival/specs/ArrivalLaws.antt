@@ -1,8 +1,8 @@
 -- Internal: proofs of the laws of arrival windows; an impl block takes them from specs/ alone.
-use Rattle.std.proofs.Common.{◌≡◌, ◌≢◌, ℕ, zero, suc, ◌+◌, ◌-◌, ◌<◌, ◌≤◌, ◌^◌, max, Bool, true, false, List, [], ◌∷◌, length, map, refl, arith, ap, ◌∙◌, sym, Option, Some, None, ◌⊎◌, inl, inr}
-use Rattle.std.specs.Prelude.{slice_get, filter_map, nat_lt, ◌&&◌, ◌||◌, is_none, if◌then◌else◌}
+use Rattle.std.proofs.Common.{◌≡◌, ◌≢◌, ℕ, zero, suc, ◌+◌, ◌-◌, ◌<◌, ◌≤◌, ◌^◌, max, Bool, true, List, [], ◌∷◌, length, map, refl, arith, ap, ◌∙◌, sym, Option, Some, None, ◌⊎◌, inl, inr}
+use Rattle.std.specs.Prelude.{nat_lt, ◌||◌, is_none, if◌then◌else◌}
 use Rattle.std.specs.List.{All, AllZip, AllByRecursion, list_any}
-use Rattle.std.proofs.lemmas.Bool.{cases_lt, le-ltb}
+use Rattle.std.proofs.lemmas.Bool.{cases_lt, le-ltb, cases_Bool, or_left, or_right, or_cases, and_parts}
 use Rattle.std.proofs.lemmas.List.Elements.{recursion_from_All}
 use Rattle.td_gates.specs.declared.primitives.Level.{Level}
 use Rattle.td_gates.specs.declared.primitives.Level.TheVariants.{Zero as Low, One as High, X}
@@ -10,38 +10,29 @@ use Rattle.td_gates.specs.declared.primitives.Kind.{Kind}
 use Rattle.td_gates.specs.declared.primitives.Kind.TheVariants.{And, Nand, Or, Nor, Xor, Xnor, Buf, Not}
 use Rattle.td_gates.specs.declared.timing.Delay.{Delay}
 use Rattle.td_gates.specs.Delays.{IsInRange}
-use Rattle.td_gates.specs.Table.{level_from, table, delay_to, level_eq, inverse_of, TakesInputs}
+use Rattle.td_gates.specs.Table.{level_from, table, delay_to, inverse_of, TakesInputs, controlling, controls}
 use Rattle.td_gates.specs.Wave.{Wave, at, before}
 use Rattle.td_gates.specs.Schedule.{Obeys, target_before}
 use Rattle.td_domain.specs.declared.cubes.Trit.{Trit}
 use Rattle.td_domain.specs.declared.cubes.Trit.TheVariants.{Zero, One, Free}
 use Rattle.td_domain.specs.Waves.{IsBoolean, IsQuietAfter, IsConstant}
-use Rattle.td_domain.specs.Cubes.{level_of_trit, Allows, IsInputWave}
+use Rattle.td_domain.specs.Cubes.{level_of_trit, IsInputWave}
+use Rattle.td_domain.proofs.Lists.{weaker}
+use Rattle.td_domain.proofs.Bits.{all_booleans, bit_known}
 use Rattle.td_gates.proofs.Levels.{cases_level}
 use Rattle.td_gates.proofs.Scheduling.{delay_to-positive}
 use Rattle.td_gates.proofs.Delays.{IsDelayed, delayed, delayed-early, delayed-late, delayed-lost}
-use Rattle.td_gates.proofs.TableLaws.{AllAgree, Booleans, table-boolean, table_known}
+use Rattle.td_gates.proofs.TableLaws.{AllAgree, table-boolean, table_known}
+use Rattle.td_gates.specs.Known.{Agrees, Finishes}
+use Rattle.td_gates.proofs.KnownLaws.{levels_before, length-levels, IsClear, controlling_clear, nothing_controls, other_level, first_slow, delay_to_greatest}
 use Rattle.td_arrival.specs.declared.signals.Span.{Span}
 use Rattle.td_arrival.specs.declared.signals.Signal.{Signal}
-use Rattle.td_arrival.specs.Arrivals.{input_changes, input_signal, constant_signal, around, hull, controlling, controls, is_held, earliest_of, latest_of, opens_at, closes_at, is_lost, last_delay, delayed_span, gate_changes, gate_start, gate_finish, gate_signal}
-use Rattle.td_arrival.specs.Coverage.{Agrees, Finishes, ChangesWithin, Covers, IsEnd, HasMoment, span_reach}
-
--- the levels of waves just before a moment
-abbrev pub levels_before : List Wave → ℕ → List Level
-levels_before ins n = map (λ wave. before wave n) ins
-
--- a known level that isn't x
-cases_bool : (b : Bool) → (b ≡ true) ⊎ (b ≡ false)
-cases_bool true = inl refl
-cases_bool false = inr refl
+use Rattle.td_arrival.specs.Arrivals.{input_changes, input_signal, constant_signal, around, hull, is_held, earliest_of, latest_of, opens_at, closes_at, is_lost, last_delay, delayed_span, gate_changes, gate_start, gate_finish, gate_signal}
+use Rattle.td_arrival.specs.Coverage.{ChangesWithin, Covers, IsEnd, HasMoment, span_reach}
 
 -- whether some level is the controlling one
 abbrev IsControlled : Option Level → List Level → Type 0
 IsControlled control levels = list_any (controls control) levels ≡ true
-
-nothing_controls : (levels : List Level) → list_any (controls None) levels ≡ true → ⊥
-nothing_controls [] some = cc
-nothing_controls (l ∷ levels) some = nothing_controls levels some
 
 -- an input at the controlling level settles the output
 pub controlled : (kind : Kind) (levels others : List Level) → IsControlled (controlling kind) levels → IsControlled (controlling kind) others
@@ -125,10 +116,6 @@ around_right (Some span) None wave holds = (never_until span.earliest wave holds
 around_right (Some span) (Some others) wave holds =
     ((λ n low. holds.0 n (omega arith)), (λ n m one two. holds.1 n m (omega arith) (omega arith)))
 
-pub weaker : {A : Type 0} (P Q : A → Type 0) → ((x : A) → P x → Q x) → (xs : List A) → AllByRecursion P xs → AllByRecursion Q xs
-weaker P Q f [] h = tt
-weaker P Q f (x ∷ xs) h = (f x h.0, weaker P Q f xs h.1)
-
 pub hull_holds : (signals : List Signal) (ins : List Wave) → Covered signals ins → AllByRecursion (HullHolds (hull signals)) ins
 hull_holds [] [] covered = tt
 hull_holds (s ∷ signals) [] covered = absurd covered
@@ -142,49 +129,9 @@ same_before : (ins : List Wave) (n m : ℕ) → AllByRecursion (λ wave. before 
 same_before [] n m h = refl
 same_before (w ∷ ins) n m h = let rest = same_before ins n m h.1 in rw (h.0, rest) refl
 
-or_left : (a b : Bool) → a ≡ true → a || b ≡ true
-or_left a b h = rw h refl
-
-or_right : (a b : Bool) → b ≡ true → a || b ≡ true
-or_right true b h = refl
-or_right false b h = h
-
-or_cases : (a b : Bool) → a || b ≡ true → (a ≡ true) ⊎ (b ≡ true)
-or_cases true b h = inl refl
-or_cases false b h = inr h
-
-and_cases : (a b : Bool) → a && b ≡ true → (a ≡ true) × (b ≡ true)
-and_cases true true h = (refl, refl)
-and_cases true false h = cc
-and_cases false b h = cc
-
 none_is : {A : Type 0} (o : Option A) → is_none o ≡ true → o ≡ None
 none_is None h = refl
 none_is (Some x) h = cc
-
--- a controlling level is never unknown
-abbrev IsClear : Option Level → Type 0
-IsClear control = (level : Level) → controls control level ≡ true → level ≢ X
-
-zero_clear : (level : Level) → level_eq Low level ≡ true → level ≢ X
-zero_clear Low h = λ e. cc
-zero_clear High h = cc
-zero_clear X h = cc
-
-one_clear : (level : Level) → level_eq High level ≡ true → level ≢ X
-one_clear Low h = cc
-one_clear High h = λ e. cc
-one_clear X h = cc
-
-pub controlling_clear : (kind : Kind) → IsClear (controlling kind)
-controlling_clear And = zero_clear
-controlling_clear Nand = zero_clear
-controlling_clear Or = one_clear
-controlling_clear Nor = one_clear
-controlling_clear Xor = λ level h. cc
-controlling_clear Xnor = λ level h. cc
-controlling_clear Buf = λ level h. cc
-controlling_clear Not = λ level h. cc
 
 pub closes_within : (control : Option Level) (latest : ℕ) (signals : List Signal) → closes_at control latest signals ≤ latest
 closes_within control latest [] = omega arith
@@ -209,7 +156,7 @@ module _ (control : Option Level) (clear : IsClear control) where
   held_controls [] (w ∷ ins) covered held n = absurd covered
   held_controls (s ∷ signals) (w ∷ ins) covered held n = elim (or_cases _ _ held) [
     | inl here ↦
-        let both = and_cases _ _ here in
+        let both = and_parts _ _ here in
         or_left _ _ (held_here s w covered.0 both.0 s.changes (none_is s.changes both.1) covered.0.changes n)
     | inr there ↦ or_right _ _ (held_controls signals ins covered.1 there n)
   ]
@@ -231,7 +178,7 @@ module _ (control : Option Level) (clear : IsClear control) where
   opens_controls earliest [] [] covered = inl (omega arith)
   opens_controls earliest (s ∷ signals) [] covered = absurd covered
   opens_controls earliest [] (w ∷ ins) covered = absurd covered
-  opens_controls earliest (s ∷ signals) (w ∷ ins) covered = elim (cases_bool (controls control s.start)) [
+  opens_controls earliest (s ∷ signals) (w ∷ ins) covered = elim (cases_Bool (controls control s.start)) [
     | inr other ↦ rw other (elim (opens_controls earliest signals ins covered.1) [
       | inl under ↦ inl (omega arith)
       | inr inputs ↦ inr (λ n low. or_right _ _ (inputs n (omega arith)))
@@ -266,7 +213,7 @@ module _ (control : Option Level) (clear : IsClear control) where
 
   closes_one : (latest : ℕ) (s : Signal) (w : Wave) → Covers s w
       → (latest ≤ closing latest s) ⊎ ((n : ℕ) → closing latest s < n → controls control (before w n) ≡ true)
-  closes_one latest s w covered = elim (cases_bool (controls control s.finish)) [
+  closes_one latest s w covered = elim (cases_Bool (controls control s.finish)) [
     | inr other ↦ rw other (inl (omega arith))
     | inl here ↦ rw here (closes_changes latest s w covered here s.changes covered.changes)
   ]
@@ -290,28 +237,6 @@ module _ (control : Option Level) (clear : IsClear control) where
           | inr inputs ↦ inr (λ n high. or_right _ _ (inputs n (omega arith)))
         ]
       ]
-
--- of two Boolean levels that differ one is the inverse of the other
-other_level : (v level : Level) → v ≢ X → level ≢ X → level ≢ v → level ≡ inverse_of v
-other_level Low Low a b c = absurd (c refl)
-other_level Low High a b c = refl
-other_level Low X a b c = absurd (b refl)
-other_level High Low a b c = refl
-other_level High High a b c = absurd (c refl)
-other_level High X a b c = absurd (b refl)
-other_level X level a b c = absurd (a refl)
-
-first_slow : (delay : Delay) (start first level : Level) → Agrees start first → level ≢ X → level ≢ first
-    → delay_to delay (inverse_of start) ≤ delay_to delay level
-first_slow delay Low first level agree boolean differ =
-    let same : first ≡ Low = agree (λ e. cc) in
-    rw (other_level Low level (λ e. cc) boolean (rw same at differ)) (omega arith)
-first_slow delay High first level agree boolean differ =
-    let same : first ≡ High = agree (λ e. cc) in
-    rw (other_level High level (λ e. cc) boolean (rw same at differ)) (omega arith)
-first_slow delay X first Low agree boolean differ = omega arith
-first_slow delay X first High agree boolean differ = omega arith
-first_slow delay X first X agree boolean differ = omega arith
 
 last_fast : (delay : Delay) (finish level : Level) → Agrees finish level → level ≢ X → delay_to delay level ≤ last_delay delay finish
 last_fast delay Low level agree boolean = let same : level ≡ Low = agree (λ e. cc) in rw same (omega arith)
@@ -385,21 +310,13 @@ module _ (delay : Delay) (fits : IsInRange delay) (out : Wave) (e : ℕ → Leve
   )
 
   pub delayed_changes : ChangesWithin (delayed_span delay start finish E L) out
-  delayed_changes = elim (cases_bool (nat_lt L E || is_lost delay start finish (L - E))) [
+  delayed_changes = elim (cases_Bool (nat_lt L E || is_lost delay start finish (L - E))) [
     | inl none ↦ rw none (elim (or_cases _ _ none) [
       | inl apart ↦ crossed (lt_from L E apart)
       | inr short ↦ lost short
     ])
     | inr some ↦ rw some spread
   ]
-
-all_booleans : (ins : List Wave) (n : ℕ) → AllByRecursion IsBoolean ins → Booleans (levels_before ins n)
-all_booleans [] n h = tt
-all_booleans (w ∷ ins) n h = (h.0 n, all_booleans ins n h.1)
-
-length-levels : (ins : List Wave) (n : ℕ) → length (levels_before ins n) ≡ length ins
-length-levels [] n = refl
-length-levels (w ∷ ins) n = ap suc (length-levels ins n)
 
 module _ (kind : Kind) (delay : Delay) (signals : List Signal) (ins : List Wave) (out : Wave)
     (fits : IsInRange delay) (takes : TakesInputs kind (length ins)) (boolean : All IsBoolean ins) (covered : Covered signals ins)
@@ -443,7 +360,7 @@ module _ (kind : Kind) (delay : Delay) (signals : List Signal) (ins : List Wave)
   changes_for : (span : Option Span) → AllByRecursion (HullHolds span) ins
       → ChangesWithin (gate_changes (controlling kind) delay (gate_start kind signals) (gate_finish kind signals) signals span) out
   changes_for None holds = still (λ n. ap (table kind) (same_before ins n 0 (weaker _ _ (λ wave never. never_until n wave never n (omega arith)) ins holds)))
-  changes_for (Some span) holds = elim (cases_bool (is_held (controlling kind) signals)) [
+  changes_for (Some span) holds = elim (cases_Bool (is_held (controlling kind) signals)) [
     | inl held ↦ rw held (still (λ n. controlled kind _ _
         (held_controls (controlling kind) (controlling_clear kind) signals ins covered held n)
         (held_controls (controlling kind) (controlling_clear kind) signals ins covered held 0)))
@@ -475,14 +392,6 @@ pub covers_gate : (kind : Kind) (delay : Delay) (signals : List Signal) (ins : L
     → Covers (gate_signal kind delay signals) out
 covers_gate kind delay signals ins out fits takes boolean covered obeys =
     covers_output kind delay signals ins out fits takes boolean covered (delayed kind delay fits ins out obeys)
-
--- inputs
-bit_known : (trit : Trit) (bit : Bool) → Allows trit bit → Agrees (level_of_trit trit) (level_from bit)
-bit_known Zero false allows = λ known. refl
-bit_known Zero true allows = absurd allows
-bit_known One false allows = absurd allows
-bit_known One true allows = λ known. refl
-bit_known Free bit allows = λ known. absurd (known refl)
 
 -- the wave keeps its start before this moment, and stays from then on
 abbrev ChangesAt : ℕ → Wave → Type 0
@@ -557,15 +466,10 @@ pub opens_reach : (control : Option Level) (m earliest : ℕ) (signals : List Si
 opens_reach control m earliest [] low h = low
 opens_reach control m earliest (s ∷ signals) low h =
     let rest = opens_reach control m earliest signals low h.1 in
-    elim (cases_bool (controls control s.start)) [
+    elim (cases_Bool (controls control s.start)) [
       | inl here ↦ rw here (omega (arith, earliest_reach m s.changes h.0))
       | inr other ↦ rw other (omega arith)
     ]
-
-delay_to_greatest : (delay : Delay) (level : Level) → delay_to delay level ≤ max delay.rise delay.fall
-delay_to_greatest delay Low = omega arith
-delay_to_greatest delay High = omega arith
-delay_to_greatest delay X = omega arith
 
 last_delay_greatest : (delay : Delay) (level : Level) → last_delay delay level ≤ max delay.rise delay.fall
 last_delay_greatest delay Low = omega arith
@@ -575,7 +479,7 @@ last_delay_greatest delay X = omega arith
 span_delay_reach : (delay : Delay) (start finish : Level) (m earliest latest : ℕ) → earliest ≤ m → latest ≤ m
     → span_reach (delayed_span delay start finish earliest latest) ≤ m + max delay.rise delay.fall
 span_delay_reach delay start finish m earliest latest low high =
-    elim (cases_bool (nat_lt latest earliest || is_lost delay start finish (latest - earliest))) [
+    elim (cases_Bool (nat_lt latest earliest || is_lost delay start finish (latest - earliest))) [
       | inl none ↦ rw none (omega arith)
       | inr some ↦ rw some (omega (arith, delay_to_greatest delay (inverse_of start), last_delay_greatest delay finish))
     ]
@@ -584,7 +488,7 @@ changes_reach : (control : Option Level) (delay : Delay) (start finish : Level) 
     → AllByRecursion (Within m) signals → span_reach span ≤ m
     → span_reach (gate_changes control delay start finish signals span) ≤ m + max delay.rise delay.fall
 changes_reach control delay start finish m signals None h low = omega arith
-changes_reach control delay start finish m signals (Some span) h low = elim (cases_bool (is_held control signals)) [
+changes_reach control delay start finish m signals (Some span) h low = elim (cases_Bool (is_held control signals)) [
   | inl held ↦ rw held (omega arith)
   | inr free ↦ rw free (span_delay_reach delay start finish m _ _
       (opens_reach control m span.earliest signals (omega arith) h)
@@ -623,17 +527,3 @@ end_reach (Some span) moment ends = elim ends [
 
 pub reach_each : (signal : Signal) (moment : ℕ) → HasMoment signal moment → moment ≤ span_reach signal.changes
 reach_each signal moment ends = end_reach signal.changes moment ends
-
--- the elements at places that are there
-slice_get-some : {A : Type 0} (xs : List A) (i : ℕ) → i < length xs → (x : A) × (slice_get xs i ≡ Some x)
-slice_get-some [] i h = absurd (omega arith)
-slice_get-some (x ∷ xs) zero h = (x, refl)
-slice_get-some (x ∷ xs) (suc i) h = slice_get-some xs i (omega arith)
-
-pub length-picked : {A : Type 0} (xs : List A) (places : List ℕ) → AllByRecursion (λ place. place < length xs) places
-    → length (filter_map (slice_get xs) places) ≡ length places
-length-picked xs [] h = refl
-length-picked xs (place ∷ places) h =
-    let it = slice_get-some xs place h.0 in
-    let rest = length-picked xs places h.1 in
-    rw (it.1, rest) refl

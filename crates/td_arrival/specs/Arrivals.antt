@@ -4,9 +4,8 @@ use Rattle.std.specs.List.{list_any}
 use Rattle.td_gates.specs.declared.primitives.Level.{Level}
 use Rattle.td_gates.specs.declared.primitives.Level.TheVariants.{Zero as Low, One as High, X}
 use Rattle.td_gates.specs.declared.primitives.Kind.{Kind}
-use Rattle.td_gates.specs.declared.primitives.Kind.TheVariants.{And, Nand, Or, Nor}
 use Rattle.td_gates.specs.declared.timing.Delay.{Delay}
-use Rattle.td_gates.specs.Table.{level_from, level_eq, table, inverse_of, delay_to}
+use Rattle.td_gates.specs.Table.{level_from, table, inverse_of, delay_to, controlling, controls}
 use Rattle.td_domain.specs.declared.cubes.Trit.{Trit}
 use Rattle.td_domain.specs.declared.cubes.Trit.TheVariants.{Zero, One}
 use Rattle.td_domain.specs.Cubes.{level_of_trit}
@@ -47,19 +46,6 @@ around (Some span) (Some others) =
 abbrev pub hull : List Signal → Option Span
 hull [] = None
 hull (signal ∷ signals) = around signal.changes (hull signals)
-
--- the level of an input that settles the output by itself
-abbrev pub controlling : Kind → Option Level
-controlling And = Some Low
-controlling Nand = Some Low
-controlling Or = Some High
-controlling Nor = Some High
-controlling kind = None
-
--- whether this is the controlling level
-abbrev pub controls : Option Level → Level → Bool
-controls None level = false
-controls (Some control) level = level_eq control level
 
 -- whether an input keeps the controlling level for ever
 abbrev pub is_held : Option Level → List Signal → Bool

@@ -1,19 +1,10 @@
 -- Beside the model: which waves an arrival window covers, and the moments in it.
-use Rattle.std.specs.Prelude.{◌≡◌, ◌≢◌, ◌⊎◌, ℕ, ◌<◌, ◌≤◌, max, Option, Some, None}
-use Rattle.td_gates.specs.declared.primitives.Level.{Level}
-use Rattle.td_gates.specs.declared.primitives.Level.TheVariants.{X}
+use Rattle.std.specs.Prelude.{◌≡◌, ◌⊎◌, ℕ, ◌<◌, max, Option, Some, None}
 use Rattle.td_gates.specs.Wave.{Wave, at}
+use Rattle.td_gates.specs.Known.{Agrees, Finishes}
 use Rattle.td_domain.specs.Waves.{IsQuietAfter}
 use Rattle.td_arrival.specs.declared.signals.Span.{Span}
 use Rattle.td_arrival.specs.declared.signals.Signal.{Signal}
-
--- a level is as known; x knows nothing
-abbrev pub Agrees : Level → Level → Type 0
-Agrees known level = known ≢ X → level ≡ known
-
--- from some moment on the wave's level is as known
-abbrev pub Finishes : Level → Wave → Type 0
-Finishes known wave = known ≢ X → (from : ℕ) × ((t : ℕ) → from ≤ t → at wave t ≡ known)
 
 -- the wave changes only within the span, never where there is none
 abbrev pub ChangesWithin : Option Span → Wave → Type 0

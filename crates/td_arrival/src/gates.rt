@@ -2,8 +2,8 @@
 
 ghost use Rattle.std.specs.Prelude.{◌≡◌, Some, ◌≤◌, ◌<◌, ◌+◌, ◌^◌, max, IfOk, length, filter_map, slice_get};
 ghost use Rattle.std.specs.List.{All};
-ghost use Rattle.td_gates.specs.Table.{TakesInputs};
-ghost use Rattle.td_arrival.specs.Arrivals.{gate_signal, hull, around, controls, is_held, opens_at, closes_at, gate_changes, delayed_span, last_delay, is_lost, gate_start, gate_finish, controlling};
+ghost use Rattle.td_gates.specs.Table.{TakesInputs, controls, controlling};
+ghost use Rattle.td_arrival.specs.Arrivals.{gate_signal, hull, around, is_held, opens_at, closes_at, gate_changes, last_delay, is_lost, gate_start, gate_finish};
 ghost use Rattle.td_arrival.specs.Coverage.{span_reach};
 
 use crate::signals::{Signal, Span};

@@ -17,6 +17,7 @@ use Rattle.td_book.specs.Steps.{Has, Shows, held, Fits, Settles, SettlesAll}
 use Rattle.td_book.specs.Grafting.{PrivateTree, Grafted, FitAll, numbers, cubes_left, leaf_nodes, open_leaf, open_sides, settlements, leaves_left}
 use Rattle.td_book.proofs.Overlays.{len_set}
 use Rattle.td_book.proofs.Books.{append_nothing, counts, settlement, book_after, within_cut}
+use Rattle.td_book.proofs.Covering.{only_leaf}
 
 abbrev pub leaf_cubes : List Leaf → List (List Trit)
 leaf_cubes leaves = map (λ l. l.cube) leaves
@@ -355,10 +356,6 @@ listing_ends nodes leaves i items at l over = at_end l.rest (let e = l.long in o
     at_end : (rest : List Leaf) → length rest ≤ 0 → items ++ numbers rest ≡ numbers leaves → items ≡ numbers leaves
     at_end [] none e = sym (append_nothing items) ∙ e
     at_end (x ∷ xs) none e = absurd (omega arith)
-
-pub only_leaf : (x l : Leaf) → Contains (x ∷ []) l → x ≡ l
-only_leaf x l (zero, lt, e) = e
-only_leaf x l (suc k, lt, e) = absurd (omega arith)
 
 -- a graft, of what was done to a list of nodes in which the lease's leaf was opened
 pub grafted_by : (q r : List Trit) (workers budget : ℕ) (xs order ys zs order' : List Node) (lease : Lease) (tree : PrivateTree) (states : List State) (items : List ℕ) (has : Shows (board_of q workers budget xs order) lease)

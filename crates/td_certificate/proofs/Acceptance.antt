@@ -1,10 +1,11 @@
 -- The time of a certificate that is accepted is the worst delay.
-use Rattle.std.proofs.Common.{◌≡◌, ◌≢◌, ◌≤◌, ◌*◌, ℕ, zero, suc, Bool, true, false, List, [], ◌∷◌, ◌++◌, length, map, set, Some, None, refl, sym, ap, subst, ◌∙◌, arith}
+use Rattle.std.proofs.Common.{◌≡◌, ◌≢◌, ◌≤◌, ◌*◌, ℕ, zero, suc, Bool, true, false, List, [], ◌∷◌, length, map, set, Some, refl, sym, ap, subst, ◌∙◌, arith}
 use Rattle.std.specs.Prelude.{slice_get}
 use Rattle.std.specs.List.{AllByRecursion}
 use Rattle.std.proofs.lemmas.List.{length-map, length-set}
 use Rattle.std.proofs.lemmas.List.Elements.{recursion_from_All}
 use Rattle.td_gates.specs.Table.{level_from}
+use Rattle.td_gates.proofs.Places.{none-some}
 use Rattle.td_nets.specs.Netlist.{Netlist}
 use Rattle.td_circuit.specs.Settings.{Setting, AreMoments}
 use Rattle.td_circuit.specs.Numbering.{Numbered, setting, IsNumbering}
@@ -21,6 +22,7 @@ use Rattle.td_domain.specs.Worst.{IsWorst}
 use Rattle.td_domain.specs.Together.{both_functions}
 use Rattle.td_domain.specs.BothLaws.{both_covers_gate, both_quiet}
 use Rattle.td_domain.proofs.Soundness.{no_later}
+use Rattle.td_domain.proofs.Lists.{all_parts}
 use Rattle.td_arrival.specs.Arrivals as arrival
 use Rattle.td_arrival.specs.Coverage as arrival_coverage
 use Rattle.td_arrival.specs.ArrivalLaws as arrival_laws
@@ -105,12 +107,9 @@ pub data Side (cube : List Trit) (position : ℕ) (before after : List Bool) : T
   low : AllowsBits (set cube position Zero) before after → Side cube position before after
   high : AllowsBits (set cube position One) before after → Side cube position before after
 
-none-some : {X : Type 0} (t : Trit) → None ≡ Some t → X
-none-some t e = absurd cc
-
 pub side : (cube : List Trit) (position : ℕ) (before after : List Bool) → slice_get cube position ≡ Some Free
     → AllowsBits cube before after → Side cube position before after
-side [] position before after is h = none-some Free is
+side [] position before after is h = absurd (none-some Free is)
 side (p ∷ []) position before after is h = absurd h
 side (p ∷ q ∷ cube) position [] after is h = absurd h
 side (p ∷ q ∷ cube) position (a ∷ before) [] is h = absurd h
@@ -123,10 +122,6 @@ side (p ∷ q ∷ cube) (suc (suc position)) (a ∷ before) (b ∷ after) is h =
       | low rest ↦ low (h.0, h.1, rest)
       | high rest ↦ high (h.0, h.1, rest)
     ]
-
-both_lists : {A : Type 0} (P : A → Type 0) (xs ys : List A) → AllByRecursion P (xs ++ ys) → AllByRecursion P xs × AllByRecursion P ys
-both_lists P [] ys h = (tt, h)
-both_lists P (x ∷ xs) ys h = let rest = both_lists P xs ys h.1 in ((h.0, rest.0), rest.1)
 
 -- a cube has two positions for each bit of its pairs' vectors
 pub cube_fits : (cube : List Trit) (before after : List Bool) → AllowsBits cube before after
@@ -209,7 +204,7 @@ module _ (circuit : Numbered) (numbering : IsNumbering circuit) (fit : AreMoment
       → AllByRecursion (IsGood (setting circuit) admit most) (lines_of cube tree) → delay ≤ most
   unfolding lines_of
   below (Split position zero_side one_side) cube count is_in good =
-      let sides = both_lists (IsGood (setting circuit) admit most) (lines_of (set cube position Zero) zero_side)
+      let sides = all_parts (IsGood (setting circuit) admit most) (lines_of (set cube position Zero) zero_side)
       (lines_of (set cube position One) one_side) good.1 in
       elim (side cube position pair.first pair.second good.0.splits is_in) [
         | low here ↦ below zero_side (set cube position Zero) (length-set cube position Zero ∙ count) here sides.0
@@ -224,7 +219,7 @@ module _ (circuit : Numbered) (numbering : IsNumbering circuit) (fit : AreMoment
 
 -- ---- all pairs
 
-abbrev at_moments : Netlist → List ℕ → Setting
+abbrev pub at_moments : Netlist → List ℕ → Setting
 at_moments netlist moments = record { netlist = netlist; moments = moments }
 
 by_number : (circuit : Numbered) → IsNumbering circuit → AreMoments circuit.netlist circuit.moments → IsAcyclic circuit.netlist → (c : Certificate)

@@ -22,6 +22,7 @@ use Rattle.td_certificate.proofs.VersionCode.{version_text, version_code}
 use Rattle.td_certificate.proofs.QuestionCodes.{IsTold, IsQuestion, question_code, some_inputs_of}
 use Rattle.td_certificate.proofs.NodeCodes.{greatest_limit, IsPlain, MayStand, to_node, from_node, leaves_of}
 use Rattle.td_certificate.proofs.TreeCodes.{IsNamed, among, AreNodes, CanName, nodes_text, nodes_code}
+use Rattle.td_certificate.proofs.PlainReading.{behind_second}
 
 -- a tree has a leaf
 one_tree : (v : Version) → CanName (leaves_in v) 1
@@ -54,10 +55,7 @@ record IsFromSecond (v : Version) (i g : ℕ) (q : Question) (t : ℕ) (f : List
   nodes : AreNodes (leaves_in v) 1 c.tree
   is : c ≡ with_fields g q t f c.pair.second c.tree
 
-abbrev read_second : Version → ℕ → ℕ → Question → ℕ → List Bool → List ℕ → Reading Certificate
-read_second v i g q t f bytes = row_behind (codes "to ") bit_of i bytes >>= λ second. nodes_at (leaves_in v) 1 second.1 >>= λ tree. Ok (with_fields g q t f second.0 tree.0, tree.1)
-
-from_second : (v : Version) (i g : ℕ) (q : Question) (t : ℕ) (f : List Bool) → IsCode (IsFromSecond v i g q t f) text_from_second (read_second v i g q t f)
+from_second : (v : Version) (i g : ℕ) (q : Question) (t : ℕ) (f : List Bool) → IsCode (IsFromSecond v i g q t f) text_from_second (behind_second v i g q t f)
 from_second v i g q t f =
     IsCode-then (λ (c : Certificate). c.pair.second) (HasLength i) (λ bs. codes "to " ++ vector_text bs) (row_behind (codes "to ") bit_of i) (λ s c. IsFromTree v g q t f s c) (λ s c. nodes_text c.tree)
     (λ s bytes. nodes_at (leaves_in v) 1 bytes >>= λ tree. Ok (with_fields g q t f s tree.0, tree.1)) (IsFromSecond v i g q t f) text_from_second (vector_behind_code (codes "to ") i)
@@ -79,12 +77,12 @@ record IsFromFirst (v : Version) (i g : ℕ) (q : Question) (t : ℕ) (c : Certi
   is : c ≡ with_fields g q t c.pair.first c.pair.second c.tree
 
 abbrev read_first : Version → ℕ → ℕ → Question → ℕ → List ℕ → Reading Certificate
-read_first v i g q t bytes = row_behind (codes "from ") bit_of i bytes >>= λ first. read_second v i g q t first.0 first.1
+read_first v i g q t bytes = row_behind (codes "from ") bit_of i bytes >>= λ first. behind_second v i g q t first.0 first.1
 
 from_first : (v : Version) (i g : ℕ) (q : Question) (t : ℕ) → IsCode (IsFromFirst v i g q t) text_from_first (read_first v i g q t)
 from_first v i g q t =
     IsCode-then (λ (c : Certificate). c.pair.first) (HasLength i) (λ bs. codes "from " ++ vector_text bs) (row_behind (codes "from ") bit_of i) (λ f c. IsFromSecond v i g q t f c) (λ f c. text_from_second c)
-    (λ f bytes. read_second v i g q t f bytes) (IsFromFirst v i g q t) text_from_first (vector_behind_code (codes "from ") i)
+    (λ f bytes. behind_second v i g q t f bytes) (IsFromFirst v i g q t) text_from_first (vector_behind_code (codes "from ") i)
     (λ f u. from_second v i g q t f)
     (record {
       down = λ c u. (u.first, record { second = u.second; nodes = u.nodes; is = u.is }, refl);

@@ -2,20 +2,17 @@
 use Rattle.std.proofs.Common.{◌≡◌, ℕ, ◌*◌, ◌≤◌, Bool, true, false, if◌then◌else◌, List, [], ◌∷◌, length, refl, arith}
 use Rattle.std.specs.Prelude.{◌&&◌, ◌==◌, not}
 use Rattle.std.specs.List.{list_all}
-use Rattle.std.proofs.lemmas.Bool.{eqb-true}
+use Rattle.std.proofs.lemmas.Bool.{eqb-true, and_parts}
 use Rattle.td_domain.specs.declared.cubes.Trit.{Trit}
 use Rattle.td_domain.specs.declared.cubes.Trit.TheVariants.{Zero, One, Free}
 use Rattle.td_domain.specs.Cubes.{Allows, AllowsBits}
-use Rattle.td_domain.specs.Admits.{Admitted, flip_of, flips_of, AreHeld, HasAdmitted}
+use Rattle.td_domain.specs.Admits.{Admitted, flips_of, AreHeld, HasAdmitted}
+use Rattle.td_domain.proofs.Flips.{one_flip}
 use Rattle.td_certificate.specs.declared.question.Version.TheVariants.{First, Second, Third, Fourth}
 use Rattle.td_certificate.specs.declared.certificate.Certificate.{Certificate}
 use Rattle.td_certificate.specs.Trees.{has_edges}
 use Rattle.td_certificate.specs.Spelling.{version_in}
 use Rattle.td_certificate.specs.Questions.{Question, inputs_of, is_free, holds_none, admits_all, is_at_once, version_of}
-
-both_true : (a b : Bool) → (a && b) ≡ true → (a ≡ true) × (b ≡ true)
-both_true true b e = (refl, e)
-both_true false b e = absurd cc
 
 some_allowed : (p : Trit) → (bit : Bool) × Allows p bit
 some_allowed Zero = (false, tt)
@@ -26,12 +23,6 @@ free_allows : (p : Trit) (bit : Bool) → is_free p ≡ true → Allows p bit
 free_allows Free bit e = tt
 free_allows Zero bit e = absurd (let f : false ≡ true = e in cc)
 free_allows One bit e = absurd (let f : false ≡ true = e in cc)
-
-pub one_flip : (a b : Bool) → flip_of a b ≤ 1
-one_flip false false = omega arith
-one_flip false true = omega arith
-one_flip true false = omega arith
-one_flip true true = omega arith
 
 record IsSome (pins : List Trit) (held : List Bool) (cube : List Trit) : Type 0 where
   before : List Bool
@@ -51,9 +42,9 @@ some_pair (u ∷ []) (h ∷ held) cube e f free loose = absurd (omega arith)
 some_pair (u ∷ v ∷ pins) (h ∷ held) [] e f free loose = absurd (omega arith)
 some_pair (u ∷ v ∷ pins) (h ∷ held) (p ∷ []) e f free loose = absurd (omega arith)
 some_pair (u ∷ v ∷ pins) (h ∷ held) (p ∷ q ∷ cube) e f free loose =
-    let first = both_true (is_free u) (is_free v && list_all is_free pins) free in
-    let second = both_true (is_free v) (list_all is_free pins) first.1 in
-    let others = both_true (not h) (list_all not held) loose in
+    let first = and_parts (is_free u) (is_free v && list_all is_free pins) free in
+    let second = and_parts (is_free v) (list_all is_free pins) first.1 in
+    let others = and_parts (not h) (list_all not held) loose in
     let rest = some_pair pins held cube (omega arith) (omega arith) second.1 others.1 in
     let a = some_allowed p in
     let b = some_allowed q in
@@ -93,8 +84,8 @@ pub has_admitted : (question : Question) (cube : List Trit) → version_of quest
 has_admitted question cube first pins size =
     let admit : Admitted = question.admit in
     let all = first_version question.moments admit first in
-    let free = both_true (list_all is_free admit.pins) (holds_none admit.held && (admit.flips == length admit.held)) all in
-    let loose = both_true (holds_none admit.held) (admit.flips == length admit.held) free.1 in
+    let free = and_parts (list_all is_free admit.pins) (holds_none admit.held && (admit.flips == length admit.held)) all in
+    let loose = and_parts (holds_none admit.held) (admit.flips == length admit.held) free.1 in
     let full : admit.flips ≡ length admit.held = eqb-true admit.flips (length admit.held) loose.1 in
     let some = some_pair admit.pins admit.held cube pins size free.0 loose.0 in
     let few = some.few in

@@ -2,7 +2,7 @@
 use Rattle.std.proofs.Common.{◌≡◌, ◌≢◌, ℕ, ◌+◌, ◌-◌, ◌*◌, ◌^◌, ◌<◌, ◌≤◌, Bool, true, false, cond, eqb, leb, List, [], ◌∷◌, ◌++◌, Ok, Err, Some, inl, inr, refl, sym, ap, ◌∙◌, append_assoc, arith}
 use Rattle.std.specs.Prelude.{codes, decimal, ◌&&◌, not}
 use Rattle.std.specs.Char.{is_ascii_digit}
-use Rattle.std.proofs.lemmas.Bool.{eq-eqb, leb-true}
+use Rattle.std.proofs.lemmas.Bool.{eq-eqb, leb-true, and_parts}
 use Rattle.td_certificate.specs.declared.certificate.Certificate.{Certificate}
 use Rattle.td_certificate.specs.declared.fault.CertFaultKind.TheVariants as kind
 use Rattle.td_certificate.specs.declared.fields.Reason.{Reason}
@@ -16,7 +16,7 @@ use Rattle.td_certificate.specs.Reading.{Ends, Wrong, Reading, literal, begins_n
 use Rattle.td_certificate.specs.Faults.{NoDigit, IsOther, VersionsAreNamed, kind_at, kind_in}
 use Rattle.td_certificate.proofs.Loops.{done}
 use Rattle.td_certificate.proofs.Codes.{bind_err}
-use Rattle.td_certificate.proofs.FieldCodes.{ends, wrong, both, digit_range, decimal_more, digit_text, literal_code}
+use Rattle.td_certificate.proofs.FieldCodes.{ends, wrong, digit_range, decimal_more, digit_text, literal_code}
 use Rattle.td_certificate.proofs.Numbers.{front_grows}
 use Rattle.td_certificate.proofs.VectorCodes.{cases}
 use Rattle.td_certificate.proofs.Versions.{front_digit}
@@ -90,7 +90,7 @@ split_begun : (bytes : List ℕ) → begins_number bytes ≡ true → front_numb
 split_begun [] e le = absurd cc
 split_begun (d ∷ []) e le = split_one d [] e tt
 split_begun (d ∷ b ∷ rest) e le =
-    let p = both (is_ascii_digit d) (not (eqb d 48 && is_ascii_digit b)) e in
+    let p = and_parts (is_ascii_digit d) (not (eqb d 48 && is_ascii_digit b)) e in
     let r = digit_range d p.0 in
     cases (eqb d 48)
     (λ h. split_one d (b ∷ rest) p.0 (not_both (eqb d 48) (is_ascii_digit b) p.1 h))

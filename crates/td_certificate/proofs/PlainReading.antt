@@ -210,7 +210,7 @@ nodes_plain here pending bytes = within_plain here _ pending bytes
 
 -- ---- the lines behind the first
 
-abbrev behind_second : Version → ℕ → ℕ → Question → ℕ → List Bool → List ℕ → Reading Certificate
+abbrev pub behind_second : Version → ℕ → ℕ → Question → ℕ → List Bool → List ℕ → Reading Certificate
 behind_second v i g q t f bytes = row_behind (codes "to ") bit_of i bytes >>= λ second. nodes_at (leaves_in v) 1 second.1 >>= λ tree. Ok (with_fields g q t f second.0 tree.0, tree.1)
 
 second_plain : (v : Version) (i g : ℕ) (q : Question) (t : ℕ) (f : List Bool) (bytes : List ℕ) → Plain (behind_second v i g q t f bytes)

@@ -1,5 +1,5 @@
 -- Worked rows: an inverter that rises in 2 steps and falls in 3, and its certificate of one leaf.
-use Rattle.std.proofs.Common.{◌≡◌, ◌≢◌, ◌≤◌, ◌+◌, ◌*◌, ◌-◌, ℕ, zero, suc, Bool, true, false, List, [], ◌∷◌, map, Option, Some, None, refl, sym, ap, ◌∙◌, arith}
+use Rattle.std.proofs.Common.{◌≡◌, ◌≢◌, ◌≤◌, ◌+◌, ◌*◌, ◌-◌, ℕ, zero, suc, Bool, true, false, List, [], ◌∷◌, map, Some, None, refl, sym, ap, ◌∙◌, arith}
 use Rattle.std.specs.Prelude.{codes, nat_lt, slice_get, if◌then◌else◌}
 use Rattle.std.specs.List.{AllByRecursion}
 use Rattle.std.proofs.lemmas.Bool.{le-leb, le-ltb}
@@ -32,6 +32,7 @@ use Rattle.td_certificate.specs.declared.question.Version.TheVariants.{First, Se
 use Rattle.td_certificate.specs.Questions.{Question, version_of, all_at_once}
 use Rattle.td_certificate.specs.Spelling.{version_in}
 use Rattle.td_certificate.specs.Accepts.{IsBounded, IsGood, Accepts}
+use Rattle.td_certificate.proofs.VectorCodes.{some_of, none_not}
 
 abbrev delay : Delay
 delay = record { rise = 2; fall = 3 }
@@ -164,14 +165,8 @@ signals (Named name) =
     if name_eq name a then input_signal Free Free 0
     else record { start = level.X; finish = level.X; changes = Some (record { earliest = 2; latest = 3 }) }
 
-abbrev some_of : {A : Type 0} → A → Option A
-some_of x = Some x
-
 some_is : {A : Type 0} (x z : A) → some_of x ≡ some_of z → x ≡ z
 some_is x z e = cc
-
-none_not : {A X : Type 0} (x : A) → None ≡ some_of x → X
-none_not x e = absurd cc
 
 input_signals : (i : ℕ) (name : Name) (first second : Trit) (moment : ℕ) → slice_get (a ∷ []) i ≡ Some name
     → slice_get (Free ∷ Free ∷ []) (2 * i) ≡ Some first → slice_get (Free ∷ Free ∷ []) (2 * i + 1) ≡ Some second → slice_get (0 ∷ []) i ≡ Some moment

@@ -1,6 +1,6 @@
 //! Fields of a certificate's text, each read from the front of the bytes.
 
-ghost use Rattle.std.specs.Prelude.{◌≡◌, ◌≢◌, ◌≤◌, ◌<◌, ◌+◌, ◌^◌, ◌==◌, ◌||◌, length, codes, IfOk};
+ghost use Rattle.std.specs.Prelude.{◌≡◌, ◌≤◌, ◌<◌, ◌+◌, ◌^◌, ◌==◌, codes, IfOk};
 ghost use Rattle.td_certificate.specs.declared.fields.Stop.TheVariants.{OutOfMemory};
 ghost use Rattle.td_certificate.specs.Reading.{Gives, byte_at, literal, digits_at, number_at, number_from, begins_with_zero, domain_of, letter_at, number_behind, behind_tag, BoundTag, PointTag, EmptyTag, node_at, leaves_in, leaves_before, leaves_behind};
 

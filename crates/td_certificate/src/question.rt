@@ -1,6 +1,6 @@
 //! What a certificate is about.
 
-ghost use Rattle.std.specs.Prelude.{◌≡◌, length};
+ghost use Rattle.std.specs.Prelude.{◌≡◌};
 ghost use Rattle.std.specs.List.{list_all};
 ghost use Rattle.td_certificate.specs.Questions.{inputs_of, is_free, holds_none, admits_all, is_at_once, version_of, version_number};
 

@@ -14,11 +14,11 @@ use Rattle.td_certificate.specs.Trees.{IsTree, sides, pending_after}
 use Rattle.td_certificate.specs.Accepts.{lines_in, IsGood}
 use Rattle.td_certificate.specs.Cubes.{cubes_past}
 use Rattle.td_certificate.specs.Walks.{position_of, Line, lines_from}
+use Rattle.td_certificate.proofs.VectorCodes.{none_not, some_is}
 use Rattle.td_checker.specs.Paths.{cubes_ahead, StandsAt, AreInside}
 use Rattle.td_checker.specs.declared.judging.Flaw as code_flaw
 use Rattle.td_checker.specs.Verdicts.{Flaw, HasFlaw}
 use Rattle.td_checker.specs.Judging.{flaw_of, with_cube, IsJudged, IsBadAt}
-use Rattle.td_checker.proofs.OneVerdict.{some_is, none_not}
 
 -- ---- lists
 

@@ -1,5 +1,5 @@
 -- A certificate has at most one verdict.
-use Rattle.std.proofs.Common.{◌≡◌, ◌<◌, ℕ, zero, suc, List, [], ◌∷◌, take, Option, Some, None, inl, inr, refl, sym, ap, subst, ◌∙◌, arith}
+use Rattle.std.proofs.Common.{◌≡◌, ◌<◌, ℕ, zero, suc, List, [], ◌∷◌, take, Some, inl, inr, refl, sym, ap, subst, ◌∙◌, arith}
 use Rattle.std.specs.Prelude.{slice_get}
 use Rattle.std.specs.List.{AllByRecursion}
 use Rattle.std.proofs.lemmas.Bool.{cases_lt}
@@ -12,6 +12,7 @@ use Rattle.td_certificate.specs.declared.certificate.Certificate.{Certificate}
 use Rattle.td_certificate.specs.Walks.{Line}
 use Rattle.td_certificate.specs.Accepts.{lines_in, IsGood, IsOfSize, setting_of, IsReached, Accepts}
 use Rattle.td_certificate.proofs.Texts.{spells_once}
+use Rattle.td_certificate.proofs.VectorCodes.{none_not, some_is}
 use Rattle.td_checker.specs.declared.verdict.Verdict.{Verdict}
 use Rattle.td_checker.specs.declared.verdict.Verdict.TheVariants as verdict
 use Rattle.td_checker.specs.Verdicts.{Flaw, Misplaced, NotOnePair, WrongNumber, NotEmpty, AboveTime, HasFlaw, IsGoodIn, HasAdmittedPair, IsFirstBad, IsVerdict, OneVerdict}
@@ -52,15 +53,6 @@ flawless given admit most line NotOnePair good h = absurd (h.1 good.one_pair)
 flawless given admit most line WrongNumber good h = absurd (h.2 good.of_cube)
 flawless given admit most line NotEmpty good h = absurd (h.2 good.of_cube)
 flawless given admit most line AboveTime good h = absurd (h.3 good.within)
-
-abbrev pub some_of : {A : Type 0} → A → Option A
-some_of x = Some x
-
-pub some_is : {A : Type 0} (x y : A) → some_of x ≡ some_of y → x ≡ y
-some_is x y e = cc
-
-pub none_not : {A X : Type 0} (x : A) → None ≡ some_of x → X
-none_not x e = absurd cc
 
 -- what holds of each of the lines before a place holds of each of them
 pub at_place : {A : Type 0} (P : A → Type 0) (xs : List A) (i : ℕ) (x : A) → AllByRecursion P xs → slice_get xs i ≡ Some x → P x

@@ -1,11 +1,12 @@
 -- The cube in which a pair lies alone.
-use Rattle.std.proofs.Common.{◌≡◌, ◌*◌, ◌+◌, ℕ, zero, suc, Bool, true, false, List, [], ◌∷◌, ◌++◌, length, drop, refl, ap, subst, ◌∙◌, arith}
+use Rattle.std.proofs.Common.{◌≡◌, ◌*◌, ℕ, zero, suc, Bool, true, false, List, [], ◌∷◌, length, drop, refl, ap, subst, ◌∙◌, arith}
 use Rattle.std.specs.Prelude.{slice_get, Some}
+use Rattle.td_certificate.proofs.VectorCodes.{none_not, some_is}
 use Rattle.td_domain.specs.Pairs.{Pair}
 use Rattle.td_domain.specs.Cubes.{Allows, AllowsBits}
 use Rattle.td_domain.specs.Admits.{Admitted, IsAdmitted, HasAdmitted}
-use Rattle.td_checker.specs.PairCubes.{trit_of, cube_of}
-use Rattle.td_checker.proofs.OneVerdict.{some_is, none_not}
+use Rattle.td_domain.specs.Sheets.{known}
+use Rattle.td_checker.specs.PairCubes.{cube_of}
 
 pub long_cube : (before after : List Bool) → length before ≡ length after → length (cube_of before after) ≡ 2 * length before
 long_cube [] [] e = refl
@@ -13,11 +14,11 @@ long_cube [] (b ∷ after) e = absurd (omega arith)
 long_cube (a ∷ before) [] e = absurd (omega arith)
 long_cube (a ∷ before) (b ∷ after) e = let rest = long_cube before after (omega arith) in omega arith
 
-allows_own : (bit : Bool) → Allows (trit_of bit) bit
+allows_own : (bit : Bool) → Allows (known bit) bit
 allows_own true = tt
 allows_own false = tt
 
-own_only : (bit other : Bool) → Allows (trit_of bit) other → other ≡ bit
+own_only : (bit other : Bool) → Allows (known bit) other → other ≡ bit
 own_only true true h = refl
 own_only true false h = absurd h
 own_only false true h = absurd h

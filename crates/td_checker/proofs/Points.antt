@@ -11,7 +11,8 @@ use Rattle.td_domain.specs.Pairs.{Pair}
 use Rattle.td_domain.specs.Cubes.{Allows, AllowsBits, IsIn, IsPoint}
 use Rattle.td_certificate.specs.Accepts.{HasDelay}
 use Rattle.td_certificate.proofs.Acceptance.{one_pair}
-use Rattle.td_checker.proofs.OneVerdict.{some_is, none_not, at_place}
+use Rattle.td_certificate.proofs.VectorCodes.{none_not, some_is}
+use Rattle.td_checker.proofs.OneVerdict.{at_place}
 
 abbrev twice : ℕ → ℕ
 twice zero = zero

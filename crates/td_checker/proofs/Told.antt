@@ -2,7 +2,6 @@
 use Rattle.std.proofs.Common.{◌≡◌, ◌+◌, ◌*◌, ℕ, List, [], ◌∷◌, ◌++◌, length, map, refl, sym, ap, subst, ◌∙◌}
 use Rattle.std.specs.List.{AllByRecursion}
 use Rattle.td_nets.specs.Netlist.{Netlist}
-use Rattle.td_circuit.specs.Settings.{Setting}
 use Rattle.td_circuit.specs.Run.{IsDelayOfBits}
 use Rattle.td_certificate.specs.declared.certificate.Certificate.{Certificate}
 use Rattle.td_certificate.specs.declared.question.Version.{Version}
@@ -11,14 +10,11 @@ use Rattle.td_certificate.specs.Questions.{Question}
 use Rattle.td_certificate.specs.Trees.{IsTree}
 use Rattle.td_certificate.specs.Spelling.{head_lines, fields_of, field_line, HasSpelling}
 use Rattle.td_certificate.specs.Accepts.{lines_in, IsGood, IsOfSize, setting_of, IsReached, Accepts}
+use Rattle.td_certificate.proofs.Acceptance.{at_moments}
 use Rattle.td_checker.specs.declared.judging.Flaw as code_flaw
 use Rattle.td_checker.specs.declared.judging.Flaw.TheVariants as code
 use Rattle.td_checker.specs.Verdicts.{Flaw, Misplaced, NotOnePair, WrongNumber, NotEmpty, AboveTime, HasAdmittedPair, IsFirstBad, IsVerdict}
 use Rattle.td_checker.specs.Judging.{flaw_of, IsBadAt, told_as}
-
--- the netlist at moments
-abbrev pub at_moments : Netlist → List ℕ → Setting
-at_moments netlist moments = record { netlist = netlist; moments = moments }
 
 pub setting_is : (netlist : Netlist) (moments : List ℕ) (c : Certificate) → moments ≡ c.question.moments → at_moments netlist moments ≡ setting_of netlist c
 setting_is netlist moments c e = ap (at_moments netlist) e

@@ -3,10 +3,10 @@ use Rattle.std.proofs.Common.{◌≡◌, ◌≢◌, ◌<◌, ℕ, zero, suc, Lis
 use Rattle.std.specs.Prelude.{slice_get}
 use Rattle.std.proofs.lemmas.List.{length-set, set-set, reverse-append}
 use Rattle.std.proofs.lemmas.Option.{slice_get_within}
+use Rattle.td_certificate.proofs.VectorCodes.{none_not, some_is}
 use Rattle.td_domain.specs.declared.cubes.Trit.{Trit}
 use Rattle.td_domain.specs.declared.cubes.Trit.TheVariants.{Zero, One, Free}
 use Rattle.td_checker.specs.Paths.{other_side, cubes_ahead, StandsAt, AreInside}
-use Rattle.td_checker.proofs.OneVerdict.{some_is, none_not}
 
 got : (cube : List Trit) (i : ℕ) (t u : Trit) → slice_get cube i ≡ Some t → slice_get (set cube i u) i ≡ Some u
 got [] i t u is = none_not t is

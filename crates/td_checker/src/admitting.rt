@@ -2,14 +2,15 @@
 
 ghost use Rattle.std.specs.Prelude.{◌≡◌, ◌↔◌, length, IfOk, IsTrue};
 ghost use Rattle.td_domain.specs.Admits.{IsAdmitted};
-ghost use Rattle.td_checker.specs.PairCubes.{trit_of, cube_of};
+ghost use Rattle.td_domain.specs.Sheets.{known};
+ghost use Rattle.td_checker.specs.PairCubes.{cube_of};
 
 use std::alloc::{AllocError, Global};
 use td_domain::{Admit, Cube, Pair, Trit};
 
 /// The trit that allows this bit alone.
 fn trit_of(bit: bool) -> Trit
-    ensures { result ≡ trit_of bit }
+    ensures { result ≡ known bit }
 {
     if bit { Trit::One } else { Trit::Zero }
 }

@@ -1,14 +1,11 @@
 -- Gates without a loop stand in an order in which each reads no output of itself or a later one.
-use Rattle.std.proofs.Common.{◌≡◌, ◌≢◌, ℕ, zero, suc, ◌<◌, ◌≤◌, Bool, true, false, List, [], ◌∷◌, ◌++◌, length, get_or, refl, arith, sym, ap, ◌∙◌, subst, ◌⊎◌, inl, inr}
+use Rattle.std.proofs.Common.{◌≡◌, ◌≢◌, ℕ, zero, suc, ◌<◌, ◌≤◌, true, false, List, [], ◌∷◌, ◌++◌, length, get_or, refl, arith, sym, ap, ◌∙◌, subst, ◌⊎◌, inl, inr}
 use Rattle.std.specs.List.{Contains}
+use Rattle.std.proofs.lemmas.Bool.{cases_Bool}
 use Rattle.td_nets.specs.Netlist.{Name, Net, Low, High, Named, Gate}
 use Rattle.td_nets.specs.Names.{name_eq}
 use Rattle.td_nets.proofs.SameNames.{name_eq-true, name_eq-same}
 use Rattle.td_circuit.specs.Loops.{Reads, LeadsTo}
-
-cases_bool : (b : Bool) → (b ≡ true) ⊎ (b ≡ false)
-cases_bool true = inl refl
-cases_bool false = inr refl
 
 -- ---- membership
 
@@ -68,13 +65,13 @@ module _ {X : Type 0} where
 
 -- ---- reading
 
-named_same : (a b : Name) → Named a ≡ Named b → a ≡ b
+pub named_same : (a b : Name) → Named a ≡ Named b → a ≡ b
 named_same a b h = Prim.cc
 
 decide_net : (net : Net) (name : Name) → (net ≡ Named name) ⊎ (net ≡ Named name → ⊥)
 decide_net Low name = inr (λ e. cc)
 decide_net High name = inr (λ e. cc)
-decide_net (Named other) name = elim (cases_bool (name_eq other name)) [
+decide_net (Named other) name = elim (cases_Bool (name_eq other name)) [
   | inl same ↦ inl (ap (λ n. Named n) (name_eq-true other name same))
   | inr apart ↦ inr (λ e. let wrong : true ≡ false = sym (name_eq-same other) ∙ ap (name_eq other) (named_same other name e) ∙ apart in cc)
 ]

@@ -5,8 +5,9 @@ use Rattle.td_gates.proofs.Places.{some-same, slice_get-some, slice_get-within}
 use Rattle.td_nets.specs.Netlist.{Name, Named}
 use Rattle.td_circuit.specs.Numbering.{Numbered, nets, IsNumbering}
 use Rattle.td_circuit.proofs.Looping.{input_number}
+use Rattle.td_circuit.proofs.Sorting.{named_same}
 use Rattle.td_cli.specs.InfoReports.{place_line, place_lines}
-use Rattle.td_cli.proofs.Outputs.{named_same, output_at}
+use Rattle.td_cli.proofs.Outputs.{output_at}
 
 -- an input of a circuit: its name, and its number
 pub record InputAt (circuit : Numbered) (i : ℕ) : Type 0 where

@@ -10,6 +10,7 @@ use Rattle.td_gates.specs.Wave.{Wave, last}
 use Rattle.td_circuit.specs.Numbering.{Numbered, nets, IsNumbering}
 use Rattle.td_circuit.specs.NetValues.{net_wave}
 use Rattle.td_circuit.proofs.Values.{value_at}
+use Rattle.td_circuit.proofs.Sorting.{named_same}
 use Rattle.td_cli.specs.Reports.{last_line}
 
 -- an output of a circuit: its name, and its number, which is no constant's
@@ -48,9 +49,6 @@ flat_map-more f (first ∷ names) (suc i) name at =
     let rest : flat_map f (take (i + 1) names) ≡ flat_map f (take i names) ++ f name = flat_map-more f names i name at in
     let next : suc i + 1 ≡ suc (i + 1) = omega arith in
     rw (next, rest) (sym (append_assoc (f first) (flat_map f (take i names)) (f name)))
-
-pub named_same : (a b : Name) → Named a ≡ Named b → a ≡ b
-named_same a b h = Prim.cc
 
 -- the line of an output
 abbrev pub line_of : Numbered → List Wave → Name → List ℕ

@@ -17,6 +17,7 @@ use Rattle.td_cli.specs.Simulations.{IsSimulation}
 use Rattle.td_nets.specs.Printed.{printed}
 use Rattle.td_circuit.specs.Numbering.{Numbered, setting, nets, IsNumbering}
 use Rattle.td_circuit.specs.NetValues.{net_wave}
+use Rattle.td_circuit.proofs.Sorting.{named_same}
 use Rattle.td_run.specs.Runs.{NetWaves}
 use Rattle.td_path.specs.declared.links.Link as code
 use Rattle.td_path.specs.Links.{Link, IsChain, LeadTo}
@@ -25,7 +26,7 @@ use Rattle.td_cli.specs.Paths.{AreNamed, numbered_line, named_line, change_lines
 use Rattle.td_cli.specs.PathReports.{change_line, cause_text, net_text, IsPathReport, NamesNoOutput, TellsChain, TellsPath}
 use Rattle.td_cli.specs.Reports.{newline, last_line, unit_line, defaulted_line, head_lines}
 use Rattle.td_cli.specs.Vectors.{level_character}
-use Rattle.td_cli.proofs.Outputs.{output_at, no_low, named_same}
+use Rattle.td_cli.proofs.Outputs.{output_at, no_low}
 
 -- none of the outputs before this place is named so
 abbrev pub NoneSoFar : Numbered → List ℕ → ℕ → Type 0

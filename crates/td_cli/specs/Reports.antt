@@ -5,10 +5,9 @@ use Rattle.td_gates.specs.declared.primitives.Level.{Level}
 use Rattle.td_gates.specs.declared.timing.Delay.{Delay}
 use Rattle.td_gates.specs.Wave.{Wave, last}
 use Rattle.td_nets.specs.declared.netlist.Unit.{Unit as Step}
-use Rattle.td_nets.specs.declared.netlist.Scale.{Scale}
-use Rattle.td_nets.specs.declared.netlist.Scale.TheVariants as scale
 use Rattle.td_nets.specs.Netlist.{Name, Net, Named, Netlist}
 use Rattle.td_nets.specs.Printed.{printed}
+use Rattle.td_nets.specs.Scales.{scale_text}
 use Rattle.td_netlist.specs.Means.{Means}
 use Rattle.td_circuit.specs.Loops.{Loop}
 use Rattle.td_circuit.specs.Settings.{Setting}
@@ -19,14 +18,6 @@ use Rattle.td_cli.specs.Vectors.{level_character, SpellsVector, AreMomentsOf}
 
 abbrev pub newline : List ℕ
 newline = 10 ∷ []
-
-abbrev pub scale_text : Scale → List ℕ
-scale_text scale.Seconds = codes "s"
-scale_text scale.Milliseconds = codes "ms"
-scale_text scale.Microseconds = codes "us"
-scale_text scale.Nanoseconds = codes "ns"
-scale_text scale.Picoseconds = codes "ps"
-scale_text scale.Femtoseconds = codes "fs"
 
 -- the unit of a step: its magnitude and its scale
 abbrev pub unit_line : Step → List ℕ

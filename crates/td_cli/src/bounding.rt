@@ -1,8 +1,7 @@
 //! The command `bound`: the bounds of a cube of pairs.
 
-ghost use Rattle.std.specs.Prelude.{◌≡◌, ℕ, ◌*◌, ◌++◌, length, Option, Some, IfOk, IfErr, OnOk};
+ghost use Rattle.std.specs.Prelude.{◌≡◌, ◌*◌, ◌++◌, length, Option, Some, IfOk, IfErr, OnOk};
 ghost use Rattle.td_circuit.specs.Numbering.{setting};
-ghost use Rattle.td_domain.specs.Bounds.{IsUpperBoundIn};
 ghost use Rattle.td_certificate.specs.declared.tree.BoundedBy.TheVariants as by;
 ghost use Rattle.td_cli.specs.Vectors.{words_of};
 ghost use Rattle.td_cli.specs.BoundReports.{bounds_text, edges_text, IsSoundBound, HasEdges, IsBoundReport};

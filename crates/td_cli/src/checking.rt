@@ -1,8 +1,7 @@
 //! The command `check`: the verdict on a certificate.
 
-ghost use Rattle.std.specs.Prelude.{◌≡◌, ◌++◌, ℕ, List, IfOk, IfErr, OnOk};
+ghost use Rattle.std.specs.Prelude.{◌≡◌, ◌++◌, IfOk, IfErr, OnOk};
 ghost use Rattle.td_certificate.specs.Spelling.{version_in, question_text};
-ghost use Rattle.td_checker.specs.Checks.{HaveVerdict, TellsWorst};
 ghost use Rattle.td_checker.specs.declared.verdict.Verdict.TheVariants as Told;
 ghost use Rattle.td_cli.specs.CheckReports.{accepted_text, refusing_text, refused_text, place_text, verdict_text, ending_of, IsCheckReport};
 ghost use Rattle.td_cli.specs.Outcomes.{HasNoVerdict, refusal_of};

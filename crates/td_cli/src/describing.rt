@@ -1,6 +1,6 @@
 //! The command `info`: what is in a netlist.
 
-ghost use Rattle.std.specs.Prelude.{◌≡◌, ◌++◌, codes, decimal, IfOk, IfErr, OnOk};
+ghost use Rattle.std.specs.Prelude.{◌≡◌, ◌++◌, codes, IfOk, IfErr, OnOk};
 ghost use Rattle.td_nets.specs.Views.{name_of};
 ghost use Rattle.td_cli.specs.InfoReports.{module_line, count_line, range_text, delay_line, place_line, place_lines, size_lines, TellsNetlist, IsInfoReport};
 ghost use Rattle.td_cli.specs.Outcomes.{HasNoCircuit};

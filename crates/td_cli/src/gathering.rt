@@ -6,7 +6,7 @@ ghost use Rattle.td_gates.specs.declared.timing.Delay.{Delay as Default};
 ghost use Rattle.td_certificate.specs.Accepts.{IsOfSize};
 ghost use Rattle.td_certificate.specs.Spelling.{Spells};
 ghost use Rattle.td_checker.specs.declared.verdict.Verdict.TheVariants as Told;
-ghost use Rattle.td_checker.specs.Checks.{HaveVerdict, HasCircuit};
+ghost use Rattle.td_checker.specs.Checks.{HaveVerdict};
 ghost use Rattle.td_cli.specs.Disks.{disk_of, HoldsOnFile};
 ghost use Rattle.td_cli.specs.JoinReports.{TellsPart, TellsNoPart, GivesPart, AreParts, HasNoPart};
 ghost use Rattle.td_cli.specs.Parts.{IsOfPart, unjudged};

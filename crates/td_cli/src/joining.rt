@@ -1,6 +1,6 @@
 //! The command `join`: certificates of the parts of a question, joined into one.
 
-ghost use Rattle.std.specs.Prelude.{◌≡◌, ◌≢◌, ◌<◌, ◌≤◌, ◌^◌, ◌++◌, [], length, map, All, IfOk, IfErr, IfSome, Some};
+ghost use Rattle.std.specs.Prelude.{◌≡◌, ◌≢◌, ◌<◌, ◌≤◌, length, map, All, IfOk, IfErr, Some};
 ghost use Rattle.td_gates.specs.Delays.{IsInRange};
 ghost use Rattle.td_nets.specs.Netlist.{Netlist};
 ghost use Rattle.td_certificate.specs.Accepts.{Accepts};
@@ -12,7 +12,7 @@ ghost use Rattle.td_cli.specs.Disks.{disk_of};
 ghost use Rattle.td_cli.specs.Ends.{Ends, streams};
 ghost use Rattle.td_cli.specs.Files.{Takes};
 ghost use Rattle.td_cli.specs.Vectors.{words_of, IsFirstBad};
-ghost use Rattle.td_cli.specs.JoinReports.{pin_words, ArePinned, whole_pins, IsUnjoinedFor, IsToJoin, IsJoinReport, HasNoJoin, most_nodes};
+ghost use Rattle.td_cli.specs.JoinReports.{pin_words, ArePinned, whole_pins, IsUnjoinedFor, IsJoinReport, HasNoJoin, most_nodes};
 ghost use Rattle.td_cli.specs.Parts.{IsOfUnjoined};
 ghost use Rattle.td_cli.specs.WorstReports.{worst_text};
 ghost use Rattle.td_search.specs.declared.answers.Answer.TheVariants as Answered;

@@ -1,6 +1,6 @@
 //! The command `parts`: a question that is cut into parts, each of them a search of its own.
 
-ghost use Rattle.std.specs.Prelude.{◌≡◌, ◌<◌, ◌⊎◌, ◌++◌, [], length, map, IfOk, IfErr, OnOk};
+ghost use Rattle.std.specs.Prelude.{◌≡◌, ◌<◌, ◌⊎◌, ◌++◌, [], length, IfOk, IfErr, OnOk};
 ghost use Rattle.std.specs.List.{flat_map};
 ghost use Rattle.td_gates.specs.Delays.{IsInRange};
 ghost use Rattle.td_command.specs.CommandLine.{delays};

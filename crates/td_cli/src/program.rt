@@ -3,7 +3,7 @@
 ghost use Rattle.std.specs.Prelude.{◌≡◌, ◌<◌, ◌≤◌, [], map, IfSome, IfNone, false};
 ghost use Rattle.td_gates.specs.Delays.{IsInRange};
 ghost use Rattle.td_command.specs.CommandLine.{delays, IsCarriedOut};
-ghost use Rattle.td_cli.specs.Ends.{Ends, EndsBehind, Tells, streams};
+ghost use Rattle.td_cli.specs.Ends.{Ends, EndsBehind, streams};
 ghost use Rattle.td_cli.specs.Files.{Takes};
 ghost use Rattle.td_cli.specs.Outcomes.{HasNoReport, HasNoPath, HasNoBounds, HasNoAnswer, HasNoVerdict};
 ghost use Rattle.td_cli.specs.Progress.{TellsSearch};

@@ -1,6 +1,6 @@
 //! Lines on standard error that tell how far a search has come.
 
-ghost use Rattle.std.specs.Prelude.{◌≡◌, ◌<◌, ◌≤◌, ◌++◌, true, IfOk, IfErr, IfSome};
+ghost use Rattle.std.specs.Prelude.{◌≡◌, ◌<◌, ◌≤◌, true, IfOk, IfErr, IfSome};
 ghost use Rattle.td_certificate.specs.Spelling.{HasSpelling};
 ghost use Rattle.td_cli.specs.Dumps.{dump_files, HasRun};
 ghost use Rattle.td_cli.specs.Vectors.{words_of};

@@ -1,7 +1,6 @@
 //! Why a command was not carried out, and how that is told.
 
 ghost use Rattle.std.specs.Prelude.{◌≡◌, ◌++◌, OnOk};
-ghost use Rattle.td_cli.specs.CheckReports.{refusing_text};
 ghost use Rattle.td_cli.specs.Refusals.{vector_word, number_and_name, fault_text, certificate_fault_text, unreadable_text, one_file_text, loop_text, certificate_text, bad_vector_text, too_long_text, bad_part_text, unaccepted_text, other_circuit_text, reason_text, refusal_text};
 ghost use Rattle.td_nets.specs.Views.{name_of};
 ghost use Rattle.td_cli.specs.Ends.{status_of};

@@ -2,25 +2,12 @@
 
 ghost use Rattle.std.specs.Prelude.{◌≡◌, ◌++◌, OnOk};
 ghost use Rattle.td_nets.specs.Views.{name_of};
-ghost use Rattle.td_cli.specs.Reports.{scale_text, unit_line, defaulted_line, moment_text, last_line, time_line};
+ghost use Rattle.td_cli.specs.Reports.{unit_line, defaulted_line, moment_text, last_line, time_line};
 ghost use Rattle.td_cli.specs.BoundReports.{bound_text, bound_line};
 
 use crate::text::Text;
 use std::alloc::AllocError;
-use td_nets::{Name, Scale, Unit};
-
-fn scale(text: &mut Text, scale: Scale) -> Result<(), AllocError>
-    ensures { OnOk result (text.new ≡ text.old ++ scale_text scale) }
-{
-    match scale {
-        Scale::Seconds => text.push(b"s"),
-        Scale::Milliseconds => text.push(b"ms"),
-        Scale::Microseconds => text.push(b"us"),
-        Scale::Nanoseconds => text.push(b"ns"),
-        Scale::Picoseconds => text.push(b"ps"),
-        Scale::Femtoseconds => text.push(b"fs"),
-    }
-}
+use td_nets::{Name, Unit};
 
 /// The line that tells how long a step takes.
 pub fn unit(text: &mut Text, unit: Unit) -> Result<(), AllocError>
@@ -29,7 +16,7 @@ pub fn unit(text: &mut Text, unit: Unit) -> Result<(), AllocError>
     text.push(b"unit ")?;
     text.number(u64::from(unit.magnitude))?;
     text.push(b" ")?;
-    scale(text, unit.scale)?;
+    text.push(unit.scale.word())?;
     text.push(b"\n")
 }
 

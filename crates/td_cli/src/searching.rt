@@ -6,7 +6,7 @@ ghost use Rattle.td_certificate.specs.Spelling.{HasSpelling};
 ghost use Rattle.td_certificate.specs.Text.{bits};
 ghost use Rattle.td_cli.specs.Dumps.{dump_files, HasRun};
 ghost use Rattle.td_cli.specs.Vectors.{words_of};
-ghost use Rattle.td_cli.specs.WorstReports.{exact_line, between_line, cause_name, cause_line, from_line, to_line, nodes_line, pair_lines};
+ghost use Rattle.td_cli.specs.WorstReports.{exact_line, between_line, cause_line, pair_lines};
 ghost use Rattle.td_cli.specs.WorstReports.{answer_lines, worst_text, certificate_in, pair_in, IsAsked, IsWorstReport};
 ghost use Rattle.td_cli.specs.Outcomes.{unanswered, question_words, IsRefusedFor, HasNoAnswer};
 

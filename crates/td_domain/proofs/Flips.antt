@@ -234,21 +234,21 @@ all_left held pins cube i a size also past whole =
     let end : a + 0 ≡ a = omega arith in
     whole ∙ ap (λ o. sum_of (Some a) o) left ∙ ap (λ (n : ℕ). Some n) end
 
+pub one_flip : (a b : Bool) → flip_of a b ≤ 1
+one_flip false false = omega arith
+one_flip false true = omega arith
+one_flip true false = omega arith
+one_flip true true = omega arith
+
 -- where nothing is restricted, each pair is admitted
 no_flips_above : (before after : List Bool) → flips_of before after ≤ length before
 no_flips_above [] after = omega arith
 no_flips_above (a ∷ before) [] = omega arith
 no_flips_above (a ∷ before) (b ∷ after) =
     let rest = no_flips_above before after in
-    let one : flip_of a b ≤ 1 = at_most a b in
+    let one : flip_of a b ≤ 1 = one_flip a b in
     let sum : flip_of a b + flips_of before after ≤ suc (length before) = omega arith in
     sum
-  where
-    at_most : (a b : Bool) → flip_of a b ≤ 1
-    at_most false false = omega arith
-    at_most false true = omega arith
-    at_most true false = omega arith
-    at_most true true = omega arith
 
 all_free : (n : ℕ) (before after : List Bool) → length before ≡ n → length after ≡ n → AllowsBits (replicate (2 * n) Free) before after
 all_free zero [] [] f s = tt

@@ -196,7 +196,7 @@ greatest (suc n) D has =
 
 -- ---- the delays of admitted pairs
 
-abbrev pair_of : List Bool → List Bool → Pair
+abbrev pub pair_of : List Bool → List Bool → Pair
 pair_of first second = record { first = first; second = second }
 
 module _ (given : Setting) (admit : Admitted) (acyclic : IsAcyclic given.netlist) (fit : AreMoments given.netlist given.moments)

@@ -1,7 +1,6 @@
 -- The signals at the places of a gate's inputs, one more at a time.
-use Rattle.std.proofs.Common.{◌≡◌, ℕ, zero, suc, ◌+◌, ◌<◌, ◌≤◌, min, max, List, [], ◌∷◌, ◌++◌, length, map, take, get_or, refl, arith, ap, ◌∙◌, sym, Bool, true, false, Option, Some, None}
+use Rattle.std.proofs.Common.{◌≡◌, ℕ, ◌+◌, ◌<◌, ◌≤◌, min, max, List, [], ◌∷◌, ◌++◌, length, map, take, get_or, refl, arith, ap, ◌∙◌, sym, Bool, true, false, Option, Some, None}
 use Rattle.std.specs.Prelude.{filter_map, slice_get, cond, count_by}
-use Rattle.std.specs.List.{AllByRecursion}
 use Rattle.std.specs.Option.{is_some}
 use Rattle.std.proofs.lemmas.List.{take_more, map-append}
 use Rattle.std.proofs.lemmas.List.Elements.{filter_map-append}
@@ -26,19 +25,6 @@ picked-more xs places i d within place =
     let longer : take (i + 1) places ≡ take i places ++ get_or places i 0 ∷ [] = take_more places i 0 within in
     let picked : filter_map (slice_get xs) (get_or places i 0 ∷ []) ≡ get_or xs (get_or places i 0) d ∷ [] = rw stands refl in
     rw (longer, filter_map-append, picked) refl
-
-slice_get-some : {A : Type 0} (xs : List A) (i : ℕ) → i < length xs → (x : A) × (slice_get xs i ≡ Some x)
-slice_get-some [] i h = absurd (omega arith)
-slice_get-some (x ∷ xs) zero h = (x, refl)
-slice_get-some (x ∷ xs) (suc i) h = slice_get-some xs i (omega arith)
-
-pub length-picked : {A : Type 0} (xs : List A) (places : List ℕ) → AllByRecursion (λ place. place < length xs) places
-    → length (filter_map (slice_get xs) places) ≡ length places
-length-picked xs [] h = refl
-length-picked xs (place ∷ places) h =
-    let it = slice_get-some xs place h.0 in
-    let rest = length-picked xs places h.1 in
-    rw (it.1, rest) refl
 
 -- one more input
 around-assoc : (a b c : Option Span) → around (around a b) c ≡ around a (around b c)

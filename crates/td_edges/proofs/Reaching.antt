@@ -2,16 +2,14 @@
 use Rattle.std.proofs.Common.{◌≡◌, ℕ, ◌+◌, ◌-◌, ◌<◌, ◌≤◌, ◌^◌, List, [], ◌∷◌, ap, arith, sym, ◌∙◌, Option, Some}
 use Rattle.std.proofs.lemmas.List.Elements.{recursion_from_All, All-head}
 use Rattle.std.specs.List.{All, AllByRecursion}
+use Rattle.td_domain.proofs.Lists.{weaker}
 use Rattle.td_gates.specs.declared.primitives.Kind.{Kind}
 use Rattle.td_edges.specs.declared.signals.Span.{Span}
 use Rattle.td_edges.specs.declared.signals.Signal.{Signal}
-use Rattle.td_edges.specs.EdgeSignals.{hull, target_span, controlling, settled, kept_by}
+use Rattle.td_gates.specs.Table.{controlling}
+use Rattle.td_edges.specs.EdgeSignals.{hull, target_span, settled, kept_by}
 use Rattle.td_edges.specs.Coverage.{span_reach}
 use Rattle.td_edges.specs.EdgeLaws.{hull_reach, target_within, Within}
-
-weaker : {A : Type 0} (P Q : A → Type 0) → ((x : A) → P x → Q x) → (xs : List A) → AllByRecursion P xs → AllByRecursion Q xs
-weaker P Q f [] h = tt
-weaker P Q f (x ∷ xs) h = (f x h.0, weaker P Q f xs h.1)
 
 -- the target reaches no further than the inputs, by which the delays stay far from wrapping
 kept-within : (kind : Kind) (signals : List Signal) (span : Span) (delay : ℕ) → hull signals ≡ Some span

@@ -1,19 +1,11 @@
 -- Beside the model: which waves edges cover, and the moments in them.
 use Rattle.std.specs.Prelude.{◌≡◌, ◌≢◌, ◌⊎◌, ℕ, ◌+◌, ◌-◌, ◌<◌, ◌≤◌, max, Option, Some, None}
-use Rattle.td_gates.specs.declared.primitives.Level.{Level}
 use Rattle.td_gates.specs.declared.primitives.Level.TheVariants.{X}
 use Rattle.td_gates.specs.Wave.{Wave, at, before}
+use Rattle.td_gates.specs.Known.{Agrees, Finishes}
 use Rattle.td_edges.specs.declared.signals.Span.{Span}
 use Rattle.td_edges.specs.declared.signals.Signal.{Signal}
 use Rattle.td_edges.specs.Spans.{until}
-
--- a level is as known; x knows nothing
-abbrev pub Agrees : Level → Level → Type 0
-Agrees known level = known ≢ X → level ≡ known
-
--- from some moment on the wave's level is as known
-abbrev pub Finishes : Level → Wave → Type 0
-Finishes known wave = known ≢ X → (from : ℕ) × ((t : ℕ) → from ≤ t → at wave t ≡ known)
 
 -- the wave changes no sooner than the earliest moment, to each level only before that level's moment, and never where there is no span
 abbrev pub ChangesWithin : Option Span → Wave → Type 0

@@ -1,8 +1,8 @@
 -- Internal: proofs of the laws of edges; an impl block takes them from specs/ alone.
-use Rattle.std.proofs.Common.{◌≡◌, ◌≢◌, ℕ, zero, suc, ◌+◌, ◌-◌, ◌<◌, ◌≤◌, ◌^◌, max, Bool, true, false, List, [], ◌∷◌, length, map, refl, arith, ap, subst, ◌∙◌, sym, Option, Some, None, ◌⊎◌, inl, inr}
+use Rattle.std.proofs.Common.{◌≡◌, ◌≢◌, ℕ, zero, suc, ◌+◌, ◌-◌, ◌<◌, ◌≤◌, ◌^◌, max, Bool, true, false, List, [], ◌∷◌, length, map, refl, arith, subst, ◌∙◌, sym, Option, Some, None, ◌⊎◌, inl, inr}
 use Rattle.std.specs.Prelude.{nat_lt, ◌||◌}
 use Rattle.std.specs.List.{All, AllZip, AllByRecursion}
-use Rattle.std.proofs.lemmas.Bool.{cases_lt, lt-ltb}
+use Rattle.std.proofs.lemmas.Bool.{cases_lt, lt-ltb, cases_Bool}
 use Rattle.std.proofs.lemmas.List.Elements.{recursion_from_All}
 use Rattle.td_gates.specs.declared.primitives.Level.{Level}
 use Rattle.td_gates.specs.declared.primitives.Level.TheVariants.{Zero as Low, One as High, X}
@@ -10,25 +10,29 @@ use Rattle.td_gates.specs.declared.primitives.Kind.{Kind}
 use Rattle.td_gates.specs.declared.primitives.Kind.TheVariants.{And, Nand, Or, Nor, Xor, Xnor, Buf, Not}
 use Rattle.td_gates.specs.declared.timing.Delay.{Delay}
 use Rattle.td_gates.specs.Delays.{IsInRange}
-use Rattle.td_gates.specs.Table.{level_from, level_eq, delay_to, inverse_of, TakesInputs}
+use Rattle.td_gates.specs.Table.{level_from, level_eq, delay_to, inverse_of, TakesInputs, controlling, controls}
 use Rattle.td_gates.specs.Wave.{Wave, at, before}
 use Rattle.td_gates.specs.Schedule.{Obeys, target_before}
 use Rattle.td_domain.specs.declared.cubes.Trit.{Trit}
-use Rattle.td_domain.specs.declared.cubes.Trit.TheVariants.{Zero, One, Free}
 use Rattle.td_domain.specs.Waves.{IsBoolean, IsQuietAfter, IsConstant}
-use Rattle.td_domain.specs.Cubes.{level_of_trit, Allows, IsInputWave}
+use Rattle.td_domain.specs.Cubes.{level_of_trit, IsInputWave}
+use Rattle.td_domain.proofs.Bits.{all_booleans, bit_known}
+use Rattle.td_domain.proofs.Soundness.{level_from-boolean}
 use Rattle.td_gates.proofs.Levels.{cases_level, level_eq-other}
 use Rattle.td_gates.proofs.Delays.{IsDelayed, delayed}
-use Rattle.td_gates.proofs.TableLaws.{AllAgree, Booleans, cases_bool, table-boolean, table_known}
+use Rattle.td_gates.proofs.TableLaws.{AllAgree, Booleans, table-boolean, table_known}
+use Rattle.td_gates.specs.Known.{Agrees, Finishes}
+use Rattle.td_gates.proofs.KnownLaws.{levels_before, length-levels, delay_to_greatest}
+use Rattle.td_gates.proofs.Sources.{source}
 use Rattle.td_edges.specs.declared.signals.Span.{Span}
 use Rattle.td_edges.specs.declared.signals.Signal.{Signal}
 use Rattle.td_edges.specs.declared.parting.Parting.{Parting}
 use Rattle.td_edges.specs.Spans.{until, until_of, earliest_of, moving}
 use Rattle.td_edges.specs.Parting.{odd, no_parts, parted_with, parted, parity_span}
-use Rattle.td_edges.specs.EdgeSignals.{input_until, input_changes, input_signal, constant_signal, around, hull, target_span, controlling, controls, settled, limited, capped, raised, kept_by, filtered, after_earliest, timely, never_changes, put_off, output_changes, gate_changes, gate_start, gate_finish, gate_signal}
-use Rattle.td_edges.specs.Coverage.{Agrees, Finishes, ChangesWithin, Covers, IsEnd, HasMoment, span_reach}
-use Rattle.td_edges.specs.WindowLaws.{Ends, MovesIn, source, output_ends, delayed_holds}
-use Rattle.td_edges.specs.ParityLaws.{levels_before, Covered, until_greatest, change_low, wave_ends}
+use Rattle.td_edges.specs.EdgeSignals.{input_until, input_changes, input_signal, constant_signal, around, hull, target_span, settled, limited, capped, raised, kept_by, filtered, after_earliest, timely, never_changes, put_off, output_changes, gate_changes, gate_start, gate_finish, gate_signal}
+use Rattle.td_edges.specs.Coverage.{ChangesWithin, Covers, IsEnd, HasMoment, span_reach}
+use Rattle.td_edges.specs.WindowLaws.{Ends, MovesIn, output_ends, delayed_holds}
+use Rattle.td_edges.specs.ParityLaws.{Covered, until_greatest, change_low, wave_ends}
 use Rattle.td_edges.specs.TargetLaws.{target_in, target_still, kept_in}
 
 -- the starts and the finishes of the inputs
@@ -48,14 +52,6 @@ finishes_agree (s ∷ signals) (w ∷ ins) covered =
     let rest = finishes_agree signals ins covered.1 in
     let own = wave_ends s.finish w covered.0.finish in
     (max own.from rest.0, λ n late. (own.ends n (omega arith), rest.1 n (omega arith)))
-
-all_booleans : (ins : List Wave) (n : ℕ) → AllByRecursion IsBoolean ins → Booleans (levels_before ins n)
-all_booleans [] n h = tt
-all_booleans (w ∷ ins) n h = (h.0 n, all_booleans ins n h.1)
-
-length-levels : (ins : List Wave) (n : ℕ) → length (levels_before ins n) ≡ length ins
-length-levels [] n = refl
-length-levels (w ∷ ins) n = ap suc (length-levels ins n)
 
 module _ (kind : Kind) (delay : Delay) (signals : List Signal) (ins : List Wave) (out : Wave)
     (fits : IsInRange delay) (takes : TakesInputs kind (length ins)) (boolean : All IsBoolean ins) (covered : Covered signals ins)
@@ -113,21 +109,9 @@ pub covers_gate : (kind : Kind) (delay : Delay) (signals : List Signal) (ins : L
 covers_gate kind delay signals ins out fits takes boolean covered obeys =
     covers_output kind delay signals ins out fits takes boolean covered (delayed kind delay fits ins out obeys)
 
--- inputs
-bit_known : (trit : Trit) (bit : Bool) → Allows trit bit → Agrees (level_of_trit trit) (level_from bit)
-bit_known Zero false allows = λ known. refl
-bit_known Zero true allows = absurd allows
-bit_known One false allows = absurd allows
-bit_known One true allows = λ known. refl
-bit_known Free bit allows = λ known. absurd (known refl)
-
-bit_boolean : (bit : Bool) → level_from bit ≢ X
-bit_boolean true = λ e. cc
-bit_boolean false = λ e. cc
-
 -- changes within a span, where it may have some
 moving_holds : (span : Span) (wave : Wave) → ChangesWithin (Some span) wave → ChangesWithin (moving span) wave
-moving_holds span wave within = elim (cases_bool (nat_lt 0 (until X span))) [
+moving_holds span wave within = elim (cases_Bool (nat_lt 0 (until X span))) [
   | inl some ↦ rw some within
   | inr none ↦ rw none (λ t. elim (cases_level (at wave t) (before wave t)) [
     | inl same ↦ same
@@ -201,7 +185,7 @@ module _ (first second : Trit) (moment : ℕ) (wave : Wave) (is : IsInputWave fi
   input_within t differ =
       let here = changes_at t differ in
       let level : Level = level_from is.after in
-      let clear : level ≢ X = bit_boolean is.after in
+      let clear : level ≢ X = level_from-boolean is.after in
       let low = input_at (level_of_trit first) (level_of_trit second) moment level clear
       (agrees_other (level_of_trit first) (level_from is.before) level input_starts (both_differ t differ here) clear)
       (agrees_other (level_of_trit second) level (inverse_of level) input_ends (not_inverse level clear) (inverse_boolean is.after)) in
@@ -284,7 +268,7 @@ parted_reach m parts [] low h = low
 parted_reach m parts (s ∷ signals) low h = parted_reach m (parted_with s parts) signals (one s parts low h.0) h.1
   where
     one : (s : Signal) (parts : Parting) → PartsWithin m parts → Within m s → PartsWithin m (parted_with s parts)
-    one s parts low h = elim (cases_bool (nat_lt (until_of X parts.latest.changes) (until_of X s.changes))) [
+    one s parts low h = elim (cases_Bool (nat_lt (until_of X parts.latest.changes) (until_of X s.changes))) [
       | inl later ↦ rw later (h, omega (arith, low.1, until_reach m X parts.latest.changes low.0))
       | inr sooner ↦ rw sooner (low.0, omega (arith, low.1, until_reach m X s.changes h))
     ]
@@ -322,13 +306,13 @@ kept_reach m control out (s ∷ signals) span low h =
     kept_reach m control out signals (raised control s (capped control out s span)) (one (capped control out s span) (other span low)) h.1
   where
     other : (span : Span) → span_reach (Some span) ≤ m → span_reach (Some (capped control out s span)) ≤ m
-    other span low = elim (cases_bool (controls control s.finish)) [
+    other span low = elim (cases_Bool (controls control s.finish)) [
       | inl here ↦ rw here (limited_reach m out (until_of s.finish s.changes) span low)
       | inr away ↦ rw away low
     ]
 
     one : (span : Span) → span_reach (Some span) ≤ m → span_reach (Some (raised control s span)) ≤ m
-    one span low = elim (cases_bool (controls control s.start)) [
+    one span low = elim (cases_Bool (controls control s.start)) [
       | inl here ↦ rw here (omega (arith, earliest_reach m s.changes h.0))
       | inr away ↦ rw away low
     ]
@@ -340,7 +324,7 @@ target_within m kind signals span low h = kept_reach m (controlling kind) (settl
     (target_reach m kind signals span low h) h
 
 after_earliest_low : (earliest until : ℕ) → after_earliest earliest until ≤ until
-after_earliest_low earliest until = elim (cases_bool (nat_lt earliest until)) [
+after_earliest_low earliest until = elim (cases_Bool (nat_lt earliest until)) [
   | inl late ↦ rw late (omega arith)
   | inr soon ↦ rw soon (omega arith)
 ]
@@ -350,7 +334,7 @@ timely_reach m span low =
     omega (arith, after_earliest_low span.earliest span.falls_until, after_earliest_low span.earliest span.rises_until)
 
 put_off_low : (steps until : ℕ) → put_off steps until ≤ until + steps
-put_off_low steps until = elim (cases_bool (nat_lt 0 until)) [
+put_off_low steps until = elim (cases_Bool (nat_lt 0 until)) [
   | inl some ↦ rw some (omega arith)
   | inr none ↦ rw none (omega arith)
 ]
@@ -358,14 +342,9 @@ put_off_low steps until = elim (cases_bool (nat_lt 0 until)) [
 put_off_reach : (m steps until : ℕ) → until ≤ m + 1 → put_off steps until ≤ m + steps + 1
 put_off_reach m steps until low = omega (arith, put_off_low steps until)
 
-delay_to_greatest : (delay : Delay) (level : Level) → delay_to delay level ≤ max delay.rise delay.fall
-delay_to_greatest delay Low = omega arith
-delay_to_greatest delay High = omega arith
-delay_to_greatest delay X = omega arith
-
 output_reach : (delay : Delay) (start finish : Level) (m : ℕ) (span : Span) → span_reach (Some span) ≤ m
     → span_reach (output_changes delay start finish span) ≤ m + max delay.rise delay.fall
-output_reach delay start finish m span low = elim (cases_bool (never_changes start finish span)) [
+output_reach delay start finish m span low = elim (cases_Bool (never_changes start finish span)) [
   | inl never ↦ rw never (omega arith)
   | inr some ↦ rw some (omega (
     arith,
@@ -396,13 +375,13 @@ reach_gate kind delay signals m small =
     changes_reach kind delay (gate_start kind signals) (gate_finish kind signals) m signals (hull signals) each (hull_reach m signals each)
 
 input_until_low : (start finish : Level) (moment : ℕ) (level : Level) → input_until start finish moment level ≤ moment + 1
-input_until_low start finish moment level = elim (cases_bool (level_eq start level || level_eq finish (inverse_of level))) [
+input_until_low start finish moment level = elim (cases_Bool (level_eq start level || level_eq finish (inverse_of level))) [
   | inl never ↦ rw never (omega arith)
   | inr may ↦ rw may (omega arith)
 ]
 
 moving_reach : (span : Span) → span_reach (moving span) ≤ span_reach (Some span)
-moving_reach span = elim (cases_bool (nat_lt 0 (until X span))) [
+moving_reach span = elim (cases_Bool (nat_lt 0 (until X span))) [
   | inl some ↦ rw some (omega arith)
   | inr none ↦ rw none (omega arith)
 ]

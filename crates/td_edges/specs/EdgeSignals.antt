@@ -1,11 +1,11 @@
 -- Edges: the signals of inputs, constants and gates.
-use Rattle.std.specs.Prelude.{ℕ, ◌+◌, ◌-◌, ◌==◌, min, max, nat_lt, Bool, false, ◌||◌, List, [], ◌∷◌, map, Option, Some, None, if◌then◌else◌}
+use Rattle.std.specs.Prelude.{ℕ, ◌+◌, ◌-◌, ◌==◌, min, max, nat_lt, Bool, ◌||◌, List, [], ◌∷◌, map, Option, Some, None, if◌then◌else◌}
 use Rattle.td_gates.specs.declared.primitives.Level.{Level}
 use Rattle.td_gates.specs.declared.primitives.Level.TheVariants.{Zero as Low, One as High, X}
 use Rattle.td_gates.specs.declared.primitives.Kind.{Kind}
 use Rattle.td_gates.specs.declared.primitives.Kind.TheVariants.{And, Nand, Or, Nor, Xor, Xnor, Buf, Not}
 use Rattle.td_gates.specs.declared.timing.Delay.{Delay}
-use Rattle.td_gates.specs.Table.{level_from, level_eq, table, inverse_of, delay_to}
+use Rattle.td_gates.specs.Table.{level_from, level_eq, table, inverse_of, delay_to, controlling, controls}
 use Rattle.td_domain.specs.declared.cubes.Trit.{Trit}
 use Rattle.td_domain.specs.Cubes.{level_of_trit}
 use Rattle.td_domain.specs.Functions.{Functions}
@@ -71,19 +71,6 @@ target_span Nor signals span = turned span
 target_span Not signals span = turned span
 target_span Xor signals span = parity_span Low signals span.earliest
 target_span Xnor signals span = parity_span High signals span.earliest
-
--- the level of an input that settles the output by itself
-abbrev pub controlling : Kind → Option Level
-controlling And = Some Low
-controlling Nand = Some Low
-controlling Or = Some High
-controlling Nor = Some High
-controlling kind = None
-
--- whether this is the controlling level
-abbrev pub controls : Option Level → Level → Bool
-controls None level = false
-controls (Some control) level = level_eq control level
 
 -- the level that an input at the controlling level gives the output, x where there is none
 abbrev pub settled : Kind → Level

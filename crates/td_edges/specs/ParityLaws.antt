@@ -1,9 +1,9 @@
 -- Internal: when the parity of a gate's inputs changes. These proofs stand here for EdgeLaws.
-use Rattle.std.proofs.Common.{◌≡◌, ◌≢◌, ℕ, zero, suc, ◌+◌, ◌<◌, ◌≤◌, max, Bool, true, false, List, [], ◌∷◌, map, refl, arith, ap, subst, ◌∙◌, sym, Option, Some, None, ◌⊎◌, inl, inr}
+use Rattle.std.proofs.Common.{◌≡◌, ◌≢◌, ℕ, zero, suc, ◌+◌, ◌<◌, ◌≤◌, max, false, List, [], ◌∷◌, refl, arith, ap, subst, ◌∙◌, sym, Option, Some, None, inl, inr}
 use Rattle.std.specs.Prelude.{nat_lt, ◌%◌, ◌==◌, if◌then◌else◌}
 use Rattle.std.specs.List.{AllZip, list_any}
 use Rattle.std.proofs.Math.Nat.{suc-mod}
-use Rattle.std.proofs.lemmas.Bool.{cases_lt}
+use Rattle.std.proofs.lemmas.Bool.{cases_lt, cases_Bool}
 use Rattle.td_gates.specs.declared.primitives.Level.{Level}
 use Rattle.td_gates.specs.declared.primitives.Level.TheVariants.{Zero as Low, One as High, X}
 use Rattle.td_gates.specs.Table.{level_eq, xor_of, inverse_of}
@@ -11,17 +11,15 @@ use Rattle.td_gates.specs.Wave.{Wave, at, before}
 use Rattle.td_gates.proofs.Levels.{cases_level}
 use Rattle.td_gates.proofs.TableLaws.{Booleans}
 use Rattle.td_gates.proofs.CountLaws.{count-passing, passing}
+use Rattle.td_gates.proofs.KnownLaws.{levels_before}
+use Rattle.td_gates.specs.Known.{Agrees, Finishes}
 use Rattle.td_edges.specs.declared.signals.Span.{Span}
 use Rattle.td_edges.specs.declared.signals.Signal.{Signal}
 use Rattle.td_edges.specs.declared.parting.Parting.{Parting}
 use Rattle.td_edges.specs.Spans.{until_of}
 use Rattle.td_edges.specs.Parting.{odd, no_parts, parted_with, parted, parity_until}
-use Rattle.td_edges.specs.Coverage.{Agrees, Finishes, ChangesWithin, Covers}
+use Rattle.td_edges.specs.Coverage.{ChangesWithin, Covers}
 use Rattle.td_edges.specs.WindowLaws.{Ends}
-
--- the levels of waves just before a moment
-abbrev pub levels_before : List Wave → ℕ → List Level
-levels_before ins n = map (λ wave. before wave n) ins
 
 -- waves that the signals cover, one by one
 abbrev pub Covered : List Signal → List Wave → Type 0
@@ -175,7 +173,7 @@ final_both p f a b one two = record {
 
 with_one : (parts : Parting) (e : ℕ → Level) (signal : Signal) (wave : Wave) → IsParted parts e → Covers signal wave
     → IsParted (parted_with signal parts) (λ n. odd (e n) (before wave n))
-with_one parts e signal wave is covered = elim (cases_bool (nat_lt (until_of X parts.latest.changes) (until_of X signal.changes))) [
+with_one parts e signal wave is covered = elim (cases_Bool (nat_lt (until_of X parts.latest.changes) (until_of X signal.changes))) [
   | inl later ↦ rw later (record {
     wave = wave;
     covered = covered;
@@ -195,10 +193,6 @@ with_one parts e signal wave is covered = elim (cases_bool (nat_lt (until_of X p
   })
 ]
   where
-    cases_bool : (b : Bool) → (b ≡ true) ⊎ (b ≡ false)
-    cases_bool true = inl refl
-    cases_bool false = inr refl
-
     both : {a b c d : Level} → a ≡ b → c ≡ d → odd a c ≡ odd b d
     both one two = rw (one, two) refl
 

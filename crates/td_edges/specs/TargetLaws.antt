@@ -1,32 +1,25 @@
 -- Internal: when the target of a gate changes. These proofs stand here for EdgeLaws.
-use Rattle.std.proofs.Common.{◌≡◌, ◌≢◌, ℕ, zero, suc, ◌<◌, ◌≤◌, max, Bool, true, false, List, [], ◌∷◌, refl, arith, ap, subst, ◌∙◌, sym, Option, Some, None, ◌⊎◌, inl, inr}
-use Rattle.std.specs.Prelude.{◌&&◌, ◌||◌}
+use Rattle.std.proofs.Common.{◌≡◌, ◌≢◌, ℕ, zero, suc, ◌<◌, ◌≤◌, max, true, false, List, [], ◌∷◌, refl, arith, ap, subst, ◌∙◌, sym, Option, Some, None, ◌⊎◌, inl, inr}
 use Rattle.std.specs.List.{AllByRecursion, list_any, list_all}
-use Rattle.std.proofs.lemmas.Bool.{cases_lt}
+use Rattle.std.proofs.lemmas.Bool.{cases_lt, cases_Bool, or_left, or_right, and_parts}
 use Rattle.td_gates.specs.declared.primitives.Level.{Level}
 use Rattle.td_gates.specs.declared.primitives.Level.TheVariants.{Zero as Low, One as High, X}
 use Rattle.td_gates.specs.declared.primitives.Kind.{Kind}
 use Rattle.td_gates.specs.declared.primitives.Kind.TheVariants.{And, Nand, Or, Nor, Xor, Xnor, Buf, Not}
-use Rattle.td_gates.specs.Table.{table, level_eq, and_of, or_of, buf_of, inverse_of}
+use Rattle.td_gates.specs.Table.{table, level_eq, and_of, or_of, buf_of, inverse_of, controlling, controls}
 use Rattle.td_gates.specs.Wave.{Wave, before}
 use Rattle.td_gates.specs.Schedule.{target_before}
 use Rattle.td_gates.proofs.Levels.{cases_level, level_eq-same, level_eq-other}
-use Rattle.td_gates.proofs.TableLaws.{Booleans, cases_bool}
+use Rattle.td_gates.proofs.TableLaws.{Booleans}
+use Rattle.td_gates.proofs.KnownLaws.{levels_before, IsClear, controlling_clear, nothing_controls}
 use Rattle.td_edges.specs.declared.signals.Span.{Span}
 use Rattle.td_edges.specs.declared.signals.Signal.{Signal}
 use Rattle.td_edges.specs.Spans.{until, until_of, earliest_of}
 use Rattle.td_edges.specs.Parting.{parity_span, parity_until, parted, no_parts}
-use Rattle.td_edges.specs.EdgeSignals.{around, hull, turned, target_span, controlling, controls, settled, capped, raised, kept_by}
+use Rattle.td_edges.specs.EdgeSignals.{around, hull, turned, target_span, settled, capped, raised, kept_by}
 use Rattle.td_edges.specs.Coverage.{ChangesWithin, Covers}
 use Rattle.td_edges.specs.WindowLaws.{StaysIn, turns_to_end, limited_at, limited-earliest}
-use Rattle.td_edges.specs.ParityLaws.{levels_before, Covered, change_low, wave_ends, odds, xor-odds, parity_low}
-
-pub or_left : (a b : Bool) → a ≡ true → a || b ≡ true
-or_left a b h = rw h refl
-
-pub or_right : (a b : Bool) → b ≡ true → a || b ≡ true
-or_right true b h = refl
-or_right false b h = h
+use Rattle.td_edges.specs.ParityLaws.{Covered, change_low, wave_ends, odds, xor-odds, parity_low}
 
 -- some input changes at moment t
 abbrev pub SomeChange : ℕ → List Wave → Type 0
@@ -123,16 +116,11 @@ eq_is v level h = elim (cases_level v level) [
   | inr other ↦ (let no = level_eq-other v level other in cc)
 ]
 
-and_cases : (a b : Bool) → a && b ≡ true → (a ≡ true) × (b ≡ true)
-and_cases true true h = (refl, refl)
-and_cases true false h = cc
-and_cases false b h = cc
-
 -- where no input turns to a level, those at it were at it before
 any_before : (v : Level) (t : ℕ) (ins : List Wave) → NoTurn v t ins → list_any (level_eq v) (levels_before ins (suc t)) ≡ true
     → list_any (level_eq v) (levels_before ins t) ≡ true
 any_before v t [] none some = some
-any_before v t (w ∷ ins) none some = elim (cases_bool (level_eq v (before w (suc t)))) [
+any_before v t (w ∷ ins) none some = elim (cases_Bool (level_eq v (before w (suc t)))) [
   | inl here ↦
       let was : before w t ≡ v = none.0 (eq_is v (before w (suc t)) here) in
       rw (was, level_eq-same v) refl
@@ -143,7 +131,7 @@ all_before : (v : Level) (t : ℕ) (ins : List Wave) → NoTurn v t ins → list
     → list_all (level_eq v) (levels_before ins t) ≡ true
 all_before v t [] none all = all
 all_before v t (w ∷ ins) none all =
-    let both = and_cases _ _ all in
+    let both = and_parts _ _ all in
     let was : before w t ≡ v = none.0 (eq_is v (before w (suc t)) both.0) in
     rw (was, level_eq-same v) (all_before v t ins none.1 both.1)
 
@@ -160,36 +148,36 @@ zeros_no_one (Low ∷ levels) all = zeros_no_one levels all
 zeros_no_one (X ∷ levels) all = cc
 
 and_low : (levels : List Level) → and_of levels ≡ Low → list_any (level_eq Low) levels ≡ true
-and_low levels is = elim (cases_bool (list_any (level_eq Low) levels)) [
+and_low levels is = elim (cases_Bool (list_any (level_eq Low) levels)) [
   | inl some ↦ some
-  | inr none ↦ elim (cases_bool (list_all (level_eq High) levels)) [
+  | inr none ↦ elim (cases_Bool (list_all (level_eq High) levels)) [
     | inl all ↦ (let no = rw (none, all) at is in cc)
     | inr other ↦ (let no = rw (none, other) at is in cc)
   ]
 ]
 
 and_high : (levels : List Level) → and_of levels ≡ High → list_all (level_eq High) levels ≡ true
-and_high levels is = elim (cases_bool (list_all (level_eq High) levels)) [
+and_high levels is = elim (cases_Bool (list_all (level_eq High) levels)) [
   | inl all ↦ all
-  | inr other ↦ elim (cases_bool (list_any (level_eq Low) levels)) [
+  | inr other ↦ elim (cases_Bool (list_any (level_eq Low) levels)) [
     | inl some ↦ (let no = rw some at is in cc)
     | inr none ↦ (let no = rw (none, other) at is in cc)
   ]
 ]
 
 or_high : (levels : List Level) → or_of levels ≡ High → list_any (level_eq High) levels ≡ true
-or_high levels is = elim (cases_bool (list_any (level_eq High) levels)) [
+or_high levels is = elim (cases_Bool (list_any (level_eq High) levels)) [
   | inl some ↦ some
-  | inr none ↦ elim (cases_bool (list_all (level_eq Low) levels)) [
+  | inr none ↦ elim (cases_Bool (list_all (level_eq Low) levels)) [
     | inl all ↦ (let no = rw (none, all) at is in cc)
     | inr other ↦ (let no = rw (none, other) at is in cc)
   ]
 ]
 
 or_low : (levels : List Level) → or_of levels ≡ Low → list_all (level_eq Low) levels ≡ true
-or_low levels is = elim (cases_bool (list_all (level_eq Low) levels)) [
+or_low levels is = elim (cases_Bool (list_all (level_eq Low) levels)) [
   | inl all ↦ all
-  | inr other ↦ elim (cases_bool (list_any (level_eq High) levels)) [
+  | inr other ↦ elim (cases_Bool (list_any (level_eq High) levels)) [
     | inl some ↦ (let no = rw some at is in cc)
     | inr none ↦ (let no = rw (none, other) at is in cc)
   ]
@@ -321,34 +309,6 @@ target_in kind signals ins covered whole boolean span is t differ = elim (some_o
       )
 ]
 
--- a controlling level is never unknown
-abbrev IsClear : Option Level → Type 0
-IsClear control = (level : Level) → controls control level ≡ true → level ≢ X
-
-low_clear : (level : Level) → level_eq Low level ≡ true → level ≢ X
-low_clear Low h = λ e. cc
-low_clear High h = cc
-low_clear X h = cc
-
-high_clear : (level : Level) → level_eq High level ≡ true → level ≢ X
-high_clear Low h = cc
-high_clear High h = λ e. cc
-high_clear X h = cc
-
-controlling_clear : (kind : Kind) → IsClear (controlling kind)
-controlling_clear And = low_clear
-controlling_clear Nand = low_clear
-controlling_clear Or = high_clear
-controlling_clear Nor = high_clear
-controlling_clear Xor = λ level h. cc
-controlling_clear Xnor = λ level h. cc
-controlling_clear Buf = λ level h. cc
-controlling_clear Not = λ level h. cc
-
-nothing_controls : (levels : List Level) → list_any (controls None) levels ≡ true → ⊥
-nothing_controls [] some = cc
-nothing_controls (l ∷ levels) some = nothing_controls levels some
-
 -- an input at the controlling level settles the output
 settles : (kind : Kind) (levels : List Level) → list_any (controls (controlling kind)) levels ≡ true → table kind levels ≡ settled kind
 settles And levels some = rw some refl
@@ -390,7 +350,7 @@ module _ (control : Option Level) (clear : IsClear control) (out : Level) (e : �
   -- step 3
   cap_holds : (signal : Signal) (wave : Wave) → Covers signal wave → ((n : ℕ) → controls control (before wave n) ≡ true → e n ≡ out)
       → (span : Span) → StaysIn span e → StaysIn (capped control out signal span) e
-  cap_holds signal wave covered gives span all = elim (cases_bool (controls control signal.finish)) [
+  cap_holds signal wave covered gives span all = elim (cases_Bool (controls control signal.finish)) [
     | inr other ↦ rw other all
     | inl here ↦ rw here (λ t differ.
         let low = all t differ in (
@@ -417,7 +377,7 @@ module _ (control : Option Level) (clear : IsClear control) (out : Level) (e : �
   -- step 4
   raise_holds : (signal : Signal) (wave : Wave) → Covers signal wave → ((n : ℕ) → controls control (before wave n) ≡ true → e n ≡ out)
       → (span : Span) → StaysIn span e → StaysIn (raised control signal span) e
-  raise_holds signal wave covered gives span all = elim (cases_bool (controls control signal.start)) [
+  raise_holds signal wave covered gives span all = elim (cases_Bool (controls control signal.start)) [
     | inr other ↦ rw other all
     | inl here ↦ rw here (λ t differ.
         let low = all t differ in

@@ -1,7 +1,7 @@
 -- Internal: what the delay of a gate makes of the changes of its target. These proofs stand here for EdgeLaws.
-use Rattle.std.proofs.Common.{◌≡◌, ◌≢◌, ℕ, zero, suc, ◌+◌, ◌-◌, ◌<◌, ◌≤◌, Bool, true, false, refl, arith, subst, ◌∙◌, sym, Option, Some, None, ◌⊎◌, inl, inr}
-use Rattle.std.specs.Prelude.{◌||◌, ◌==◌}
-use Rattle.std.proofs.lemmas.Bool.{cases_lt, cases_eq, lt-ltb, ne_eqb}
+use Rattle.std.proofs.Common.{◌≡◌, ◌≢◌, ℕ, zero, suc, ◌+◌, ◌-◌, ◌<◌, ◌≤◌, true, refl, arith, subst, ◌∙◌, sym, Option, Some, None, inl, inr}
+use Rattle.std.specs.Prelude.{◌==◌}
+use Rattle.std.proofs.lemmas.Bool.{cases_lt, cases_eq, lt-ltb, ne_eqb, cases_Bool, or_cases}
 use Rattle.td_gates.specs.declared.primitives.Level.{Level}
 use Rattle.td_gates.specs.declared.primitives.Level.TheVariants.{Zero as Low, One as High, X}
 use Rattle.td_gates.specs.declared.timing.Delay.{Delay}
@@ -9,12 +9,13 @@ use Rattle.td_gates.specs.Delays.{IsInRange}
 use Rattle.td_gates.specs.Table.{delay_to, inverse_of}
 use Rattle.td_gates.proofs.Levels.{cases_level}
 use Rattle.td_gates.proofs.Scheduling.{delay_to-positive}
-use Rattle.td_gates.proofs.Windows.{Held}
-use Rattle.td_gates.proofs.Delays.{IsDelayed, taken_last, delayed-early, delayed-late, delayed-boolean}
+use Rattle.td_gates.proofs.Delays.{IsDelayed, delayed-early, delayed-late, delayed-boolean}
+use Rattle.td_gates.proofs.Sources.{Reaches, source}
+use Rattle.td_gates.proofs.KnownLaws.{other_level, first_slow}
+use Rattle.td_gates.specs.Known.{Agrees}
 use Rattle.td_edges.specs.declared.signals.Span.{Span}
 use Rattle.td_edges.specs.Spans.{until}
 use Rattle.td_edges.specs.EdgeSignals.{limited, filtered, after_earliest, timely, never_changes, put_off, delayed, delayed_changes}
-use Rattle.td_edges.specs.Coverage.{Agrees}
 
 -- place n is just before moment n, so that a change at moment t leads from place t to place t + 1
 abbrev pub StaysIn : Span → (ℕ → Level) → Type 0
@@ -54,90 +55,8 @@ pub turns_to_end : (e : ℕ → Level) (v : Level) → v ≢ X → Ends v e → 
 turns_to_end e v known final n away =
     turns e v n final.from away (final.ends (n + final.from) (omega arith) known)
 
--- a change of the target that the output sees: the target keeps its new level for the delay to it
-pub record Reaches (e : ℕ → Level) (delay : Delay) (u : ℕ) : Type 0 where
-  pub change : e (suc u) ≢ e u
-  pub stays : (k : ℕ) → k < delay_to delay (e (suc u)) → e (suc u + k) ≡ e (suc u)
-
 abbrev pub ReachesIn : Span → (ℕ → Level) → Delay → Type 0
 ReachesIn span e delay = (u : ℕ) → Reaches e delay u → (span.earliest ≤ u) × (u < until (e (suc u)) span)
-
--- where a change of the output comes from
-pub record Source (e : ℕ → Level) (delay : Delay) (o : ℕ → Level) (t : ℕ) : Type 0 where
-  pub moment : ℕ
-  pub reaches : Reaches e delay moment
-  pub same : e (suc moment) ≡ o (suc t)
-  pub put_off : t ≡ moment + delay_to delay (o (suc t))
-
-module _ (e : ℕ → Level) (delay : Delay) (fits : IsInRange delay) (o : ℕ → Level) (is : IsDelayed e delay o) where
-  -- a window that is full already, in places
-  window_place : (v : Level) (t : ℕ) → Held e v (delay_to delay v) t → (n : ℕ) → n ≤ t → t < n + delay_to delay v → e n ≡ v
-  window_place v t held n low high =
-      let back : t - (t - n) ≡ n = omega arith in rw back at (held (t - n) (omega arith))
-
-  -- a window that reaches below place 0 has the output's first level
-  from_start : (v : Level) (t : ℕ) → t < delay_to delay v → Held e v (delay_to delay v) t → o t ≡ v
-  from_start v t short held =
-      let first : e 0 ≡ v = window_place v t held 0 (omega arith) (omega arith) in
-      delayed-early e delay fits o is t 0 (λ n low. window_place v t held n low (omega arith) ∙ sym first) (λ n differ. omega arith) t (omega arith) ∙ first
-
-  -- a window that was full a place before
-  full_before : (v : Level) (s : ℕ) → Held e v (delay_to delay v) s → o (suc s) ≡ v
-  full_before v s held = elim (is.next s) [
-    | inl it ↦ it.2 ∙ sym (taken_last e delay fits o is it.0 s it.1) ∙ taken_last e delay fits o is v s held
-    | inr it ↦ absurd (it.0 v held)
-  ]
-
-  one_more : (v : Level) (s : ℕ) → Held e v (delay_to delay v) (suc s) → e (suc s - delay_to delay v) ≡ v → Held e v (delay_to delay v) s
-  one_more v s held first k low =
-      let positive = delay_to-positive delay fits v in
-      elim (cases_eq (suc k) (delay_to delay v)) [
-        | inl last ↦ let same : s - k ≡ suc s - delay_to delay v = omega arith in rw same first
-        | inr other ↦ let same : suc s - suc k ≡ s - k = omega arith in rw same at (held (suc k) (omega arith))
-      ]
-
-  source_of : (v : Level) (t : ℕ) → Held e v (delay_to delay v) t → o (suc t) ≡ v → o (suc t) ≢ o t → Source e delay o t
-  source_of v zero held here differ =
-      absurd (differ (here ∙ sym (from_start v 0 (delay_to-positive delay fits v) held)))
-  source_of v (suc s) held here differ =
-      let positive = delay_to-positive delay fits v in
-      elim (cases_lt (suc s) (delay_to delay v)) [
-        | inl short ↦ absurd (differ (here ∙ sym (from_start v (suc s) short held)))
-        | inr long ↦
-            let u : ℕ = suc s - delay_to delay v in
-            let next : e (suc u) ≡ v = window_place v (suc s) held (suc u) (omega arith) (omega arith) in
-            elim (cases_level (e u) v) [
-              | inl before ↦ absurd (differ (here ∙ sym (full_before v s (one_more v s held before))))
-              | inr away ↦ record {
-                moment = u;
-                reaches = record {
-                  change = λ same. away (sym same ∙ next);
-                  stays = λ k low.
-                      let less : k < delay_to delay v = rw next at low in
-                      window_place v (suc s) held (suc u + k) (omega arith) (omega arith) ∙ sym next;
-                };
-                same = next ∙ sym here;
-                put_off = rw here (omega arith);
-              }
-            ]
-      ]
-
-  -- A change of the output to a level comes, by just the delay to it, behind a change of the target that keeps the level so long.
-  pub source : (t : ℕ) → o (suc t) ≢ o t → Source e delay o t
-  source t differ = elim (is.next t) [
-    | inr it ↦ absurd (differ it.1)
-    | inl it ↦ source_of it.0 t it.1 it.2 differ
-  ]
-
--- of two Boolean levels that differ one is the inverse of the other
-pub other_level : (v level : Level) → v ≢ X → level ≢ X → level ≢ v → level ≡ inverse_of v
-other_level Low Low a b c = absurd (c refl)
-other_level Low High a b c = refl
-other_level Low X a b c = absurd (b refl)
-other_level High Low a b c = refl
-other_level High High a b c = absurd (c refl)
-other_level High X a b c = absurd (b refl)
-other_level X level a b c = absurd (a refl)
 
 -- what a limit on the changes to one level says of changes to a level
 pub limited_at : (level v : Level) (m t : ℕ) (span : Span) → v ≢ X → t < until v span → (v ≡ level → t < m) → t < until v (limited level m span)
@@ -200,27 +119,6 @@ delayed_at : (v : Level) (delay : Delay) (start : Level) (u : ℕ) (span : Span)
 delayed_at Low delay start u span known low = put_off_at delay.fall span.falls_until u low
 delayed_at High delay start u span known low = put_off_at delay.rise span.rises_until u low
 delayed_at X delay start u span known low = absurd (known refl)
-
--- the first change leads away from the start
-first_slow : (delay : Delay) (start first level : Level) → Agrees start first → level ≢ X → level ≢ first
-    → delay_to delay (inverse_of start) ≤ delay_to delay level
-first_slow delay Low first level agree boolean differ =
-    let same : first ≡ Low = agree (λ e. cc) in
-    rw (other_level Low level (λ e. cc) boolean (rw same at differ)) (omega arith)
-first_slow delay High first level agree boolean differ =
-    let same : first ≡ High = agree (λ e. cc) in
-    rw (other_level High level (λ e. cc) boolean (rw same at differ)) (omega arith)
-first_slow delay X first Low agree boolean differ = omega arith
-first_slow delay X first High agree boolean differ = omega arith
-first_slow delay X first X agree boolean differ = omega arith
-
-cases_bool : (b : Bool) → (b ≡ true) ⊎ (b ≡ false)
-cases_bool true = inl refl
-cases_bool false = inr refl
-
-or_cases : (a b : Bool) → a || b ≡ true → (a ≡ true) ⊎ (b ≡ true)
-or_cases true b h = inl refl
-or_cases false b h = inr h
 
 is_zero : (n : ℕ) → n == 0 ≡ true → n ≡ 0
 is_zero n h = elim (cases_eq n 0) [
@@ -344,7 +242,7 @@ module _ (delay : Delay) (fits : IsInRange delay) (e o : ℕ → Level) (is : Is
       (first_step t differ, omega (arith, low, change.1))
 
   pub delayed_holds : MovesIn (delayed_changes delay start finish span) o
-  delayed_holds = elim (cases_bool (never_changes start finish seen)) [
+  delayed_holds = elim (cases_Bool (never_changes start finish seen)) [
     | inr some ↦ rw some moves
     | inl never ↦ rw never (elim (or_cases _ _ never) [
       | inl back ↦ none_to_finish (is_zero _ back)

@@ -2,8 +2,8 @@
 
 ghost use Rattle.std.specs.Prelude.{◌≡◌, Some, ◌≤◌, ◌<◌, ◌+◌, ◌^◌, max, length, filter_map, slice_get};
 ghost use Rattle.std.specs.List.{All};
-ghost use Rattle.td_gates.specs.Table.{TakesInputs};
-ghost use Rattle.td_edges.specs.EdgeSignals.{gate_signal, gate_start, gate_finish, hull, around, turned, target_span, controlling, controls, settled, limited, capped, raised, kept_by, filtered, after_earliest, timely, put_off, delayed_changes, gate_changes};
+ghost use Rattle.td_gates.specs.Table.{TakesInputs, controlling, controls};
+ghost use Rattle.td_edges.specs.EdgeSignals.{gate_signal, gate_start, gate_finish, hull, around, turned, target_span, settled, limited, capped, raised, kept_by, filtered, after_earliest, timely, put_off, delayed_changes};
 ghost use Rattle.td_edges.specs.Coverage.{span_reach};
 
 use crate::parting::parity_span;

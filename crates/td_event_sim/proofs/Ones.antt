@@ -9,13 +9,14 @@ use Rattle.std.proofs.lemmas.List.Sums.{count_by-le-length}
 use Rattle.td_gates.specs.declared.primitives.Kind.{Kind}
 use Rattle.td_gates.specs.declared.primitives.Kind.TheVariants.{And, Nand, Or, Nor, Xor, Xnor, Buf, Not}
 use Rattle.td_gates.proofs.Places.{slice_get-some, slice_get-get}
+use Rattle.td_gates.proofs.OutcomeLaws.{not-not}
 use Rattle.td_circuit.specs.Numbering.{NumberedGate, Numbered, first_output, IsNumbering}
 use Rattle.td_circuit.proofs.Nets.{few-at, lower-at}
 use Rattle.td_event_sim.specs.Bits.{bit_at, target_of}
 use Rattle.td_event_sim.specs.Rules.{target_by}
 use Rattle.td_event_sim.specs.Counting.{times, AreCounted, AreNarrow, recounted, AreRecounted, StayCounted}
 
-abbrev counted : (ℕ → Bool) → List ℕ → ℕ
+abbrev pub counted : (ℕ → Bool) → List ℕ → ℕ
 counted f [] = 0
 counted f (input ∷ inputs) = cond (f input) (1 + counted f inputs) (counted f inputs)
 
@@ -44,10 +45,6 @@ any_step false any ones is = is
 any-by : (f : ℕ → Bool) (inputs : List ℕ) → not (counted f inputs == 0) ≡ list_any f inputs
 any-by f [] = refl
 any-by f (input ∷ inputs) = any_step (f input) (list_any f inputs) (counted f inputs) (any-by f inputs)
-
-not-not : (bit : Bool) → not (not bit) ≡ bit
-not-not true = refl
-not-not false = refl
 
 by-counted : (kind : Kind) (levels : List Bool) (inputs : List ℕ) → target_by kind (length inputs) (counted (bit_at levels) inputs) ≡ target_of kind levels inputs
 by-counted And levels inputs = all-by (bit_at levels) inputs

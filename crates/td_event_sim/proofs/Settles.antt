@@ -1,6 +1,6 @@
 -- Settled levels by bits are the starts of the run's waves, and what the run's inputs and constants do.
 use Rattle.std.proofs.Common.{◌≡◌, ◌≢◌, ℕ, zero, suc, ◌+◌, ◌<◌, Bool, false, List, [], ◌∷◌, length, map, get_or, set, refl, arith, inl, inr, sym, ap, ◌∙◌, Some, get_or-set_same, get_or-set_other}
-use Rattle.std.specs.Prelude.{slice_get, nat_lt, if◌then◌else◌, ◌%◌, ◌==◌, cond, count_by, not}
+use Rattle.std.specs.Prelude.{slice_get, nat_lt, if◌then◌else◌, ◌%◌, ◌==◌, count_by, not}
 use Rattle.std.specs.List.{All, Contains, list_all, list_any}
 use Rattle.std.proofs.lemmas.Bool.{cases_eq}
 use Rattle.std.proofs.lemmas.List.{length-map}
@@ -29,6 +29,7 @@ use Rattle.td_event_sim.specs.Bits.{bit_at, target_of}
 use Rattle.td_event_sim.specs.Settling.{AreSettled}
 use Rattle.td_event_sim.specs.State.{wave_at}
 use Rattle.td_event_sim.proofs.Tables.{level-at, target-is}
+use Rattle.td_event_sim.proofs.Ones.{counted}
 
 -- ---- a target depends on its inputs alone
 abbrev AreAlike : (ℕ → Bool) → (ℕ → Bool) → List ℕ → Type 0
@@ -43,10 +44,6 @@ any-alike : (f g : ℕ → Bool) (inputs : List ℕ) → AreAlike f g inputs →
 any-alike f g [] all = refl
 any-alike f g (input ∷ inputs) all =
     rw (All-head (λ k. f k ≡ g k) input inputs all, any-alike f g inputs (All-tail (λ k. f k ≡ g k) input inputs all)) refl
-
-abbrev counted : (ℕ → Bool) → List ℕ → ℕ
-counted f [] = 0
-counted f (input ∷ inputs) = cond (f input) (1 + counted f inputs) (counted f inputs)
 
 counted-alike : (f g : ℕ → Bool) (inputs : List ℕ) → AreAlike f g inputs → counted f inputs ≡ counted g inputs
 counted-alike f g [] all = refl

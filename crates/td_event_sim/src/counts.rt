@@ -1,6 +1,6 @@
 //! How many of each gate's inputs are at 1.
 
-ghost use Rattle.std.specs.Prelude.{◌≡◌, ◌+◌, ◌-◌, ◌<◌, ◌≤◌, length, slice_index, count_by};
+ghost use Rattle.std.specs.Prelude.{◌≡◌, ◌+◌, ◌-◌, ◌<◌, ◌≤◌, length, count_by};
 ghost use Rattle.std.specs.List.{All};
 ghost use Rattle.td_event_sim.specs.Bits.{bit_at};
 ghost use Rattle.td_event_sim.specs.Counting.{AreRecounted, recounted};

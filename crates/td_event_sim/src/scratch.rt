@@ -1,10 +1,10 @@
 //! The delay of a pair of vectors.
 
-ghost use Rattle.std.specs.Prelude.{◌≡◌, ℕ, ◌+◌, ◌-◌, ◌^◌, ◌<◌, ◌≤◌, List, length, map, slice_index, IfOk, OnOk};
+ghost use Rattle.std.specs.Prelude.{◌≡◌, ℕ, ◌+◌, ◌-◌, ◌^◌, ◌<◌, ◌≤◌, List, length, map, IfOk, OnOk};
 ghost use Rattle.std.specs.List.{All};
 ghost use Rattle.td_gates.specs.Wave.{Wave};
 ghost use Rattle.td_gates.specs.Schedule.{GateState};
-ghost use Rattle.td_circuit.specs.Numbering.{nets, setting, first_output as first_output_of, IsNumbering};
+ghost use Rattle.td_circuit.specs.Numbering.{nets, setting, first_output as first_output_of};
 ghost use Rattle.td_circuit.specs.Run.{IsDelayOfBits};
 ghost use Rattle.td_event_sim.specs.Earliest.{IsFrom};
 ghost use Rattle.td_event_sim.specs.Queue.{Waits, AreBelow};

@@ -7,6 +7,8 @@ pub mod Scheduling
 pub mod Obedience
 pub mod Windows
 pub mod Delays
+pub mod KnownLaws
+pub mod Sources
 pub mod Outputs
 mod Rows
 mod Histories

@@ -3,13 +3,15 @@ use Rattle.std.proofs.Common.{◌≡◌, ℕ, ◌+◌, Bool, true, false, List, 
 use Rattle.std.specs.Prelude.{◌%◌, ◌==◌, cond, count_by, not}
 use Rattle.std.proofs.lemmas.List.Recursion.{is_count_by}
 use Rattle.std.specs.List.{list_any, list_all}
+use Rattle.std.proofs.lemmas.Bool.{cases_Bool}
 use Rattle.td_gates.specs.declared.primitives.Level.{Level}
 use Rattle.td_gates.specs.declared.primitives.Level.TheVariants.{Zero, One, X}
 use Rattle.td_gates.specs.declared.primitives.Kind.{Kind}
 use Rattle.td_gates.specs.declared.primitives.Kind.TheVariants.{And, Nand, Or, Nor, Xor, Xnor, Buf, Not}
 use Rattle.td_gates.specs.Table.{level_from, level_eq, table, and_of, or_of, xor_of, buf_of, inverse_of, TakesInputs}
 use Rattle.td_gates.specs.Outcomes.{MayBe, AllMayBe, IsOutcome}
-use Rattle.td_gates.proofs.TableLaws.{Agrees, AllAgree, table_known, cases_bool}
+use Rattle.td_gates.proofs.TableLaws.{AllAgree, table_known}
+use Rattle.td_gates.specs.Known.{Agrees}
 
 -- ---- each outcome is a bit that the table's level may be
 
@@ -120,7 +122,7 @@ some_high (X ∷ levels) some = refl
 
 and_choice : (levels : List Level) (bit : Bool) → MayBe (and_of levels) bit → Choice and_of levels bit
 unfolding low
-and_choice levels true may = elim (cases_bool (list_any (level_eq Zero) levels)) [
+and_choice levels true may = elim (cases_Bool (list_any (level_eq Zero) levels)) [
   | inl some ↦ absurd (rw some at may)
   | inr none ↦ record {
     bits = map high levels;
@@ -128,9 +130,9 @@ and_choice levels true may = elim (cases_bool (list_any (level_eq Zero) levels))
     result = rw (none_high levels none, all_high levels none) refl;
   }
 ]
-and_choice levels false may = elim (cases_bool (list_all (level_eq One) levels)) [
+and_choice levels false may = elim (cases_Bool (list_all (level_eq One) levels)) [
   | inr some ↦ record { bits = map low levels; allowed = low-allowed levels; result = rw (some_low levels some) refl }
-  | inl all ↦ elim (cases_bool (list_any (level_eq Zero) levels)) [
+  | inl all ↦ elim (cases_Bool (list_any (level_eq Zero) levels)) [
     | inl zero ↦ record { bits = map low levels; allowed = low-allowed levels; result = rw (zero_low levels zero) refl }
     | inr none ↦ absurd (rw (none, all) at may)
   ]
@@ -144,7 +146,7 @@ and_choice levels false may = elim (cases_bool (list_all (level_eq One) levels))
 
 or_choice : (levels : List Level) (bit : Bool) → MayBe (or_of levels) bit → Choice or_of levels bit
 unfolding high
-or_choice levels false may = elim (cases_bool (list_any (level_eq One) levels)) [
+or_choice levels false may = elim (cases_Bool (list_any (level_eq One) levels)) [
   | inl some ↦ absurd (rw some at may)
   | inr none ↦ record {
     bits = map low levels;
@@ -152,9 +154,9 @@ or_choice levels false may = elim (cases_bool (list_any (level_eq One) levels)) 
     result = rw (none_low levels none, all_low levels none) refl;
   }
 ]
-or_choice levels true may = elim (cases_bool (list_all (level_eq Zero) levels)) [
+or_choice levels true may = elim (cases_Bool (list_all (level_eq Zero) levels)) [
   | inr some ↦ record { bits = map high levels; allowed = high-allowed levels; result = rw (some_high levels some) refl }
-  | inl all ↦ elim (cases_bool (list_any (level_eq One) levels)) [
+  | inl all ↦ elim (cases_Bool (list_any (level_eq One) levels)) [
     | inl one ↦ record { bits = map high levels; allowed = high-allowed levels; result = rw (one_high levels one) refl }
     | inr none ↦ absurd (rw (none, all) at may)
   ]
@@ -207,7 +209,7 @@ record Parity (levels : List Level) (bit : Bool) : Type 0 where
   allowed : AllMayBe levels bits
   is : odd (map level_from bits) ≡ bit
 
-not-not : (bit : Bool) → not (not bit) ≡ bit
+pub not-not : (bit : Bool) → not (not bit) ≡ bit
 not-not true = refl
 not-not false = refl
 
@@ -245,7 +247,7 @@ parity_free (X ∷ levels) bit some = (let rest = some_parity levels in either r
     either false true rest = record { bits = true ∷ rest.bits; allowed = (tt, rest.allowed); is = odd-one (map level_from rest.bits) ∙ ap not rest.is }
 
 xor_choice : (levels : List Level) (bit : Bool) → MayBe (xor_of levels) bit → Choice xor_of levels bit
-xor_choice levels bit may = elim (cases_bool (list_any (level_eq X) levels)) [
+xor_choice levels bit may = elim (cases_Bool (list_any (level_eq X) levels)) [
   | inl some ↦ (let parity = parity_free levels bit some in
       record { bits = parity.bits; allowed = parity.allowed; result = xor-bits parity.bits bit parity.is })
   | inr none ↦ (let parity = parity_known levels none in
@@ -254,11 +256,11 @@ xor_choice levels bit may = elim (cases_bool (list_any (level_eq X) levels)) [
 ]
   where
     is_bit : (ls : List Level) (b : Bool) → list_any (level_eq X) ls ≡ false → MayBe (xor_of ls) b → odd ls ≡ b
-    is_bit ls true none allowed = elim (cases_bool (odd ls)) [
+    is_bit ls true none allowed = elim (cases_Bool (odd ls)) [
       | inl is ↦ is
       | inr is ↦ absurd (rw (none, count-ones ls, is) at allowed)
     ]
-    is_bit ls false none allowed = elim (cases_bool (odd ls)) [
+    is_bit ls false none allowed = elim (cases_Bool (odd ls)) [
       | inl is ↦ absurd (rw (none, count-ones ls, is) at allowed)
       | inr is ↦ is
     ]

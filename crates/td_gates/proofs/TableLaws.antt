@@ -1,12 +1,14 @@
 -- The tables on Boolean inputs, and on inputs of which some are known.
-use Rattle.std.proofs.Common.{◌≡◌, ◌≢◌, Bool, true, false, List, [], ◌∷◌, length, refl, arith, ap, ◌⊎◌, inl, inr}
+use Rattle.std.proofs.Common.{◌≡◌, ◌≢◌, true, false, List, [], ◌∷◌, length, refl, arith, ap, inl, inr}
 use Rattle.std.specs.Prelude.{◌%◌, ◌==◌, count_by}
 use Rattle.std.specs.List.{AllByRecursion, AllZip, list_any, list_all}
+use Rattle.std.proofs.lemmas.Bool.{cases_Bool}
 use Rattle.td_gates.specs.declared.primitives.Level.{Level}
 use Rattle.td_gates.specs.declared.primitives.Level.TheVariants.{Zero, One, X}
 use Rattle.td_gates.specs.declared.primitives.Kind.{Kind}
 use Rattle.td_gates.specs.declared.primitives.Kind.TheVariants.{And, Nand, Or, Nor, Xor, Xnor, Buf, Not}
 use Rattle.td_gates.specs.Table.{table, level_eq, and_of, or_of, xor_of, buf_of, inverse_of, TakesInputs}
+use Rattle.td_gates.specs.Known.{Agrees}
 
 -- Boolean inputs give a Boolean table
 abbrev pub Booleans : List Level → Type 0
@@ -35,24 +37,20 @@ no_x (Zero ∷ levels) h = no_x levels h.1
 no_x (One ∷ levels) h = no_x levels h.1
 no_x (X ∷ levels) h = absurd (h.0 refl)
 
-pub cases_bool : (b : Bool) → (b ≡ true) ⊎ (b ≡ false)
-cases_bool true = inl refl
-cases_bool false = inr refl
-
 and-boolean : (levels : List Level) → Booleans levels → and_of levels ≢ X
-and-boolean levels h = elim (cases_bool (list_any (level_eq Zero) levels)) [
+and-boolean levels h = elim (cases_Bool (list_any (level_eq Zero) levels)) [
   | inl some ↦ rw some (λ e. cc)
   | inr none ↦ rw (none, all_ones levels h none) (λ e. cc)
 ]
 
 or-boolean : (levels : List Level) → Booleans levels → or_of levels ≢ X
-or-boolean levels h = elim (cases_bool (list_any (level_eq One) levels)) [
+or-boolean levels h = elim (cases_Bool (list_any (level_eq One) levels)) [
   | inl some ↦ rw some (λ e. cc)
   | inr none ↦ rw (none, all_zeros levels h none) (λ e. cc)
 ]
 
 xor-boolean : (levels : List Level) → Booleans levels → xor_of levels ≢ X
-xor-boolean levels h = rw (no_x levels h) (elim (cases_bool (count_by (level_eq One) levels % 2 == 1)) [
+xor-boolean levels h = rw (no_x levels h) (elim (cases_Bool (count_by (level_eq One) levels % 2 == 1)) [
   | inl odd ↦ rw odd (λ e. cc)
   | inr even ↦ rw even (λ e. cc)
 ])
@@ -70,10 +68,6 @@ table-boolean Xor levels takes h = xor-boolean levels h
 table-boolean Xnor levels takes h = inverse-boolean (xor_of levels) (xor-boolean levels h)
 table-boolean Buf levels takes h = buf-boolean levels takes h
 table-boolean Not levels takes h = inverse-boolean (buf_of levels) (buf-boolean levels takes h)
-
--- a level is as known; x knows nothing
-abbrev pub Agrees : Level → Level → Type 0
-Agrees known level = known ≢ X → level ≡ known
 
 -- levels that are as known give the table that is known
 abbrev pub AllAgree : List Level → List Level → Type 0
@@ -121,25 +115,25 @@ no_x_zeros (Zero ∷ levels) all = no_x_zeros levels all
 no_x_zeros (X ∷ levels) all = cc
 
 and_known : (known levels : List Level) → AllAgree known levels → Agrees (and_of known) (and_of levels)
-and_known known levels agree = elim (cases_bool (list_any (level_eq Zero) known)) [
+and_known known levels agree = elim (cases_Bool (list_any (level_eq Zero) known)) [
   | inl some ↦ (λ clear. rw (some, any_zero known levels agree some) refl)
-  | inr none ↦ elim (cases_bool (list_all (level_eq One) known)) [
+  | inr none ↦ elim (cases_Bool (list_all (level_eq One) known)) [
     | inl all ↦ (λ clear. ap and_of (same_levels known levels agree (no_x_ones known all)))
     | inr some ↦ (λ clear. absurd (clear (rw (none, some) refl)))
   ]
 ]
 
 or_known : (known levels : List Level) → AllAgree known levels → Agrees (or_of known) (or_of levels)
-or_known known levels agree = elim (cases_bool (list_any (level_eq One) known)) [
+or_known known levels agree = elim (cases_Bool (list_any (level_eq One) known)) [
   | inl some ↦ (λ clear. rw (some, any_one known levels agree some) refl)
-  | inr none ↦ elim (cases_bool (list_all (level_eq Zero) known)) [
+  | inr none ↦ elim (cases_Bool (list_all (level_eq Zero) known)) [
     | inl all ↦ (λ clear. ap or_of (same_levels known levels agree (no_x_zeros known all)))
     | inr some ↦ (λ clear. absurd (clear (rw (none, some) refl)))
   ]
 ]
 
 xor_known : (known levels : List Level) → AllAgree known levels → Agrees (xor_of known) (xor_of levels)
-xor_known known levels agree = elim (cases_bool (list_any (level_eq X) known)) [
+xor_known known levels agree = elim (cases_Bool (list_any (level_eq X) known)) [
   | inl some ↦ (λ clear. absurd (clear (rw some refl)))
   | inr none ↦ (λ clear. ap xor_of (same_levels known levels agree none))
 ]

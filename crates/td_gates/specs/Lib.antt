@@ -3,6 +3,7 @@ pub mod Table
 pub mod Counts
 pub mod Outcomes
 pub mod Wave
+pub mod Known
 pub mod Schedule
 pub mod WindowRule
 pub mod Output

@@ -1,5 +1,5 @@
 -- The tables of the gate primitives (IEEE 1364-2005, clause 7) and the delay of a change.
-use Rattle.std.specs.Prelude.{◌≡◌, ℕ, ◌≤◌, Bool, true, false, ◌%◌, ◌==◌, List, [], ◌∷◌, min, count_by, if◌then◌else◌}
+use Rattle.std.specs.Prelude.{◌≡◌, ℕ, ◌≤◌, Bool, true, false, ◌%◌, ◌==◌, List, [], ◌∷◌, min, count_by, if◌then◌else◌, Option, Some, None}
 use Rattle.std.specs.List.{list_any, list_all}
 use Rattle.td_gates.specs.declared.primitives.Level.{Level}
 use Rattle.td_gates.specs.declared.primitives.Level.TheVariants.{Zero, One, X}
@@ -65,3 +65,16 @@ abbrev pub TakesInputs : Kind → ℕ → Type 0
 TakesInputs Buf n = n ≡ 1
 TakesInputs Not n = n ≡ 1
 TakesInputs kind n = 1 ≤ n
+
+-- the level of an input that settles the output by itself
+abbrev pub controlling : Kind → Option Level
+controlling And = Some Zero
+controlling Nand = Some Zero
+controlling Or = Some One
+controlling Nor = Some One
+controlling kind = None
+
+-- whether this is the controlling level
+abbrev pub controls : Option Level → Level → Bool
+controls None level = false
+controls (Some control) level = level_eq control level

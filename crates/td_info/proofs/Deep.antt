@@ -5,10 +5,8 @@ use Rattle.std.specs.List.{Contains}
 use Rattle.std.proofs.lemmas.Bool.{cases_lt}
 use Rattle.std.proofs.lemmas.List.{length-map, length-append}
 use Rattle.std.proofs.lemmas.Option.{slice_get-get_or}
-use Rattle.td_gates.proofs.Places.{some-same, slice_get-some, slice_get-within, slice_get-push_cases, slice_get-map_some, get-slice_get, slice_get-Contains, Contains-slice_get}
+use Rattle.td_gates.proofs.Places.{some-same, slice_get-some, slice_get-within, slice_get-push_cases, slice_get-map_some, slice_get-Contains, Contains-slice_get}
 use Rattle.td_nets.specs.Netlist.{Named, Gate}
-use Rattle.td_circuit.specs.declared.circuit.Gate.{Gate as DeclaredGate}
-use Rattle.td_circuit.specs.Views.{gate_of}
 use Rattle.td_circuit.specs.Loops.{Reads}
 use Rattle.td_circuit.specs.Numbering.{Numbered, NumberedGate, nets, first_output, IsGateAt, IsNumbering}
 use Rattle.td_circuit.proofs.Looping.{output_number}
@@ -50,12 +48,6 @@ map_at f xs i y at =
     (there.0, there.1, some-same (f there.0) y (sym (slice_get-map_some f xs i there.0 there.1) ∙ at))
 
 -- ---- depths
-
--- the gate of the code at a place
-pub numbered-at : (gates : List DeclaredGate) (numbered : List NumberedGate) (i : ℕ) (gate : DeclaredGate)
-    → map gate_of gates ≡ numbered → i < length gates → gate ≡ get_or gates i gate → slice_get numbered i ≡ Some (gate_of gate)
-numbered-at gates numbered i gate same h is =
-    rw (← same) (slice_get-map_some gate_of gates i gate (get-slice_get gates i gate gate h (sym is)))
 
 module _ (circuit : Numbered) (numbering : IsNumbering circuit) where
   -- a gate that drives the net of a number stands at its place

@@ -5,12 +5,12 @@ use Rattle.std.specs.List.{AllByRecursion}
 use Rattle.std.proofs.lemmas.List.Elements.{All-filter, All-contains}
 use Rattle.td_circuit.specs.Settings.{Setting}
 use Rattle.td_circuit.specs.Run.{IsDelayOfBits}
-use Rattle.td_nets.specs.Netlist.{Netlist}
 use Rattle.td_domain.specs.declared.cubes.Trit.{Trit}
 use Rattle.td_domain.specs.declared.cubes.Trit.TheVariants.{Zero, One, Free}
 use Rattle.td_domain.specs.Pairs.{Pair}
 use Rattle.td_domain.specs.Cubes.{IsIn}
 use Rattle.td_domain.specs.Admits.{Admitted, AreHeld, flips_of, IsAdmitted, HasAdmitted}
+use Rattle.td_domain.proofs.Lists.{all_append, all_parts}
 use Rattle.td_certificate.specs.declared.tree.Node.{Node}
 use Rattle.td_certificate.specs.declared.tree.Node.TheVariants as node
 use Rattle.td_certificate.specs.declared.certificate.Certificate.{Certificate}
@@ -20,6 +20,7 @@ use Rattle.td_certificate.specs.Walks.{Line, lines_from}
 use Rattle.td_certificate.specs.Accepts.{IsGood, IsOfCube, IsWithin, Accepts, setting_of}
 use Rattle.td_certificate.proofs.TreeLaws.{trees_are_counted}
 use Rattle.td_certificate.proofs.Walking.{lines_are_walked}
+use Rattle.td_certificate.proofs.Acceptance.{at_moments}
 use Rattle.td_join.specs.Joining.{pins_of, is_zero, is_one, is_known, AreJoined, alone, missing, halved, IsAlike, AcceptedTogether}
 use Rattle.td_join.proofs.Cubing.{wider, filter_has, Contains-less}
 use Rattle.td_join.proofs.Restricting.{is_known_at}
@@ -27,14 +28,6 @@ use Rattle.td_gates.proofs.Places.{All-from_contains}
 
 abbrev pub same_pairs : Admitted → List Trit → Admitted
 same_pairs admit pins = record admit { pins = pins }
-
-pub both_lists : {A : Type 0} (P : A → Type 0) (xs ys : List A) → AllByRecursion P xs → AllByRecursion P ys → AllByRecursion P (xs ++ ys)
-both_lists P [] ys h k = k
-both_lists P (x ∷ xs) ys h k = (h.0, both_lists P xs ys h.1 k)
-
-pub both_parts : {A : Type 0} (P : A → Type 0) (xs ys : List A) → AllByRecursion P (xs ++ ys) → AllByRecursion P xs × AllByRecursion P ys
-both_parts P [] ys h = (tt, h)
-both_parts P (x ∷ xs) ys h = let rest = both_parts P xs ys h.1 in ((h.0, rest.0), rest.1)
 
 -- ---- a tree that is good with its own pins and time is so with wider pins and a greater time
 
@@ -71,9 +64,9 @@ module _ (setting : Setting) (admit : Admitted) (own : List Trit) (least most : 
   unfolding lines_of
   lines_more (trees.Split position low high) cube part good =
       let free = good.0.splits in
-      let sides = both_parts (IsGood setting (same_pairs admit own) least) (lines_of (set cube position Zero) low) (lines_of (set cube position One) high) good.1 in (
+      let sides = all_parts (IsGood setting (same_pairs admit own) least) (lines_of (set cube position Zero) low) (lines_of (set cube position One) high) good.1 in (
         good_more cube (node.Split position) part good.0,
-        both_lists (IsGood setting admit most) (lines_of (set cube position Zero) low) (lines_of (set cube position One) high)
+        all_append (IsGood setting admit most) (lines_of (set cube position Zero) low) (lines_of (set cube position One) high)
             (lines_more low (set cube position Zero) (λ pair h. part pair (wider Zero cube position pair.first pair.second free h)) sides.0)
             (lines_more high (set cube position One) (λ pair h. part pair (wider One cube position pair.first pair.second free h)) sides.1),
       )
@@ -126,7 +119,7 @@ module _ (setting : Setting) (admit : Admitted) (most : ℕ) where
         ∙ ap (λ (ns : List Node). node.Split position ∷ (low ++ ns)) highs.nodes_are;
     good = (
       record { splits = free; one_pair = tt; of_cube = tt; within = tt },
-      both_lists (IsGood setting admit most) (lines_of (set cube position Zero) lows.tree) (lines_of (set cube position One) highs.tree) lows.good highs.good,
+      all_append (IsGood setting admit most) (lines_of (set cube position Zero) lows.tree) (lines_of (set cube position One) highs.tree) lows.good highs.good,
     );
   }
 
@@ -208,9 +201,6 @@ parts_inside admit _ _ _ (halved cube certificates position low high free known 
     ]
 
 -- ---- the law
-
-abbrev pub at_moments : Netlist → List ℕ → Setting
-at_moments netlist moments = record { netlist = netlist; moments = moments }
 
 same_question : (this that : Admitted) → this.held ≡ that.held → this.flips ≡ that.flips → that ≡ same_pairs this that.pins
 same_question this that held flips = rw (held, flips) refl

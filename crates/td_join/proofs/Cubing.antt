@@ -1,28 +1,21 @@
 -- Cubes with a bit put at a free position, and filters.
-use Rattle.std.proofs.Common.{◌≡◌, ◌≢◌, ℕ, zero, suc, Bool, true, false, List, [], ◌∷◌, map, set, Some, None, refl, sym, ap, subst, ◌∙◌, arith, cond, inl, inr, ◌⊎◌, Option}
+use Rattle.std.proofs.Common.{◌≡◌, ◌≢◌, ℕ, zero, suc, Bool, true, false, List, [], ◌∷◌, map, set, Some, refl, sym, ap, ◌∙◌, arith, cond, inl, inr, ◌⊎◌}
 use Rattle.std.specs.Prelude.{slice_get, filter, Contains}
+use Rattle.td_gates.proofs.Places.{none-some}
 use Rattle.td_domain.specs.declared.cubes.Trit.{Trit}
 use Rattle.td_domain.specs.declared.cubes.Trit.TheVariants.{Zero, One, Free}
 use Rattle.td_domain.specs.Cubes.{Allows, AllowsBits}
-
-none-some : {X : Type 0} (t : Trit) → None ≡ Some t → X
-none-some t e = absurd cc
-
-abbrev some_trit : Trit → Option Trit
-some_trit t = Some t
+use Rattle.td_domain.proofs.Bits.{some_trit, allows_free}
 
 pub same_trits : (this that : Trit) → some_trit this ≡ some_trit that → this ≡ that
 same_trits this that e = cc
 
-allows_free : (p : Trit) (bit : Bool) → p ≡ Free → Allows p bit
-allows_free p bit e = subst (λ t. Allows t bit) (sym e) tt
-
 -- a side lies in the whole
 pub wider : (t : Trit) (cube : List Trit) (position : ℕ) (before after : List Bool) → slice_get cube position ≡ Some Free
     → AllowsBits (set cube position t) before after → AllowsBits cube before after
-wider t [] position before after is h = none-some Free is
+wider t [] position before after is h = absurd (none-some Free is)
 wider t (p ∷ []) zero before after is h = absurd h
-wider t (p ∷ []) (suc position) before after is h = none-some Free is
+wider t (p ∷ []) (suc position) before after is h = absurd (none-some Free is)
 wider t (p ∷ q ∷ cube) zero [] after is h = absurd h
 wider t (p ∷ q ∷ cube) zero (a ∷ before) [] is h = absurd h
 wider t (p ∷ q ∷ cube) zero (a ∷ before) (b ∷ after) is h = (allows_free p a (same_trits p Free is), h.1, h.2)
@@ -55,9 +48,9 @@ meets Free Free bit h k = tt
 -- cubes with a pair in common have at each position trits that meet
 pub meet_at : (cube other : List Trit) (before after : List Bool) → AllowsBits cube before after → AllowsBits other before after
     → (position : ℕ) (this that : Trit) → slice_get cube position ≡ Some this → slice_get other position ≡ Some that → Meet this that
-meet_at [] other before after h k position this that e f = none-some this e
+meet_at [] other before after h k position this that e f = absurd (none-some this e)
 meet_at (p ∷ []) other before after h k position this that e f = absurd h
-meet_at (p ∷ q ∷ cube) [] before after h k position this that e f = none-some that f
+meet_at (p ∷ q ∷ cube) [] before after h k position this that e f = absurd (none-some that f)
 meet_at (p ∷ q ∷ cube) (u ∷ []) before after h k position this that e f = absurd k
 meet_at (p ∷ q ∷ cube) (u ∷ v ∷ other) [] after h k position this that e f = absurd h
 meet_at (p ∷ q ∷ cube) (u ∷ v ∷ other) (a ∷ before) [] h k position this that e f = absurd h

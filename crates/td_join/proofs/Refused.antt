@@ -2,7 +2,7 @@
 use Rattle.std.proofs.Common.{◌≡◌, ◌*◌, ℕ, Bool, true, false, List, [], ◌∷◌, length, set, refl, sym, ap, subst, ◌∙◌, arith}
 use Rattle.std.specs.Prelude.{◌==◌, ◌&&◌, ◌||◌}
 use Rattle.std.specs.List.{AllByRecursion, list_all}
-use Rattle.std.proofs.lemmas.Bool.{eqb-true}
+use Rattle.std.proofs.lemmas.Bool.{eqb-true, and_parts}
 use Rattle.std.proofs.lemmas.List.{length-set}
 use Rattle.std.proofs.lemmas.List.Folds.{list_any-append}
 use Rattle.td_nets.specs.Netlist.{Netlist}
@@ -12,6 +12,7 @@ use Rattle.td_domain.specs.declared.cubes.Trit.TheVariants.{Zero, One}
 use Rattle.td_domain.specs.Pairs.{Pair}
 use Rattle.td_domain.specs.Cubes.{IsIn}
 use Rattle.td_domain.specs.Admits.{Admitted, HasAdmitted}
+use Rattle.td_domain.proofs.Lists.{all_parts}
 use Rattle.td_certificate.specs.declared.tree.Node.{Node}
 use Rattle.td_certificate.specs.declared.question.Version.TheVariants.{First}
 use Rattle.td_certificate.specs.declared.certificate.Certificate.{Certificate}
@@ -24,9 +25,8 @@ use Rattle.td_certificate.proofs.TreeLaws.{trees_are_counted}
 use Rattle.td_certificate.proofs.Walking.{lines_are_walked}
 use Rattle.td_join.specs.Joining.{pins_of, says_none, has_none}
 use Rattle.td_join.specs.Steps.{HasFit}
-use Rattle.td_join.proofs.Acceptance.{both_parts}
 use Rattle.td_join.proofs.Cubing.{wider}
-use Rattle.td_join.proofs.Spelled.{first_bits, second_bits, in_cube, first_count, both_true, none_held, few_flips, all_admitted}
+use Rattle.td_join.proofs.Spelled.{first_bits, second_bits, in_cube, first_count, none_held, few_flips, all_admitted}
 
 neither : (a b : Bool) → a ≡ false → b ≡ false → (a || b) ≡ false
 neither false b e f = f
@@ -54,7 +54,7 @@ module _ (setting : Setting) (admit : Admitted) (most : ℕ) (fits : length admi
   unfolding nodes_of lines_of
   good_none (trees.Split position low high) cube same part good =
       let free = good.0.splits in
-      let sides = both_parts (IsGood setting admit most) (lines_of (set cube position Zero) low) (lines_of (set cube position One) high) good.1 in
+      let sides = all_parts (IsGood setting admit most) (lines_of (set cube position Zero) low) (lines_of (set cube position One) high) good.1 in
       list_any-append says_none (nodes_of low) (nodes_of high) ∙ neither (has_none (nodes_of low)) (has_none (nodes_of high))
       (good_none low (set cube position Zero) (length-set cube position Zero ∙ same)
       (λ pair h. part pair (wider Zero cube position pair.first pair.second free h)) sides.0)
@@ -67,8 +67,8 @@ module _ (setting : Setting) (admit : Admitted) (most : ℕ) (fits : length admi
 pub refused : (question : Question) (c : Certificate) (netlist : Netlist) → version_of question ≡ First → question.admit.held ≡ c.question.admit.held
     → question.admit.flips ≡ c.question.admit.flips → HasFit c → has_none c.tree ≡ true → ¬ Accepts netlist c
 refused question c netlist first held flips fit none accepts =
-    let one = both_true (list_all is_free question.admit.pins) (holds_none question.admit.held && (question.admit.flips == length question.admit.held)) (all_admitted question first) in
-    let two = both_true (holds_none question.admit.held) (question.admit.flips == length question.admit.held) one.1 in
+    let one = and_parts (list_all is_free question.admit.pins) (holds_none question.admit.held && (question.admit.flips == length question.admit.held)) (all_admitted question first) in
+    let two = and_parts (holds_none question.admit.held) (question.admit.flips == length question.admit.held) one.1 in
     let t = trees_are_counted.has_tree c.tree accepts.tree in
     let walked : lines_from (pins_of c ∷ []) c.tree ≡ lines_of (pins_of c) t.0 =
     ap (λ (ns : List Node). lines_from (pins_of c ∷ []) ns) (sym t.1) ∙ lines_are_walked t.0 (pins_of c) in

@@ -2,7 +2,7 @@
 use Rattle.std.proofs.Common.{◌≡◌, ◌≢◌, ◌≤◌, ◌*◌, ℕ, zero, suc, Bool, true, false, List, [], ◌∷◌, length, refl, sym, ap, subst, ◌∙◌, arith}
 use Rattle.std.specs.Prelude.{slice_get, All, ◌==◌, ◌&&◌, if◌then◌else◌}
 use Rattle.std.specs.List.{AllByRecursion, list_all}
-use Rattle.std.proofs.lemmas.Bool.{eqb-true}
+use Rattle.std.proofs.lemmas.Bool.{eqb-true, and_parts}
 use Rattle.std.proofs.lemmas.List.{length-set}
 use Rattle.std.proofs.lemmas.List.Elements.{All-filter, All-contains}
 use Rattle.std.proofs.lemmas.Option.{slice_get_within}
@@ -12,6 +12,7 @@ use Rattle.td_domain.specs.declared.cubes.Trit.TheVariants.{Zero, One, Free}
 use Rattle.td_domain.specs.Pairs.{Pair}
 use Rattle.td_domain.specs.Cubes.{Allows, AllowsBits}
 use Rattle.td_domain.specs.Admits.{Admitted, AreHeld, flip_of, flips_of, HasAdmitted}
+use Rattle.td_domain.proofs.Lists.{all_append}
 use Rattle.td_certificate.specs.declared.tree.Node.{Node}
 use Rattle.td_certificate.specs.declared.tree.Node.TheVariants as node
 use Rattle.td_certificate.specs.declared.question.Version.{Version}
@@ -21,7 +22,6 @@ use Rattle.td_certificate.specs.Questions.{Question, inputs_of, is_free, holds_n
 use Rattle.td_certificate.specs.Spelling.{HasSpelling, IsNode, version_in, latest}
 use Rattle.td_certificate.specs.Trees.{IsTree, has_edges}
 use Rattle.td_join.specs.Joining.{pins_of, is_zero, is_one, has_none, AreJoined, alone, missing, halved, IsAlike, IsJoined}
-use Rattle.td_join.proofs.Acceptance.{both_lists}
 
 -- ---- where all pairs are admitted, one lies in each cube
 
@@ -61,10 +61,6 @@ second_count (p ∷ []) inputs fits = absurd (omega (arith, fits))
 second_count (p ∷ q ∷ cube) zero fits = absurd (omega (arith, fits))
 second_count (p ∷ q ∷ cube) (suc inputs) fits = omega (arith, second_count cube inputs (omega (arith, fits)))
 
-pub both_true : (a b : Bool) → (a && b) ≡ true → (a ≡ true) × (b ≡ true)
-both_true true b e = (refl, e)
-both_true false b e = absurd cc
-
 allows_any : (t : Trit) (bit : Bool) → is_free t ≡ true → Allows t bit
 allows_any Free bit e = tt
 allows_any Zero bit e = absurd cc
@@ -79,8 +75,8 @@ in_free (p ∷ []) before after free fits same = absurd (omega (arith, fits))
 in_free (p ∷ q ∷ pins) [] after free fits same = absurd (omega (arith, fits))
 in_free (p ∷ q ∷ pins) (a ∷ before) [] free fits same = absurd (omega (arith, same))
 in_free (p ∷ q ∷ pins) (a ∷ before) (b ∷ after) free fits same =
-    let one = both_true (is_free p) (is_free q && list_all is_free pins) free in
-    let two = both_true (is_free q) (list_all is_free pins) one.1 in
+    let one = and_parts (is_free p) (is_free q && list_all is_free pins) free in
+    let two = and_parts (is_free q) (list_all is_free pins) one.1 in
     (allows_any p a one.0, allows_any q b two.0, in_free pins before after two.1 (omega (arith, fits)) (omega (arith, same)))
 
 pub none_held : (held before after : List Bool) → holds_none held ≡ true → AreHeld held before after
@@ -104,8 +100,8 @@ few_flips (a ∷ before) (b ∷ after) = omega (arith, one_flip a b, few_flips b
 each_has : (admit : Admitted) (cube : List Trit) → admits_all admit ≡ true → length admit.pins ≡ 2 * length admit.held → length cube ≡ length admit.pins
     → HasAdmitted admit cube
 each_has admit cube all fits same =
-    let one = both_true (list_all is_free admit.pins) (holds_none admit.held && (admit.flips == length admit.held)) all in
-    let two = both_true (holds_none admit.held) (admit.flips == length admit.held) one.1 in
+    let one = and_parts (list_all is_free admit.pins) (holds_none admit.held && (admit.flips == length admit.held)) all in
+    let two = and_parts (holds_none admit.held) (admit.flips == length admit.held) one.1 in
     let flips = eqb-true admit.flips (length admit.held) two.1 in
     let here : length cube ≡ 2 * length admit.held = same ∙ fits in
     let before = first_count cube (length admit.held) here in
@@ -155,7 +151,7 @@ joined_nodes admit version fits _ _ _ few long none all (alone c) =
 joined_nodes admit version fits _ _ _ few long none all (missing cube empty) = (none cube long empty, tt)
 joined_nodes admit version fits _ _ _ few long none all (halved cube certificates position low high free known lows highs) = (
   omega (arith, slice_get_within cube position Free free, long, few),
-  both_lists (IsNode version) low high
+  all_append (IsNode version) low high
       (joined_nodes admit version fits _ _ low few (length-set cube position Zero ∙ long) none
       (All-filter (λ c. is_zero (slice_get (pins_of c) position)) (λ c. AllByRecursion (IsNode version) c.tree) certificates all) lows)
       (joined_nodes admit version fits _ _ high few (length-set cube position One ∙ long) none

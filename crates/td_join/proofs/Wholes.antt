@@ -17,12 +17,10 @@ use Rattle.td_join.specs.Faults.{IsGap, IsUnjoinable, IsJoinFault}
 use Rattle.td_join.specs.Steps.{HasFit, IsJoinable, IsFalseNoneIn}
 use Rattle.td_join.specs.Stacks.{IsOfQuestion, IsTreeFault}
 use Rattle.td_join.proofs.Refused.{refused}
+use Rattle.td_join.proofs.Acceptance.{same_pairs}
 
 abbrev pub whole_of : ℕ → Question → ℕ → Pair → List Node → Certificate
 whole_of gates question time pair tree = record { gates = gates; question = question; time = time; pair = pair; tree = tree }
-
-abbrev with_trits : Admitted → List Trit → Admitted
-with_trits admit pins = record admit { pins = pins }
 
 pub is_joined : (certificates : List Certificate) (gates : ℕ) (question : Question) (first : Certificate) (place : ℕ) (pair : Pair) (tree nodes : List Node)
     → slice_get certificates place ≡ Some first → All (IsOfQuestion gates question) certificates → All (λ c. c.time ≤ first.time) certificates
@@ -58,7 +56,7 @@ module _ (certificates : List Certificate) (gates : ℕ) (question : Question) (
       let yours = All-contains (IsAlike whole) certificates c joined.alike joined.pair.among in
       let same : whole.question.admit ≡ question.admit =
       same_admit whole.question.admit c.question.admit yours.held yours.flips
-      ∙ ap (λ (x : List Trit). with_trits c.question.admit x) joined.pins_are ∙ sym mine in
+      ∙ ap (λ (x : List Trit). same_pairs c.question.admit x) joined.pins_are ∙ sym mine in
       none (whole.tree, subst (λ (a : Admitted). AreJoined a question.admit.pins certificates whole.tree) same joined.tree)
 
   pub told : (fault : JoinFault) → IsTreeFault question.admit certificates fault → IsJoinFault certificates question.admit.pins fault

@@ -1,6 +1,6 @@
 //! The least cube that has the pins of all certificates, and whether pins lie in a cube.
 
-ghost use Rattle.std.specs.Prelude.{◌≡◌, ◌≢◌, ◌<◌, ◌≤◌, length, false, map, IfOk, IfErr, OnOk, IsTrue, All, slice_get, Some};
+ghost use Rattle.std.specs.Prelude.{◌≡◌, ◌≢◌, ◌<◌, length, false, IfOk, IfErr, OnOk, IsTrue, All, slice_get, Some};
 ghost use Rattle.td_domain.specs.declared.cubes.Trit.{Trit as TritModel};
 ghost use Rattle.td_join.specs.Faults.{IsOutside, IsOutsideAt, IsOutsideIn};
 ghost use Rattle.td_join.specs.Joining.{pins_of, widest, both, hull};

@@ -1,6 +1,6 @@
 //! An admitted pair whose bits change, and that stays admitted.
 
-ghost use Rattle.std.specs.Prelude.{◌≡◌, ◌*◌, ◌<◌, ◌≤◌, ◌↔◌, length, IfOk, IsTrue};
+ghost use Rattle.std.specs.Prelude.{◌≡◌, ◌*◌, ◌<◌, ◌≤◌, ◌↔◌, length, IsTrue};
 ghost use Rattle.td_domain.specs.Admits.{IsAdmitted, flip_of, flips_of};
 ghost use Rattle.td_domain.specs.Cubes.{Allows};
 ghost use Rattle.td_lead.specs.Bits.{IsFit, AreAdmitted};

@@ -4,7 +4,6 @@ ghost use Rattle.std.specs.Prelude.{◌≡◌, ◌<◌, ◌≤◌, length, IfOk}
 ghost use Rattle.td_circuit.specs.Numbering.{setting};
 ghost use Rattle.td_domain.specs.Admits.{IsAdmitted};
 ghost use Rattle.td_event_sim.specs.Scratch.{IsFor};
-ghost use Rattle.td_lead.specs.Bits.{AreAdmitted};
 ghost use Rattle.td_lead.specs.Climbing.{IsTimed, tries_of};
 
 use crate::bits::Bits;

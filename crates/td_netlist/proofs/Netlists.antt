@@ -4,7 +4,7 @@ use Rattle.std.specs.Prelude.{MatchOption}
 use Rattle.std.specs.List.{AllByRecursion}
 use Rattle.td_gates.specs.declared.timing.Delay.{Delay}
 use Rattle.td_syntax.specs.Grammar as grammar
-use Rattle.td_syntax.specs.Grammar.{ArePorts, IsItem, item_gates, unit_exponent}
+use Rattle.td_syntax.specs.Grammar.{ArePorts, IsItem, unit_exponent}
 use Rattle.td_netlist.specs.declared.fault.Fault.{Fault}
 use Rattle.td_nets.specs.Netlist.{Gate}
 use Rattle.td_netlist.specs.declared.fault.FaultKind.{FaultKind}

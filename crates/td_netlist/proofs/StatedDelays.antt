@@ -8,7 +8,6 @@ use Rattle.td_syntax.specs.Grammar.{IsItem, IsStatedDelay}
 use Rattle.td_syntax.specs.Views.{option_delay_view}
 use Rattle.td_netlist.specs.declared.primitive.Primitive as code_primitive
 use Rattle.td_netlist.specs.Module.{Primitive, as_primitive, item_primitives}
-use Rattle.td_netlist.specs.Checks.{IsRanged}
 use Rattle.td_netlist.specs.CheckViews.{primitive_of}
 
 abbrev AreStatedDelays : ℕ → List Primitive → Type 0

@@ -6,7 +6,7 @@ ghost use Rattle.td_syntax.specs.Grammar.{IsItem, IsPort, ArePorts, unit_exponen
 ghost use Rattle.td_netlist.specs.Ranges.{IsLimited, nets_of};
 ghost use Rattle.td_syntax.specs.Views.{name_view, names_view, port_view, ports_view, module_view, item_view};
 ghost use Rattle.td_netlist.specs.Faults.{Gives};
-ghost use Rattle.td_netlist.specs.Module.{scalar, ports, port_name, port_names, is_input, is_wire};
+ghost use Rattle.td_netlist.specs.Module.{scalar, ports, port_name, is_input, is_wire};
 ghost use Rattle.td_netlist.specs.Checks.{each, list_port, with_port, declare, declare_wire, declare_direction, declare_item, declare_port, declare_ports, IsRanged, nothing, portless, sideless, placed_at, take_side, sides_at, declared_at, known, is_other, input_bits};
 ghost use Rattle.td_netlist.specs.NameViews.{name_ref_of, placed_ref_of};
 ghost use Rattle.td_netlist.specs.CheckViews.{lists_of, ported_of, sides_of};
@@ -19,7 +19,7 @@ use crate::names::Names;
 use crate::ranges::{Range, push_nets, range_of, width_of};
 use std::alloc::{AllocError, Global};
 use td_nets::SeededState;
-use td_syntax::{Declaration, Item, Module, Name as Placed, Port, Ports, Role};
+use td_syntax::{Item, Module, Name as Placed, Port, Ports, Role};
 
 /// The greatest number of inputs.
 const MAX_INPUTS: usize = 4_096;

@@ -1,6 +1,6 @@
 //! Checks the terminals of a module's gates and the drivers of its nets.
 
-ghost use Rattle.std.specs.Prelude.{◌≡◌, [], map, Ok, IfOk};
+ghost use Rattle.std.specs.Prelude.{◌≡◌, map, Ok, IfOk};
 ghost use Rattle.td_syntax.specs.Views.{terminal_view};
 ghost use Rattle.td_netlist.specs.Faults.{Gives};
 ghost use Rattle.td_netlist.specs.PlacedNets.{different};

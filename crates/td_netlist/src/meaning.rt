@@ -3,7 +3,6 @@
 ghost use Rattle.std.specs.Prelude.{◌≡◌, ◌≤◌, map, sum_by, Ok, IfOk, IfErr};
 ghost use Rattle.std.specs.List.{AllByRecursion};
 ghost use Rattle.td_syntax.specs.Grammar.{IsItem, ArePorts, item_gates, unit_exponent};
-ghost use Rattle.td_syntax.specs.Text.{Parses};
 ghost use Rattle.td_syntax.specs.Views.{module_view};
 ghost use Rattle.td_nets.specs.Netlist as netlist;
 ghost use Rattle.td_netlist.specs.Faults.{IsUnlessMemory, UnlessMemory, Fails};

@@ -1,6 +1,6 @@
 //! The bits of declared names.
 
-ghost use Rattle.std.specs.Prelude.{◌≡◌, ◌<◌, ◌≤◌, ◌++◌, List, map, OnOk};
+ghost use Rattle.std.specs.Prelude.{◌≡◌, ◌<◌, ◌++◌, map, OnOk};
 ghost use Rattle.td_syntax.specs.Grammar.{IsMaybeRange};
 ghost use Rattle.td_syntax.specs.Views.{option_range_view};
 ghost use Rattle.td_netlist.specs.Ranges.{range_of, IsLimited, width_of, bit_at, holds, nets_of};

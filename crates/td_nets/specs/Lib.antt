@@ -9,3 +9,4 @@ pub mod WellFormed
 pub mod Views
 pub mod Printed
 pub mod Seeds
+pub mod Scales

@@ -16,7 +16,7 @@ use Rattle.td_join.proofs.Cubing.{wider, meet_at}
 use Rattle.td_join.proofs.Restricting.{order, same, apart}
 use Rattle.td_parts.specs.Sharing.{IsShare, AreShares}
 
-abbrev Cubes : Type 0
+abbrev pub Cubes : Type 0
 Cubes = List (List Trit)
 
 -- a pair lies in one side alone

@@ -7,9 +7,7 @@ use Rattle.td_domain.specs.declared.cubes.Trit.TheVariants.{Zero, One, Free}
 use Rattle.td_join.specs.Stacks.{most_nodes}
 use Rattle.td_join.proofs.Weights.{Known, zero_is, one_is, halved_nodes}
 use Rattle.td_parts.specs.Sharing.{weight}
-
-abbrev Cubes : Type 0
-Cubes = List (List Trit)
+use Rattle.td_parts.proofs.Shares.{Cubes}
 
 same_cubes : (this that : List Trit) → Some this ≡ Some that → this ≡ that
 same_cubes this that e = cc

@@ -1,6 +1,6 @@
 //! Cutting the pins of a question into parts.
 
-ghost use Rattle.std.specs.Prelude.{◌≡◌, ℕ, [], ◌∷◌, ◌++◌, ◌*◌, ◌<◌, ◌≤◌, ◌+◌, max, set, IfOk, IfSome, OnOk, All, length, slice_get, Some};
+ghost use Rattle.std.specs.Prelude.{◌≡◌, [], ◌∷◌, ◌++◌, ◌*◌, ◌<◌, ◌≤◌, ◌+◌, max, set, IfOk, IfSome, OnOk, All, length, slice_get, Some};
 ghost use Rattle.td_domain.specs.declared.cubes.Trit.TheVariants.{Free};
 ghost use Rattle.td_domain.specs.Admits.{HasAdmitted};
 ghost use Rattle.td_certificate.specs.Cubes.{zero_side, one_side};

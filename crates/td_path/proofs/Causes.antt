@@ -13,9 +13,9 @@ use Rattle.td_gates.proofs.Levels.{cases_level, level_eq-same, level_eq-other}
 use Rattle.td_gates.proofs.Places.{some-same, slice_get-some, slice_get-within, slice_get-get}
 use Rattle.td_gates.proofs.Delays.{delayed}
 use Rattle.td_gates.specs.declared.primitives.Level.TheVariants.{X}
+use Rattle.td_gates.proofs.Sources.{source}
 use Rattle.td_run.specs.Waves.{constant, waves_of}
 use Rattle.td_path.specs.Walks.{wave_at, ChangesAt, SomeChanges, AreKept, IsFirstChange}
-use Rattle.td_path.proofs.Sources.{source}
 
 -- where the levels of these nets differ one of them changes
 some_changes : (waves : List Wave) (numbers : List ℕ) (t : ℕ)
@@ -104,6 +104,6 @@ has_cause kind delay fits waves numbers out moment obeys changes =
       earlier = from.moment;
       put_off = from.put_off;
       target = from.same;
-      changed = λ same. from.change (from.same ∙ sym same);
-      some = some_changes waves numbers from.moment (λ equal. from.change (ap (table kind) equal));
+      changed = λ same. from.reaches.change (from.same ∙ sym same);
+      some = some_changes waves numbers from.moment (λ equal. from.reaches.change (ap (table kind) equal));
     }

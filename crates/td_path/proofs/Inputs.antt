@@ -1,14 +1,14 @@
 -- An input changes at its own moment.
-use Rattle.std.proofs.Common.{◌≡◌, ℕ, zero, suc, ◌<◌, ◌≤◌, List, [], ◌∷◌, map, refl, arith, ◌∙◌, sym, ap, inl, inr, Some}
+use Rattle.std.proofs.Common.{◌≡◌, ℕ, zero, suc, ◌<◌, ◌≤◌, List, [], ◌∷◌, refl, arith, ◌∙◌, sym, ap, inl, inr, Some}
 use Rattle.std.specs.Prelude.{slice_get, nat_lt, if◌then◌else◌}
 use Rattle.std.proofs.lemmas.Bool.{cases_lt, lt-ltb, le-ltb}
 use Rattle.td_gates.specs.declared.primitives.Level.{Level}
 use Rattle.td_gates.specs.Wave.{Wave, at}
-use Rattle.td_gates.proofs.Places.{none-some, some-same, slice_get-map_some}
+use Rattle.td_gates.proofs.Places.{none-some, some-same}
 use Rattle.td_nets.specs.Netlist.{Name, Net, Named}
 use Rattle.td_circuit.specs.Settings.{Setting}
 use Rattle.td_circuit.specs.Run.{inputs_at, Runs}
-use Rattle.td_run.proofs.Named.{inputs_at-at}
+use Rattle.td_run.proofs.Named.{inputs_at-at, slice_get-level}
 use Rattle.td_path.specs.Walks.{ChangesAt}
 
 -- the parts of a level of the inputs
@@ -60,19 +60,15 @@ one_change wave second moment (suc u) each changes = elim (cases_lt (suc u) mome
   ]
 ]
 
-slice_get-mapped : (f : Name → Level) (names : List Name) (levels : List Level) (i : ℕ) (name : Name)
-    → map f names ≡ levels → slice_get names i ≡ Some name → slice_get levels i ≡ Some (f name)
-slice_get-mapped f names levels i name same at_i = rw (← same) (slice_get-map_some f names i name at_i)
-
 pub input_moment : (setting : Setting) (firsts seconds : List Level) (waves : Net → Wave) → Runs setting firsts seconds waves
     → (i : ℕ) (name : Name) (t : ℕ) → slice_get setting.netlist.inputs i ≡ Some name → ChangesAt (waves (Named name)) t
     → slice_get setting.moments i ≡ Some t
 input_moment setting firsts seconds waves runs i name t at_i changes =
     let level = λ (u : ℕ).
-    slice_get-mapped (λ x. at (waves (Named x)) u) setting.netlist.inputs (inputs_at u setting.moments firsts seconds) i name (runs.inputs u) at_i in
+    slice_get-level (λ x. at (waves (Named x)) u) setting.netlist.inputs (inputs_at u setting.moments firsts seconds) i name (runs.inputs u) at_i in
     let parts = parts_of 0 setting.moments firsts seconds i (at (waves (Named name)) 0) (level 0) in
     let start : slice_get firsts i ≡ Some (waves (Named name)).start =
-    slice_get-mapped (λ x. (waves (Named x)).start) setting.netlist.inputs firsts i name runs.settled.inputs at_i in
+    slice_get-level (λ x. (waves (Named x)).start) setting.netlist.inputs firsts i name runs.settled.inputs at_i in
     let each = λ (u : ℕ).
     some-same (at (waves (Named name)) u) (if nat_lt u parts.moment then (waves (Named name)).start else parts.second)
     (sym (level u) ∙ inputs_at-at u firsts seconds setting.moments i (waves (Named name)).start parts.second parts.moment start parts.is_second parts.is_moment) in

@@ -1,4 +1,3 @@
-pub mod Sources
 pub mod Causes
 pub mod Inputs
 pub mod Lasts

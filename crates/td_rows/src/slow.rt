@@ -1,6 +1,6 @@
 //! The scheduling rule as it is defined, moment by moment: slow, for tests of what goes from event to event.
 
-ghost use Rattle.std.specs.Prelude.{◌≡◌, ◌≤◌, ◌<◌, ◌^◌, ◌+◌, length, map, IfOk};
+ghost use Rattle.std.specs.Prelude.{◌≡◌, ◌<◌, ◌^◌, ◌+◌, length, map, IfOk};
 ghost use Rattle.td_gates.specs.Table.{TakesInputs};
 ghost use Rattle.td_gates.specs.Wave.{at, before};
 ghost use Rattle.td_gates.specs.Schedule.{step, updated};

@@ -1,14 +1,11 @@
 //! The levels of a gate's target at the moments at which an input changes.
 
-ghost use Rattle.std.specs.Prelude.{◌≡◌, ℕ, ◌+◌, ◌<◌, ◌≤◌, ◌^◌, ◌++◌, [], ◌∷◌, drop, length, map, IfOk, OnOk, IsPermutation};
-ghost use Rattle.std.specs.List.{All, Contains};
-ghost use Rattle.std.specs.List.Sorted.{IsStrictlyIncreasing, IsNonDecreasingBy};
+ghost use Rattle.std.specs.Prelude.{◌≡◌, ◌+◌, ◌<◌, ◌≤◌, ◌^◌, ◌++◌, [], ◌∷◌, drop, length, map, IfOk, OnOk, IsPermutation};
+ghost use Rattle.std.specs.List.{All};
 ghost use Rattle.td_gates.specs.declared.primitives.Level.{Level as LevelModel};
 ghost use Rattle.td_gates.specs.Counts.{count_at, counts_of};
-ghost use Rattle.td_gates.specs.Table.{TakesInputs};
 ghost use Rattle.td_gates.specs.Wave.{IsWave};
-ghost use Rattle.td_gates.specs.Schedule.{target_at};
-ghost use Rattle.td_run.specs.Waves.{waves_of, change_moments};
+ghost use Rattle.td_run.specs.Waves.{waves_of};
 ghost use Rattle.td_run.specs.Turns.{turns_from, turns_of, is_next, samples_from, changing, IsSortedFrom};
 
 use crate::wave::Wave;

@@ -1,10 +1,9 @@
 //! The two stages of a gate: the wave of its target, and that wave delayed.
 
-ghost use Rattle.std.specs.Prelude.{◌≡◌, ℕ, ◌+◌, ◌-◌, ◌<◌, ◌≤◌, ◌^◌, [], ◌∷◌, ◌++◌, length, map, IfOk, OnOk};
-ghost use Rattle.std.specs.List.{All, Contains};
-ghost use Rattle.std.specs.List.Sorted.{IsStrictlyIncreasing};
+ghost use Rattle.std.specs.Prelude.{◌≡◌, ℕ, ◌+◌, ◌-◌, ◌<◌, ◌≤◌, ◌^◌, [], ◌∷◌, length, IfOk};
+ghost use Rattle.std.specs.List.{All};
 ghost use Rattle.td_gates.specs.Table.{TakesInputs};
-ghost use Rattle.td_gates.specs.Wave.{at, before, IsWave};
+ghost use Rattle.td_gates.specs.Wave.{before, IsWave};
 ghost use Rattle.td_gates.specs.Schedule.{Obeys, target_before};
 ghost use Rattle.td_run.specs.Waves.{AreWithin, event_for, due, waves_of};
 

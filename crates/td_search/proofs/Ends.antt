@@ -2,6 +2,9 @@
 -- domain says the finish of a gate's output by the gate's table.
 use Rattle.std.proofs.Common.{◌≡◌, ℕ, zero, suc, ◌+◌, ◌≤◌, max, Bool, List, [], ◌∷◌, ◌++◌, length, map, take, drop, refl, arith, inl, inr, sym, ap, ◌∙◌}
 use Rattle.std.specs.Prelude.{nat_le}
+use Rattle.std.proofs.lemmas.Bool.{cases_Bool}
+use Rattle.std.proofs.lemmas.List.{append-nil}
+use Rattle.td_domain.proofs.Lists.{take-drop}
 use Rattle.td_gates.specs.declared.primitives.Level.{Level}
 use Rattle.td_gates.specs.declared.primitives.Level.TheVariants.{Zero as Low, One as High, X}
 use Rattle.td_gates.specs.declared.primitives.Kind.{Kind}
@@ -11,10 +14,11 @@ use Rattle.td_gates.specs.Delays.{IsInRange}
 use Rattle.td_gates.specs.Table.{level_eq, table}
 use Rattle.td_gates.specs.Wave.{Wave, before, level_after}
 use Rattle.td_gates.specs.Schedule.{target_before}
-use Rattle.td_gates.proofs.TableLaws.{Agrees, AllAgree, table_known}
+use Rattle.td_gates.proofs.TableLaws.{AllAgree, table_known}
+use Rattle.td_gates.specs.Known.{Agrees}
 use Rattle.td_ternary.specs.Possibles as possible
 use Rattle.td_ternary.specs.Possibles.{has, set_of, change_at, changes_below, last_input, last_level, widened, capped, is_possible}
-use Rattle.td_ternary.specs.PossibleLaws.{cases_bool, same_is, settled, possible_stays}
+use Rattle.td_ternary.specs.PossibleLaws.{same_is, settled, possible_stays}
 
 -- the level that a signal of possible levels ends at
 abbrev pub end_of : Wave → Level
@@ -25,19 +29,15 @@ last-pushed : (level : Level) (changes : List Change) (change : Change) → last
 last-pushed level [] change = refl
 last-pushed level (first ∷ changes) change = last-pushed first.level changes change
 
-append-none : {A : Type 0} (xs : List A) → xs ++ [] ≡ xs
-append-none [] = refl
-append-none (x ∷ xs) = ap (λ ys. x ∷ ys) (append-none xs)
-
 last-listed : (f : ℕ → Level) (end : ℕ) → last_level (f 0) (changes_below f end) ≡ f end
 last-listed f zero = refl
-last-listed f (suc end) = elim (cases_bool (level_eq (f end) (f (suc end)))) [
-  | inl same ↦ rw (same, append-none (changes_below f end)) (last-listed f end ∙ same_is (f end) (f (suc end)) same)
+last-listed f (suc end) = elim (cases_Bool (level_eq (f end) (f (suc end)))) [
+  | inl same ↦ rw (same, append-nil (changes_below f end)) (last-listed f end ∙ same_is (f end) (f (suc end)) same)
   | inr other ↦ rw other (last-pushed (f 0) (changes_below f end) (record { moment = end; level = f (suc end) }))
 ]
 
 pub last-changed : (moment : ℕ) (old new : Level) → last_level old (change_at moment old new) ≡ new
-last-changed moment old new = elim (cases_bool (level_eq old new)) [
+last-changed moment old new = elim (cases_Bool (level_eq old new)) [
   | inl same ↦ rw same (same_is old new same)
   | inr other ↦ rw other refl
 ]
@@ -76,7 +76,7 @@ possible-end kind delay fits signals =
 
 -- more changes than a signal may have end at both levels
 widened-end : (start : Level) (first rest : List Change) (whole : List Change) → first ++ rest ≡ whole → Agrees (last_level start (widened start first rest)) (last_level start whole)
-widened-end start first [] whole is = λ known. sym (ap (last_level start) (sym (append-none first) ∙ is))
+widened-end start first [] whole is = λ known. sym (ap (last_level start) (sym (append-nil first) ∙ is))
 widened-end start first (change ∷ later) whole is = λ known. absurd (known (go (last_level start first) refl))
   where
     last-append : (level : Level) (front back : List Change) → last_level level (front ++ back) ≡ last_level (last_level level front) back
@@ -86,13 +86,8 @@ widened-end start first (change ∷ later) whole is = λ known. absurd (known (g
     go : (level : Level) → last_level start first ≡ level → last_level start (first ++ change_at change.moment (last_level start first) X) ≡ X
     go level same = last-append start first (change_at change.moment (last_level start first) X) ∙ last-changed change.moment (last_level start first) X
 
-take-drop : {A : Type 0} (n : ℕ) (xs : List A) → take n xs ++ drop n xs ≡ xs
-take-drop zero xs = refl
-take-drop (suc n) [] = refl
-take-drop (suc n) (x ∷ xs) = ap (λ ys. x ∷ ys) (take-drop n xs)
-
 capped-end : (start : Level) (changes : List Change) → Agrees (last_level start (capped start changes)) (last_level start changes)
-capped-end start changes = elim (cases_bool (nat_le (length changes) 512)) [
+capped-end start changes = elim (cases_Bool (nat_le (length changes) 512)) [
   | inl few ↦ rw few (λ known. refl)
   | inr many ↦ rw many (widened-end start (take 511 changes) (drop 511 changes) changes (take-drop 511 changes))
 ]

@@ -3,7 +3,7 @@
 use Rattle.std.proofs.Common.{◌≡◌, ◌≢◌, ℕ, zero, suc, ◌+◌, ◌-◌, ◌*◌, ◌^◌, ◌<◌, ◌≤◌, max, min, Bool, true, false, List, [], ◌∷◌, ◌++◌, length, map, refl, arith, inl, inr, sym, ap, subst, ◌∙◌, Some, None, Option, get_or, length-append}
 use Rattle.std.specs.Prelude.{slice_get, filter_map}
 use Rattle.std.specs.List.{All, AllByRecursion}
-use Rattle.std.proofs.lemmas.Bool.{cases_eq, cases_lt}
+use Rattle.std.proofs.lemmas.Bool.{cases_eq, cases_lt, cases_Bool}
 use Rattle.std.proofs.lemmas.Option.{none-some}
 use Rattle.std.proofs.lemmas.List.Elements.{recursion_from_All}
 use Rattle.td_gates.specs.declared.primitives.Level.{Level}
@@ -12,8 +12,9 @@ use Rattle.td_gates.specs.declared.primitives.Kind.{Kind}
 use Rattle.td_gates.specs.declared.timing.Delay.{Delay}
 use Rattle.td_gates.specs.Table.{level_from, level_eq, table}
 use Rattle.td_gates.specs.Wave.{Wave}
-use Rattle.td_gates.proofs.TableLaws.{Agrees, AllAgree}
+use Rattle.td_gates.proofs.TableLaws.{AllAgree}
 use Rattle.td_gates.proofs.Places.{some-same, slice_get-within, slice_get-some, slice_get-get}
+use Rattle.td_gates.specs.Known.{Agrees}
 use Rattle.td_circuit.specs.Settings.{AreMoments}
 use Rattle.td_circuit.specs.Numbering.{Numbered, nets, setting, first_output, IsNumbering}
 use Rattle.td_circuit.proofs.Nets.{lower-at, length-nets, numbers-below}
@@ -29,7 +30,7 @@ use Rattle.td_domain.proofs.Pairing.{pairs-front, pairs-get, length-pairs}
 use Rattle.td_domain.proofs.Soundness.{front-bound}
 use Rattle.td_ternary.specs.Possibles as possible
 use Rattle.td_ternary.specs.Possibles.{possible_functions, last_change}
-use Rattle.td_ternary.specs.PossibleLaws.{cases_bool, reach_input, reach_gate}
+use Rattle.td_ternary.specs.PossibleLaws.{reach_input, reach_gate}
 use Rattle.td_search.specs.OpenEnds.{HasOpenEnd}
 use Rattle.td_search.proofs.Ends.{end_of, last-changed, gate-end}
 
@@ -191,7 +192,7 @@ module _ {Sig : Type 0} (functions : Functions Sig) (reach : Sig → ℕ) (finis
     -- where the finish isn't known, no last moment is
     open-none : (net : ℕ) (signal : Sig) (wave : Wave) → slice_get firsts net ≡ Some signal → slice_get seconds net ≡ Some wave → net < length firsts → finish_of signal ≡ X
         → possible.last_of wave ≡ None
-    open-none net signal wave at also_at inside unknown = elim (cases_bool (level_eq (end_of wave) X)) [
+    open-none net signal wave at also_at inside unknown = elim (cases_Bool (level_eq (end_of wave) X)) [
       | inl none ↦ rw none refl
       | inr some ↦
           let known : end_of wave ≢ X = λ is. (let none : level_eq (end_of wave) X ≡ true = rw is refl in absurd cc) in

@@ -13,9 +13,10 @@ use Rattle.td_syntax.specs.Token.{Token, Name, Escaped, Reserved, Number, Consta
 use Rattle.td_syntax.specs.Token.{Placed, placed_on}
 use Rattle.td_syntax.specs.Grammar as grammar
 use Rattle.td_syntax.proofs.Plain.{plain}
-use Rattle.td_syntax.specs.Grammar.{IsRange, IsMaybeRange, IsDeclaration, IsHeader, IsPort, BeginsHeaded, ArePorts, decimal_value}
+use Rattle.td_syntax.specs.Grammar.{IsRange, IsMaybeRange, IsDeclaration, IsHeader, IsPort, ArePorts, decimal_value}
 use Rattle.td_syntax.specs.Faults.{◌>>=◌}
-use Rattle.td_syntax.specs.Parsing.{Remainder, behind_front, is_mark, as_name, as_whole, as_wire, as_attribute, as_direction, maybe_at, maybe_mark_at, take_at, behind_wire, wired, wire_at, limited_at, bounds_at, range_at, declaration_at, direction_at, header_at, headed_at, port_by, port_at, port_step, is_heading, listed_at, listed, ports_at}
+use Rattle.td_syntax.specs.Readers.{Remainder, behind_front, is_mark, as_name, as_whole, as_attribute, maybe_at, maybe_mark_at, take_at}
+use Rattle.td_syntax.specs.Parsing.{as_wire, as_direction, behind_wire, wired, wire_at, limited_at, bounds_at, range_at, declaration_at, direction_at, header_at, headed_at, port_by, port_at, port_step, is_heading, listed_at, listed, ports_at}
 use Rattle.td_syntax.proofs.Takes.{names_classified, maybe_mark_takes, AllFrom}
 use Rattle.td_syntax.proofs.SoundDelays.{no_gates, any_gates, wholes_classified}
 use Rattle.td_syntax.proofs.SoundDeclarations.{wires_classified, wire_takes, range_takes, bounds_text, declaration_rest, HeadedIf, PortAt, port_member, ports_shorten}

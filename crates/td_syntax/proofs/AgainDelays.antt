@@ -8,8 +8,9 @@ use Rattle.td_syntax.specs.Token.{Token, Numeral, Name, Escaped, Reserved, Numbe
 use Rattle.td_syntax.specs.Token.{Placed, placed_on}
 use Rattle.td_syntax.specs.Grammar as grammar
 use Rattle.td_syntax.proofs.Plain.{plain}
-use Rattle.td_syntax.specs.Grammar.{IsSteps, IsStatedDelay, is_whole, steps_of}
-use Rattle.td_syntax.specs.Parsing.{Remainder, behind_front, is_mark, as_number, number_by, steps_at, close_at, second_at, bracketed_at, delay_at}
+use Rattle.td_syntax.specs.Grammar.{IsSteps, IsStatedDelay, steps_of}
+use Rattle.td_syntax.specs.Readers.{Remainder, behind_front, is_mark, as_number, number_by}
+use Rattle.td_syntax.specs.Parsing.{steps_at, close_at, second_at, bracketed_at, delay_at}
 use Rattle.td_syntax.proofs.AgainTokens.{Reads, Passes, Begins, in_front, mark_plain, maybe_mark_again, maybe_mark_not}
 
 number_plain : (l : ℕ) (t : Token) → number_by t ≡ number_by (plain (placed_on l t)).token

@@ -2,7 +2,6 @@
 use Rattle.std.proofs.Common.{◌≡◌, ℕ, zero, suc, ◌+◌, ◌-◌, ◌≤◌, ◌<◌, Bool, true, false, cond, List, [], ◌∷◌, ◌++◌, length, map, take, Option, None, Some, is_some, Result, Ok, refl, sym, ap, subst, ◌∙◌, arith}
 use Rattle.std.specs.Prelude.{◌==◌, ◌&&◌, nat_lt}
 use Rattle.std.specs.List.{AllByRecursion, sum_by}
-use Rattle.std.proofs.lemmas.List.Sums.{sum_by-cons}
 use Rattle.std.proofs.lemmas.Bool.{lt-ltb}
 use Rattle.std.proofs.Math.Dec.{eqb-suc-zero}
 use Rattle.td_gates.specs.declared.primitives.Kind.{Kind}
@@ -15,10 +14,11 @@ use Rattle.td_syntax.proofs.Plain.{plain}
 use Rattle.td_syntax.specs.Grammar.{IsBetween, IsNet, IsInstance, IsStatement, has_many_outputs, output_count, instance_gates}
 use Rattle.td_syntax.proofs.Plain.{statement_gates}
 use Rattle.td_syntax.specs.Faults.{Fault}
-use Rattle.td_syntax.specs.Parsing.{Remainder, behind_front, is_mark, as_name, as_base, base_by, maybe_at, many, count_at, output_at, begin_terminal, more_terminals, end_terminals, terminal_end, bit_at, selected_at, terminal_step, opening_at, instance_at, instance_step, statement_at}
+use Rattle.td_syntax.specs.Readers.{Remainder, behind_front, is_mark, as_name, many, maybe_at}
+use Rattle.td_syntax.specs.Parsing.{as_base, base_by, count_at, output_at, begin_terminal, more_terminals, end_terminals, terminal_end, bit_at, selected_at, terminal_step, opening_at, instance_at, instance_step, statement_at}
 use Rattle.td_syntax.proofs.Takes.{next_takes, names_classified, maybe_takes, AllFrom, gates_from}
 use Rattle.td_syntax.proofs.SoundDelays.{delay_takes}
-use Rattle.td_syntax.proofs.SoundGates.{first_gates, later_gates, OutputIf, selected_takes, opening_takes, MoreTerminal, LastTerminal, more_gates, last_gates, terminal_member, terminals_shorten, terminal_count, AnInstance, its_gates, instance_member, instances_shorten, statement_rest}
+use Rattle.td_syntax.proofs.SoundGates.{first_gates, later_gates, OutputIf, selected_takes, opening_takes, MoreTerminal, LastTerminal, more_gates, last_gates, terminal_member, terminals_shorten, terminal_count, AnInstance, its_gates, instance_member, instances_shorten, statement_rest, instances_count}
 use Rattle.td_syntax.proofs.AgainTokens.{Reads, Passes, Begins, in_front, maybe_again, maybe_not, whole_again, mark_plain, mark_again, maybe_mark_again, maybe_mark_not, comma_again, end_again, MemberAgain, group4, group5, list_again}
 use Rattle.td_syntax.proofs.AgainDelays.{delay_again}
 
@@ -250,11 +250,6 @@ instances_all : (kind : Kind) (k : ℕ) (xs : List grammar.Instance) → 1 ≤ l
 instances_all kind k [] some each = absurd (omega arith)
 instances_all kind k (x ∷ []) some each = each.0
 instances_all kind k (x ∷ y ∷ ys) some each = (each.0, instances_all kind (k + 1) (y ∷ ys) (omega arith) each.1)
-
-instances_count : (kind : Kind) (k : ℕ) (xs : List grammar.Instance) → gates_from (its_gates kind) (its_gates kind) k xs ≡ sum_by (instance_gates kind) xs
-instances_count kind k [] = refl
-instances_count kind k (a ∷ []) = omega (arith, sum_by-cons (instance_gates kind) a [])
-instances_count kind k (a ∷ b ∷ bs) = omega (arith, sum_by-cons (instance_gates kind) a (b ∷ bs), instances_count kind (k + 1) (b ∷ bs))
 
 instances_again : (kind : Kind) (xs : List grammar.Instance) (s : Remainder) (tail : List Placed) → 1 ≤ length xs → AllByRecursion (IsInstance kind) xs → s.gates + sum_by (instance_gates kind) xs ≤ 200000 → Begins s (grammar.separated grammar.instance xs ++ (grammar.mark symbol.Semicolon ++ tail)) → Reads (many (instance_step kind) s) xs tail
 instances_again kind xs s tail some each le e =

@@ -1,5 +1,5 @@
 -- Attributes and directives that the grammar derives are read.
-use Rattle.std.proofs.Common.{◌≡◌, ℕ, zero, suc, ◌+◌, List, [], ◌∷◌, ◌++◌, map, replicate, None, Some, Ok, refl, ap, ◌∙◌, append_assoc}
+use Rattle.std.proofs.Common.{◌≡◌, ℕ, zero, suc, ◌+◌, List, [], ◌∷◌, ◌++◌, map, None, Some, Ok, refl, ap, ◌∙◌, append_assoc}
 use Rattle.std.specs.List.{flat_map}
 use Rattle.std.proofs.lemmas.List.{length-replicate}
 use Rattle.std.proofs.lemmas.List.Concat.{flat_map-cons}
@@ -13,13 +13,12 @@ use Rattle.td_syntax.specs.Token.{Placed, placed_on}
 use Rattle.td_syntax.specs.Tokens.{front_of, rest_of}
 use Rattle.td_syntax.specs.Grammar as grammar
 use Rattle.td_syntax.proofs.Plain.{plain}
-use Rattle.td_syntax.specs.Parsing.{Remainder, behind_front, More, Done, as_attribute, as_directive, as_module, attribute_step, attributes_at, directive_at, front_directive, front_step, behind_step, next_at, many_from}
+use Rattle.td_syntax.specs.Readers.{Remainder, behind_front, More, Done, as_attribute, as_directive, next_at, many_from}
+use Rattle.td_syntax.specs.Parsing.{as_module, attribute_step, attributes_at, directive_at, front_directive, front_step, behind_step}
 use Rattle.td_syntax.proofs.Lists.{unrolled}
 use Rattle.td_syntax.proofs.SoundHeads.{module_read, attributes_classified, attributes_shorten, modules_classified, fronts_shorten, behind_shortens}
 use Rattle.td_syntax.proofs.AgainTokens.{Reads, Begins, in_front, maybe_again, maybe_not}
-
-abbrev ones : ℕ → List (Unit {0})
-ones n = replicate n tt
+use Rattle.td_syntax.proofs.Counting.{ones}
 
 -- as many attributes as there are, and then another token
 attributes_from : (k n : ℕ) (s : Remainder) (t : Placed) (more : List Placed) → as_attribute t ≡ None → Begins s (flat_map grammar.attribute (ones n) ++ (t ∷ more)) → Reads (many_from attribute_step k s) (ones n) (t ∷ more)

@@ -19,7 +19,8 @@ use Rattle.td_syntax.specs.Grammar as grammar
 use Rattle.td_syntax.proofs.Plain.{plain}
 use Rattle.td_syntax.specs.Grammar.{IsItem, ArePorts, item_gates, unit_exponent}
 use Rattle.td_syntax.specs.Faults.{◌>>=◌}
-use Rattle.td_syntax.specs.Parsing.{Remainder, behind_front, More, as_keyword, name_at, mark_at, many, many_from, front_step, behind_step, declaration_at, declares, gates, item_word, item_step, ports_at, end_at, module_at}
+use Rattle.td_syntax.specs.Readers.{Remainder, behind_front, More, as_keyword, many, name_at, mark_at, many_from}
+use Rattle.td_syntax.specs.Parsing.{front_step, behind_step, declaration_at, declares, gates, item_word, item_step, ports_at, end_at, module_at}
 use Rattle.td_syntax.proofs.Lists.{unrolled}
 use Rattle.td_syntax.proofs.Takes.{next_takes, name_takes, mark_takes}
 use Rattle.td_syntax.proofs.SoundHeads.{attributes_take, fronts_take, behind_takes}

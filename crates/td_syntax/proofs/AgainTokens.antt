@@ -9,7 +9,7 @@ use Rattle.td_syntax.specs.Tokens.{front_of, rest_of}
 use Rattle.td_syntax.specs.Grammar as grammar
 use Rattle.td_syntax.proofs.Plain.{plain}
 use Rattle.td_syntax.specs.Faults.{Fault, refused}
-use Rattle.td_syntax.specs.Parsing.{Remainder, behind_front, Step, More, Final, is_mark, as_name, as_whole, next_at, name_at, whole_at, take_at, maybe_at, mark_at, maybe_mark_at, separator_at, behind, name_step, names_at, many_from}
+use Rattle.td_syntax.specs.Readers.{Remainder, behind_front, Step, More, Final, is_mark, as_name, as_whole, behind, next_at, name_at, whole_at, take_at, maybe_at, mark_at, maybe_mark_at, separator_at, name_step, names_at, many_from}
 use Rattle.td_syntax.proofs.Lists.{Shortens, unrolled}
 use Rattle.td_syntax.proofs.Takes.{Classifies, names_classified, MemberTakes, AllFrom, gates_from}
 use Rattle.td_syntax.proofs.SoundDelays.{Any, no_gates, any_gates, name_member, names_shorten, wholes_classified}

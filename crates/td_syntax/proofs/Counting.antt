@@ -4,11 +4,12 @@ use Rattle.std.specs.Prelude.{MatchOption}
 use Rattle.std.proofs.lemmas.List.{length-replicate}
 use Rattle.td_syntax.specs.declared.fault.Fault as code_fault
 use Rattle.td_syntax.specs.Faults.{Fault, FaultKind, fault, told, Fails, ◌>>=◌}
-use Rattle.td_syntax.specs.Parsing.{Remainder, as_attribute, attribute_member, attribute_step, attributes_at, maybe_at, many}
+use Rattle.td_syntax.specs.Readers.{Remainder, as_attribute, many, maybe_at}
+use Rattle.td_syntax.specs.Parsing.{attribute_member, attribute_step, attributes_at}
 use Rattle.td_syntax.proofs.Lists.{SoFar, same, map_same, left, goes_on, is_done, fails}
 use Rattle.td_syntax.proofs.SoundHeads.{attributes_shorten}
 
-abbrev ones : ℕ → List (Unit {0})
+abbrev pub ones : ℕ → List (Unit {0})
 ones n = replicate n tt
 
 -- so many attributes before this moment, and those that are still to come

@@ -18,7 +18,7 @@ use Rattle.td_syntax.specs.Token.{Numeral, Token, Name, Escaped, Reserved, Numbe
 use Rattle.td_syntax.specs.Timescales.{timescale_at}
 use Rattle.td_syntax.specs.Pieces as pieces
 use Rattle.td_nets.specs.Keywords.{beside}
-use Rattle.td_syntax.specs.Pieces.{Gap, Stands, stands, escaped_in, ends_name, comment_end, comment_in, numeral_at, constant_in, open_in, attribute_end, directive_by, directive_in, marks, piece_in}
+use Rattle.td_syntax.specs.Pieces.{Gap, Stands, stands, escaped_in, ends_name, comment_end, comment_in, numeral_at, constant_in, open_in, directive_by, directive_in, marks, piece_in}
 use Rattle.td_syntax.specs.Lexical.{Piece, Space, Found, Last, word_as, comment_of, slash_at, constant_of, number_by, number_at, escaped_at, timescale_piece, directive_of, directive_at, end_behind, attribute_of, mark_of, char_at, open_at, piece_at}
 use Rattle.td_syntax.proofs.Attributing.{same_end}
 use Rattle.td_syntax.proofs.SameSpans.{told, same_timescale}

@@ -4,7 +4,7 @@ use Rattle.std.specs.Prelude.{MatchOption}
 use Rattle.std.proofs.lemmas.List.{append-nil}
 use Rattle.td_syntax.specs.declared.fault.Fault as code_fault
 use Rattle.td_syntax.specs.Faults.{Fault, FaultKind, fault, told, Fails, ◌>>=◌}
-use Rattle.td_syntax.specs.Parsing.{Remainder, Step, More, Final, Done, go_on, many_within, many_from}
+use Rattle.td_syntax.specs.Readers.{Remainder, Step, More, Final, Done, go_on, many_within, many_from}
 
 abbrev pub left : Remainder → ℕ
 left s = length s.stream.tokens

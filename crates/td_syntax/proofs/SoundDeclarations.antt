@@ -13,7 +13,8 @@ use Rattle.td_syntax.specs.Grammar as grammar
 use Rattle.td_syntax.proofs.Plain.{plain}
 use Rattle.td_syntax.specs.Grammar.{IsRange, IsMaybeRange, IsDeclaration, IsHeader, IsPort, BeginsHeaded, ArePorts, decimal_value}
 use Rattle.td_syntax.specs.Faults.{Fault, OutOfSubset, TooMany, fault, refused, ◌>>=◌}
-use Rattle.td_syntax.specs.Parsing.{Remainder, More, Final, Done, is_mark, read_as, take_at, as_name, as_whole, as_wire, as_direction, next_at, name_at, maybe_at, mark_at, maybe_mark_at, behind, names_at, many, attributes_at, behind_wire, wired, wire_at, limited_from, limited_at, bounds_at, range_by, range_at, declaration_at, direction_at, header_at, headed_at, port_by, port_at, port_step, is_heading, listed_at, listed, ports_by, ports_at}
+use Rattle.td_syntax.specs.Readers.{Remainder, More, Final, Done, is_mark, read_as, as_name, as_whole, behind, many, take_at, next_at, name_at, maybe_at, mark_at, maybe_mark_at, names_at}
+use Rattle.td_syntax.specs.Parsing.{as_wire, as_direction, attributes_at, behind_wire, wired, wire_at, limited_from, limited_at, bounds_at, range_by, range_at, declaration_at, direction_at, header_at, headed_at, port_by, port_at, port_step, is_heading, listed_at, listed, ports_by, ports_at}
 use Rattle.td_syntax.proofs.Lists.{Shortens}
 use Rattle.td_syntax.proofs.Takes.{Takes, takes_nothing, takes_then, regrouped, then_two, bind_ok, done, ok_is, err_is_no_ok, next_takes, Classifies, read_as_is, maybe_takes, names_classified, name_takes, mark_takes, if_mark, maybe_mark_takes, MemberTakes, behind_never, behind_more, behind_final, AllFrom, list_takes, list_shortens}
 use Rattle.td_syntax.proofs.SoundHeads.{attributes_take}

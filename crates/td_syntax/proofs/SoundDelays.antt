@@ -8,9 +8,10 @@ use Rattle.td_syntax.specs.Token.{Token, Numeral, Name, Escaped, Reserved, Numbe
 use Rattle.td_syntax.specs.Token.{Placed, placed_on}
 use Rattle.td_syntax.specs.Grammar as grammar
 use Rattle.td_syntax.proofs.Plain.{plain}
-use Rattle.td_syntax.specs.Grammar.{IsSteps, IsStatedDelay, is_whole, steps_of, decimal_value}
+use Rattle.td_syntax.specs.Grammar.{IsSteps, IsStatedDelay, is_whole, steps_of}
 use Rattle.td_syntax.specs.Faults.{Fault, OutOfSubset, ZeroDelay, DelayTooFine, DelayTooLarge, fault, refused, ◌>>=◌}
-use Rattle.td_syntax.specs.Parsing.{Remainder, More, Final, Done, is_mark, as_number, number_by, as_whole, whole_in, next_at, name_at, whole_at, maybe_mark_at, behind, name_step, names_at, refused_name, steps_from, steps_at, close_at, second_at, pair_at, bracketed_at, value_at, delay_by, delay_at}
+use Rattle.td_syntax.specs.Readers.{Remainder, More, Final, Done, is_mark, as_number, number_by, as_whole, whole_in, behind, refused_name, next_at, name_at, whole_at, maybe_mark_at, name_step, names_at}
+use Rattle.td_syntax.specs.Parsing.{steps_from, steps_at, close_at, second_at, pair_at, bracketed_at, value_at, delay_by, delay_at}
 use Rattle.td_syntax.proofs.Lists.{Shortens}
 use Rattle.td_syntax.proofs.Takes.{Takes, takes_then, regrouped, bind_ok, chosen, done, ok_is, err_is_no_ok, taken, next_takes, Classifies, take_takes, name_takes, mark_taken, if_mark, maybe_mark_takes, MemberTakes, behind_never, behind_more, behind_final, AllFrom, gates_from, list_takes, list_shortens}
 

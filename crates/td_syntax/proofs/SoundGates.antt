@@ -15,7 +15,8 @@ use Rattle.td_syntax.proofs.Plain.{plain}
 use Rattle.td_syntax.specs.Grammar.{IsBetween, IsNet, IsInstance, IsStatement, has_many_outputs, output_count, instance_gates}
 use Rattle.td_syntax.proofs.Plain.{statement_gates}
 use Rattle.td_syntax.specs.Faults.{Syntax, TooMany, fault, refused, ◌>>=◌}
-use Rattle.td_syntax.specs.Parsing.{Remainder, Step, More, Final, Done, is_mark, as_name, as_base, base_by, next_at, whole_at, maybe_at, mark_at, maybe_mark_at, behind, many, count_at, output_at, begin_terminal, more_terminals, end_terminals, terminal_end, bit_at, selected_by, selected_at, terminal_by, terminal_step, opening_refusal, opening_at, instance_at, instance_step, delay_at, statement_at}
+use Rattle.td_syntax.specs.Readers.{Remainder, Step, More, Final, Done, is_mark, as_name, behind, many, next_at, whole_at, maybe_at, mark_at, maybe_mark_at}
+use Rattle.td_syntax.specs.Parsing.{as_base, base_by, count_at, output_at, begin_terminal, more_terminals, end_terminals, terminal_end, bit_at, selected_by, selected_at, terminal_by, terminal_step, opening_refusal, opening_at, instance_at, instance_step, delay_at, statement_at}
 use Rattle.td_syntax.proofs.Lists.{Shortens}
 use Rattle.td_syntax.proofs.Takes.{Takes, takes_nothing, takes_then, regrouped, then_two, bind_ok, chosen, done, ok_is, err_is_no_ok, taken, next_takes, maybe_takes, names_classified, mark_taken, mark_takes, if_mark, maybe_mark_takes, MemberTakes, behind_never, behind_more, behind_final, AllFrom, gates_from, list_takes, list_shortens}
 use Rattle.td_syntax.proofs.SoundDelays.{positive, whole_takes, delay_takes}
@@ -323,7 +324,7 @@ instance_member kind = record {
 pub instances_shorten : (kind : Kind) → Shortens (instance_step kind)
 instances_shorten kind = list_shortens (instance_step kind) grammar.instance (AnInstance kind) (AnInstance kind) (its_gates kind) (its_gates kind) (grammar.mark symbol.Semicolon) (instance_member kind)
 
-instances_count : (kind : Kind) (k : ℕ) (xs : List grammar.Instance) → gates_from (its_gates kind) (its_gates kind) k xs ≡ sum_by (instance_gates kind) xs
+pub instances_count : (kind : Kind) (k : ℕ) (xs : List grammar.Instance) → gates_from (its_gates kind) (its_gates kind) k xs ≡ sum_by (instance_gates kind) xs
 instances_count kind k [] = refl
 instances_count kind k (a ∷ []) = omega (arith, sum_by-cons (instance_gates kind) a [])
 instances_count kind k (a ∷ b ∷ bs) = omega (arith, sum_by-cons (instance_gates kind) a (b ∷ bs), instances_count kind (k + 1) (b ∷ bs))

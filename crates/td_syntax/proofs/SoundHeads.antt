@@ -15,7 +15,8 @@ use Rattle.td_syntax.specs.Tokens.{front_of}
 use Rattle.td_syntax.specs.Grammar as grammar
 use Rattle.td_syntax.proofs.Plain.{plain}
 use Rattle.td_syntax.specs.Faults.{Fault, refused, ◌>>=◌}
-use Rattle.td_syntax.specs.Parsing.{Remainder, Step, More, Final, Done, as_attribute, as_directive, as_module, attribute_member, attribute_step, attributes_at, directive_at, front_directive, front_by, front_step, is_behind, behind_by, behind_step, next_at, maybe_at, many}
+use Rattle.td_syntax.specs.Readers.{Remainder, Step, More, Final, Done, as_attribute, as_directive, many, next_at, maybe_at}
+use Rattle.td_syntax.specs.Parsing.{as_module, attribute_member, attribute_step, attributes_at, directive_at, front_directive, front_by, front_step, is_behind, behind_by, behind_step}
 use Rattle.td_syntax.proofs.Lists.{Shortens}
 use Rattle.td_syntax.proofs.Takes.{Takes, takes_nothing, regrouped, bind_ok, done, ok_is, err_is_no_ok, next_takes, Classifies, maybe_takes, SequenceTakes, all_takes, all_shortens}
 

@@ -19,7 +19,8 @@ use Rattle.td_syntax.proofs.Plain.{plain}
 use Rattle.td_syntax.specs.Grammar.{IsItem, ArePorts, item_gates, unit_exponent}
 use Rattle.td_syntax.proofs.Plain.{statement_gates}
 use Rattle.td_syntax.specs.Faults.{refused, ◌>>=◌}
-use Rattle.td_syntax.specs.Parsing.{Remainder, Step, More, Final, Done, as_keyword, next_at, name_at, mark_at, many, attributes_at, front_step, behind_step, declaration_at, statement_at, declares, gates, item_word, item_by, item_step, ports_at, end_by, end_at, module_at}
+use Rattle.td_syntax.specs.Readers.{Remainder, Step, More, Final, Done, as_keyword, many, next_at, name_at, mark_at}
+use Rattle.td_syntax.specs.Parsing.{attributes_at, front_step, behind_step, declaration_at, statement_at, declares, gates, item_word, item_by, item_step, ports_at, end_by, end_at, module_at}
 use Rattle.td_syntax.proofs.Lists.{Shortens}
 use Rattle.td_syntax.proofs.Takes.{Takes, takes_then, regrouped, then_two, bind_ok, done, ok_is, err_is_no_ok, next_takes, name_takes, mark_takes, SequenceTakes, TakesAll, all_takes, all_shortens}
 use Rattle.td_syntax.proofs.SoundHeads.{attributes_take, fronts_take, behind_takes}

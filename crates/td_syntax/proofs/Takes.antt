@@ -13,7 +13,7 @@ use Rattle.td_syntax.specs.Tokens.{front_in, front_of, rest_of}
 use Rattle.td_syntax.specs.Grammar as grammar
 use Rattle.td_syntax.proofs.Plain.{plain}
 use Rattle.td_syntax.specs.Faults.{Fault, refused, ◌>>=◌}
-use Rattle.td_syntax.specs.Parsing.{Remainder, next_by, next_at, read_as, take_at, read_if, maybe_at, code_of, is_mark, as_name, name_at, mark_at, maybe_mark_at, Step, More, Final, Done, go_on, many_within, many_from, separator_at, step_of, behind}
+use Rattle.td_syntax.specs.Readers.{Remainder, next_by, read_as, read_if, code_of, is_mark, as_name, Step, More, Final, Done, go_on, step_of, behind, next_at, take_at, maybe_at, name_at, mark_at, maybe_mark_at, many_within, many_from, separator_at}
 use Rattle.td_syntax.proofs.Lists.{left, Shortens}
 
 -- s is the tokens of text, up to lines, and then those of rest, which counts so many gates more

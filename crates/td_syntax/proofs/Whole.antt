@@ -11,7 +11,8 @@ use Rattle.td_syntax.specs.Grammar as grammar
 use Rattle.td_syntax.specs.Grammar.{item_gates}
 use Rattle.td_syntax.proofs.Plain.{plain}
 use Rattle.td_syntax.specs.Faults.{Fault, TooMany, fault, Gives, ◌>>=◌}
-use Rattle.td_syntax.specs.Parsing.{start, module_at}
+use Rattle.td_syntax.specs.Readers.{start}
+use Rattle.td_syntax.specs.Parsing.{module_at}
 use Rattle.td_syntax.specs.FirstFault.{syntax_of}
 use Rattle.td_syntax.specs.Text.{Lexes, Parses}
 use Rattle.td_syntax.proofs.Inside.{Inside, module_inside}

@@ -3,7 +3,8 @@ use Rattle.std.specs.Prelude.{ℕ, List, length, Result, Ok, Err, nat_lt, if◌t
 use Rattle.td_syntax.specs.Tokens.{tokens_of}
 use Rattle.td_syntax.specs.Grammar.{Module}
 use Rattle.td_syntax.specs.Faults.{Fault, TooMany, fault, ◌>>=◌}
-use Rattle.td_syntax.specs.Parsing.{start, module_at}
+use Rattle.td_syntax.specs.Readers.{start}
+use Rattle.td_syntax.specs.Parsing.{module_at}
 
 -- the module of a text, or its first fault
 unfoldable pub syntax_of : List ℕ → Result Module Fault

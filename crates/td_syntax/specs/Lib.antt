@@ -5,6 +5,7 @@ pub mod Grammar
 pub mod Lexical
 pub mod Parsing
 pub mod Pieces
+pub mod Readers
 pub mod Spans
 pub mod Text
 pub mod TimescaleViews

@@ -21,7 +21,7 @@ use Rattle.td_syntax.specs.declared.syntax.Module as syntax_module
 use Rattle.td_syntax.specs.declared.step.Step as steps
 use Rattle.td_syntax.specs.declared.step.Step.TheVariants as step
 use Rattle.td_syntax.specs.Grammar as grammar
-use Rattle.td_syntax.specs.Parsing as parsing
+use Rattle.td_syntax.specs.Readers as readers
 use Rattle.td_syntax.specs.declared.token.Token.{Token}
 use Rattle.td_syntax.specs.declared.token.Token.TheVariants as token
 use Rattle.td_syntax.specs.declared.piece.Piece.{Piece}
@@ -138,7 +138,7 @@ item_view (item.Gates s) = grammar.Gates (statement_view s)
 abbrev pub module_view : syntax_module.Module → grammar.Module
 module_view m = record { fronts = m.fronts.items; name = name_view m.name; ports = ports_view m.ports; items = map item_view m.items.items; behind = m.behind.items }
 
-abbrev pub step_view : {A B : Type 0} → (A → B) → steps.Step A → parsing.Step B
-step_view view (step.More a) = parsing.More (view a)
-step_view view (step.Final a) = parsing.Final (view a)
-step_view view step.Done = parsing.Done
+abbrev pub step_view : {A B : Type 0} → (A → B) → steps.Step A → readers.Step B
+step_view view (step.More a) = readers.More (view a)
+step_view view (step.Final a) = readers.Final (view a)
+step_view view step.Done = readers.Done

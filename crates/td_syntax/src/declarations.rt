@@ -2,8 +2,9 @@
 
 ghost use Rattle.std.specs.Prelude.{◌≡◌, map};
 ghost use Rattle.td_syntax.specs.Faults.{Gives};
-ghost use Rattle.td_syntax.specs.Views.{placed_view, name_view, range_view, option_range_view, declaration_view, header_view, port_view, port_list_view, ports_view, step_view};
-ghost use Rattle.td_syntax.specs.Parsing.{many, behind_wire, wire_at, limited_at, bounds_at, range_at, declaration_at, direction_at, header_at, headed_at, port_at, port_step, is_heading, listed_at, ports_at};
+ghost use Rattle.td_syntax.specs.Views.{placed_view, range_view, option_range_view, declaration_view, header_view, port_view, port_list_view, ports_view, step_view};
+ghost use Rattle.td_syntax.specs.Readers.{many};
+ghost use Rattle.td_syntax.specs.Parsing.{behind_wire, wire_at, limited_at, bounds_at, range_at, declaration_at, direction_at, header_at, headed_at, port_at, port_step, is_heading, listed_at, ports_at};
 
 use crate::delay::decimal_value;
 use crate::fault::{Fault, FaultKind};
@@ -125,7 +126,7 @@ impl<'a> Parser<'a> {
 
     // ---- ports
 
-    #[tactic(auto, unfolding(crate::specs::Parsing::direction_at, crate::specs::Parsing::take_at))]
+    #[tactic(auto, unfolding(crate::specs::Parsing::direction_at, crate::specs::Readers::take_at))]
     fn direction(&mut self) -> Result<Role, Fault<'a>>
         ensures { Gives (λ r. (r, self.new)) result (direction_at self.old) }
     {

@@ -1,16 +1,17 @@
 //! Reads attributes and directives.
 
-ghost use Rattle.std.specs.Prelude.{◌≡◌, ◌≤◌};
+ghost use Rattle.std.specs.Prelude.{◌≡◌};
 ghost use Rattle.td_syntax.specs.Faults.{Gives};
-ghost use Rattle.td_syntax.specs.Views.{placed_view, step_view};
+ghost use Rattle.td_syntax.specs.Views.{step_view};
 ghost use Rattle.td_syntax.specs.Grammar.{unit_exponent};
-ghost use Rattle.td_syntax.specs.Parsing.{many, attributes_at, directive_at, front_step, behind_step};
+ghost use Rattle.td_syntax.specs.Readers.{many};
+ghost use Rattle.td_syntax.specs.Parsing.{attributes_at, directive_at, front_step, behind_step};
 
 use crate::fault::{Fault, FaultKind};
-use crate::parser::{Parser, fault, is_attribute, is_module, refused};
+use crate::parser::{Parser, fault, is_module, refused};
 use crate::step::Step;
 use crate::syntax::Front;
-use crate::token::{Directive, Placed, Token, Unread};
+use crate::token::{Directive, Token, Unread};
 use std::alloc::Global;
 
 /// How many tens of a step a unit is, by the last `timescale: without one, a unit is a step.

@@ -3,14 +3,15 @@
 ghost use Rattle.std.specs.Prelude.{◌≡◌, map, is_some};
 ghost use Rattle.td_syntax.specs.Grammar.{has_many_outputs};
 ghost use Rattle.td_syntax.specs.Faults.{Gives, told};
-ghost use Rattle.td_syntax.specs.Views.{placed_view, name_view, numeral_view, delay_view, option_delay_view, terminal_view, step_view, instance_view, statement_view};
-ghost use Rattle.td_syntax.specs.Parsing.{many, steps_at, second_at, close_at, bracketed_at, delay_at, output_at, begin_terminal, more_terminals, terminal_end, bit_at, selected_at, terminal_step, opening_refusal, opening_at, instance_at, instance_step, statement_at};
+ghost use Rattle.td_syntax.specs.Views.{placed_view, numeral_view, delay_view, option_delay_view, terminal_view, step_view, instance_view, statement_view};
+ghost use Rattle.td_syntax.specs.Readers.{many};
+ghost use Rattle.td_syntax.specs.Parsing.{steps_at, second_at, close_at, bracketed_at, delay_at, output_at, begin_terminal, more_terminals, terminal_end, bit_at, selected_at, terminal_step, opening_refusal, opening_at, instance_at, instance_step, statement_at};
 
 use crate::delay::{MAX_DELAY, steps_of};
 use crate::fault::{Fault, FaultKind};
 use crate::parser::{Parser, base_of, fault, is_mark, number_of, refused, refused_name};
 use crate::step::Step;
-use crate::syntax::{Delay, Instance, Name, Statement, Terminal};
+use crate::syntax::{Delay, Instance, Statement, Terminal};
 use crate::token::{Number, Placed, Symbol};
 use std::alloc::Global;
 use td_gates::Kind;

@@ -1,9 +1,10 @@
 //! Reads the module of a text.
 
-ghost use Rattle.std.specs.Prelude.{◌≡◌, map};
+ghost use Rattle.std.specs.Prelude.{map};
 ghost use Rattle.td_syntax.specs.Faults.{Gives};
 ghost use Rattle.td_syntax.specs.Views.{placed_view, step_view, item_view, module_view};
-ghost use Rattle.td_syntax.specs.Parsing.{many, item_word, item_step, module_at};
+ghost use Rattle.td_syntax.specs.Readers.{many};
+ghost use Rattle.td_syntax.specs.Parsing.{item_word, item_step, module_at};
 
 use crate::directives::unit_exponent;
 use crate::fault::Fault;

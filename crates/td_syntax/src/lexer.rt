@@ -1,6 +1,6 @@
 //! The tokens of a text, one after another.
 
-ghost use Rattle.std.specs.Prelude.{◌≡◌, ◌≤◌, ◌+◌, List, length};
+ghost use Rattle.std.specs.Prelude.{◌≡◌, ◌≤◌, ◌+◌, length};
 ghost use Rattle.td_syntax.specs.Bytes.{newlines};
 ghost use Rattle.td_syntax.specs.Tokens.{tokens_of, front_of, rest_of, stop_line};
 ghost use Rattle.td_syntax.specs.Tokens as tokens;
@@ -8,7 +8,6 @@ ghost use Rattle.td_syntax.specs.Views.{front_view};
 
 use crate::piece::{Piece, piece_at};
 use crate::token::{Front, Placed, Stop};
-use memchr::memchr_iter;
 use std::marker::Model;
 
 /// The greatest number of bytes of a text.

@@ -1,11 +1,12 @@
 //! Reads a module from its tokens: single tokens, and lists with commas.
 
-ghost use Rattle.std.specs.Prelude.{◌≡◌, ◌≤◌, ℕ, List, map, drop, length, Option, Some, None};
+ghost use Rattle.std.specs.Prelude.{◌≡◌, ◌≤◌, drop, length, Option, Some, None};
 ghost use Rattle.td_syntax.specs.Tokens.{tokens_of, front_of};
-ghost use Rattle.td_syntax.specs.Faults.{Gives, Fails, Fault, refused, stopped, told};
+ghost use Rattle.td_syntax.specs.Faults.{Gives, Fault, refused, stopped, told};
 ghost use Rattle.td_syntax.specs.Views.{view, placed_view, name_view, names_view, option_name_view, option_bytes, option_number_view, step_view, option_terminal_view};
-ghost use Rattle.td_syntax.specs.Parsing as parsing;
-ghost use Rattle.td_syntax.specs.Parsing.{behind_front, is_mark, as_name, as_number, as_whole, as_wire, as_attribute, as_module, as_direction, as_base, as_keyword, refused_name, second_refusal, next_at, name_at, whole_at, maybe_at, mark_at, maybe_mark_at, separator_at, name_step, names_at, many, count_at, is_behind, end_at};
+ghost use Rattle.td_syntax.specs.Readers as readers;
+ghost use Rattle.td_syntax.specs.Readers.{behind_front, is_mark, as_name, as_number, as_whole, as_attribute, as_keyword, refused_name, next_at, name_at, whole_at, maybe_at, mark_at, maybe_mark_at, separator_at, name_step, names_at};
+ghost use Rattle.td_syntax.specs.Parsing.{as_wire, as_module, as_direction, as_base, second_refusal, count_at, is_behind, end_at};
 
 use crate::fault::{Fault, FaultKind};
 use crate::lexer::Lexer;
@@ -27,7 +28,7 @@ pub struct Parser<'a> {
 }
 
 impl<'a> Model for Parser<'a> {
-    ghost Value = { parsing.Remainder };
+    ghost Value = { readers.Remainder };
 
     ghost view = { λ p. record { stream = p.lexer; gates = p.gates } };
 }
@@ -211,7 +212,7 @@ fn second_refused<'a>(placed: Placed<'a>) -> Fault<'a>
 impl<'a> Parser<'a> {
     pub fn new(text: &'a [u8]) -> Parser<'a>
         requires { length text.now ≤ 67108864 }
-        ensures { result ≡ parsing.start (tokens_of 1 text.now) }
+        ensures { result ≡ readers.start (tokens_of 1 text.now) }
     {
         Parser {
             lexer: Lexer::new(text),
@@ -222,7 +223,7 @@ impl<'a> Parser<'a> {
     // ---- one token
 
     /// Takes the token in front.
-    #[tactic(auto, unfolding(crate::specs::Parsing::next_at))]
+    #[tactic(auto, unfolding(crate::specs::Readers::next_at))]
     pub fn next(&mut self) -> Result<Placed<'a>, Fault<'a>>
         ensures { Gives (λ p. (placed_view p, self.new)) result (next_at self.old) }
     {
@@ -233,7 +234,7 @@ impl<'a> Parser<'a> {
     }
 
     /// The token in front, which stays.
-    #[tactic(auto, unfolding(crate::specs::Parsing::next_at))]
+    #[tactic(auto, unfolding(crate::specs::Readers::next_at))]
     pub fn peek(&self) -> Result<Placed<'a>, Fault<'a>>
         ensures { Gives (λ p. (placed_view p, behind_front self.now)) result (next_at self.now) }
     {
@@ -243,7 +244,7 @@ impl<'a> Parser<'a> {
         }
     }
 
-    #[tactic(auto, unfolding(crate::specs::Parsing::name_at, crate::specs::Parsing::take_at))]
+    #[tactic(auto, unfolding(crate::specs::Readers::name_at, crate::specs::Readers::take_at))]
     pub fn name(&mut self) -> Result<Name<'a>, Fault<'a>>
         ensures { Gives (λ n. (name_view n, self.new)) result (name_at self.old) }
     {
@@ -255,7 +256,7 @@ impl<'a> Parser<'a> {
     }
 
     /// The digits of a number without a point.
-    #[tactic(auto, unfolding(crate::specs::Parsing::whole_at, crate::specs::Parsing::take_at))]
+    #[tactic(auto, unfolding(crate::specs::Readers::whole_at, crate::specs::Readers::take_at))]
     pub fn whole(&mut self) -> Result<&'a [u8], Fault<'a>>
         ensures { Gives (λ n. (n.now, self.new)) result (whole_at self.old) }
     {
@@ -266,7 +267,7 @@ impl<'a> Parser<'a> {
         }
     }
 
-    #[tactic(auto, unfolding(crate::specs::Parsing::mark_at))]
+    #[tactic(auto, unfolding(crate::specs::Readers::mark_at))]
     pub fn mark(&mut self, mark: Symbol) -> Result<(), Fault<'a>>
         ensures { Gives (λ _. self.new) result (mark_at mark self.old) }
     {
@@ -279,7 +280,7 @@ impl<'a> Parser<'a> {
     }
 
     /// Whether the mark is in front, which is taken then.
-    #[tactic(auto, unfolding(crate::specs::Parsing::maybe_mark_at))]
+    #[tactic(auto, unfolding(crate::specs::Readers::maybe_mark_at))]
     pub fn maybe_mark(&mut self, mark: Symbol) -> Result<bool, Fault<'a>>
         ensures { Gives (λ b. (b, self.new)) result (maybe_mark_at mark self.old) }
     {
@@ -292,7 +293,7 @@ impl<'a> Parser<'a> {
         }
     }
 
-    #[tactic(auto, unfolding(crate::specs::Parsing::maybe_at))]
+    #[tactic(auto, unfolding(crate::specs::Readers::maybe_at))]
     pub fn maybe_name(&mut self) -> Result<Option<Name<'a>>, Fault<'a>>
         ensures { Gives (λ n. (option_name_view n, self.new)) result (maybe_at as_name self.old) }
     {
@@ -303,7 +304,7 @@ impl<'a> Parser<'a> {
         Ok(found)
     }
 
-    #[tactic(auto, unfolding(crate::specs::Parsing::maybe_at))]
+    #[tactic(auto, unfolding(crate::specs::Readers::maybe_at))]
     pub fn maybe_wire(&mut self) -> Result<Option<()>, Fault<'a>>
         ensures { Gives (λ w. (w, self.new)) result (maybe_at as_wire self.old) }
     {
@@ -314,7 +315,7 @@ impl<'a> Parser<'a> {
         Ok(found)
     }
 
-    #[tactic(auto, unfolding(crate::specs::Parsing::maybe_at))]
+    #[tactic(auto, unfolding(crate::specs::Readers::maybe_at))]
     pub fn maybe_attribute(&mut self) -> Result<Option<()>, Fault<'a>>
         ensures { Gives (λ a. (a, self.new)) result (maybe_at as_attribute self.old) }
     {
@@ -328,7 +329,7 @@ impl<'a> Parser<'a> {
     // ---- lists
 
     /// Whether a comma is in front, and not the mark that ends the list. Either is taken.
-    #[tactic(auto, unfolding(crate::specs::Parsing::separator_at))]
+    #[tactic(auto, unfolding(crate::specs::Readers::separator_at))]
     pub fn separator(&mut self, end: Symbol) -> Result<bool, Fault<'a>>
         ensures { Gives (λ more. (more, self.new)) result (separator_at end self.old) }
     {
@@ -343,7 +344,7 @@ impl<'a> Parser<'a> {
         }
     }
 
-    #[tactic(auto, unfolding(crate::specs::Parsing::name_step))]
+    #[tactic(auto, unfolding(crate::specs::Readers::name_step))]
     pub fn name_step(&mut self, end: Symbol, place: usize) -> Result<Step<Name<'a>>, Fault<'a>>
         ensures { Gives (λ x. (step_view name_view x, self.new)) result (name_step end place self.old) }
     {

@@ -16,7 +16,7 @@ use crate::bytes::{is_blank, is_number_byte, is_printable, is_run_byte};
 use crate::timescale::{blank_len, timescale};
 use crate::token::{Directive, Number, Stop, Symbol, Token};
 use memchr::{memchr, memmem};
-use td_nets::{Keyword, is_candidate, is_letter, is_name_byte, is_reserved, keyword_of};
+use td_nets::{is_candidate, is_letter, is_name_byte, is_reserved, keyword_of};
 
 /// A piece of a text and how many bytes it takes.
 #[derive(Clone, Copy, Debug)]

@@ -1,6 +1,6 @@
 //! From the bytes of a text to its syntax tree.
 
-ghost use Rattle.std.specs.Prelude.{◌≡◌, IfOk, Ok};
+ghost use Rattle.std.specs.Prelude.{IfOk, Ok};
 ghost use Rattle.td_syntax.specs.Grammar as grammar;
 ghost use Rattle.td_syntax.specs.Faults.{Gives};
 ghost use Rattle.td_syntax.specs.FirstFault.{syntax_of};

@@ -5,6 +5,7 @@ use Rattle.std.specs.List.{All, AllByRecursion}
 use Rattle.std.proofs.Math.Path.{fun_ext}
 use Rattle.std.proofs.lemmas.List.Elements.{recursion_from_All, All-nil, All-cons, All-weaker}
 use Rattle.std.proofs.lemmas.Option.{slice_get-get_or}
+use Rattle.std.proofs.lemmas.Bool.{cases_Bool}
 use Rattle.td_gates.specs.declared.primitives.Level.{Level}
 use Rattle.td_gates.specs.declared.primitives.Level.TheVariants.{Zero as Low, One as High, X}
 use Rattle.td_gates.specs.declared.primitives.Kind.{Kind}
@@ -22,7 +23,7 @@ use Rattle.td_domain.proofs.Lists.{filter_map-all, weaker}
 use Rattle.td_gates.proofs.Windows.{Held}
 use Rattle.td_gates.proofs.Delays.{IsDelayed, delayed, taken_last}
 use Rattle.td_ternary.specs.Possibles.{has, set_of, held_for, is_possible, possible, changes_below, last_level, last_change, last_input, capped, gate_signal}
-use Rattle.td_ternary.specs.PossibleLaws.{cases_bool, held_true, held_gives, same_is, boundaries_low, listed}
+use Rattle.td_ternary.specs.PossibleLaws.{held_true, held_gives, same_is, boundaries_low, listed}
 use Rattle.td_ternary.specs.Turning.{may_be, either, possible_after}
 
 -- 1 where the test holds, else 0
@@ -75,10 +76,10 @@ module _ (may : ℕ → Bool) (e : ℕ → Level) (delay : Delay) (fits : IsInRa
   keeps a false c h k = rw h refl
 
   none_high : (t : ℕ) → ¬ Held e High delay.rise t → held_for may delay.rise t ≡ false
-  none_high t none = elim (cases_bool (held_for may delay.rise t)) [ inl all ↦ absurd (none (unwindow_high t all)) | inr some ↦ some ]
+  none_high t none = elim (cases_Bool (held_for may delay.rise t)) [ inl all ↦ absurd (none (unwindow_high t all)) | inr some ↦ some ]
 
   none_low : (t : ℕ) → ¬ Held e Low delay.fall t → held_for (λ n. not (may n)) delay.fall t ≡ false
-  none_low t none = elim (cases_bool (held_for (λ n. not (may n)) delay.fall t)) [ inl all ↦ absurd (none (unwindow_low t all)) | inr some ↦ some ]
+  none_low t none = elim (cases_Bool (held_for (λ n. not (may n)) delay.fall t)) [ inl all ↦ absurd (none (unwindow_low t all)) | inr some ↦ some ]
 
   -- the buffer's output says where the level is possible
   pub buffer_says : (n : ℕ) → o n ≡ level_of_test (is_possible may delay.rise delay.fall n)
@@ -116,7 +117,7 @@ either-possible delay target zeros ones low high n = rw (low n, high n) (both _ 
     both false false = refl
 
 may_be-test : (wanted level : Level) → may_be wanted level ≡ level_of_test (has level wanted)
-may_be-test wanted level = elim (cases_bool (has level wanted)) [ inl may ↦ rw may refl | inr never ↦ rw never refl ]
+may_be-test wanted level = elim (cases_Bool (has level wanted)) [ inl may ↦ rw may refl | inr never ↦ rw never refl ]
 
 -- the wave of a buffer that is driven by whether the target may be the level
 pub possible-buffered : (wanted : Level) (delay : Delay) → IsInRange delay → (target drive out : Wave) → ((n : ℕ) → before drive n ≡ may_be wanted (before target n))
@@ -138,7 +139,7 @@ last_append s (a ∷ changes) b = last_append a.level changes b
 
 last_listed : (f : ℕ → Level) (H : ℕ) → last_level (f 0) (changes_below f H) ≡ f H
 last_listed f zero = refl
-last_listed f (suc H) = elim (cases_bool (level_eq (f H) (f (suc H)))) [
+last_listed f (suc H) = elim (cases_Bool (level_eq (f H) (f (suc H)))) [
   | inl same ↦ rw (same, append-nil (changes_below f H)) (last_listed f H ∙ same_is (f H) (f (suc H)) same)
   | inr other ↦ rw other (last_append (f 0) (changes_below f H) (record { moment = H; level = f (suc H) }))
 ]

@@ -2,7 +2,7 @@
 use Rattle.std.proofs.Common.{◌≡◌, ℕ, zero, suc, ◌+◌, ◌<◌, ◌≤◌, ◌⊎◌, min, true, false, List, [], ◌∷◌, ◌++◌, refl, arith, ap, ◌∙◌, sym, inl, inr, Option, Some, None, append-nil, append_assoc, length, drop, get_or, add-one, drop-cons}
 use Rattle.std.proofs.lemmas.List.{drop_all}
 use Rattle.std.specs.Prelude.{nat_le}
-use Rattle.std.proofs.lemmas.Bool.{cases_lt, le-leb, lt-leb}
+use Rattle.std.proofs.lemmas.Bool.{cases_lt, le-leb, lt-leb, cases_Bool}
 use Rattle.td_gates.specs.declared.primitives.Level.{Level}
 use Rattle.td_gates.specs.declared.primitives.Level.TheVariants.{Zero as Low, One as High}
 use Rattle.td_gates.specs.declared.timing.Delay.{Delay}
@@ -15,7 +15,6 @@ use Rattle.td_run.proofs.Delayed.{delayed_wave, delayed_wave-obeys}
 use Rattle.td_ternary.specs.declared.prospects.Prospect.{Prospect}
 use Rattle.td_ternary.specs.declared.prospects.Outlook.{Outlook}
 use Rattle.td_ternary.specs.Possibles.{has, is_possible, change_at}
-use Rattle.td_ternary.specs.PossibleLaws.{cases_bool}
 use Rattle.td_ternary.specs.Turning.{may_be, either, possible_after}
 use Rattle.td_ternary.specs.Prospects.{is_by, due_moment, earlier, fired, fired_by, level_of, stepped, stepping, settled, settling, driven, begun, passed}
 use Rattle.td_ternary.proofs.Turning.{turns, turns-rising, turns-after}
@@ -54,7 +53,7 @@ due-cases : (end : Option ℕ) (scheduled : Option Change)
     → ((due_moment end scheduled ≡ None) × IsQuiet end scheduled)
     ⊎ ((event : Change) × (scheduled ≡ Some event) × (is_by end event.moment ≡ true) × (due_moment end scheduled ≡ Some event.moment))
 due-cases end None = inl (refl, λ t by. tt)
-due-cases end (Some event) = elim (cases_bool (is_by end event.moment)) [
+due-cases end (Some event) = elim (cases_Bool (is_by end event.moment)) [
   | inl by ↦ inr (event, refl, by, rw by refl)
   | inr past ↦ inl (rw past refl, λ t by. later_than end event.moment t past by)
 ]

@@ -2,8 +2,9 @@
 use Rattle.std.proofs.Common.{◌≡◌, ◌≢◌, ℕ, zero, suc, ◌+◌, ◌-◌, ◌<◌, ◌≤◌, ◌^◌, min, max, Bool, true, false, List, [], ◌∷◌, ◌++◌, length, map, refl, arith, ap, subst, ◌∙◌, sym, Some, ◌⊎◌, inl, inr, take, drop}
 use Rattle.std.specs.Prelude.{nat_le, not, ◌&&◌, ◌||◌}
 use Rattle.std.specs.List.{All, AllZip, AllByRecursion, Contains}
-use Rattle.std.proofs.lemmas.Bool.{cases_lt, cases_eq, le-leb, lt-leb}
+use Rattle.std.proofs.lemmas.Bool.{cases_lt, cases_eq, le-leb, lt-leb, cases_Bool, or_left, or_right, and_parts}
 use Rattle.std.proofs.lemmas.List.Elements.{recursion_from_All}
+use Rattle.std.proofs.lemmas.List.{append-nil}
 use Rattle.td_gates.specs.declared.primitives.Level.{Level}
 use Rattle.td_gates.specs.declared.primitives.Level.TheVariants.{Zero as Low, One as High, X}
 use Rattle.td_gates.specs.declared.primitives.Kind.{Kind}
@@ -17,22 +18,14 @@ use Rattle.td_domain.specs.declared.cubes.Trit.{Trit}
 use Rattle.td_domain.specs.declared.cubes.Trit.TheVariants.{Zero, One, Free}
 use Rattle.td_domain.specs.Waves.{IsBoolean, IsQuietAfter, IsConstant}
 use Rattle.td_domain.specs.Cubes.{level_of_trit, Allows, IsInputWave}
+use Rattle.td_domain.proofs.Lists.{weaker, take-drop, all_append}
 use Rattle.td_gates.proofs.Windows.{Held}
 use Rattle.td_gates.proofs.Delays.{IsDelayed, delayed, delayed-boolean}
-use Rattle.td_gates.proofs.TableLaws.{Agrees, Booleans, table-boolean, table_known}
+use Rattle.td_gates.proofs.TableLaws.{Booleans, table-boolean, table_known}
+use Rattle.td_gates.specs.Known.{Agrees}
+use Rattle.td_gates.proofs.KnownLaws.{length-levels}
 use Rattle.td_ternary.specs.Possibles.{has, set_of, change_at, input_signal, constant_signal, held_for, is_possible, possible, changes_below, last_change, last_input, last_level, widened, capped, gate_signal, last_of}
 use Rattle.td_ternary.specs.Coverage.{Covers, HasMoment}
-
-pub cases_bool : (b : Bool) → (b ≡ true) ⊎ (b ≡ false)
-cases_bool true = inl refl
-cases_bool false = inr refl
-
-or_left : (a b : Bool) → a ≡ true → a || b ≡ true
-or_left a b h = rw h refl
-
-or_right : (a b : Bool) → b ≡ true → a || b ≡ true
-or_right true b h = refl
-or_right false b h = h
 
 -- windows of tests
 pub held_true : (test : ℕ → Bool) (d t : ℕ) → ((k : ℕ) → k < d → test (t - k) ≡ true) → held_for test d t ≡ true
@@ -42,16 +35,11 @@ held_true test (suc d) t all = rw (all d (omega arith)) (held_true test d t (λ 
 pub held_gives : (test : ℕ → Bool) (d t : ℕ) → held_for test d t ≡ true → (k : ℕ) → k < d → test (t - k) ≡ true
 held_gives test zero t is k low = absurd (omega arith)
 held_gives test (suc d) t is k low =
-    let both = and_cases (test (t - d)) (held_for test d t) is in
+    let both = and_parts (test (t - d)) (held_for test d t) is in
     elim (cases_eq k d) [
       | inl same ↦ rw same both.0
       | inr other ↦ held_gives test d t both.1 k (omega arith)
     ]
-  where
-    and_cases : (a b : Bool) → a && b ≡ true → (a ≡ true) × (b ≡ true)
-    and_cases true true h = (refl, refl)
-    and_cases true false h = cc
-    and_cases false b h = cc
 
 pub not_false : (b : Bool) → not b ≡ true → b ≡ false
 not_false true h = cc
@@ -72,7 +60,7 @@ level_possible may e delay o is level other there away (suc t) here = elim (is.n
       or_left _ _ (held_true may (delay_to delay level) t (λ k low. there (t - k) (window k low)))
   | inr it ↦
       let old = level_possible may e delay o is level other there away t (sym it.1 ∙ here) in
-      elim (cases_bool (held_for (λ n. not (may n)) (delay_to delay other) t)) [
+      elim (cases_Bool (held_for (λ n. not (may n)) (delay_to delay other) t)) [
         | inl gone ↦ absurd (it.0 other (λ k low. away (t - k) (not_false (may (t - k)) (held_gives (λ n. not (may n)) (delay_to delay other) t gone k low))))
         | inr kept ↦ or_right _ _ (stays _ _ old kept)
       ]
@@ -127,10 +115,6 @@ booleans_at [] [] n covered = tt
 booleans_at (s ∷ signals) [] n covered = absurd covered
 booleans_at [] (w ∷ ins) n covered = absurd covered
 booleans_at (s ∷ signals) (w ∷ ins) n covered = (covered_boolean _ _ (covered.0 n), booleans_at signals ins n covered.1)
-
-length-levels : (ins : List Wave) (n : ℕ) → length (map (λ wave. before wave n) ins) ≡ length ins
-length-levels [] n = refl
-length-levels (w ∷ ins) n = ap suc (length-levels ins n)
 
 -- the output's level is possible
 pub covers_possible : (kind : Kind) (delay : Delay) (signals : List Wave) (ins : List Wave) (out : Wave)
@@ -193,16 +177,8 @@ after_late s (a ∷ boundaries) b t below late =
     let on : a.moment ≤ t = omega (arith, below.0) in
     rw (le-leb a.moment t on) (after_late a.level boundaries b t below.1 late)
 
-weaker : {A : Type 0} (P Q : A → Type 0) → ((x : A) → P x → Q x) → (xs : List A) → AllByRecursion P xs → AllByRecursion Q xs
-weaker P Q f [] h = tt
-weaker P Q f (x ∷ xs) h = (f x h.0, weaker P Q f xs h.1)
-
-all_append : {A : Type 0} (P : A → Type 0) (xs ys : List A) → AllByRecursion P xs → AllByRecursion P ys → AllByRecursion P (xs ++ ys)
-all_append P [] ys h k = k
-all_append P (x ∷ xs) ys h k = (h.0, all_append P xs ys h.1 k)
-
 one_below : (moment H : ℕ) (old new : Level) → moment < H → AllByRecursion (λ b. b.moment < H) (change_at moment old new)
-one_below moment H old new low = elim (cases_bool (level_eq old new)) [
+one_below moment H old new low = elim (cases_Bool (level_eq old new)) [
   | inl same ↦ rw same tt
   | inr other ↦ rw other (low, tt)
 ]
@@ -213,15 +189,11 @@ boundaries_low f (suc H) = all_append _ (changes_below f H) (change_at H (f H) (
     (weaker _ _ (λ b low. omega arith) (changes_below f H) (boundaries_low f H))
     (one_below H (suc H) (f H) (f (suc H)) (omega arith))
 
-append_nil : {A : Type 0} (xs : List A) → xs ++ [] ≡ xs
-append_nil [] = refl
-append_nil (x ∷ xs) = ap (λ ys. x ∷ ys) (append_nil xs)
-
 -- the listing shows the sets
 pub shown : (f : ℕ → Level) (H t : ℕ) → level_after (f 0) (changes_below f H) t ≡ f (min (suc t) H)
 shown f zero t = let e : 0 ≡ min (suc t) 0 = omega arith in ap f e
-shown f (suc H) t = elim (cases_bool (level_eq (f H) (f (suc H)))) [
-  | inl same ↦ rw (same, append_nil) (shown f H t ∙ elim (cases_lt t H) [
+shown f (suc H) t = elim (cases_Bool (level_eq (f H) (f (suc H)))) [
+  | inl same ↦ rw (same, append-nil) (shown f H t ∙ elim (cases_lt t H) [
     | inl early ↦ (let e : min (suc t) H ≡ min (suc t) (suc H) = omega arith in ap f e)
     | inr late ↦
         let e : min (suc t) H ≡ H = omega arith in
@@ -257,7 +229,7 @@ targets_stay (s ∷ signals) t u one two =
 
 pub held_false : (test : ℕ → Bool) (d t : ℕ) → 1 ≤ d → test t ≡ false → held_for test d t ≡ false
 held_false test zero t some fails = absurd (omega arith)
-held_false test (suc d) t some fails = elim (cases_bool (held_for test (suc d) t)) [
+held_false test (suc d) t some fails = elim (cases_Bool (held_for test (suc d) t)) [
   | inr is ↦ is
   | inl is ↦
       let first = held_gives test (suc d) t is 0 (omega arith) in
@@ -271,7 +243,7 @@ pub possible_stays : (may : ℕ → Bool) (coming going M D : ℕ) → 1 ≤ com
     → ((t u : ℕ) → M ≤ t → M ≤ u → may (suc t) ≡ may (suc u))
     → (t : ℕ) → M + D ≤ t → is_possible may coming going (suc t) ≡ may (suc M)
 possible_stays may coming going M D some short fast stay t late =
-    elim (cases_bool (may (suc M))) [
+    elim (cases_Bool (may (suc M))) [
       | inl on ↦ or_left _ _ (held_true may coming t (λ k low. at_place (t - k) (omega arith) ∙ on)) ∙ sym on
       | inr off ↦
           let none : held_for may coming t ≡ false = held_false may coming t some (at_place t (omega arith) ∙ off) in
@@ -301,7 +273,7 @@ same_either set level boolean same = let is = same_is set X same in rw is (all_i
 widens : (s : Level) (first : List Change) (b : Change) (later : List Change) (t : ℕ) (level : Level) → level ≢ X
     → has (level_after s (first ++ b ∷ later) t) level ≡ true
     → has (level_after s (first ++ change_at b.moment (last_level s first) X) t) level ≡ true
-widens s [] b later t level boolean h = elim (cases_bool (level_eq s X)) [
+widens s [] b later t level boolean h = elim (cases_Bool (level_eq s X)) [
   | inl same ↦ rw same (same_either s level boolean same)
   | inr other ↦ rw other (elim (cases_lt t b.moment) [
     | inl under ↦ rw (lt-leb b.moment t under) (rw (lt-leb b.moment t under) at h)
@@ -313,21 +285,16 @@ widens s (a ∷ first) b later t level boolean h = elim (cases_lt t a.moment) [
   | inr on ↦ rw (le-leb a.moment t on) (widens a.level first b later t level boolean (rw (le-leb a.moment t on) at h))
 ]
 
-take_drop : {A : Type 0} (n : ℕ) (xs : List A) → take n xs ++ drop n xs ≡ xs
-take_drop zero xs = refl
-take_drop (suc n) [] = refl
-take_drop (suc n) (x ∷ xs) = ap (λ ys. x ∷ ys) (take_drop n xs)
-
 widened_has : (s : Level) (first rest : List Change) (t : ℕ) (level : Level) → level ≢ X
     → has (level_after s (first ++ rest) t) level ≡ true → has (level_after s (widened s first rest) t) level ≡ true
-widened_has s first [] t level boolean h = rw append_nil at h
+widened_has s first [] t level boolean h = rw append-nil at h
 widened_has s first (b ∷ later) t level boolean h = widens s first b later t level boolean h
 
 pub capped_has : (s : Level) (boundaries : List Change) (t : ℕ) (level : Level) → level ≢ X
     → has (level_after s boundaries t) level ≡ true → has (level_after s (capped s boundaries) t) level ≡ true
-capped_has s boundaries t level boolean h = elim (cases_bool (nat_le (length boundaries) 512)) [
+capped_has s boundaries t level boolean h = elim (cases_Bool (nat_le (length boundaries) 512)) [
   | inl few ↦ rw few h
-  | inr many ↦ rw many (widened_has s (take 511 boundaries) (drop 511 boundaries) t level boolean (rw (take_drop 511 boundaries) h))
+  | inr many ↦ rw many (widened_has s (take 511 boundaries) (drop 511 boundaries) t level boolean (rw (take-drop 511 boundaries) h))
 ]
 
 sets_same : (a b c d : Bool) → a ≡ c → b ≡ d → set_of a b ≡ set_of c d
@@ -391,13 +358,13 @@ allowed_has Free true h = refl
 allowed_has Free false h = refl
 
 before_change : (s new : Level) (moment t : ℕ) → t < moment → level_after s (change_at moment s new) t ≡ s
-before_change s new moment t early = elim (cases_bool (level_eq s new)) [
+before_change s new moment t early = elim (cases_Bool (level_eq s new)) [
   | inl same ↦ rw same refl
   | inr other ↦ rw (other, lt-leb moment t early) refl
 ]
 
 after_change : (s new : Level) (moment t : ℕ) → moment ≤ t → level_after s (change_at moment s new) t ≡ new
-after_change s new moment t late = elim (cases_bool (level_eq s new)) [
+after_change s new moment t late = elim (cases_Bool (level_eq s new)) [
   | inl same ↦ rw same (same_is s new same)
   | inr other ↦ rw (other, le-leb moment t late) refl
 ]
@@ -435,7 +402,7 @@ one_level set High X single h k = absurd (never_x set k)
 pub quiet_after_last : (signal : Wave) (moment : ℕ) (wave : Wave) → last_of signal ≡ Some moment → Covers signal wave
     → IsQuietAfter moment wave
 quiet_after_last signal moment wave is covered =
-    elim (cases_bool (level_eq (last_level signal.start signal.changes) X)) [
+    elim (cases_Bool (level_eq (last_level signal.start signal.changes) X)) [
       | inl both ↦ (let none = rw both at is in cc)
       | inr single ↦
           let some = rw single at is in
@@ -464,14 +431,14 @@ all_drop P (suc n) (x ∷ xs) h = all_drop P n xs h.1
 widened_low : (H : ℕ) (s : Level) (first rest : List Change) → AllByRecursion (λ b. b.moment ≤ H) first → AllByRecursion (λ b. b.moment ≤ H) rest
     → AllByRecursion (λ b. b.moment ≤ H) (widened s first rest)
 widened_low H s first [] h k = h
-widened_low H s first (b ∷ later) h k = all_append _ first _ h (elim (cases_bool (level_eq (last_level s first) X)) [
+widened_low H s first (b ∷ later) h k = all_append _ first _ h (elim (cases_Bool (level_eq (last_level s first) X)) [
   | inl same ↦ rw same tt
   | inr other ↦ rw other (k.0, tt)
 ])
 
 capped_low : (H : ℕ) (s : Level) (boundaries : List Change) → AllByRecursion (λ b. b.moment ≤ H) boundaries
     → AllByRecursion (λ b. b.moment ≤ H) (capped s boundaries)
-capped_low H s boundaries h = elim (cases_bool (nat_le (length boundaries) 512)) [
+capped_low H s boundaries h = elim (cases_Bool (nat_le (length boundaries) 512)) [
   | inl few ↦ rw few h
   | inr many ↦ rw many (widened_low H s _ _ (all_take _ 511 boundaries h) (all_drop _ 511 boundaries h))
 ]
@@ -490,7 +457,7 @@ reach_gate kind delay signals m small =
 
 pub reach_input : (first second : Trit) (moment : ℕ) → moment ≤ 10 ^ 9
     → last_change (change_at moment (level_of_trit first) (level_of_trit second)) ≤ 10 ^ 9
-reach_input first second moment small = elim (cases_bool (level_eq (level_of_trit first) (level_of_trit second))) [
+reach_input first second moment small = elim (cases_Bool (level_eq (level_of_trit first) (level_of_trit second))) [
   | inl same ↦ rw same (omega arith)
   | inr other ↦ rw other (omega arith)
 ]
@@ -513,7 +480,7 @@ last_stands (change ∷ later) = elim (cases_lt (last_change later) change.momen
 
 pub last_is_moment : (signal : Wave) (moment : ℕ) → last_of signal ≡ Some moment → (moment ≡ 0) ⊎ HasMoment signal moment
 last_is_moment signal moment is =
-    elim (cases_bool (level_eq (last_level signal.start signal.changes) X)) [
+    elim (cases_Bool (level_eq (last_level signal.start signal.changes) X)) [
       | inl both ↦ (let none = rw both at is in cc)
       | inr single ↦
           let some = rw single at is in

@@ -1,8 +1,7 @@
 //! The signal of a gate's output.
 
-ghost use Rattle.std.specs.Prelude.{◌≡◌, ℕ, ◌≤◌, ◌<◌, ◌+◌, ◌^◌, ◌++◌, [], ◌∷◌, max, IfOk, OnOk, length, map, filter_map, slice_get};
-ghost use Rattle.std.specs.List.{All, Contains};
-ghost use Rattle.std.specs.List.Sorted.{IsStrictlyIncreasing};
+ghost use Rattle.std.specs.Prelude.{◌≡◌, ℕ, ◌≤◌, ◌<◌, ◌+◌, ◌^◌, ◌++◌, max, IfOk, OnOk, length, filter_map, slice_get};
+ghost use Rattle.std.specs.List.{All};
 ghost use Rattle.td_gates.specs.Delays.{IsInRange};
 ghost use Rattle.td_gates.specs.Table.{TakesInputs};
 ghost use Rattle.td_gates.specs.Wave.{before, IsWave};

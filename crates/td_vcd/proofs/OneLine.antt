@@ -12,8 +12,9 @@ use Rattle.td_nets.specs.Identifiers.{is_simple_identifier}
 use Rattle.td_nets.specs.Netlist.{Name, Netlist}
 use Rattle.td_nets.specs.Printed.{printed, bit_text}
 use Rattle.td_nets.specs.WellFormed.{driven}
+use Rattle.td_nets.specs.Scales.{scale_text}
 use Rattle.td_vcd.specs.declared.events.Event.{Event}
-use Rattle.td_vcd.specs.Text.{Line, code_within, code, scale_text, timescale, scope, head_lines, declaration, start_line, numbered, dump_begins, dump_ends, event_line, events_at, moment_lines, change_lines, events_from, dump_lines, rising, moment_of}
+use Rattle.td_vcd.specs.Text.{Line, code_within, code, timescale, scope, head_lines, declaration, start_line, numbered, dump_begins, dump_ends, event_line, events_at, moment_lines, change_lines, events_from, dump_lines, rising, moment_of}
 use Rattle.td_vcd.specs.Says.{IsOnOneLine, IsOneLine}
 use Rattle.td_vcd.specs.Laws.{HasNamesOnOneLine}
 

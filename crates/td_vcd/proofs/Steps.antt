@@ -12,6 +12,7 @@ use Rattle.td_gates.proofs.Places.{slice_get-get}
 use Rattle.td_nets.specs.Netlist.{Netlist}
 use Rattle.td_nets.specs.WellFormed.{driven}
 use Rattle.td_run.specs.Waves.{constant, AreWithin, waves_of}
+use Rattle.td_run.proofs.Turning.{change_origin}
 use Rattle.td_vcd.specs.declared.events.Event.{Event}
 use Rattle.td_vcd.specs.Text.{Line, ended, text_of, numbered, number_of, event_of, events_from, head_lines, declaration, start_line, dump_begins, dump_ends, change_lines, dump_lines, dump}
 use Rattle.td_vcd.specs.Walks.{event_lines, lines_from}
@@ -118,9 +119,6 @@ pub dump_parts : (netlist : Netlist) (waves : List Wave) → dump netlist waves
 dump_parts netlist waves =
     dump_is netlist waves ∙ six (head_lines netlist) (numbered declaration 0 (driven netlist)) dump_begins (numbered start_line 0 waves) dump_ends
     (change_lines (events_from 0 waves))
-
-abbrev pub change_origin : Change
-change_origin = record { moment = 0; level = Zero }
 
 -- one more change of a variable
 pub push_step : (variable : ℕ) (events : List Event) (changes : List Change) (i : ℕ) (whole grown : List Event) → i < length changes

@@ -6,11 +6,10 @@ use Rattle.td_gates.specs.declared.primitives.Level.TheVariants.{Zero, One, X}
 use Rattle.td_gates.specs.declared.timing.Change.{Change}
 use Rattle.td_gates.specs.Wave.{Wave}
 use Rattle.td_nets.specs.declared.netlist.Unit.{Unit as Step}
-use Rattle.td_nets.specs.declared.netlist.Scale.{Scale}
-use Rattle.td_nets.specs.declared.netlist.Scale.TheVariants as scale
 use Rattle.td_nets.specs.Netlist.{Name, Net, Named, Netlist}
 use Rattle.td_nets.specs.WellFormed.{driven}
 use Rattle.td_nets.specs.Printed.{printed}
+use Rattle.td_nets.specs.Scales.{scale_text}
 use Rattle.td_vcd.specs.declared.events.Event.{Event}
 
 -- ---- lines
@@ -48,14 +47,6 @@ abbrev pub text_of : List Line → List ℕ
 text_of lines = flat_map ended lines
 
 -- ---- the head
-
-abbrev pub scale_text : Scale → List ℕ
-scale_text scale.Seconds = codes "s"
-scale_text scale.Milliseconds = codes "ms"
-scale_text scale.Microseconds = codes "us"
-scale_text scale.Nanoseconds = codes "ns"
-scale_text scale.Picoseconds = codes "ps"
-scale_text scale.Femtoseconds = codes "fs"
 
 -- how long a step takes
 abbrev pub timescale : Step → Line

@@ -7,7 +7,7 @@ use itoa::Buffer;
 use std::alloc::{AllocError, Global};
 use std::marker::Model;
 use td_gates::{DeviceFault, Level, Sink};
-use td_nets::{Name, Scale, Unit};
+use td_nets::{Name, Unit};
 
 /// How many bytes are gathered before they are written.
 const FULL: usize = 65_536;
@@ -45,7 +45,7 @@ impl Batch {
     ghost use Rattle.td_gates.specs.Output.{SentTo, Sent, Failed};
     ghost use Rattle.td_nets.specs.Views.{name_of};
     ghost use Rattle.td_nets.specs.Printed.{printed};
-    ghost use Rattle.td_vcd.specs.Text.{Number, Sets, code, ended, timescale, scope, declaration, scale_text};
+    ghost use Rattle.td_vcd.specs.Text.{Number, Sets, code, ended, timescale, scope, declaration};
 
     /// An empty batch.
     pub fn new(alloc: Global) -> Batch
@@ -119,19 +119,6 @@ impl Batch {
         self.byte(33 + rest as u8)
     }
 
-    fn scale(&mut self, scale: Scale) -> Result<(), AllocError>
-        ensures { OnOk result (self.new ≡ self.old ++ scale_text scale) }
-    {
-        match scale {
-            Scale::Seconds => self.push(b"s"),
-            Scale::Milliseconds => self.push(b"ms"),
-            Scale::Microseconds => self.push(b"us"),
-            Scale::Nanoseconds => self.push(b"ns"),
-            Scale::Picoseconds => self.push(b"ps"),
-            Scale::Femtoseconds => self.push(b"fs"),
-        }
-    }
-
     /// Appends the line that tells how long a step takes.
     pub fn timescale(&mut self, unit: Unit) -> Result<(), AllocError>
         ensures { OnOk result (self.new ≡ self.old ++ ended (timescale unit)) }
@@ -139,7 +126,7 @@ impl Batch {
         self.push(b"$timescale ")?;
         self.digits(u64::from(unit.magnitude))?;
         self.push(b" ")?;
-        self.scale(unit.scale)?;
+        self.push(unit.scale.word())?;
         self.push(b" $end\n")
     }
 

@@ -4,7 +4,6 @@ ghost use Rattle.std.specs.Prelude.{◌≡◌, ◌++◌, ◌<◌, ◌≤◌, len
 ghost use Rattle.std.specs.List.{All};
 ghost use Rattle.std.specs.List.Sorted.{IsNonDecreasingBy, IsStableByKey};
 ghost use Rattle.std.specs.Ordering.{nat_cmp};
-ghost use Rattle.td_gates.specs.Wave.{Wave as WaveModel};
 ghost use Rattle.td_run.specs.Waves.{AreWithin, waves_of};
 ghost use Rattle.td_vcd.specs.Text.{event_of, events_from, moment_of, change_lines};
 ghost use Rattle.td_vcd.specs.Walks.{lines_from};

@@ -1,9 +1,11 @@
 use Rattle.std.proofs.Common.{◌≡◌, ◌+◌, ◌-◌, ◌<◌, ◌≤◌, ◌^◌, ℕ, max, arith}
 use Rattle.std.proofs.lemmas.List.Elements.{recursion_from_All}
 use Rattle.std.specs.List.{AllByRecursion}
-use Rattle.td_arrival.specs.Arrivals.{opens_at, controlling}
+use Rattle.td_domain.proofs.Lists.{weaker}
+use Rattle.td_gates.specs.Table.{controlling}
+use Rattle.td_arrival.specs.Arrivals.{opens_at}
 use Rattle.td_arrival.specs.Coverage.{span_reach}
-use Rattle.td_arrival.specs.ArrivalLaws.{opens_reach, closes_within, weaker, Within}
+use Rattle.td_arrival.specs.ArrivalLaws.{opens_reach, closes_within, Within}
 use Rattle.td_arrival.proofs.gates.changes_within.Goals as goal
 
 pub overflow_add-result : goal.overflow_add-result

@@ -1,11 +1,12 @@
 use Rattle.std.proofs.Common.{◌≡◌, ℕ, ◌+◌, ◌-◌, ◌<◌, ◌≤◌, ◌^◌, max, arith, Some, List, [], ◌∷◌}
 use Rattle.std.proofs.lemmas.List.Elements.{recursion_from_All, All-head}
 use Rattle.std.specs.List.{All, AllByRecursion}
+use Rattle.td_domain.proofs.Lists.{weaker}
 use Rattle.td_arrival.specs.declared.signals.Span.{Span}
 use Rattle.td_arrival.specs.declared.signals.Signal.{Signal}
 use Rattle.td_arrival.specs.Arrivals.{hull}
 use Rattle.td_arrival.specs.Coverage.{span_reach}
-use Rattle.td_arrival.specs.ArrivalLaws.{hull_reach, weaker, Within}
+use Rattle.td_arrival.specs.ArrivalLaws.{hull_reach, Within}
 use Rattle.td_arrival.proofs.gates.output.Goals as goal
 
 -- the hull reaches no further than the signals

@@ -6,7 +6,7 @@ use Rattle.std.proofs.lemmas.Option.{slice_get-get_or}
 use Rattle.td_gates.specs.declared.primitives.Level.TheVariants.{Zero}
 use Rattle.td_arrival.specs.declared.signals.Signal.{Signal}
 use Rattle.td_arrival.specs.Arrivals.{gate_signal}
-use Rattle.td_arrival.specs.ArrivalLaws.{length-picked}
+use Rattle.td_domain.proofs.Lists.{length-picked}
 use Rattle.td_arrival.specs.Coverage.{span_reach}
 use Rattle.td_arrival.proofs.gates.output_at.Goals as goal
 

@@ -2,9 +2,10 @@ use Rattle.std.proofs.Common.{◌<◌, ◌∙◌, ap, length, map, take_all}
 use Rattle.std.specs.Prelude.{filter_map, slice_get}
 use Rattle.std.proofs.lemmas.List.{length-map}
 use Rattle.std.proofs.lemmas.List.Elements.{recursion_from_All}
+use Rattle.td_domain.proofs.Lists.{length-picked}
 use Rattle.td_gates.specs.Counts.{counts_of}
 use Rattle.td_edges.specs.declared.signals.Signal.{Signal}
-use Rattle.td_edges.proofs.Picks.{hull-step, starts-step, finishes-step, low-step, length-picked}
+use Rattle.td_edges.proofs.Picks.{hull-step, starts-step, finishes-step, low-step}
 use Rattle.td_edges.proofs.gates.gathered.Goals as goal
 
 pub loop-place-preserved : goal.loop-place-preserved

@@ -1,5 +1,6 @@
 use Rattle.std.specs.Prelude.{filter_map, slice_get}
-use Rattle.td_edges.specs.EdgeSignals.{controlling, settled}
+use Rattle.td_gates.specs.Table.{controlling}
+use Rattle.td_edges.specs.EdgeSignals.{settled}
 use Rattle.td_edges.proofs.Picks.{kept-none, kept-step}
 use Rattle.td_edges.proofs.gates.kept_by.Goals as goal
 

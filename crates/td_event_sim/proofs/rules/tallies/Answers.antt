@@ -2,7 +2,7 @@ use Rattle.std.proofs.Common.{◌≡◌, ◌+◌, ℕ, List, length, map, refl, 
 use Rattle.std.specs.Prelude.{slice_get}
 use Rattle.std.proofs.lemmas.List.{length_push}
 use Rattle.td_circuit.specs.Views.{gate_of}
-use Rattle.td_run.proofs.Gates.{numbered-at}
+use Rattle.td_circuit.proofs.Gates.{numbered-at}
 use Rattle.td_event_sim.specs.declared.rules.Tally.{Tally}
 use Rattle.td_event_sim.specs.Rules.{AreRules, rules_of}
 use Rattle.td_event_sim.proofs.Tallies.{no-rules, rule-pushed}

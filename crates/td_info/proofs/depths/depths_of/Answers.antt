@@ -2,9 +2,10 @@ use Rattle.std.proofs.Common.{◌∙◌, ◌+◌, replicate, arith, ap}
 use Rattle.std.proofs.lemmas.Option.{slice_get-get_or}
 use Rattle.td_circuit.specs.Views.{gate_of}
 use Rattle.td_circuit.proofs.Nets.{few_gates}
+use Rattle.td_circuit.proofs.Gates.{numbered-at}
 use Rattle.td_gates.proofs.Places.{slice_get-some}
 use Rattle.td_info.specs.Depths.{greatest, depths_at}
-use Rattle.td_info.proofs.Deep.{numbered-at, depths_none, depths_more, small_below, read_at}
+use Rattle.td_info.proofs.Deep.{depths_none, depths_more, small_below, read_at}
 use Rattle.td_info.proofs.depths.depths_of.Goals as goal
 
 pub loop-gate-init : goal.loop-gate-init

@@ -1,8 +1,8 @@
 use Rattle.std.proofs.Common.{◌∙◌, ◌+◌, Some, drop, sym, ap, arith, length}
 use Rattle.std.proofs.lemmas.List.{length-map}
 use Rattle.td_circuit.specs.Views.{gate_of}
+use Rattle.td_circuit.proofs.Gates.{numbered-at}
 use Rattle.td_info.specs.Ranges.{ranged}
-use Rattle.td_info.proofs.Deep.{numbered-at}
 use Rattle.td_info.proofs.Wide.{range_end, range_is, range_more}
 use Rattle.td_info.proofs.ranges.range_of.Goals as goal
 

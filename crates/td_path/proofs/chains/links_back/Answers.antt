@@ -6,7 +6,7 @@ use Rattle.td_circuit.specs.declared.circuit.Gate as code
 use Rattle.td_circuit.specs.Numbering.{NumberedGate}
 use Rattle.td_circuit.specs.Views.{gate_of}
 use Rattle.td_circuit.proofs.Nets.{lower-at, length-nets}
-use Rattle.td_run.proofs.Gates.{numbered-at}
+use Rattle.td_circuit.proofs.Gates.{numbered-at}
 use Rattle.td_path.proofs.Walking.{steps_are, back_far, step_back, ends_back}
 use Rattle.td_path.proofs.chains.links_back.Goals as goal
 

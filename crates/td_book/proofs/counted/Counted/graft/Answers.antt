@@ -1,4 +1,4 @@
-use Rattle.std.proofs.Common.{◌≡◌, ◌+◌, rules}
+use Rattle.std.proofs.Common.{rules}
 use Rattle.td_book.proofs.Grafting.{grafted_long}
 use Rattle.td_book.proofs.counted.Counted.graft.Goals as goal
 

@@ -1,5 +1,6 @@
 use Rattle.td_syntax.specs.Views.{port_view}
-use Rattle.td_syntax.specs.Parsing.{port_step, many}
+use Rattle.td_syntax.specs.Readers.{many}
+use Rattle.td_syntax.specs.Parsing.{port_step}
 use Rattle.td_syntax.proofs.Lists.{left, SoFar}
 use Rattle.td_syntax.proofs.SoundDeclarations.{ports_shorten}
 use Rattle.td_syntax.proofs.parser.Parser.declared_ports.Given as goal

@@ -1,4 +1,5 @@
-use Rattle.td_syntax.specs.Parsing.{behind_step, many}
+use Rattle.td_syntax.specs.Readers.{many}
+use Rattle.td_syntax.specs.Parsing.{behind_step}
 use Rattle.td_syntax.proofs.Lists.{left, SoFar, same}
 use Rattle.td_syntax.proofs.SoundHeads.{behind_shortens}
 use Rattle.td_syntax.proofs.parser.Parser.directives.Given as goal

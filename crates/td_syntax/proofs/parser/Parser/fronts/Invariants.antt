@@ -1,4 +1,5 @@
-use Rattle.td_syntax.specs.Parsing.{front_step, many}
+use Rattle.td_syntax.specs.Readers.{many}
+use Rattle.td_syntax.specs.Parsing.{front_step}
 use Rattle.td_syntax.proofs.Lists.{left, SoFar, same}
 use Rattle.td_syntax.proofs.SoundHeads.{fronts_shorten}
 use Rattle.td_syntax.proofs.parser.Parser.fronts.Given as goal

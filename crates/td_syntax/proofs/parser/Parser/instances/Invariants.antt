@@ -1,5 +1,6 @@
 use Rattle.td_syntax.specs.Views.{instance_view}
-use Rattle.td_syntax.specs.Parsing.{instance_step, many}
+use Rattle.td_syntax.specs.Readers.{many}
+use Rattle.td_syntax.specs.Parsing.{instance_step}
 use Rattle.td_syntax.proofs.Lists.{left, SoFar}
 use Rattle.td_syntax.proofs.SoundGates.{instances_shorten}
 use Rattle.td_syntax.proofs.parser.Parser.instances.Given as goal

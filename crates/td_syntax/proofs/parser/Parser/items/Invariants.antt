@@ -1,5 +1,6 @@
 use Rattle.td_syntax.specs.Views.{item_view}
-use Rattle.td_syntax.specs.Parsing.{item_step, many}
+use Rattle.td_syntax.specs.Readers.{many}
+use Rattle.td_syntax.specs.Parsing.{item_step}
 use Rattle.td_syntax.proofs.Lists.{left, SoFar}
 use Rattle.td_syntax.proofs.SoundItems.{items_shorten}
 use Rattle.td_syntax.proofs.parser.Parser.items.Given as goal

@@ -2,7 +2,7 @@ use Rattle.std.proofs.Common.{◌≡◌, ◌++◌, ◌∷◌, [], Ok, map, ap, �
 use Rattle.std.proofs.lemmas.Result.{err_from_is_err_and}
 use Rattle.std.proofs.lemmas.List.{map_push}
 use Rattle.td_syntax.specs.Views.{name_view, step_view}
-use Rattle.td_syntax.specs.Parsing.{name_step, many, names_at}
+use Rattle.td_syntax.specs.Readers.{many, name_step, names_at}
 use Rattle.td_syntax.proofs.Lists.{goes_on, final, is_done, fails}
 use Rattle.td_syntax.proofs.SoundDelays.{names_shorten}
 use Rattle.td_syntax.proofs.parser.Parser.names.Goals as goal

@@ -1,5 +1,5 @@
 use Rattle.td_syntax.specs.Views.{name_view}
-use Rattle.td_syntax.specs.Parsing.{name_step, many}
+use Rattle.td_syntax.specs.Readers.{many, name_step}
 use Rattle.td_syntax.proofs.Lists.{left, SoFar}
 use Rattle.td_syntax.proofs.SoundDelays.{names_shorten}
 use Rattle.td_syntax.proofs.parser.Parser.names.Given as goal

@@ -2,7 +2,8 @@ use Rattle.std.proofs.Common.{◌≡◌, ◌++◌, ◌∷◌, [], Ok, map, ap, �
 use Rattle.std.proofs.lemmas.Result.{err_from_is_err_and}
 use Rattle.std.proofs.lemmas.List.{map_push}
 use Rattle.td_syntax.specs.Views.{terminal_view, step_view}
-use Rattle.td_syntax.specs.Parsing.{terminal_step, many}
+use Rattle.td_syntax.specs.Readers.{many}
+use Rattle.td_syntax.specs.Parsing.{terminal_step}
 use Rattle.td_syntax.proofs.Lists.{goes_on, final, is_done, fails}
 use Rattle.td_syntax.proofs.SoundGates.{terminals_shorten}
 use Rattle.td_syntax.proofs.parser.Parser.terminals.Goals as goal

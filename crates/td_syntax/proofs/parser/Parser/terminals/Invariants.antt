@@ -1,5 +1,6 @@
 use Rattle.td_syntax.specs.Views.{terminal_view}
-use Rattle.td_syntax.specs.Parsing.{terminal_step, many}
+use Rattle.td_syntax.specs.Readers.{many}
+use Rattle.td_syntax.specs.Parsing.{terminal_step}
 use Rattle.td_syntax.proofs.Lists.{left, SoFar}
 use Rattle.td_syntax.proofs.SoundGates.{terminals_shorten}
 use Rattle.td_syntax.proofs.parser.Parser.terminals.Given as goal

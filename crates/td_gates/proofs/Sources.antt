@@ -11,9 +11,15 @@ use Rattle.td_gates.proofs.Windows.{Held}
 use Rattle.td_gates.proofs.Delays.{IsDelayed, taken_last, delayed-early}
 
 -- Place n is just before moment n, so that a change at moment t leads from place t to place t + 1.
+-- a change of the target that the output sees: the target keeps its new level for the delay to it
+pub record Reaches (e : ℕ → Level) (delay : Delay) (u : ℕ) : Type 0 where
+  pub change : e (suc u) ≢ e u
+  pub stays : (k : ℕ) → k < delay_to delay (e (suc u)) → e (suc u + k) ≡ e (suc u)
+
+-- where a change of the output comes from
 pub record Source (e : ℕ → Level) (delay : Delay) (o : ℕ → Level) (t : ℕ) : Type 0 where
   pub moment : ℕ
-  pub change : e (suc moment) ≢ e moment
+  pub reaches : Reaches e delay moment
   pub same : e (suc moment) ≡ o (suc t)
   pub put_off : t ≡ moment + delay_to delay (o (suc t))
 
@@ -58,14 +64,19 @@ module _ (e : ℕ → Level) (delay : Delay) (fits : IsInRange delay) (o : ℕ �
               | inl before ↦ absurd (differ (here ∙ sym (full_before v s (one_more v s held before))))
               | inr away ↦ record {
                 moment = u;
-                change = λ same. away (sym same ∙ next);
+                reaches = record {
+                  change = λ same. away (sym same ∙ next);
+                  stays = λ k low.
+                      let less : k < delay_to delay v = rw next at low in
+                      window_place v (suc s) held (suc u + k) (omega arith) (omega arith) ∙ sym next;
+                };
                 same = next ∙ sym here;
                 put_off = rw here (omega arith);
               }
             ]
       ]
 
-  -- A change of the output to a level comes, by just the delay to it, behind a change of the target to that level.
+  -- A change of the output to a level comes, by just the delay to it, behind a change of the target that keeps the level so long.
   pub source : (t : ℕ) → o (suc t) ≢ o t → Source e delay o t
   source t differ = elim (is.next t) [
     | inr it ↦ absurd (differ it.1)
