@@ -1,6 +1,6 @@
 //! How workers find out about cubes with `lead`.
 
-ghost use Rattle.std.specs.Prelude.{◌≡◌, ◌*◌, ◌<◌, ◌^◌, length, IfOk};
+ghost use Rattle.std.specs.Prelude.{◌≡◌, ◌<◌, length, IfOk};
 ghost use Rattle.td_domain.specs.Admits.{HasAdmitted};
 ghost use Rattle.td_search.specs.Findings.{IsTrueOf};
 ghost use Rattle.td_search.specs.Problems.{problem_by};

@@ -1,6 +1,6 @@
 //! A worker's own deque of node numbers, and those of the others.
 
-ghost use Rattle.std.specs.Prelude.{◌≡◌, ◌<◌, ◌++◌, ◌∷◌, [], length, map, IfOk, OnOk, MatchResult, MatchOption};
+ghost use Rattle.std.specs.Prelude.{◌≡◌, ◌<◌, ◌++◌, length, map, IfOk, OnOk, MatchResult, MatchOption};
 ghost use Rattle.td_pool.specs.Fair.{fresh_other, ring, puts, takes, AreDealt, Steals, StealsAt, TookItsOwn};
 
 use crate::ends::{Other, Own};

@@ -1,6 +1,6 @@
 //! The two sides of a deque.
 
-ghost use Rattle.std.specs.Prelude.{◌≡◌, ◌++◌, ◌∷◌, [], IfOk, MatchResult, MatchOption};
+ghost use Rattle.std.specs.Prelude.{◌≡◌, IfOk, MatchResult, MatchOption};
 ghost use Rattle.td_pool.specs.Fair.{fresh, puts, takes, TookItsOwn};
 
 use crate::hand::{Fair, Hand, Pops, Puts, Takes};

@@ -20,6 +20,7 @@ mod pool;
 mod root;
 mod shared;
 mod standing;
+mod starting;
 mod strategies;
 mod subject;
 mod watch;

@@ -1,13 +1,12 @@
 //! The search by several workers.
 
-ghost use Rattle.std.specs.Prelude.{◌≡◌, ◌+◌, ◌*◌, ◌<◌, ◌≤◌, ◌^◌, [], length, vec_capacity, IfOk, IfErr, IfSome};
+ghost use Rattle.std.specs.Prelude.{◌≡◌, ◌+◌, ◌<◌, ◌≤◌, [], length, vec_capacity, IfOk, IfErr, IfSome};
 ghost use Rattle.std.specs.List.{AllByRecursion};
 ghost use Rattle.td_search.specs.Answers.{IsAnswer, IsSearchFault};
 ghost use Rattle.td_search.specs.Findings.{IsTrueEvidence};
-ghost use Rattle.td_search.specs.Problems.{problem, problem_by, has_delay};
-ghost use Rattle.td_search.specs.Representatives.{representative};
+ghost use Rattle.td_search.specs.Problems.{problem, problem_by};
 ghost use Rattle.td_search.specs.Written.{CanBeWritten};
-ghost use Rattle.td_pool.specs.Truth.{IsTrueFound, IsBest, IsFresh, IsRoot, IsStarting};
+ghost use Rattle.td_pool.specs.Truth.{IsTrueFound, IsBest, IsRoot, IsStarting};
 
 use crate::by_prober::ByProber;
 use crate::deck::Deck;
@@ -19,6 +18,7 @@ use crate::lent::{Lent, take_back};
 use crate::root::{Root, measure_root};
 use crate::shared::Shared;
 use crate::standing::Standing;
+use crate::starting::{first_best, fresh_of, seats_of};
 use crate::subject::Subject;
 use crate::watch::{Unwatched, Watch};
 use crate::working::work;
@@ -32,7 +32,6 @@ use std::thread::{Promise, PromisedHandle, Threads};
 use td_book::{Book, Counted};
 use td_circuit::Circuit;
 use td_domain::Admit;
-use td_incumbent::{Incumbent, Seat};
 use td_search::{Answer, Best, Evidence, Prober, SearchFault, Strategy, finish_by};
 
 /// What a worker promises: all that it hands back is true of the admitted pairs of the circuit.
@@ -277,81 +276,6 @@ fn frontier_of<L: Subject, W: Watch>(
         return Frontier::new(alloc, circuit, admit, strategy, root);
     }
     Ok(Frontier::unkept(alloc, circuit, admit, strategy, root))
-}
-
-// The word at 0, and a seat for each worker.
-fn seats_of(alloc: Global, workers: usize) -> Result<(Incumbent, Vec<Seat>), AllocError>
-    requires { 0 < workers }
-    ensures seats { IfOk result (λ answer. AllByRecursion (IsFresh answer.0) answer.1.items) }
-    ensures count { IfOk result (λ answer. length answer.1.items ≡ workers) }
-{
-    let (word, seats) = Incumbent::new(alloc, workers)?;
-    Ok((word, seats))
-}
-
-// The pair that stands for the pins, which has this delay. The error is want of memory.
-fn first_best<F: Finder>(
-    alloc: Global,
-    circuit: &Circuit,
-    admit: &Admit,
-    first: u64,
-) -> Result<Best, AllocError>
-    requires held { length admit.now.held ≡ length circuit.now.netlist.inputs }
-    requires first { has_delay (problem_by F.by circuit.now admit.now) (representative admit.now admit.now.pins) first }
-    ensures time { IfOk result (λ best. best.time ≡ first) }
-    ensures best { IfOk result (IsBest (problem_by F.by circuit.now admit.now)) }
-{
-    let pins = admit.pins();
-    let mut best = Best::new(alloc, circuit.input_count())?;
-    best.replace(pins, admit, first);
-    Ok(best)
-}
-
-// For each seat a worker that knows the pair that stands for the pins, which has this delay. The error is want of memory.
-fn fresh_of<F: Finder>(
-    alloc: Global,
-    circuit: &Circuit,
-    admit: &Admit,
-    word: &Incumbent,
-    seats: Vec<Seat>,
-    first: u64,
-) -> Result<Vec<Found>, AllocError>
-    requires held { length admit.now.held ≡ length circuit.now.netlist.inputs }
-    requires seats { AllByRecursion (IsFresh word.now) seats.items }
-    requires first { has_delay (problem_by F.by circuit.now admit.now) (representative admit.now admit.now.pins) first }
-    ensures found { IfOk result (λ found. AllByRecursion (IsStarting (problem_by F.by circuit.now admit.now) word.now) found.items) }
-    ensures count { IfOk result (λ found. length found.items ≡ length seats.items) }
-{
-    let mut all = Vec::with_capacity(alloc, seats.len())?;
-    for seat in seats {
-        all.push(fresh::<F>(alloc, circuit, admit, word, seat, first)?)?;
-    }
-    Ok(all)
-}
-
-// A worker that knows the pair that stands for the pins, which has this delay, and offers it. The error is want of memory.
-fn fresh<F: Finder>(
-    alloc: Global,
-    circuit: &Circuit,
-    admit: &Admit,
-    word: &Incumbent,
-    seat: Seat,
-    first: u64,
-) -> Result<Found, AllocError>
-    requires held { length admit.now.held ≡ length circuit.now.netlist.inputs }
-    requires seat { IsFresh word.now seat }
-    requires first { has_delay (problem_by F.by circuit.now admit.now) (representative admit.now admit.now.pins) first }
-    ensures { IfOk result (IsStarting (problem_by F.by circuit.now admit.now) word.now) }
-{
-    let _pins = admit.pins();
-    let best = first_best::<F>(alloc, circuit, admit, first)?;
-    let mut seat = seat;
-    let _seen = word.raise(&mut seat, first);
-    Ok(Found {
-        evidence: Vec::new(alloc),
-        best,
-        seat,
-    })
 }
 
 // What all workers found: this thread, and another one for each further worker, where a thread can be made. The watch, which this thread

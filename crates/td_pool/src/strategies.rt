@@ -19,7 +19,7 @@ use td_search::{Answer, Prober, SearchFault, Strategy, alone_by};
 
 /// Searches by this strategy for the worst delay of the admitted pairs of a circuit by so many workers, from 1 to 64, of which this
 /// thread is one, and handles at most so many nodes. The budget is at most 10,000,000, and the pairs are of the circuit's inputs. With
-/// one worker the answer is that of `alone_by`. With `Lead` and several each climbs with numbers of its own. A thread that can't be
+/// one worker the answer is that of `alone_by`, which asks no prober. With `Lead` and several each climbs with numbers of its own. A thread that can't be
 /// started only lowers the number of workers.
 ///
 /// # Errors
@@ -87,11 +87,11 @@ pub fn worst_watched<P: Prober + Sync, W: Watch, R: Threads + Wait + Sync>(
     // All that the watch was told is true of what is asked.
     ensures told { W.told (problem_by strategy circuit.now admit.now) watch.old watch.new }
 {
+    if workers == 1 && !watch.is_looking() {
+        return alone_by(alloc, circuit, admit, budget, strategy);
+    }
     match strategy {
         Strategy::Least => least(rt, alloc, circuit, admit, prober, workers, budget, watch),
-        Strategy::Lead if workers == 1 && !watch.is_looking() => {
-            alone_by(alloc, circuit, admit, budget, strategy)
-        }
         Strategy::Lead => lead(rt, alloc, circuit, admit, workers, budget, watch),
     }
 }

@@ -10,7 +10,7 @@ use td_circuit::{Circuit, build};
 use td_domain::Admit;
 use td_gates::Delay;
 use td_netlist::read;
-use td_pool::{Hints, worst_by, worst_with};
+use td_pool::{Hints, worst, worst_by, worst_with};
 use td_search::{Answer, Own, Prober, SearchFault, Strategy, alone};
 
 /// A pulse that is lost.
@@ -103,12 +103,27 @@ pub fn found<P: Prober + Sync, R: Threads + Wait + Sync + Abort>(
     let admit = all_of(rt, alloc, &circuit)?;
     assert!(rt; 0 < workers && workers <= 64 && budget <= 10_000_000);
     assert_eq!(rt; admit.held().len(), circuit.input_count());
+    as_told(worst(rt, alloc, &circuit, &admit, prober, workers, budget))
+}
+
+/// What a search of all pairs by so many workers comes to, which with one goes without what workers share.
+pub fn found_with<R: Threads + Wait + Sync + Abort>(
+    rt: &R,
+    alloc: Global,
+    netlist: &str,
+    workers: u32,
+    budget: u64,
+) -> Result<Told, Fail> {
+    let circuit = circuit_of(alloc, netlist)?;
+    let admit = all_of(rt, alloc, &circuit)?;
+    assert!(rt; 0 < workers && workers <= 64 && budget <= 10_000_000);
+    assert_eq!(rt; admit.held().len(), circuit.input_count());
     as_told(worst_with(
         rt,
         alloc,
         &circuit,
         &admit,
-        prober,
+        &Own,
         Strategy::Least,
         workers,
         budget,

@@ -1,9 +1,5 @@
 //! A prober that passes all on to the product's own, and looks at what passes.
 
-ghost use Rattle.std.specs.Prelude.{◌≡◌, ℕ, ◌*◌, length, IfOk};
-ghost use Rattle.td_circuit.specs.Numbering.{setting};
-ghost use Rattle.td_circuit.specs.Run.{IsDelayOfBits};
-ghost use Rattle.td_search.specs.Deciding.{IsProbe};
 ghost use Rattle.td_search.specs.Sheeted.{IsScratch};
 
 use std::alloc::{AllocError, Global};

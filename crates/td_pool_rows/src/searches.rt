@@ -1,6 +1,8 @@
 //! Searches of worked circuits, by one worker and by more.
 
-use crate::circuits::{LOST, RECONVERGENT, SLOW_ARM, Told, WIDE, found, found_alone, found_by};
+use crate::circuits::{
+    LOST, RECONVERGENT, SLOW_ARM, Told, WIDE, found, found_alone, found_by, found_with,
+};
 use crate::decks::{Passing, Refusing};
 use crate::prober::Watching;
 use std::alloc::{AllocError, Global};
@@ -9,7 +11,7 @@ use std::sync::Wait;
 use std::sync::atomic::{AtomicU64, Ordering};
 use std::test::*;
 use std::thread::Threads;
-use td_pool::{Deck, Hints};
+use td_pool::Deck;
 use td_search::Own;
 
 /// What a search by so many workers comes to, and how many pairs were measured.
@@ -57,6 +59,17 @@ fn one_worker_answers_as_alone(rt: HostRuntime) -> Result<(), Fail> {
         let wanted = found_alone(&rt, rt.alloc(), SLOW_ARM, budget)?;
         assert!(&rt; (told.low, told.high, told.nodes) == (wanted.low, wanted.high, wanted.nodes));
         assert!(&rt; told.is_exact == wanted.is_exact && told.is_exact == (budget == 9));
+    }
+    Ok(())
+}
+
+#[test]
+fn one_and_two_workers_by_strategy(rt: HostRuntime) -> Result<(), Fail> {
+    for workers in 1..3 {
+        let told = found_with(&rt, rt.alloc(), RECONVERGENT, workers, 1_000_000)?;
+        assert!(&rt; (told.is_exact, told.low, told.nodes) == (true, 3, 31));
+        let cut = found_with(&rt, rt.alloc(), RECONVERGENT, workers, 5)?;
+        assert!(&rt; !cut.is_exact && cut.low <= 3 && cut.high >= 3 && cut.nodes == 5);
     }
     Ok(())
 }

@@ -3,7 +3,7 @@ use Rattle.std.specs.List.{AllByRecursion}
 use Rattle.std.specs.Vec.Iter.{into_iter_items}
 use Rattle.td_search.specs.Problems.{problem_by}
 use Rattle.td_pool.specs.Truth.{IsFresh, IsStarting}
-use Rattle.td_pool.proofs.pool.fresh_of.Given as goal
+use Rattle.td_pool.proofs.starting.fresh_of.Given as goal
 
 abbrev pub invariant-loop-seat : goal.invariant-loop-seat
 invariant-loop-seat g l = record {

@@ -4,7 +4,7 @@ use Rattle.td_incumbent.specs.Held.{Held}
 use Rattle.td_search.specs.Findings.{IsTrueEvidence}
 use Rattle.td_search.specs.Problems.{Problem, problem_by}
 use Rattle.td_search.proofs.Bounded.{vectors_inside}
-use Rattle.td_pool.proofs.pool.fresh.Goals as goal
+use Rattle.td_pool.proofs.starting.fresh.Goals as goal
 
 pub returns : goal.returns
 returns g c =
