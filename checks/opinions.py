@@ -17,6 +17,7 @@ import sys
 import time
 from collections import Counter
 
+import second_netlist
 import second_opinion as opinion
 from second_opinion import X
 
@@ -56,7 +57,7 @@ def gate_lines(rng, inputs, outputs, largest):
     constants = rng.choice([0, 0, 0.15])
     nets, lines = list(inputs), []
     while made:
-        kind = rng.choice(opinion.KINDS)
+        kind = rng.choice(second_netlist.KINDS)
         single = kind in ("buf", "not")
         drives = [made.pop() for _ in range(min(len(made), rng.choice([1, 1, 1, 2]) if single else 1))]
         pool = nets[-rng.choice([3, 8, 99]) :]

@@ -12,7 +12,7 @@ Help and the version go to standard output. A line with a dot alone stands for a
     worst  Searches for the worst delay of the admitted pairs of vectors, and a pair that has it
     parts  Cuts the question of `worst` into parts, and prints the options with which `worst` answers each
     join   Joins the certificates of a question's parts into one of the whole question
-    check  Checks the certificate of a worst delay, and trusts nothing else
+    check  Checks the certificate of a worst delay by the netlist alone, whoever wrote it
     info   Tells what is in a netlist: its size, its depth, its delays, and its inputs in the order of a vector's characters
     help   Print this message or the help of the given subcommand(s)
   .
@@ -131,3 +131,8 @@ Numbers outside their ranges, another name of a strategy, a value behind a flag,
   2 error:
   2 error:
   2 error:
+
+What `join` says of the first pattern isn't what the other commands say of theirs.
+
+  $ tdelay join --help | grep -e '--first'
+        --first <TRITS>     The first vector of the whole question: 0, 1 or . (free) for each input in the order that `info` shows; all free where only --second is given, and without both as the parts together have it

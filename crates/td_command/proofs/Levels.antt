@@ -5,6 +5,7 @@ use Rattle.std.specs.Prelude.{option_and_then, slice_get}
 use Rattle.std.specs.List.{AllByRecursion, find, fold, list_any}
 use Rattle.std.specs.Option.{option_map_or}
 use Rattle.std.specs.Str.{bytes_eq}
+use Rattle.std.proofs.lemmas.Bool.{or_right}
 use Rattle.clap.specs.Facts.{explicit_source, parser_of_value}
 use Rattle.clap.specs.Kinds.{check_kinds, request_kinds}
 use Rattle.clap.specs.Faults.{check_fault, default_fault, defaults_fault, given_default_fault, level_fault, settle_fault, walk_fault}
@@ -52,10 +53,6 @@ defaults_keep command (rule ∷ rest) rows known none all =
 -- the row of a rule that is left out
 abbrev left_row : Rule → List Text → Row
 left_row rule values = record { id = rule.id; values = values; count = None; source = Some DefaultValue; reading = reading_by rule }
-
-or_right : (first second : Bool) → second ≡ true → (first || second) ≡ true
-or_right true second e = refl
-or_right false second e = e
 
 joined_stays : (id other : Text) (change : Row → List Row) (missing rows : List Row) → has_row other rows ≡ false → has_row id rows ≡ true
     → has_row id (at_row other change missing rows) ≡ true

@@ -7,8 +7,8 @@ ghost use Rattle.td_command.specs.CommandLine.{sim_command, path_command, bound_
 ghost use Rattle.td_command.specs.CommandLine.{with_pair, with_default, with_moments, with_vcd, with_output, with_cube, with_edges, with_told, with_admitted, with_parts, with_strategy, with_search, with_joined};
 
 use crate::help::{
-    BOUND_HELP, CHECK_HELP, HELP, INFO_HELP, JOIN_HELP, PARTS_HELP, PATH_HELP, SIM_HELP, VERSION,
-    WORST_HELP,
+    BOUND_HELP, CHECK_HELP, FREE_HELP, HELP, INFO_HELP, JOIN_HELP, PARTS_HELP, PATH_HELP, SIM_HELP,
+    VERSION, WHOLE_HELP, WORST_HELP,
 };
 use clap::builder::ValueParser;
 use clap::{Arg, ArgAction, Command};
@@ -202,15 +202,14 @@ fn with_pair<'a>(alloc: Global, command: Command<'a>) -> Result<Command<'a>, All
 }
 
 /// The pairs of a cube, as two options.
-fn with_cube<'a>(alloc: Global, command: Command<'a>) -> Result<Command<'a>, AllocError>
+fn with_cube<'a>(
+    alloc: Global,
+    first_help: &'a str,
+    command: Command<'a>,
+) -> Result<Command<'a>, AllocError>
     ensures { IfOk result (λ new. app_of new ≡ with_cube (app_of command.entry)) }
 {
-    let first = option(
-        alloc,
-        "first",
-        "TRITS",
-        "The first vector: 0, 1 or . (free) for each input in the order that `info` shows; all free where left out",
-    );
+    let first = option(alloc, "first", "TRITS", first_help);
     let second = option(
         alloc,
         "second",
@@ -264,7 +263,7 @@ fn with_admitted<'a>(alloc: Global, command: Command<'a>) -> Result<Command<'a>,
         "flips",
         "The most inputs whose two levels differ; any number of them where left out",
     );
-    with_cube(alloc, command)?.arg(hold)?.arg(flips)
+    with_cube(alloc, FREE_HELP, command)?.arg(hold)?.arg(flips)
 }
 
 /// By which strategy a search goes, as an option.
@@ -388,7 +387,7 @@ fn bound_command<'a>(alloc: Global) -> Result<Command<'a>, AllocError>
         .about("Bounds the delay of all pairs of vectors that two patterns allow")
         .after_help(BOUND_HELP)
         .arg(file(alloc))?;
-    let command = with_moments(alloc, with_cube(alloc, command)?)?;
+    let command = with_moments(alloc, with_cube(alloc, FREE_HELP, command)?)?;
     with_default(alloc, with_edges(alloc, command)?)
 }
 
@@ -427,7 +426,7 @@ fn join_command<'a>(alloc: Global) -> Result<Command<'a>, AllocError>
         .about("Joins the certificates of a question's parts into one of the whole question")
         .after_help(JOIN_HELP)
         .arg(file(alloc))?;
-    let command = with_cube(alloc, with_joined(alloc, command)?)?;
+    let command = with_cube(alloc, WHOLE_HELP, with_joined(alloc, command)?)?;
     with_default(alloc, command)
 }
 
@@ -440,7 +439,7 @@ fn check_command<'a>(alloc: Global) -> Result<Command<'a>, AllocError>
         "The certificate, a path, or `-` or `stdin` for standard input",
     );
     let command = Command::new(alloc, "check")
-        .about("Checks the certificate of a worst delay, and trusts nothing else")
+        .about("Checks the certificate of a worst delay by the netlist alone, whoever wrote it")
         .after_help(CHECK_HELP)
         .arg(file(alloc))?
         .arg(certificate)?;

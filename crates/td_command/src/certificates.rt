@@ -1,6 +1,6 @@
 //! The certificates that are joined.
 
-ghost use Rattle.std.specs.Prelude.{◌≡◌, ◌<◌, length, map, IfOk};
+ghost use Rattle.std.specs.Prelude.{◌≡◌, ◌<◌, map, IfOk};
 ghost use Rattle.clap.specs.Words.{found_of, rows_of};
 ghost use Rattle.td_command.specs.CommandLine.{HasWords, IsAnswered};
 

@@ -75,3 +75,12 @@ there are and how many gates take the default delay, the depth (the most gates o
 way through the netlist), the least and the greatest delay, and the inputs and the
 outputs in order. The number of an input is the place of its character in a vector,
 from 0 on.";
+
+/// What help says of the first pattern of a cube.
+pub const FREE_HELP: &str =
+    "The first vector: 0, 1 or . (free) for each input in the order that `info` shows; all free where left out";
+
+/// What help says of the first pattern of the cube that the parts make up.
+pub const WHOLE_HELP: &str =
+    "The first vector of the whole question: 0, 1 or . (free) for each input in the order that `info` shows; \
+all free where only --second is given, and without both as the parts together have it";
