@@ -49,35 +49,35 @@ other-least start end slot moment moments least apart is = record {
 }
 
 pub changed : (moments blocks : List ℕ) (slot moment least : ℕ) → slot < length moments → moment ≤ 2 ^ 64 - 1 → AreBlocks moments blocks
-    → IsLeast (slot / 16 * 16) (slot / 16 * 16 + 16) (set moments slot moment) least
-    → AreBlocks (set moments slot moment) (set blocks (slot / 16) least)
+    → IsLeast (slot / 8 * 8) (slot / 8 * 8 + 8) (set moments slot moment) least
+    → AreBlocks (set moments slot moment) (set blocks (slot / 8) least)
 changed moments blocks slot moment least inside small are is = record {
-  some = rw (length-set blocks (slot / 16) least) are.some;
-  slots = rw (length-set moments slot moment, length-set blocks (slot / 16) least) are.slots;
+  some = rw (length-set blocks (slot / 8) least) are.some;
+  slots = rw (length-set moments slot moment, length-set blocks (slot / 8) least) are.slots;
   within = λ other h. elim (cases_eq other slot) [
     | inl here ↦ rw (here, get_or-set_same moments slot moment 0 inside) small
     | inr apart ↦ rw (get_or-set_other moments slot other moment 0 apart) (are.within other (rw (length-set moments slot moment) at h))
   ];
-  least = λ block h. elim (cases_eq block (slot / 16)) [
-    | inl here ↦ rw (here, get_or-set_same blocks (slot / 16) least 0 (omega (arith, are.slots))) is
-    | inr apart ↦ rw (get_or-set_other blocks (slot / 16) block least 0 apart)
-        (other-least (block * 16) (block * 16 + 16) slot moment moments (get_or blocks block 0) (λ place low high e. apart (omega arith))
-        (are.least block (rw (length-set blocks (slot / 16) least) at h)))
+  least = λ block h. elim (cases_eq block (slot / 8)) [
+    | inl here ↦ rw (here, get_or-set_same blocks (slot / 8) least 0 (omega (arith, are.slots))) is
+    | inr apart ↦ rw (get_or-set_other blocks (slot / 8) block least 0 apart)
+        (other-least (block * 8) (block * 8 + 8) slot moment moments (get_or blocks block 0) (λ place low high e. apart (omega arith))
+        (are.least block (rw (length-set blocks (slot / 8) least) at h)))
   ];
 }
 
 pub lowered : (moments blocks : List ℕ) (slot moment : ℕ) → slot < length moments → moment ≤ get_or moments slot 0 → AreBlocks moments blocks
-    → AreBlocks (set moments slot moment) (set blocks (slot / 16) (min (get_or blocks (slot / 16) 0) moment))
+    → AreBlocks (set moments slot moment) (set blocks (slot / 8) (min (get_or blocks (slot / 8) 0) moment))
 lowered moments blocks slot moment inside earlier are =
     let small : get_or moments slot 0 ≤ 2 ^ 64 - 1 = are.within slot inside in
-    changed moments blocks slot moment (min (get_or blocks (slot / 16) 0) moment) inside (omega arith) are
-    (lowered-least (slot / 16 * 16) (slot / 16 * 16 + 16) slot moment moments (get_or blocks (slot / 16) 0) inside (omega arith) (omega arith) earlier
-    (are.least (slot / 16) (omega (arith, are.slots))))
+    changed moments blocks slot moment (min (get_or blocks (slot / 8) 0) moment) inside (omega arith) are
+    (lowered-least (slot / 8 * 8) (slot / 8 * 8 + 8) slot moment moments (get_or blocks (slot / 8) 0) inside (omega arith) (omega arith) earlier
+    (are.least (slot / 8) (omega (arith, are.slots))))
 
 -- ---- all slots
 pub first-low : (moments blocks : List ℕ) (read : ℕ) → AreBlocks moments blocks → IsLeast 0 (length blocks) blocks read → IsFrom read moments
 first-low moments blocks read are is = λ slot h.
-    let block : ℕ = slot / 16 in
+    let block : ℕ = slot / 8 in
     let inside : block < length blocks = omega (arith, are.slots) in
     let first : read ≤ get_or blocks block 0 = is.low block (omega arith) inside in
     let then : get_or blocks block 0 ≤ get_or moments slot 0 = (are.least block inside).low slot (omega arith) (omega arith) in
@@ -93,12 +93,12 @@ first-greatest moments blocks read are is from all =
     is.greatest from small (λ block zero inside. (are.least block inside).greatest from small (λ slot lower upper. all slot (omega (arith, are.slots))))
 
 -- ---- no moment at all
-pub no-moments : (moments blocks : List ℕ) (count : ℕ) → 0 < count → moments ≡ replicate (count * 16) (2 ^ 64 - 1) → blocks ≡ replicate count (2 ^ 64 - 1)
+pub no-moments : (moments blocks : List ℕ) (count : ℕ) → 0 < count → moments ≡ replicate (count * 8) (2 ^ 64 - 1) → blocks ≡ replicate count (2 ^ 64 - 1)
     → AreBlocks moments blocks
 no-moments moments blocks count some m b =
-    let long : length moments ≡ count * 16 = ap length m ∙ length-replicate (count * 16) (2 ^ 64 - 1) in
+    let long : length moments ≡ count * 8 = ap length m ∙ length-replicate (count * 8) (2 ^ 64 - 1) in
     let many : length blocks ≡ count = ap length b ∙ length-replicate count (2 ^ 64 - 1) in
-    let each : (slot : ℕ) → slot < length moments → get_or moments slot 0 ≡ 2 ^ 64 - 1 = λ slot h. rw m (get_or-replicate (count * 16) slot (2 ^ 64 - 1) 0 (omega arith)) in
+    let each : (slot : ℕ) → slot < length moments → get_or moments slot 0 ≡ 2 ^ 64 - 1 = λ slot h. rw m (get_or-replicate (count * 8) slot (2 ^ 64 - 1) 0 (omega arith)) in
     record {
       some = omega arith;
       slots = omega arith;

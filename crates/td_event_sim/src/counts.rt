@@ -15,11 +15,11 @@ pub fn count(levels: &[bool], inputs: &[u32]) -> u32
     requires few { length inputs.now ≤ 1023 }
     ensures { result ≡ count_by (bit_at levels.now) inputs.now }
 {
-    let ones = inputs
-        .iter()
-        .filter(|input| levels[**input as usize])
-        .count();
-    ones as u32
+    let mut ones = 0;
+    for input in inputs {
+        ones += u32::from(levels[*input as usize]);
+    }
+    ones
 }
 
 /// A count after one input rose, or fell.

@@ -95,7 +95,7 @@ fn advance(
 {
     let gates = circuit.gates();
     let first_output = circuit.input_count() + 2;
-    queue.take(moment, taken)?;
+    queue.take(moment, taken);
     update(
         levels,
         tallies,
@@ -178,7 +178,7 @@ fn simulate(
         advance(
             levels, tallies, latest, whens, queue, taken, changed, readers, circuit, moment,
         )?;
-        moment = queue.first();
+        moment = queue.first_from(moment + 1);
     }
     let delay = greatest(latest, circuit.outputs());
     Ok(delay)

@@ -16,7 +16,7 @@ update-requires-clause-first c = none-earlier c.args.queue.now c.args.whens.now 
 pub update-requires-clause-waiting : goal.update-requires-clause-waiting
 update-requires-clause-waiting c =
     subst (λ (taken : List ℕ). AreWaitingBut c.args.moment taken c.take.new.self c.args.whens.now) (sym c.deref.ensures.value)
-    (waiting-but c.args.queue.now c.take.new.self c.args.whens.now c.take.new.taken.items c.args.moment c.requires.waiting c.in_ok-take.ensures.taken c.in_ok-take.ensures.keeps)
+    (waiting-but c.args.queue.now c.take.new.self c.args.whens.now c.take.new.taken.items c.args.moment c.requires.waiting c.take.ensures.taken c.take.ensures.keeps)
 
 pub evaluate-requires-clause-readers : goal.evaluate-requires-clause-readers
 evaluate-requires-clause-readers c = readers-within (first_output c.args.circuit.now) (length (nets c.args.circuit.now)) _ _ c.args.readers.now
