@@ -1,6 +1,5 @@
 pub mod Covers
 pub mod Dealing
-pub mod Digs
 pub mod Fairness
 pub mod Finds
 pub mod Pins

@@ -1,8 +1,8 @@
 -- What a worker is to do next.
 use Rattle.td_domain.specs.declared.cubes.Trit.{Trit}
 use Rattle.td_domain.specs.declared.cubes.Trit.TheVariants.{Zero, One, Free}
+use Rattle.td_search.specs.Below.{IsWithin}
 use Rattle.td_search.specs.Problems.{Problem}
-use Rattle.td_pool.specs.Truth.{IsWithin}
 use Rattle.td_pool.specs.declared.shared.Turn.{Turn}
 use Rattle.td_pool.specs.declared.shared.Turn.TheVariants.{Work, Seek, Wait, End}
 

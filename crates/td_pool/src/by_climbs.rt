@@ -2,11 +2,12 @@
 
 ghost use Rattle.std.specs.Prelude.{◌≡◌, ◌<◌, length, IfOk};
 ghost use Rattle.td_domain.specs.Admits.{HasAdmitted};
+ghost use Rattle.td_search.specs.Below.{IsWithin};
 ghost use Rattle.td_search.specs.Findings.{IsTrueOf};
 ghost use Rattle.td_search.specs.Problems.{problem_by};
 ghost use Rattle.td_search.specs.Sheeted.{IsScratch};
 ghost use Rattle.td_search.specs.declared.strategy.Strategy.TheVariants.{Lead};
-ghost use Rattle.td_pool.specs.Truth.{IsTrueFound, IsWithin, IsRoot};
+ghost use Rattle.td_pool.specs.Truth.{IsTrueFound, IsRoot};
 
 use crate::finder::Finder;
 use crate::found::Found;

@@ -2,10 +2,11 @@
 
 ghost use Rattle.std.specs.Prelude.{◌≡◌, length, IfOk};
 ghost use Rattle.td_circuit.specs.Numbering.{Numbered};
+ghost use Rattle.td_search.specs.Below.{IsWithin};
 ghost use Rattle.td_search.specs.Findings.{IsTrueOf};
 ghost use Rattle.td_search.specs.Problems.{problem_by};
 ghost use Rattle.td_search.specs.declared.strategy.Strategy.{Strategy};
-ghost use Rattle.td_pool.specs.Truth.{IsTrueFound, IsWithin};
+ghost use Rattle.td_pool.specs.Truth.{IsTrueFound};
 
 use crate::found::Found;
 use std::alloc::{AllocError, Global};

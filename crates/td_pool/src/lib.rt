@@ -1,7 +1,6 @@
 //! The search of a circuit by several workers, and a last thread that trusts no more than their evidence.
 #![tactic(auto)]
 
-mod below;
 mod by_climbs;
 mod by_prober;
 mod deck;

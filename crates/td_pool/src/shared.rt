@@ -1,9 +1,9 @@
 //! What workers share.
 
 ghost use Rattle.std.specs.Prelude.{◌≡◌, ◌<◌, ◌≤◌, length, IsTrue, IfSome};
+ghost use Rattle.td_search.specs.Below.{IsWithin};
 ghost use Rattle.td_search.specs.Findings.{IsTrueEvidence};
 ghost use Rattle.td_search.specs.Problems.{problem, problem_by};
-ghost use Rattle.td_pool.specs.Truth.{IsWithin};
 ghost use Rattle.td_pool.specs.Turning.{IsPinned, IsTurn};
 ghost use Rattle.td_pool.specs.Watched.{IsLowerBound, IsTrueProgress};
 

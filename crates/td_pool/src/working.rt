@@ -1,10 +1,10 @@
 //! What a worker does.
 
 ghost use Rattle.std.specs.Prelude.{◌≡◌, ◌<◌, length, vec_capacity, IfOk};
+ghost use Rattle.td_search.specs.Below.{IsBelow, IsWithin};
 ghost use Rattle.td_search.specs.Problems.{problem_by};
-ghost use Rattle.td_pool.specs.Truth.{IsTrueFound, IsBelow, IsWithin};
+ghost use Rattle.td_pool.specs.Truth.{IsTrueFound};
 
-use crate::below::Below;
 use crate::finder::Finder;
 use crate::found::{Found, Report};
 use crate::hints::Hints;
@@ -19,7 +19,7 @@ use td_book::Lease;
 use td_circuit::Circuit;
 use td_domain::{Admit, Cube};
 use td_incumbent::Incumbent;
-use td_search::{Evidence, Strategy};
+use td_search::{Below, Evidence, Strategy};
 
 // Splits and closes below a leaf, depth first, zero side first, until nothing is left there, the allowance is used up, or memory runs
 // out. Answers false at want of memory.
@@ -46,14 +46,14 @@ fn work_below<F: Finder>(
     ensures below { IsBelow (problem_by F.by circuit.now admit.now) lease.now below.new }
 {
     for _ in 0..lease.allowance {
-        let Some(cube) = below.next::<F>(circuit, admit, lease) else {
+        let Some(cube) = below.next(circuit, admit, F::strategy(), lease) else {
             return true;
         };
         let Ok((finding, cut)) = finder.find(alloc, circuit, admit, scratch, word, found, cube)
         else {
             return false;
         };
-        if !below.settle::<F>(circuit, admit, lease, finding, cut) {
+        if !below.settle(circuit, admit, F::strategy(), lease, finding, cut) {
             return false;
         }
     }
@@ -153,7 +153,7 @@ fn begin<F: Finder>(
 {
     found.evidence.reserve(1)?;
     Ok((
-        Below::new::<F>(alloc, circuit, admit, lease)?,
+        Below::new(alloc, circuit, admit, F::strategy(), lease)?,
         lease.cube.copy(alloc)?,
     ))
 }

@@ -226,6 +226,29 @@ impl Search {
         requires evidence { IsTrueEvidence (problem_by strategy circuit.now admit.now) evidence.now }
         ensures { IsUnderWay (problem_by strategy circuit.now admit.now) self.old.book.budget self.new }
     {
+        let grafted = self.graft_found(alloc, circuit, admit, strategy, lease, &evidence.findings)?;
+        let Some((count, left)) = grafted else {
+            return Ok(1);
+        };
+        put_before(coming, &left)?;
+        Ok(count)
+    }
+
+    /// Splits and closes below a held leaf what was found there, as far as it is usable under the best. Answers how many nodes that are,
+    /// and the numbers of the leaves that stay open. Where none is, or memory runs out, the leaf is open again.
+    pub fn graft_found(
+        &mut self,
+        alloc: Global,
+        circuit: &Circuit,
+        admit: &Admit,
+        strategy: Strategy,
+        lease: Lease,
+        findings: &[Finding],
+    ) -> Result<Option<(usize, Vec<u32>)>, AllocError>
+        requires search { IsUnderWay (problem_by strategy circuit.now admit.now) self.old.book.budget self.old }
+        requires found { AreTrue (problem_by strategy circuit.now admit.now) (lease.cube ∷ []) findings.now }
+        ensures { IsUnderWay (problem_by strategy circuit.now admit.now) self.old.book.budget self.new }
+    {
         let mut subtree = match Subtree::new(alloc, &lease) {
             Ok(subtree) => subtree,
             Err(error) => {
@@ -233,30 +256,15 @@ impl Search {
                 return Err(error);
             }
         };
-        let count = dig_again(
-            circuit,
-            admit,
-            strategy,
-            &mut subtree,
-            &evidence.findings,
-            self.best.time(),
-        );
+        let best = self.best.time();
+        let count = dig_again(circuit, admit, strategy, &mut subtree, findings, best);
         if count == 0 {
             self.give_back(circuit, admit, strategy, lease);
-            return Ok(1);
+            return Ok(None);
         }
-        match self.graft(
-            circuit,
-            admit,
-            strategy,
-            lease,
-            subtree,
-            &evidence.findings[..count],
-        ) {
-            Ok(left) => {
-                put_before(coming, &left)?;
-                Ok(count)
-            }
+        let usable = &findings[..count];
+        match self.graft(circuit, admit, strategy, lease, subtree, usable) {
+            Ok(left) => Ok(Some((count, left))),
             Err(lease) => {
                 self.give_back(circuit, admit, strategy, lease);
                 Err(AllocError)

@@ -1,6 +1,7 @@
 use Rattle.std.proofs.Common.{◌≡◌}
+use Rattle.td_search.specs.Below.{IsBelow}
 use Rattle.td_search.specs.Problems.{problem_by}
-use Rattle.td_pool.specs.Truth.{IsTrueFound, IsBelow}
+use Rattle.td_pool.specs.Truth.{IsTrueFound}
 use Rattle.td_pool.proofs.working.work_below.Given as goal
 
 abbrev pub invariant-loop : goal.invariant-loop

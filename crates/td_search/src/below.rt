@@ -1,17 +1,18 @@
-//! What a worker does below a leaf that it holds, before it tells the book.
+//! What is split and closed below a leaf before a book is told.
 
 ghost use Rattle.std.specs.Prelude.{◌↔◌, List, IsTrue, IfOk, IfSome};
 ghost use Rattle.td_domain.specs.declared.cubes.Trit.{Trit};
+ghost use Rattle.td_search.specs.Below.{IsBelow, IsComing, IsWithin};
 ghost use Rattle.td_search.specs.Findings.{IsTrueOf, IsUsable};
 ghost use Rattle.td_search.specs.Problems.{problem_by};
-ghost use Rattle.td_pool.specs.Truth.{IsBelow, IsComing, IsWithin};
 
-use crate::finder::Finder;
+use crate::findings::Finding;
+use crate::replaying::dig_by;
+use crate::strategy::Strategy;
 use std::alloc::{AllocError, Global};
 use td_book::{Lease, Subtree};
 use td_circuit::Circuit;
 use td_domain::{Admit, Cube};
-use td_search::{Finding, dig_by};
 
 /// A private tree below a leaf, and what was found of each node that is split or closed in it.
 #[derive(Drop)]
@@ -22,14 +23,15 @@ pub struct Below {
 
 impl Below {
     /// Nothing is split or closed yet. All room that the lease's allowance needs is taken here. The error is want of memory.
-    pub fn new<F: Finder>(
+    pub fn new(
         alloc: Global,
         circuit: &Circuit,
         admit: &Admit,
+        strategy: Strategy,
         lease: &Lease,
     ) -> Result<Below, AllocError>
-        requires { IsWithin (problem_by F.by circuit.now admit.now) lease.now.cube }
-        ensures { IfOk result (IsBelow (problem_by F.by circuit.now admit.now) lease.now) }
+        requires { IsWithin (problem_by strategy circuit.now admit.now) lease.now.cube }
+        ensures { IfOk result (IsBelow (problem_by strategy circuit.now admit.now) lease.now) }
     {
         Ok(Below {
             subtree: Subtree::new(alloc, lease)?,
@@ -38,9 +40,15 @@ impl Below {
     }
 
     /// The cube of the leaf that comes next, while the allowance lets it be split or closed.
-    pub fn next<F: Finder>(&self, circuit: &Circuit, admit: &Admit, lease: &Lease) -> Option<&Cube>
-        requires { IsBelow (problem_by F.by circuit.now admit.now) lease.now self.now }
-        ensures { IfSome result (λ cube. IsComing (problem_by F.by circuit.now admit.now) lease.now self.now cube.now) }
+    pub fn next(
+        &self,
+        circuit: &Circuit,
+        admit: &Admit,
+        strategy: Strategy,
+        lease: &Lease,
+    ) -> Option<&Cube>
+        requires { IsBelow (problem_by strategy circuit.now admit.now) lease.now self.now }
+        ensures { IfSome result (λ cube. IsComing (problem_by strategy circuit.now admit.now) lease.now self.now cube.now) }
     {
         if self.subtree.is_full() {
             return None;
@@ -49,27 +57,21 @@ impl Below {
     }
 
     /// Splits or closes the leaf that comes next as it was found of its cube, under this cut. Answers whether it is usable under it.
-    pub fn settle<F: Finder>(
+    pub fn settle(
         &mut self,
         circuit: &Circuit,
         admit: &Admit,
+        strategy: Strategy,
         lease: &Lease,
         finding: Finding,
         cut: u64,
     ) -> bool
-        requires below { IsBelow (problem_by F.by circuit.now admit.now) lease.now self.old }
-        requires next { (cube : List Trit) × IsComing (problem_by F.by circuit.now admit.now) lease.now self.old cube × IsTrueOf (problem_by F.by circuit.now admit.now) cube finding }
-        ensures below { IsBelow (problem_by F.by circuit.now admit.now) lease.now self.new }
+        requires below { IsBelow (problem_by strategy circuit.now admit.now) lease.now self.old }
+        requires next { (cube : List Trit) × IsComing (problem_by strategy circuit.now admit.now) lease.now self.old cube × IsTrueOf (problem_by strategy circuit.now admit.now) cube finding }
+        ensures below { IsBelow (problem_by strategy circuit.now admit.now) lease.now self.new }
         ensures usable { IsTrue result ↔ IsUsable cut finding }
     {
-        if !dig_by(
-            circuit,
-            admit,
-            F::strategy(),
-            &mut self.subtree,
-            finding,
-            cut,
-        ) {
+        if !dig_by(circuit, admit, strategy, &mut self.subtree, finding, cut) {
             return false;
         }
         self.findings.push_reserved(finding);

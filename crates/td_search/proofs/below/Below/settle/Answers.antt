@@ -7,16 +7,16 @@ use Rattle.td_book.specs.declared.node.State.{State}
 use Rattle.td_book.specs.Board.{position_of}
 use Rattle.td_book.specs.Grafting.{PrivateTree, cubes_left}
 use Rattle.td_search.specs.declared.findings.Finding.{Finding}
+use Rattle.td_search.specs.Below.{IsWithin}
 use Rattle.td_search.specs.Findings.{AreTrue, split_at, state_of}
 use Rattle.td_search.specs.Problems.{Problem, problem_by}
 use Rattle.td_search.proofs.Found.{state_splits}
-use Rattle.td_pool.specs.Truth.{IsWithin}
-use Rattle.td_pool.proofs.Digs.{true_more, left_more, within_past}
-use Rattle.td_pool.proofs.below.Below.settle.Goals as goal
+use Rattle.td_search.proofs.Digs.{true_more, left_more, within_past}
+use Rattle.td_search.proofs.below.Below.settle.Goals as goal
 
 pub returns-clause-below : goal.returns-clause-below
-returns-clause-below g c =
-    let asked : Problem = problem_by g.F.Finder.by c.args.circuit.now c.args.admit.now in
+returns-clause-below c =
+    let asked : Problem = problem_by c.args.strategy c.args.circuit.now c.args.admit.now in
     let old = c.args.self.now in
     let was = c.requires.below in
     let f : Finding = c.args.finding in

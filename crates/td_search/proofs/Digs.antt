@@ -12,8 +12,8 @@ use Rattle.td_search.specs.declared.findings.Finding.{Finding}
 use Rattle.td_search.specs.declared.findings.Finding.TheVariants.{Closed, Split}
 use Rattle.td_search.specs.Findings.{IsTrueOf, AreTrue, split_at}
 use Rattle.td_search.specs.Problems.{Problem}
+use Rattle.td_search.specs.Below.{IsWithin}
 use Rattle.td_search.proofs.Going.{side_inside}
-use Rattle.td_pool.specs.Truth.{IsWithin}
 
 first_is : {X : Type 0} (x y : X) (xs ys : List X) → x ∷ xs ≡ y ∷ ys → x ≡ y
 first_is x y xs ys e = cc
