@@ -31,7 +31,7 @@ def crates():
 
 
 def seconds_of():
-    """How long the proof of each crate takes at most, by the table of docs/FIGURES.md, which counts the tests of a crate with it."""
+    """How long the proof of each crate takes at most, by the table of docs/FIGURES.md."""
     table = {}
     for name, seconds in re.findall(r"^\| `(\w+)` \| (\d+) \|", open(os.path.join(TOP, "docs/FIGURES.md")).read(), flags=re.M):
         table[name] = int(seconds)
