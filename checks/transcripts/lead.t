@@ -22,6 +22,11 @@ Small circuits: their cubes are closed by edges, and one is split at the bit on 
   > bash search
   exact 11 from 11 to 01 nodes 1, b e 11
 
+A leaf that possible levels close, which are asked where edges don't suffice, and before a point is measured.
+
+  $ bash netlist 'buf #1 (p,b); buf #1 (q,b); xor #3 (y,a,p,q);' a,b y; bash search --first 00 --second 11
+  exact 3 from 00 to 11 nodes 1, b t 3
+
 No inputs, and nothing at all.
 
   $ echo "module t (y); output y; and #1 (y,1'b1,1'b1); endmodule" > t.v; bash search

@@ -40,6 +40,11 @@ A leaf that both domains close together, of a circuit with two outputs.
   > bash search
   exact 11 from 10 to 01 nodes 5, s 0, s 1, b a 0, b m 3, b a 11
 
+A leaf that possible levels close, which are asked where arrival windows don't suffice, and before both at once.
+
+  $ bash netlist 'buf #1 (p,b); buf #1 (q,b); xor #3 (y,a,p,q);' a,b y; bash search --first 00 --second 11
+  exact 3 from 00 to 11 nodes 1, b t 3
+
 No inputs, and nothing at all.
 
   $ echo "module t (y); output y; and #1 (y,1'b1,1'b1); endmodule" > t.v; bash search

@@ -58,7 +58,8 @@ fn picked(alloc: Global, all: &[Signal], places: &[u32]) -> Result<Vec<Signal>, 
     Ok(signals)
 }
 
-/// The signal of the output of a gate whose inputs have these signals.
+/// The signal of the output of a gate whose inputs have these signals. For two and three inputs its loops are straight lines.
+#[inline(always)]
 fn output(kind: Kind, delay: Delay, signals: &[Signal]) -> Signal
     requires takes { TakesInputs kind (length signals.now) }
     requires few { length signals.now ≤ 1024 }
@@ -160,7 +161,7 @@ fn any_held(control: Option<Level>, signals: &[Signal]) -> bool
     signals.iter().any(|signal| is_control(control, signal.finish) && signal.changes.is_none())
 }
 
-/// Until when the inputs that surely start at the controlling level keep the output.
+/// Until when the inputs that surely start at the controlling level keep the target.
 fn opening(control: Option<Level>, earliest: u64, signals: &[Signal]) -> u64
     ensures { result ≡ opens_at control earliest signals.now }
 {
@@ -175,7 +176,7 @@ fn opening(control: Option<Level>, earliest: u64, signals: &[Signal]) -> u64
     opens.max(earliest)
 }
 
-/// From when on the inputs that surely finish at the controlling level keep the output.
+/// From when on the inputs that surely finish at the controlling level keep the target.
 fn closing(control: Option<Level>, latest: u64, signals: &[Signal]) -> u64
     ensures { result ≡ closes_at control latest signals.now }
 {

@@ -1,4 +1,4 @@
--- The cube of all pairs, the halves of a cube, and the way of a walk over a tree.
+-- The halves of a cube, and the way of a walk over a tree.
 use Rattle.std.specs.Prelude.{ℕ, List, ◌∷◌, set, Option, Some, None}
 use Rattle.td_domain.specs.declared.cubes.Trit.{Trit}
 use Rattle.td_domain.specs.declared.cubes.Trit.TheVariants.{Zero, One}

@@ -24,7 +24,7 @@ is_free trit = false
 abbrev pub holds_none : List Bool → Bool
 holds_none held = list_all not held
 
--- nothing is pinned or held, and all inputs may differ
+-- nothing is pinned or held, and there are as many flips as inputs
 abbrev pub admits_all : Admitted → Bool
 admits_all admit = list_all is_free admit.pins && (holds_none admit.held && (admit.flips == length admit.held))
 

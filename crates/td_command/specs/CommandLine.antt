@@ -145,11 +145,17 @@ check_command = with_default (with_rule (with_rule (new_app (codes "check"))
 abbrev pub info_command : App
 info_command = with_default (with_rule (new_app (codes "info")) (needed (codes "FILE")))
 
-abbrev pub with_commands : Listed → App → App
-with_commands strategies app =
-    with_subcommand (with_subcommand (with_subcommand (with_subcommand (with_subcommand (with_subcommand (with_subcommand (with_subcommand app
-    sim_command.top) path_command.top) bound_command.top) (worst_command strategies).top) (parts_command strategies).top) join_command.top)
-    check_command.top) info_command.top
+abbrev pub with_runs : App → App
+with_runs app = with_subcommand (with_subcommand app sim_command.top) path_command.top
+
+abbrev pub with_bounds : Listed → App → App
+with_bounds strategies app = with_subcommand (with_subcommand app bound_command.top) (worst_command strategies).top
+
+abbrev pub with_questions : Listed → App → App
+with_questions strategies app = with_subcommand (with_subcommand app (parts_command strategies).top) join_command.top
+
+abbrev pub with_looks : App → App
+with_looks app = with_subcommand (with_subcommand app check_command.top) info_command.top
 
 abbrev pub named : App
 named = new_app (codes "tdelay")
@@ -159,7 +165,7 @@ abbrev pub bare : App
 bare = record named { top = record named.top { subcommand_required = true; has_version = true } }
 
 abbrev pub program_of : Listed → App
-program_of strategies = with_commands strategies bare
+program_of strategies = with_looks (with_questions strategies (with_bounds strategies (with_runs bare)))
 
 -- the names of the strategies
 abbrev pub strategy_names : List Text

@@ -3,7 +3,7 @@
 ghost use Rattle.std.specs.Prelude.{◌≡◌, codes, false, IfOk};
 ghost use Rattle.clap.specs.Words.{app_of, rule_of};
 ghost use Rattle.td_command.specs.CommandLine.{needed, needed_words, needed_number, option, number_option, count_option, name_option, flag};
-ghost use Rattle.td_command.specs.CommandLine.{sim_command, path_command, bound_command, worst_command, parts_command, join_command, check_command, info_command, bare, program_of, IsOfStrategies};
+ghost use Rattle.td_command.specs.CommandLine.{sim_command, path_command, bound_command, worst_command, parts_command, join_command, check_command, info_command, bare, program_of, IsOfStrategies, with_runs, with_bounds, with_questions, with_looks};
 ghost use Rattle.td_command.specs.CommandLine.{with_pair, with_default, with_moments, with_vcd, with_output, with_cube, with_edges, with_told, with_admitted, with_parts, with_strategy, with_search, with_joined};
 
 use crate::help::{
@@ -134,6 +134,7 @@ fn with_default<'a>(alloc: Global, command: Command<'a>) -> Result<Command<'a>, 
         "1",
         "Rise delay in steps of gates without a delay",
     );
+    let command = command.arg(rise)?;
     let fall = number_option(
         alloc,
         "default-fall",
@@ -142,7 +143,7 @@ fn with_default<'a>(alloc: Global, command: Command<'a>) -> Result<Command<'a>, 
         "1",
         "Fall delay in steps of gates without a delay",
     );
-    command.arg(rise)?.arg(fall)
+    command.arg(fall)
 }
 
 /// When each input takes its second level, as an option.
@@ -188,17 +189,19 @@ fn with_output<'a>(alloc: Global, command: Command<'a>) -> Result<Command<'a>, A
 fn with_pair<'a>(alloc: Global, command: Command<'a>) -> Result<Command<'a>, AllocError>
     ensures { IfOk result (λ new. app_of new ≡ with_pair (app_of command.entry)) }
 {
+    let command = command.arg(file(alloc))?;
     let from = needed(
         alloc,
         "FROM",
         "The first vector: 0, 1 or x for each input in the order that `info` shows, or `none` where there are no inputs",
     );
+    let command = command.arg(from)?;
     let to = needed(
         alloc,
         "TO",
         "The second vector, which the inputs take from moment 0 or those of --at on",
     );
-    command.arg(file(alloc))?.arg(from)?.arg(to)
+    command.arg(to)
 }
 
 /// The pairs of a cube, as two options.
@@ -210,13 +213,14 @@ fn with_cube<'a>(
     ensures { IfOk result (λ new. app_of new ≡ with_cube (app_of command.entry)) }
 {
     let first = option(alloc, "first", "TRITS", first_help);
+    let command = command.arg(first)?;
     let second = option(
         alloc,
         "second",
         "TRITS",
         "The second vector, which the inputs take from moment 0 or those of --at on",
     );
-    command.arg(first)?.arg(second)
+    command.arg(second)
 }
 
 /// Whether the bounds by edges are asked for, as a flag.
@@ -240,30 +244,33 @@ fn with_told<'a>(alloc: Global, command: Command<'a>) -> Result<Command<'a>, All
         "path",
         "Behind the other lines, the changes that lead to the last change of the given pair, as `path` prints them",
     );
+    let command = command.arg(path)?;
     let progress = flag(
         alloc,
         "progress",
         "Writes to standard error how far the search is, each time that the nodes handled pass 1, 2, 5, 10, 20, .. thousand",
     );
-    command.arg(path)?.arg(progress)
+    command.arg(progress)
 }
 
 /// The pairs that a search admits, as options.
 fn with_admitted<'a>(alloc: Global, command: Command<'a>) -> Result<Command<'a>, AllocError>
     ensures { IfOk result (λ new. app_of new ≡ with_admitted (app_of command.entry)) }
 {
+    let command = with_cube(alloc, FREE_HELP, command)?;
     let hold = option(
         alloc,
         "hold",
         "MASK",
         "The inputs whose two levels are the same: = (held) or . for each in order; none held where left out",
     );
+    let command = command.arg(hold)?;
     let flips = count_option(
         alloc,
         "flips",
         "The most inputs whose two levels differ; any number of them where left out",
     );
-    with_cube(alloc, FREE_HELP, command)?.arg(hold)?.arg(flips)
+    command.arg(flips)
 }
 
 /// By which strategy a search goes, as an option.
@@ -302,6 +309,7 @@ fn with_search<'a>(
         "1",
         "How many threads search, from 1 to 64",
     );
+    let command = with_strategy(alloc, strategies, command.arg(workers)?)?;
     let budget = number_option(
         alloc,
         "budget",
@@ -310,15 +318,14 @@ fn with_search<'a>(
         "1000000",
         "The most nodes of the tree of cubes that are handled",
     );
+    let command = command.arg(budget)?;
     let certificate = option(
         alloc,
         "cert",
         "OUT",
         "Writes the certificate of an exact answer to this file",
     );
-    with_strategy(alloc, strategies, command.arg(workers)?)?
-        .arg(budget)?
-        .arg(certificate)
+    command.arg(certificate)
 }
 
 /// How many parts a question has, as an option that has to be given.
@@ -344,18 +351,20 @@ fn with_joined<'a>(alloc: Global, command: Command<'a>) -> Result<Command<'a>, A
         "CERT",
         "The certificates of the parts, each a path, or `-` or `stdin` for standard input",
     );
+    let command = command.arg(certificates)?;
     let certificate = option(
         alloc,
         "cert",
         "OUT",
         "Writes the certificate of the whole question to this file",
     );
+    let command = command.arg(certificate)?;
     let check = flag(
         alloc,
         "check",
         "Checks the certificate of each part before it is joined, as `check` does",
     );
-    command.arg(certificates)?.arg(certificate)?.arg(check)
+    command.arg(check)
 }
 
 fn sim_command<'a>(alloc: Global) -> Result<Command<'a>, AllocError>
@@ -433,17 +442,16 @@ fn join_command<'a>(alloc: Global) -> Result<Command<'a>, AllocError>
 fn check_command<'a>(alloc: Global) -> Result<Command<'a>, AllocError>
     ensures { IfOk result (λ new. app_of new ≡ check_command) }
 {
+    let command = Command::new(alloc, "check")
+        .about("Checks the certificate of a worst delay by the netlist alone, whoever wrote it")
+        .after_help(CHECK_HELP)
+        .arg(file(alloc))?;
     let certificate = needed(
         alloc,
         "CERT",
         "The certificate, a path, or `-` or `stdin` for standard input",
     );
-    let command = Command::new(alloc, "check")
-        .about("Checks the certificate of a worst delay by the netlist alone, whoever wrote it")
-        .after_help(CHECK_HELP)
-        .arg(file(alloc))?
-        .arg(certificate)?;
-    with_default(alloc, command)
+    with_default(alloc, command.arg(certificate)?)
 }
 
 fn info_command<'a>(alloc: Global) -> Result<Command<'a>, AllocError>
@@ -469,19 +477,52 @@ fn bare<'a>(alloc: Global) -> Command<'a>
         .subcommand_required(true)
 }
 
+/// The program with the commands that simulate.
+fn with_runs<'a>(alloc: Global, program: Command<'a>) -> Result<Command<'a>, AllocError>
+    ensures { IfOk result (λ new. app_of new ≡ with_runs (app_of program.entry)) }
+{
+    let program = program.subcommand(sim_command(alloc)?)?;
+    program.subcommand(path_command(alloc)?)
+}
+
+/// The program with the commands that bound and search.
+fn with_bounds<'a>(
+    alloc: Global,
+    strategies: &'a [&'a str],
+    program: Command<'a>,
+) -> Result<Command<'a>, AllocError>
+    ensures { IfOk result (λ new. app_of new ≡ with_bounds strategies.entry (app_of program.entry)) }
+{
+    let program = program.subcommand(bound_command(alloc)?)?;
+    program.subcommand(worst_command(alloc, strategies)?)
+}
+
+/// The program with the commands for the parts of a question.
+fn with_questions<'a>(
+    alloc: Global,
+    strategies: &'a [&'a str],
+    program: Command<'a>,
+) -> Result<Command<'a>, AllocError>
+    ensures { IfOk result (λ new. app_of new ≡ with_questions strategies.entry (app_of program.entry)) }
+{
+    let program = program.subcommand(parts_command(alloc, strategies)?)?;
+    program.subcommand(join_command(alloc)?)
+}
+
+/// The program with the commands that check a certificate and tell of a netlist.
+fn with_looks<'a>(alloc: Global, program: Command<'a>) -> Result<Command<'a>, AllocError>
+    ensures { IfOk result (λ new. app_of new ≡ with_looks (app_of program.entry)) }
+{
+    let program = program.subcommand(check_command(alloc)?)?;
+    program.subcommand(info_command(alloc)?)
+}
+
 /// The whole program, told where the names of the strategies stand.
 fn program<'a>(alloc: Global, strategies: &'a [&'a str]) -> Result<Command<'a>, AllocError>
     ensures { IfOk result (λ new. app_of new ≡ program_of strategies.entry) }
 {
-    bare(alloc)
-        .subcommand(sim_command(alloc)?)?
-        .subcommand(path_command(alloc)?)?
-        .subcommand(bound_command(alloc)?)?
-        .subcommand(worst_command(alloc, strategies)?)?
-        .subcommand(parts_command(alloc, strategies)?)?
-        .subcommand(join_command(alloc)?)?
-        .subcommand(check_command(alloc)?)?
-        .subcommand(info_command(alloc)?)
+    let program = with_bounds(alloc, strategies, with_runs(alloc, bare(alloc))?)?;
+    with_looks(alloc, with_questions(alloc, strategies, program)?)
 }
 
 /// The whole program.

@@ -64,13 +64,12 @@ fn narrow_to<D: Domain>(
     Ok(())
 }
 
-/// Whether a cube allows all pairs of another, as far as the two go.
+/// Whether a cube allows all pairs of another, as far as the two go. It looks at all positions, so that several are compared at once.
 fn is_wider(wide: &Cube, cube: &Cube) -> bool {
+    let mut wider = true;
     for position in 0..wide.len().min(cube.len()) {
         let trit = wide.trit(position);
-        if trit != Trit::Free && trit != cube.trit(position) {
-            return false;
-        }
+        wider &= (trit == Trit::Free) | (trit == cube.trit(position));
     }
-    true
+    wider
 }

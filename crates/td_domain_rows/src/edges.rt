@@ -1,7 +1,7 @@
 //! The signals of gates, worked by hand. Behind a circuit and a cube stand the output's start and finish and then its earliest
 //! change, and the moments before which it falls and rises, or that it never changes.
 
-use std::alloc::Global;
+use std::alloc::{AllocError, Global};
 use std::process::Abort;
 use std::test::*;
 use td_circuit::Circuit;
@@ -99,17 +99,28 @@ fn last_told(
     }
 }
 
+/// The signal that is found of a row, in words.
+fn found_in(rt: &impl Abort, alloc: Global, row: &str) -> Result<String, Fail> {
+    let circuit = made(alloc, row)?;
+    let cube = cube_of(alloc, row)?;
+    last_told(rt, alloc, &circuit, &cube)
+}
+
+/// Appends a row with this signal at its end.
+fn push_row(alloc: Global, text: &mut String, row: &str, signal: &str) -> Result<(), AllocError> {
+    let gates = part(row, 0);
+    let moments = part(row, 1);
+    let first = part(row, 2);
+    let second = part(row, 3);
+    text.push_str(&format!(in alloc; "{gates}|{moments}|{first}|{second}|{signal}\n")?)
+}
+
 /// The rows again, each with the signal that was found at its end.
 fn found(rt: &impl Abort, alloc: Global, rows: &str) -> Result<String, Fail> {
     let mut again = String::new(alloc);
     for row in rows.lines() {
-        let circuit = made(alloc, row)?;
-        let signal = last_told(rt, alloc, &circuit, &cube_of(alloc, row)?)?;
-        let gates = part(row, 0);
-        let moments = part(row, 1);
-        let first = part(row, 2);
-        let second = part(row, 3);
-        again.push_str(&format!(in alloc; "{gates}|{moments}|{first}|{second}|{signal}\n")?)?;
+        let signal = found_in(rt, alloc, row)?;
+        push_row(alloc, &mut again, row, &signal)?;
     }
     Ok(again)
 }

@@ -82,21 +82,21 @@ fn apart(alloc: Global, inputs: usize) -> Result<Vec<u64>, AllocError> {
 }
 
 /// Whether all pairs of a circuit agree, first with its own moments and then with others, in one scratch.
-fn agree_twice(rt: &impl Abort, alloc: Global, mut circuit: Circuit) -> Result<bool, Fail> {
+fn agree_twice(rt: &impl Abort, alloc: Global, circuit: &mut Circuit) -> Result<bool, Fail> {
     let later = moments_of(alloc, &apart(alloc, circuit.input_count())?)?;
     assert_eq!(rt; later.len(), circuit.input_count());
-    let mut scratch = Scratch::new(alloc, &circuit)?;
-    let own = all_agree(alloc, &mut scratch, &circuit)?;
+    let mut scratch = Scratch::new(alloc, circuit)?;
+    let own = all_agree(alloc, &mut scratch, circuit)?;
     circuit.set_moments(later);
-    Ok(all_agree(alloc, &mut scratch, &circuit)? && own)
+    Ok(all_agree(alloc, &mut scratch, circuit)? && own)
 }
 
 #[test]
 fn delays_of_all_pairs(rt: HostRuntime) -> Result<(), Fail> {
     let alloc = rt.alloc();
     for seed in 0..100 {
-        let circuit = generated(alloc, 1 + seed % 3, 2 + seed % 5, seed).ok_or("a circuit")?;
-        assert!(rt; agree_twice(&rt, alloc, circuit)?, "circuit {seed}");
+        let mut circuit = generated(alloc, 1 + seed % 3, 2 + seed % 5, seed).ok_or("a circuit")?;
+        assert!(rt; agree_twice(&rt, alloc, &mut circuit)?, "circuit {seed}");
     }
     Ok(())
 }

@@ -86,12 +86,12 @@ limited Low moment span = record span { falls_until = min span.falls_until momen
 limited High moment span = record span { rises_until = min span.rises_until moment }
 limited X moment span = span
 
--- 3. An input that surely finishes at the controlling level keeps the output from its latest change to that level on.
+-- 3. An input that surely finishes at the controlling level keeps the target from its latest change to that level on.
 abbrev pub capped : Option Level → Level → Signal → Span → Span
 capped control out signal span =
     if controls control signal.finish then limited out (until_of signal.finish signal.changes) span else span
 
--- 4. An input that surely starts at the controlling level keeps the output until its earliest change.
+-- 4. An input that surely starts at the controlling level keeps the target until its earliest change.
 abbrev pub raised : Option Level → Signal → Span → Span
 raised control signal span =
     if controls control signal.start then record span { earliest = max span.earliest (earliest_of signal.changes) } else span

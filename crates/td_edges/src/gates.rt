@@ -153,7 +153,7 @@ fn limited(level: Level, moment: u64, span: Span) -> Span
     }
 }
 
-/// The span where an input that surely finishes at the controlling level keeps the output from its last change to it on.
+/// The span where an input that surely finishes at the controlling level keeps the target from its last change to it on.
 fn capped(control: Option<Level>, out: Level, signal: &Signal, span: Span) -> Span
     ensures { result ≡ capped control out signal.now span }
 {
@@ -164,7 +164,7 @@ fn capped(control: Option<Level>, out: Level, signal: &Signal, span: Span) -> Sp
     }
 }
 
-/// The span where an input that surely starts at the controlling level keeps the output until its earliest change.
+/// The span where an input that surely starts at the controlling level keeps the target until its earliest change.
 fn raised(control: Option<Level>, signal: &Signal, span: Span) -> Span
     ensures { result ≡ raised control signal.now span }
 {
@@ -179,7 +179,7 @@ fn raised(control: Option<Level>, signal: &Signal, span: Span) -> Span
     }
 }
 
-/// The span where each input keeps the output while it is surely at the controlling level.
+/// The span where each input keeps the target while it is surely at the controlling level.
 fn kept_by(kind: Kind, all: &[Signal], ins: &[u32], span: Span) -> Span
     requires { All (λ place. place < length all.now) ins.now }
     ensures { result ≡ kept_by (controlling kind) (settled kind) (filter_map (slice_get all.now) ins.now) span }

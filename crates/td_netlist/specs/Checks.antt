@@ -257,19 +257,28 @@ read_placed driven u p = read_from driven p.line (Named p.net)
 -- ---- the whole
 
 -- the ports by direction and the names of the declarations
-unfoldable pub declared_at : grammar.Module → Result (Sides × List Known) Fault
-declared_at m = do
-  ported ← declare_ports m.ports
+-- what the items declare too, and then the nets of the ports by direction
+abbrev pub declared_from : Lists → grammar.Module → Result (Sides × List Known) Fault
+declared_from ported m = do
   lists ← each declare_item ported m.items
   sides ← sides_at lists.directions m.ports
   Ok (sides, lists.names)
 
-unfoldable pub driven_at : Sides → List Known → List Primitive → Result Drivers Fault
-driven_at sides names ps = do
-  drivers ← each (drive_all sides.inputs) (record { driven = different sides.inputs; names = names }) ps
+unfoldable pub declared_at : grammar.Module → Result (Sides × List Known) Fault
+declared_at m = do
+  ported ← declare_ports m.ports
+  declared_from ported m
+
+-- the drivers of all gates, then what gates read and the outputs
+abbrev pub driven_from : Drivers → Sides → List Primitive → Result Drivers Fault
+driven_from before sides ps = do
+  drivers ← each (drive_all sides.inputs) before ps
   reads ← each (read_all drivers) tt ps
   outputs ← each (read_placed drivers.driven) tt sides.outputs
   Ok drivers
+
+unfoldable pub driven_at : Sides → List Known → List Primitive → Result Drivers Fault
+driven_at sides names ps = driven_from (record { driven = different sides.inputs; names = names }) sides ps
 
 -- declarations and ports first, then the drivers of all gates, then what gates read and the outputs
 unfoldable pub checked_at : grammar.Module → Result Drivers Fault

@@ -1,13 +1,13 @@
 //! Checks the declarations of a module.
 
-ghost use Rattle.std.specs.Prelude.{◌≡◌, ◌++◌, map, OnOk};
+ghost use Rattle.std.specs.Prelude.{◌≡◌, ◌++◌, map, Some, OnOk};
 ghost use Rattle.std.specs.List.{AllByRecursion};
-ghost use Rattle.td_syntax.specs.Grammar.{IsItem, IsPort, ArePorts, unit_exponent};
+ghost use Rattle.td_syntax.specs.Grammar.{IsItem, IsPort, ArePorts, Names as NamedPorts, Declared as HeadedPorts, unit_exponent};
 ghost use Rattle.td_netlist.specs.Ranges.{IsLimited, nets_of};
 ghost use Rattle.td_syntax.specs.Views.{name_view, names_view, port_view, ports_view, module_view, item_view};
 ghost use Rattle.td_netlist.specs.Faults.{Gives};
 ghost use Rattle.td_netlist.specs.Module.{scalar, ports, port_name, is_input, is_wire};
-ghost use Rattle.td_netlist.specs.Checks.{each, list_port, with_port, declare, declare_wire, declare_direction, declare_item, declare_port, declare_ports, IsRanged, nothing, portless, sideless, placed_at, take_side, sides_at, declared_at, known, is_other, input_bits};
+ghost use Rattle.td_netlist.specs.Checks.{each, list_port, with_port, declare, declare_wire, declare_direction, declare_item, declare_port, declare_ports, IsRanged, nothing, portless, sideless, placed_at, take_side, sides_at, declared_at, declared_from, known, is_other, input_bits};
 ghost use Rattle.td_netlist.specs.NameViews.{name_ref_of, placed_ref_of};
 ghost use Rattle.td_netlist.specs.CheckViews.{lists_of, ported_of, sides_of};
 
@@ -218,6 +218,17 @@ impl<'a> Lists<'a> {
         Ok(())
     }
 
+    /// What the items declare too, and then the nets of the ports by direction.
+    fn sided(&mut self, alloc: Global, source: &Module<'a>) -> Result<Sides<'a>, Fault<'a>>
+        requires ports { ArePorts (module_view source.now).ports }
+        requires items { AllByRecursion (IsItem (unit_exponent (module_view source.now).fronts)) (module_view source.now).items }
+        ensures { Gives (λ sides. (sides_of sides, (lists_of self.new).names)) result (declared_from (lists_of self.old) (module_view source.now)) }
+    {
+        self.declare_items(&source.items)?;
+        let sides = by_side(alloc, &self.directions, &source.ports)?;
+        Ok(sides)
+    }
+
     fn list_ports(&mut self, ports: &[Placed<'a>]) -> Result<(), Fault<'a>>
         ensures { Gives (λ _. lists_of self.new) result (each with_port (lists_of self.old) (names_view ports.now)) }
     {
@@ -271,6 +282,35 @@ impl<'a> Ported<'a> {
     }
 }
 
+/// What a list of names of ports declares.
+#[tactic(auto, unfolding(crate::specs::Checks::declare_ports))]
+fn named_ports<'a>(
+    alloc: Global,
+    hashing: SeededState,
+    names: &[Placed<'a>],
+) -> Result<Lists<'a>, Fault<'a>>
+    ensures { Gives lists_of result (declare_ports (Some (NamedPorts (names_view names.now)))) }
+{
+    let mut lists = Lists::new(alloc, hashing);
+    lists.list_ports(names)?;
+    Ok(lists)
+}
+
+/// What a list of declared ports declares.
+#[tactic(auto, unfolding(crate::specs::Checks::declare_ports))]
+fn headed_ports<'a>(
+    alloc: Global,
+    hashing: SeededState,
+    ports: &[Port<'a>],
+) -> Result<Lists<'a>, Fault<'a>>
+    requires { AllByRecursion IsPort (map port_view ports.now) }
+    ensures { Gives lists_of result (declare_ports (Some (HeadedPorts (map port_view ports.now)))) }
+{
+    let mut ported = Ported::new(alloc, hashing);
+    ported.declare_each(ports)?;
+    Ok(ported.lists)
+}
+
 /// What the port list declares.
 #[tactic(auto, unfolding(crate::specs::Checks::declare_ports))]
 fn declared_ports<'a>(
@@ -283,16 +323,8 @@ fn declared_ports<'a>(
 {
     match ports {
         None => Ok(Lists::new(alloc, hashing)),
-        Some(Ports::Names(names)) => {
-            let mut lists = Lists::new(alloc, hashing);
-            lists.list_ports(names)?;
-            Ok(lists)
-        }
-        Some(Ports::Declared(ports)) => {
-            let mut ported = Ported::new(alloc, hashing);
-            ported.declare_each(ports)?;
-            Ok(ported.lists)
-        }
+        Some(Ports::Names(names)) => named_ports(alloc, hashing, names),
+        Some(Ports::Declared(ports)) => headed_ports(alloc, hashing, ports),
     }
 }
 
@@ -420,7 +452,6 @@ pub fn declared<'a>(
     ensures { Gives (λ x. (sides_of x.0, x.1)) result (declared_at (module_view source.now)) }
 {
     let mut lists = declared_ports(alloc, hashing, &source.ports)?;
-    lists.declare_items(&source.items)?;
-    let sides = by_side(alloc, &lists.directions, &source.ports)?;
+    let sides = lists.sided(alloc, source)?;
     Ok((sides, lists.names))
 }

@@ -10,7 +10,7 @@ ghost use Rattle.td_netlist.specs.Ranges.{bit_name, IsLimited};
 ghost use Rattle.td_syntax.specs.Grammar.{decimal_value};
 ghost use Rattle.td_nets.specs.Names.{is_in};
 ghost use Rattle.td_netlist.specs.PlacedNets.{line_of};
-ghost use Rattle.td_netlist.specs.Checks.{each, known, range_known, joined, resolve, meet, drive, drives, see, seen, read_from, drive_all, read_net, read_all, read_placed, driven_at, second_driver};
+ghost use Rattle.td_netlist.specs.Checks.{each, known, range_known, joined, resolve, meet, drive, drives, see, seen, read_from, drive_all, read_net, read_all, read_placed, driven_at, driven_from, second_driver};
 ghost use Rattle.td_netlist.specs.NameViews.{name_ref_of, net_ref_of, placed_ref_of};
 ghost use Rattle.td_netlist.specs.CheckViews.{primitive_of, sides_of, drivers_of};
 
@@ -308,6 +308,20 @@ impl<'a> Drivers<'a> {
         Ok(())
     }
 
+    /// Drives what gates drive, and then looks at what gates and outputs read.
+    fn check_each(
+        &mut self,
+        sides: &Sides<'a>,
+        primitives: &[Primitive<'_, 'a>],
+    ) -> Result<(), Fault<'a>>
+        ensures { Gives (λ _. drivers_of self.new) result (driven_from (drivers_of self.old) (sides_of sides.now) (map primitive_of primitives.now)) }
+    {
+        self.drive_each(&sides.inputs, primitives)?;
+        self.read_each(primitives)?;
+        self.read_outputs(&sides.outputs)?;
+        Ok(())
+    }
+
     /// The names of the module with their ranges.
     pub fn names(&self) -> &Known<'a>
         ensures { result.now ≡ (drivers_of self.now).names }
@@ -331,8 +345,6 @@ pub fn all_driven<'a>(
         driven: driven_inputs(alloc, hashing, &sides.inputs)?,
         names,
     };
-    drivers.drive_each(&sides.inputs, primitives)?;
-    drivers.read_each(primitives)?;
-    drivers.read_outputs(&sides.outputs)?;
+    drivers.check_each(sides, primitives)?;
     Ok(drivers)
 }

@@ -130,7 +130,7 @@ fn netlist<'a>(
 
 /// Reads a netlist: the one that the text means, where a gate that states no delay has the default one.
 ///
-/// The text is structural Verilog, as IEEE 1364-2005 defines it in clauses 3, 4, 7 and 12: one module of gate
+/// The text is structural Verilog, as IEEE 1364-2005 defines it in clauses 3, 4, 7, 12 and 19: one module of gate
 /// primitives. Names that aren't declared are scalar nets. The netlist keeps names of its own, so that the text need
 /// not outlive it.
 ///

@@ -26,7 +26,7 @@ use Rattle.td_pool.specs.declared.leaf.OpenLeaf.{OpenLeaf}
 use Rattle.td_pool.specs.declared.root.Root.{Root}
 use Rattle.td_pool.specs.Truth.{IsRoot}
 use Rattle.td_pool.specs.Watched.{IsLowerBound}
-use Rattle.td_pool.specs.Frontiers.{IsWithin, IsCover, IsSplit, IsSettled, leaf_of, bounds_of}
+use Rattle.td_pool.specs.Frontiers.{IsWithin, IsCover, IsSplit, IsSettled, AreSettled, leaf_of, bounds_of}
 
 module _ {X : Type 0} (P : X → Type 0) where
   all_behind : (xs : List X) (y : X) → AllByRecursion P xs → P y → AllByRecursion P (xs ++ y ∷ [])
@@ -160,6 +160,26 @@ module _ (strategy : Strategy) (circuit : Numbered) (admit : Admitted) (numberin
   pub root_greatest : IsUpperBound (setting circuit) admit root.bound
   root_greatest pair delay admitted is = root_above pair delay admitted.pinned (admitted, is)
 
+-- ---- the last place at which something holds
+
+-- what was read stands in the list
+pub stands_below : {X : Type 0} (xs : List X) (k : ℕ) (x : X) → slice_get xs k ≡ Some x → k < length xs
+stands_below [] k x is = cc
+stands_below (y ∷ xs) zero x is = omega arith
+stands_below (y ∷ xs) (suc k) x is = let e = stands_below xs k x is in omega arith
+
+-- one place more at which it doesn't
+pub none_more : {X : Type 0} (P : X → Type 0) (xs : List X) (behind place : ℕ) (x : X) → slice_get xs place ≡ Some x → place + behind + 1 ≡ length xs → ¬ P x
+    → ((k : ℕ) (y : X) → slice_get xs k ≡ Some y → length xs ≤ k + behind → ¬ P y)
+    → (k : ℕ) (y : X) → slice_get xs k ≡ Some y → length xs ≤ k + (behind + 1) → ¬ P y
+none_more P xs behind place x at last never before k y here far = ⊎_elim
+    (λ (a : length xs ≤ k + behind). before k y here a)
+    (λ (b : k + behind < length xs).
+    let same : k ≡ place = omega (arith, b, far, last) in
+    let one : y ≡ x = cc in
+    subst (λ (z : _). ¬ P z) (sym one) never)
+    (either (length xs) (k + behind))
+
 -- ---- a walk over what was found
 
 -- the leaves of a stack behind others, the next one last
@@ -231,3 +251,18 @@ pub finding_at : (asked : Problem) (leaves : List OpenLeaf) (findings : List Fin
     → IsAt asked leaves (get_or findings i nothing) (drop (i + 1) findings)
 finding_at asked leaves findings i inside walk =
     walk_next asked leaves findings i (get_or findings i nothing) (slice_get-get_or findings i nothing inside) walk
+
+-- one finding more, before the others
+pub settled_more : (leaves later after : List OpenLeaf) (findings : List Finding) (i : ℕ) (rest : List OpenLeaf) (leaf : OpenLeaf) → i < length findings → leaves ≡ rest ++ leaf ∷ []
+    → IsSettled rest leaf (get_or findings i nothing) later → AreSettled later (drop (i + 1) findings) after → AreSettled leaves (drop i findings) after
+settled_more leaves later after findings i rest leaf inside is done others =
+    let next : i + 1 ≡ suc i = omega arith in
+    subst (λ (l : List Finding). AreSettled leaves l after) (sym (drop_step findings i (get_or findings i nothing) (slice_get-get_or findings i nothing inside)))
+    (rest, leaf, later, is, done, subst (λ (n : ℕ). AreSettled later (drop n findings) after) next others)
+
+-- no finding is left
+pub settled_none : (leaves : List OpenLeaf) (findings : List Finding) (i : ℕ) → length findings ≤ i → AreSettled leaves (drop i findings) leaves
+settled_none leaves [] zero all = refl
+settled_none leaves [] (suc i) all = refl
+settled_none leaves (f ∷ findings) zero all = absurd (omega arith)
+settled_none leaves (f ∷ findings) (suc i) all = settled_none leaves findings i (omega arith)

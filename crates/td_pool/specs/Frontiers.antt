@@ -1,10 +1,11 @@
 -- The leaves that are left of a search, with their bounds.
-use Rattle.std.specs.Prelude.{◌≡◌, ℕ, ◌≤◌, List, [], ◌∷◌, ◌++◌, map}
+use Rattle.std.specs.Prelude.{◌≡◌, ◌⊎◌, ℕ, ◌+◌, ◌≤◌, List, [], ◌∷◌, ◌++◌, map, take, drop, slice_get, Some}
 use Rattle.std.specs.List.{AllByRecursion}
 use Rattle.td_domain.specs.declared.cubes.Trit.{Trit}
 use Rattle.td_certificate.specs.Cubes.{zero_side, one_side}
 use Rattle.td_domain.specs.Pairs.{Pair}
 use Rattle.td_domain.specs.Cubes.{IsIn}
+use Rattle.td_search.specs.declared.findings.Evidence.{Evidence}
 use Rattle.td_search.specs.declared.findings.Finding.{Finding}
 use Rattle.td_search.specs.declared.findings.Finding.TheVariants.{Closed, Split}
 use Rattle.td_search.specs.Problems.{Problem, has_delay}
@@ -32,6 +33,29 @@ IsSplit rest leaf position bound leaves = (zero_number one_number : ℕ)
 abbrev pub IsSettled : List OpenLeaf → OpenLeaf → Finding → List OpenLeaf → Type 0
 IsSettled rest leaf (Closed mark bound) leaves = leaves ≡ rest
 IsSettled rest leaf (Split position bound delay) leaves = IsSplit rest leaf position bound leaves
+
+-- these were found one after another, each of the leaf that was the last one then
+abbrev pub AreSettled : List OpenLeaf → List Finding → List OpenLeaf → Type 0
+AreSettled before [] after = after ≡ before
+AreSettled before (finding ∷ findings) after = (rest : List OpenLeaf) × (leaf : OpenLeaf) × (middle : List OpenLeaf)
+    × (before ≡ rest ++ leaf ∷ []) × IsSettled rest leaf finding middle × AreSettled middle findings after
+
+-- the evidence begins at this leaf
+abbrev pub BeginsAt : Evidence → OpenLeaf → Type 0
+BeginsAt evidence leaf = (leaf.number ≡ evidence.number) × (leaf.cube ≡ evidence.cube)
+
+-- A leaf at which the evidence begins was taken out, and what the evidence leaves below it stands behind the others.
+pub record IsGrafted (before : List OpenLeaf) (evidence : Evidence) (after : List OpenLeaf) : Type 0 where
+  pub place : ℕ
+  pub leaf : OpenLeaf
+  pub at : slice_get before place ≡ Some leaf
+  pub begins : BeginsAt evidence leaf
+  pub settled : AreSettled ((take place before ++ drop (place + 1) before) ++ leaf ∷ []) evidence.findings.items after
+
+-- as the evidence says, where it begins at one of these leaves, else as before
+abbrev pub AreToldOf : List OpenLeaf → Evidence → List OpenLeaf → Type 0
+AreToldOf before evidence after = IsGrafted before evidence after
+    ⊎ (((place : ℕ) (leaf : OpenLeaf) → slice_get before place ≡ Some leaf → ¬ BeginsAt evidence leaf) × (after ≡ before))
 
 abbrev pub bounds_of : List OpenLeaf → List ℕ
 bounds_of leaves = map (λ leaf. leaf.bound) leaves

@@ -1,13 +1,13 @@
 //! What is left of a search, and what is known of the delays while it goes on.
 
-ghost use Rattle.std.specs.Prelude.{◌≡◌, ℕ, ◌+◌, ◌<◌, [], ◌∷◌, ◌++◌, max, length, take, drop, List, slice_get, Some, IfOk, IfSome, OnOk, OnErr};
+ghost use Rattle.std.specs.Prelude.{◌≡◌, ◌↔◌, ℕ, ◌+◌, ◌<◌, [], ◌∷◌, ◌++◌, max, length, take, drop, List, slice_get, Some, IfOk, IsTrue, MatchOption, OnOk, OnErr};
 ghost use Rattle.td_domain.specs.declared.cubes.Trit.TheVariants.{Free};
 ghost use Rattle.td_domain.specs.Worst.{IsUpperBound};
 ghost use Rattle.td_search.specs.CutShort.{greatest_of};
 ghost use Rattle.td_search.specs.Findings.{IsTrueOf, IsTrueEvidence};
 ghost use Rattle.td_search.specs.Problems.{problem_by, IsAbove};
 ghost use Rattle.td_pool.specs.declared.leaf.OpenLeaf.{OpenLeaf};
-ghost use Rattle.td_pool.specs.Frontiers.{IsCover, IsSplit, IsSettled, leaf_of, bounds_of};
+ghost use Rattle.td_pool.specs.Frontiers.{AreToldOf, BeginsAt, IsCover, IsSplit, IsSettled, leaf_of, bounds_of};
 ghost use Rattle.td_pool.specs.Truth.{IsRoot};
 ghost use Rattle.td_pool.specs.Watched.{IsLowerBound};
 
@@ -72,14 +72,22 @@ fn first_leaf(alloc: Global, admit: &Admit, bound: u64) -> Result<Vec<OpenLeaf>,
     Ok(leaves)
 }
 
-// The place of the leaf at which a piece of evidence begins.
+// Whether a piece of evidence begins at a leaf.
+fn begins_at(leaf: &OpenLeaf, evidence: &Evidence) -> bool
+    ensures { IsTrue result ↔ BeginsAt evidence.now leaf.now }
+{
+    leaf.number == evidence.number && leaf.cube.is_same(&evidence.cube)
+}
+
+// The place of the leaf at which a piece of evidence begins, the last one of several.
 fn place_of(leaves: &[OpenLeaf], evidence: &Evidence) -> Option<usize>
-    ensures { IfSome result (λ place. (leaf : OpenLeaf) × (slice_get leaves.now place ≡ Some leaf) × (leaf.cube ≡ evidence.now.cube)) }
+    ensures { MatchOption result
+        ((place : ℕ) (leaf : OpenLeaf) → slice_get leaves.now place ≡ Some leaf → ¬ BeginsAt evidence.now leaf)
+        (λ place. (leaf : OpenLeaf) × (slice_get leaves.now place ≡ Some leaf) × BeginsAt evidence.now leaf) }
 {
     for behind in 0..leaves.len() {
         let place = leaves.len() - 1 - behind;
-        let leaf = &leaves[place];
-        if leaf.number == evidence.number && leaf.cube.is_same(&evidence.cube) {
+        if begins_at(&leaves[place], evidence) {
             return Some(place);
         }
     }
@@ -275,26 +283,26 @@ impl<L: Subject> Frontier<L> {
         }
     }
 
-    /// What was found below a leaf that is left was done there in the shared tree. Where memory runs out more leaves are kept than are
-    /// left, so that the figures stay true.
+    /// What was found below a leaf that is left was done there in the shared tree. The error is want of memory: then more leaves are kept
+    /// than are left, so that the figures stay true.
     pub fn settle(
         &mut self,
         circuit: &Circuit,
         admit: &Admit,
         strategy: Strategy,
         evidence: &Evidence,
-    )
+    ) -> Result<(), AllocError>
         requires asked { L.asked ≡ problem_by strategy circuit.now admit.now }
         requires evidence { IsTrueEvidence (problem_by strategy circuit.now admit.now) evidence.now }
+        ensures { OnOk result (AreToldOf self.old.leaves.items evidence.now self.new.leaves.items) }
     {
         let Some(place) = place_of(&self.leaves, evidence) else {
-            return;
+            return Ok(());
         };
         self.bring_last(place);
         for finding in &evidence.findings {
-            let Ok(()) = self.settle_last(circuit, admit, strategy, *finding) else {
-                return;
-            };
+            self.settle_last(circuit, admit, strategy, *finding)?;
         }
+        Ok(())
     }
 }

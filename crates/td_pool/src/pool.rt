@@ -50,13 +50,13 @@ impl<L: Ledger> Promise<Report<L>> for Truthful {
 }
 
 /// Searches for the worst delay of the admitted pairs of a circuit by so many workers, from 1 to 64, of which this thread is one, and
-/// handles at most so many nodes. The budget is at most 10,000,000, and the pairs are of the circuit's inputs. With one worker the
-/// answer is that of `alone`. A thread that can't be started only lowers the number of workers.
+/// handles at most so many nodes. The budget is at most 10,000,000, and the pairs are of the circuit's inputs. With one worker and
+/// `Own` the figures and the number of nodes are those of `alone`, which is tested. A thread that can't be started only lowers the number of workers.
 ///
 /// # Errors
 ///
 /// `NoPair` where no pair is admitted. `OutOfMemory` where a growth was refused before the first pair was measured and the cube
-/// of the pins bounded, or for what the workers share.
+/// of the pins bounded, or for what the workers share, or where that pair has events at more than 2^30 moments.
 pub fn worst<P: Prober + Sync, R: Threads + Wait + Sync>(
     rt: &R,
     alloc: Global,

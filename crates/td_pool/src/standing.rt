@@ -63,7 +63,7 @@ impl<L: Subject> Standing<L> {
         self.frontier.reach(best);
         let left = graft_in(&mut self.book, lease, subtree, mine);
         if left.is_some() {
-            self.frontier.settle(circuit, admit, strategy, evidence);
+            let _told = self.frontier.settle(circuit, admit, strategy, evidence);
         }
         left
     }

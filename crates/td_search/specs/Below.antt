@@ -1,12 +1,13 @@
 -- Internal: what is split and closed below a leaf before the book is told.
-use Rattle.std.specs.Prelude.{◌≡◌, ◌<◌, ◌≤◌, List, [], ◌∷◌, length, map, vec_capacity}
+use Rattle.std.specs.Prelude.{◌≡◌, ◌<◌, ◌≤◌, ◌⊎◌, ◌++◌, ℕ, List, [], ◌∷◌, length, map, vec_capacity}
 use Rattle.std.specs.List.{AllByRecursion}
 use Rattle.td_domain.specs.declared.cubes.Trit.{Trit}
 use Rattle.td_book.specs.declared.lease.Lease.{Lease}
 use Rattle.td_book.specs.Board.{position_of}
 use Rattle.td_book.specs.Grafting.{cubes_left}
 use Rattle.td_search.specs.declared.below.Below.{Below}
-use Rattle.td_search.specs.Findings.{AreTrue, split_at}
+use Rattle.td_search.specs.declared.findings.Finding.{Finding}
+use Rattle.td_search.specs.Findings.{AreTrue, split_at, state_of}
 use Rattle.td_search.specs.Problems.{Problem, IsPart}
 
 -- a cube of the circuit's vectors, and a part of the pins
@@ -30,3 +31,12 @@ pub record IsComing (asked : Problem) (lease : Lease) (below : Below) (cube : Li
   pub is : cubes_left below.subtree.states (below.subtree.cube ∷ []) ≡ cube ∷ rest
   pub within : IsWithin asked cube
   pub allowed : length below.subtree.states < lease.allowance
+
+-- the allowance is used up, or nothing is left below the leaf
+abbrev pub IsDone : Lease → Below → Type 0
+IsDone lease below = (lease.allowance ≤ length below.subtree.states) ⊎ (cubes_left below.subtree.states (below.subtree.cube ∷ []) ≡ [])
+
+-- the leaf that came next is split or closed under this cut, as this was found of it
+pub record IsSettledBy (finding : Finding) (cut : ℕ) (before after : Below) : Type 0 where
+  pub tree : after.subtree ≡ record before.subtree { states = before.subtree.states ++ state_of cut finding ∷ [] }
+  pub findings : after.findings.items ≡ before.findings.items ++ finding ∷ []

@@ -16,4 +16,4 @@ abbrev pub IsStep : Setting → List Trit → ℕ → Step → Type 0
 IsStep given cube cut (Close domain bound) = IsBoundBy domain given cube (Some bound) × IsUpperBoundIn given cube bound × (bound ≤ cut)
 IsStep given cube cut (Split position bound) =
     (slice_get cube position ≡ Some Free) × IsBoundBy EdgesAndPossible given cube (Some bound) × (cut < bound) × (bound < 10 ^ 15)
-IsStep given cube cut Measure = IsPoint cube
+IsStep given cube cut Measure = IsPoint cube × ((bound : ℕ) × IsBoundBy EdgesAndPossible given cube (Some bound) × (cut < bound))

@@ -1,8 +1,8 @@
 //! What is split and closed below a leaf before a book is told.
 
-ghost use Rattle.std.specs.Prelude.{◌↔◌, List, IsTrue, IfOk, IfSome};
+ghost use Rattle.std.specs.Prelude.{◌≡◌, ◌↔◌, false, List, IsTrue, IfOk, MatchOption};
 ghost use Rattle.td_domain.specs.declared.cubes.Trit.{Trit};
-ghost use Rattle.td_search.specs.Below.{IsBelow, IsComing, IsWithin};
+ghost use Rattle.td_search.specs.Below.{IsBelow, IsComing, IsDone, IsSettledBy, IsWithin};
 ghost use Rattle.td_search.specs.Findings.{IsTrueOf, IsUsable};
 ghost use Rattle.td_search.specs.Problems.{problem_by};
 
@@ -39,7 +39,7 @@ impl Below {
         })
     }
 
-    /// The cube of the leaf that comes next, while the allowance lets it be split or closed.
+    /// The cube of the leaf that comes next, until nothing is left or the allowance is used up.
     pub fn next(
         &self,
         circuit: &Circuit,
@@ -48,7 +48,7 @@ impl Below {
         lease: &Lease,
     ) -> Option<&Cube>
         requires { IsBelow (problem_by strategy circuit.now admit.now) lease.now self.now }
-        ensures { IfSome result (λ cube. IsComing (problem_by strategy circuit.now admit.now) lease.now self.now cube.now) }
+        ensures { MatchOption result (IsDone lease.now self.now) (λ cube. IsComing (problem_by strategy circuit.now admit.now) lease.now self.now cube.now) }
     {
         if self.subtree.is_full() {
             return None;
@@ -56,7 +56,7 @@ impl Below {
         self.subtree.next()
     }
 
-    /// Splits or closes the leaf that comes next as it was found of its cube, under this cut. Answers whether it is usable under it.
+    /// Splits or closes the leaf that comes next as it was found of its cube, if that is usable under this cut. Answers whether it is.
     pub fn settle(
         &mut self,
         circuit: &Circuit,
@@ -70,6 +70,8 @@ impl Below {
         requires next { (cube : List Trit) × IsComing (problem_by strategy circuit.now admit.now) lease.now self.old cube × IsTrueOf (problem_by strategy circuit.now admit.now) cube finding }
         ensures below { IsBelow (problem_by strategy circuit.now admit.now) lease.now self.new }
         ensures usable { IsTrue result ↔ IsUsable cut finding }
+        ensures done { IsTrue result → IsSettledBy finding cut self.old self.new }
+        ensures same { result ≡ false → self.new ≡ self.old }
     {
         if !dig_by(circuit, admit, strategy, &mut self.subtree, finding, cut) {
             return false;

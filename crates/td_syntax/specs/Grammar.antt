@@ -239,7 +239,7 @@ IsStatedDelay tens (Some (Plain n)) = IsSteps tens n
 IsStatedDelay tens (Some (Single n)) = IsSteps tens n
 IsStatedDelay tens (Some (Pair n m)) = IsSteps tens n × IsSteps tens m
 
--- How many tens of a step a unit is, by the last directive: without one, a unit is a step.
+-- The power of ten of a step that a unit is, by the last directive: 0 without one.
 abbrev pub exponent_behind : ℕ → Front → ℕ
 exponent_behind tens (fronts.Directed (directive.Timescale t)) = t.unit - t.step
 exponent_behind tens front = tens

@@ -73,7 +73,7 @@ constant_in text =
     if bytes_eq text (codes "1'b0") || bytes_eq text (codes "1'B0") then Some (Constant false [])
     else (if bytes_eq text (codes "1'b1") || bytes_eq text (codes "1'B1") then Some (Constant true []) else None)
 
--- A number stands by itself or, with a quote and the letters and digits behind that, begins a constant. It runs into no other letter.
+-- A number stands by itself or, with a quote and the letters and digits behind that, begins a constant. It runs into no other letter and no `$`.
 abbrev pub number_by : List ℕ → Option (Numeral × ℕ) → Option Piece
 number_by bytes None = None
 number_by bytes (Some x) =

@@ -23,7 +23,7 @@ magnitudes = (codes "100", 2) ∷ (codes "10", 1) ∷ (codes "1", 0) ∷ []
 abbrev pub units : List (List ℕ × ℕ)
 units = (codes "s", 15) ∷ (codes "ms", 12) ∷ (codes "us", 9) ∷ (codes "ns", 6) ∷ (codes "ps", 3) ∷ (codes "fs", 0) ∷ []
 
--- a magnitude and a unit: so many tens of a femtosecond, multiplied
+-- a magnitude and a unit: the power of ten of a femtosecond that they make
 unfoldable pub span_in : List ℕ → Option (ℕ × List ℕ)
 span_in bytes = option_and_then (λ m. option_map (λ u. (m.0 + u.0, u.1)) (part_in units (unblanked m.1))) (part_in magnitudes (unblanked bytes))
 

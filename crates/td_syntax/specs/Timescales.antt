@@ -44,7 +44,7 @@ unfoldable pub unit_at : List ℕ → Result (ℕ × List ℕ) Unread
 unit_at [] = Err Short
 unit_at (b ∷ bs) = if b == 115 then Ok (15, bs) else letters_by (letter_exponent b) bs
 
--- a magnitude and a unit: so many tens of a femtosecond, multiplied
+-- a magnitude and a unit: the power of ten of a femtosecond that they make
 unfoldable pub span_at : List ℕ → Result (ℕ × List ℕ) Unread
 span_at bytes = magnitude_at (unblanked bytes) >>= λ m. unit_at (unblanked m.1) >>= λ u. Ok (m.0 + u.0, u.1)
 

@@ -23,7 +23,7 @@ pub data Token : Type 0 where
   Escaped : List ℕ → Token
   Outside : List ℕ → Token
 
--- a token, and the line of its first byte
+-- a token, and the line of its first byte (0 for all but names, where lines of no other tokens are asked about)
 pub record Placed : Type 0 where
   pub token : Token
   pub line : ℕ

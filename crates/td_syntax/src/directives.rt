@@ -14,7 +14,7 @@ use crate::syntax::Front;
 use crate::token::{Directive, Token, Unread};
 use std::alloc::Global;
 
-/// How many tens of a step a unit is, by the last `timescale: without one, a unit is a step.
+/// The power of ten of a step that a unit is, by the last `timescale: 0 without one.
 pub fn unit_exponent(fronts: &[Front]) -> u8
     ensures { result ≡ unit_exponent fronts.now }
 {

@@ -7,6 +7,6 @@ pub returns : goal.returns
 returns c = IfOk-weaker c.arg-2.result _ _
     (λ new added. added.shape c.count_option-flips.ensures.local
     ∙ ap₂ with_rule
-    (c.in_ok-arg.ensures.shape c.option-hold.ensures.local ∙ ap₂ with_rule c.in_ok-with_cube.ensures c.option-hold.ensures.rule)
+    (c.in_ok-command-2.ensures.shape c.option-hold.ensures.local ∙ ap₂ with_rule c.in_ok-command.ensures c.option-hold.ensures.rule)
     c.count_option-flips.ensures.rule)
     c.arg-2.ensures

@@ -6,6 +6,6 @@ use Rattle.td_command.proofs.arguments.with_default.Goals as goal
 pub returns : goal.returns
 returns c = IfOk-weaker c.arg-2.result _ _
     (λ new added. added.shape c.number_option-fall.ensures.local
-    ∙ ap₂ with_rule (c.in_ok-arg.ensures.shape c.number_option-rise.ensures.local ∙ ap₂ with_rule refl c.number_option-rise.ensures.rule)
+    ∙ ap₂ with_rule (c.in_ok-command.ensures.shape c.number_option-rise.ensures.local ∙ ap₂ with_rule refl c.number_option-rise.ensures.rule)
     c.number_option-fall.ensures.rule)
     c.arg-2.ensures

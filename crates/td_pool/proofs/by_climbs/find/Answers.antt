@@ -18,5 +18,5 @@ returns-in_ok-time-in-Measure-clause-finding c =
     subst (IsStep (setting c.args.circuit.now) c.args.cube.now c.look-cut.result) c.in-Measure.is c.in_ok-by.ensures.step in
     let time = c.in_ok-time-in-Measure.time in
     let long : length c.args.cube.now ≡ 2 * length c.args.admit.now.held = c.requires.within.0 ∙ c.pins-pins.ensures.fit in
-    let done = point_decided (problem c.args.circuit.now c.args.admit.now) c.args.cube.now time time long c.in_ok-time-in-Measure.ensures.measured (le_refl time) point in
+    let done = point_decided (problem c.args.circuit.now c.args.admit.now) c.args.cube.now time time long c.in_ok-time-in-Measure.ensures.measured (le_refl time) point.0 in
     (done.0, done.1)
