@@ -1,5 +1,7 @@
 //! Books step by step, and what they tell: of a lease its worker, number, allowance and cube.
 
+ghost use Rattle.std.specs.Prelude.{◌≤◌};
+
 use crate::claims::free_book;
 use crate::steps::told;
 use std::alloc::{AllocError, Global};
@@ -31,13 +33,45 @@ fn known_book(rt: &impl Abort, alloc: Global) -> Result<Book, AllocError> {
     Book::new(alloc, cube, 1, 3)
 }
 
+// Takes these steps, and looks at what they tell.
+fn check(
+    rt: &impl Abort,
+    alloc: Global,
+    book: &mut Book,
+    steps: &str,
+    wanted: &str,
+) -> Result<(), Fail> {
+    assert_eq!(rt; told(alloc, book, steps)?.as_str(), wanted);
+    Ok(())
+}
+
+// As `check`, of a book whose root has all pairs for so many inputs.
+fn check_free(
+    rt: &impl Abort,
+    alloc: Global,
+    inputs: usize,
+    workers: u32,
+    budget: u64,
+    steps: &str,
+    wanted: &str,
+) -> Result<(), Fail>
+    requires inputs { inputs ≤ 100 }
+    requires budget { budget ≤ 10000000 }
+{
+    let mut book = free_book(alloc, inputs, workers, budget)?;
+    check(rt, alloc, &mut book, steps, wanted)
+}
+
 #[test]
 fn a_split_and_two_closes(rt: HostRuntime) -> Result<(), Fail> {
     let alloc = rt.alloc();
     let mut book = known_book(&rt, alloc)?;
     assert!(rt; book.positions() == 4 && book.workers() == 1);
-    assert_eq!(rt;
-        told(alloc, &mut book, "00s0b0e0")?.as_str(),
+    check(
+        &rt,
+        alloc,
+        &mut book,
+        "00s0b0e0",
         "0 0 3 1..0
 idle
 split 1 2
@@ -47,8 +81,8 @@ closed
 closed
 done
 3 handled
-"
-    );
+",
+    )?;
     assert_eq!(rt;
         nodes_told(alloc, book)?.as_str(),
         "[Node { number: 0, state: Split(1) }, Node { number: 1, state: Closed(Bound(Arrival), 3, 4) }, Node { number: 2, state: Closed(Empty, 3, 4) }]"
@@ -58,28 +92,32 @@ done
 
 #[test]
 fn a_released_leaf_is_leased_again(rt: HostRuntime) -> Result<(), Fail> {
-    let mut book = free_book(rt.alloc(), 1, 1, 1)?;
-    assert_eq!(rt;
-        told(rt.alloc(), &mut book, "0r0")?.as_str(),
+    check_free(
+        &rt,
+        rt.alloc(),
+        1,
+        1,
+        1,
+        "0r0",
         "0 0 1 ..
 released
 0 0 1 ..
 0 handled
-"
-    );
+",
+    )?;
     Ok(())
 }
 
 #[test]
 fn no_more_than_the_budget(rt: HostRuntime) -> Result<(), Fail> {
-    let mut book = free_book(rt.alloc(), 2, 1, 0)?;
-    assert_eq!(rt;
-        told(rt.alloc(), &mut book, "0")?.as_str(),
-        "spent\n0 handled\n"
-    );
-    let mut book = free_book(rt.alloc(), 2, 2, 2)?;
-    assert_eq!(rt;
-        told(rt.alloc(), &mut book, "1s01p1")?.as_str(),
+    check_free(&rt, rt.alloc(), 2, 1, 0, "0", "spent\n0 handled\n")?;
+    check_free(
+        &rt,
+        rt.alloc(),
+        2,
+        2,
+        2,
+        "1s01p1",
         "1 0 1 ....
 split 1 2
 0 1 1 0...
@@ -87,16 +125,20 @@ idle
 closed
 spent
 2 handled
-"
-    );
+",
+    )?;
     Ok(())
 }
 
 #[test]
 fn claims_by_number(rt: HostRuntime) -> Result<(), Fail> {
-    let mut book = free_book(rt.alloc(), 1, 2, 10)?;
-    assert_eq!(rt;
-        told(rt.alloc(), &mut book, "0XYsZCA")?.as_str(),
+    check_free(
+        &rt,
+        rt.alloc(),
+        1,
+        2,
+        10,
+        "0XYsZCA",
         "0 0 1 ..
 none
 none
@@ -105,12 +147,16 @@ split 1 2
 none
 none
 1 handled
-"
-    );
+",
+    )?;
     // beyond the budget
-    let mut book = free_book(rt.alloc(), 1, 2, 2)?;
-    assert_eq!(rt;
-        told(rt.alloc(), &mut book, "0sZBrB")?.as_str(),
+    check_free(
+        &rt,
+        rt.alloc(),
+        1,
+        2,
+        2,
+        "0sZBrB",
         "0 0 1 ..
 split 1 2
 1 2 1 1.
@@ -118,32 +164,28 @@ none
 released
 0 1 1 0.
 1 handled
-"
-    );
+",
+    )?;
     Ok(())
 }
 
 #[test]
 fn allowances_of_a_root(rt: HostRuntime) -> Result<(), Fail> {
-    let mut book = free_book(rt.alloc(), 2, 1, 100)?;
-    assert_eq!(rt;
-        told(rt.alloc(), &mut book, "0")?.as_str(),
-        "0 0 64 ....\n0 handled\n"
-    );
-    let mut book = free_book(rt.alloc(), 2, 1, 63)?;
-    assert_eq!(rt;
-        told(rt.alloc(), &mut book, "0")?.as_str(),
-        "0 0 63 ....\n0 handled\n"
-    );
+    check_free(&rt, rt.alloc(), 2, 1, 100, "0", "0 0 64 ....\n0 handled\n")?;
+    check_free(&rt, rt.alloc(), 2, 1, 63, "0", "0 0 63 ....\n0 handled\n")?;
     Ok(())
 }
 
 // Of two workers, with a budget of 15, where the nodes lie deeper and deeper.
 #[test]
 fn allowances_from_eight_fixed_positions(rt: HostRuntime) -> Result<(), Fail> {
-    let mut book = free_book(rt.alloc(), 5, 2, 15)?;
-    assert_eq!(rt;
-        told(rt.alloc(), &mut book, "0s0s0s0s0s0s0s0s0s0s")?.as_str(),
+    check_free(
+        &rt,
+        rt.alloc(),
+        5,
+        2,
+        15,
+        "0s0s0s0s0s0s0s0s0s0s",
         "0 0 1 ..........
 split 1 2
 0 1 1 0.........
@@ -165,17 +207,21 @@ split 17 18
 0 17 6 000000000.
 split 19 20
 10 handled
-"
-    );
+",
+    )?;
     Ok(())
 }
 
 // Leases of another worker, number, allowance and of other cubes, and one that is closed already.
 #[test]
 fn strangers_come_back(rt: HostRuntime) -> Result<(), Fail> {
-    let mut book = free_book(rt.alloc(), 1, 2, 9)?;
-    assert_eq!(rt;
-        told(rt.alloc(), &mut book, "1cwrnplpmpkswglgpp")?.as_str(),
+    check_free(
+        &rt,
+        rt.alloc(),
+        1,
+        2,
+        9,
+        "1cwrnplpmpkswglgpp",
         "1 0 1 ..
 stranger 0 0 1 ..
 stranger 1 7 1 ..
@@ -187,28 +233,36 @@ stranger 1 0 1 1.
 closed
 stranger 1 0 1 ..
 1 handled
-"
-    );
+",
+    )?;
     Ok(())
 }
 
 // The numbers of what a graft leaves open come in the tree's order: where zero sides alone are split, and where the zero sides are closed.
 #[test]
 fn the_numbers_in_the_trees_order(rt: HostRuntime) -> Result<(), Fail> {
-    let mut book = free_book(rt.alloc(), 2, 1, 5)?;
-    assert_eq!(rt;
-        told(rt.alloc(), &mut book, "0g")?.as_str(),
-        "0 0 5 ....\ngrafted 8 6 4 2\n5 handled\n"
-    );
-    let mut book = free_book(rt.alloc(), 2, 1, 64)?;
-    assert_eq!(rt;
-        told(rt.alloc(), &mut book, "0h0h")?.as_str(),
+    check_free(
+        &rt,
+        rt.alloc(),
+        2,
+        1,
+        5,
+        "0g",
+        "0 0 5 ....\ngrafted 8 6 4 2\n5 handled\n",
+    )?;
+    check_free(
+        &rt,
+        rt.alloc(),
+        2,
+        1,
+        64,
+        "0h0h",
         "0 0 64 ....
 grafted 5 6
 0 5 59 110.
 grafted
 8 handled
-"
-    );
+",
+    )?;
     Ok(())
 }

@@ -19,8 +19,7 @@ fn circuit_of(alloc: Global, text: &[u8]) -> Result<Circuit, Fail> {
 
 /// A circuit's module, its numbers of inputs, nets and defaults, its gates' inputs and delays, its outputs, and the gates' outputs in the
 /// order of the text.
-fn told(alloc: Global, text: &[u8]) -> Result<String, Fail> {
-    let circuit = circuit_of(alloc, text)?;
+fn told(alloc: Global, circuit: &Circuit) -> Result<String, Fail> {
     let module = std::str::from_utf8(circuit.module()).unwrap_or("?");
     let inputs = circuit.input_count();
     let nets = circuit.net_count();
@@ -43,8 +42,9 @@ fn told(alloc: Global, text: &[u8]) -> Result<String, Fail> {
 fn numbers(rt: HostRuntime) -> Result<(), Fail> {
     let text =
         b"module t(b, y, a, z);\ninput a, b;\noutput z, y;\nand (y,z,b); not #(2,3) (z,a);\nendmodule\n";
+    let circuit = circuit_of(rt.alloc(), text)?;
     assert_eq!(rt;
-        told(rt.alloc(), text)?.as_str(),
+        told(rt.alloc(), &circuit)?.as_str(),
         "t 2 6 1: [3] 2 3, [4, 2] 1 1, [5, 4] [5, 4]"
     );
     Ok(())

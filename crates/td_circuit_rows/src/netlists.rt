@@ -4,7 +4,7 @@ use std::alloc::Global;
 use std::test::*;
 use td_gates::Delay;
 use td_netlist::read;
-use td_nets::{Gate, Name, Net};
+use td_nets::{Gate, Name, Net, Netlist};
 
 fn told_name(alloc: Global, name: &Name) -> Result<String, Fail> {
     let mut printed = Vec::new(alloc);
@@ -41,26 +41,35 @@ fn told_gate(alloc: Global, gate: &Gate) -> Result<String, Fail> {
     Ok(told)
 }
 
-/// A netlist's name, unit, number of gates without a delay, inputs, outputs and gates.
+/// What a text's netlist tells.
 fn told_netlist(alloc: Global, text: &[u8]) -> Result<String, Fail> {
     let default = Delay { rise: 4, fall: 5 };
     let Ok(netlist) = read(alloc, text, default) else {
         return Err(Fail::from("a fault"));
     };
+    let mut told = told_head(alloc, &netlist)?;
+    push_gates(alloc, &mut told, netlist.gates())?;
+    Ok(told)
+}
+
+/// Its gates, each behind a bar.
+fn push_gates(alloc: Global, told: &mut String, gates: &[Gate]) -> Result<(), Fail> {
+    for gate in gates {
+        let gate = told_gate(alloc, gate)?;
+        told.push_str(&format!(in alloc; "| {gate}")?)?;
+    }
+    Ok(())
+}
+
+/// A netlist's name, unit, number of gates without a delay, inputs and outputs.
+fn told_head(alloc: Global, netlist: &Netlist) -> Result<String, Fail> {
     let name = std::str::from_utf8(netlist.name()).unwrap_or("?");
     let magnitude = netlist.unit().magnitude;
     let scale = netlist.unit().scale;
     let defaulted = netlist.defaulted();
     let inputs = told_names(alloc, netlist.inputs())?;
     let outputs = told_names(alloc, netlist.outputs())?;
-    let mut told = format!(in alloc;
-        "{name} {magnitude} {scale:?} {defaulted}: {inputs}> {outputs}"
-    )?;
-    for gate in netlist.gates() {
-        let gate = told_gate(alloc, gate)?;
-        told.push_str(&format!(in alloc; "| {gate}")?)?;
-    }
-    Ok(told)
+    Ok(format!(in alloc; "{name} {magnitude} {scale:?} {defaulted}: {inputs}> {outputs}")?)
 }
 
 /// Bits from left to right, constants, the unit and delays in steps; and ports in the order of their list.

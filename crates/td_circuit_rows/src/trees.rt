@@ -3,8 +3,8 @@
 use std::alloc::Global;
 use std::test::*;
 use td_syntax::{
-    Declaration, Delay, Header, Instance, Item, Name, Number, Port, Ports, Range, Statement,
-    Terminal, parse,
+    Declaration, Delay, Header, Instance, Item, Module, Name, Number, Port, Ports, Range,
+    Statement, Terminal, parse,
 };
 
 const WHOLE: &[u8] =
@@ -161,6 +161,10 @@ fn told_tree(alloc: Global, text: &[u8]) -> Result<String, Fail> {
     let Ok(module) = parse(alloc, text) else {
         return Err(Fail::from("a fault"));
     };
+    told_module(alloc, &module)
+}
+
+fn told_module(alloc: Global, module: &Module<'_>) -> Result<String, Fail> {
     let fronts = &module.fronts;
     let name = told_name(alloc, module.name)?;
     let ports = told_ports(alloc, &module.ports)?;

@@ -102,18 +102,23 @@ fn some_pair(alloc: Global, admit: &Admit, cube: &Cube) -> Result<bool, AllocErr
     Ok(found)
 }
 
+/// Whether an admitted pair lies in a random cube, as `any` and a look at each pair say.
+fn has_pair(rt: &impl Abort, alloc: Global, seed: u64) -> Result<bool, Fail> {
+    let inputs = 1 + seed as usize % 3;
+    let admit = random_pairs(rt, alloc, inputs, seed)?;
+    let cube = random_cube(alloc, inputs, next(seed ^ 3))?;
+    assert_eq!(rt; cube.len(), admit.pins().len());
+    let found = some_pair(alloc, &admit, &cube)?;
+    assert_eq!(rt; admit.any(&cube), found, "cube {seed}");
+    Ok(found)
+}
+
 #[test]
 fn any_admitted_pair(rt: HostRuntime) -> Result<(), Fail> {
     let alloc = rt.alloc();
     let mut some = 0u32;
     for seed in 0..2000 {
-        let inputs = 1 + seed as usize % 3;
-        let admit = random_pairs(&rt, alloc, inputs, seed)?;
-        let cube = random_cube(alloc, inputs, next(seed ^ 3))?;
-        assert_eq!(rt; cube.len(), admit.pins().len());
-        let found = some_pair(alloc, &admit, &cube)?;
-        assert_eq!(rt; admit.any(&cube), found, "cube {seed}");
-        some = some.saturating_add(found as u32);
+        some = some.saturating_add(has_pair(&rt, alloc, seed)? as u32);
     }
     // Many cubes have such a pair, and many have none.
     assert!(rt; some > 200 && some < 1800);

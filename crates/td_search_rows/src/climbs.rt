@@ -87,17 +87,37 @@ fn circuit(alloc: Global) -> Result<Circuit, Fail> {
     Ok(circuit_of(alloc, &text).ok_or("a circuit")?)
 }
 
+/// Looks at what climbs with seeds from 1 on find.
+fn check(
+    rt: &impl Abort,
+    alloc: Global,
+    circuit: &Circuit,
+    admit: &Admit,
+    seeds: u64,
+    tries: u32,
+    wanted: &str,
+) -> Result<(), Fail> {
+    assert_eq!(rt;
+        climbs(rt, alloc, circuit, admit, seeds, tries)?.as_str(),
+        wanted
+    );
+    Ok(())
+}
+
 #[test]
 fn among_all_pairs(rt: HostRuntime) -> Result<(), Fail> {
     let alloc = rt.alloc();
     let circuit = circuit(alloc)?;
     let admit = Admit::all(alloc, 4)?;
-    let found = climbs(&rt, alloc, &circuit, &admit, 5, 30)?;
-    assert_eq!(rt;
-        found.as_str(),
-        "1111 0110 11\n1111 1010 11\n1110 1011 10\n0011 0110 11\n1111 1010 11\n"
-    );
-    Ok(())
+    check(
+        &rt,
+        alloc,
+        &circuit,
+        &admit,
+        5,
+        30,
+        "1111 0110 11\n1111 1010 11\n1110 1011 10\n0011 0110 11\n1111 1010 11\n",
+    )
 }
 
 /// The pins with one bit known of four inputs, as the only input held or none, and the most flips.
@@ -120,50 +140,97 @@ fn some_pairs(
     Ok(Admit::new(pins, marks, flips))
 }
 
+/// Looks at what three climbs among such pairs find.
+fn check_some(
+    rt: &impl Abort,
+    alloc: Global,
+    circuit: &Circuit,
+    position: usize,
+    trit: Trit,
+    held: Option<usize>,
+    flips: u32,
+    wanted: &str,
+) -> Result<(), Fail> {
+    let admit = some_pairs(rt, alloc, position, trit, held, flips)?;
+    check(rt, alloc, circuit, &admit, 3, 30, wanted)
+}
+
 /// Where a is 0 at first and b is held; where one input flips at most; and where c is 1 at last and two flip.
 #[test]
 fn among_admitted_pairs(rt: HostRuntime) -> Result<(), Fail> {
     let alloc = rt.alloc();
     let circuit = circuit(alloc)?;
-    let admit = some_pairs(&rt, alloc, 0, Trit::Zero, Some(1), 4)?;
-    let found = climbs(&rt, alloc, &circuit, &admit, 3, 30)?;
-    assert_eq!(rt;
-        found.as_str(),
-        "0011 1010 11\n0011 1010 11\n0001 1010 11\n"
-    );
-    let admit = some_pairs(&rt, alloc, 0, Trit::Free, None, 1)?;
-    let found = climbs(&rt, alloc, &circuit, &admit, 3, 30)?;
-    assert_eq!(rt;
-        found.as_str(),
-        "1110 0110 11\n0010 1010 11\n1110 0110 11\n"
-    );
-    let admit = some_pairs(&rt, alloc, 5, Trit::One, None, 2)?;
-    let found = climbs(&rt, alloc, &circuit, &admit, 3, 30)?;
-    assert_eq!(rt;
-        found.as_str(),
-        "1100 1010 11\n1111 1010 11\n1100 1010 11\n"
-    );
-    Ok(())
+    check_some(
+        &rt,
+        alloc,
+        &circuit,
+        0,
+        Trit::Zero,
+        Some(1),
+        4,
+        "0011 1010 11\n0011 1010 11\n0001 1010 11\n",
+    )?;
+    check_some(
+        &rt,
+        alloc,
+        &circuit,
+        0,
+        Trit::Free,
+        None,
+        1,
+        "1110 0110 11\n0010 1010 11\n1110 0110 11\n",
+    )?;
+    check_some(
+        &rt,
+        alloc,
+        &circuit,
+        5,
+        Trit::One,
+        None,
+        2,
+        "1100 1010 11\n1111 1010 11\n1100 1010 11\n",
+    )
+}
+
+/// A circuit with inputs `a` to `c`.
+fn other_circuit(alloc: Global) -> Result<Circuit, Fail> {
+    let gates = "nand #(1,2) (w0,a,b); nor #(2,1) (w1,b,c); and #3 (y,w0,w1,a);";
+    let text = module(alloc, "a,b,c", "y", gates)?;
+    Ok(circuit_of(alloc, &text).ok_or("a circuit")?)
+}
+
+/// The delay that a climb beside others finds.
+fn time_beside(
+    rt: &impl Abort,
+    alloc: Global,
+    circuit: &Circuit,
+    admit: &Admit,
+) -> Result<u64, Fail> {
+    let plan = Plan {
+        seed: 1,
+        tries: 20,
+        enough: 1000,
+    };
+    Ok(found_by(rt, alloc, circuit, admit, plan, true)?.time)
 }
 
 /// A climb that may not try stays at its first pair, and so does one beside others who have found enough.
 #[test]
 fn ended_at_once(rt: HostRuntime) -> Result<(), Fail> {
     let alloc = rt.alloc();
-    let gates = "nand #(1,2) (w0,a,b); nor #(2,1) (w1,b,c); and #3 (y,w0,w1,a);";
-    let text = module(alloc, "a,b,c", "y", gates)?;
-    let circuit = circuit_of(alloc, &text).ok_or("a circuit")?;
+    let circuit = other_circuit(alloc)?;
     let admit = Admit::all(alloc, 3)?;
-    let plan = Plan {
-        seed: 1,
-        tries: 20,
-        enough: 1000,
-    };
-    assert_eq!(rt; found_by(&rt, alloc, &circuit, &admit, plan, true)?.time, 0);
-    let found = climbs(&rt, alloc, &circuit, &admit, 2, 20)?;
-    assert_eq!(rt; found.as_str(), "001 100 5\n001 100 5\n");
-    let found = climbs(&rt, alloc, &circuit, &admit, 1, 0)?;
-    assert_eq!(rt; found.as_str(), "000 111 0\n");
+    assert_eq!(rt; time_beside(&rt, alloc, &circuit, &admit)?, 0);
+    check(
+        &rt,
+        alloc,
+        &circuit,
+        &admit,
+        2,
+        20,
+        "001 100 5\n001 100 5\n",
+    )?;
+    check(&rt, alloc, &circuit, &admit, 1, 0, "000 111 0\n")?;
     assert_eq!(rt; tries_for(&circuit), 10_000);
     Ok(())
 }

@@ -1,11 +1,11 @@
-use Rattle.std.proofs.Common.{◌≡◌, ◌+◌, ◌<◌, ◌≤◌, ℕ, List, [], ◌∷◌, ◌++◌, length, take, drop, refl, sym, ap, subst, inl, inr, arith}
+use Rattle.std.proofs.Common.{◌≡◌, ◌+◌, List, [], ◌∷◌, ◌++◌, take, drop, sym, subst, inl, arith}
 use Rattle.std.specs.Prelude.{slice_get, slice_index_or, Some}
 use Rattle.td_search.specs.declared.findings.Finding.{Finding}
 use Rattle.td_search.specs.Findings.{AreTrue}
 use Rattle.td_search.specs.Problems.{Problem, problem_by}
 use Rattle.td_search.proofs.Found.{nothing}
 use Rattle.td_pool.specs.declared.leaf.OpenLeaf.{OpenLeaf}
-use Rattle.td_pool.specs.Frontiers.{AreSettled, BeginsAt}
+use Rattle.td_pool.specs.Frontiers.{AreSettled}
 use Rattle.td_pool.proofs.Covers.{IsAt, walk_begins, finding_at, settled_more, settled_none}
 use Rattle.td_pool.proofs.frontier.Frontier.settle.Goals as goal
 
