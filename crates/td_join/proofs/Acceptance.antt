@@ -127,7 +127,7 @@ module _ (setting : Setting) (admit : Admitted) (most : ℕ) where
       → All (IsGoodPart setting admit most) certificates → IsGoodTree setting admit most cube nodes
   joined_tree _ _ _ (alone c) parts = own_tree c (All-contains (IsGoodPart setting admit most) (c ∷ []) c parts (0, omega arith, refl))
   joined_tree _ _ _ (missing cube none) parts = empty_tree cube none
-  joined_tree _ _ _ (halved cube certificates position low high free known lows highs) parts =
+  joined_tree _ _ _ (halved cube certificates position low high some free known lows highs) parts =
       split_tree cube position low high free
       (joined_tree _ _ low lows (All-filter (λ c. is_zero (slice_get (pins_of c) position)) (IsGoodPart setting admit most) certificates parts))
       (joined_tree _ _ high highs (All-filter (λ c. is_one (slice_get (pins_of c) position)) (IsGoodPart setting admit most) certificates parts))
@@ -159,7 +159,7 @@ tree_of_joined admit _ _ _ (alone c) all =
     let t = trees_are_counted.has_tree c.tree (All-contains has_own_tree (c ∷ []) c all (0, omega arith, refl)) in
     record { tree = t.0; nodes_are = t.1 }
 tree_of_joined admit _ _ _ (missing cube none) all = empty_of
-tree_of_joined admit _ _ _ (halved cube certificates position low high free known lows highs) all =
+tree_of_joined admit _ _ _ (halved cube certificates position low high some free known lows highs) all =
     split_of position low high
     (tree_of_joined admit _ _ low lows (All-filter (λ c. is_zero (slice_get (pins_of c) position)) has_own_tree certificates all))
     (tree_of_joined admit _ _ high highs (All-filter (λ c. is_one (slice_get (pins_of c) position)) has_own_tree certificates all))
@@ -190,7 +190,7 @@ parts_inside admit _ _ _ (alone d) c has pair inside = elim (Contains-less d c [
   | inr none ↦ absurd (omega (arith, none.1))
 ]
 parts_inside admit _ _ _ (missing cube none) c has pair inside = absurd (omega (arith, has.1))
-parts_inside admit _ _ _ (halved cube certificates position low high free known lows highs) c has pair inside =
+parts_inside admit _ _ _ (halved cube certificates position low high some free known lows highs) c has pair inside =
     elim (bit_of (slice_get (pins_of c) position) (All-contains (is_known_at position) certificates c known has)) [
       | bit_zero e ↦
           wider Zero cube position pair.first pair.second free

@@ -20,7 +20,7 @@ uncut : (admit : Admitted) (cube : List Trit) (certificates : List Certificate) 
     → ((position : ℕ) → slice_get cube position ≡ Some Free → ¬ AreKnownAt position certificates) → ⊥
 uncut admit _ _ _ (alone c) some own cut = own c refl refl
 uncut admit _ _ _ (missing cube none) some own cut = some refl
-uncut admit _ _ _ (halved cube certificates position low high free known lows highs) some own cut = cut position free known
+uncut admit _ _ _ (halved cube certificates position low high any free known lows highs) some own cut = cut position free known
 
 one_part : (cube : List Trit) (parts : List Part) (c : Certificate) → certificates_of parts ≡ c ∷ [] → pins_of c ≡ cube → IsOwn cube parts
 one_part cube [] c e pins = absurd cc
@@ -29,7 +29,7 @@ one_part cube (p ∷ []) c e pins =
     record { part = p; only = refl; pins = rw same pins }
 one_part cube (p ∷ q ∷ parts) c e pins = absurd cc
 
-some_certificates : (parts : List Part) → parts ≢ [] → certificates_of parts ≢ []
+pub some_certificates : (parts : List Part) → parts ≢ [] → certificates_of parts ≢ []
 some_certificates [] some e = some refl
 some_certificates (p ∷ parts) some e = absurd cc
 

@@ -1,4 +1,5 @@
 pub mod Parting
+pub mod Within
 pub mod Joins
 pub mod Cubing
 pub mod Restricting

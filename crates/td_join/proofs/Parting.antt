@@ -3,7 +3,9 @@ use Rattle.std.proofs.Common.{◌≤◌, ◌+◌, ◌⊎◌, ◌≡◌, ◌<◌,
 use Rattle.std.proofs.Math.Nat.{eq-or-lt_of_le}
 use Rattle.std.specs.Prelude.{slice_get, All}
 use Rattle.std.specs.List.{list_all}
-use Rattle.std.proofs.lemmas.List.Elements.{All-from_recursion, recursion_from_All, All-push}
+use Rattle.std.proofs.lemmas.List.{length-append}
+use Rattle.std.proofs.lemmas.List.Elements.{All-from_recursion, recursion_from_All, All-push, All-weaker}
+use Rattle.std.proofs.lemmas.List.Quantifiers.{all_pairs_push}
 use Rattle.std.specs.List.{AllByRecursion}
 use denote.Enum.Bare.{sameb}
 use Rattle.td_domain.specs.contracts.cubes.Trit.{the_type}
@@ -12,9 +14,9 @@ use Rattle.td_domain.specs.declared.cubes.Trit.TheVariants.{Zero, One, Free}
 use Rattle.td_certificate.specs.declared.certificate.Certificate.{Certificate}
 use Rattle.td_join.specs.declared.parts.Part.{Part}
 use Rattle.td_join.specs.Joining.{pins_of, is_known, AreKnownAt}
-use Rattle.td_join.specs.Steps.{certificates_of, IsPlaced}
+use Rattle.td_join.specs.Steps.{certificates_of, IsPlaced, AreInOrder}
 
-nat_cases : (k n : ℕ) → k ≤ n → (k < n) ⊎ (k ≡ n)
+pub nat_cases : (k n : ℕ) → k ≤ n → (k < n) ⊎ (k ≡ n)
 nat_cases k n l = elim (eq-or-lt_of_le {n = k} {m = n} l) [
   | inl e ↦ inr e
   | inr less ↦ inl less
@@ -73,6 +75,20 @@ pub placed_more : (parts : List Part) (p : Part) (rest all : List Certificate) �
     → p.place ≡ length parts → All (IsPlaced all) parts → All (IsPlaced all) (parts ++ p ∷ [])
 placed_more parts p rest all e place placed =
     All-push (IsPlaced all) parts p placed (rw (place, sym e) (stands parts p.certificate rest))
+
+pub order_more : (parts : List Part) (p : Part) → p.place ≡ length parts → All (λ q. q.place < length parts) parts → AreInOrder parts
+    → AreInOrder (parts ++ p ∷ [])
+order_more parts p place below order =
+    all_pairs_push (λ q r. q.place < r.place) parts p order
+    (subst (λ (n : ℕ). All (λ q. q.place < n) parts) (sym place) below)
+
+pub below_more : (parts : List Part) (p : Part) → p.place ≡ length parts → All (λ q. q.place < length parts) parts
+    → All (λ q. q.place < length (parts ++ p ∷ [])) (parts ++ p ∷ [])
+below_more parts p place below =
+    let more : length (parts ++ p ∷ []) ≡ length parts + 1 = length-append parts (p ∷ []) in
+    All-push (λ q. q.place < length (parts ++ p ∷ [])) parts p
+    (All-weaker (λ q. q.place < length parts) (λ q. q.place < length (parts ++ p ∷ [])) (λ q less. omega (arith, less, more)) parts below)
+    (omega (arith, place, more))
 
 -- ---- the test whether a trit is free
 

@@ -149,7 +149,7 @@ joined_nodes : (admit : Admitted) (version : Version) (fits : ℕ) (cube : List 
 joined_nodes admit version fits _ _ _ few long none all (alone c) =
     All-contains (λ d. AllByRecursion (IsNode version) d.tree) (c ∷ []) c all (0, omega arith, refl)
 joined_nodes admit version fits _ _ _ few long none all (missing cube empty) = (none cube long empty, tt)
-joined_nodes admit version fits _ _ _ few long none all (halved cube certificates position low high free known lows highs) = (
+joined_nodes admit version fits _ _ _ few long none all (halved cube certificates position low high some free known lows highs) = (
   omega (arith, slice_get_within cube position Free free, long, few),
   all_append (IsNode version) low high
       (joined_nodes admit version fits _ _ low few (length-set cube position Zero ∙ long) none

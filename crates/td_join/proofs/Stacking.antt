@@ -1,7 +1,8 @@
 -- A joining under way: each step leads on.
-use Rattle.std.proofs.Common.{◌≡◌, ℕ, zero, suc, true, List, [], ◌∷◌, ◌++◌, length, set, Some, None, Option, refl, sym, ap, subst, ◌∙◌, arith, append_assoc, inl, inr}
+use Rattle.std.proofs.Common.{◌≡◌, ◌≢◌, ◌<◌, ℕ, zero, suc, true, List, [], ◌∷◌, ◌++◌, length, set, Some, None, Option, refl, sym, ap, subst, ◌∙◌, arith, append_assoc}
 use Rattle.std.specs.Prelude.{slice_get, All, Contains}
 use Rattle.std.proofs.lemmas.List.{append-nil, length-set}
+use Rattle.std.proofs.lemmas.List.Kept.{AllPairs-filter}
 use Rattle.std.proofs.lemmas.List.Elements.{All-filter, All-contains, All-push, All-nil, All-cons, All-same}
 use Rattle.td_gates.proofs.Places.{All-from_contains}
 use Rattle.td_domain.specs.declared.cubes.Trit.{Trit}
@@ -16,11 +17,14 @@ use Rattle.td_join.specs.declared.fault.JoinFault.{JoinFault}
 use Rattle.td_join.specs.declared.fault.JoinFault.TheVariants as fault
 use Rattle.td_join.specs.declared.parts.Part.{Part}
 use Rattle.td_join.specs.declared.parts.Group.{Group}
+use Rattle.td_join.specs.Faults.{IsLeftEmpty, bare, in_zero, in_one}
 use Rattle.td_join.specs.Joining.{pins_of, is_zero, is_one, is_known, zeros, ones, AreKnownAt, AreJoined, halved}
-use Rattle.td_join.specs.Steps.{certificate_of, certificates_of, IsPlaced, zero_parts, one_parts, IsJoinable, IsStuck}
+use Rattle.td_join.specs.Steps.{certificate_of, certificates_of, IsPlaced, AreInOrder, AreAllInside, zero_parts, one_parts, IsJoinable, IsStuck}
 use Rattle.td_join.specs.Stacks.{members, AreAllJoined, IsGroup, IsUnderWay, IsTreeFault}
-use Rattle.td_join.proofs.Cubing.{wider, Meet, meet_at, map_filter, filter_has, Contains-less, Contains-more}
+use Rattle.td_join.proofs.Cubing.{wider, Meet, meet_at, map_filter, filter_has}
 use Rattle.td_join.proofs.Restricting.{is_known_at, zero_joinable, one_joinable}
+use Rattle.td_join.proofs.Joins.{some_certificates}
+use Rattle.td_join.proofs.Within.{zero_within, one_within, has_member, member}
 use Rattle.std.proofs.lemmas.Option.{slice_get_within}
 use Rattle.td_gates.proofs.Places.{slice_get-set_same}
 
@@ -74,8 +78,8 @@ module _ (certificates : List Certificate) (admit : Admitted) where
   top_known nodes groups top way = (last_of (IsGroup certificates admit) groups top way.groups_are).1
 
   pub begun : (group : Group) → group.cube ≡ admit.pins → members group ≡ certificates → All (IsPlaced certificates) group.parts.items
-      → IsUnderWay certificates admit [] ([] ++ group ∷ [])
-  begun group cube all placed = record {
+      → AreInOrder group.parts.items → AreAllInside admit.pins group.parts.items → IsUnderWay certificates admit [] ([] ++ group ∷ [])
+  begun group cube all placed order within = record {
     goes_on = λ rest joined. let top = without_top admit [] group rest joined in
         subst (λ (ns : List Node). AreJoined admit admit.pins certificates ns) (sym (top.parts ∙ ap (λ (r : List Node). top.tree ++ r) top.others ∙ append-nil top.tree))
         (subst (λ (cs : List Certificate). AreJoined admit admit.pins cs top.tree) all
@@ -87,6 +91,10 @@ module _ (certificates : List Certificate) (admit : Admitted) where
       inside = λ pair. subst (λ (x : List Trit). IsIn pair x → IsIn pair admit.pins) (sym cube) (λ h. h);
       fits = ap length cube;
       placed = placed;
+      left = λ gap. subst (λ (x : List Trit). IsLeftEmpty x (members group) gap → IsLeftEmpty admit.pins certificates gap) (sym cube)
+          (subst (λ (cs : List Certificate). IsLeftEmpty admit.pins cs gap → IsLeftEmpty admit.pins certificates gap) (sym all) (λ h. h));
+      in_order = order;
+      within = subst (λ (x : List Trit). AreAllInside x group.parts.items) (sym cube) within;
     }) (All-nil (IsGroup certificates admit));
   }
 
@@ -114,10 +122,10 @@ module _ (certificates : List Certificate) (admit : Admitted) where
   one_known (Some Free) k meets = absurd cc
   one_known None k meets = absurd cc
 
-  pub low_group : (group low : Group) (position : ℕ) → IsGroup certificates admit group → slice_get group.cube position ≡ Some Free
+  pub low_group : (group low : Group) (position : ℕ) → IsGroup certificates admit group → group.parts.items ≢ [] → slice_get group.cube position ≡ Some Free
       → AreKnownAt position (members group) → low.cube ≡ set group.cube position Zero → low.parts.items ≡ zero_parts position group.parts.items
       → IsGroup certificates admit low
-  low_group group low position known free at cube parts =
+  low_group group low position known some free at cube parts =
       let same : members low ≡ zeros position (members group) =
       ap (λ (ps : List Part). certificates_of ps) parts ∙ map_filter certificate_of (λ c. is_zero (slice_get (pins_of c) position)) group.parts.items in
       let within = slice_get_within group.cube position Free free in
@@ -141,12 +149,21 @@ module _ (certificates : List Certificate) (admit : Admitted) where
         fits = ap length cube ∙ length-set group.cube position Zero ∙ known.fits;
         placed = All-same (IsPlaced certificates) low.parts.items (zero_parts position group.parts.items) parts
             (All-filter (λ p. is_zero (slice_get (pins_of p.certificate) position)) (IsPlaced certificates) group.parts.items known.placed);
+        left = λ gap h. known.left gap
+            (in_zero group.cube gap (members group) position (some_certificates group.parts.items some) free at
+            (subst (λ (x : List Trit). IsLeftEmpty x (zeros position (members group)) gap) cube
+            (subst (λ (cs : List Certificate). IsLeftEmpty low.cube cs gap) same h)));
+        in_order = subst (λ (ps : List Part). AreInOrder ps) (sym parts)
+            (AllPairs-filter (λ p q. p.place < q.place) (λ p. is_zero (slice_get (pins_of p.certificate) position)) group.parts.items known.in_order);
+        within = subst (λ (ps : List Part). AreAllInside low.cube ps) (sym parts)
+            (subst (λ (x : List Trit). AreAllInside x (zero_parts position group.parts.items)) (sym cube)
+            (zero_within group.cube position group.parts.items within known.within));
       }
 
-  pub high_group : (group high : Group) (position : ℕ) → IsGroup certificates admit group → slice_get group.cube position ≡ Some Free
+  pub high_group : (group high : Group) (position : ℕ) → IsGroup certificates admit group → group.parts.items ≢ [] → slice_get group.cube position ≡ Some Free
       → AreKnownAt position (members group) → high.cube ≡ set group.cube position One → high.parts.items ≡ one_parts position group.parts.items
       → IsGroup certificates admit high
-  high_group group high position known free at cube parts =
+  high_group group high position known some free at cube parts =
       let same : members high ≡ ones position (members group) =
       ap (λ (ps : List Part). certificates_of ps) parts ∙ map_filter certificate_of (λ c. is_one (slice_get (pins_of c) position)) group.parts.items in
       let within = slice_get_within group.cube position Free free in
@@ -170,6 +187,15 @@ module _ (certificates : List Certificate) (admit : Admitted) where
         fits = ap length cube ∙ length-set group.cube position One ∙ known.fits;
         placed = All-same (IsPlaced certificates) high.parts.items (one_parts position group.parts.items) parts
             (All-filter (λ p. is_one (slice_get (pins_of p.certificate) position)) (IsPlaced certificates) group.parts.items known.placed);
+        left = λ gap h. known.left gap
+            (in_one group.cube gap (members group) position (some_certificates group.parts.items some) free at
+            (subst (λ (x : List Trit). IsLeftEmpty x (ones position (members group)) gap) cube
+            (subst (λ (cs : List Certificate). IsLeftEmpty high.cube cs gap) same h)));
+        in_order = subst (λ (ps : List Part). AreInOrder ps) (sym parts)
+            (AllPairs-filter (λ p q. p.place < q.place) (λ p. is_one (slice_get (pins_of p.certificate) position)) group.parts.items known.in_order);
+        within = subst (λ (ps : List Part). AreAllInside high.cube ps) (sym parts)
+            (subst (λ (x : List Trit). AreAllInside x (one_parts position group.parts.items)) (sym cube)
+            (one_within group.cube position group.parts.items within known.within));
       }
 
   regrouped : (nodes low high rest : List Node) (split : Node) → nodes ++ ((split ∷ (low ++ high)) ++ rest) ≡ (nodes ++ split ∷ []) ++ (low ++ (high ++ rest))
@@ -177,11 +203,11 @@ module _ (certificates : List Certificate) (admit : Admitted) where
       ap (λ (ns : List Node). nodes ++ split ∷ ns) (append_assoc low high rest) ∙ sym (append_assoc nodes (split ∷ []) (low ++ (high ++ rest)))
 
   pub halves : (nodes : List Node) (groups : List Group) (top low high : Group) (position : ℕ)
-      → IsUnderWay certificates admit nodes (groups ++ top ∷ []) → slice_get top.cube position ≡ Some Free
+      → IsUnderWay certificates admit nodes (groups ++ top ∷ []) → top.parts.items ≢ [] → slice_get top.cube position ≡ Some Free
       → AreKnownAt position (members top) → low.cube ≡ set top.cube position Zero → low.parts.items ≡ zero_parts position top.parts.items
       → high.cube ≡ set top.cube position One → high.parts.items ≡ one_parts position top.parts.items
       → IsUnderWay certificates admit (nodes ++ node.Split position ∷ []) ((groups ++ high ∷ []) ++ low ∷ [])
-  halves nodes groups top low high position way free at low_cube low_parts high_cube high_parts =
+  halves nodes groups top low high position way some free at low_cube low_parts high_cube high_parts =
       let both = last_of (IsGroup certificates admit) groups top way.groups_are in
       let lows : members low ≡ zeros position (members top) =
       ap (λ (ps : List Part). certificates_of ps) low_parts ∙ map_filter certificate_of (λ c. is_zero (slice_get (pins_of c) position)) top.parts.items in
@@ -191,7 +217,7 @@ module _ (certificates : List Certificate) (admit : Admitted) where
         goes_on = λ rest joined.
             let first = without_top admit (groups ++ high ∷ []) low rest joined in
             let second = without_top admit groups high first.rest first.others in
-            let whole = halved top.cube (members top) position first.tree second.tree free at
+            let whole = halved top.cube (members top) position first.tree second.tree (some_certificates top.parts.items some) free at
             (subst (λ (x : List Trit). AreJoined admit x (zeros position (members top)) first.tree) low_cube
             (subst (λ (cs : List Certificate). AreJoined admit low.cube cs first.tree) lows first.joined))
             (subst (λ (x : List Trit). AreJoined admit x (ones position (members top)) second.tree) high_cube
@@ -202,8 +228,8 @@ module _ (certificates : List Certificate) (admit : Admitted) where
             ∙ ap (λ (ns : List Node). (nodes ++ node.Split position ∷ []) ++ ns) (sym (first.parts ∙ ap (λ (r : List Node). first.tree ++ r) second.parts)))
             (way.goes_on (split ++ second.rest) (with_top admit groups top split second.rest whole second.others));
         groups_are = All-push (IsGroup certificates admit) (groups ++ high ∷ []) low
-            (All-push (IsGroup certificates admit) groups high both.0 (high_group top high position both.1 free at high_cube high_parts))
-            (low_group top low position both.1 free at low_cube low_parts);
+            (All-push (IsGroup certificates admit) groups high both.0 (high_group top high position both.1 some free at high_cube high_parts))
+            (low_group top low position both.1 some free at low_cube low_parts);
       }
 
   pub ended : (nodes : List Node) → IsUnderWay certificates admit nodes [] → AreJoined admit admit.pins certificates nodes
@@ -215,13 +241,6 @@ module _ (certificates : List Certificate) (admit : Admitted) where
   in_no_part [] c e has = absurd (omega (arith, has.1))
   in_no_part (p ∷ parts) c e has = absurd cc
 
-  has_member : (parts : List Part) (p : Part) → Contains parts p → Contains (certificates_of parts) p.certificate
-  has_member [] p has = absurd (omega (arith, has.1))
-  has_member (q ∷ parts) p has = elim (Contains-less q p parts has) [
-    | inl same ↦ (0, omega arith, ap certificate_of same)
-    | inr later ↦ Contains-more q.certificate p.certificate (certificates_of parts) (has_member parts p later)
-  ]
-
   pub tree_fault : (group : Group) (told : JoinFault) → IsGroup certificates admit group → IsStuck admit group.cube group.parts.items told
       → IsTreeFault admit certificates told
   tree_fault group fault.OutOfMemory known stuck = tt
@@ -231,6 +250,8 @@ module _ (certificates : List Certificate) (admit : Admitted) where
         admitted = there;
         fits = ap length stuck.0 ∙ known.fits;
         inside = λ pair h. known.inside pair (subst (λ (x : List Trit). IsIn pair x) stuck.0 h);
+        left = known.left gap (subst (λ (x : List Trit). IsLeftEmpty x (members group) gap) stuck.0
+            (subst (λ (ps : List Part). IsLeftEmpty gap (certificates_of ps) gap) (sym stuck.1) (bare gap)));
         in_none = All-from_contains (λ c. (pair : Pair) → IsIn pair gap → ¬ IsIn pair (pins_of c)) certificates (λ c has pair h pinned.
             in_no_part group.parts.items c stuck.1 (known.all c pair has pinned (subst (λ (x : List Trit). IsIn pair x) stuck.0 h)));
       }
@@ -253,8 +274,10 @@ module _ (certificates : List Certificate) (admit : Admitted) where
       other = places.1.part.certificate;
       one_at = subst (λ (n : ℕ). slice_get certificates n ≡ Some places.0.part.certificate) places.0.place_is (All-contains (IsPlaced certificates) group.parts.items places.0.part known.placed places.0.among);
       other_at = subst (λ (n : ℕ). slice_get certificates n ≡ Some places.1.part.certificate) places.1.place_is (All-contains (IsPlaced certificates) group.parts.items places.1.part known.placed places.1.among);
+      differ = places.2;
       one_among = has_member group.parts.items places.0.part places.0.among;
       other_among = has_member group.parts.items places.1.part places.1.among;
+      members = member certificates group.cube group.parts.items known.placed known.within;
       inside = known.inside;
       all = known.all;
       uncut = uncut;

@@ -1,5 +1,5 @@
 -- Cubes that are widened.
-use Rattle.std.proofs.Common.{◌≡◌, ◌≢◌, ◌<◌, ◌≤◌, ◌+◌, get_or, take_all, drop-cons, ℕ, zero, suc, List, [], ◌∷◌, ◌++◌, length, set, Some, take, drop, refl, sym, ap, ◌∙◌, arith}
+use Rattle.std.proofs.Common.{◌≡◌, ◌≢◌, ◌<◌, ◌≤◌, ◌+◌, inl, inr, subst, get_or, take_all, drop-cons, ℕ, zero, suc, List, [], ◌∷◌, ◌++◌, length, set, Some, take, drop, refl, sym, ap, ◌∙◌, arith}
 use Rattle.std.specs.Prelude.{slice_get}
 use Rattle.std.proofs.lemmas.List.{append-nil, drop_all}
 use Rattle.std.proofs.lemmas.Option.{none-some}
@@ -9,6 +9,7 @@ use Rattle.td_certificate.specs.declared.certificate.Certificate.{Certificate}
 use Rattle.td_join.specs.Faults.{IsOutside, lengths, bits}
 use Rattle.td_join.specs.Joining.{pins_of, widest, both, hull_from, hull}
 use Rattle.td_join.proofs.Cubing.{same_trits}
+use Rattle.td_join.proofs.Parting.{nat_cases}
 
 widened_to : (cube other : List Trit) (i : ℕ) (s t : Trit) → slice_get cube i ≡ Some s → slice_get other i ≡ Some t
     → take (suc i) (set cube i (widest s t)) ++ both (drop (suc i) (set cube i (widest s t))) (drop (suc i) other)
@@ -76,3 +77,18 @@ outside_at pins cube position p t pinned is known differ = bits position p pinne
 
 pub outside_by_length : (pins cube : List Trit) → length cube ≢ length pins → IsOutside pins cube
 outside_by_length pins cube differ = lengths differ
+
+-- one position more at which the pins are kept
+pub kept_more : (pins cube : List Trit) (n : ℕ) (p t : Trit)
+    → ((k : ℕ) (s : Trit) → k < n → slice_get pins k ≡ Some s → s ≢ Free → slice_get cube k ≡ Some s)
+    → slice_get pins n ≡ Some p → slice_get cube n ≡ Some t → (p ≢ Free → t ≡ p)
+    → (k : ℕ) (s : Trit) → k < n + 1 → slice_get pins k ≡ Some s → s ≢ Free → slice_get cube k ≡ Some s
+kept_more pins cube n p t before pinned is same k s less at known =
+    elim (nat_cases k n (omega (arith, less))) [
+      | inl below ↦ before k s below at known
+      | inr e ↦
+          let here : slice_get pins n ≡ Some s = subst (λ (i : ℕ). slice_get pins i ≡ Some s) e at in
+          let one : s ≡ p = same_trits s p (sym here ∙ pinned) in
+          let both : t ≡ s = same (λ f. known (one ∙ f)) ∙ sym one in
+          subst (λ (i : ℕ). slice_get cube i ≡ Some s) (sym e) (subst (λ (x : Trit). slice_get cube n ≡ Some x) both is)
+    ]

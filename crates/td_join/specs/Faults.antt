@@ -8,11 +8,12 @@ use Rattle.td_domain.specs.Cubes.{IsIn}
 use Rattle.td_domain.specs.Admits.{Admitted, HasAdmitted}
 use Rattle.td_certificate.specs.declared.certificate.Certificate.{Certificate}
 use Rattle.td_certificate.specs.declared.question.Version.TheVariants.{First}
+use Rattle.td_certificate.specs.Cubes.{zero_side, one_side}
 use Rattle.td_certificate.specs.Questions.{inputs_of, version_of}
 use Rattle.td_certificate.specs.Accepts.{Accepts}
 use Rattle.td_join.specs.declared.fault.JoinFault.{JoinFault}
 use Rattle.td_join.specs.declared.fault.JoinFault.TheVariants as fault
-use Rattle.td_join.specs.Joining.{pins_of, with_pins, has_none, AreKnownAt, IsJoined}
+use Rattle.td_join.specs.Joining.{pins_of, with_pins, has_none, zeros, ones, AreKnownAt, IsJoined}
 
 -- what a certificate differs in from the first one, where it is told so
 abbrev pub IsUnlike : Certificate → Certificate → ℕ → JoinFault → Type 0
@@ -31,6 +32,11 @@ pub record IsUnlikeIn (certificates : List Certificate) (told : JoinFault) : Typ
   pub first_at : slice_get certificates 0 ≡ Some first
   pub other_at : slice_get certificates place ≡ Some other
   pub unlike : IsUnlike first other place told
+
+-- the cube is a part of the pins: it has as many positions, and each bit that is known in them
+pub record IsInside (pins cube : List Trit) : Type 0 where
+  pub fits : length cube ≡ length pins
+  pub keeps : (position : ℕ) (t : Trit) → slice_get pins position ≡ Some t → t ≢ Free → slice_get cube position ≡ Some t
 
 -- a position of the pins is known, and not so in the cube, or there are others
 pub data IsOutside (pins cube : List Trit) : Type 0 where
@@ -69,8 +75,8 @@ pub record IsOverlap (certificates : List Certificate) (this that : ℕ) : Type 
   pub differ : this ≢ that
   pub shares : HasAdmitted one.question.admit (pins_of other)
 
--- The certificates at two places lie in a cube of the pins, and nowhere can it be halved so that each of the group of those that lie in it
--- lies in one half. A certificate with a pair in the cube is one of the group.
+-- The certificates at two places, other ones, are of a group of certificates whose pins are parts of one cube of the pins, and nowhere can it
+-- be halved so that each of the group lies in one half. A certificate with a pair in the cube is one of the group.
 pub record IsCrossed (certificates : List Certificate) (pins : List Trit) (this that : ℕ) : Type 0 where
   pub cube : List Trit
   pub group : List Certificate
@@ -78,17 +84,29 @@ pub record IsCrossed (certificates : List Certificate) (pins : List Trit) (this 
   pub other : Certificate
   pub one_at : slice_get certificates this ≡ Some one
   pub other_at : slice_get certificates that ≡ Some other
+  pub differ : this ≢ that
   pub one_among : Contains group one
   pub other_among : Contains group other
+  pub members : (c : Certificate) → Contains group c → Contains certificates c × IsInside cube (pins_of c)
   pub inside : (pair : Pair) → IsIn pair cube → IsIn pair pins
   pub all : (c : Certificate) (pair : Pair) → Contains certificates c → IsIn pair (pins_of c) → IsIn pair cube → Contains group c
   pub uncut : (position : ℕ) → slice_get cube position ≡ Some Free → ¬ AreKnownAt position group
 
--- An admitted pair lies in this cube, which is a part of the pins, and no pair of the cube in those of a certificate.
+-- A cube that has certificates is halved at a position that is known in each of them, and so are its halves. One that has none is left.
+pub data IsLeftEmpty : List Trit → List Certificate → List Trit → Type 0 where
+  bare : (cube : List Trit) → IsLeftEmpty cube [] cube
+  in_zero : (cube left : List Trit) (certificates : List Certificate) (position : ℕ) → certificates ≢ [] → slice_get cube position ≡ Some Free
+      → AreKnownAt position certificates → IsLeftEmpty (zero_side cube position) (zeros position certificates) left → IsLeftEmpty cube certificates left
+  in_one : (cube left : List Trit) (certificates : List Certificate) (position : ℕ) → certificates ≢ [] → slice_get cube position ≡ Some Free
+      → AreKnownAt position certificates → IsLeftEmpty (one_side cube position) (ones position certificates) left → IsLeftEmpty cube certificates left
+
+-- An admitted pair lies in this cube, which is a part of the pins that halvings leave without a certificate, and no pair of the cube lies in
+-- the pins of a certificate.
 pub record IsGap (admit : Admitted) (certificates : List Certificate) (cube : List Trit) : Type 0 where
   pub admitted : HasAdmitted admit cube
   pub fits : length cube ≡ length admit.pins
   pub inside : (pair : Pair) → IsIn pair cube → IsIn pair admit.pins
+  pub left : IsLeftEmpty admit.pins certificates cube
   pub in_none : All (λ c. (pair : Pair) → IsIn pair cube → ¬ IsIn pair (pins_of c)) certificates
 
 -- nothing is joined of these with these pins

@@ -1,5 +1,5 @@
 -- Certificates of the parts of a question, joined into one.
-use Rattle.std.specs.Prelude.{◌≡◌, ℕ, ◌≤◌, Bool, true, false, List, [], ◌∷◌, ◌++◌, All, Contains, filter, slice_get, Option, Some}
+use Rattle.std.specs.Prelude.{◌≡◌, ◌≢◌, ℕ, ◌≤◌, Bool, true, false, List, [], ◌∷◌, ◌++◌, All, Contains, filter, slice_get, Option, Some}
 use Rattle.std.specs.List.{list_any}
 use Rattle.std.specs.List.Sorted.{IsPermutation}
 use Rattle.td_nets.specs.Netlist.{Netlist}
@@ -56,13 +56,13 @@ abbrev pub AreKnownAt : ℕ → List Certificate → Type 0
 AreKnownAt position certificates = All (λ c. is_known (slice_get (pins_of c) position) ≡ true) certificates
 
 -- The certificates are joined to a tree of the cube. One certificate of this cube has its own tree. Where no admitted pair lies in the
--- cube, no certificate gives a leaf that says so. A position that is free in the cube and known in each certificate gives a split
--- over the trees of its two sides: those with 0 there are joined on the zero side, those with 1 on the one side.
+-- cube, no certificate gives a leaf that says so. Where there is a certificate, a position that is free in the cube and known in each
+-- gives a split over the trees of its two sides: those with 0 there are joined on the zero side, those with 1 on the one side.
 pub data AreJoined (admit : Admitted) : List Trit → List Certificate → List Node → Type 0 where
   alone : (c : Certificate) → AreJoined admit (pins_of c) (c ∷ []) c.tree
   missing : (cube : List Trit) → (¬ HasAdmitted admit cube) → AreJoined admit cube [] (node.Empty ∷ [])
-  halved : (cube : List Trit) (certificates : List Certificate) (position : ℕ) (low high : List Node) → slice_get cube position ≡ Some Free
-      → AreKnownAt position certificates → AreJoined admit (zero_side cube position) (zeros position certificates) low
+  halved : (cube : List Trit) (certificates : List Certificate) (position : ℕ) (low high : List Node) → certificates ≢ []
+      → slice_get cube position ≡ Some Free → AreKnownAt position certificates → AreJoined admit (zero_side cube position) (zeros position certificates) low
       → AreJoined admit (one_side cube position) (ones position certificates) high
       → AreJoined admit cube certificates (node.Split position ∷ (low ++ high))
 

@@ -11,9 +11,9 @@ use Rattle.td_certificate.specs.Questions.{Question}
 use Rattle.td_join.specs.declared.fault.JoinFault.{JoinFault}
 use Rattle.td_join.specs.declared.fault.JoinFault.TheVariants as fault
 use Rattle.td_join.specs.declared.parts.Group.{Group}
-use Rattle.td_join.specs.Faults.{IsOverlap, IsCrossed, IsGap}
+use Rattle.td_join.specs.Faults.{IsOverlap, IsCrossed, IsLeftEmpty, IsGap}
 use Rattle.td_join.specs.Joining.{pins_of, AreJoined}
-use Rattle.td_join.specs.Steps.{certificates_of, IsPlaced, IsJoinable}
+use Rattle.td_join.specs.Steps.{certificates_of, IsPlaced, AreInOrder, AreAllInside, IsJoinable}
 
 -- the certificates of a group
 abbrev pub members : Group → List Certificate
@@ -26,13 +26,17 @@ AreAllJoined admit (group ∷ groups) nodes =
     (front : List Node) × (tree : List Node) × AreAllJoined admit groups front × AreJoined admit group.cube (members group) tree × (nodes ≡ front ++ tree)
 
 -- What is known of a group of some certificates in these pins: where all can be joined, so can it; each certificate with a pair in its
--- cube is one of it; and its cube is a part of the pins.
+-- cube is one of it; its cube is a part of the pins, and its certificates' pins are parts of the cube; a cube that halvings leave
+-- in it without a certificate is one that they leave in the pins; and its parts come in order.
 pub record IsGroup (certificates : List Certificate) (admit : Admitted) (group : Group) : Type 0 where
   pub joinable : IsJoinable admit admit.pins certificates → IsJoinable admit group.cube (members group)
   pub all : (c : Certificate) (pair : Pair) → Contains certificates c → IsIn pair (pins_of c) → IsIn pair group.cube → Contains (members group) c
   pub inside : (pair : Pair) → IsIn pair group.cube → IsIn pair admit.pins
   pub fits : length group.cube ≡ length admit.pins
   pub placed : All (IsPlaced certificates) group.parts.items
+  pub left : (cube : List Trit) → IsLeftEmpty group.cube (members group) cube → IsLeftEmpty admit.pins certificates cube
+  pub in_order : AreInOrder group.parts.items
+  pub within : AreAllInside group.cube group.parts.items
 
 -- with these nodes of the tree, and these groups to come, the joining is under way
 pub record IsUnderWay (certificates : List Certificate) (admit : Admitted) (nodes : List Node) (groups : List Group) : Type 0 where

@@ -1,5 +1,6 @@
 -- Internal: how certificates are joined, group by group.
-use Rattle.std.specs.Prelude.{◌≡◌, ◌≢◌, ℕ, ◌*◌, true, List, [], ◌∷◌, Contains, filter, map, length, slice_get, Some}
+use Rattle.std.specs.Prelude.{◌≡◌, ◌≢◌, ℕ, ◌*◌, ◌<◌, true, List, [], ◌∷◌, All, Contains, filter, map, length, slice_get, Some}
+use Rattle.std.specs.List.{AllPairs}
 use Rattle.td_domain.specs.declared.cubes.Trit.{Trit}
 use Rattle.td_domain.specs.declared.cubes.Trit.TheVariants.{Free}
 use Rattle.td_domain.specs.Admits.{Admitted, HasAdmitted}
@@ -14,6 +15,7 @@ use Rattle.td_join.specs.declared.parts.Part.{Part}
 use Rattle.td_join.specs.declared.parts.Group.{Group}
 use Rattle.td_join.specs.declared.steps.Step.{Step}
 use Rattle.td_join.specs.declared.steps.Step.TheVariants as step
+use Rattle.td_join.specs.Faults.{IsInside}
 use Rattle.td_join.specs.Joining.{pins_of, has_none, is_zero, is_one, AreKnownAt, AreJoined}
 
 -- two pins for each input
@@ -29,6 +31,14 @@ certificates_of parts = map certificate_of parts
 -- the part's place is that of its certificate
 abbrev pub IsPlaced : List Certificate → Part → Type 0
 IsPlaced certificates p = slice_get certificates p.place ≡ Some p.certificate
+
+-- each part's place is below those of the parts behind it
+abbrev pub AreInOrder : List Part → Type 0
+AreInOrder parts = AllPairs (λ p q. p.place < q.place) parts
+
+-- the pins of each part are a part of the cube
+abbrev pub AreAllInside : List Trit → List Part → Type 0
+AreAllInside cube parts = All (λ p. IsInside cube (pins_of p.certificate)) parts
 
 abbrev pub zero_parts : ℕ → List Part → List Part
 zero_parts position parts = filter (λ p. is_zero (slice_get (pins_of p.certificate) position)) parts
@@ -73,16 +83,16 @@ pub record ShareAt (parts : List Part) (this that : ℕ) : Type 0 where
 -- two parts clash in the group
 abbrev pub IsClash : List Part → JoinFault → Type 0
 IsClash parts (fault.Overlap this that) = ShareAt parts this that
-IsClash parts (fault.Crossed this that) = IsPartAt parts this × IsPartAt parts that
+IsClash parts (fault.Crossed this that) = IsPartAt parts this × IsPartAt parts that × (this ≢ that)
 IsClash parts fault = ⊥
 
--- a group is joined at once, or halved
+-- a group is joined at once, or halved where it has a part
 abbrev pub IsStep : Admitted → List Trit → List Part → Step → Type 0
 IsStep admit cube parts (step.Leaf nodes) = AreJoined admit cube (certificates_of parts) nodes.items
 IsStep admit cube parts (step.Halves position low high) =
     (slice_get cube position ≡ Some Free) × AreKnownAt position (certificates_of parts)
     × (low.cube ≡ zero_side cube position) × (low.parts.items ≡ zero_parts position parts)
-    × (high.cube ≡ one_side cube position) × (high.parts.items ≡ one_parts position parts)
+    × (high.cube ≡ one_side cube position) × (high.parts.items ≡ one_parts position parts) × (parts ≢ [])
 
 -- why a group is neither
 abbrev pub IsStuck : Admitted → List Trit → List Part → JoinFault → Type 0

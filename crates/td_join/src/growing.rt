@@ -2,7 +2,7 @@
 
 ghost use Rattle.std.specs.Prelude.{IfOk, IfErr, All};
 ghost use Rattle.td_join.specs.Joining.{AreJoined};
-ghost use Rattle.td_join.specs.Steps.{certificates_of, IsPlaced};
+ghost use Rattle.td_join.specs.Steps.{certificates_of, IsPlaced, AreInOrder, AreAllInside};
 ghost use Rattle.td_join.specs.Stacks.{IsTreeFault};
 
 use crate::fault::JoinFault;
@@ -14,7 +14,9 @@ use td_domain::Admit;
 
 /// The nodes of the tree of some certificates, whose whole admits these pairs.
 pub fn joined_nodes(alloc: Global, admit: &Admit, parts: Vec<Part>) -> Result<Vec<Node>, JoinFault>
-    requires { All (IsPlaced (certificates_of parts.items)) parts.items }
+    requires placed { All (IsPlaced (certificates_of parts.items)) parts.items }
+    requires order { AreInOrder parts.items }
+    requires within { AreAllInside admit.now.pins parts.items }
     ensures tree { IfOk result (λ nodes. AreJoined admit.now admit.now.pins (certificates_of parts.items) nodes.items) }
     ensures fault { IfErr result (IsTreeFault admit.now (certificates_of parts.items)) }
 {

@@ -2,7 +2,7 @@
 
 ghost use Rattle.std.specs.Prelude.{◌≡◌, ◌≢◌, ◌<◌, length, false, IfOk, IfErr, OnOk, IsTrue, All, slice_get, Some};
 ghost use Rattle.td_domain.specs.declared.cubes.Trit.{Trit as TritModel};
-ghost use Rattle.td_join.specs.Faults.{IsOutside, IsOutsideAt, IsOutsideIn};
+ghost use Rattle.td_join.specs.Faults.{IsInside, IsOutside, IsOutsideAt, IsOutsideIn};
 ghost use Rattle.td_join.specs.Joining.{pins_of, widest, both, hull};
 
 use crate::fault::JoinFault;
@@ -52,7 +52,8 @@ pub fn hull(
 
 /// Whether a bit is pinned, and another trit isn't the same.
 fn is_pinned_otherwise(pinned: Trit, trit: Trit) -> bool
-    ensures { IsTrue result → (pinned ≢ TritModel.Free) × (trit ≢ pinned) }
+    ensures other { IsTrue result → (pinned ≢ TritModel.Free) × (trit ≢ pinned) }
+    ensures same { result ≡ false → pinned ≢ TritModel.Free → trit ≡ pinned }
 {
     match (pinned, trit) {
         (Trit::Zero, Trit::One | Trit::Free) | (Trit::One, Trit::Zero | Trit::Free) => true,
@@ -64,7 +65,7 @@ fn is_pinned_otherwise(pinned: Trit, trit: Trit) -> bool
 #[tactic(auto, using(crate::proofs::Widening::outside_by_length))]
 fn is_outside(cube: &Cube, pins: &Cube) -> bool
     ensures outside { IsTrue result → IsOutside pins.now cube.now }
-    ensures inside { result ≡ false → length cube.now ≡ length pins.now }
+    ensures inside { result ≡ false → IsInside pins.now cube.now }
 {
     if cube.len() != pins.len() {
         return true;
@@ -79,7 +80,7 @@ fn is_outside(cube: &Cube, pins: &Cube) -> bool
 
 /// Whether a certificate's pins are a part of these. The error says that they aren't.
 fn inside(certificate: &Certificate, place: usize, pins: &Cube) -> Result<(), JoinFault>
-    ensures ok { OnOk result (length (pins_of certificate.now) ≡ length pins.now) }
+    ensures ok { OnOk result (IsInside pins.now (pins_of certificate.now)) }
     ensures fault { IfErr result (IsOutsideAt certificate.now pins.now place) }
 {
     if is_outside(certificate.question.admit().pins(), pins) {
@@ -90,7 +91,7 @@ fn inside(certificate: &Certificate, place: usize, pins: &Cube) -> Result<(), Jo
 
 /// Whether the pins of all certificates are parts of these. The error says whose aren't.
 pub fn all_inside(certificates: &[Certificate], pins: &Cube) -> Result<(), JoinFault>
-    ensures ok { OnOk result (All (λ c. length (pins_of c) ≡ length pins.now) certificates.now) }
+    ensures ok { OnOk result (All (λ c. IsInside pins.now (pins_of c)) certificates.now) }
     ensures fault { IfErr result (IsOutsideIn certificates.now pins.now) }
 {
     for (place, certificate) in certificates.iter().enumerate() {

@@ -8,7 +8,7 @@ ghost use Rattle.td_certificate.specs.Accepts.{Accepts};
 ghost use Rattle.td_certificate.specs.Spelling.{HasSpelling};
 ghost use Rattle.td_certificate.specs.Trees.{IsTree};
 ghost use Rattle.td_join.specs.Joining.{pins_of, with_pins, IsAlike, IsJoined, hull};
-ghost use Rattle.td_join.specs.Faults.{IsJoinFault};
+ghost use Rattle.td_join.specs.Faults.{IsInside, IsJoinFault};
 ghost use Rattle.td_join.specs.Steps.{HasFit};
 ghost use Rattle.td_join.specs.Stacks.{IsOfQuestion};
 
@@ -48,6 +48,7 @@ fn join_alike(
     requires alike { All (IsOfQuestion gates question) certificates.items }
     requires trees { All (λ c. IsTree c.tree) certificates.items }
     requires fit { All HasFit certificates.items }
+    requires within { All (λ c. IsInside question.admit.pins (pins_of c)) certificates.items }
     ensures joined { IfOk result (IsJoined certificates.items question.admit.pins) }
     ensures accepted { IfOk result (λ whole. (netlist : Netlist) → All (Accepts netlist) certificates.items → Accepts netlist whole) }
     ensures spelled { IfOk result (λ whole. All HasSpelling certificates.items → HasSpelling whole) }

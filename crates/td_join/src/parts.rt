@@ -5,7 +5,7 @@ ghost use Rattle.std.specs.List.{list_all};
 ghost use Rattle.td_domain.specs.declared.cubes.Trit.TheVariants.{Free};
 ghost use Rattle.td_certificate.specs.Cubes.{zero_side, one_side};
 ghost use Rattle.td_join.specs.Joining.{pins_of, is_known, AreKnownAt};
-ghost use Rattle.td_join.specs.Steps.{certificates_of, IsPlaced, zero_parts, one_parts, IsUncut};
+ghost use Rattle.td_join.specs.Steps.{certificates_of, IsPlaced, AreInOrder, zero_parts, one_parts, IsUncut};
 
 use std::alloc::{AllocError, Global};
 use td_certificate::Certificate;
@@ -39,6 +39,7 @@ impl Part {
 pub fn numbered(alloc: Global, certificates: Vec<Certificate>) -> Result<Vec<Part>, AllocError>
     ensures all { IfOk result (λ parts. certificates_of parts.items ≡ certificates.items) }
     ensures placed { IfOk result (λ parts. All (IsPlaced certificates.items) parts.items) }
+    ensures order { IfOk result (λ parts. AreInOrder parts.items) }
 {
     let mut parts = Vec::with_capacity(alloc, certificates.len())?;
     for certificate in certificates {

@@ -1,10 +1,10 @@
 //! One step of a joining.
 
-ghost use Rattle.std.specs.Prelude.{◌≡◌, ◌↔◌, List, [], ◌∷◌, IfOk, IfErr, IsTrue, length};
+ghost use Rattle.std.specs.Prelude.{◌≡◌, ◌↔◌, ◌<◌, List, [], ◌∷◌, IfOk, IfErr, IsTrue, length};
 ghost use Rattle.td_domain.specs.Admits.{Admitted, HasAdmitted};
 ghost use Rattle.td_join.specs.declared.parts.Part.{Part as Numbered};
 ghost use Rattle.td_join.specs.Joining.{pins_of};
-ghost use Rattle.td_join.specs.Steps.{IsOwn, IsClash, IsStep, IsStuck};
+ghost use Rattle.td_join.specs.Steps.{AreInOrder, AreAllInside, IsOwn, IsClash, IsStep, IsStuck};
 
 use crate::fault::JoinFault;
 use crate::parts::{Group, Part, common_position, halves};
@@ -44,9 +44,11 @@ fn share(one: &Part, other: &Part) -> bool
     pins.len() == admit.pins().len() && admit.any(pins)
 }
 
-/// Two parts that clash, of some of which the first is this one.
+/// Two parts that clash, of two or more of which the first is this one.
 fn clash(first: &Part, parts: &[Part]) -> JoinFault
-    requires { (rest : List Numbered) × (parts.now ≡ first.now ∷ rest) }
+    requires first { (rest : List Numbered) × (parts.now ≡ first.now ∷ rest) }
+    requires two { 1 < length parts.now }
+    requires order { AreInOrder parts.now }
     ensures { IsClash parts.now result }
 {
     let mut last = first.place;
@@ -85,7 +87,9 @@ fn only_tree(alloc: Global, group: Group) -> Step
 ///
 /// The error is want of memory, or why the group can't be joined.
 pub fn step_of(alloc: Global, admit: &Admit, group: Group) -> Result<Step, JoinFault>
-    requires { length group.cube ≡ length admit.now.pins }
+    requires fit { length group.cube ≡ length admit.now.pins }
+    requires order { AreInOrder group.parts.items }
+    requires within { AreAllInside group.cube group.parts.items }
     ensures step { IfOk result (IsStep admit.now group.cube group.parts.items) }
     ensures fault { IfErr result (IsStuck admit.now group.cube group.parts.items) }
 {

@@ -9,6 +9,16 @@ use Rattle.td_join.proofs.Stacking.{top_known, leaf, halves, ended, tree_fault}
 use Rattle.td_join.proofs.Weights.{leaf_smaller, halves_smaller}
 use Rattle.td_join.proofs.growing.joined_nodes.Goals as goal
 
+pub step_of-requires-clause-order : goal.step_of-requires-clause-order
+step_of-requires-clause-order c =
+    let way = subst (λ (gs : List Group). IsUnderWay (certificates_of c.args.parts.items) c.args.admit.now c.loop-group.nodes.items gs) c.in-Some.ensures.items c.loop-group.invariant in
+    (top_known (certificates_of c.args.parts.items) c.args.admit.now c.loop-group.nodes.items c.pop.new.self.items c.in-Some.group way).in_order
+
+pub step_of-requires-clause-within : goal.step_of-requires-clause-within
+step_of-requires-clause-within c =
+    let way = subst (λ (gs : List Group). IsUnderWay (certificates_of c.args.parts.items) c.args.admit.now c.loop-group.nodes.items gs) c.in-Some.ensures.items c.loop-group.invariant in
+    (top_known (certificates_of c.args.parts.items) c.args.admit.now c.loop-group.nodes.items c.pop.new.self.items c.in-Some.group way).within
+
 pub returns-in_err-tree-clause-fault : goal.returns-in_err-tree-clause-fault
 returns-in_err-tree-clause-fault c =
     let way = subst (λ (gs : List Group). IsUnderWay (certificates_of c.args.parts.items) c.args.admit.now c.loop-group.nodes.items gs) c.in-Some.ensures.items c.loop-group.invariant in
@@ -42,7 +52,7 @@ loop-group-preserved c =
     (subst (λ (gs : List Group). IsUnderWay (certificates_of c.args.parts.items) c.args.admit.now (c.loop-group.nodes.items ++ node.Split c.in-Halves.position ∷ []) gs)
     (ap (λ (gs : List Group). gs ++ c.in-Halves.low ∷ []) (sym c.in_ok-push-in-Halves-2.ensures.items) ∙ sym c.in_ok-push-in-Halves-3.ensures.items)
     (halves (certificates_of c.args.parts.items) c.args.admit.now c.loop-group.nodes.items c.pop.new.self.items c.in-Some.group c.in-Halves.low c.in-Halves.high
-    c.in-Halves.position way step.0 step.1 step.2 step.3 step.4 step.5))
+    c.in-Halves.position way step.6 step.0 step.1 step.2 step.3 step.4 step.5))
 
 pub returns-clause-tree : goal.returns-clause-tree
 returns-clause-tree c =

@@ -1,17 +1,25 @@
-use Rattle.std.proofs.Common.{◌≡◌, ◌<◌, ◌≤◌, ◌*◌, false, List, Some, length, refl, subst}
+use Rattle.std.proofs.Common.{◌≡◌, ◌<◌, ◌≤◌, ◌*◌, false, List, Some, length, refl, sym, subst}
 use Rattle.std.specs.Prelude.{slice_get, All}
 use Rattle.std.proofs.lemmas.Option.{slice_get_read}
 use Rattle.std.proofs.lemmas.Result.{err_from_is_err_and}
 use Rattle.td_domain.specs.Admits.{Admitted}
 use Rattle.td_certificate.specs.declared.certificate.Certificate.{Certificate}
-use Rattle.td_join.specs.Joining.{AreJoined}
+use Rattle.td_join.specs.Faults.{IsInside}
+use Rattle.td_join.specs.Joining.{pins_of, AreJoined}
 use Rattle.td_join.specs.Stacks.{IsTreeFault}
 use Rattle.td_join.proofs.Acceptance.{joined_is_tree, accepted_together}
 use Rattle.td_join.specs.Joining.{has_none}
 use Rattle.td_join.specs.Steps.{certificates_of, IsFalseNoneIn}
 use Rattle.td_join.proofs.Spelled.{spelled_together}
+use Rattle.td_join.proofs.Within.{are_within}
 use Rattle.td_join.proofs.Wholes.{is_joined, told, false_none}
 use Rattle.td_join.proofs.joining.join_alike.Goals as goal
+
+pub joined_nodes-requires-clause-within : goal.joined_nodes-requires-clause-within
+joined_nodes-requires-clause-within c =
+    are_within c.admit-admit.result.now.pins c.in_ok-parts.parts.items
+    (subst (λ (a : Admitted). All (λ d. IsInside a.pins (pins_of d)) (certificates_of c.in_ok-parts.parts.items)) (sym c.admit-admit.ensures)
+    (subst (λ (cs : List Certificate). All (λ d. IsInside c.args.question.admit.pins (pins_of d)) cs) (sym c.in_ok-parts.ensures.all) c.requires.within))
 
 pub from_nodes-requires : goal.from_nodes-requires
 from_nodes-requires c =
