@@ -1,5 +1,11 @@
 //! Sheets: how many gates a narrowing reaches, and what is taken back.
 
+ghost use Rattle.std.specs.Prelude.{◌≡◌, Some, slice_get};
+ghost use Rattle.td_arrival.specs.Arrivals.{arrival_functions};
+ghost use Rattle.td_arrival.specs.Coverage.{span_reach};
+ghost use Rattle.td_domain.specs.declared.cubes.Trit.TheVariants.{Free};
+ghost use Rattle.td_domain.specs.Sheets.{IsSheet};
+
 use std::alloc::Global;
 use std::process::Abort;
 use std::test::*;
@@ -54,49 +60,64 @@ nand (N23,N16,N19);
 endmodule
 ";
 
-/// Those behind the input: behind N1 N10 and N22, behind N2 N16, N22 and N23, and so on; and of the gate with a slow arm that arm and itself, or
-/// itself alone.
+/// Looks at how many gates such narrowings reach.
+fn check_reached<D: Domain>(
+    rt: &impl Abort,
+    alloc: Global,
+    circuit: &Circuit,
+    wanted: &str,
+) -> Result<(), Fail> {
+    assert_eq!(rt; redone_each::<D>(rt, alloc, circuit)?.as_str(), wanted);
+    Ok(())
+}
+
+/// Those behind the input: behind N1 N10 and N22, behind N2 N16, N22 and N23, and so on.
 #[test]
 fn gates_reached(rt: HostRuntime) -> Result<(), Fail> {
     let alloc = rt.alloc();
     let six = circuit_of(alloc, C17).ok_or("a circuit")?;
-    assert_eq!(rt;
-        redone_each::<Arrival>(&rt, alloc, &six)?.as_str(),
-        "22 33 66 55 22 "
-    );
-    assert_eq!(rt;
-        redone_each::<Possible>(&rt, alloc, &six)?.as_str(),
-        "22 33 66 55 22 "
-    );
-    assert_eq!(rt;
-        redone_each::<Edges>(&rt, alloc, &six)?.as_str(),
-        "22 33 66 55 22 "
-    );
-    let slow = module(alloc, "a, b", "y", "buf #4 (t,a); or #1 (y,b,t);")?;
-    let slow = circuit_of(alloc, &slow).ok_or("a circuit")?;
-    assert_eq!(rt;
-        redone_each::<Arrival>(&rt, alloc, &slow)?.as_str(),
-        "22 11 "
-    );
-    Ok(())
+    check_reached::<Arrival>(&rt, alloc, &six, "22 33 66 55 22 ")?;
+    check_reached::<Possible>(&rt, alloc, &six, "22 33 66 55 22 ")?;
+    check_reached::<Edges>(&rt, alloc, &six, "22 33 66 55 22 ")
 }
 
-/// A narrowing that was refused leaves the sheet as it was, and one that wasn't is taken back: an inverter falls later than it rises, so
-/// that its bound is less where its input ends at 0.
+/// Of a gate with a slow arm that arm and itself, or itself alone.
 #[test]
-fn taken_back(rt: HostRuntime) -> Result<(), Fail> {
+fn gates_reached_by_a_slow_arm(rt: HostRuntime) -> Result<(), Fail> {
     let alloc = rt.alloc();
+    let slow = module(alloc, "a, b", "y", "buf #4 (t,a); or #1 (y,b,t);")?;
+    let slow = circuit_of(alloc, &slow).ok_or("a circuit")?;
+    check_reached::<Arrival>(&rt, alloc, &slow, "22 11 ")
+}
+
+/// An inverter that falls later than it rises, so that its bound is less where its input ends at 0.
+fn inverter(alloc: Global) -> Result<Circuit, Fail> {
     let inverter = module(alloc, "a", "y", "not #(2,3) (y,a);")?;
-    let circuit = circuit_of(alloc, &inverter).ok_or("a circuit")?;
-    let free = Cube::free(alloc, circuit.input_count())?;
-    let mut sheet = Sheet::<Arrival>::new(alloc, &circuit, &free)?;
+    Ok(circuit_of(alloc, &inverter).ok_or("a circuit")?)
+}
+
+/// Narrows an inverter's sheet of the free cube, and takes that back.
+fn check_back(rt: &impl Abort, circuit: &Circuit, sheet: &mut Sheet<Arrival>)
+    requires sheet { IsSheet arrival_functions (λ signal. span_reach signal.changes) circuit.now sheet.old }
+    requires free { slice_get sheet.old.cube 1 ≡ Some Free }
+{
     assert_eq!(rt; sheet.bound(), Some(3));
-    assert!(rt; 1 < free.len());
-    let narrowed = sheet.narrow(&circuit, 1, false).is_ok();
+    let narrowed = sheet.narrow(circuit, 1, false).is_ok();
     assert_eq!(rt; sheet.bound(), Some(if narrowed { 2 } else { 3 }));
     assert_eq!(rt; sheet.widen(), narrowed);
     assert_eq!(rt; sheet.bound(), Some(3));
     assert_eq!(rt; sheet.cube().least_free(), Some(0));
     assert!(rt; !sheet.widen());
+}
+
+/// A narrowing that was refused leaves the sheet as it was, and one that wasn't is taken back.
+#[test]
+fn taken_back(rt: HostRuntime) -> Result<(), Fail> {
+    let alloc = rt.alloc();
+    let circuit = inverter(alloc)?;
+    let free = Cube::free(alloc, circuit.input_count())?;
+    assert!(rt; 1 < free.len());
+    let mut sheet = Sheet::<Arrival>::new(alloc, &circuit, &free)?;
+    check_back(&rt, &circuit, &mut sheet);
     Ok(())
 }

@@ -9,7 +9,7 @@ ghost use Rattle.td_search.specs.Sheeted.{IsScratch};
 ghost use Rattle.td_join.specs.Partition.{IsPartition};
 ghost use Rattle.td_parts.specs.Queues.{AreBelow};
 ghost use Rattle.td_parts.specs.Splits.{IsSplitFree, cubes_of as cubes};
-ghost use Rattle.td_parts.specs.Sharing.{IsCutting, IsFreeIn, weight};
+ghost use Rattle.td_parts.specs.Sharing.{AreShares, IsCutting, IsFreeIn, weight};
 
 use crate::part::{Part, cubes_of};
 use crate::queue::Queue;
@@ -186,6 +186,27 @@ impl Cutting {
     }
 }
 
+/// As `cut`, where an admitted pair lies in the pins.
+fn cut_pins(
+    alloc: Global,
+    scratch: &mut Scratch,
+    circuit: &Circuit,
+    admit: &Admit,
+    strategy: Strategy,
+    parts: usize,
+) -> Result<Vec<Cube>, AllocError>
+    requires scratch { IsScratch circuit.now scratch.old }
+    requires held { length admit.now.held ≡ length circuit.now.netlist.inputs }
+    requires any { HasAdmitted admit.now admit.now.pins }
+    ensures shares { IfOk result (λ cubes. AreShares admit.now cubes.items) }
+    ensures few { IfOk result (λ cubes. length cubes.items ≤ max 1 parts) }
+{
+    let mut cutting = Cutting::begin(alloc, scratch, circuit, admit, strategy)?;
+    cutting.halve_until(alloc, scratch, circuit, admit, strategy, parts)?;
+    let cubes = cubes_of(alloc, cutting.parts)?;
+    Ok(cubes)
+}
+
 /// Cuts the pins of a question into at most so many cubes (0 counts as 1), to be searched apart. The part whose strongest bound is
 /// greatest is halved, the first of several, at the position at which a search by the strategy would split it, until there are that many
 /// or a search would split no part. A cube without an admitted pair is left out, so that there is none at all where no pair is admitted.
@@ -211,8 +232,6 @@ pub fn cut(
         return Ok(Vec::new(alloc));
     }
     let mut scratch = Scratch::new(alloc, circuit, pins)?;
-    let mut cutting = Cutting::begin(alloc, &mut scratch, circuit, admit, strategy)?;
-    cutting.halve_until(alloc, &mut scratch, circuit, admit, strategy, parts)?;
-    let cubes = cubes_of(alloc, cutting.parts)?;
+    let cubes = cut_pins(alloc, &mut scratch, circuit, admit, strategy, parts)?;
     Ok(cubes)
 }

@@ -1,32 +1,14 @@
-use Rattle.std.proofs.Common.{◌∙◌, ◌≤◌, ℕ, List, length, max, sym, ap, subst}
-use Rattle.std.proofs.lemmas.List.{length-map}
-use Rattle.td_domain.specs.declared.cubes.Trit.{Trit}
-use Rattle.td_parts.specs.Splits.{cube_of}
-use Rattle.td_parts.specs.Sharing.{AreShares}
 use Rattle.td_parts.proofs.Steps.{some_each, inside_each, fits_each}
 use Rattle.td_parts.proofs.cutting.cut.Goals as goal
 
 pub returns-clause-partition : goal.returns-clause-partition
-returns-clause-partition c =
-    (subst (λ (cubes : List (List Trit)). AreShares c.args.admit.now cubes) (sym c.in_ok-cubes.ensures) c.in_ok-halve_until.ensures.cutting.shares).partition
+returns-clause-partition c = c.in_ok-cubes.ensures.shares.partition
 
 pub returns-clause-some : goal.returns-clause-some
-returns-clause-some c =
-    some_each c.args.admit.now c.in_ok-cubes.cubes.items
-    (subst (λ (cubes : List (List Trit)). AreShares c.args.admit.now cubes) (sym c.in_ok-cubes.ensures) c.in_ok-halve_until.ensures.cutting.shares)
+returns-clause-some c = some_each c.args.admit.now c.in_ok-cubes.cubes.items c.in_ok-cubes.ensures.shares
 
 pub returns-clause-inside : goal.returns-clause-inside
-returns-clause-inside c =
-    inside_each c.args.admit.now c.in_ok-cubes.cubes.items
-    (subst (λ (cubes : List (List Trit)). AreShares c.args.admit.now cubes) (sym c.in_ok-cubes.ensures) c.in_ok-halve_until.ensures.cutting.shares)
+returns-clause-inside c = inside_each c.args.admit.now c.in_ok-cubes.cubes.items c.in_ok-cubes.ensures.shares
 
 pub returns-clause-fits : goal.returns-clause-fits
-returns-clause-fits c =
-    fits_each c.args.admit.now c.in_ok-cubes.cubes.items
-    (subst (λ (cubes : List (List Trit)). AreShares c.args.admit.now cubes) (sym c.in_ok-cubes.ensures) c.in_ok-halve_until.ensures.cutting.shares)
-
-pub returns-clause-few : goal.returns-clause-few
-returns-clause-few c =
-    subst (λ (n : ℕ). n ≤ max 1 c.args.parts)
-    (sym (ap (λ (cubes : List (List Trit)). length cubes) c.in_ok-cubes.ensures ∙ length-map c.halve_until.new.self.parts.items cube_of))
-    c.in_ok-halve_until.ensures.few
+returns-clause-fits c = fits_each c.args.admit.now c.in_ok-cubes.cubes.items c.in_ok-cubes.ensures.shares

@@ -1,0 +1,16 @@
+use Rattle.std.proofs.Common.{◌∙◌, ◌≤◌, ℕ, List, length, max, sym, ap, subst}
+use Rattle.std.proofs.lemmas.List.{length-map}
+use Rattle.td_domain.specs.declared.cubes.Trit.{Trit}
+use Rattle.td_parts.specs.Splits.{cube_of}
+use Rattle.td_parts.specs.Sharing.{AreShares}
+use Rattle.td_parts.proofs.cutting.cut_pins.Goals as goal
+
+pub returns-clause-shares : goal.returns-clause-shares
+returns-clause-shares c =
+    subst (λ (cubes : List (List Trit)). AreShares c.args.admit.now cubes) (sym c.in_ok-cubes.ensures) c.in_ok-halve_until.ensures.cutting.shares
+
+pub returns-clause-few : goal.returns-clause-few
+returns-clause-few c =
+    subst (λ (n : ℕ). n ≤ max 1 c.args.parts)
+    (sym (ap (λ (cubes : List (List Trit)). length cubes) c.in_ok-cubes.ensures ∙ length-map c.halve_until.new.self.parts.items cube_of))
+    c.in_ok-halve_until.ensures.few
