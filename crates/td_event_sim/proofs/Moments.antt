@@ -1,5 +1,5 @@
 -- One moment of the simulator is one moment of each net of the run.
-use Rattle.std.proofs.Common.{◌≡◌, ◌≢◌, ℕ, zero, suc, ◌+◌, ◌-◌, ◌<◌, ◌≤◌, Bool, true, List, [], ◌∷◌, length, map, get_or, refl, arith, ◌⊎◌, inl, inr, sym, ap, subst, ◌∙◌, Option, Some, None}
+use Rattle.std.proofs.Common.{◌≡◌, ◌≢◌, ℕ, zero, suc, ◌+◌, ◌-◌, ◌<◌, ◌≤◌, Bool, true, false, List, [], ◌∷◌, length, map, get_or, refl, arith, ◌⊎◌, inl, inr, sym, ap, subst, ◌∙◌, Option, Some, None}
 use Rattle.std.specs.Prelude.{slice_get, not, ◌^◌}
 use Rattle.std.specs.List.{All, Contains}
 use Rattle.std.proofs.lemmas.Bool.{cases_lt, cases_Bool}
@@ -8,7 +8,7 @@ use Rattle.td_gates.specs.declared.primitives.Level.{Level}
 use Rattle.td_gates.specs.declared.primitives.Level.TheVariants.{X}
 use Rattle.td_gates.specs.declared.timing.Delay.{Delay}
 use Rattle.td_gates.specs.declared.timing.Change.{Change}
-use Rattle.td_gates.specs.Table.{table, level_eq, level_from}
+use Rattle.td_gates.specs.Table.{table, level_eq, level_from, TakesInputs}
 use Rattle.td_gates.specs.Wave.{Wave, at, before}
 use Rattle.td_gates.specs.Schedule.{GateState, updated, evaluated, step, target_at, target_before}
 use Rattle.td_gates.proofs.Levels.{level_eq-same, level_eq-other}
@@ -47,15 +47,25 @@ gate-level waves gate t =
     ap (λ (s : GateState). s.level) (gate-step waves gate t)
     ∙ evaluated-level gate.delay t (target_now waves gate t) (gate_updated waves gate t)
 
--- the levels at a moment, by the numbers of the nets, are those that the waves have at it
-levels-now : (waves : List Wave) (levels : List Level) (t : ℕ) (numbers : List ℕ)
-    → ((net : ℕ) → Contains numbers net → get_or levels net X ≡ at (wave_at waves net) t)
-    → levels_of levels numbers ≡ map (λ (wave : Wave). at wave t) (waves_of waves numbers)
-levels-now waves levels t [] each = refl
-levels-now waves levels t (net ∷ numbers) each =
+-- the levels of nets by their numbers, where each is what its wave shows
+levels-shown : (show : Wave → Level) (waves : List Wave) (levels : List Level) (numbers : List ℕ)
+    → ((net : ℕ) → Contains numbers net → get_or levels net X ≡ show (wave_at waves net))
+    → levels_of levels numbers ≡ map show (waves_of waves numbers)
+levels-shown show waves levels [] each = refl
+levels-shown show waves levels (net ∷ numbers) each =
     ap (λ (l : Level). l ∷ levels_of levels numbers) (each net (0, omega arith, refl))
-    ∙ ap (λ (ls : List Level). at (wave_at waves net) t ∷ ls)
-    (levels-now waves levels t numbers (λ other found. each other (suc found.0, omega (arith, found.1), found.2)))
+    ∙ ap (λ (ls : List Level). show (wave_at waves net) ∷ ls)
+    (levels-shown show waves levels numbers (λ other found. each other (suc found.0, omega (arith, found.1), found.2)))
+
+-- the target by bits that are the levels which the waves show
+target-shown : (show : Wave → Level) (waves : List Wave) (gate : NumberedGate) (levels : List Bool) → TakesInputs gate.kind (length gate.inputs)
+    → All (λ net. net < length levels) gate.inputs → ((net : ℕ) → net < length levels → level_from (bit_at levels net) ≡ show (wave_at waves net))
+    → level_from (target_of gate.kind levels gate.inputs) ≡ table gate.kind (map show (waves_of waves gate.inputs))
+target-shown show waves gate levels takes lower each =
+    sym (target-is gate.kind levels gate.inputs takes lower)
+    ∙ ap (table gate.kind) (levels-shown show waves (map level_from levels) gate.inputs
+    (λ net found. let inside : net < length levels = All-contains (λ k. k < length levels) gate.inputs net lower found in
+    level-at levels net inside ∙ each net inside))
 
 -- where no input changes, the target stays
 same-levels : (waves : List Wave) (t : ℕ) (numbers : List ℕ) → ((net : ℕ) → Contains numbers net → at (wave_at waves net) t ≡ before (wave_at waves net) t)
@@ -66,31 +76,26 @@ same-levels waves t (net ∷ numbers) each =
     ∙ ap (λ (ls : List Level). before (wave_at waves net) t ∷ ls)
     (same-levels waves t numbers (λ other found. each other (suc found.0, omega (arith, found.1), found.2)))
 
-abbrev NoInputChanges : List Wave → NumberedGate → ℕ → Type 0
-NoInputChanges waves gate t = (net : ℕ) → Contains gate.inputs net → at (wave_at waves net) t ≡ before (wave_at waves net) t
+-- the target of a gate stays at a moment
+abbrev TargetStays : List Wave → NumberedGate → ℕ → Type 0
+TargetStays waves gate t = target_now waves gate t ≡ target_before gate.kind (waves_of waves gate.inputs) t
 
-quiet-steady : (waves : List Wave) (gate : NumberedGate) (t : ℕ) → NoInputChanges waves gate t
-    → IsSteady (target_now waves gate t) (gate_before waves gate t)
-quiet-steady waves gate t each =
-    let quiet : target_now waves gate t ≡ target_before gate.kind (waves_of waves gate.inputs) t =
-    ap (table gate.kind) (same-levels waves t gate.inputs each) in
-    rw quiet (history-steady gate.kind gate.delay (waves_of waves gate.inputs) t)
+no-input-changes : (waves : List Wave) (gate : NumberedGate) (t : ℕ) → ((net : ℕ) → Contains gate.inputs net → at (wave_at waves net) t ≡ before (wave_at waves net) t)
+    → TargetStays waves gate t
+no-input-changes waves gate t each = ap (table gate.kind) (same-levels waves t gate.inputs each)
 
--- where no input of a gate changes, its state is that after the due event
-quiet-gate : (waves : List Wave) (gate : NumberedGate) (t : ℕ) → NoInputChanges waves gate t
-    → gate_before waves gate (suc t) ≡ gate_updated waves gate t
-quiet-gate waves gate t each =
+quiet-steady : (waves : List Wave) (gate : NumberedGate) (t : ℕ) → TargetStays waves gate t → IsSteady (target_now waves gate t) (gate_before waves gate t)
+quiet-steady waves gate t stays = rw stays (history-steady gate.kind gate.delay (waves_of waves gate.inputs) t)
+
+-- where the target of a gate stays, its state is that after the due event
+quiet-gate : (waves : List Wave) (gate : NumberedGate) (t : ℕ) → TargetStays waves gate t → gate_before waves gate (suc t) ≡ gate_updated waves gate t
+quiet-gate waves gate t stays =
     gate-step waves gate t
-    ∙ step-same gate.delay t (target_now waves gate t) (gate_before waves gate t).level (gate_before waves gate t).scheduled (quiet-steady waves gate t each)
+    ∙ step-same gate.delay t (target_now waves gate t) (gate_before waves gate t).level (gate_before waves gate t).scheduled (quiet-steady waves gate t stays)
 
 -- the state of a net at a moment before its gate is evaluated
 abbrev pub net_updated : (ℕ → ℕ → GateState) → ℕ → ℕ → GateState
 net_updated states net t = updated t (states net t).level (states net t).scheduled
-
--- the readers of each net are told
-abbrev pub AreReaders : ℕ → List NumberedGate → List (List ℕ) → Type 0
-AreReaders first_output gates readers = (place : ℕ) (gate : NumberedGate) (net : ℕ) → slice_get gates place ≡ Some gate → Contains gate.inputs net
-    → Contains (get_or readers net []) (first_output + place)
 
 pub latest-stays : (wave : Wave) (t : ℕ) → at wave t ≡ before wave t → latest_before wave (suc t) ≡ latest_before wave t
 latest-stays wave t same = (let e : level_eq (at wave t) (before wave t) ≡ true = rw same (level_eq-same (before wave t)) in rw e refl)
@@ -98,19 +103,26 @@ latest-stays wave t same = (let e : level_eq (at wave t) (before wave t) ≡ tru
 latest-moves : (wave : Wave) (t : ℕ) → at wave t ≢ before wave t → latest_before wave (suc t) ≡ t
 latest-moves wave t apart = rw (level_eq-other (at wave t) (before wave t) apart) refl
 
--- the levels at a moment, and the events after those that are due took place
-pub record IsMiddle (circuit : Numbered) (waves : List Wave) (states : ℕ → ℕ → GateState) (t : ℕ) (changed : List ℕ) (levels : List Bool) (whens : List ℕ) : Type 0 where
+-- two bits that aren't different are the same
+not-apart : (this that : Bool) → (this ≢ that → ⊥) → this ≡ that
+not-apart true true same = refl
+not-apart true false same = absurd (same (λ e. cc))
+not-apart false true same = absurd (same (λ e. cc))
+not-apart false false same = refl
+
+-- the levels before a moment and at it, and the events after those that are due took place
+pub record IsMiddle (circuit : Numbered) (waves : List Wave) (states : ℕ → ℕ → GateState) (t : ℕ) (former levels : List Bool) (whens : List ℕ) : Type 0 where
+  pub same_former : length former ≡ length (nets circuit)
   pub same_levels : length levels ≡ length (nets circuit)
   pub same_whens : length whens ≡ length (nets circuit)
   pub levels_are : (net : ℕ) → net < length (nets circuit) → level_from (bit_at levels net) ≡ at (wave_at waves net) t
   pub events_are : (net : ℕ) → net < length (nets circuit) → event_of (bit_at levels net) (get_or whens net 0) ≡ (net_updated states net t).scheduled
-  pub told : (net : ℕ) → net < length (nets circuit) → Contains changed net ⊎ (at (wave_at waves net) t ≡ before (wave_at waves net) t)
+  pub former_are : (net : ℕ) → net < length (nets circuit) → level_from (bit_at former net) ≡ before (wave_at waves net) t
 
 -- what became of one net at a moment
-record IsNetDone (waves : List Wave) (states : ℕ → ℕ → GateState) (t net : ℕ) (changed : List ℕ) (new_level : Bool) (new_when latest new_latest : ℕ) : Type 0 where
+record IsNetDone (waves : List Wave) (states : ℕ → ℕ → GateState) (t net : ℕ) (new_level : Bool) (new_when latest new_latest : ℕ) : Type 0 where
   level_is : level_from new_level ≡ (net_updated states net t).level
   event_is : event_of new_level new_when ≡ (net_updated states net t).scheduled
-  told : Contains changed net ⊎ (at (wave_at waves net) t ≡ before (wave_at waves net) t)
   latest_is : latest ≡ latest_before (wave_at waves net) t → new_latest ≡ latest_before (wave_at waves net) (suc t)
 
 module _ (circuit : Numbered) (waves : List Wave) (states : ℕ → ℕ → GateState) (run : IsRunBy circuit waves states) where
@@ -139,12 +151,11 @@ module _ (circuit : Numbered) (waves : List Wave) (states : ℕ → ℕ → Gate
   ]
 
   -- after the evaluations the event of a gate is the one before the next moment
-  next-gate : (t : ℕ) (readers : List (List ℕ)) (changed : List ℕ) (levels : List Bool) (whens new_whens : List ℕ)
-      → AreReaders (first_output circuit) circuit.gates readers → IsMiddle circuit waves states t changed levels whens
-      → AreEvaluated circuit.gates (first_output circuit) t readers changed levels whens new_whens
+  next-gate : (t : ℕ) (former levels : List Bool) (whens new_whens : List ℕ) → IsMiddle circuit waves states t former levels whens
+      → AreEvaluated circuit.gates (first_output circuit) t former levels whens new_whens
       → (place : ℕ) (gate : NumberedGate) → slice_get circuit.gates place ≡ Some gate
       → event_of (bit_at levels (first_output circuit + place)) (get_or new_whens (first_output circuit + place) 0) ≡ (gate_before waves gate (suc t)).scheduled
-  next-gate t readers changed levels whens new_whens all_readers middle evaluated_all place gate at_place =
+  next-gate t former levels whens new_whens middle evaluated_all place gate at_place =
       let net : ℕ = first_output circuit + place in
       let level : Bool = bit_at levels net in
       let when : ℕ = get_or whens net 0 in
@@ -153,10 +164,11 @@ module _ (circuit : Numbered) (waves : List Wave) (states : ℕ → ℕ → Gate
       let lower : All (λ n. n < length (nets circuit)) gate.inputs = run.lower place gate at_place in
       let bit : Bool = target_of gate.kind levels gate.inputs in
       let target : level_from bit ≡ target_now waves gate t =
-      sym (target-is gate.kind levels gate.inputs (run.takes place gate at_place) (rw middle.same_levels lower))
-      ∙ ap (table gate.kind) (levels-now waves (map level_from levels) t gate.inputs
-      (λ n found. let below : n < length (nets circuit) = All-contains (λ k. k < length (nets circuit)) gate.inputs n lower found in
-      level-at levels n (omega (arith, middle.same_levels)) ∙ middle.levels_are n below)) in
+      target-shown (λ (wave : Wave). at wave t) waves gate levels (run.takes place gate at_place) (rw middle.same_levels lower)
+      (λ n h. middle.levels_are n (omega (arith, middle.same_levels))) in
+      let target_was : level_from (target_of gate.kind former gate.inputs) ≡ target_before gate.kind (waves_of waves gate.inputs) t =
+      target-shown (λ (wave : Wave). before wave t) waves gate former (run.takes place gate at_place) (rw middle.same_former lower)
+      (λ n h. middle.former_are n (omega (arith, middle.same_former))) in
       let gate_is : states net t ≡ gate_before waves gate t = run.gates place gate at_place t in
       let level_is : level_from level ≡ (gate_updated waves gate t).level =
       middle.levels_are net below_nets ∙ net-level net t below_nets ∙ ap (λ (s : GateState). (updated t s.level s.scheduled).level) gate_is in
@@ -165,8 +177,8 @@ module _ (circuit : Numbered) (waves : List Wave) (states : ℕ → ℕ → Gate
       let after : (gate_before waves gate (suc t)).scheduled
       ≡ event_after gate.delay t (target_now waves gate t) (gate_updated waves gate t).level (gate_updated waves gate t).scheduled =
       ap (λ (s : GateState). s.scheduled) (gate-step waves gate t) in
-      let late : 2 ^ 63 ≤ t → NoInputChanges waves gate t =
-      λ past n found. run.late n t (All-contains (λ k. k < length (nets circuit)) gate.inputs n lower found) past in
+      let late : 2 ^ 63 ≤ t → TargetStays waves gate t =
+      λ past. no-input-changes waves gate t (λ n found. run.late n t (All-contains (λ k. k < length (nets circuit)) gate.inputs n lower found) past) in
       let here : first_output circuit + place - first_output circuit ≡ place = omega arith in
       let gate_found : gate_of_net circuit.gates (first_output circuit) net ≡ Some gate =
       gate-above circuit.gates (first_output circuit) net (omega arith) ∙ ap (λ (k : ℕ). slice_get circuit.gates k) here ∙ at_place in
@@ -188,34 +200,31 @@ module _ (circuit : Numbered) (waves : List Wave) (states : ℕ → ℕ → Gate
                   steady-bits gate.delay t bit level when by_bits ∙ event_is ∙ sym (ap (λ (s : GateState). s.scheduled) (quiet-gate waves gate t (late past)))
             ]
         | inr old ↦
+            let same : target_of gate.kind former gate.inputs ≡ bit = not-apart (target_of gate.kind former gate.inputs) bit (λ apart. old.1 (gate, gate_found, apart)) in
             let stays : gate_before waves gate (suc t) ≡ gate_updated waves gate t =
-            quiet-gate waves gate t (λ n found. elim (middle.told n (All-contains (λ k. k < length (nets circuit)) gate.inputs n lower found)) [
-              | inl told ↦ absurd (old.1 (n, told, all_readers place gate n at_place found))
-              | inr same ↦ same
-            ]) in
+            quiet-gate waves gate t (sym target ∙ ap level_from (sym same) ∙ target_was) in
             ap (event_of level) old.0 ∙ event_is ∙ sym (ap (λ (s : GateState). s.scheduled) stays)
       ]
 
   -- a constant and an input aren't evaluated
-  low-when : (t : ℕ) (readers : List (List ℕ)) (changed : List ℕ) (levels : List Bool) (whens new_whens : List ℕ)
-      → AreEvaluated circuit.gates (first_output circuit) t readers changed levels whens new_whens
+  low-when : (t : ℕ) (former levels : List Bool) (whens new_whens : List ℕ)
+      → AreEvaluated circuit.gates (first_output circuit) t former levels whens new_whens
       → (net : ℕ) → net < first_output circuit → net < length whens → get_or new_whens net 0 ≡ get_or whens net 0
-  low-when t readers changed levels whens new_whens evaluated_all net low inside = elim (evaluated_all.each_net net inside) [
+  low-when t former levels whens new_whens evaluated_all net low inside = elim (evaluated_all.each_net net inside) [
     | inl done ↦ done ∙ ap (λ (g : Option NumberedGate). evaluation t levels g (bit_at levels net) (get_or whens net 0)) (gate-below circuit.gates (first_output circuit) net low)
     | inr old ↦ old.0
   ]
 
   -- after the evaluations the events are those before the next moment
-  next-events : (t : ℕ) (readers : List (List ℕ)) (changed : List ℕ) (levels : List Bool) (whens new_whens : List ℕ)
-      → AreReaders (first_output circuit) circuit.gates readers → IsMiddle circuit waves states t changed levels whens
-      → AreEvaluated circuit.gates (first_output circuit) t readers changed levels whens new_whens
+  next-events : (t : ℕ) (former levels : List Bool) (whens new_whens : List ℕ) → IsMiddle circuit waves states t former levels whens
+      → AreEvaluated circuit.gates (first_output circuit) t former levels whens new_whens
       → (net : ℕ) → net < length (nets circuit) → event_of (bit_at levels net) (get_or new_whens net 0) ≡ (states net (suc t)).scheduled
-  next-events t readers changed levels whens new_whens all_readers middle evaluated_all net h = elim (net-cases net h) [
+  next-events t former levels whens new_whens middle evaluated_all net h = elim (net-cases net h) [
     | inl low ↦
-        ap (event_of (bit_at levels net)) (low-when t readers changed levels whens new_whens evaluated_all net low (omega (arith, middle.same_whens)))
+        ap (event_of (bit_at levels net)) (low-when t former levels whens new_whens evaluated_all net low (omega (arith, middle.same_whens)))
         ∙ middle.events_are net h ∙ ap (λ (s : GateState). s.scheduled) (sym (run.low net t low))
     | inr found ↦ subst (λ (n : ℕ). event_of (bit_at levels n) (get_or new_whens n 0) ≡ (states n (suc t)).scheduled) (sym found.3)
-        (next-gate t readers changed levels whens new_whens all_readers middle evaluated_all found.0 found.1 found.2
+        (next-gate t former levels whens new_whens middle evaluated_all found.0 found.1 found.2
         ∙ ap (λ (s : GateState). s.scheduled) (sym (run.gates found.0 found.1 found.2 (suc t))))
   ]
 
@@ -247,7 +256,8 @@ module _ (circuit : Numbered) (waves : List Wave) (states : ℕ → ℕ → Gate
     quiet-output place gate at_place =
         let inside : first_output circuit + place < length (nets circuit) = omega (arith, slice_get-some circuit.gates place gate at_place, run.count) in
         ap (λ (s : GateState). s.scheduled) (run.gates place gate at_place (suc t)
-        ∙ quiet-gate waves gate t (λ n found. same-level n (All-contains (λ k. k < length (nets circuit)) gate.inputs n (run.lower place gate at_place) found)))
+        ∙ quiet-gate waves gate t (no-input-changes waves gate t
+        (λ n found. same-level n (All-contains (λ k. k < length (nets circuit)) gate.inputs n (run.lower place gate at_place) found))))
         ∙ ap (λ (s : GateState). (updated t s.level s.scheduled).scheduled) (sym (run.gates place gate at_place t))
         ∙ ap (λ (s : GateState). s.scheduled) (stays (first_output circuit + place) inside)
 
@@ -278,11 +288,11 @@ module _ (circuit : Numbered) (waves : List Wave) (states : ℕ → ℕ → Gate
       (λ net inside waits. (let after = later net inside waits in omega arith))
       (quiet-moments t count levels whens latest (λ net inside waits. (let after = later net inside waits in omega arith)) state))
 
-  net-done : (t net : ℕ) (changed : List ℕ) (level new_level : Bool) (when new_when latest new_latest : ℕ) → net < length (nets circuit) → t < 2 ^ 64 - 1
+  net-done : (t net : ℕ) (level new_level : Bool) (when new_when latest new_latest : ℕ) → net < length (nets circuit) → t < 2 ^ 64 - 1
       → level_from level ≡ (states net t).level → event_of level when ≡ (states net t).scheduled
-      → WasDue t changed net level new_level when new_when latest new_latest ⊎ ((when ≢ t) × IsSame level new_level when new_when latest new_latest)
-      → IsNetDone waves states t net changed new_level new_when latest new_latest
-  net-done t net changed level new_level when new_when latest new_latest inside early level_was event_was (inl now) =
+      → WasDue t level new_level when new_when latest new_latest ⊎ ((when ≢ t) × IsSame level new_level when new_when latest new_latest)
+      → IsNetDone waves states t net new_level new_when latest new_latest
+  net-done t net level new_level when new_when latest new_latest inside early level_was event_was (inl now) =
       let wave : Wave = wave_at waves net in
       let state : net_updated states net t ≡ state_of (level_from (not level)) None =
       ap (λ (l : Level). updated t l (states net t).scheduled) (sym level_was)
@@ -293,10 +303,9 @@ module _ (circuit : Numbered) (waves : List Wave) (states : ℕ → ℕ → Gate
       record {
         level_is = ap level_from now.level_is ∙ sym (ap (λ (s : GateState). s.level) state);
         event_is = ap (event_of new_level) now.when_is ∙ no-event new_level (2 ^ 64 - 1) (omega arith) ∙ sym (ap (λ (s : GateState). s.scheduled) state);
-        told = inl now.told;
         latest_is = λ was. now.latest_is ∙ sym (latest-moves wave t (λ same. other-level level (sym at_is ∙ same ∙ before_is)));
       }
-  net-done t net changed level new_level when new_when latest new_latest inside early level_was event_was (inr other) =
+  net-done t net level new_level when new_when latest new_latest inside early level_was event_was (inr other) =
       let wave : Wave = wave_at waves net in
       let state : net_updated states net t ≡ state_of (level_from level) (event_of level when) =
       ap (λ (l : Level). updated t l (states net t).scheduled) (sym level_was)
@@ -307,34 +316,33 @@ module _ (circuit : Numbered) (waves : List Wave) (states : ℕ → ℕ → Gate
       record {
         level_is = ap level_from other.1.level_is ∙ sym (ap (λ (s : GateState). s.level) state);
         event_is = ap (λ (l : Bool). event_of l new_when) other.1.level_is ∙ ap (event_of level) other.1.when_is ∙ sym (ap (λ (s : GateState). s.scheduled) state);
-        told = inr same;
         latest_is = λ was. other.1.latest_is ∙ was ∙ sym (latest-stays wave t same);
       }
 
   -- a moment of the simulator is a moment of the run
-  pub moment-done : (t : ℕ) (readers : List (List ℕ)) (changed : List ℕ) (levels new_levels : List Bool) (whens middle new_whens latest new_latest : List ℕ)
-      → AreReaders (first_output circuit) circuit.gates readers → t < 2 ^ 64 - 1
-      → AreUpdated t changed levels new_levels whens middle latest new_latest
-      → AreEvaluated circuit.gates (first_output circuit) t readers changed new_levels middle new_whens
+  pub moment-done : (t : ℕ) (levels new_levels : List Bool) (whens middle new_whens latest new_latest : List ℕ) → t < 2 ^ 64 - 1
+      → AreUpdated t levels new_levels whens middle latest new_latest
+      → AreEvaluated circuit.gates (first_output circuit) t levels new_levels middle new_whens
       → IsStateBefore circuit waves states t levels whens latest → IsStateBefore circuit waves states (suc t) new_levels new_whens new_latest
-  moment-done t readers changed levels new_levels whens middle new_whens latest new_latest all_readers early update evaluation_is state =
-      let done : (net : ℕ) → net < length (nets circuit) → IsNetDone waves states t net changed (bit_at new_levels net) (get_or middle net 0) (get_or latest net 0) (get_or new_latest net 0) =
-      λ net inside. net-done t net changed (bit_at levels net) (bit_at new_levels net) (get_or whens net 0) (get_or middle net 0) (get_or latest net 0) (get_or new_latest net 0)
+  moment-done t levels new_levels whens middle new_whens latest new_latest early update evaluation_is state =
+      let done : (net : ℕ) → net < length (nets circuit) → IsNetDone waves states t net (bit_at new_levels net) (get_or middle net 0) (get_or latest net 0) (get_or new_latest net 0) =
+      λ net inside. net-done t net (bit_at levels net) (bit_at new_levels net) (get_or whens net 0) (get_or middle net 0) (get_or latest net 0) (get_or new_latest net 0)
       inside early (state.levels_are net inside ∙ run.levels net t inside) (state.events_are net inside) (update.each_net net (omega (arith, state.same_whens))) in
       let levels_are : (net : ℕ) → net < length (nets circuit) → level_from (bit_at new_levels net) ≡ at (wave_at waves net) t =
       λ net inside. (done net inside).level_is ∙ sym (net-level net t inside) in
-      let is_middle : IsMiddle circuit waves states t changed new_levels middle = record {
+      let is_middle : IsMiddle circuit waves states t levels new_levels middle = record {
+        same_former = state.same_levels;
         same_levels = update.same_levels ∙ state.same_levels;
         same_whens = update.same_whens ∙ state.same_whens;
         levels_are = levels_are;
         events_are = λ net inside. (done net inside).event_is;
-        told = λ net inside. (done net inside).told;
+        former_are = state.levels_are;
       } in
       record {
         same_levels = update.same_levels ∙ state.same_levels;
         same_whens = evaluation_is.same_whens ∙ update.same_whens ∙ state.same_whens;
         same_latest = update.same_latest ∙ state.same_latest;
         levels_are = levels_are;
-        events_are = next-events t readers changed new_levels middle new_whens all_readers is_middle evaluation_is;
+        events_are = next-events t levels new_levels middle new_whens is_middle evaluation_is;
         latest_are = λ net inside. (done net inside).latest_is (state.latest_are net inside);
       }

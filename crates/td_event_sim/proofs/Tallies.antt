@@ -1,6 +1,9 @@
 -- What is held of the gates.
-use Rattle.std.proofs.Common.{◌≡◌, ℕ, ◌+◌, ◌-◌, ◌<◌, ◌≤◌, Bool, List, [], ◌∷◌, ◌++◌, length, take, get_or, set, arith, refl, inl, inr, sym, ap, subst, ◌∙◌, Some}
+use Rattle.std.proofs.Common.{◌≡◌, ℕ, ◌+◌, ◌-◌, ◌<◌, ◌≤◌, Bool, List, [], ◌∷◌, ◌++◌, length, take, get_or, set, arith, refl, ◌⊎◌, inl, inr, sym, ap, subst, ◌∙◌, Some, length-set, get_or-set_same, get_or-set_other}
 use Rattle.std.specs.Prelude.{slice_get, count_by}
+use Rattle.std.specs.List.{Contains}
+use Rattle.std.proofs.lemmas.Bool.{cases_eq}
+use Rattle.std.proofs.lemmas.List.Elements.{Contains-append_left, Contains-append_right}
 use Rattle.std.proofs.Math.Seq.{map-set_same}
 use Rattle.std.proofs.lemmas.List.{map-set, map-append, get_or-map, length-map}
 use Rattle.std.proofs.lemmas.Option.{slice_get-get_or}
@@ -10,12 +13,15 @@ use Rattle.td_event_sim.specs.declared.rules.Rule.{Rule}
 use Rattle.td_event_sim.specs.declared.rules.Tally.{Tally}
 use Rattle.td_event_sim.specs.Bits.{bit_at, target_of}
 use Rattle.td_event_sim.specs.Counting.{recounted, AreCounted, AreRecounted}
-use Rattle.td_event_sim.specs.Rules.{target_by_rule, IsRuleOf, ones_of, rules_of, AreRules}
+use Rattle.td_event_sim.specs.Rules.{target_by_rule, IsRuleOf, ones_of, rules_of, AreRules, IsTold, AreTold}
 use Rattle.td_event_sim.proofs.Ones.{recount-more, target-by}
 
 -- another count in the place of a gate's
 abbrev pub tallied : List Tally → ℕ → ℕ → Tally → List Tally
 tallied tallies place count before = set tallies place (record { ones = count; rule = (get_or tallies place before).rule })
+
+pub tallied-length : (tallies : List Tally) (place count : ℕ) (before : Tally) → length (tallied tallies place count before) ≡ length tallies
+tallied-length tallies place count before = length-set tallies place (record { ones = count; rule = (get_or tallies place before).rule })
 
 pub same-rules : (tallies : List Tally) (place count : ℕ) (before : Tally) → rules_of (tallied tallies place count before) ≡ rules_of tallies
 same-rules tallies place count before = map-set_same (λ (tally : Tally). tally.rule) tallies place (record { ones = count; rule = (get_or tallies place before).rule }) before refl
@@ -72,3 +78,42 @@ count-at gates tallies levels place gate tally inside at is all =
 pub target-is : (gate : NumberedGate) (rule : Rule) (levels : List Bool) (ones : ℕ) → IsRuleOf gate rule → ones ≡ count_by (bit_at levels) gate.inputs
     → target_by_rule rule ones ≡ target_of gate.kind levels gate.inputs
 target-is gate rule levels ones is count = is.target ones ∙ target-by gate.kind levels gate.inputs ones count
+
+-- ---- the gates whose target turns
+pub told-begun : (first : ℕ) (rules : List Rule) (ones outputs : List ℕ) → AreTold first rules ones ones outputs
+told-begun first rules ones outputs place rule at_rule = inr refl
+
+still-told : (rule : Rule) (before after output : ℕ) (outputs new_outputs : List ℕ) → IsTold rule before after output outputs new_outputs
+    → (other : ℕ) → Contains outputs other → Contains new_outputs other
+still-told rule before after output outputs new_outputs (inl added) other found = rw added.0 (Contains-append_left outputs (output ∷ []) other found)
+still-told rule before after output outputs new_outputs (inr same) other found = rw same.0 found
+
+-- one gate is counted anew
+pub told-one : (first : ℕ) (rules : List Rule) (begun ones outputs new_outputs : List ℕ) (place after : ℕ) (rule : Rule) → place < length ones
+    → slice_get rules place ≡ Some rule → IsTold rule (get_or ones place 0) after (first + place) outputs new_outputs
+    → AreTold first rules begun ones outputs → AreTold first rules begun (set ones place after) new_outputs
+told-one first rules begun ones outputs new_outputs place after rule inside at step all other other_rule at_other = elim (cases_eq other place) [
+  | inl here ↦ told_here here step (all other other_rule at_other)
+  | inr apart ↦ elim (all other other_rule at_other) [
+    | inl found ↦ inl (still-told rule (get_or ones place 0) after (first + place) outputs new_outputs step (first + other) found)
+    | inr same ↦ inr (same ∙ ap (target_by_rule other_rule) (sym (get_or-set_other ones place other after 0 apart)))
+  ]
+]
+  where
+    told_here : other ≡ place → IsTold rule (get_or ones place 0) after (first + place) outputs new_outputs
+        → Contains outputs (first + other) ⊎ (target_by_rule other_rule (get_or begun other 0) ≡ target_by_rule other_rule (get_or ones other 0))
+        → Contains new_outputs (first + other) ⊎ (target_by_rule other_rule (get_or begun other 0) ≡ target_by_rule other_rule (get_or (set ones place after) other 0))
+    told_here here (inl added) was = inl (rw (here, added.0) (Contains-append_right outputs ((first + place) ∷ []) (first + place) (0, omega arith, refl)))
+    told_here here (inr same) (inl found) = inl (rw same.0 found)
+    told_here here (inr same) (inr stays) =
+        let rule_is : rule ≡ other_rule = sym (slice_get-get rules place rule rule at) ∙ slice_get-get rules place other_rule rule (rw here at at_other) in
+        inr (
+        stays ∙ ap (λ (n : ℕ). target_by_rule other_rule (get_or ones n 0)) here
+        ∙ subst (λ (r : Rule). target_by_rule r (get_or ones place 0) ≡ target_by_rule r after) rule_is same.1
+        ∙ ap (target_by_rule other_rule) (sym (get_or-set_same ones place after 0 inside))
+        ∙ ap (λ (n : ℕ). target_by_rule other_rule (get_or (set ones place after) n 0)) (sym here)
+        )
+
+-- the rule of a gate, as a place among the rules
+pub rule-placed : (tallies : List Tally) (place : ℕ) (tally : Tally) → place < length tallies → slice_get (rules_of tallies) place ≡ Some (get_or tallies place tally).rule
+rule-placed tallies place tally inside = slice_get-map_some (λ (t : Tally). t.rule) tallies place (get_or tallies place tally) (slice_get-get_or tallies place tally inside)

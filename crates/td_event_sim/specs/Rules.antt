@@ -1,5 +1,6 @@
 -- How a gate's target follows from how many of its inputs are at 1.
-use Rattle.std.specs.Prelude.{◌≡◌, ℕ, ◌%◌, ◌==◌, Bool, not, List, length, map, slice_get, Some, cond}
+use Rattle.std.specs.Prelude.{◌≡◌, ◌≢◌, ℕ, ◌+◌, ◌%◌, ◌==◌, ◌⊎◌, Bool, not, List, [], ◌∷◌, ◌++◌, length, map, slice_get, slice_index, Some, cond}
+use Rattle.std.specs.List.{Contains}
 use Rattle.td_gates.specs.declared.primitives.Kind.{Kind}
 use Rattle.td_gates.specs.declared.primitives.Kind.TheVariants.{And, Nand, Or, Nor, Xor, Xnor, Buf, Not}
 use Rattle.td_circuit.specs.Numbering.{NumberedGate}
@@ -17,11 +18,13 @@ target_by Xnor inputs ones = not (ones % 2 == 1)
 target_by Buf inputs ones = ones == inputs
 target_by Not inputs ones = not (ones == inputs)
 
+-- whether as many inputs are at 1 as a rule wants
+abbrev pub is_met_by : Rule → ℕ → Bool
+is_met_by rule ones = cond rule.by_parity (ones % 2) ones == rule.wanted
+
 -- whether the target by a rule is 1, where so many inputs are
 abbrev pub target_by_rule : Rule → ℕ → Bool
-target_by_rule rule ones =
-    let is_wanted : Bool = cond rule.by_parity (ones % 2) ones == rule.wanted in
-    cond rule.is_negated (not is_wanted) is_wanted
+target_by_rule rule ones = cond rule.is_negated (not (is_met_by rule ones)) (is_met_by rule ones)
 
 -- the rule gives the gate's targets, and has its delays
 pub record IsRuleOf (gate : NumberedGate) (rule : Rule) : Type 0 where
@@ -38,3 +41,14 @@ rules_of tallies = map (λ tally. tally.rule) tallies
 abbrev pub AreRules : List NumberedGate → List Rule → Type 0
 AreRules gates rules = (place : ℕ) (gate : NumberedGate) (rule : Rule) → slice_get gates place ≡ Some gate → slice_get rules place ≡ Some rule
     → IsRuleOf gate rule
+
+-- a gate's output is added to these where its target by one count is another one than by the other
+abbrev pub IsTold : Rule → ℕ → ℕ → ℕ → List ℕ → List ℕ → Type 0
+IsTold rule before after output outputs new_outputs =
+    (new_outputs ≡ outputs ++ output ∷ []) × (target_by_rule rule before ≢ target_by_rule rule after)
+    ⊎ (new_outputs ≡ outputs) × (target_by_rule rule before ≡ target_by_rule rule after)
+
+-- each gate whose target by these counts is another one than by those before is told by its output
+abbrev pub AreTold : ℕ → List Rule → List ℕ → List ℕ → List ℕ → Type 0
+AreTold first_output rules ones new_ones outputs = (place : ℕ) (rule : Rule) → slice_get rules place ≡ Some rule
+    → Contains outputs (first_output + place) ⊎ (target_by_rule rule (slice_index ones place) ≡ target_by_rule rule (slice_index new_ones place))

@@ -1,13 +1,14 @@
 //! How many of each gate's inputs are at 1.
 
-ghost use Rattle.std.specs.Prelude.{◌≡◌, ◌+◌, ◌-◌, ◌<◌, ◌≤◌, length, count_by};
+ghost use Rattle.std.specs.Prelude.{◌≡◌, ℕ, ◌+◌, ◌-◌, ◌<◌, ◌≤◌, List, length, count_by, OnOk};
 ghost use Rattle.std.specs.List.{All};
 ghost use Rattle.td_event_sim.specs.Bits.{bit_at};
 ghost use Rattle.td_event_sim.specs.Counting.{AreRecounted, recounted};
-ghost use Rattle.td_event_sim.specs.Rules.{ones_of, rules_of};
+ghost use Rattle.td_event_sim.specs.Rules.{AreTold, IsTold, ones_of, rules_of};
 ghost use Rattle.td_event_sim.specs.Scratch.{AreNets};
 
-use crate::rules::Tally;
+use crate::rules::{Rule, Tally};
+use std::alloc::AllocError;
 
 /// How many of these inputs are at 1.
 pub fn count(levels: &[bool], inputs: &[u32]) -> u32
@@ -33,14 +34,45 @@ fn recounted(ones: u32, rises: bool) -> u32
     }
 }
 
-/// Counts a net that rose, or fell, for the gates that read it.
-pub fn recount(tallies: &mut [Tally], readers: &[u32], first_output: usize, rises: bool)
+/// Adds a gate's output where its target turns: so many of its inputs were at 1, and so many are.
+fn tell(
+    turned: &mut Vec<u32>,
+    output: u32,
+    rule: &Rule,
+    before: u32,
+    after: u32,
+) -> Result<(), AllocError>
+    ensures told { OnOk result (IsTold rule.now before after output turned.old.items turned.new.items) }
+    ensures outputs { (first end : ℕ) → first ≤ output → output < end → AreNets first end turned.old.items → AreNets first end turned.new.items }
+{
+    if rule.turns(before, after) {
+        turned.push(output)?;
+    }
+    Ok(())
+}
+
+/// Counts a net that rose, or fell, for the gates that read it, and adds the outputs of those whose target turns.
+pub fn recount(
+    tallies: &mut [Tally],
+    turned: &mut Vec<u32>,
+    readers: &[u32],
+    first_output: usize,
+    rises: bool,
+) -> Result<(), AllocError>
     requires { AreNets first_output (first_output + length tallies.old) readers.now }
-    ensures counts { AreRecounted first_output readers.now rises (ones_of tallies.old) (ones_of tallies.new) }
+    ensures counts { OnOk result (AreRecounted first_output readers.now rises (ones_of tallies.old) (ones_of tallies.new)) }
     ensures rules { rules_of tallies.new ≡ rules_of tallies.old }
+    ensures told { (begun : List ℕ) → AreTold first_output (rules_of tallies.old) begun (ones_of tallies.old) turned.old.items
+        → OnOk result (AreTold first_output (rules_of tallies.old) begun (ones_of tallies.new) turned.new.items) }
+    ensures outputs { AreNets first_output (first_output + length tallies.old) turned.old.items
+        → AreNets first_output (first_output + length tallies.old) turned.new.items }
 {
     for reader in readers {
         let place = *reader as usize - first_output;
-        tallies[place].ones = recounted(tallies[place].ones, rises);
+        let ones = tallies[place].ones;
+        let recounted = recounted(ones, rises);
+        tallies[place].ones = recounted;
+        tell(turned, *reader, &tallies[place].rule, ones, recounted)?;
     }
+    Ok(())
 }

@@ -1,9 +1,9 @@
 //! The targets of gates whose inputs are at 0 or 1, by how many are at 1.
 
-ghost use Rattle.std.specs.Prelude.{◌≡◌, ◌≤◌, length, map, IfOk};
+ghost use Rattle.std.specs.Prelude.{◌≡◌, ◌≢◌, ◌≤◌, true, false, length, map, IfOk};
 ghost use Rattle.std.specs.List.{All};
 ghost use Rattle.td_circuit.specs.Views.{gate_of};
-ghost use Rattle.td_event_sim.specs.Rules.{AreRules, IsRuleOf, rules_of, target_by_rule};
+ghost use Rattle.td_event_sim.specs.Rules.{AreRules, IsRuleOf, is_met_by, rules_of, target_by_rule};
 
 use std::alloc::{AllocError, Global};
 use td_circuit::Gate;
@@ -45,16 +45,31 @@ impl Rule {
         }
     }
 
+    /// Whether as many inputs are at 1 as are wanted.
+    fn is_met(&self, ones: u32) -> bool
+        ensures { result ≡ is_met_by self.now ones }
+    {
+        let counted = if self.by_parity { ones % 2 } else { ones };
+        counted == self.wanted
+    }
+
     /// Whether the target is 1, where so many inputs are.
     pub fn target(&self, ones: u32) -> bool
         ensures { result ≡ target_by_rule self.now ones }
     {
-        let counted = if self.by_parity { ones % 2 } else { ones };
         if self.is_negated {
-            counted != self.wanted
+            !self.is_met(ones)
         } else {
-            counted == self.wanted
+            self.is_met(ones)
         }
+    }
+
+    /// Whether the target turns where so many inputs are at 1 that weren't, or were that aren't.
+    pub fn turns(&self, before: u32, after: u32) -> bool
+        ensures stays { result ≡ false → target_by_rule self.now before ≡ target_by_rule self.now after }
+        ensures turns { result ≡ true → target_by_rule self.now before ≢ target_by_rule self.now after }
+    {
+        self.is_met(before) != self.is_met(after)
     }
 }
 

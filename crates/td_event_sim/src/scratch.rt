@@ -6,6 +6,7 @@ ghost use Rattle.td_gates.specs.Wave.{Wave};
 ghost use Rattle.td_gates.specs.Schedule.{GateState};
 ghost use Rattle.td_circuit.specs.Numbering.{nets, setting, first_output as first_output_of};
 ghost use Rattle.td_circuit.specs.Run.{IsDelayOfBits};
+ghost use Rattle.td_event_sim.specs.Cached.{IsTheDelay};
 ghost use Rattle.td_event_sim.specs.Earliest.{IsFrom};
 ghost use Rattle.td_event_sim.specs.Queue.{Waits, AreBelow};
 ghost use Rattle.td_event_sim.specs.Counting.{AreCounted};
@@ -16,6 +17,7 @@ ghost use Rattle.td_event_sim.specs.Rules.{AreRules, ones_of, rules_of};
 ghost use Rattle.td_event_sim.specs.Scratch.{AreReadersOf, IsFor};
 ghost use Rattle.td_event_sim.specs.Latest.{greatest_at};
 
+use crate::cache::{Cache, place_of};
 use crate::earliest::NEVER;
 use crate::phases::{evaluate, schedule_inputs, settle, update};
 use crate::queue::Queue;
@@ -59,7 +61,7 @@ fn start(
     Ok(())
 }
 
-/// The events of a moment take place, and the gates that read a net that changed are evaluated.
+/// The events of a moment take place, and the gates whose target turns are evaluated.
 fn advance(
     levels: &mut [bool],
     tallies: &mut [Tally],
@@ -67,7 +69,7 @@ fn advance(
     whens: &mut [u64],
     queue: &mut Queue,
     taken: &mut Vec<u32>,
-    changed: &mut Vec<usize>,
+    turned: &mut Vec<u32>,
     readers: &[Vec<u32>],
     circuit: &Circuit,
     moment: u64,
@@ -102,7 +104,7 @@ fn advance(
         latest,
         whens,
         queue,
-        changed,
+        turned,
         readers,
         first_output,
         taken,
@@ -114,8 +116,7 @@ fn advance(
         levels,
         tallies,
         gates,
-        readers,
-        changed,
+        turned,
         first_output,
         moment,
     )?;
@@ -146,7 +147,7 @@ fn simulate(
     whens: &mut [u64],
     queue: &mut Queue,
     taken: &mut Vec<u32>,
-    changed: &mut Vec<usize>,
+    turned: &mut Vec<u32>,
     readers: &[Vec<u32>],
     circuit: &Circuit,
     pair: &Pair,
@@ -160,8 +161,7 @@ fn simulate(
     requires tallies_fit { length tallies.old ≡ length circuit.now.gates }
     requires rules { AreRules circuit.now.gates (rules_of tallies.old) }
     requires below { AreBelow (length (nets circuit.now)) queue.old }
-    ensures delay { IfOk result (IsDelayOfBits (setting circuit.now) pair.now.first pair.now.second) }
-    ensures only { IfOk result (λ delay. (other : ℕ) → IsDelayOfBits (setting circuit.now) pair.now.first pair.now.second other → other ≡ delay) }
+    ensures delay { IfOk result (IsTheDelay circuit.now pair.now.first pair.now.second) }
     ensures rules { rules_of tallies.new ≡ rules_of tallies.old }
     ensures below { AreBelow (length (nets circuit.now)) queue.new }
 {
@@ -176,7 +176,7 @@ fn simulate(
         }
         left -= 1;
         advance(
-            levels, tallies, latest, whens, queue, taken, changed, readers, circuit, moment,
+            levels, tallies, latest, whens, queue, taken, turned, readers, circuit, moment,
         )?;
         moment = queue.first_from(moment + 1);
     }
@@ -201,8 +201,10 @@ pub struct Scratch {
     queue: Queue,
     /// The nets that waited for a moment.
     taken: Vec<u32>,
-    /// The nets that changed at a moment.
-    changed: Vec<usize>,
+    /// The outputs of the gates whose target turned at a moment.
+    turned: Vec<u32>,
+    /// The delays of pairs that were measured before.
+    cache: Cache,
 }
 
 impl Model for Scratch {
@@ -218,6 +220,7 @@ impl Model for Scratch {
       latest = inside.latest.items;
       whens = inside.whens.items;
       queue = inside.queue;
+      cache = inside.cache;
     } };
 }
 
@@ -257,6 +260,7 @@ impl Scratch {
         let latest = moments(alloc, nets, 0)?;
         let whens = moments(alloc, nets, NEVER)?;
         let queue = Queue::new(alloc)?;
+        let cache = Cache::new(alloc, circuit.input_count())?;
         Ok(Scratch {
             readers,
             levels,
@@ -265,7 +269,8 @@ impl Scratch {
             whens,
             queue,
             taken: Vec::new(alloc),
-            changed: Vec::new(alloc),
+            turned: Vec::new(alloc),
+            cache,
         })
     }
 }
@@ -280,6 +285,23 @@ pub fn delay_of(scratch: &mut Scratch, circuit: &Circuit, pair: &Pair) -> Result
     ensures only { IfOk result (λ delay. (other : ℕ) → IsDelayOfBits (setting circuit.now) pair.now.first pair.now.second other → other ≡ delay) }
     ensures scratch { IsFor circuit.now scratch.new }
 {
+    let place = place_of(pair);
+    if let Some(delay) = scratch.cache.find(place, pair) {
+        return Ok(delay);
+    }
+    let delay = simulated(scratch, circuit, pair)?;
+    scratch.cache.put(place, pair, delay);
+    Ok(delay)
+}
+
+/// The delay of a pair that is simulated. The error is that of `delay_of`.
+fn simulated(scratch: &mut Scratch, circuit: &Circuit, pair: &Pair) -> Result<u64, AllocError>
+    requires scratch { IsFor circuit.now scratch.old }
+    requires first_fits { length pair.now.first ≡ length circuit.now.netlist.inputs }
+    requires second_fits { length pair.now.second ≡ length circuit.now.netlist.inputs }
+    ensures delay { IfOk result (IsTheDelay circuit.now pair.now.first pair.now.second) }
+    ensures scratch { IsFor circuit.now scratch.new }
+{
     simulate(
         &mut scratch.levels,
         &mut scratch.tallies,
@@ -287,7 +309,7 @@ pub fn delay_of(scratch: &mut Scratch, circuit: &Circuit, pair: &Pair) -> Result
         &mut scratch.whens,
         &mut scratch.queue,
         &mut scratch.taken,
-        &mut scratch.changed,
+        &mut scratch.turned,
         &scratch.readers,
         circuit,
         pair,

@@ -12,4 +12,4 @@ returns-clause-counted c =
     let listed : c.deref.result.now ≡ get_or (map (λ outputs. outputs.items) c.args.readers.now) c.args.net [] =
     c.deref.ensures.value ∙ sym (items-at c.args.readers.now c.args.net c.index-readers-net.result (omega arith) c.index-readers-net.is) in
     turned-counted c.args.first_output c.args.net (map (λ outputs. outputs.items) c.args.readers.now) c.args.levels.now (ones_of c.args.tallies.now) (ones_of c.recount.new.tallies) c.requires.net
-    (subst (λ (items : List ℕ). AreRecounted c.args.first_output items (not (bit_at c.args.levels.now c.args.net)) (ones_of c.args.tallies.now) (ones_of c.recount.new.tallies)) listed c.recount.ensures.counts)
+    (subst (λ (items : List ℕ). AreRecounted c.args.first_output items (not (bit_at c.args.levels.now c.args.net)) (ones_of c.args.tallies.now) (ones_of c.recount.new.tallies)) listed c.in_ok-recount.ensures.counts)
