@@ -85,7 +85,7 @@ told-begun first rules ones outputs place rule at_rule = inr refl
 
 still-told : (rule : Rule) (before after output : ℕ) (outputs new_outputs : List ℕ) → IsTold rule before after output outputs new_outputs
     → (other : ℕ) → Contains outputs other → Contains new_outputs other
-still-told rule before after output outputs new_outputs (inl added) other found = rw added.0 (Contains-append_left outputs (output ∷ []) other found)
+still-told rule before after output outputs new_outputs (inl added) other found = rw added (Contains-append_left outputs (output ∷ []) other found)
 still-told rule before after output outputs new_outputs (inr same) other found = rw same.0 found
 
 -- one gate is counted anew
@@ -103,7 +103,7 @@ told-one first rules begun ones outputs new_outputs place after rule inside at s
     told_here : other ≡ place → IsTold rule (get_or ones place 0) after (first + place) outputs new_outputs
         → Contains outputs (first + other) ⊎ (target_by_rule other_rule (get_or begun other 0) ≡ target_by_rule other_rule (get_or ones other 0))
         → Contains new_outputs (first + other) ⊎ (target_by_rule other_rule (get_or begun other 0) ≡ target_by_rule other_rule (get_or (set ones place after) other 0))
-    told_here here (inl added) was = inl (rw (here, added.0) (Contains-append_right outputs ((first + place) ∷ []) (first + place) (0, omega arith, refl)))
+    told_here here (inl added) was = inl (rw (here, added) (Contains-append_right outputs ((first + place) ∷ []) (first + place) (0, omega arith, refl)))
     told_here here (inr same) (inl found) = inl (rw same.0 found)
     told_here here (inr same) (inr stays) =
         let rule_is : rule ≡ other_rule = sym (slice_get-get rules place rule rule at) ∙ slice_get-get rules place other_rule rule (rw here at at_other) in

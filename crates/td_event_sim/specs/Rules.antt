@@ -1,5 +1,5 @@
 -- How a gate's target follows from how many of its inputs are at 1.
-use Rattle.std.specs.Prelude.{◌≡◌, ◌≢◌, ℕ, ◌+◌, ◌%◌, ◌==◌, ◌⊎◌, Bool, not, List, [], ◌∷◌, ◌++◌, length, map, slice_get, slice_index, Some, cond}
+use Rattle.std.specs.Prelude.{◌≡◌, ℕ, ◌+◌, ◌%◌, ◌==◌, ◌⊎◌, Bool, not, List, [], ◌∷◌, ◌++◌, length, map, slice_get, slice_index, Some, cond}
 use Rattle.std.specs.List.{Contains}
 use Rattle.td_gates.specs.declared.primitives.Kind.{Kind}
 use Rattle.td_gates.specs.declared.primitives.Kind.TheVariants.{And, Nand, Or, Nor, Xor, Xnor, Buf, Not}
@@ -42,11 +42,10 @@ abbrev pub AreRules : List NumberedGate → List Rule → Type 0
 AreRules gates rules = (place : ℕ) (gate : NumberedGate) (rule : Rule) → slice_get gates place ≡ Some gate → slice_get rules place ≡ Some rule
     → IsRuleOf gate rule
 
--- a gate's output is added to these where its target by one count is another one than by the other
+-- a gate's output is added to these, or its target by one count is that by the other
 abbrev pub IsTold : Rule → ℕ → ℕ → ℕ → List ℕ → List ℕ → Type 0
 IsTold rule before after output outputs new_outputs =
-    (new_outputs ≡ outputs ++ output ∷ []) × (target_by_rule rule before ≢ target_by_rule rule after)
-    ⊎ (new_outputs ≡ outputs) × (target_by_rule rule before ≡ target_by_rule rule after)
+    (new_outputs ≡ outputs ++ output ∷ []) ⊎ ((new_outputs ≡ outputs) × (target_by_rule rule before ≡ target_by_rule rule after))
 
 -- each gate whose target by these counts is another one than by those before is told by its output
 abbrev pub AreTold : ℕ → List Rule → List ℕ → List ℕ → List ℕ → Type 0

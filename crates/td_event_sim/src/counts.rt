@@ -16,6 +16,9 @@ pub fn count(levels: &[bool], inputs: &[u32]) -> u32
     requires few { length inputs.now ≤ 1023 }
     ensures { result ≡ count_by (bit_at levels.now) inputs.now }
 {
+    if inputs.len() == 2 {
+        return u32::from(levels[inputs[0] as usize]) + u32::from(levels[inputs[1] as usize]);
+    }
     let mut ones = 0;
     for input in inputs {
         ones += u32::from(levels[*input as usize]);
@@ -34,7 +37,7 @@ fn recounted(ones: u32, rises: bool) -> u32
     }
 }
 
-/// Adds a gate's output where its target turns: so many of its inputs were at 1, and so many are.
+/// Adds a gate's output where its target may turn: so many of its inputs were at 1, and so many are.
 fn tell(
     turned: &mut Vec<u32>,
     output: u32,
@@ -45,13 +48,13 @@ fn tell(
     ensures told { OnOk result (IsTold rule.now before after output turned.old.items turned.new.items) }
     ensures outputs { (first end : ℕ) → first ≤ output → output < end → AreNets first end turned.old.items → AreNets first end turned.new.items }
 {
-    if rule.turns(before, after) {
+    if rule.may_turn(before, after) {
         turned.push(output)?;
     }
     Ok(())
 }
 
-/// Counts a net that rose, or fell, for the gates that read it, and adds the outputs of those whose target turns.
+/// Counts a net that rose, or fell, for the gates that read it, and adds the outputs of those whose target may turn.
 pub fn recount(
     tallies: &mut [Tally],
     turned: &mut Vec<u32>,

@@ -1,6 +1,6 @@
 //! The targets of gates whose inputs are at 0 or 1, by how many are at 1.
 
-ghost use Rattle.std.specs.Prelude.{◌≡◌, ◌≢◌, ◌≤◌, true, false, length, map, IfOk};
+ghost use Rattle.std.specs.Prelude.{◌≡◌, ◌≤◌, false, length, map, IfOk};
 ghost use Rattle.std.specs.List.{All};
 ghost use Rattle.td_circuit.specs.Views.{gate_of};
 ghost use Rattle.td_event_sim.specs.Rules.{AreRules, IsRuleOf, is_met_by, rules_of, target_by_rule};
@@ -64,12 +64,12 @@ impl Rule {
         }
     }
 
-    /// Whether the target turns where so many inputs are at 1 that weren't, or were that aren't.
-    pub fn turns(&self, before: u32, after: u32) -> bool
-        ensures stays { result ≡ false → target_by_rule self.now before ≡ target_by_rule self.now after }
-        ensures turns { result ≡ true → target_by_rule self.now before ≢ target_by_rule self.now after }
+    /// Whether the target may turn where so many inputs were at 1 and so many are: as many were as are wanted, or as many are, or only
+    /// their parity counts.
+    pub fn may_turn(&self, before: u32, after: u32) -> bool
+        ensures { result ≡ false → target_by_rule self.now before ≡ target_by_rule self.now after }
     {
-        self.is_met(before) != self.is_met(after)
+        self.by_parity || before == self.wanted || after == self.wanted
     }
 }
 

@@ -61,7 +61,7 @@ fn start(
     Ok(())
 }
 
-/// The events of a moment take place, and the gates whose target turns are evaluated.
+/// The events of a moment take place, and the gates whose target may turn are evaluated.
 fn advance(
     levels: &mut [bool],
     tallies: &mut [Tally],
@@ -201,7 +201,7 @@ pub struct Scratch {
     queue: Queue,
     /// The nets that waited for a moment.
     taken: Vec<u32>,
-    /// The outputs of the gates whose target turned at a moment.
+    /// The outputs of the gates whose target may have turned at a moment.
     turned: Vec<u32>,
     /// The delays of pairs that were measured before.
     cache: Cache,
