@@ -1,5 +1,5 @@
 -- What is held of pairs stays true of the circuit.
-use Rattle.std.proofs.Common.{◌≡◌, ℕ, ◌∙◌, Bool, List, length, get_or, set, refl, sym, ap, subst, Option, None, Some, length-set}
+use Rattle.std.proofs.Common.{◌≡◌, ℕ, ◌∙◌, Bool, List, length, get_or, set, refl, sym, subst, Some, length-set}
 use Rattle.std.specs.Prelude.{slice_get}
 use Rattle.std.specs.List.{All}
 use Rattle.std.proofs.lemmas.List.Elements.{All-set}

@@ -1,4 +1,4 @@
-use Rattle.std.proofs.Common.{◌≡◌, List, sym, ap, subst}
+use Rattle.std.proofs.Common.{List, sym, ap, subst}
 use Rattle.td_event_sim.specs.Cached.{Cached, AreOf}
 use Rattle.td_event_sim.specs.Scratch.{Room, IsFor}
 use Rattle.td_event_sim.proofs.Caching.{held-is, put-is}
