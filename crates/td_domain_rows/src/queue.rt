@@ -24,7 +24,7 @@ fn by_queue(scratch: &mut Scratch, circuit: &Circuit, pair: &Pair) -> Result<u64
     }
 }
 
-/// Whether a pair has the same delay by the queue and by waves.
+/// Whether a pair has the same delay by waves, by the queue, and by the queue once more, which held it then.
 fn agrees(
     alloc: Global,
     scratch: &mut Scratch,
@@ -40,7 +40,8 @@ fn agrees(
     let second = bits_of(alloc, after, inputs)?;
     let by_waves = delay_by_waves(alloc, circuit, &first, &second)?;
     let pair = Pair::new(first, second);
-    Ok(by_queue(scratch, circuit, &pair)? == by_waves)
+    let by_queue_once = by_queue(scratch, circuit, &pair)?;
+    Ok(by_queue_once == by_waves && by_queue(scratch, circuit, &pair)? == by_waves)
 }
 
 /// Whether all pairs of this first vector agree.
@@ -60,14 +61,12 @@ fn all_from(
     Ok(agree)
 }
 
-/// Whether all pairs of a circuit agree.
-fn all_agree(alloc: Global, scratch: &mut Scratch, circuit: &Circuit) -> Result<bool, AllocError>
-    requires { IsFor circuit.now scratch.old }
-    ensures { IsFor circuit.now scratch.new }
-{
+/// Whether all pairs of a circuit agree, in one scratch.
+fn all_agree(alloc: Global, circuit: &Circuit) -> Result<bool, AllocError> {
+    let mut scratch = Scratch::new(alloc, circuit)?;
     let mut agree = true;
     for before in 0..vectors_of(circuit.input_count()) {
-        agree = all_from(alloc, scratch, circuit, before)? && agree;
+        agree = all_from(alloc, &mut scratch, circuit, before)? && agree;
     }
     Ok(agree)
 }
@@ -81,14 +80,13 @@ fn apart(alloc: Global, inputs: usize) -> Result<Vec<u64>, AllocError> {
     Ok(moments)
 }
 
-/// Whether all pairs of a circuit agree, first with its own moments and then with others, in one scratch.
+/// Whether all pairs of a circuit agree, first with its own moments and then with others.
 fn agree_twice(rt: &impl Abort, alloc: Global, circuit: &mut Circuit) -> Result<bool, Fail> {
     let later = moments_of(alloc, &apart(alloc, circuit.input_count())?)?;
     assert_eq!(rt; later.len(), circuit.input_count());
-    let mut scratch = Scratch::new(alloc, circuit)?;
-    let own = all_agree(alloc, &mut scratch, circuit)?;
+    let own = all_agree(alloc, circuit)?;
     circuit.set_moments(later);
-    Ok(all_agree(alloc, &mut scratch, circuit)? && own)
+    Ok(all_agree(alloc, circuit)? && own)
 }
 
 #[test]

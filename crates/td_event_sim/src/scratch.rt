@@ -184,7 +184,7 @@ fn simulate(
     Ok(delay)
 }
 
-/// Room for the simulation of a circuit, used again for each pair.
+/// Room for the simulation of a circuit with the moments of its inputs, used again for each pair.
 #[derive(Drop)]
 pub struct Scratch {
     /// The outputs of the gates that read each net.
@@ -247,7 +247,7 @@ fn zeros(alloc: Global, count: usize) -> Result<Vec<bool>, AllocError>
 }
 
 impl Scratch {
-    /// A scratch for a circuit.
+    /// A scratch for a circuit and the moments that its inputs have now.
     pub fn new(alloc: Global, circuit: &Circuit) -> Result<Self, AllocError>
         ensures { IfOk result (IsFor circuit.now) }
     {
