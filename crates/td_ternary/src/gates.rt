@@ -9,7 +9,7 @@ ghost use Rattle.td_run.specs.Waves.{AreWithin};
 ghost use Rattle.td_ternary.specs.Possibles.{gate_signal, last_change, last_level, change_at, capped};
 ghost use Rattle.td_ternary.specs.Turning.{possible_after};
 
-use crate::prospects::{begun, pass, settle};
+use crate::tracks::{begun, finish, pass};
 use std::alloc::{AllocError, Global};
 use td_gates::{Change, Delay, Kind, Level};
 use td_run::Wave;
@@ -45,15 +45,15 @@ fn possible_after(alloc: Global, delay: Delay, target: &Wave) -> Result<Wave, Al
     ensures wave { IfOk result (λ wave. IsWave wave) }
 {
     let reversed = reversed(delay);
-    let start = begun(target.start());
-    let mut now = start;
+    let start = target.start();
+    let mut now = begun(start);
     let mut changes = Vec::with_capacity(alloc, target.changes().len())?;
     for change in target.changes() {
         let next = pass(&mut changes, now, reversed, delay, *change)?;
         now = next;
     }
-    let _end = settle(&mut changes, now, None)?;
-    Ok(Wave::from_changes(start.level, changes))
+    finish(&mut changes, now)?;
+    Ok(Wave::from_changes(start, changes))
 }
 
 /// The delay with rise and fall exchanged.
