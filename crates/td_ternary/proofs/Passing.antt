@@ -418,6 +418,20 @@ abbrev pub IsKept : Delay → Delay → Wave → List Change → List Change →
 IsKept delay falling target rest out now = (fits : IsInRange delay) (fits_falling : IsInRange falling)
     → Goes falling delay fits_falling fits (buffer Low falling target) (buffer High delay target) (begun target.start).level rest out now
 
+-- before the first change of the target
+pub kept-begun : (delay falling : Delay) (target : Wave) → IsWave target → IsKept delay falling target target.changes [] (begun target.start)
+kept-begun delay falling target is fits fits_falling = record {
+  n = 0;
+  level = target.start;
+  rising = is;
+  way = record {
+    zero_is = record { shows = λ t late. refl; ready = tt; aim = refl; may = refl };
+    one_is = record { shows = λ t late. refl; ready = tt; aim = refl; may = refl };
+    level_is = refl;
+    goes_on = λ later shown. shown;
+  };
+}
+
 pub kept-on : (delay falling : Delay) (target : Wave) (all out changes : List Change) (now next : Outlook) (i : ℕ) (z : Change) → i < length all
     → IsKept delay falling target (drop i all) out now → changes ≡ out ++ settling (Some (get_or all i z).moment) now
     → next ≡ passed falling delay (get_or all i z) now → IsKept delay falling target (drop (i + 1) all) changes next

@@ -15,7 +15,8 @@ use td_gates::{Change, Delay, Kind, Level};
 use td_run::Wave;
 use td_run::stages::target;
 
-const MAX_CHANGES: usize = 512;
+/// The greatest number of changes of a signal.
+pub(crate) const MAX_CHANGES: usize = 512;
 
 /// The signal of the output of a gate whose inputs have the signals at these places.
 pub fn output(
@@ -57,7 +58,7 @@ fn possible_after(alloc: Global, delay: Delay, target: &Wave) -> Result<Wave, Al
 }
 
 /// The delay with rise and fall exchanged.
-fn reversed(delay: Delay) -> Delay
+pub(crate) fn reversed(delay: Delay) -> Delay
     ensures exchanged { result ≡ record { rise = delay.fall; fall = delay.rise } }
     ensures in_range { IsInRange delay }
 {
