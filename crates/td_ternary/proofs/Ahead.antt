@@ -1,11 +1,12 @@
 -- A gate with two inputs: its target read from moment to moment, and what its output makes of it.
-use Rattle.std.proofs.Common.{◌≡◌, ◌≢◌, ℕ, suc, ◌+◌, ◌<◌, ◌≤◌, ◌⊎◌, min, List, [], ◌∷◌, ◌++◌, length, drop, get_or, refl, arith, ap, ◌∙◌, sym, inl, inr, Option, Some, None, append-nil, drop-cons}
+use Rattle.std.proofs.Common.{◌≡◌, ◌≢◌, ℕ, zero, suc, ◌+◌, ◌<◌, ◌≤◌, ◌⊎◌, min, List, [], ◌∷◌, ◌++◌, length, drop, get_or, refl, arith, ap, ◌∙◌, sym, inl, inr, Option, Some, None, append-nil, drop-cons}
 use Rattle.std.specs.List.Sorted.{IsStrictlyIncreasing}
 use Rattle.std.proofs.lemmas.Bool.{cases_lt, cases_eq, le-leb, lt-leb, eq-eqb, ne_eqb}
 use Rattle.std.proofs.lemmas.List.{drop_all}
 use Rattle.td_gates.specs.declared.primitives.Level.{Level}
-use Rattle.td_gates.specs.declared.primitives.Level.TheVariants.{Zero as Low, One as High}
+use Rattle.td_gates.specs.declared.primitives.Level.TheVariants.{Zero as Low, One as High, X}
 use Rattle.td_gates.specs.declared.primitives.Kind.{Kind}
+use Rattle.td_gates.specs.declared.primitives.Kind.TheVariants.{And, Nand, Or, Nor, Xor, Xnor, Buf, Not}
 use Rattle.td_gates.specs.declared.timing.Delay.{Delay}
 use Rattle.td_gates.specs.declared.timing.Change.{Change}
 use Rattle.td_gates.specs.Delays.{IsInRange}
@@ -17,8 +18,8 @@ use Rattle.td_run.specs.Waves.{AreWithin}
 use Rattle.td_run.proofs.Sampling.{sampled, sampled-is_wave, sampled-shows}
 use Rattle.td_run.proofs.Turning.{IsStrictlyIncreasing-from}
 use Rattle.td_ternary.specs.Possibles.{possible}
-use Rattle.td_ternary.specs.Prospects.{Outlook, earlier, begun, settling, passed}
-use Rattle.td_ternary.specs.Merging.{first_moment, level_behind, rest_behind, shifted, shifting}
+use Rattle.td_ternary.specs.Prospects.{Outlook, earlier, begun, settling}
+use Rattle.td_ternary.specs.Merging.{first_moment, level_behind, rest_behind, shifted, shifting, beside_one}
 use Rattle.td_ternary.proofs.Computing.{possible_after-same}
 use Rattle.td_ternary.proofs.Passing.{IsKept, IsShown, both, buffer, goes-on, kept-begun, kept-end, kept-rising, kept-possible, begun-level}
 use Rattle.td_ternary.proofs.Moments.{moments, merge, merge-increasing, merge-next, merge-keeps, rising-moments}
@@ -265,3 +266,43 @@ module _ (kind : Kind) (delay falling : Delay) (left right : Wave) where
       kept-possible delay falling (target_of kind left right) start changes out fits (target_of-is_wave kind left right left_is right_is) falling_is
       (begun-level start ∙ ap (λ (level : Level). (begun level).level) is) shown out_is n
       ∙ possible_after-same delay (before (target_of kind left right)) (target_before kind (left ∷ right ∷ [])) (target_of-shows kind left right left_is right_is) n
+
+-- ---- one input
+
+beside-same : (kind : Kind) (level : Level) → table (beside_one kind) (level ∷ High ∷ []) ≡ table kind (level ∷ [])
+beside-same And Low = refl
+beside-same And High = refl
+beside-same And X = refl
+beside-same Nand Low = refl
+beside-same Nand High = refl
+beside-same Nand X = refl
+beside-same Or Low = refl
+beside-same Or High = refl
+beside-same Or X = refl
+beside-same Nor Low = refl
+beside-same Nor High = refl
+beside-same Nor X = refl
+beside-same Xor Low = refl
+beside-same Xor High = refl
+beside-same Xor X = refl
+beside-same Xnor Low = refl
+beside-same Xnor High = refl
+beside-same Xnor X = refl
+beside-same Buf Low = refl
+beside-same Buf High = refl
+beside-same Buf X = refl
+beside-same Not Low = refl
+beside-same Not High = refl
+beside-same Not X = refl
+
+abbrev ones : Wave
+ones = record { start = High; changes = [] }
+
+target-beside : (kind : Kind) (input : Wave) (n : ℕ) → target_before (beside_one kind) (input ∷ ones ∷ []) n ≡ target_before kind (input ∷ []) n
+target-beside kind input zero = beside-same kind input.start
+target-beside kind input (suc t) = beside-same kind (at input t)
+
+pub possible-beside : (kind other : Kind) (delay : Delay) (input beside : Wave) → other ≡ beside_one kind → beside ≡ record { start = High; changes = [] } → (n : ℕ)
+    → possible other delay (input ∷ beside ∷ []) n ≡ possible kind delay (input ∷ []) n
+possible-beside kind other delay input beside other_is beside_is n = rw (other_is, beside_is)
+    (possible_after-same delay (target_before (beside_one kind) (input ∷ ones ∷ [])) (target_before kind (input ∷ [])) (target-beside kind input) n)

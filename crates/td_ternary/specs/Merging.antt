@@ -1,6 +1,8 @@
 -- Internal: signals that are read from moment to moment, and what a gate's output makes of its target where that is read.
 use Rattle.std.specs.Prelude.{ℕ, ◌==◌, List, [], ◌∷◌, Option, Some, None, if◌then◌else◌}
 use Rattle.td_gates.specs.declared.primitives.Level.{Level}
+use Rattle.td_gates.specs.declared.primitives.Kind.{Kind}
+use Rattle.td_gates.specs.declared.primitives.Kind.TheVariants.{And, Nand, Or, Nor, Xor, Xnor, Buf, Not}
 use Rattle.td_gates.specs.declared.timing.Delay.{Delay}
 use Rattle.td_gates.specs.declared.timing.Change.{Change}
 use Rattle.td_gates.specs.Table.{level_eq}
@@ -29,3 +31,14 @@ shifted falling rising sample target now =
 -- the changes of the signal by then
 abbrev pub shifting : Change → Level → Outlook → List Change
 shifting sample target now = if level_eq sample.level target then [] else settling (Some sample.moment) now
+
+-- the kind of a gate with two inputs that makes of a level beside a 1 what a gate of this kind makes of the level alone
+abbrev pub beside_one : Kind → Kind
+beside_one And = And
+beside_one Or = And
+beside_one Xor = And
+beside_one Buf = And
+beside_one Nand = Nand
+beside_one Nor = Nand
+beside_one Xnor = Nand
+beside_one Not = Nand

@@ -117,6 +117,21 @@ pub fn output_of_two(
     Ok(Wave::from_changes(start, changes))
 }
 
+/// The possible levels of the output of a gate whose one input has this signal: those of a gate that has a constant 1 beside it.
+pub fn output_of_one(
+    alloc: Global,
+    kind: Kind,
+    delay: Delay,
+    input: &Wave,
+) -> Result<Wave, AllocError>
+    requires { AreWithin (2 ^ 63) input.now.changes }
+    ensures shows { IfOk result (λ wave. (n : ℕ) → before wave n ≡ possible kind delay (input.now ∷ []) n) }
+    ensures wave { IfOk result (λ wave. IsWave wave) }
+{
+    let ones = Wave::from_changes(Level::One, Vec::new(alloc));
+    output_of_two(alloc, table::beside_one(kind), delay, input, &ones)
+}
+
 /// Room for as many changes as both have.
 fn room(lefts: &[Change], rights: &[Change]) -> usize {
     lefts.len().saturating_add(rights.len()).min(MAX_CHANGES)

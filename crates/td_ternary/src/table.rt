@@ -1,9 +1,8 @@
 //! The tables of gates with one and two inputs.
 
 ghost use Rattle.std.specs.Prelude.{◌≡◌, [], ◌∷◌};
-ghost use Rattle.td_gates.specs.declared.primitives.Level.{Level as LevelModel};
-ghost use Rattle.td_gates.specs.declared.primitives.Level.TheVariants.{One};
 ghost use Rattle.td_gates.specs.Table.{table, and_of, or_of, xor_of};
+ghost use Rattle.td_ternary.specs.Merging.{beside_one};
 
 use td_gates::{Kind, Level};
 
@@ -20,6 +19,16 @@ pub fn of_two(kind: Kind, first: Level, second: Level) -> Level
         Kind::Xnor => xor(first, second).inverse(),
         Kind::Buf => first,
         Kind::Not => first.inverse(),
+    }
+}
+
+/// The kind of a gate with two inputs that makes of a level beside a 1 what a gate of this kind makes of the level alone.
+pub fn beside_one(kind: Kind) -> Kind
+    ensures { result ≡ beside_one kind }
+{
+    match kind {
+        Kind::And | Kind::Or | Kind::Xor | Kind::Buf => Kind::And,
+        Kind::Nand | Kind::Nor | Kind::Xnor | Kind::Not => Kind::Nand,
     }
 }
 

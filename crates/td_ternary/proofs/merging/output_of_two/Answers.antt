@@ -35,7 +35,6 @@ loop-moment-preserved c = merging-on c.args.kind c.args.delay c.reversed-falling
     c.read-first.ensures.rest c.read-second.ensures.rest c.read-first.ensures.level c.read-second.ensures.level c.of_two-level.ensures c.in_ok-next.ensures.target
     c.in_ok-next.ensures.outlook c.in_ok-next.ensures.changes
 
-
 none_next : (c : goal.In_ok-finish)
     → earlier (first_moment (drop c.loop-moment.first.place c.changes-lefts.result.now)) (first_moment (drop c.loop-moment.second.place c.changes-rights.result.now)) ≡ None
 none_next c = next-is c.moment_at.result c.moment_at-in-loop-moment.result _ _ None
