@@ -23,6 +23,7 @@ pub struct Reading {
 }
 
 /// The moment of the change at a place, if one is there.
+#[inline(always)]
 fn moment_at(changes: &[Change], place: usize) -> Option<u64>
     ensures { result ≡ first_moment (drop place changes.now) }
 {
@@ -33,6 +34,7 @@ fn moment_at(changes: &[Change], place: usize) -> Option<u64>
 }
 
 /// The earlier of the moments that are there.
+#[inline(always)]
 fn earlier(this: Option<u64>, that: Option<u64>) -> Option<u64>
     ensures { result ≡ earlier this that }
 {
@@ -44,6 +46,7 @@ fn earlier(this: Option<u64>, that: Option<u64>) -> Option<u64>
 }
 
 /// The signal is read up to behind this moment, before which it has no other change.
+#[inline(always)]
 fn read(changes: &[Change], reading: Reading, moment: u64) -> Reading
     ensures level { result.level ≡ level_behind moment reading.level (drop reading.place changes.now) }
     ensures rest { drop result.place changes.now ≡ rest_behind moment (drop reading.place changes.now) }
@@ -57,13 +60,16 @@ fn read(changes: &[Change], reading: Reading, moment: u64) -> Reading
     }
 }
 
-/// The target is read at a moment: where its level is another one, it changes.
+/// The target is read at a moment: where its level is another one, it changes. Room for the changes is taken where the first is
+/// known to come, since for many gates none does.
+#[inline(always)]
 fn shift(
     changes: &mut Vec<Change>,
     now: Tracks,
     falling: Delay,
     rising: Delay,
     sample: Change,
+    room: usize,
 ) -> Result<Tracks, AllocError>
     requires { sample.moment ≤ 2 ^ 63 }
     ensures outlook { IfOk result (λ after. outlook_of after ≡ shifted falling rising sample now.target (outlook_of now)) }
@@ -72,6 +78,9 @@ fn shift(
 {
     if sample.level == now.target {
         return Ok(now);
+    }
+    if changes.capacity() == 0 {
+        changes.reserve_exact(room)?;
     }
     pass(changes, now, falling, rising, sample)
 }
@@ -102,7 +111,8 @@ pub fn output_of_two(
     };
     let start = table::of_two(kind, first.level, second.level);
     let mut now = begun(start);
-    let mut changes = Vec::with_capacity(alloc, room(lefts, rights))?;
+    let room = room_for(lefts, rights);
+    let mut changes = Vec::new(alloc);
     while let Some(moment) = earlier(
         moment_at(lefts, first.place),
         moment_at(rights, second.place),
@@ -110,7 +120,14 @@ pub fn output_of_two(
         first = read(lefts, first, moment);
         second = read(rights, second, moment);
         let level = table::of_two(kind, first.level, second.level);
-        let next = shift(&mut changes, now, falling, delay, Change { moment, level })?;
+        let next = shift(
+            &mut changes,
+            now,
+            falling,
+            delay,
+            Change { moment, level },
+            room,
+        )?;
         now = next;
     }
     finish(&mut changes, now)?;
@@ -132,7 +149,7 @@ pub fn output_of_one(
     output_of_two(alloc, table::beside_one(kind), delay, input, &ones)
 }
 
-/// Room for as many changes as both have.
-fn room(lefts: &[Change], rights: &[Change]) -> usize {
+/// How many changes the output is given room for: as many as both inputs have.
+fn room_for(lefts: &[Change], rights: &[Change]) -> usize {
     lefts.len().saturating_add(rights.len()).min(MAX_CHANGES)
 }

@@ -1,4 +1,5 @@
-//! The possible levels of an output, from change to change of its target.
+//! The possible levels of an output, from change to change of its target. All stands in the loops that call it (`inline`), so that both
+//! levels stay in registers there.
 
 ghost use Rattle.std.specs.Prelude.{◌≡◌, ◌≤◌, ◌<◌, ◌-◌, ◌^◌, ◌++◌, None, Some, IfOk, OnOk};
 ghost use Rattle.td_ternary.specs.Possibles.{change_at};
@@ -57,6 +58,7 @@ fn either(zero: Level, one: Level) -> Level
 }
 
 /// The track of a level behind a moment: what is due by then takes place.
+#[inline(always)]
 fn fired(track: Track, level: Level, target: Level, moment: u64) -> Track
     requires { moment < 2 ^ 64 - 1 }
     ensures { prospect_of level target result ≡ fired moment (prospect_of level target track) }
@@ -72,6 +74,7 @@ fn fired(track: Track, level: Level, target: Level, moment: u64) -> Track
 }
 
 /// Both levels behind a moment: what is due by then takes place.
+#[inline(always)]
 fn turned(now: Tracks, moment: u64) -> Tracks
     requires { moment < 2 ^ 64 - 1 }
     ensures { outlook_of result ≡ turned (Some moment) (outlook_of now) }
@@ -88,6 +91,7 @@ fn turned(now: Tracks, moment: u64) -> Tracks
 }
 
 /// Adds the change of a moment, where the level is another one then.
+#[inline(always)]
 fn add_change(
     changes: &mut Vec<Change>,
     moment: u64,
@@ -103,6 +107,7 @@ fn add_change(
 }
 
 /// The next events that are due by the end take place. The signal's change, if it has one, is added.
+#[inline(always)]
 fn step(changes: &mut Vec<Change>, now: Tracks, end: u64) -> Result<Tracks, AllocError>
     requires { end < 2 ^ 64 - 1 }
     ensures outlook { IfOk result (λ after. outlook_of after ≡ stepped (Some end) (outlook_of now)) }
@@ -118,6 +123,7 @@ fn step(changes: &mut Vec<Change>, now: Tracks, end: u64) -> Result<Tracks, Allo
 }
 
 /// The events that are due by the end take place.
+#[inline(always)]
 fn settle(changes: &mut Vec<Change>, now: Tracks, end: u64) -> Result<Tracks, AllocError>
     requires { end < 2 ^ 64 - 1 }
     ensures outlook { IfOk result (λ after. outlook_of after ≡ settled (Some end) (outlook_of now)) }
@@ -137,6 +143,7 @@ pub fn finish(changes: &mut Vec<Change>, now: Tracks) -> Result<(), AllocError>
 
 /// The track of a level behind a change of the target: where the target may now be the level and couldn't be, or the other way
 /// round, an event is scheduled, or taken back.
+#[inline(always)]
 fn driven(track: Track, level: Level, target: Level, delay: Delay, change: Change) -> Track
     requires { change.moment ≤ 2 ^ 63 }
     ensures { prospect_of level change.level result ≡ driven level delay change (prospect_of level target track) }
@@ -176,6 +183,7 @@ pub fn begun(start: Level) -> Tracks
 }
 
 /// What is due by a change of the target takes place, and then the target changes.
+#[inline(always)]
 pub fn pass(
     changes: &mut Vec<Change>,
     now: Tracks,
