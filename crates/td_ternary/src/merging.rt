@@ -1,6 +1,6 @@
 //! A gate with two inputs: the possible levels of its output in one pass over the changes of both.
 
-ghost use Rattle.std.specs.Prelude.{◌≡◌, ℕ, ◌≤◌, ◌^◌, [], ◌∷◌, ◌++◌, drop, IfOk, OnOk};
+ghost use Rattle.std.specs.Prelude.{◌≡◌, ℕ, ◌≤◌, ◌+◌, ◌^◌, [], ◌∷◌, ◌++◌, drop, length, min, IfOk, OnOk};
 ghost use Rattle.td_gates.specs.Wave.{before, IsWave};
 ghost use Rattle.td_run.specs.Waves.{AreWithin};
 ghost use Rattle.td_ternary.specs.Possibles.{possible};
@@ -150,6 +150,8 @@ pub fn output_of_one(
 }
 
 /// How many changes the output is given room for: as many as both inputs have.
-fn room_for(lefts: &[Change], rights: &[Change]) -> usize {
+fn room_for(lefts: &[Change], rights: &[Change]) -> usize
+    ensures { result ≡ min (length lefts.now + length rights.now) 512 }
+{
     lefts.len().saturating_add(rights.len()).min(MAX_CHANGES)
 }
