@@ -10,7 +10,7 @@ use Rattle.td_gates.proofs.Levels.{level_eq-same, level_eq-other, cases_level, l
 use Rattle.td_gates.proofs.Scheduling.{delivered, delivered-rising, event_of, aim_of, IsReady, IsReady-event_of}
 use Rattle.td_run.specs.Waves.{event_for}
 use Rattle.td_run.proofs.Delayed.{aim-event_for, delivered-none, delivered-early}
-use Rattle.td_ternary.specs.declared.prospects.Prospect.{Prospect}
+use Rattle.td_ternary.specs.Prospects.{Prospect}
 use Rattle.td_ternary.specs.Turning.{may_be}
 use Rattle.td_ternary.specs.Prospects.{fired, driven}
 use Rattle.td_ternary.proofs.Turning.{turns, turns-rising}

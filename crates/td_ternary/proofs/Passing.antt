@@ -4,7 +4,7 @@ use Rattle.std.proofs.lemmas.List.{drop_all}
 use Rattle.std.specs.Prelude.{nat_le}
 use Rattle.std.proofs.lemmas.Bool.{cases_lt, le-leb, lt-leb, cases_Bool}
 use Rattle.td_gates.specs.declared.primitives.Level.{Level}
-use Rattle.td_gates.specs.declared.primitives.Level.TheVariants.{Zero as Low, One as High}
+use Rattle.td_gates.specs.declared.primitives.Level.TheVariants.{Zero as Low, One as High, X}
 use Rattle.td_gates.specs.declared.timing.Delay.{Delay}
 use Rattle.td_gates.specs.declared.timing.Change.{Change}
 use Rattle.td_gates.specs.Delays.{IsInRange}
@@ -12,8 +12,8 @@ use Rattle.td_gates.specs.Wave.{Wave, level_after, at, before, IsRising, IsWave}
 use Rattle.td_gates.proofs.Levels.{level_eq-same, level_eq-other, cases_level, level_after-early, IsRising-sooner}
 use Rattle.td_gates.proofs.Scheduling.{delivered, IsReady}
 use Rattle.td_run.proofs.Delayed.{delayed_wave, delayed_wave-obeys}
-use Rattle.td_ternary.specs.declared.prospects.Prospect.{Prospect}
-use Rattle.td_ternary.specs.declared.prospects.Outlook.{Outlook}
+use Rattle.td_ternary.specs.Prospects.{Prospect}
+use Rattle.td_ternary.specs.Prospects.{Outlook}
 use Rattle.td_ternary.specs.Possibles.{has, is_possible, change_at}
 use Rattle.td_ternary.specs.Turning.{may_be, either, possible_after}
 use Rattle.td_ternary.specs.Prospects.{is_by, due_moment, earlier, fired, fired_by, level_of, stepped, stepping, settled, settling, driven, begun, passed}
@@ -418,6 +418,20 @@ abbrev pub IsKept : Delay → Delay → Wave → List Change → List Change →
 IsKept delay falling target rest out now = (fits : IsInRange delay) (fits_falling : IsInRange falling)
     → Goes falling delay fits_falling fits (buffer Low falling target) (buffer High delay target) (begun target.start).level rest out now
 
+-- before the first change of the target
+pub kept-begun : (delay falling : Delay) (target : Wave) → IsWave target → IsKept delay falling target target.changes [] (begun target.start)
+kept-begun delay falling target is fits fits_falling = record {
+  n = 0;
+  level = target.start;
+  rising = is;
+  way = record {
+    zero_is = record { shows = λ t late. refl; ready = tt; aim = refl; may = refl };
+    one_is = record { shows = λ t late. refl; ready = tt; aim = refl; may = refl };
+    level_is = refl;
+    goes_on = λ later shown. shown;
+  };
+}
+
 pub kept-on : (delay falling : Delay) (target : Wave) (all out changes : List Change) (now next : Outlook) (i : ℕ) (z : Change) → i < length all
     → IsKept delay falling target (drop i all) out now → changes ≡ out ++ settling (Some (get_or all i z).moment) now
     → next ≡ passed falling delay (get_or all i z) now → IsKept delay falling target (drop (i + 1) all) changes next
@@ -442,6 +456,12 @@ kept-end delay falling target all out changes now i past fits is kept changes_ar
     let fits_falling = exchanged-in_range delay falling fits is in
     let goes = rw (drop_all i all past) at (kept fits fits_falling) in
     rw changes_are (ends falling delay fits_falling fits _ _ _ out now goes)
+
+-- the output starts at the target's level
+pub begun-level : (start : Level) → start ≡ (begun start).level
+begun-level Low = refl
+begun-level High = refl
+begun-level X = refl
 
 pub kept-rising : (delay falling : Delay) (target : Wave) (start : Level) (changes : List Change) → start ≡ (begun target.start).level
     → IsShown 0 (begun target.start).level changes (both (buffer Low falling target) (buffer High delay target)) → IsRising 0 start changes

@@ -6,10 +6,21 @@ use Rattle.td_gates.specs.declared.timing.Delay.{Delay}
 use Rattle.td_gates.specs.declared.timing.Change.{Change}
 use Rattle.td_gates.specs.Table.{level_eq}
 use Rattle.td_run.specs.Waves.{event_for}
-use Rattle.td_ternary.specs.declared.prospects.Prospect.{Prospect}
-use Rattle.td_ternary.specs.declared.prospects.Outlook.{Outlook}
 use Rattle.td_ternary.specs.Possibles.{change_at}
 use Rattle.td_ternary.specs.Turning.{may_be, either}
+
+-- What is known of one level over time: whether the target and the output may be it, 1 where they may, else 0, and the change of
+-- the output that is scheduled.
+pub record Prospect : Type 0 where
+  pub target : Level
+  pub output : Level
+  pub scheduled : Option Change
+
+-- what is known of both levels, and the level that stands for those that are possible
+pub record Outlook : Type 0 where
+  pub level : Level
+  pub zero : Prospect
+  pub one : Prospect
 
 -- whether a moment is by the end, which is none for a time without end
 abbrev pub is_by : Option ℕ → ℕ → Bool

@@ -5,17 +5,19 @@ ghost use Rattle.std.specs.List.{All};
 ghost use Rattle.td_gates.specs.Delays.{IsInRange};
 ghost use Rattle.td_gates.specs.Table.{TakesInputs};
 ghost use Rattle.td_gates.specs.Wave.{before, IsWave};
-ghost use Rattle.td_run.specs.Waves.{AreWithin};
-ghost use Rattle.td_ternary.specs.Possibles.{gate_signal, last_change, last_level, change_at, capped};
+ghost use Rattle.td_run.specs.Waves.{AreWithin, waves_of};
+ghost use Rattle.td_ternary.specs.Possibles.{gate_signal, possible, last_change, last_level, change_at, capped};
 ghost use Rattle.td_ternary.specs.Turning.{possible_after};
 
-use crate::prospects::{begun, pass, settle};
+use crate::merging::{output_of_one, output_of_two};
+use crate::tracks::{begun, finish, pass};
 use std::alloc::{AllocError, Global};
 use td_gates::{Change, Delay, Kind, Level};
 use td_run::Wave;
 use td_run::stages::target;
 
-const MAX_CHANGES: usize = 512;
+/// The greatest number of changes of a signal.
+pub(crate) const MAX_CHANGES: usize = 512;
 
 /// The signal of the output of a gate whose inputs have the signals at these places.
 pub fn output(
@@ -33,9 +35,55 @@ pub fn output(
 {
     // The range of the delay, for the proof.
     let _rise = delay.rise;
-    let target = target(alloc, kind, all, ins)?;
-    let signal = possible_after(alloc, delay, &target)?;
+    let signal = uncapped(alloc, kind, delay, all, ins)?;
     capped(alloc, signal)
+}
+
+/// The possible levels of the output of such a gate, with all changes.
+fn uncapped(
+    alloc: Global,
+    kind: Kind,
+    delay: Delay,
+    all: &[Wave],
+    ins: &[u32],
+) -> Result<Wave, AllocError>
+    requires places { All (λ place. place < length all.now) ins.now }
+    requires few { length ins.now ≤ 1024 }
+    requires takes { TakesInputs kind (length ins.now) }
+    requires within { All (λ signal. AreWithin (2 ^ 63) signal.changes) (waves_of all.now ins.now) }
+    ensures shows { IfOk result (λ wave. (n : ℕ) → before wave n ≡ possible kind delay (waves_of all.now ins.now) n) }
+    ensures wave { IfOk result (λ wave. IsWave wave) }
+{
+    match ins.len() {
+        1 => output_of_one(alloc, kind, delay, &all[ins[0] as usize]),
+        2 => output_of_two(
+            alloc,
+            kind,
+            delay,
+            &all[ins[0] as usize],
+            &all[ins[1] as usize],
+        ),
+        _ => output_of_many(alloc, kind, delay, all, ins),
+    }
+}
+
+/// The possible levels of the output of a gate with any number of inputs, from the wave of its target.
+fn output_of_many(
+    alloc: Global,
+    kind: Kind,
+    delay: Delay,
+    all: &[Wave],
+    ins: &[u32],
+) -> Result<Wave, AllocError>
+    requires places { All (λ place. place < length all.now) ins.now }
+    requires few { length ins.now ≤ 1024 }
+    requires takes { TakesInputs kind (length ins.now) }
+    requires within { All (λ signal. AreWithin (2 ^ 63) signal.changes) (waves_of all.now ins.now) }
+    ensures shows { IfOk result (λ wave. (n : ℕ) → before wave n ≡ possible kind delay (waves_of all.now ins.now) n) }
+    ensures wave { IfOk result (λ wave. IsWave wave) }
+{
+    let target = target(alloc, kind, all, ins)?;
+    possible_after(alloc, delay, &target)
 }
 
 /// The possible levels of an output whose target has these.
@@ -45,19 +93,19 @@ fn possible_after(alloc: Global, delay: Delay, target: &Wave) -> Result<Wave, Al
     ensures wave { IfOk result (λ wave. IsWave wave) }
 {
     let reversed = reversed(delay);
-    let start = begun(target.start());
-    let mut now = start;
+    let start = target.start();
+    let mut now = begun(start);
     let mut changes = Vec::with_capacity(alloc, target.changes().len())?;
     for change in target.changes() {
         let next = pass(&mut changes, now, reversed, delay, *change)?;
         now = next;
     }
-    let _end = settle(&mut changes, now, None)?;
-    Ok(Wave::from_changes(start.level, changes))
+    finish(&mut changes, now)?;
+    Ok(Wave::from_changes(start, changes))
 }
 
 /// The delay with rise and fall exchanged.
-fn reversed(delay: Delay) -> Delay
+pub(crate) fn reversed(delay: Delay) -> Delay
     ensures exchanged { result ≡ record { rise = delay.fall; fall = delay.rise } }
     ensures in_range { IsInRange delay }
 {
