@@ -92,7 +92,9 @@ fn redo_gates<D: Domain>(
     Ok(())
 }
 
-/// Evaluates the gate at a place anew, where it reads a changed signal. Its output is marked where its signal has changed.
+/// Evaluates the gate at a place anew, where it reads a changed signal. Its output is marked where its signal has changed. A narrowing
+/// calls it for each gate that its input reaches, so it stands in their loop.
+#[inline(always)]
 fn redo_gate<D: Domain>(
     alloc: Global,
     circuit: &Circuit,
