@@ -58,9 +58,30 @@ fn picked(alloc: Global, all: &[Signal], places: &[u32]) -> Result<Vec<Signal>, 
     Ok(signals)
 }
 
-/// The signal of the output of a gate whose inputs have these signals. For two and three inputs its loops are straight lines.
+/// The signal of the output of a gate whose inputs have these signals. For two and three inputs its loops are straight lines, one for
+/// each kind of gate, which is asked for once.
 #[inline(always)]
 fn output(kind: Kind, delay: Delay, signals: &[Signal]) -> Signal
+    requires takes { TakesInputs kind (length signals.now) }
+    requires few { length signals.now ≤ 1024 }
+    requires within { All (λ signal. span_reach signal.changes + max delay.rise delay.fall < 10 ^ 15) signals.now }
+    ensures { result ≡ gate_signal kind delay signals.now }
+{
+    match kind {
+        Kind::And => output_of(Kind::And, delay, signals),
+        Kind::Nand => output_of(Kind::Nand, delay, signals),
+        Kind::Or => output_of(Kind::Or, delay, signals),
+        Kind::Nor => output_of(Kind::Nor, delay, signals),
+        Kind::Xor => output_of(Kind::Xor, delay, signals),
+        Kind::Xnor => output_of(Kind::Xnor, delay, signals),
+        Kind::Buf => output_of(Kind::Buf, delay, signals),
+        Kind::Not => output_of(Kind::Not, delay, signals),
+    }
+}
+
+/// The signal of the output of a gate of a kind that is known where this is called.
+#[inline(always)]
+fn output_of(kind: Kind, delay: Delay, signals: &[Signal]) -> Signal
     requires takes { TakesInputs kind (length signals.now) }
     requires few { length signals.now ≤ 1024 }
     requires within { All (λ signal. span_reach signal.changes + max delay.rise delay.fall < 10 ^ 15) signals.now }
@@ -80,6 +101,7 @@ fn output(kind: Kind, delay: Delay, signals: &[Signal]) -> Signal
 }
 
 /// The output's level at the start, x where it isn't known.
+#[inline(always)]
 fn start_of(kind: Kind, signals: &[Signal]) -> Level
     requires takes { TakesInputs kind (length signals.now) }
     requires few { length signals.now ≤ 1024 }
@@ -93,6 +115,7 @@ fn start_of(kind: Kind, signals: &[Signal]) -> Level
 }
 
 /// The output's level at the finish, x where it isn't known.
+#[inline(always)]
 fn finish_of(kind: Kind, signals: &[Signal]) -> Level
     requires takes { TakesInputs kind (length signals.now) }
     requires few { length signals.now ≤ 1024 }
@@ -106,6 +129,7 @@ fn finish_of(kind: Kind, signals: &[Signal]) -> Level
 }
 
 /// The changes of the output of a gate whose inputs change within the span.
+#[inline(always)]
 fn changes_within(
     kind: Kind,
     delay: Delay,
@@ -134,6 +158,7 @@ fn changes_within(
 }
 
 /// The level of an input that settles the output by itself.
+#[inline(always)]
 fn controlling_level(kind: Kind) -> Option<Level>
     ensures { result ≡ controlling kind }
 {
@@ -145,6 +170,7 @@ fn controlling_level(kind: Kind) -> Option<Level>
 }
 
 /// Whether this is the controlling level.
+#[inline(always)]
 fn is_control(control: Option<Level>, level: Level) -> bool
     ensures { result ≡ controls control level }
 {
@@ -155,6 +181,7 @@ fn is_control(control: Option<Level>, level: Level) -> bool
 }
 
 /// Whether an input keeps the controlling level for ever.
+#[inline(always)]
 fn any_held(control: Option<Level>, signals: &[Signal]) -> bool
     ensures { result ≡ is_held control signals.now }
 {
@@ -162,6 +189,7 @@ fn any_held(control: Option<Level>, signals: &[Signal]) -> bool
 }
 
 /// Until when the inputs that surely start at the controlling level keep the target.
+#[inline(always)]
 fn opening(control: Option<Level>, earliest: u64, signals: &[Signal]) -> u64
     ensures { result ≡ opens_at control earliest signals.now }
 {
@@ -177,6 +205,7 @@ fn opening(control: Option<Level>, earliest: u64, signals: &[Signal]) -> u64
 }
 
 /// From when on the inputs that surely finish at the controlling level keep the target.
+#[inline(always)]
 fn closing(control: Option<Level>, latest: u64, signals: &[Signal]) -> u64
     ensures { result ≡ closes_at control latest signals.now }
 {
@@ -192,6 +221,7 @@ fn closing(control: Option<Level>, latest: u64, signals: &[Signal]) -> u64
 }
 
 /// Whether a departure from the start comes back too soon to be seen.
+#[inline(always)]
 fn lost(delay: Delay, start: Level, finish: Level, width: u64) -> bool
     ensures { result ≡ is_lost delay start finish width }
 {
@@ -203,6 +233,7 @@ fn lost(delay: Delay, start: Level, finish: Level, width: u64) -> bool
 }
 
 /// The steps of the last change, to a level that may be unknown.
+#[inline(always)]
 fn slowest_to(delay: Delay, finish: Level) -> u64
     ensures slowest { result ≡ last_delay delay finish }
     ensures few { result ≤ max delay.rise delay.fall }
@@ -216,6 +247,7 @@ fn slowest_to(delay: Delay, finish: Level) -> u64
 }
 
 /// The least span around the changes of the signals, if any may change.
+#[inline(always)]
 fn hull_of(signals: &[Signal]) -> Option<Span>
     ensures { result ≡ hull signals.now }
 {
@@ -227,6 +259,7 @@ fn hull_of(signals: &[Signal]) -> Option<Span>
 }
 
 /// The least span around both.
+#[inline(always)]
 fn around_both(changes: Option<Span>, others: Option<Span>) -> Option<Span>
     ensures { result ≡ around changes others }
 {
