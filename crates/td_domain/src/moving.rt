@@ -1,6 +1,6 @@
 //! From cube to cube.
 
-ghost use Rattle.std.specs.Prelude.{◌≡◌, ◌*◌, ◌<◌, true, length, set, OnOk, IfOk};
+ghost use Rattle.std.specs.Prelude.{◌≡◌, ◌*◌, ◌<◌, true, length, set, take, OnOk, IfOk};
 ghost use Rattle.td_circuit.specs.Numbering.{Numbered};
 ghost use Rattle.td_domain.specs.Sheets.{IsSheet};
 
@@ -63,12 +63,31 @@ fn narrow_to<D: Domain>(
     ensures sheet { IsSheet D.functions D.reach circuit.now sheet.new }
     ensures cube { IfOk result (λ reached. reached ≡ true → sheet.new.cube ≡ cube.now) }
 {
-    for position in 0..cube.len() {
+    let mut position = 0;
+    for _ in 0..cube.len() {
+        position = agreeing(sheet.cube(), cube, position);
+        if position >= cube.len() {
+            break;
+        }
         if !narrow_at(circuit, sheet, position, cube.trit(position))? {
             return Ok(false);
         }
+        position += 1;
     }
-    Ok(true)
+    Ok(position >= cube.len())
+}
+
+/// The first position from this one on at which two cubes differ, or where one ends.
+fn agreeing(one: &Cube, other: &Cube, from: usize) -> usize
+    ensures { take from one.now ≡ take from other.now → take result one.now ≡ take result other.now }
+{
+    let end = one.len().min(other.len());
+    for position in from..end {
+        if one.trit(position) != other.trit(position) {
+            return position;
+        }
+    }
+    from.max(end)
 }
 
 /// Gives a position of the sheet's cube this trit, where it is another, by a narrowing. False where no narrowing does that.
