@@ -1,8 +1,9 @@
 //! The signal of a gate's output.
 
-ghost use Rattle.std.specs.Prelude.{◌≡◌, Some, ◌≤◌, ◌<◌, ◌+◌, ◌^◌, max, IfOk, length, filter_map, slice_get};
+ghost use Rattle.std.specs.Prelude.{◌≡◌, [], ◌∷◌, Some, ◌≤◌, ◌<◌, ◌+◌, ◌^◌, max, IfOk, length, filter_map, slice_get};
 ghost use Rattle.std.specs.List.{All};
-ghost use Rattle.td_gates.specs.Table.{TakesInputs, controls, controlling};
+ghost use Rattle.td_gates.specs.Table.{TakesInputs, table, controls, controlling};
+ghost use Rattle.td_gates.specs.declared.primitives.Kind.TheVariants.{And, Or, Xor};
 ghost use Rattle.td_arrival.specs.Arrivals.{gate_signal, hull, around, is_held, opens_at, closes_at, gate_changes, last_delay, is_lost, gate_start, gate_finish};
 ghost use Rattle.td_arrival.specs.Coverage.{span_reach};
 
@@ -26,11 +27,8 @@ pub fn output_at(
     ensures { IfOk result (λ signal. signal ≡ gate_signal kind delay (filter_map (slice_get all.now) places.now)) }
 {
     match places {
-        [one] => Ok(output(kind, delay, &[all[*one as usize]])),
-        [one, other] => {
-            let two = [all[*one as usize], all[*other as usize]];
-            Ok(output(kind, delay, &two))
-        }
+        [one] => Ok(output_of_one(kind, delay, &[all[*one as usize]])),
+        [one, other] => Ok(output_of_two(kind, delay, &all[*one as usize], &all[*other as usize])),
         [one, other, third] => {
             let three = [
                 all[*one as usize],
@@ -58,7 +56,109 @@ fn picked(alloc: Global, all: &[Signal], places: &[u32]) -> Result<Vec<Signal>, 
     Ok(signals)
 }
 
-/// The signal of the output of a gate whose inputs have these signals. For two and three inputs its loops are straight lines.
+/// The signal of the output of a gate whose one input has this signal. Such a gate is nearly always a buf or a not.
+fn output_of_one(kind: Kind, delay: Delay, signals: &[Signal; 1]) -> Signal
+    requires takes { TakesInputs kind (length signals.now) }
+    requires few { length signals.now ≤ 1024 }
+    requires within { All (λ signal. span_reach signal.changes + max delay.rise delay.fall < 10 ^ 15) signals.now }
+    ensures { result ≡ gate_signal kind delay signals.now }
+{
+    match kind {
+        Kind::Buf => output(Kind::Buf, delay, signals),
+        Kind::Not => output(Kind::Not, delay, signals),
+        _ => output(kind, delay, signals),
+    }
+}
+
+/// The signal of the output of a gate whose two inputs have these signals. Most gates have two, so the kind is asked for once, and what
+/// follows is made for each kind.
+fn output_of_two(kind: Kind, delay: Delay, one: &Signal, other: &Signal) -> Signal
+    requires takes { TakesInputs kind 2 }
+    requires within { All (λ signal. span_reach signal.changes + max delay.rise delay.fall < 10 ^ 15) (one.now ∷ other.now ∷ []) }
+    ensures { result ≡ gate_signal kind delay (one.now ∷ other.now ∷ []) }
+{
+    match kind {
+        Kind::And => output_by_levels(Kind::And, delay, one, other),
+        Kind::Nand => output_by_levels(Kind::Nand, delay, one, other),
+        Kind::Or => output_by_levels(Kind::Or, delay, one, other),
+        Kind::Nor => output_by_levels(Kind::Nor, delay, one, other),
+        Kind::Xor => output_by_levels(Kind::Xor, delay, one, other),
+        Kind::Xnor => output_by_levels(Kind::Xnor, delay, one, other),
+        Kind::Buf => output_by_levels(Kind::Buf, delay, one, other),
+        Kind::Not => output_by_levels(Kind::Not, delay, one, other),
+    }
+}
+
+/// The signal of the output of a gate with two inputs, of a kind that is known where this is called.
+#[inline(always)]
+fn output_by_levels(kind: Kind, delay: Delay, one: &Signal, other: &Signal) -> Signal
+    requires takes { TakesInputs kind 2 }
+    requires within { All (λ signal. span_reach signal.changes + max delay.rise delay.fall < 10 ^ 15) (one.now ∷ other.now ∷ []) }
+    ensures { result ≡ gate_signal kind delay (one.now ∷ other.now ∷ []) }
+{
+    let start = level_of_two(kind, one.start, other.start);
+    let finish = level_of_two(kind, one.finish, other.finish);
+    let signals = [*one, *other];
+    output_between(kind, delay, start, finish, &signals)
+}
+
+/// The output's level of a gate with two inputs at these levels.
+#[inline(always)]
+fn level_of_two(kind: Kind, one: Level, other: Level) -> Level
+    requires { TakesInputs kind 2 }
+    ensures { result ≡ table kind (one ∷ other ∷ []) }
+{
+    match kind {
+        Kind::And => and_of_two(one, other),
+        Kind::Nand => and_of_two(one, other).inverse(),
+        Kind::Or => or_of_two(one, other),
+        Kind::Nor => or_of_two(one, other).inverse(),
+        Kind::Xor => xor_of_two(one, other),
+        Kind::Xnor => xor_of_two(one, other).inverse(),
+        Kind::Buf | Kind::Not => Level::X,
+    }
+}
+
+/// 0 where one is 0, else x where one is x.
+#[inline(always)]
+fn and_of_two(one: Level, other: Level) -> Level
+    ensures { result ≡ table And (one ∷ other ∷ []) }
+{
+    match (one, other) {
+        (Level::Zero, _) => Level::Zero,
+        (_, Level::Zero) => Level::Zero,
+        (Level::One, Level::One) => Level::One,
+        (_, _) => Level::X,
+    }
+}
+
+/// 1 where one is 1, else x where one is x.
+#[inline(always)]
+fn or_of_two(one: Level, other: Level) -> Level
+    ensures { result ≡ table Or (one ∷ other ∷ []) }
+{
+    match (one, other) {
+        (Level::One, _) => Level::One,
+        (_, Level::One) => Level::One,
+        (Level::Zero, Level::Zero) => Level::Zero,
+        (_, _) => Level::X,
+    }
+}
+
+/// X where one is x, else whether they differ.
+#[inline(always)]
+fn xor_of_two(one: Level, other: Level) -> Level
+    ensures { result ≡ table Xor (one ∷ other ∷ []) }
+{
+    match (one, other) {
+        (Level::X, _) => Level::X,
+        (_, Level::X) => Level::X,
+        (Level::Zero, other) => other,
+        (Level::One, other) => other.inverse(),
+    }
+}
+
+/// The signal of the output of a gate whose inputs have these signals. For three inputs its loops are straight lines.
 #[inline(always)]
 fn output(kind: Kind, delay: Delay, signals: &[Signal]) -> Signal
     requires takes { TakesInputs kind (length signals.now) }
@@ -68,6 +168,23 @@ fn output(kind: Kind, delay: Delay, signals: &[Signal]) -> Signal
 {
     let start = start_of(kind, signals);
     let finish = finish_of(kind, signals);
+    output_between(kind, delay, start, finish, signals)
+}
+
+/// The signal of the output of a gate whose inputs have these signals, and whose levels at the start and at the finish are known.
+#[inline(always)]
+fn output_between(
+    kind: Kind,
+    delay: Delay,
+    start: Level,
+    finish: Level,
+    signals: &[Signal],
+) -> Signal
+    requires start { start ≡ gate_start kind signals.now }
+    requires finish { finish ≡ gate_finish kind signals.now }
+    requires within { All (λ signal. span_reach signal.changes + max delay.rise delay.fall < 10 ^ 15) signals.now }
+    ensures { result ≡ gate_signal kind delay signals.now }
+{
     let changes = match hull_of(signals) {
         None => None,
         Some(span) => changes_within(kind, delay, start, finish, signals, span),

@@ -29,6 +29,7 @@ pub fn cone(alloc: Global, circuit: &Circuit, net: usize) -> Result<Vec<u32>, Al
 }
 
 /// Whether one of these nets is reached.
+#[inline(always)]
 pub fn reads_one(reached: &[bool], nets: &[u32]) -> bool
     requires { All (λ net. net < length reached.now) nets.now }
     ensures one { result ≡ true → (net : ℕ) × Contains nets.now net × (slice_get reached.now net ≡ Some true) }

@@ -92,7 +92,9 @@ fn redo_gates<D: Domain>(
     Ok(())
 }
 
-/// Evaluates the gate at a place anew, where it reads a changed signal. Its output is marked where its signal has changed.
+/// Evaluates the gate at a place anew, where it reads a changed signal. Its output is marked where its signal has changed. A narrowing
+/// calls it for each gate that its input reaches, so it stands in their loop.
+#[inline(always)]
 fn redo_gate<D: Domain>(
     alloc: Global,
     circuit: &Circuit,
@@ -120,9 +122,42 @@ fn redo_gate<D: Domain>(
 {
     let gates = circuit.gates();
     let gate = &gates[place];
-    if !reads_one(changed, &gate.inputs) {
-        return Ok(());
+    if reads_one(changed, &gate.inputs) {
+        evaluate::<D>(alloc, circuit, place, signals, changed, replaced)
+    } else {
+        Ok(())
     }
+}
+
+/// Evaluates the gate at a place anew. Its output is marked where its signal has changed.
+#[inline(always)]
+fn evaluate<D: Domain>(
+    alloc: Global,
+    circuit: &Circuit,
+    place: usize,
+    signals: &mut [D::Sig],
+    changed: &mut [bool],
+    replaced: &mut Vec<Replaced<D::Sig>>,
+) -> Result<(), AllocError>
+    requires place { place < length circuit.now.gates }
+    requires count { length signals.old ≡ length (nets circuit.now) }
+    requires near { AreNear D.reach signals.old }
+    requires marks { length changed.old ≡ length signals.old }
+    requires settled { AreSettled D.functions circuit.now changed.old signals.old }
+    requires within { AreWithin (length signals.old) replaced.old.items }
+    requires room { vec_len replaced.old < vec_capacity replaced.old }
+    ensures gate { OnOk result ((gate : NumberedGate) → slice_get circuit.now.gates place ≡ Some gate
+        → signals.new ≡ set signals.old (first_output circuit.now + place) (D.functions.gate_of gate.kind gate.delay (filter_map (slice_get signals.old) gate.inputs))) }
+    ensures settled { OnOk result (AreSettled D.functions circuit.now changed.new signals.new) }
+    ensures undone { undone signals.new replaced.new.items ≡ undone signals.old replaced.old.items }
+    ensures within { AreWithin (length signals.old) replaced.new.items }
+    ensures len { length signals.new ≡ length signals.old }
+    ensures marks { length changed.new ≡ length changed.old }
+    ensures room { vec_len replaced.new ≤ vec_len replaced.old + 1 }
+    ensures capacity { vec_capacity replaced.new ≡ vec_capacity replaced.old }
+{
+    let gates = circuit.gates();
+    let gate = &gates[place];
     let signal = D::gate(alloc, gate.kind, gate.delay, signals, &gate.inputs)?;
     let net = circuit.input_count() + 2 + place;
     if D::is_same(&signal, &signals[net]) {

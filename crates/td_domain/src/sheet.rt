@@ -143,6 +143,14 @@ impl<D: Domain> Sheet<D> {
         }
     }
 
+    /// The position of the latest narrowing that still stands.
+    pub(crate) fn latest(&self) -> Option<usize> {
+        match self.narrowings.last() {
+            Some(narrowing) => Some(narrowing.position),
+            None => None,
+        }
+    }
+
     /// Takes back the latest narrowing that still stands. False where there is none.
     pub fn widen(&mut self) -> bool
         ensures widened { IsWidened self.old.wider result self.old self.new }

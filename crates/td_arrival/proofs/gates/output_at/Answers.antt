@@ -51,18 +51,18 @@ three_picked all (a ∷ b ∷ c ∷ []) some few within =
     rw (first, second, third) refl
 three_picked all (a ∷ b ∷ c ∷ d ∷ places) some few within = absurd (omega arith)
 
-pub output-requires-clause-within : goal.output-requires-clause-within
-output-requires-clause-within c =
+pub output_of_one-requires-clause-within : goal.output_of_one-requires-clause-within
+output_of_one-requires-clause-within c =
     subst (Fits (max c.args.delay.rise c.args.delay.fall))
     (one_picked c.args.all.now c.args.places.now c.in-len1.len_at_least c.in-len1.len_below c.requires.places) c.requires.within
 
-pub output-requires-in-len2-clause-within : goal.output-requires-in-len2-clause-within
-output-requires-in-len2-clause-within c =
+pub output_of_two-requires-clause-within : goal.output_of_two-requires-clause-within
+output_of_two-requires-clause-within c =
     subst (Fits (max c.args.delay.rise c.args.delay.fall))
     (two_picked c.args.all.now c.args.places.now c.in-len2.len_at_least c.in-len2.len_below c.requires.places) c.requires.within
 
-pub output-requires-in-len3-clause-within : goal.output-requires-in-len3-clause-within
-output-requires-in-len3-clause-within c =
+pub output-requires-clause-within : goal.output-requires-clause-within
+output-requires-clause-within c =
     subst (Fits (max c.args.delay.rise c.args.delay.fall))
     (three_picked c.args.all.now c.args.places.now c.in-len3.len_at_least c.in-len3.len_below c.requires.places) c.requires.within
 
@@ -85,15 +85,15 @@ output-requires-in_default-clause-few c =
 
 pub returns-in-len1 : goal.returns-in-len1
 returns-in-len1 c =
-    c.output.ensures
+    c.output_of_one.ensures
     ∙ ap (gate_signal c.args.kind c.args.delay) (sym (one_picked c.args.all.now c.args.places.now c.in-len1.len_at_least c.in-len1.len_below c.requires.places))
 
 pub returns-in-len2 : goal.returns-in-len2
 returns-in-len2 c =
-    c.output-in-len2.ensures
+    c.output_of_two.ensures
     ∙ ap (gate_signal c.args.kind c.args.delay) (sym (two_picked c.args.all.now c.args.places.now c.in-len2.len_at_least c.in-len2.len_below c.requires.places))
 
 pub returns-in-len3 : goal.returns-in-len3
 returns-in-len3 c =
-    c.output-in-len3.ensures
+    c.output.ensures
     ∙ ap (gate_signal c.args.kind c.args.delay) (sym (three_picked c.args.all.now c.args.places.now c.in-len3.len_at_least c.in-len3.len_below c.requires.places))

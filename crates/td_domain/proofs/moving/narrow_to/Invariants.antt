@@ -1,5 +1,9 @@
+use Rattle.std.proofs.Common.{◌≡◌, take}
 use Rattle.td_domain.specs.Sheets.{IsSheet}
 use Rattle.td_domain.proofs.moving.narrow_to.Given as goal
 
-abbrev pub invariant-loop-position : goal.invariant-loop-position
-invariant-loop-position g l = IsSheet g.D.Domain.functions g.D.Domain.reach l.circuit l.sheet
+abbrev pub invariant-loop : goal.invariant-loop
+invariant-loop g l = record {
+  sheet : IsSheet g.D.Domain.functions g.D.Domain.reach l.circuit l.sheet;
+  same : take l.position l.sheet.cube ≡ take l.position l.cube;
+}

@@ -7,7 +7,7 @@ use Rattle.td_arrival.specs.declared.signals.Signal.{Signal}
 use Rattle.td_arrival.specs.Arrivals.{hull}
 use Rattle.td_arrival.specs.Coverage.{span_reach}
 use Rattle.td_arrival.specs.ArrivalLaws.{hull_reach, Within}
-use Rattle.td_arrival.proofs.gates.output.Goals as goal
+use Rattle.td_arrival.proofs.gates.output_between.Goals as goal
 
 -- the hull reaches no further than the signals
 within : (signals : List Signal) (span : Span) (delay : ℕ) → Some span ≡ hull signals
