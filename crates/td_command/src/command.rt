@@ -4,8 +4,9 @@ ghost use Rattle.std.specs.Prelude.{◌<◌, ◌^◌, ℕ, codes, map, IfOk, IfE
 ghost use Rattle.clap.specs.Words.{found_of, rows_of, subcommand_rows_of, HasKind};
 ghost use Rattle.td_command.specs.CommandLine.{HasNumber, HasCount, HasFlag, HasStrategy, HasDefault, HasWorkers, HasBudget, HasParts, HasWords, CommandAsks, EnteredAsks, kinds_of, Asks, IsAnswered};
 
-use crate::arguments::{MOST_NODES, MOST_PARTS, MOST_WORKERS, command};
+use crate::arguments::{MOST_NODES, MOST_PARTS, MOST_WORKERS};
 use crate::certificates::{Certificates, words_given};
+use crate::commands::command;
 use clap::{ArgMatches, Error};
 use std::alloc::{AllocError, Global};
 use std::convert::AsStr;

@@ -4,6 +4,7 @@
 mod arguments;
 mod certificates;
 mod command;
+mod commands;
 mod help;
 pub mod laws;
 

@@ -1,0 +1,265 @@
+//! The commands, as the parser of command lines is told them.
+
+ghost use Rattle.std.specs.Prelude.{◌≡◌, [], codes, IfOk, OnOk};
+ghost use Rattle.clap.specs.Words.{app_of, new_app};
+ghost use Rattle.td_command.specs.CommandLine.{sim_command, path_command, bound_command, worst_command, parts_command, join_command, check_command, info_command, bare, program_of, IsOfStrategies, with_runs, with_bounds, with_questions, with_looks};
+ghost use Rattle.td_command.specs.Telling.{told, offering, OffersMore, OffersCommand};
+
+use crate::arguments::Arguments;
+use crate::help::{
+    BOUND_HELP, CHECK_HELP, FREE_HELP, HELP, INFO_HELP, JOIN_HELP, PARTS_HELP, PATH_HELP, SIM_HELP,
+    VERSION, WHOLE_HELP, WORST_HELP,
+};
+use clap::Command;
+use std::alloc::{AllocError, Global};
+use std::marker::Model;
+
+/// The commands of the program, in order. A contract sees what the parser knows of each, which is plain: no argument of
+/// a command is one of the program too.
+#[derive(Drop)]
+struct Commands<'a> {
+    alloc: Global,
+    list: Vec<Command<'a>>,
+}
+
+impl<'a> Model for Commands<'a> {
+    ghost use Rattle.std.specs.Prelude.{◌≡◌, List, map, true};
+    ghost use Rattle.std.specs.List.{All};
+    ghost use Rattle.clap.specs.Words.{Shape, shape_of};
+
+    ghost Value = { List Shape };
+
+    ghost view = { λ commands. map shape_of commands.list.items };
+
+    ghost invariant = { λ commands. All (λ command. (shape_of command).is_plain ≡ true) commands.list.items };
+}
+
+impl<'a> Commands<'a> {
+    fn new(alloc: Global) -> Commands<'a>
+        ensures { result ≡ [] }
+    {
+        Commands {
+            alloc,
+            list: Vec::new(alloc),
+        }
+    }
+
+    /// One command more, of this name and with these arguments.
+    fn add(
+        &mut self,
+        name: &'a str,
+        about: &'a str,
+        examples: &'a str,
+        arguments: Arguments<'a>,
+    ) -> Result<(), AllocError>
+        ensures { OnOk result (OffersCommand (told (new_app name.entry.now) arguments.entry).top self.old self.new) }
+    {
+        let command = arguments.command(name, about, examples)?;
+        self.list.push(command)?;
+        Ok(())
+    }
+
+    fn sim(&mut self) -> Result<(), AllocError>
+        ensures { OnOk result (OffersCommand sim_command.top self.old self.new) }
+    {
+        let mut arguments = Arguments::new(self.alloc);
+        arguments.pair()?;
+        arguments.moments()?;
+        arguments.vcd()?;
+        arguments.default_delay()?;
+        self.add(
+            "sim",
+            "Simulates one pair of vectors: when each output changes last",
+            SIM_HELP,
+            arguments,
+        )
+    }
+
+    fn path(&mut self) -> Result<(), AllocError>
+        ensures { OnOk result (OffersCommand path_command.top self.old self.new) }
+    {
+        let mut arguments = Arguments::new(self.alloc);
+        arguments.pair()?;
+        arguments.moments()?;
+        arguments.output()?;
+        arguments.default_delay()?;
+        self.add(
+            "path",
+            "Tells why an output changes last when it does: the changes that lead there from an input",
+            PATH_HELP,
+            arguments,
+        )
+    }
+
+    fn bound(&mut self) -> Result<(), AllocError>
+        ensures { OnOk result (OffersCommand bound_command.top self.old self.new) }
+    {
+        let mut arguments = Arguments::new(self.alloc);
+        arguments.file()?;
+        arguments.cube(FREE_HELP)?;
+        arguments.moments()?;
+        arguments.edges()?;
+        arguments.default_delay()?;
+        self.add(
+            "bound",
+            "Bounds the delay of all pairs of vectors that two patterns allow",
+            BOUND_HELP,
+            arguments,
+        )
+    }
+
+    fn worst(&mut self, strategies: &'a [&'a str]) -> Result<(), AllocError>
+        ensures { OnOk result (OffersCommand (worst_command strategies.entry).top self.old self.new) }
+    {
+        let mut arguments = Arguments::new(self.alloc);
+        arguments.searched(strategies)?;
+        arguments.vcd()?;
+        arguments.told()?;
+        arguments.default_delay()?;
+        self.add(
+            "worst",
+            "Searches for the worst delay of the admitted pairs of vectors, and a pair that has it",
+            WORST_HELP,
+            arguments,
+        )
+    }
+
+    fn parts(&mut self, strategies: &'a [&'a str]) -> Result<(), AllocError>
+        ensures { OnOk result (OffersCommand (parts_command strategies.entry).top self.old self.new) }
+    {
+        let mut arguments = Arguments::new(self.alloc);
+        arguments.file()?;
+        arguments.parts()?;
+        arguments.admitted()?;
+        arguments.moments()?;
+        arguments.strategy(strategies)?;
+        arguments.default_delay()?;
+        self.add(
+            "parts",
+            "Cuts the question of `worst` into parts, and prints the options with which `worst` answers each",
+            PARTS_HELP,
+            arguments,
+        )
+    }
+
+    fn join(&mut self) -> Result<(), AllocError>
+        ensures { OnOk result (OffersCommand join_command.top self.old self.new) }
+    {
+        let mut arguments = Arguments::new(self.alloc);
+        arguments.file()?;
+        arguments.joined()?;
+        arguments.cube(WHOLE_HELP)?;
+        arguments.default_delay()?;
+        self.add(
+            "join",
+            "Joins the certificates of a question's parts into one of the whole question",
+            JOIN_HELP,
+            arguments,
+        )
+    }
+
+    fn check(&mut self) -> Result<(), AllocError>
+        ensures { OnOk result (OffersCommand check_command.top self.old self.new) }
+    {
+        let mut arguments = Arguments::new(self.alloc);
+        arguments.file()?;
+        arguments.certificate()?;
+        arguments.default_delay()?;
+        self.add(
+            "check",
+            "Checks the certificate of a worst delay by the netlist alone, whoever wrote it",
+            CHECK_HELP,
+            arguments,
+        )
+    }
+
+    fn info(&mut self) -> Result<(), AllocError>
+        ensures { OnOk result (OffersCommand info_command.top self.old self.new) }
+    {
+        let mut arguments = Arguments::new(self.alloc);
+        arguments.file()?;
+        arguments.default_delay()?;
+        self.add(
+            "info",
+            "Tells what is in a netlist: its size, its depth, its delays, and its inputs in the order of a vector's characters",
+            INFO_HELP,
+            arguments,
+        )
+    }
+
+    /// The commands that simulate.
+    fn runs(&mut self) -> Result<(), AllocError>
+        ensures { OnOk result (OffersMore with_runs self.old self.new) }
+    {
+        self.sim()?;
+        self.path()
+    }
+
+    /// The commands that bound and search.
+    fn bounds(&mut self, strategies: &'a [&'a str]) -> Result<(), AllocError>
+        ensures { OnOk result (OffersMore (with_bounds strategies.entry) self.old self.new) }
+    {
+        self.bound()?;
+        self.worst(strategies)
+    }
+
+    /// The commands for the parts of a question.
+    fn questions(&mut self, strategies: &'a [&'a str]) -> Result<(), AllocError>
+        ensures { OnOk result (OffersMore (with_questions strategies.entry) self.old self.new) }
+    {
+        self.parts(strategies)?;
+        self.join()
+    }
+
+    /// The commands that check a certificate and tell of a netlist.
+    fn looks(&mut self) -> Result<(), AllocError>
+        ensures { OnOk result (OffersMore with_looks self.old self.new) }
+    {
+        self.check()?;
+        self.info()
+    }
+
+    /// All commands.
+    fn all(&mut self, strategies: &'a [&'a str]) -> Result<(), AllocError>
+        ensures { OnOk result (OffersMore (λ program. with_looks (with_questions strategies.entry (with_bounds strategies.entry (with_runs program)))) self.old self.new) }
+    {
+        self.runs()?;
+        self.bounds(strategies)?;
+        self.questions(strategies)?;
+        self.looks()
+    }
+
+    /// The program that has these commands.
+    fn program(self) -> Result<Command<'a>, AllocError>
+        ensures { IfOk result (λ program. app_of program ≡ offering bare self.entry) }
+    {
+        bare(self.alloc).subcommands(self.list)
+    }
+}
+
+/// The program before it is told its commands.
+fn bare<'a>(alloc: Global) -> Command<'a>
+    ensures { app_of result ≡ bare }
+{
+    Command::new(alloc, "tdelay")
+        .about("Worst transition delay of a netlist of Verilog gate primitives")
+        .version(VERSION)
+        .after_help(HELP)
+        .subcommand_required(true)
+}
+
+/// The whole program, told where the names of the strategies stand.
+fn program<'a>(alloc: Global, strategies: &'a [&'a str]) -> Result<Command<'a>, AllocError>
+    ensures { IfOk result (λ new. app_of new ≡ program_of strategies.entry) }
+{
+    let mut commands = Commands::new(alloc);
+    commands.all(strategies)?;
+    commands.program()
+}
+
+/// The whole program.
+pub(crate) fn command<'a>(alloc: Global) -> Result<Command<'a>, AllocError>
+    ensures { IfOk result (λ new. IsOfStrategies program_of (app_of new)) }
+{
+    program(alloc, &["least", "lead"])
+}
