@@ -2,13 +2,13 @@
 
 ghost use Rattle.std.specs.Prelude.{◌≡◌, [], ◌∷◌, Some, ◌≤◌, ◌<◌, ◌+◌, ◌^◌, max, IfOk, length, filter_map, slice_get};
 ghost use Rattle.std.specs.List.{All};
-ghost use Rattle.td_gates.specs.Table.{TakesInputs, table, controls, controlling};
-ghost use Rattle.td_gates.specs.declared.primitives.Kind.TheVariants.{And, Or, Xor};
+ghost use Rattle.td_gates.specs.Table.{TakesInputs, controls, controlling};
 ghost use Rattle.td_arrival.specs.Arrivals.{gate_signal, hull, around, is_held, opens_at, closes_at, gate_changes, last_delay, is_lost, gate_start, gate_finish};
 ghost use Rattle.td_arrival.specs.Coverage.{span_reach};
 
 use crate::signals::{Signal, Span};
 use std::alloc::{AllocError, Global};
+use td_domain::level_of_two;
 use td_gates::{Counts, Delay, Kind, Level, eval_counts};
 
 /// The signal of the output of a gate whose inputs have the signals at these places. Those of a gate with up to three inputs are gathered
@@ -100,62 +100,6 @@ fn output_by_levels(kind: Kind, delay: Delay, one: &Signal, other: &Signal) -> S
     let finish = level_of_two(kind, one.finish, other.finish);
     let signals = [*one, *other];
     output_between(kind, delay, start, finish, &signals)
-}
-
-/// The output's level of a gate with two inputs at these levels.
-#[inline(always)]
-fn level_of_two(kind: Kind, one: Level, other: Level) -> Level
-    requires { TakesInputs kind 2 }
-    ensures { result ≡ table kind (one ∷ other ∷ []) }
-{
-    match kind {
-        Kind::And => and_of_two(one, other),
-        Kind::Nand => and_of_two(one, other).inverse(),
-        Kind::Or => or_of_two(one, other),
-        Kind::Nor => or_of_two(one, other).inverse(),
-        Kind::Xor => xor_of_two(one, other),
-        Kind::Xnor => xor_of_two(one, other).inverse(),
-        Kind::Buf | Kind::Not => Level::X,
-    }
-}
-
-/// 0 where one is 0, else x where one is x.
-#[inline(always)]
-fn and_of_two(one: Level, other: Level) -> Level
-    ensures { result ≡ table And (one ∷ other ∷ []) }
-{
-    match (one, other) {
-        (Level::Zero, _) => Level::Zero,
-        (_, Level::Zero) => Level::Zero,
-        (Level::One, Level::One) => Level::One,
-        (_, _) => Level::X,
-    }
-}
-
-/// 1 where one is 1, else x where one is x.
-#[inline(always)]
-fn or_of_two(one: Level, other: Level) -> Level
-    ensures { result ≡ table Or (one ∷ other ∷ []) }
-{
-    match (one, other) {
-        (Level::One, _) => Level::One,
-        (_, Level::One) => Level::One,
-        (Level::Zero, Level::Zero) => Level::Zero,
-        (_, _) => Level::X,
-    }
-}
-
-/// X where one is x, else whether they differ.
-#[inline(always)]
-fn xor_of_two(one: Level, other: Level) -> Level
-    ensures { result ≡ table Xor (one ∷ other ∷ []) }
-{
-    match (one, other) {
-        (Level::X, _) => Level::X,
-        (_, Level::X) => Level::X,
-        (Level::Zero, other) => other,
-        (Level::One, other) => other.inverse(),
-    }
 }
 
 /// The signal of the output of a gate whose inputs have these signals. For three inputs its loops are straight lines.

@@ -6,12 +6,12 @@ ghost use Rattle.td_run.specs.Waves.{AreWithin};
 ghost use Rattle.td_ternary.specs.Possibles.{possible};
 ghost use Rattle.td_ternary.specs.Prospects.{earlier};
 ghost use Rattle.td_ternary.specs.Tracks.{outlook_of};
-ghost use Rattle.td_ternary.specs.Merging.{first_moment, level_behind, rest_behind, shifted, shifting};
+ghost use Rattle.td_ternary.specs.Merging.{beside_one, first_moment, level_behind, rest_behind, shifted, shifting};
 
 use crate::gates::{MAX_CHANGES, reversed};
-use crate::table;
 use crate::tracks::{Tracks, begun, finish, pass};
 use std::alloc::{AllocError, Global};
+use td_domain::level_of_two;
 use td_gates::{Change, Delay, Kind, Level};
 use td_run::Wave;
 
@@ -109,7 +109,7 @@ pub fn output_of_two(
         place: 0,
         level: right.start(),
     };
-    let start = table::of_two(kind, first.level, second.level);
+    let start = level_of_two(kind, first.level, second.level);
     let mut now = begun(start);
     let room = room_for(lefts, rights);
     let mut changes = Vec::new(alloc);
@@ -119,7 +119,7 @@ pub fn output_of_two(
     ) {
         first = read(lefts, first, moment);
         second = read(rights, second, moment);
-        let level = table::of_two(kind, first.level, second.level);
+        let level = level_of_two(kind, first.level, second.level);
         let next = shift(
             &mut changes,
             now,
@@ -134,6 +134,16 @@ pub fn output_of_two(
     Ok(Wave::from_changes(start, changes))
 }
 
+/// The kind of a gate with two inputs that makes of a level beside a 1 what a gate of this kind makes of the level alone.
+fn beside_one(kind: Kind) -> Kind
+    ensures { result ≡ beside_one kind }
+{
+    match kind {
+        Kind::And | Kind::Or | Kind::Xor | Kind::Buf => Kind::And,
+        Kind::Nand | Kind::Nor | Kind::Xnor | Kind::Not => Kind::Nand,
+    }
+}
+
 /// The possible levels of the output of a gate whose one input has this signal: those of a gate that has a constant 1 beside it.
 pub fn output_of_one(
     alloc: Global,
@@ -146,7 +156,7 @@ pub fn output_of_one(
     ensures wave { IfOk result (λ wave. IsWave wave) }
 {
     let ones = Wave::from_changes(Level::One, Vec::new(alloc));
-    output_of_two(alloc, table::beside_one(kind), delay, input, &ones)
+    output_of_two(alloc, beside_one(kind), delay, input, &ones)
 }
 
 /// How many changes the output is given room for: as many as both inputs have.

@@ -9,9 +9,9 @@ use Rattle.td_ternary.proofs.merging.output_of_two.Goals as goal
 
 pub loop-moment-init : goal.loop-moment-init
 loop-moment-init c = merging-init c.args.kind c.args.delay c.reversed-falling.result c.args.left.now c.args.right.now
-    c.changes-lefts.result.now c.changes-rights.result.now c.start.result c.start-2.result c.of_two-start.result c.begun-now.result.target _ _
+    c.changes-lefts.result.now c.changes-rights.result.now c.start.result c.start-2.result c.level_of_two-start.result c.begun-now.result.target _ _
     c.changes-lefts.ensures.rising c.changes-rights.ensures.rising c.changes-lefts.ensures.changes c.changes-rights.ensures.changes
-    c.start.ensures c.start-2.ensures c.of_two-start.ensures c.begun-now.ensures.target c.begun-now.ensures.outlook c.new-changes.ensures.items
+    c.start.ensures c.start-2.ensures c.level_of_two-start.ensures c.begun-now.ensures.target c.begun-now.ensures.outlook c.new-changes.ensures.items
 
 pub shift-requires : goal.shift-requires
 shift-requires c = next-within 9223372036854775808 c.in-Some.moment c.changes-lefts.result.now c.changes-rights.result.now c.loop-moment.first.place c.loop-moment.second.place
@@ -30,9 +30,9 @@ loop-moment-smaller c = rw (c.read-first.ensures.rest, c.read-second.ensures.res
 pub loop-moment-preserved : goal.loop-moment-preserved
 loop-moment-preserved c = merging-on c.args.kind c.args.delay c.reversed-falling.result c.args.left.now c.args.right.now
     c.in-Some.moment (drop c.loop-moment.first.place c.changes-lefts.result.now) (drop c.loop-moment.second.place c.changes-rights.result.now) _ _
-    c.loop-moment.first.level c.loop-moment.second.level _ _ c.loop-moment.now.target c.of_two-level.result _ c.loop-moment.changes.items _
+    c.loop-moment.first.level c.loop-moment.second.level _ _ c.loop-moment.now.target c.level_of_two-level.result _ c.loop-moment.changes.items _
     (outlook_of c.loop-moment.now) (outlook_of c.in_ok-next.next) (is_next c) c.loop-moment.invariant
-    c.read-first.ensures.rest c.read-second.ensures.rest c.read-first.ensures.level c.read-second.ensures.level c.of_two-level.ensures c.in_ok-next.ensures.target
+    c.read-first.ensures.rest c.read-second.ensures.rest c.read-first.ensures.level c.read-second.ensures.level c.level_of_two-level.ensures c.in_ok-next.ensures.target
     c.in_ok-next.ensures.outlook c.in_ok-next.ensures.changes
 
 none_next : (c : goal.In_ok-finish)
@@ -47,11 +47,11 @@ shown c = merging-end c.args.kind c.args.delay c.reversed-falling.result c.args.
     c.loop-moment.now.target c.loop-moment.changes.items _ (outlook_of c.loop-moment.now) c.reversed-falling.ensures.in_range c.reversed-falling.ensures.exchanged
     (none_next c) c.loop-moment.invariant c.in_ok-finish.ensures
 
-start : (c : goal.In_ok-finish) → c.of_two-start.result ≡ (target_of c.args.kind c.args.left.now c.args.right.now).start
-start c = rw (c.of_two-start.ensures, c.start.ensures, c.start-2.ensures) refl
+start : (c : goal.In_ok-finish) → c.level_of_two-start.result ≡ (target_of c.args.kind c.args.left.now c.args.right.now).start
+start c = rw (c.level_of_two-start.ensures, c.start.ensures, c.start-2.ensures) refl
 
 pub from_changes-requires : goal.from_changes-requires
-from_changes-requires c = merged-rising c.args.kind c.args.delay c.reversed-falling.result c.args.left.now c.args.right.now c.of_two-start.result _ (start c) (shown c)
+from_changes-requires c = merged-rising c.args.kind c.args.delay c.reversed-falling.result c.args.left.now c.args.right.now c.level_of_two-start.result _ (start c) (shown c)
 
 pub returns-clause-shows : goal.returns-clause-shows
 returns-clause-shows c = merged-possible c.args.kind c.args.delay c.reversed-falling.result c.args.left.now c.args.right.now _ _ _

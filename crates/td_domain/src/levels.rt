@@ -1,13 +1,13 @@
-//! The tables of gates with one and two inputs.
+//! The table of gates with two inputs, which most gates have: in straight lines, without a list of levels.
 
 ghost use Rattle.std.specs.Prelude.{◌≡◌, [], ◌∷◌};
 ghost use Rattle.td_gates.specs.Table.{table, and_of, or_of, xor_of};
-ghost use Rattle.td_ternary.specs.Merging.{beside_one};
 
 use td_gates::{Kind, Level};
 
-/// The output level of a gate whose two inputs are at these levels.
-pub fn of_two(kind: Kind, first: Level, second: Level) -> Level
+/// The output level of a gate whose two inputs are at these levels; of a buf or a not, which have one input, by the first.
+#[inline(always)]
+pub fn level_of_two(kind: Kind, first: Level, second: Level) -> Level
     ensures { result ≡ table kind (first ∷ second ∷ []) }
 {
     match kind {
@@ -22,16 +22,8 @@ pub fn of_two(kind: Kind, first: Level, second: Level) -> Level
     }
 }
 
-/// The kind of a gate with two inputs that makes of a level beside a 1 what a gate of this kind makes of the level alone.
-pub fn beside_one(kind: Kind) -> Kind
-    ensures { result ≡ beside_one kind }
-{
-    match kind {
-        Kind::And | Kind::Or | Kind::Xor | Kind::Buf => Kind::And,
-        Kind::Nand | Kind::Nor | Kind::Xnor | Kind::Not => Kind::Nand,
-    }
-}
-
+/// 0 where one is 0, else x where one is x.
+#[inline(always)]
 fn and(first: Level, second: Level) -> Level
     ensures { result ≡ and_of (first ∷ second ∷ []) }
 {
@@ -43,6 +35,8 @@ fn and(first: Level, second: Level) -> Level
     }
 }
 
+/// 1 where one is 1, else x where one is x.
+#[inline(always)]
 fn or(first: Level, second: Level) -> Level
     ensures { result ≡ or_of (first ∷ second ∷ []) }
 {
@@ -54,6 +48,8 @@ fn or(first: Level, second: Level) -> Level
     }
 }
 
+/// x where one is x, else whether they differ.
+#[inline(always)]
 fn xor(first: Level, second: Level) -> Level
     ensures { result ≡ xor_of (first ∷ second ∷ []) }
 {
