@@ -296,16 +296,32 @@ fn budget(matches: &ArgMatches<'_>) -> Option<u32>
     }
 }
 
+/// How a search goes: how many threads, by which strategy, and the most nodes.
+fn effort(matches: &ArgMatches<'_>) -> Option<(u32, StrategyWord, u32)>
+    ensures { IsAnswered (λ effort. HasWorkers (rows_of (found_of matches.now)) effort.0 × HasStrategy (rows_of (found_of matches.now)) effort.1 × HasBudget (rows_of (found_of matches.now)) effort.2) result }
+{
+    let workers = workers(matches)?;
+    let strategy = strategy(matches)?;
+    let budget = budget(matches)?;
+    Some((workers, strategy, budget))
+}
+
+/// What is told beside a search's answer: whether the chain of the given pair, and whether how far the search is.
+fn told(matches: &ArgMatches<'_>) -> Option<(bool, bool)>
+    ensures { IsAnswered (λ told. HasFlag (codes "path") (rows_of (found_of matches.now)) told.0 × HasFlag (codes "progress") (rows_of (found_of matches.now)) told.1) result }
+{
+    let path = flag_given(matches, "path")?;
+    let progress = flag_given(matches, "progress")?;
+    Some((path, progress))
+}
+
 fn worst_of<'a>(matches: &ArgMatches<'a>) -> Option<Request<'a>>
     ensures { IsAnswered (CommandAsks (codes "worst") (rows_of (found_of matches.now))) result }
 {
     let file = matches.get_str("FILE")?;
     let flips = count(matches, "flips")?;
-    let workers = workers(matches)?;
-    let strategy = strategy(matches)?;
-    let budget = budget(matches)?;
-    let path = flag_given(matches, "path")?;
-    let progress = flag_given(matches, "progress")?;
+    let (workers, strategy, budget) = effort(matches)?;
+    let (path, progress) = told(matches)?;
     let default = default(matches)?;
     Some(Request::Worst(WorstRequest {
         file,

@@ -12,3 +12,4 @@ pub mod NameFaults
 pub mod KnownViews
 pub mod NameViews
 pub mod CheckViews
+pub mod Checked

@@ -229,6 +229,27 @@ impl<'a> Lists<'a> {
         Ok(sides)
     }
 
+    /// The nets of the ports by direction, and the names of all declarations, behind those of the port list.
+    fn finished(
+        mut self,
+        alloc: Global,
+        source: &Module<'a>,
+    ) -> Result<(Sides<'a>, Known<'a>), Fault<'a>>
+        requires ports { ArePorts (module_view source.now).ports }
+        requires items { AllByRecursion (IsItem (unit_exponent (module_view source.now).fronts)) (module_view source.now).items }
+        ensures { Gives (λ x. (sides_of x.0, x.1)) result (declared_from (lists_of self.entry) (module_view source.now)) }
+    {
+        let sides = self.sided(alloc, source)?;
+        Ok((sides, self.into_names()))
+    }
+
+    /// What is known of the names that are declared.
+    fn into_names(self) -> Known<'a>
+        ensures { result ≡ (lists_of self.entry).names }
+    {
+        self.names
+    }
+
     fn list_ports(&mut self, ports: &[Placed<'a>]) -> Result<(), Fault<'a>>
         ensures { Gives (λ _. lists_of self.new) result (each with_port (lists_of self.old) (names_view ports.now)) }
     {
@@ -280,51 +301,22 @@ impl<'a> Ported<'a> {
         }
         Ok(())
     }
-}
 
-/// What a list of names of ports declares.
-#[tactic(auto, unfolding(crate::specs::Checks::declare_ports))]
-fn named_ports<'a>(
-    alloc: Global,
-    hashing: SeededState,
-    names: &[Placed<'a>],
-) -> Result<Lists<'a>, Fault<'a>>
-    ensures { Gives lists_of result (declare_ports (Some (NamedPorts (names_view names.now)))) }
-{
-    let mut lists = Lists::new(alloc, hashing);
-    lists.list_ports(names)?;
-    Ok(lists)
-}
-
-/// What a list of declared ports declares.
-#[tactic(auto, unfolding(crate::specs::Checks::declare_ports))]
-fn headed_ports<'a>(
-    alloc: Global,
-    hashing: SeededState,
-    ports: &[Port<'a>],
-) -> Result<Lists<'a>, Fault<'a>>
-    requires { AllByRecursion IsPort (map port_view ports.now) }
-    ensures { Gives lists_of result (declare_ports (Some (HeadedPorts (map port_view ports.now)))) }
-{
-    let mut ported = Ported::new(alloc, hashing);
-    ported.declare_each(ports)?;
-    Ok(ported.lists)
-}
-
-/// What the port list declares.
-#[tactic(auto, unfolding(crate::specs::Checks::declare_ports))]
-fn declared_ports<'a>(
-    alloc: Global,
-    hashing: SeededState,
-    ports: &Option<Ports<'a>>,
-) -> Result<Lists<'a>, Fault<'a>>
-    requires { ArePorts (ports_view ports.now) }
-    ensures { Gives lists_of result (declare_ports (ports_view ports.now)) }
-{
-    match ports {
-        None => Ok(Lists::new(alloc, hashing)),
-        Some(Ports::Names(names)) => named_ports(alloc, hashing, names),
-        Some(Ports::Declared(ports)) => headed_ports(alloc, hashing, ports),
+    /// What the port list declares, where nothing is declared so far.
+    #[tactic(auto, unfolding(crate::specs::Checks::declare_ports))]
+    fn declare_ports(&mut self, ports: &Option<Ports<'a>>) -> Result<(), Fault<'a>>
+        requires fit { ArePorts (ports_view ports.now) }
+        requires first { ported_of self.old ≡ portless }
+        ensures { Gives (λ _. lists_of self.new.lists) result (declare_ports (ports_view ports.now)) }
+    {
+        match ports {
+            None => Ok(()),
+            Some(Ports::Names(names)) => self.lists.list_ports(names),
+            Some(Ports::Declared(ports)) => {
+                self.declare_each(ports)?;
+                Ok(())
+            }
+        }
     }
 }
 
@@ -451,7 +443,7 @@ pub fn declared<'a>(
     requires items { AllByRecursion (IsItem (unit_exponent (module_view source.now).fronts)) (module_view source.now).items }
     ensures { Gives (λ x. (sides_of x.0, x.1)) result (declared_at (module_view source.now)) }
 {
-    let mut lists = declared_ports(alloc, hashing, &source.ports)?;
-    let sides = lists.sided(alloc, source)?;
-    Ok((sides, lists.names))
+    let mut ported = Ported::new(alloc, hashing);
+    ported.declare_ports(&source.ports)?;
+    ported.lists.finished(alloc, source)
 }

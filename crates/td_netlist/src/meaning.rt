@@ -6,24 +6,27 @@ ghost use Rattle.td_syntax.specs.Grammar.{IsItem, ArePorts, item_gates, unit_exp
 ghost use Rattle.td_syntax.specs.Views.{module_view};
 ghost use Rattle.td_nets.specs.Netlist as netlist;
 ghost use Rattle.td_netlist.specs.Faults.{IsUnlessMemory, UnlessMemory, Fails};
+ghost use Rattle.td_netlist.specs.Checked.{IsChecked};
 ghost use Rattle.td_netlist.specs.Checks.{checked_at};
+ghost use Rattle.td_netlist.specs.CheckViews.{primitive_of, sides_of};
 ghost use Rattle.td_netlist.specs.Conditions.{IsConsistent};
 ghost use Rattle.td_netlist.specs.NameFaults.{IsNameFault, IsFaultIn};
 ghost use Rattle.td_netlist.specs.Means.{Means};
 ghost use Rattle.td_netlist.specs.PlacedNets.{nets_at};
-ghost use Rattle.td_netlist.specs.Module.{netlist_in, step_of, unit_of};
+ghost use Rattle.td_netlist.specs.Module.{netlist_in, primitives, step_of, unit_of};
 ghost use Rattle.td_netlist.specs.NameViews.{name_ref_of, placed_ref_of};
 ghost use Rattle.std.specs.Hash.DefaultHasher.{initial, write, finish};
 ghost use Rattle.td_nets.specs.Seeds.{start_of, seeded};
 ghost use Rattle.td_nets.specs.Views.{name_of};
 ghost use Rattle.td_nets.specs.WellFormed.{IsWellFormed};
 
-use crate::declarations::declared;
+use crate::declarations::{Sides, declared};
 use crate::drivers::all_driven;
 use crate::fault::Fault;
 use crate::gates::{Timing, gates, owned};
+use crate::known::Known;
 use crate::name_ref::{NameRef, PlacedRef};
-use crate::primitive::{defaulted_count, primitives};
+use crate::primitive::{Primitive, defaulted_count, primitives};
 use std::alloc::{AllocError, Global};
 use std::hash::{DefaultHasher, Hasher};
 use td_gates::Delay;
@@ -95,6 +98,61 @@ fn hashing_of(text: &[u8]) -> SeededState
     SeededState::with_seed(digest.finish())
 }
 
+/// The netlist of a module whose checks pass: of its ports by direction, of what is known of its names, and of its instances.
+fn listed<'a>(
+    alloc: Global,
+    source: &Module<'a>,
+    default: Delay,
+    sides: &Sides<'a>,
+    names: &Known<'a>,
+    instances: &[Primitive<'_, 'a>],
+) -> Result<Netlist, Fault<'a>>
+    requires ports { ArePorts (module_view source.now).ports }
+    requires items { AllByRecursion (IsItem (unit_exponent (module_view source.now).fronts)) (module_view source.now).items }
+    requires gates { sum_by item_gates (module_view source.now).items ≤ 200000 }
+    requires checked { IsChecked (module_view source.now) (sides_of sides.now) names.now (map primitive_of instances.now) }
+    ensures lists { IfOk result (λ n. n ≡ netlist_in default (module_view source.now)) }
+    ensures formed { IfOk result (λ n. IsWellFormed n) }
+    ensures breaks { IfErr result (λ e. UnlessMemory e.kind (IsNameFault e.kind e.line (module_view source.now))) }
+    ensures first { IfErr result (λ e. Fails e (checked_at (module_view source.now))) }
+{
+    let inputs = owned_names(alloc, &sides.inputs)?;
+    let outputs = owned_outputs(alloc, &sides.outputs)?;
+    let timing = Timing {
+        tens: unit_exponent(&source.fronts),
+        default,
+    };
+    let gates = gates(alloc, names, &timing, instances)?;
+    let name = Vec::from_slice(alloc, source.name.name)?;
+    let unit = unit(&source.fronts);
+    let defaulted = defaulted_count(instances);
+    let _rise = default.rise;
+    Ok(Netlist::new(name, inputs, outputs, gates, unit, defaulted))
+}
+
+/// The netlist of a module, by its instances.
+fn from_instances<'a>(
+    alloc: Global,
+    hashing: SeededState,
+    source: &Module<'a>,
+    default: Delay,
+    instances: &[Primitive<'_, 'a>],
+) -> Result<Netlist, Fault<'a>>
+    requires ports { ArePorts (module_view source.now).ports }
+    requires items { AllByRecursion (IsItem (unit_exponent (module_view source.now).fronts)) (module_view source.now).items }
+    requires gates { sum_by item_gates (module_view source.now).items ≤ 200000 }
+    requires instances { map primitive_of instances.now ≡ primitives (module_view source.now) }
+    ensures consistent { IfOk result (λ _. IsConsistent (module_view source.now)) }
+    ensures lists { IfOk result (λ n. n ≡ netlist_in default (module_view source.now)) }
+    ensures formed { IfOk result (λ n. IsWellFormed n) }
+    ensures breaks { IfErr result (λ e. UnlessMemory e.kind (IsNameFault e.kind e.line (module_view source.now))) }
+    ensures first { IfErr result (λ e. Fails e (checked_at (module_view source.now))) }
+{
+    let (sides, names) = declared(alloc, hashing, source)?;
+    let drivers = all_driven(alloc, hashing, &sides, names, instances)?;
+    listed(alloc, source, default, &sides, drivers.names(), instances)
+}
+
 /// The netlist of a module.
 fn netlist<'a>(
     alloc: Global,
@@ -112,20 +170,7 @@ fn netlist<'a>(
     ensures first { IfErr result (λ e. Fails e (checked_at (module_view source.now))) }
 {
     let instances = primitives(alloc, source)?;
-    let (sides, names) = declared(alloc, hashing, source)?;
-    let drivers = all_driven(alloc, hashing, &sides, names, &instances)?;
-    let inputs = owned_names(alloc, &sides.inputs)?;
-    let outputs = owned_outputs(alloc, &sides.outputs)?;
-    let timing = Timing {
-        tens: unit_exponent(&source.fronts),
-        default,
-    };
-    let gates = gates(alloc, drivers.names(), &timing, &instances)?;
-    let name = Vec::from_slice(alloc, source.name.name)?;
-    let unit = unit(&source.fronts);
-    let defaulted = defaulted_count(&instances);
-    let _rise = default.rise;
-    Ok(Netlist::new(name, inputs, outputs, gates, unit, defaulted))
+    from_instances(alloc, hashing, source, default, &instances)
 }
 
 /// Reads a netlist: the one that the text means, where a gate that states no delay has the default one.

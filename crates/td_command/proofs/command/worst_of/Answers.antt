@@ -12,19 +12,11 @@ pub returns-in_err-flips : goal.returns-in_err-flips
 returns-in_err-flips c = rw c.from_residual-in_err-flips.ensures (only_worst (λ asked has. c.in_err-flips.ensures _ has.flips))
 
 pub returns-in_err-workers : goal.returns-in_err-workers
-returns-in_err-workers c = rw c.from_residual-in_err-workers.ensures (only_worst (λ asked has. c.in_err-workers.ensures _ has.workers))
-
-pub returns-in_err-strategy : goal.returns-in_err-strategy
-returns-in_err-strategy c = rw c.from_residual-in_err-strategy.ensures (only_worst (λ asked has. c.in_err-strategy.ensures _ has.strategy))
-
-pub returns-in_err-budget : goal.returns-in_err-budget
-returns-in_err-budget c = rw c.from_residual-in_err-budget.ensures (only_worst (λ asked has. c.in_err-budget.ensures _ has.budget))
+returns-in_err-workers c = rw c.from_residual-in_err-workers.ensures (only_worst (λ asked has.
+    c.in_err-workers.ensures (asked.workers, asked.strategy, asked.budget) (has.workers, has.strategy, has.budget)))
 
 pub returns-in_err-path : goal.returns-in_err-path
-returns-in_err-path c = rw c.from_residual-in_err-path.ensures (only_worst (λ asked has. c.in_err-path.ensures _ has.path))
-
-pub returns-in_err-progress : goal.returns-in_err-progress
-returns-in_err-progress c = rw c.from_residual-in_err-progress.ensures (only_worst (λ asked has. c.in_err-progress.ensures _ has.progress))
+returns-in_err-path c = rw c.from_residual-in_err-path.ensures (only_worst (λ asked has. c.in_err-path.ensures (asked.path, asked.progress) (has.path, has.progress)))
 
 pub returns-in_err-default : goal.returns-in_err-default
 returns-in_err-default c = rw c.from_residual-in_err-default.ensures (only_worst (λ asked has. c.in_err-default.ensures _ has.default))
@@ -39,13 +31,13 @@ returns c = (
     hold = sym (c.get_str-4.ensures ∙ first_value-rows (found_of c.args.matches.now) (codes "hold"));
     flips = c.in_ok-flips.ensures;
     at = sym (c.get_str-5.ensures ∙ first_value-rows (found_of c.args.matches.now) (codes "at"));
-    workers = c.in_ok-workers.ensures;
-    strategy = c.in_ok-strategy.ensures;
-    budget = c.in_ok-budget.ensures;
+    workers = c.in_ok-workers.ensures.0;
+    strategy = c.in_ok-workers.ensures.1;
+    budget = c.in_ok-workers.ensures.2;
     certificate = sym (c.get_str-6.ensures ∙ first_value-rows (found_of c.args.matches.now) (codes "cert"));
     vcd = sym (c.get_str-7.ensures ∙ first_value-rows (found_of c.args.matches.now) (codes "vcd"));
-    path = c.in_ok-path.ensures;
-    progress = c.in_ok-progress.ensures;
+    path = c.in_ok-path.ensures.0;
+    progress = c.in_ok-path.ensures.1;
     default = rw c.default-2.view_is c.in_ok-default.ensures;
   },
 )
