@@ -16,10 +16,11 @@ use Rattle.td_certificate.specs.Spelling.{HasSpelling}
 use Rattle.td_checker.specs.declared.verdict.CheckFault.{CheckFault}
 use Rattle.td_checker.specs.declared.verdict.CheckFault.TheVariants as check
 use Rattle.td_checker.specs.Checks.{IsCheckFault}
-use Rattle.td_cli.specs.declared.refusal.Refusal.{Refusal}
-use Rattle.td_cli.specs.declared.refusal.Refusal.TheVariants as refusal
+use Rattle.td_report.specs.declared.refusal.Refusal.{Refusal}
+use Rattle.td_report.specs.declared.refusal.Refusal.TheVariants as refusal
 use Rattle.td_cli.specs.Disks.{Disk, HoldsOnFile}
-use Rattle.td_cli.specs.Outcomes.{IsCircuitOf, HasNoAnswer}
+use Rattle.td_cli.specs.Outcomes.{HasNoAnswer}
+use Rattle.td_report.specs.Outcomes.{IsCircuitOf}
 use Rattle.td_cli.specs.declared.asking.QuestionWords.{QuestionWords}
 use Rattle.td_cli.specs.WorstReports.{IsAsked}
 use Rattle.td_search.specs.Problems.{Problem}

@@ -20,14 +20,15 @@ use Rattle.td_search.specs.Problems.{Problem, problem_by, has_delay}
 use Rattle.td_search.specs.Answers.{IsAnswer, IsSearchFault}
 use Rattle.td_search.specs.Written.{CanBeWritten}
 use Rattle.td_cli.specs.declared.asking.QuestionWords.{QuestionWords}
-use Rattle.td_cli.specs.declared.vector.VectorWord.{VectorWord}
-use Rattle.td_cli.specs.declared.vector.VectorWord.TheVariants.{At}
-use Rattle.td_cli.specs.Vectors.{words_of, VectorWords, IsFirstBad, AreMomentsOf, GivesMoments}
+use Rattle.td_report.specs.declared.vector.VectorWord.{VectorWord}
+use Rattle.td_report.specs.declared.vector.VectorWord.TheVariants.{At}
+use Rattle.td_report.specs.Vectors.{words_of, VectorWords, IsFirstBad, AreMomentsOf, GivesMoments}
 use Rattle.td_cli.specs.Admitting.{most_flips, AreAdmitted, pair_words}
 use Rattle.td_cli.specs.WorstReports.{IsAsked, certificate_in, pair_in}
-use Rattle.td_cli.specs.Outcomes.{question_words, IsCircuitOf, HasBadWord, HasNoAnswer, unanswered}
-use Rattle.td_cli.proofs.Refusing.{bad_word}
-use Rattle.td_cli.proofs.Vectors.{given-length}
+use Rattle.td_cli.specs.Outcomes.{question_words, HasNoAnswer, unanswered}
+use Rattle.td_report.specs.Outcomes.{IsCircuitOf, HasBadWord}
+use Rattle.td_report.proofs.Refusing.{bad_word}
+use Rattle.td_report.proofs.Vectors.{given-length}
 
 -- the first bad word is the first with more words behind
 pub first_bad_more : (count : ℕ) (words more : VectorWords) (word : VectorWord) → IsFirstBad count words word → IsFirstBad count (words ++ more) word

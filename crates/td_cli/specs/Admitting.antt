@@ -3,8 +3,8 @@ use Rattle.std.specs.Prelude.{◌≡◌, ℕ, min, List, [], ◌∷◌, Option, 
 use Rattle.td_domain.specs.declared.cubes.Trit.{Trit}
 use Rattle.td_domain.specs.Admits.{Admitted}
 use Rattle.td_cli.specs.declared.asking.QuestionWords.{QuestionWords}
-use Rattle.td_cli.specs.declared.vector.VectorWord.TheVariants.{First, Second, Hold}
-use Rattle.td_cli.specs.Vectors.{words_of, AreTrits, IsMask, woven, VectorWords, GivesTrits, GivesMask}
+use Rattle.td_report.specs.declared.vector.VectorWord.TheVariants.{First, Second, Hold}
+use Rattle.td_report.specs.Vectors.{words_of, AreTrits, IsMask, woven, VectorWords, GivesTrits, GivesMask}
 
 -- at how many inputs bits may differ: at all of them where no number is given
 abbrev pub most_flips : ℕ → Option ℕ → ℕ

@@ -1,8 +1,8 @@
 -- What is known of files.
 use Rattle.std.specs.Prelude.{◌≡◌, ℕ, Bool, List, ◌⊎◌}
 use Rattle.std.specs.Borrow.{Bor}
-use Rattle.td_cli.specs.declared.refusal.Refusal.{Refusal}
-use Rattle.td_cli.specs.declared.refusal.Refusal.TheVariants as refusal
+use Rattle.td_report.specs.declared.refusal.Refusal.{Refusal}
+use Rattle.td_report.specs.declared.refusal.Refusal.TheVariants as refusal
 
 -- what is known of files: the bytes that a read of a name may give, which names a device may fail to read, of which it may fail to
 -- make or end a file, and what may be answered where it is asked whether two names are of one file

@@ -15,14 +15,14 @@ use Rattle.td_join.specs.declared.fault.JoinFault.TheVariants as fault
 use Rattle.td_join.specs.Joining.{IsJoined, hull}
 use Rattle.td_join.specs.Faults.{IsJoinFault}
 use Rattle.td_search.specs.declared.answers.Answer.TheVariants.{Exact}
-use Rattle.td_cli.specs.declared.vector.VectorWord.TheVariants as vector
-use Rattle.td_cli.specs.declared.refusal.Refusal.{Refusal}
-use Rattle.td_cli.specs.declared.refusal.Refusal.TheVariants as refusal
-use Rattle.td_cli.specs.Vectors.{AreTrits, woven, VectorWords, GivesTrits}
+use Rattle.td_report.specs.declared.vector.VectorWord.TheVariants as vector
+use Rattle.td_report.specs.declared.refusal.Refusal.{Refusal}
+use Rattle.td_report.specs.declared.refusal.Refusal.TheVariants as refusal
+use Rattle.td_report.specs.Vectors.{AreTrits, woven, VectorWords, GivesTrits}
 use Rattle.td_cli.specs.WorstReports.{worst_text}
-use Rattle.td_cli.specs.Outcomes.{HasNoCircuit, IsRefusedFor}
+use Rattle.td_report.specs.Outcomes.{HasNoCircuit, IsRefusedFor}
 use Rattle.td_cli.specs.Disks.{Disk, Reads, HoldsOnFile}
-use Rattle.td_cli.specs.JoinTexts.{first_place, second_place}
+use Rattle.td_report.specs.JoinTexts.{first_place, second_place}
 
 -- ---- the pins of the whole
 

@@ -7,10 +7,10 @@ use Rattle.td_domain.specs.Admits.{HasAdmitted}
 use Rattle.td_search.specs.Problems.{Problem, IsPart}
 use Rattle.td_join.specs.Partition.{IsPartition}
 use Rattle.td_cli.specs.declared.asking.QuestionWords.{QuestionWords}
-use Rattle.td_cli.specs.Vectors.{words_of}
-use Rattle.td_cli.specs.Reports.{newline}
+use Rattle.td_report.specs.Vectors.{words_of}
+use Rattle.td_report.specs.Reports.{newline}
 use Rattle.td_cli.specs.WorstReports.{IsAsked}
-use Rattle.td_cli.specs.Pinning.{pins_text}
+use Rattle.td_report.specs.Pinning.{pins_text}
 
 -- an option as it was given, where it was
 abbrev pub option_text : List ℕ → Option (List ℕ) → List ℕ

@@ -7,9 +7,9 @@ use Rattle.td_checker.specs.declared.verdict.CheckFault.{CheckFault}
 use Rattle.td_checker.specs.declared.verdict.CheckFault.TheVariants as check
 use Rattle.td_join.specs.declared.fault.JoinFault.{JoinFault}
 use Rattle.td_join.specs.declared.fault.JoinFault.TheVariants as join
-use Rattle.td_cli.specs.JoinTexts.{first_place, second_place}
-use Rattle.td_cli.specs.declared.refusal.Refusal.{Refusal}
-use Rattle.td_cli.specs.declared.refusal.Refusal.TheVariants as refusal
+use Rattle.td_report.specs.JoinTexts.{first_place, second_place}
+use Rattle.td_report.specs.declared.refusal.Refusal.{Refusal}
+use Rattle.td_report.specs.declared.refusal.Refusal.TheVariants as refusal
 
 -- the reason tells this fault of the text in the file of this name, or want of memory
 abbrev pub IsOfPart : Bor (List ℕ) → CertFault → Refusal → Type 0

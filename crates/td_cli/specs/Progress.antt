@@ -6,9 +6,9 @@ use Rattle.td_search.specs.Problems.{Problem}
 use Rattle.td_pool.specs.declared.watch.Progress.{Progress}
 use Rattle.td_pool.specs.Watched.{IsTrueProgress}
 use Rattle.td_cli.specs.declared.asking.QuestionWords.{QuestionWords}
-use Rattle.td_cli.specs.Reports.{newline}
+use Rattle.td_report.specs.Reports.{newline}
 use Rattle.td_cli.specs.WorstReports.{IsAsked}
-use Rattle.td_cli.specs.Ends.{Tells}
+use Rattle.td_report.specs.Ends.{Tells}
 
 -- how many nodes are handled, a delay that was found, a figure above which none is, and how many leaves are left
 abbrev pub progress_line : Progress → List ℕ

@@ -9,12 +9,12 @@ use Rattle.td_gates.specs.declared.timing.Delay.{Delay}
 use Rattle.td_gates.specs.Output.{Output, Sent, Failed}
 use Rattle.td_certificate.specs.declared.certificate.Certificate.{Certificate}
 use Rattle.td_certificate.specs.Spelling.{spelling}
-use Rattle.td_cli.specs.declared.status.Status.{Status}
-use Rattle.td_cli.specs.declared.status.Status.TheVariants.{Done, BadCommand, Between, Device}
-use Rattle.td_cli.specs.declared.files.ReadFault.{ReadFault}
-use Rattle.td_cli.specs.declared.files.ReadFault.TheVariants as unread
-use Rattle.td_cli.specs.declared.refusal.Refusal.{Refusal}
-use Rattle.td_cli.specs.declared.refusal.Refusal.TheVariants as refusal
+use Rattle.td_report.specs.declared.status.Status.{Status}
+use Rattle.td_report.specs.declared.status.Status.TheVariants.{Done, BadCommand, Between, Device}
+use Rattle.td_report.specs.declared.files.ReadFault.{ReadFault}
+use Rattle.td_report.specs.declared.files.ReadFault.TheVariants as unread
+use Rattle.td_report.specs.declared.refusal.Refusal.{Refusal}
+use Rattle.td_report.specs.declared.refusal.Refusal.TheVariants as refusal
 use Rattle.td_search.specs.declared.strategy.Strategy.{Strategy}
 use Rattle.td_search.specs.declared.strategy.Strategy.TheVariants as strategy
 use Rattle.td_command.specs.declared.command.StrategyWord.{StrategyWord}
@@ -25,20 +25,21 @@ use Rattle.td_command.specs.declared.command.Request.{Request}
 use Rattle.td_command.specs.declared.command.Request.TheVariants as request
 use Rattle.td_command.specs.CommandLine.{delays, kinds_of, Asks}
 use Rattle.td_cli.specs.declared.asking.QuestionWords.{QuestionWords}
-use Rattle.td_cli.specs.Vectors.{words_of}
-use Rattle.td_cli.specs.Reports.{newline, IsSimReport}
-use Rattle.td_cli.specs.PathReports.{IsPathReport}
-use Rattle.td_cli.specs.BoundReports.{IsBoundReport}
-use Rattle.td_cli.specs.CheckReports.{IsCheckReport}
+use Rattle.td_report.specs.Vectors.{words_of}
+use Rattle.td_report.specs.Reports.{newline, IsSimReport}
+use Rattle.td_report.specs.PathReports.{IsPathReport}
+use Rattle.td_report.specs.BoundReports.{IsBoundReport}
+use Rattle.td_report.specs.CheckReports.{IsCheckReport}
 use Rattle.td_cli.specs.WorstReports.{IsWorstReport}
-use Rattle.td_cli.specs.InfoReports.{IsInfoReport}
+use Rattle.td_report.specs.InfoReports.{IsInfoReport}
 use Rattle.td_cli.specs.PartReports.{IsPartsReport}
 use Rattle.td_cli.specs.JoinReports.{IsJoinReport, HasNoJoin}
-use Rattle.td_cli.specs.Refusals.{refusal_text, unwritten_text}
-use Rattle.td_cli.specs.Outcomes.{HasNoCircuit, HasNoReport, HasNoPath, HasNoBounds, HasNoAnswer, HasNoVerdict}
-use Rattle.td_cli.specs.Files.{FileStep, FileText}
+use Rattle.td_report.specs.Refusals.{refusal_text, unwritten_text}
+use Rattle.td_cli.specs.Outcomes.{HasNoAnswer}
+use Rattle.td_report.specs.Outcomes.{HasNoCircuit, HasNoReport, HasNoPath, HasNoBounds, HasNoVerdict}
+use Rattle.td_report.specs.Files.{FileStep, FileText}
 use Rattle.td_cli.specs.Disks.{Disk, Reads, HoldsOnFile}
-use Rattle.td_cli.specs.Ends.{Product, IsReportOnly, Streams, Tells, EndsBehind}
+use Rattle.td_report.specs.Ends.{Product, IsReportOnly, Streams, Tells, EndsBehind}
 use Rattle.td_cli.specs.Progress.{TellsSearch}
 
 -- ---- the commands, on bytes that were read

@@ -1,11 +1,7 @@
 -- What `worst` prints.
-use Rattle.std.specs.Prelude.{◌≡◌, ℕ, List, [], ◌++◌, codes, decimal, length, map, Bool, true, false, Option, Some, None}
+use Rattle.std.specs.Prelude.{◌≡◌, ℕ, List, ◌++◌, codes, decimal, length, Bool, Option, Some, None}
 use Rattle.td_gates.specs.declared.timing.Delay.{Delay}
-use Rattle.td_gates.specs.Table.{level_from}
-use Rattle.td_gates.specs.Wave.{Wave}
-use Rattle.td_nets.specs.Netlist.{Net, Netlist}
-use Rattle.td_circuit.specs.Settings.{Setting}
-use Rattle.td_circuit.specs.Run.{Runs}
+use Rattle.td_nets.specs.Netlist.{Netlist}
 use Rattle.td_domain.specs.Pairs.{Pair}
 use Rattle.td_certificate.specs.declared.certificate.Certificate.{Certificate}
 use Rattle.td_certificate.specs.Text.{bits}
@@ -16,12 +12,12 @@ use Rattle.td_search.specs.declared.answers.Answer.TheVariants as answer
 use Rattle.td_search.specs.Problems.{Problem}
 use Rattle.td_search.specs.Answers.{IsAnswer, certificate_of}
 use Rattle.td_cli.specs.declared.asking.QuestionWords.{QuestionWords}
-use Rattle.td_cli.specs.Vectors.{words_of}
-use Rattle.td_vcd.specs.Text.{dump, variable_waves}
-use Rattle.td_cli.specs.Files.{FileText, file_for}
+use Rattle.td_report.specs.Vectors.{words_of}
+use Rattle.td_vcd.specs.Text.{dump}
+use Rattle.td_report.specs.Files.{FileText}
 use Rattle.td_cli.specs.Admitting.{AreAdmitted}
-use Rattle.td_cli.specs.Reports.{newline, head_lines, IsSetting}
-use Rattle.td_cli.specs.PathReports.{TellsPath}
+use Rattle.td_report.specs.Reports.{newline, head_lines, IsSetting}
+use Rattle.td_report.specs.PairReports.{IsDumpOf, TellsPair}
 
 abbrev pub exact_line : ℕ → List ℕ
 exact_line time = codes "exact " ++ decimal time ++ newline
@@ -72,19 +68,6 @@ pub record IsAsked (text : List ℕ) (default : Delay) (words : QuestionWords) (
 abbrev pub pair_in : Answer → Pair
 pair_in (answer.Exact time pair tree) = pair
 pair_in (answer.Between low high pair nodes why) = pair
-
--- where a name is given, the one file is the dump of the pair's run
-abbrev pub IsDumpOf : Setting → Pair → Option (List ℕ) → List FileText → Type 0
-IsDumpOf setting pair None files = files ≡ []
-IsDumpOf setting pair (Some name) files =
-    (waves : Net → Wave) × Runs setting (map level_from pair.first) (map level_from pair.second) waves
-    × (files ≡ file_for (Some name) (dump setting.netlist (variable_waves setting.netlist waves)))
-
--- where it is asked for, the lines tell why the output that changes last in the pair's run does so when it does
-abbrev pub TellsPair : Bool → Setting → Pair → List ℕ → Type 0
-TellsPair false setting pair lines = lines ≡ []
-TellsPair true setting pair lines =
-    (waves : Net → Wave) × Runs setting (map level_from pair.first) (map level_from pair.second) waves × TellsPath setting waves None lines
 
 -- The report and the certificate are those of an answer to what the words ask of the text, and the lines behind it and the dump are those of
 -- its pair.

@@ -1,10 +1,10 @@
 //! What a search is asked, in words of the command line.
 
 ghost use Rattle.std.specs.Prelude.{◌≡◌, ◌<◌, ◌^◌, IfOk, IfErr};
-ghost use Rattle.td_cli.specs.Vectors.{IsFirstBad};
+ghost use Rattle.td_report.specs.Vectors.{IsFirstBad};
 ghost use Rattle.td_cli.specs.Admitting.{most_flips, AreAdmitted, pair_words};
 
-use crate::vector::{VectorWord, cube, given};
+use td_report::vector::{VectorWord, cube, given};
 use std::alloc::{AllocError, Global};
 use td_domain::{Admit, Trit};
 use td_search::Strategy;

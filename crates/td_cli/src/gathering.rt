@@ -10,10 +10,10 @@ ghost use Rattle.td_checker.specs.Checks.{HaveVerdict};
 ghost use Rattle.td_cli.specs.Disks.{disk_of, HoldsOnFile};
 ghost use Rattle.td_cli.specs.JoinReports.{TellsPart, TellsNoPart, GivesPart, AreParts, HasNoPart};
 ghost use Rattle.td_cli.specs.Parts.{IsOfPart, unjudged};
-ghost use Rattle.td_cli.specs.declared.refusal.Refusal.TheVariants as Reason;
+ghost use Rattle.td_report.specs.declared.refusal.Refusal.TheVariants as Reason;
 
-use crate::files::{Files, ReadFault};
-use crate::refusal::Refusal;
+use td_report::files::{Files, ReadFault};
+use td_report::refusal::Refusal;
 use std::alloc::Global;
 use td_certificate::{CertFault, CertFaultKind, Certificate, read};
 use td_checker::{CheckFault, Verdict, check};

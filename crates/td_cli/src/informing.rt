@@ -3,16 +3,16 @@
 ghost use Rattle.std.specs.Prelude.{[]};
 ghost use Rattle.td_gates.specs.Delays.{IsInRange};
 ghost use Rattle.td_command.specs.CommandLine.{delays};
-ghost use Rattle.td_cli.specs.Ends.{Ends, streams};
-ghost use Rattle.td_cli.specs.Files.{Takes};
-ghost use Rattle.td_cli.specs.Outcomes.{HasNoCircuit};
+ghost use Rattle.td_report.specs.Ends.{Ends, streams};
+ghost use Rattle.td_report.specs.Files.{Takes};
+ghost use Rattle.td_report.specs.Outcomes.{HasNoCircuit};
 ghost use Rattle.td_cli.specs.Disks.{disk_of};
 ghost use Rattle.td_cli.specs.Requests.{IsInfoProduct, RequestRuns};
 ghost use Rattle.td_command.specs.declared.command.Request.TheVariants as Asked;
 
-use crate::describing::info;
-use crate::files::Files;
-use crate::status::Status;
+use td_report::describing::info;
+use td_report::files::Files;
+use td_report::status::Status;
 use crate::telling::{say, tell_refusal, tell_unread};
 use std::alloc::Global;
 use td_command::InfoRequest;

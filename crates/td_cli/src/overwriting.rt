@@ -4,11 +4,11 @@ ghost use Rattle.std.specs.Prelude.{◌≡◌, ℕ, List, All, map, Option, Some
 ghost use Rattle.std.specs.List.{Contains};
 ghost use Rattle.td_cli.specs.Disks.{disk_of};
 ghost use Rattle.td_cli.specs.Requests.{AreApart, IsOverwritten, IsReadAs, KeepsRead, KeepsFiles, OverwritesRead, Overwrites};
-ghost use Rattle.td_cli.specs.Vectors.{words_of};
+ghost use Rattle.td_report.specs.Vectors.{words_of};
 ghost use Rattle.td_command.specs.declared.command.Request.TheVariants as Asked;
 
-use crate::files::Files;
-use crate::refusal::Refusal;
+use td_report::files::Files;
+use td_report::refusal::Refusal;
 use td_command::{JoinRequest, Request, SimRequest, WorstRequest};
 
 /// Why a command isn't carried out that would write one of its files over another: the netlist that it reads, or the other file

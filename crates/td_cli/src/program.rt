@@ -3,27 +3,28 @@
 ghost use Rattle.std.specs.Prelude.{◌≡◌, ◌<◌, ◌≤◌, [], map, IfSome, IfNone, false};
 ghost use Rattle.td_gates.specs.Delays.{IsInRange};
 ghost use Rattle.td_command.specs.CommandLine.{delays, IsCarriedOut};
-ghost use Rattle.td_cli.specs.Ends.{Ends, EndsBehind, streams};
-ghost use Rattle.td_cli.specs.Files.{Takes};
-ghost use Rattle.td_cli.specs.Outcomes.{HasNoReport, HasNoPath, HasNoBounds, HasNoAnswer, HasNoVerdict};
+ghost use Rattle.td_report.specs.Ends.{Ends, EndsBehind, streams};
+ghost use Rattle.td_report.specs.Files.{Takes};
+ghost use Rattle.td_cli.specs.Outcomes.{HasNoAnswer};
+ghost use Rattle.td_report.specs.Outcomes.{HasNoReport, HasNoPath, HasNoBounds, HasNoVerdict};
 ghost use Rattle.td_cli.specs.Progress.{TellsSearch};
-ghost use Rattle.td_cli.specs.Vectors.{words_of};
+ghost use Rattle.td_report.specs.Vectors.{words_of};
 ghost use Rattle.td_cli.specs.Disks.{disk_of, Reads, HoldsOnFile};
 ghost use Rattle.td_cli.specs.Requests.{is_search, AsksSearch, strategy_of, words_in, IsSimProduct, IsPathProduct, IsBoundProduct, IsCheckProduct, IsWorstProduct, search_ending, RequestRuns, RequestEnds, IsOutOfMemory, ProgramEnds, RefusesWords};
 ghost use Rattle.td_command.specs.declared.command.Request.TheVariants as Asked;
 
 use crate::asking::QuestionWords;
-use crate::bounding::bounds;
-use crate::checking::verdict_on;
-use crate::explaining::path;
-use crate::files::{Files, ReadFault};
+use td_report::bounding::bounds;
+use td_report::checking::verdict_on;
+use td_report::explaining::path;
+use td_report::files::{Files, ReadFault};
 use crate::informing::run_info;
 use crate::joining::run_join;
 use crate::overwriting::overwriting;
 use crate::parting::run_parts;
 use crate::progress::searched;
-use crate::simulate::sim;
-use crate::status::Status;
+use td_report::simulate::sim;
+use td_report::status::Status;
 use crate::telling::{
     beside_dump, beside_files, keep_certificate, keep_dump, say, tell, tell_error, tell_refusal,
     tell_unread,

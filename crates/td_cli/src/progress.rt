@@ -2,18 +2,18 @@
 
 ghost use Rattle.std.specs.Prelude.{◌≡◌, ◌<◌, ◌≤◌, true, IfOk, IfErr, IfSome};
 ghost use Rattle.td_certificate.specs.Spelling.{HasSpelling};
-ghost use Rattle.td_cli.specs.Dumps.{dump_files, HasRun};
-ghost use Rattle.td_cli.specs.Vectors.{words_of};
+ghost use Rattle.td_report.specs.Dumps.{dump_files, HasRun};
+ghost use Rattle.td_report.specs.Vectors.{words_of};
 ghost use Rattle.td_cli.specs.WorstReports.{IsWorstReport};
 ghost use Rattle.td_cli.specs.Outcomes.{HasNoAnswer};
 ghost use Rattle.td_cli.specs.Progress.{progress_line, TellsSearch};
 
 use crate::asking::QuestionWords;
-use crate::refusal::Refusal;
+use td_report::refusal::Refusal;
 use crate::searching::{Found, worst};
-use crate::status::Status;
+use td_report::status::Status;
 use crate::telling::tell;
-use crate::text::Text;
+use td_report::text::Text;
 use std::alloc::{AllocError, Global};
 use std::sync::Wait;
 use std::thread::Threads;

@@ -1,5 +1,5 @@
 use Rattle.std.proofs.Common.{◌≡◌, length, arith, ap}
-use Rattle.td_cli.proofs.Vectors.{given-length, woven-length}
+use Rattle.td_report.proofs.Vectors.{given-length, woven-length}
 use Rattle.td_cli.proofs.asking.admit.Goals as goal
 
 pub new-requires : goal.new-requires

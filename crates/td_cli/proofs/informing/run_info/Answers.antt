@@ -1,6 +1,6 @@
 use Rattle.std.proofs.Common.{sym, subst, refl}
 use Rattle.td_command.specs.CommandLine.{delays}
-use Rattle.td_cli.specs.Outcomes.{HasNoCircuit}
+use Rattle.td_report.specs.Outcomes.{HasNoCircuit}
 use Rattle.td_cli.specs.Disks.{disk_of}
 use Rattle.td_cli.specs.Requests.{IsInfoProduct}
 use Rattle.td_cli.proofs.Programs.{behind, nothing_done, on_file, not_read}

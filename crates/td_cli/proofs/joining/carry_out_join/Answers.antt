@@ -1,5 +1,5 @@
 use Rattle.std.proofs.Common.{map, refl}
-use Rattle.td_cli.specs.Vectors.{words_of}
+use Rattle.td_report.specs.Vectors.{words_of}
 use Rattle.td_cli.specs.Disks.{disk_of}
 use Rattle.td_cli.specs.JoinReports.{HasNoJoin}
 use Rattle.td_cli.specs.Requests.{IsJoinProduct}

@@ -1,7 +1,7 @@
 use Rattle.std.proofs.Common.{◌∙◌, ◌≤◌, ℕ, List, length, arith}
 use Rattle.std.specs.Borrow.{Bor}
 use Rattle.std.proofs.lemmas.List.Elements.{All-more}
-use Rattle.td_cli.specs.Vectors.{words_of}
+use Rattle.td_report.specs.Vectors.{words_of}
 use Rattle.td_cli.specs.Disks.{disk_of}
 use Rattle.td_cli.specs.Requests.{KeepsRead, OverwritesRead}
 use Rattle.td_cli.proofs.Joinings.{all_kept, one_over}

@@ -1,6 +1,6 @@
 use Rattle.std.proofs.Common.{◌≡◌, take}
 use Rattle.std.specs.Prelude.{All}
-use Rattle.td_cli.specs.Vectors.{words_of}
+use Rattle.td_report.specs.Vectors.{words_of}
 use Rattle.td_cli.specs.Disks.{disk_of}
 use Rattle.td_cli.specs.Requests.{KeepsRead}
 use Rattle.td_cli.proofs.overwriting.over_one_of.Given as goal

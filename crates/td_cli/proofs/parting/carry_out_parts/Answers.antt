@@ -1,5 +1,5 @@
 use Rattle.std.proofs.Common.{refl}
-use Rattle.td_cli.specs.declared.status.Status.TheVariants.{Done}
+use Rattle.td_report.specs.declared.status.Status.TheVariants.{Done}
 use Rattle.td_cli.specs.Outcomes.{HasNoAnswer}
 use Rattle.td_cli.specs.Requests.{IsPartsProduct}
 use Rattle.td_cli.proofs.Programs.{said, refused}

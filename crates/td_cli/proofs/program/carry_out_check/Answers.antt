@@ -1,5 +1,5 @@
 use Rattle.std.proofs.Common.{refl}
-use Rattle.td_cli.specs.Outcomes.{HasNoVerdict}
+use Rattle.td_report.specs.Outcomes.{HasNoVerdict}
 use Rattle.td_cli.specs.Requests.{IsCheckProduct}
 use Rattle.td_cli.proofs.Programs.{said, refused}
 use Rattle.td_cli.proofs.program.carry_out_check.Goals as goal

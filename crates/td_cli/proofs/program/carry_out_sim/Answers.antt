@@ -1,7 +1,7 @@
 use Rattle.std.proofs.Common.{refl}
-use Rattle.td_cli.specs.Dumps.{dump_files}
-use Rattle.td_cli.specs.Vectors.{words_of}
-use Rattle.td_cli.specs.Outcomes.{HasNoReport}
+use Rattle.td_report.specs.Dumps.{dump_files}
+use Rattle.td_report.specs.Vectors.{words_of}
+use Rattle.td_report.specs.Outcomes.{HasNoReport}
 use Rattle.td_cli.specs.Requests.{IsSimProduct}
 use Rattle.td_cli.proofs.Programs.{nothing_done, refused, finished, lost_report, lost_file, sim_product}
 use Rattle.td_cli.proofs.program.carry_out_sim.Goals as goal

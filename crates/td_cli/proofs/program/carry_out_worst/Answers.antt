@@ -1,6 +1,6 @@
 use Rattle.std.proofs.Common.{◌++◌, ◌∙◌, refl}
-use Rattle.td_cli.specs.Dumps.{dump_files}
-use Rattle.td_cli.specs.Vectors.{words_of}
+use Rattle.td_report.specs.Dumps.{dump_files}
+use Rattle.td_report.specs.Vectors.{words_of}
 use Rattle.td_cli.specs.Outcomes.{HasNoAnswer}
 use Rattle.td_cli.specs.Requests.{IsWorstProduct}
 use Rattle.td_cli.proofs.Programs.{behind, nothing_done, refused, finished, lost_report, lost_file, both_written, lost_before, lost_behind, worst_product}

@@ -1,7 +1,7 @@
 use Rattle.std.proofs.Common.{sym, subst, refl}
 use Rattle.td_command.specs.CommandLine.{delays}
-use Rattle.td_cli.specs.Vectors.{words_of}
-use Rattle.td_cli.specs.Outcomes.{HasNoBounds}
+use Rattle.td_report.specs.Vectors.{words_of}
+use Rattle.td_report.specs.Outcomes.{HasNoBounds}
 use Rattle.td_cli.specs.Disks.{disk_of}
 use Rattle.td_cli.specs.Requests.{IsBoundProduct}
 use Rattle.td_cli.proofs.Programs.{behind, nothing_done, on_file, not_read}

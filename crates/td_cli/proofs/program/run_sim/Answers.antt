@@ -1,7 +1,7 @@
 use Rattle.std.proofs.Common.{sym, subst, refl}
 use Rattle.td_command.specs.CommandLine.{delays}
-use Rattle.td_cli.specs.Vectors.{words_of}
-use Rattle.td_cli.specs.Outcomes.{HasNoReport}
+use Rattle.td_report.specs.Vectors.{words_of}
+use Rattle.td_report.specs.Outcomes.{HasNoReport}
 use Rattle.td_cli.specs.Disks.{disk_of}
 use Rattle.td_cli.specs.Requests.{IsSimProduct}
 use Rattle.td_cli.proofs.Programs.{behind, behind_nothing, nothing_done, not_read, on_file_taking}

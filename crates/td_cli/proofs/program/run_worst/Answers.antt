@@ -1,6 +1,6 @@
 use Rattle.std.proofs.Common.{sym, subst, refl, inl}
 use Rattle.td_command.specs.CommandLine.{delays}
-use Rattle.td_cli.specs.Vectors.{words_of}
+use Rattle.td_report.specs.Vectors.{words_of}
 use Rattle.td_cli.specs.Outcomes.{HasNoAnswer}
 use Rattle.td_cli.specs.Progress.{TellsSearch}
 use Rattle.td_cli.specs.Disks.{disk_of}

@@ -1,4 +1,4 @@
-use Rattle.td_cli.proofs.Moments.{moments_fit}
+use Rattle.td_report.proofs.Moments.{moments_fit}
 use Rattle.td_cli.proofs.Questions.{bad_pair_word, bad_moments, is_asked}
 use Rattle.td_cli.proofs.searching.question_of.Goals as goal
 

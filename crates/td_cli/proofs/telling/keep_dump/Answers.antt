@@ -1,5 +1,5 @@
 use Rattle.std.proofs.Common.{ap}
-use Rattle.td_cli.specs.Dumps.{dump_files}
+use Rattle.td_report.specs.Dumps.{dump_files}
 use Rattle.td_cli.proofs.Programs.{none_kept, one_kept, one_not_kept}
 use Rattle.td_cli.proofs.telling.keep_dump.Goals as goal
 

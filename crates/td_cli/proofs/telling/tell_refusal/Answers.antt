@@ -1,5 +1,5 @@
 use Rattle.std.proofs.Common.{refl, inr}
-use Rattle.td_cli.specs.declared.refusal.Refusal.TheVariants.{OutOfMemory}
+use Rattle.td_report.specs.declared.refusal.Refusal.TheVariants.{OutOfMemory}
 use Rattle.td_cli.proofs.telling.tell_refusal.Goals as goal
 
 pub returns : goal.returns

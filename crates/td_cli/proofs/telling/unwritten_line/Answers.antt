@@ -1,7 +1,7 @@
 use Rattle.std.proofs.Common.{codes}
 use Rattle.std.proofs.lemmas.Result.{IfOk-weaker}
-use Rattle.td_cli.specs.Reports.{newline}
-use Rattle.td_cli.proofs.Outputs.{three_pushed}
+use Rattle.td_report.specs.Reports.{newline}
+use Rattle.td_report.proofs.Outputs.{three_pushed}
 use Rattle.td_cli.proofs.telling.unwritten_line.Goals as goal
 
 pub returns : goal.returns

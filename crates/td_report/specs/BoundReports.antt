@@ -1,0 +1,68 @@
+-- What `bound` prints.
+use Rattle.std.specs.Prelude.{◌≡◌, ℕ, Bool, true, false, List, ◌++◌, length, codes, decimal, Option, Some, None}
+use Rattle.td_gates.specs.declared.timing.Delay.{Delay}
+use Rattle.td_nets.specs.Netlist.{Netlist}
+use Rattle.td_circuit.specs.Settings.{Setting}
+use Rattle.td_domain.specs.declared.cubes.Trit.{Trit}
+use Rattle.td_domain.specs.Bounds.{IsUpperBoundIn}
+use Rattle.td_certificate.specs.declared.tree.BoundedBy.{BoundedBy}
+use Rattle.td_certificate.specs.declared.tree.BoundedBy.TheVariants as by
+use Rattle.td_certificate.specs.Accepts.{IsBoundBy}
+use Rattle.td_report.specs.Reports.{newline, head_lines, IsSetting}
+use Rattle.td_report.specs.Vectors.{AreTrits, woven}
+
+-- a domain's bound, `none` where it has none
+abbrev pub bound_text : Option ℕ → List ℕ
+bound_text None = codes "none"
+bound_text (Some moment) = decimal moment
+
+-- a domain's letter and its bound
+abbrev pub bound_line : List ℕ → Option ℕ → List ℕ
+bound_line letter bound = letter ++ codes " " ++ bound_text bound ++ newline
+
+-- the head, and a line for each domain
+abbrev pub bounds_text : Netlist → Option ℕ → Option ℕ → Option ℕ → List ℕ
+bounds_text netlist arrivals possibles together =
+    head_lines netlist
+    ++ bound_line (codes "a") arrivals
+    ++ bound_line (codes "t") possibles
+    ++ bound_line (codes "m") together
+
+-- the lines of edges, alone and with possible levels
+abbrev pub edges_text : Option ℕ → Option ℕ → List ℕ
+edges_text alone together = bound_line (codes "e") alone ++ bound_line (codes "n") together
+
+-- the bound that a domain gives of a cube: where it is a moment, no pair of the cube has a greater delay
+pub record IsSoundBound (domain : BoundedBy) (setting : Setting) (cube : List Trit) (bound : Option ℕ) : Type 0 where
+  pub is : IsBoundBy domain setting cube bound
+  pub sound : (moment : ℕ) → bound ≡ Some moment → IsUpperBoundIn setting cube moment
+
+-- behind the report there are the bounds of the cube by edges, alone and with possible levels
+pub record EndsWithEdges (setting : Setting) (cube : List Trit) (report whole : List ℕ) : Type 0 where
+  pub alone : Option ℕ
+  pub together : Option ℕ
+  pub alone_is : IsSoundBound by.Edges setting cube alone
+  pub together_is : IsSoundBound by.EdgesAndPossible setting cube together
+  pub is : whole ≡ report ++ edges_text alone together
+
+-- the bounds by edges are there where they are asked for, and nowhere else
+abbrev pub HasEdges : Bool → Setting → List Trit → List ℕ → List ℕ → Type 0
+HasEdges false setting cube report whole = whole ≡ report
+HasEdges true setting cube report whole = EndsWithEdges setting cube report whole
+
+-- The text and the last option give a setting, the other two options give trits for its inputs, and the report has the bounds
+-- of their cube, those by edges where they are asked for.
+pub record IsBoundReport (text : List ℕ) (default : Delay) (first second at : Option (List ℕ)) (edges : Bool) (report : List ℕ) : Type 0 where
+  pub setting : Setting
+  pub is_setting : IsSetting text default at setting
+  pub firsts : List Trit
+  pub seconds : List Trit
+  pub first_is : AreTrits (length setting.netlist.inputs) first firsts
+  pub second_is : AreTrits (length setting.netlist.inputs) second seconds
+  pub arrivals : Option ℕ
+  pub possibles : Option ℕ
+  pub together : Option ℕ
+  pub arrivals_is : IsSoundBound by.Arrival setting (woven firsts seconds) arrivals
+  pub possibles_is : IsSoundBound by.Possible setting (woven firsts seconds) possibles
+  pub together_is : IsSoundBound by.Both setting (woven firsts seconds) together
+  pub is : HasEdges edges setting (woven firsts seconds) (bounds_text setting.netlist arrivals possibles together) report

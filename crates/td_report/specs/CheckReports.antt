@@ -1,0 +1,51 @@
+-- What `check` prints.
+use Rattle.std.specs.Prelude.{◌≡◌, ℕ, List, [], ◌++◌, codes, decimal, Option, Some, None}
+use Rattle.td_gates.specs.declared.timing.Delay.{Delay}
+use Rattle.td_certificate.specs.declared.certificate.Certificate.{Certificate}
+use Rattle.td_certificate.specs.Spelling.{Spells, version_in, question_text}
+use Rattle.td_checker.specs.declared.verdict.Verdict.{Verdict}
+use Rattle.td_checker.specs.declared.verdict.Verdict.TheVariants.{Accepted}
+use Rattle.td_checker.specs.Verdicts.{verdict_number, verdict_name, verdict_line}
+use Rattle.td_checker.specs.Checks.{HaveVerdict, TellsWorst}
+use Rattle.td_report.specs.declared.status.Status.{Status}
+use Rattle.td_report.specs.declared.status.Status.TheVariants as status
+use Rattle.td_report.specs.Reports.{newline}
+
+-- the time of a certificate that is accepted, and the lines of its text that tell what it is about, which the first version of
+-- the text hasn't
+abbrev pub accepted_text : Certificate → List ℕ
+accepted_text certificate = codes "accepted " ++ decimal certificate.time ++ newline ++ question_text (version_in certificate) certificate.question
+
+-- the line of the certificate's text that a verdict is about, where it is about one
+abbrev pub place_text : Option ℕ → List ℕ
+place_text None = []
+place_text (Some line) = codes " line " ++ decimal line
+
+-- the number and the name of a verdict that refuses, and its line
+abbrev pub refusing_text : Verdict → List ℕ
+refusing_text verdict =
+    codes "refused " ++ decimal (verdict_number verdict) ++ codes " " ++ verdict_name verdict ++ place_text (verdict_line verdict)
+
+abbrev pub refused_text : Verdict → List ℕ
+refused_text verdict = refusing_text verdict ++ newline
+
+-- the program ends so with this verdict
+abbrev pub ending_of : Verdict → Status
+ending_of Accepted = status.Done
+ending_of other = status.Rejected
+
+-- what is told of a certificate with this verdict
+abbrev pub verdict_text : Certificate → Verdict → List ℕ
+verdict_text certificate Accepted = accepted_text certificate
+verdict_text certificate other = refused_text other
+
+-- The two texts have a verdict, by which the program ends, and the report tells it. An accepted time is the worst delay of
+-- the pairs that the certificate admits, in the netlist that its text means, with the certificate's moments.
+pub record IsCheckReport (text : List ℕ) (default : Delay) (certificate_text : List ℕ) (ending : Status) (report : List ℕ) : Type 0 where
+  pub verdict : Verdict
+  pub has : HaveVerdict text default certificate_text verdict
+  pub certificate : Certificate
+  pub spells : Spells certificate certificate_text
+  pub ends : ending ≡ ending_of verdict
+  pub is : report ≡ verdict_text certificate verdict
+  pub worst : verdict ≡ Accepted → TellsWorst text default certificate_text

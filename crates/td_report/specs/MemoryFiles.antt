@@ -1,0 +1,51 @@
+-- Files in memory.
+use Rattle.std.proofs.Common.{◌≡◌, ◌<◌, ◌⊎◌, ◌∙◌, ℕ, List, [], ◌++◌, length, map, slice_get, Option, Some, None, sym, ap, append-nil, append_assoc}
+use Rattle.std.specs.Borrow.{Bor}
+use Rattle.td_gates.specs.MemorySinks.{output_of}
+use Rattle.td_report.specs.declared.memory_files.MemoryFile.{MemoryFile}
+use Rattle.td_report.specs.declared.memory_files.MemoryStep.{MemoryStep}
+use Rattle.td_report.specs.declared.memory_files.MemoryStep.TheVariants as step
+use Rattle.td_report.specs.Files.{FileStep, Made, Ended}
+
+-- the file at this place has this name and these bytes
+abbrev pub IsFileAt : List (Bor (List ℕ) × Bor (List ℕ)) → ℕ → Bor (List ℕ) × Bor (List ℕ) → List ℕ → List ℕ → Type 0
+IsFileAt files place file name bytes = (slice_get files place ≡ Some file) × (file.0.now ≡ name) × (file.1.now ≡ bytes)
+
+-- one of the files has this name and these bytes
+abbrev pub HasFile : List (Bor (List ℕ) × Bor (List ℕ)) → List ℕ → List ℕ → Type 0
+HasFile files name bytes = (place : ℕ) × (file : Bor (List ℕ) × Bor (List ℕ)) × IsFileAt files place file name bytes
+
+-- no file has this name
+abbrev pub IsMissing : List (Bor (List ℕ) × Bor (List ℕ)) → List ℕ → Type 0
+IsMissing files name = (bytes : List ℕ) → ¬ HasFile files name bytes
+
+-- a read of this name fails, where readers give so many bytes: no file has the name, or one of the name has more bytes
+abbrev pub FailsOn : List (Bor (List ℕ) × Bor (List ℕ)) → ℕ → List ℕ → Type 0
+FailsOn files readable name = IsMissing files name ⊎ ((bytes : List ℕ) × HasFile files name bytes × (readable < length bytes))
+
+-- a file is made empty, with a writer that hasn't failed
+abbrev pub step_of : MemoryStep → FileStep
+step_of (step.Made name) = Made name.items (record { sent = Some []; failures = 0 })
+step_of (step.Ended file) = Ended file.name.items (output_of file.sink)
+
+-- the name of a file that was made
+abbrev pub made_name : MemoryStep → Option (List ℕ)
+made_name (step.Made name) = Some name.items
+made_name (step.Ended file) = None
+
+-- the file whose writing ended
+abbrev pub ended_file : MemoryStep → Option MemoryFile
+ended_file (step.Made name) = None
+ended_file (step.Ended file) = Some file
+
+-- these steps were taken after those
+abbrev pub IsAfter : List MemoryStep → List MemoryStep → List FileStep → Type 0
+IsAfter old new steps = map step_of new ≡ map step_of old ++ steps
+
+pub after_nothing : (old : List MemoryStep) → IsAfter old old []
+after_nothing old = sym (append-nil (map step_of old))
+
+pub after_both : (first then last : List MemoryStep) (steps more : List FileStep) → IsAfter first then steps → IsAfter then last more
+    → IsAfter first last (steps ++ more)
+after_both first then last steps more one other =
+    other ∙ ap (λ known. known ++ more) one ∙ append_assoc (map step_of first) steps more

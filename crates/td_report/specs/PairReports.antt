@@ -1,0 +1,24 @@
+-- What is told of a pair beside a report: the dump of its run, and why it ends when it does.
+use Rattle.std.specs.Prelude.{◌≡◌, ℕ, List, [], map, Bool, true, false, Option, Some, None}
+use Rattle.td_gates.specs.Table.{level_from}
+use Rattle.td_gates.specs.Wave.{Wave}
+use Rattle.td_nets.specs.Netlist.{Net}
+use Rattle.td_circuit.specs.Settings.{Setting}
+use Rattle.td_circuit.specs.Run.{Runs}
+use Rattle.td_domain.specs.Pairs.{Pair}
+use Rattle.td_vcd.specs.Text.{dump, variable_waves}
+use Rattle.td_report.specs.Files.{FileText, file_for}
+use Rattle.td_report.specs.PathReports.{TellsPath}
+
+-- where a name is given, the one file is the dump of the pair's run
+abbrev pub IsDumpOf : Setting → Pair → Option (List ℕ) → List FileText → Type 0
+IsDumpOf setting pair None files = files ≡ []
+IsDumpOf setting pair (Some name) files =
+    (waves : Net → Wave) × Runs setting (map level_from pair.first) (map level_from pair.second) waves
+    × (files ≡ file_for (Some name) (dump setting.netlist (variable_waves setting.netlist waves)))
+
+-- where it is asked for, the lines tell why the output that changes last in the pair's run does so when it does
+abbrev pub TellsPair : Bool → Setting → Pair → List ℕ → Type 0
+TellsPair false setting pair lines = lines ≡ []
+TellsPair true setting pair lines =
+    (waves : Net → Wave) × Runs setting (map level_from pair.first) (map level_from pair.second) waves × TellsPath setting waves None lines

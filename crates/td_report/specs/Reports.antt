@@ -1,0 +1,75 @@
+-- What `sim` prints.
+use Rattle.std.specs.Prelude.{◌≡◌, ℕ, List, [], ◌∷◌, ◌++◌, length, map, codes, decimal, Option, Some, None}
+use Rattle.std.specs.List.{flat_map}
+use Rattle.td_gates.specs.declared.primitives.Level.{Level}
+use Rattle.td_gates.specs.declared.timing.Delay.{Delay}
+use Rattle.td_gates.specs.Wave.{Wave, last}
+use Rattle.td_nets.specs.declared.netlist.Unit.{Unit as Step}
+use Rattle.td_nets.specs.Netlist.{Name, Net, Named, Netlist}
+use Rattle.td_nets.specs.Printed.{printed}
+use Rattle.td_nets.specs.Scales.{scale_text}
+use Rattle.td_netlist.specs.Means.{Means}
+use Rattle.td_circuit.specs.Loops.{Loop}
+use Rattle.td_circuit.specs.Settings.{Setting}
+use Rattle.td_circuit.specs.Run.{Runs, latest_change}
+use Rattle.td_vcd.specs.Text.{dump, variable_waves}
+use Rattle.td_report.specs.Files.{FileText, file_for}
+use Rattle.td_report.specs.Vectors.{level_character, SpellsVector, AreMomentsOf}
+
+abbrev pub newline : List ℕ
+newline = 10 ∷ []
+
+-- the unit of a step: its magnitude and its scale
+abbrev pub unit_line : Step → List ℕ
+unit_line unit = codes "unit " ++ decimal unit.magnitude ++ codes " " ++ scale_text unit.scale ++ newline
+
+-- the number of gates that the default delay serves
+abbrev pub defaulted_line : ℕ → List ℕ
+defaulted_line count = codes "defaulted " ++ decimal count ++ newline
+
+abbrev pub head_lines : Netlist → List ℕ
+head_lines netlist = unit_line netlist.unit ++ defaulted_line netlist.defaulted
+
+-- when an output changes last
+abbrev pub moment_text : Option ℕ → List ℕ
+moment_text None = codes "never"
+moment_text (Some moment) = decimal moment
+
+abbrev pub last_line : Name → Option ℕ → List ℕ
+last_line name moment = codes "last " ++ printed name ++ codes " " ++ moment_text moment ++ newline
+
+abbrev pub time_line : ℕ → List ℕ
+time_line time = codes "time " ++ decimal time ++ newline
+
+-- a line for each output in order
+abbrev pub output_lines : Netlist → (Net → Wave) → List ℕ
+output_lines netlist waves = flat_map (λ name. last_line name (last (waves (Named name)))) netlist.outputs
+
+-- the head, a line for each output, and the latest change of any
+abbrev pub sim_text : Netlist → (Net → Wave) → List ℕ
+sim_text netlist waves =
+    head_lines netlist
+    ++ output_lines netlist waves
+    ++ time_line (latest_change (map (λ name. waves (Named name)) netlist.outputs))
+
+-- The text means a netlist without a loop, and the option gives a moment for each of its inputs, all of them 0 where it is
+-- left out.
+pub record IsSetting (text : List ℕ) (default : Delay) (at : Option (List ℕ)) (setting : Setting) : Type 0 where
+  pub means : Means text default setting.netlist
+  pub acyclic : ¬ Loop setting.netlist
+  pub moments : AreMomentsOf (length setting.netlist.inputs) at setting.moments
+
+-- The text and the option give a setting, the two words are vectors of its inputs, the report is that of their run, and where a
+-- name is given for its waves, their dump is the one file.
+pub record IsSimReport (text : List ℕ) (default : Delay) (from to : List ℕ) (at vcd : Option (List ℕ)) (report : List ℕ)
+    (files : List FileText) : Type 0 where
+  pub setting : Setting
+  pub is_setting : IsSetting text default at setting
+  pub first : List Level
+  pub second : List Level
+  pub from_is : SpellsVector level_character (length setting.netlist.inputs) from first
+  pub to_is : SpellsVector level_character (length setting.netlist.inputs) to second
+  pub waves : Net → Wave
+  pub runs : Runs setting first second waves
+  pub is : report ≡ sim_text setting.netlist waves
+  pub dumped : files ≡ file_for vcd (dump setting.netlist (variable_waves setting.netlist waves))

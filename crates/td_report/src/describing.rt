@@ -1,0 +1,132 @@
+//! The command `info`: what is in a netlist.
+
+ghost use Rattle.std.specs.Prelude.{◌≡◌, ◌++◌, codes, IfOk, IfErr, OnOk};
+ghost use Rattle.td_nets.specs.Views.{name_of};
+ghost use Rattle.td_report.specs.InfoReports.{module_line, count_line, range_text, delay_line, place_line, place_lines, size_lines, TellsNetlist, IsInfoReport};
+ghost use Rattle.td_report.specs.Outcomes.{HasNoCircuit};
+
+use crate::refusal::Refusal;
+use crate::report;
+use crate::simulate::circuit;
+use crate::text::Text;
+use std::alloc::{AllocError, Global};
+use td_circuit::Circuit;
+use td_gates::Delay;
+use td_info::{Range, depth, range_of};
+use td_nets::Name;
+
+/// The report that tells what is in a netlist: the module's name, the unit of a step, how many inputs, outputs and gates there are and how many
+/// gates the default delay serves, the depth, the least and the greatest delay, and the inputs and the outputs in order.
+pub fn info<'a>(alloc: Global, text: &'a [u8], default: Delay) -> Result<Text, Refusal<'a>>
+    ensures report { IfOk result (IsInfoReport text.now default) }
+    ensures refusal { IfErr result (HasNoCircuit text.now default) }
+{
+    let circuit = circuit(alloc, text, default)?;
+    let report = report_of(alloc, &circuit)?;
+    Ok(report)
+}
+
+/// The report of a circuit.
+fn report_of(alloc: Global, circuit: &Circuit) -> Result<Text, AllocError>
+    ensures { IfOk result (TellsNetlist circuit.now.netlist) }
+{
+    let depth = depth(alloc, circuit)?;
+    let range = range_of(circuit);
+    let mut text = Text::new(alloc);
+    module(alloc, &mut text, circuit)?;
+    report::unit(&mut text, circuit.unit())?;
+    sizes(&mut text, circuit)?;
+    report::defaulted(&mut text, circuit.defaulted())?;
+    count(&mut text, b"depth", u64::from(depth))?;
+    delay(&mut text, range)?;
+    inputs(&mut text, circuit)?;
+    outputs(&mut text, circuit)?;
+    Ok(text)
+}
+
+/// The line of the module's name.
+fn module(alloc: Global, text: &mut Text, circuit: &Circuit) -> Result<(), AllocError>
+    ensures { OnOk result (text.new ≡ text.old ++ module_line circuit.now.netlist.name) }
+{
+    let name = Name {
+        text: Vec::from_slice(alloc, circuit.module())?,
+        bit: None,
+    };
+    text.push(b"module ")?;
+    text.name(&name)?;
+    text.push(b"\n")
+}
+
+/// A line of a key and a number.
+fn count(text: &mut Text, key: &[u8], count: u64) -> Result<(), AllocError>
+    ensures { OnOk result (text.new ≡ text.old ++ count_line key.now count) }
+{
+    text.push(key)?;
+    text.push(b" ")?;
+    text.number(count)?;
+    text.push(b"\n")
+}
+
+/// The lines of the numbers of inputs, outputs and gates.
+fn sizes(text: &mut Text, circuit: &Circuit) -> Result<(), AllocError>
+    ensures { OnOk result (text.new ≡ text.old ++ size_lines circuit.now.netlist) }
+{
+    let gates = circuit.gates();
+    count(text, b"inputs", circuit.input_count() as u64)?;
+    count(text, b"outputs", circuit.outputs().len() as u64)?;
+    count(text, b"gates", gates.len() as u64)
+}
+
+/// The line of the least and the greatest delay.
+fn delay(text: &mut Text, range: Option<Range>) -> Result<(), AllocError>
+    ensures { OnOk result (text.new ≡ text.old ++ delay_line range) }
+{
+    text.push(b"delay ")?;
+    delays(text, range)?;
+    text.push(b"\n")
+}
+
+fn delays(text: &mut Text, range: Option<Range>) -> Result<(), AllocError>
+    ensures { OnOk result (text.new ≡ text.old ++ range_text range) }
+{
+    let Some(range) = range else {
+        return text.push(b"none");
+    };
+    text.number(u64::from(range.least))?;
+    text.push(b" ")?;
+    text.number(u64::from(range.greatest))
+}
+
+/// The line of the net at a place.
+fn place(text: &mut Text, key: &[u8], place: usize, name: &Name) -> Result<(), AllocError>
+    ensures { OnOk result (text.new ≡ text.old ++ place_line key.now place (name_of name.now)) }
+{
+    text.push(key)?;
+    text.push(b" ")?;
+    text.number(place as u64)?;
+    text.push(b" ")?;
+    text.name(name)?;
+    text.push(b"\n")
+}
+
+/// A line for each input, by its place in a vector.
+fn inputs(text: &mut Text, circuit: &Circuit) -> Result<(), AllocError>
+    ensures { OnOk result (text.new ≡ text.old ++ place_lines (codes "input") 0 circuit.now.netlist.inputs) }
+{
+    let _gates = circuit.gates();
+    for input in 0..circuit.input_count() {
+        place(text, b"input", input, circuit.name(input + 2))?;
+    }
+    Ok(())
+}
+
+/// A line for each output, by its place.
+fn outputs(text: &mut Text, circuit: &Circuit) -> Result<(), AllocError>
+    ensures { OnOk result (text.new ≡ text.old ++ place_lines (codes "output") 0 circuit.now.netlist.outputs) }
+{
+    let _gates = circuit.gates();
+    for (output, net) in circuit.outputs().iter().enumerate() {
+        place(text, b"output", output, circuit.name(*net as usize))?;
+    }
+    Ok(())
+}

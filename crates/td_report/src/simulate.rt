@@ -1,0 +1,160 @@
+//! The command `sim`: the run of one pair of vectors.
+
+ghost use Rattle.std.specs.Prelude.{◌≡◌, ◌++◌, length, map, IfOk, IfErr, IfSome, OnOk};
+ghost use Rattle.td_circuit.specs.Numbering.{nets};
+ghost use Rattle.td_circuit.specs.Run.{latest_change};
+ghost use Rattle.td_circuit.specs.NetValues.{net_wave};
+ghost use Rattle.td_run.specs.Runs.{output_waves};
+ghost use Rattle.td_nets.specs.Netlist.{Named};
+ghost use Rattle.td_vcd.specs.Writes.{IsRunFor};
+ghost use Rattle.td_report.specs.Simulations.{IsSimulation};
+ghost use Rattle.td_report.specs.Reports.{output_lines, sim_text, IsSimReport};
+ghost use Rattle.td_report.specs.Dumps.{dump_files, HasRun};
+ghost use Rattle.td_report.specs.Vectors.{words_of};
+ghost use Rattle.td_report.specs.Outcomes.{IsOfLoop, IsOfFault, IsCircuitOf, HasNoCircuit, HasNoReport};
+
+use crate::dumping::{Dump, dump_to};
+use crate::refusal::Refusal;
+use crate::report;
+use crate::text::Text;
+use crate::timing::moments;
+use crate::vector::{VectorWord, vector};
+use std::alloc::{AllocError, Global};
+use td_circuit::{BuildFault, Circuit, build};
+use td_gates::{Delay, Level};
+use td_netlist::{Fault, FaultKind, read};
+use td_run::{Run, waves};
+
+/// The report of a run, and its waves where a name is given for their file.
+#[derive(Drop)]
+pub struct Simulated<'v> {
+    pub report: Text,
+    pub dump: Option<Dump<'v>>,
+}
+
+/// The report of the run of a pair of vectors, whose inputs change at the moments of an option: when each output changes last.
+/// Its waves too, where a name is given for their file.
+pub fn sim<'a, 'v>(
+    alloc: Global,
+    text: &'a [u8],
+    default: Delay,
+    from: &str,
+    to: &str,
+    at: Option<&str>,
+    vcd: Option<&'v str>,
+) -> Result<Simulated<'v>, Refusal<'a>>
+    // The report is that of the run of what the text means, with the moments of the option.
+    ensures report { IfOk result (λ simulated.
+        IsSimReport text.now default from.now to.now (words_of at.entry) (words_of vcd.entry) simulated.report (dump_files simulated.dump)) }
+    ensures refusal { IfErr result (λ refusal.
+        HasNoReport text.now default from.now to.now (words_of at.entry) refusal) }
+    ensures has { IfOk result (λ simulated. IfSome simulated.dump HasRun) }
+{
+    let simulation = simulated_run(alloc, text, default, from, to, at)?;
+    let report = report_of(alloc, &simulation.circuit, &simulation.run)?;
+    let dump = dump_to(vcd, simulation.circuit, simulation.run);
+    Ok(Simulated { report, dump })
+}
+
+/// A circuit whose inputs have their moments, and its run under a pair of vectors.
+#[derive(Drop)]
+pub struct Simulation {
+    pub circuit: Circuit,
+    pub run: Run,
+}
+
+/// The circuit of a netlist's text, with the moments of an option, and its run under a pair of vectors.
+pub fn simulated_run<'a>(
+    alloc: Global,
+    text: &'a [u8],
+    default: Delay,
+    from: &str,
+    to: &str,
+    at: Option<&str>,
+) -> Result<Simulation, Refusal<'a>>
+    ensures is { IfOk result (λ simulation.
+        IsSimulation text.now default from.now to.now (words_of at.entry) simulation.circuit simulation.run) }
+    ensures has { IfOk result (λ simulation. IsRunFor simulation.circuit simulation.run) }
+    ensures refusal { IfErr result (λ refusal.
+        HasNoReport text.now default from.now to.now (words_of at.entry) refusal) }
+{
+    let mut circuit = circuit(alloc, text, default)?;
+    let inputs = circuit.input_count();
+    let Some(first) = vector::<Level>(alloc, from, inputs)? else {
+        return Err(Refusal::BadVector(VectorWord::From));
+    };
+    let Some(second) = vector::<Level>(alloc, to, inputs)? else {
+        return Err(Refusal::BadVector(VectorWord::To));
+    };
+    let Some(moments) = moments(alloc, at, inputs)? else {
+        return Err(Refusal::BadVector(VectorWord::At));
+    };
+    circuit.set_moments(moments);
+    let run = waves(alloc, &circuit, &first, &second)?;
+    Ok(Simulation { circuit, run })
+}
+
+/// The circuit of a netlist's text.
+pub fn circuit<'a>(alloc: Global, text: &'a [u8], default: Delay) -> Result<Circuit, Refusal<'a>>
+    ensures circuit { IfOk result (λ circuit. IsCircuitOf text.now default circuit) }
+    ensures refusal { IfErr result (λ refusal. HasNoCircuit text.now default refusal) }
+{
+    let netlist = match read(alloc, text, default) {
+        Ok(netlist) => netlist,
+        Err(fault) => return Err(refused(fault)),
+    };
+    match build(alloc, netlist) {
+        Ok(circuit) => Ok(circuit),
+        Err((_netlist, fault)) => Err(looped(fault)),
+    }
+}
+
+/// The refusal of a netlist with a loop, or want of memory.
+fn looped<'a>(fault: BuildFault) -> Refusal<'a>
+    ensures { IsOfLoop fault result }
+{
+    match fault {
+        BuildFault::OutOfMemory => Refusal::OutOfMemory,
+        BuildFault::Loop(name) => Refusal::Loop(name),
+    }
+}
+
+/// The refusal of a netlist's text, or want of memory.
+fn refused<'a>(fault: Fault<'a>) -> Refusal<'a>
+    ensures { IsOfFault fault.entry result }
+{
+    match fault.kind {
+        FaultKind::OutOfMemory => Refusal::OutOfMemory,
+        _ => Refusal::Netlist(fault),
+    }
+}
+
+/// Appends a line for each output.
+fn outputs(text: &mut Text, circuit: &Circuit, run: &Run) -> Result<(), AllocError>
+    requires { length run.now.waves ≡ length (nets circuit.now) }
+    ensures { OnOk result (text.new ≡ text.old ++ output_lines circuit.now.netlist (net_wave (nets circuit.now) run.now.waves)) }
+{
+    let _gates = circuit.gates();
+    for output in circuit.outputs() {
+        let name = circuit.name(*output as usize);
+        let wave = run.wave(*output);
+        let moment = wave.last();
+        report::last(text, name, moment)?;
+    }
+    Ok(())
+}
+
+/// The report of a run.
+fn report_of(alloc: Global, circuit: &Circuit, run: &Run) -> Result<Text, AllocError>
+    requires waves { length run.now.waves ≡ length (nets circuit.now) }
+    requires time { latest_change (output_waves run.now)
+        ≡ latest_change (map (λ name. net_wave (nets circuit.now) run.now.waves (Named name)) circuit.now.netlist.outputs) }
+    ensures { IfOk result (λ text. text ≡ sim_text circuit.now.netlist (net_wave (nets circuit.now) run.now.waves)) }
+{
+    let mut text = Text::new(alloc);
+    report::unit(&mut text, circuit.unit())?;
+    report::defaulted(&mut text, circuit.defaulted())?;
+    outputs(&mut text, circuit, run)?;
+    report::time(&mut text, run.last_of_outputs())?;
+    Ok(text)
+}
