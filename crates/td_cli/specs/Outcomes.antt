@@ -32,4 +32,3 @@ unanswered search.NoPair = refusal.NoPair
 abbrev pub HasNoAnswer : List ℕ → Delay → QuestionWords → Refusal → Type 0
 HasNoAnswer text default words refusal.NoPair = AdmitsNone text default words
 HasNoAnswer text default words other = IsRefusedFor text default (question_words words) other
-

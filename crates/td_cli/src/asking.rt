@@ -4,9 +4,9 @@ ghost use Rattle.std.specs.Prelude.{◌≡◌, ◌<◌, ◌^◌, IfOk, IfErr};
 ghost use Rattle.td_report.specs.Vectors.{IsFirstBad};
 ghost use Rattle.td_cli.specs.Admitting.{most_flips, AreAdmitted, pair_words};
 
-use td_report::vector::{VectorWord, cube, given};
 use std::alloc::{AllocError, Global};
 use td_domain::{Admit, Trit};
+use td_report::vector::{VectorWord, cube, given};
 use td_search::Strategy;
 
 /// What a search is asked, and by which strategy it goes: the words say which pairs of vectors are admitted and when inputs change, and

@@ -12,13 +12,13 @@ ghost use Rattle.td_cli.specs.JoinReports.{TellsPart, TellsNoPart, GivesPart, Ar
 ghost use Rattle.td_cli.specs.Parts.{IsOfPart, unjudged};
 ghost use Rattle.td_report.specs.declared.refusal.Refusal.TheVariants as Reason;
 
-use td_report::files::{Files, ReadFault};
-use td_report::refusal::Refusal;
 use std::alloc::Global;
 use td_certificate::{CertFault, CertFaultKind, Certificate, read};
 use td_checker::{CheckFault, Verdict, check};
 use td_circuit::Circuit;
 use td_gates::Delay;
+use td_report::files::{Files, ReadFault};
+use td_report::refusal::Refusal;
 
 /// The reason that tells a fault of a part's text, in the file of this name.
 fn unread<'a>(name: &'a str, fault: CertFault) -> Refusal<'a>

@@ -10,13 +10,13 @@ ghost use Rattle.td_cli.specs.Disks.{disk_of};
 ghost use Rattle.td_cli.specs.Requests.{IsInfoProduct, RequestRuns};
 ghost use Rattle.td_command.specs.declared.command.Request.TheVariants as Asked;
 
-use td_report::describing::info;
-use td_report::files::Files;
-use td_report::status::Status;
 use crate::telling::{say, tell_refusal, tell_unread};
 use std::alloc::Global;
 use td_command::InfoRequest;
 use td_gates::{Delay, Sink};
+use td_report::describing::info;
+use td_report::files::Files;
+use td_report::status::Status;
 
 /// The command `info`.
 pub fn run_info<F: Files, O: Sink, E: Sink>(

@@ -20,17 +20,9 @@ ghost use Rattle.td_cli.specs.Requests.{IsJoinProduct, RequestRuns};
 ghost use Rattle.td_report.specs.declared.refusal.Refusal.TheVariants as Reason;
 ghost use Rattle.td_command.specs.declared.command.Request.TheVariants as Asked;
 
-use td_report::files::Files;
 use crate::gathering::parts_in;
-use td_report::hindrance::{first_place, name_at, second_place};
-use td_report::refusal::Refusal;
-use td_report::report;
 use crate::searching::{exact, pair_of};
-use td_report::simulate::circuit;
-use td_report::status::Status;
 use crate::telling::{beside_files, keep_certificate, tell, tell_refusal, tell_unread};
-use td_report::text::Text;
-use td_report::vector::{VectorWord, cube, given};
 use std::alloc::{AllocError, Global};
 use td_certificate::Certificate;
 use td_circuit::Circuit;
@@ -38,6 +30,14 @@ use td_command::JoinRequest;
 use td_domain::{Cube, Trit};
 use td_gates::{Delay, Sink};
 use td_join::{JoinFault, join, join_in};
+use td_report::files::Files;
+use td_report::hindrance::{first_place, name_at, second_place};
+use td_report::refusal::Refusal;
+use td_report::report;
+use td_report::simulate::circuit;
+use td_report::status::Status;
+use td_report::text::Text;
+use td_report::vector::{VectorWord, cube, given};
 
 /// The most nodes of a whole.
 const MOST_NODES: usize = 10_000_000;

@@ -7,9 +7,9 @@ ghost use Rattle.td_cli.specs.Requests.{AreApart, IsOverwritten, IsReadAs, Keeps
 ghost use Rattle.td_report.specs.Vectors.{words_of};
 ghost use Rattle.td_command.specs.declared.command.Request.TheVariants as Asked;
 
+use td_command::{JoinRequest, Request, SimRequest, WorstRequest};
 use td_report::files::Files;
 use td_report::refusal::Refusal;
-use td_command::{JoinRequest, Request, SimRequest, WorstRequest};
 
 /// Why a command isn't carried out that would write one of its files over another: the netlist that it reads, or the other file
 /// that it writes.

@@ -15,19 +15,19 @@ ghost use Rattle.td_report.specs.declared.refusal.Refusal.TheVariants as Reason;
 ghost use Rattle.td_command.specs.declared.command.Request.TheVariants as Asked;
 
 use crate::asking::QuestionWords;
-use td_report::files::Files;
-use td_report::pinning::push_pins;
 use crate::program::strategy_of;
-use td_report::refusal::Refusal;
 use crate::searching::question_of;
-use td_report::status::Status;
 use crate::telling::{say, tell_refusal, tell_unread};
-use td_report::text::Text;
 use std::alloc::{AllocError, Global};
 use td_command::PartsRequest;
 use td_domain::Cube;
 use td_gates::{Delay, Sink};
 use td_parts::cut;
+use td_report::files::Files;
+use td_report::pinning::push_pins;
+use td_report::refusal::Refusal;
+use td_report::status::Status;
+use td_report::text::Text;
 
 /// The report of the parts of what the words ask, of which there are at most so many, at least 1: a line for each, with the options by which
 /// `worst` searches it.

@@ -14,17 +14,11 @@ ghost use Rattle.td_cli.specs.Requests.{is_search, AsksSearch, strategy_of, word
 ghost use Rattle.td_command.specs.declared.command.Request.TheVariants as Asked;
 
 use crate::asking::QuestionWords;
-use td_report::bounding::bounds;
-use td_report::checking::verdict_on;
-use td_report::explaining::path;
-use td_report::files::{Files, ReadFault};
 use crate::informing::run_info;
 use crate::joining::run_join;
 use crate::overwriting::overwriting;
 use crate::parting::run_parts;
 use crate::progress::searched;
-use td_report::simulate::sim;
-use td_report::status::Status;
 use crate::telling::{
     beside_dump, beside_files, keep_certificate, keep_dump, say, tell, tell_error, tell_refusal,
     tell_unread,
@@ -38,6 +32,12 @@ use td_command::{
     BoundRequest, CheckRequest, PathRequest, Request, SimRequest, StrategyWord, WorstRequest, parse,
 };
 use td_gates::{Delay, Sink};
+use td_report::bounding::bounds;
+use td_report::checking::verdict_on;
+use td_report::explaining::path;
+use td_report::files::{Files, ReadFault};
+use td_report::simulate::sim;
+use td_report::status::Status;
 use td_search::Strategy;
 
 /// Carries out the command that the words ask for: what it answers goes to `out`, why it was refused to `err`. The first

@@ -9,11 +9,8 @@ ghost use Rattle.td_cli.specs.Outcomes.{HasNoAnswer};
 ghost use Rattle.td_cli.specs.Progress.{progress_line, TellsSearch};
 
 use crate::asking::QuestionWords;
-use td_report::refusal::Refusal;
 use crate::searching::{Found, worst};
-use td_report::status::Status;
 use crate::telling::tell;
-use td_report::text::Text;
 use std::alloc::{AllocError, Global};
 use std::sync::Wait;
 use std::thread::Threads;
@@ -21,6 +18,9 @@ use td_circuit::Circuit;
 use td_domain::Admit;
 use td_gates::{Delay, Sink};
 use td_pool::{Progress, Unwatched, Watch};
+use td_report::refusal::Refusal;
+use td_report::status::Status;
+use td_report::text::Text;
 use td_search::Strategy;
 
 /// Writes a line for each thing that it is told. Where it can't be written, or memory is refused, the search goes on.

@@ -12,14 +12,6 @@ ghost use Rattle.td_cli.specs.Outcomes.{unanswered, question_words, HasNoAnswer}
 ghost use Rattle.td_report.specs.Outcomes.{IsRefusedFor};
 
 use crate::asking::{QuestionWords, admit};
-use td_report::chaining::with_chain;
-use td_report::dumping::{Dump, pair_dump};
-use td_report::refusal::Refusal;
-use td_report::report;
-use td_report::simulate::circuit;
-use td_report::text::Text;
-use td_report::timing::moments;
-use td_report::vector::VectorWord;
 use std::alloc::{AllocError, Global};
 use std::sync::Wait;
 use std::thread::Threads;
@@ -28,6 +20,14 @@ use td_circuit::Circuit;
 use td_domain::{Admit, Pair};
 use td_gates::Delay;
 use td_pool::{Watch, worst_watched};
+use td_report::chaining::with_chain;
+use td_report::dumping::{Dump, pair_dump};
+use td_report::refusal::Refusal;
+use td_report::report;
+use td_report::simulate::circuit;
+use td_report::text::Text;
+use td_report::timing::moments;
+use td_report::vector::VectorWord;
 use td_search::{Answer, Cause, Own, SearchFault, Strategy, certificate_of};
 
 /// The report of a search, the certificate of an exact answer, and the waves of the given pair's run where a name is given for

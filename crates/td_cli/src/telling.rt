@@ -12,16 +12,16 @@ ghost use Rattle.td_report.specs.Vectors.{words_of};
 ghost use Rattle.td_cli.specs.Requests.{IsBeside, certificate_files, IsOutOfMemory, IsShown, TellsText};
 ghost use Rattle.td_report.specs.declared.status.Status.TheVariants as Ended;
 
-use td_report::dumping::{Dump, write_dump};
-use td_report::files::{Files, ReadFault};
-use td_report::refusal::Refusal;
-use td_report::status::Status;
-use td_report::text::Text;
 use clap::Error;
 use clap::error::ErrorKind;
 use std::alloc::{AllocError, Global};
 use td_certificate::{Certificate, WriteFault, write};
 use td_gates::Sink;
+use td_report::dumping::{Dump, write_dump};
+use td_report::files::{Files, ReadFault};
+use td_report::refusal::Refusal;
+use td_report::status::Status;
+use td_report::text::Text;
 
 /// What is shown beside the waves of a run: the report, unless they go to standard output.
 pub fn beside_dump<'a>(report: &'a Text, dump: &Option<Dump<'_>>) -> &'a [u8]
