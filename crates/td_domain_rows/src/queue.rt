@@ -40,8 +40,9 @@ fn agrees(
     let second = bits_of(alloc, after, inputs)?;
     let by_waves = delay_by_waves(alloc, circuit, &first, &second)?;
     let pair = Pair::new(first, second);
-    let by_queue_once = by_queue(scratch, circuit, &pair)?;
-    Ok(by_queue_once == by_waves && by_queue(scratch, circuit, &pair)? == by_waves)
+    let once = by_queue(scratch, circuit, &pair)?;
+    let again = by_queue(scratch, circuit, &pair)?;
+    Ok(once == by_waves && again == by_waves)
 }
 
 /// Whether all pairs of this first vector agree.
