@@ -17,6 +17,9 @@ pub struct Arrival;
 impl Domain for Arrival {
     type Sig = Signal;
 
+    /// The signals of the inputs of a gate with many.
+    type Scratch = Vec<Signal>;
+
     ghost covers = { Covers };
 
     ghost functions = { arrival_functions };
@@ -25,7 +28,22 @@ impl Domain for Arrival {
 
     ghost reach = { λ signal. span_reach signal.changes };
 
-    fn input(_alloc: Global, first: Trit, second: Trit, moment: u64) -> Result<Signal, AllocError> {
+    fn scratch(alloc: Global) -> Vec<Signal> {
+        Vec::new(alloc)
+    }
+
+    fn release(_scratch: &mut Vec<Signal>, _signal: Signal) {}
+
+    fn reserve(_scratch: &mut Vec<Signal>, _signals: usize) -> Result<(), AllocError> {
+        Ok(())
+    }
+
+    fn input(
+        _scratch: &mut Vec<Signal>,
+        first: Trit,
+        second: Trit,
+        moment: u64,
+    ) -> Result<Signal, AllocError> {
         let start = first.level();
         let finish = second.level();
         let changes = if start != Level::X && start == finish {
@@ -53,13 +71,13 @@ impl Domain for Arrival {
     }
 
     fn gate(
-        alloc: Global,
+        scratch: &mut Vec<Signal>,
         kind: Kind,
         delay: Delay,
         all: &[Signal],
         ins: &[u32],
     ) -> Result<Signal, AllocError> {
-        gates::output_at(alloc, kind, delay, all, ins)
+        gates::output_at(scratch, kind, delay, all, ins)
     }
 
     fn copy(_alloc: Global, signal: &Signal) -> Result<Signal, AllocError> {

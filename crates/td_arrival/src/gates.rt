@@ -1,20 +1,20 @@
 //! The signal of a gate's output.
 
-ghost use Rattle.std.specs.Prelude.{◌≡◌, [], ◌∷◌, Some, ◌≤◌, ◌<◌, ◌+◌, ◌^◌, max, IfOk, length, filter_map, slice_get};
+ghost use Rattle.std.specs.Prelude.{◌≡◌, [], ◌∷◌, Some, ◌≤◌, ◌<◌, ◌+◌, ◌^◌, max, IfOk, OnOk, length, filter_map, slice_get};
 ghost use Rattle.std.specs.List.{All};
 ghost use Rattle.td_gates.specs.Table.{TakesInputs, controls, controlling};
 ghost use Rattle.td_arrival.specs.Arrivals.{gate_signal, hull, around, is_held, opens_at, closes_at, gate_changes, last_delay, is_lost, gate_start, gate_finish};
 ghost use Rattle.td_arrival.specs.Coverage.{span_reach};
 
 use crate::signals::{Signal, Span};
-use std::alloc::{AllocError, Global};
+use std::alloc::AllocError;
 use td_domain::level_of_two;
 use td_gates::{Counts, Delay, Kind, Level, eval_counts};
 
-/// The signal of the output of a gate whose inputs have the signals at these places. Those of a gate with up to three inputs are gathered
-/// without taking memory.
+/// The signal of the output of a gate whose inputs have the signals at these places. Those of a gate with more than three inputs are
+/// gathered in `room`, where what stands doesn't matter.
 pub fn output_at(
-    alloc: Global,
+    room: &mut Vec<Signal>,
     kind: Kind,
     delay: Delay,
     all: &[Signal],
@@ -38,22 +38,22 @@ pub fn output_at(
             Ok(output(kind, delay, &three))
         }
         _ => {
-            let signals = picked(alloc, all, places)?;
-            Ok(output(kind, delay, &signals))
+            pick(room, all, places)?;
+            Ok(output(kind, delay, room))
         }
     }
 }
 
-/// The signals at these places.
-fn picked(alloc: Global, all: &[Signal], places: &[u32]) -> Result<Vec<Signal>, AllocError>
+/// Makes the list that of the signals at these places.
+fn pick(signals: &mut Vec<Signal>, all: &[Signal], places: &[u32]) -> Result<(), AllocError>
     requires { All (λ place. place < length all.now) places.now }
-    ensures { IfOk result (λ signals. signals.items ≡ filter_map (slice_get all.now) places.now) }
+    ensures { OnOk result (signals.new.items ≡ filter_map (slice_get all.now) places.now) }
 {
-    let mut signals = Vec::new(alloc);
+    signals.clear();
     for place in places {
         signals.push(all[*place as usize])?;
     }
-    Ok(signals)
+    Ok(())
 }
 
 /// The signal of the output of a gate whose one input has this signal. Such a gate is nearly always a buf or a not.

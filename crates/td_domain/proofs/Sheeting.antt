@@ -1,5 +1,6 @@
 -- Sheets after a narrowing, and after a refused one.
-use Rattle.std.proofs.Common.{◌≡◌, ℕ, zero, suc, ◌+◌, ◌<◌, ◌≤◌, ◌^◌, List, [], ◌∷◌, ◌++◌, length, set, take, drop, reverse, replicate, get_or, refl, arith, inl, inr, sym, ap, ◌∙◌, Option, Some, None}
+use Rattle.std.specs.List.{AllByRecursion}
+use Rattle.std.proofs.Common.{◌≡◌, subst, ℕ, zero, suc, ◌+◌, ◌<◌, ◌≤◌, ◌^◌, List, [], ◌∷◌, ◌++◌, length, set, take, drop, reverse, replicate, get_or, refl, arith, inl, inr, sym, ap, ◌∙◌, Option, Some, None}
 use Rattle.std.specs.Prelude.{slice_get}
 use Rattle.std.specs.Global.{Vec}
 use Rattle.std.proofs.lemmas.List.{length-set, reverse-append}
@@ -13,7 +14,7 @@ use Rattle.td_domain.specs.declared.undoing.Replaced.{Replaced}
 use Rattle.td_domain.specs.Functions.{Functions}
 use Rattle.td_domain.specs.Cones.{IsRising, IsCone}
 use Rattle.td_domain.specs.Undoing.{undone, AreWithin}
-use Rattle.td_domain.specs.Sheets.{Shown, pages_before, CanBeUndone, IsSheet, IsUnchanged, AreCones}
+use Rattle.td_domain.specs.Sheets.{Shown, Page, pages_before, CanBeUndone, IsSheet, IsPage, IsUnchanged, AreCones}
 use Rattle.td_domain.proofs.Undoings.{set-back}
 use Rattle.td_domain.proofs.Coning.{replicated, length-replicated}
 
@@ -111,3 +112,18 @@ module _ {Sig : Type 0} (functions : Functions Sig) (reach : Sig → ℕ) (circu
     outputs = outputs ∙ is.outputs;
     cones = cones;
   }
+
+  -- a sheet whose latest narrowing was taken back
+  pub wider-sheet : (old new : Shown Sig) (page : Page Sig) (wider : List (Page Sig)) → IsSheet functions reach circuit old
+      → old.wider ≡ page ∷ wider → new.cube ≡ page.cube → new.signals ≡ page.signals → new.wider ≡ wider
+      → new.outputs ≡ old.outputs → new.cones ≡ old.cones → IsSheet functions reach circuit new
+  wider-sheet old new page wider is before cube signals later outputs cones =
+      let all : AllByRecursion (IsPage functions reach circuit) (page ∷ wider) = subst (AllByRecursion (IsPage functions reach circuit)) before is.wider in
+      record {
+        numbering = is.numbering;
+        fit = is.fit;
+        page = rw (cube, signals) all.0;
+        wider = rw later all.1;
+        outputs = outputs ∙ is.outputs;
+        cones = rw cones is.cones;
+      }

@@ -46,15 +46,21 @@ pub fn signals<D: Domain>(
     let gates = circuit.gates();
     let inputs = circuit.input_count();
     let moments = circuit.moments();
+    let mut scratch = D::scratch(alloc);
     let mut signals = Vec::with_capacity(alloc, circuit.net_count())?;
     signals.push(D::constant(alloc, false)?)?;
     signals.push(D::constant(alloc, true)?)?;
     for i in 0..inputs {
-        let signal = D::input(alloc, cube.trit(2 * i), cube.trit(2 * i + 1), moments[i])?;
+        let signal = D::input(
+            &mut scratch,
+            cube.trit(2 * i),
+            cube.trit(2 * i + 1),
+            moments[i],
+        )?;
         signals.push(signal)?;
     }
     for gate in gates {
-        let signal = D::gate(alloc, gate.kind, gate.delay, &signals, &gate.inputs)?;
+        let signal = D::gate(&mut scratch, gate.kind, gate.delay, &signals, &gate.inputs)?;
         signals.push(signal)?;
     }
     Ok(signals)

@@ -12,14 +12,14 @@ use crate::cones::reads_one;
 use crate::cubes::Cube;
 use crate::domain::Domain;
 use crate::undoing::{Replaced, put, undo};
-use std::alloc::{AllocError, Global};
+use std::alloc::AllocError;
 use td_circuit::Circuit;
 
 /// Makes the signals of the cube from those of the same cube with this position free, where the position's input reaches
 /// the outputs in `cone`, and answers what it replaced. Only gates that read a changed signal are evaluated; `changed` is room
 /// for a mark of each net, and `room` for what is replaced. The error is want of memory: the signals are then as before.
 pub fn redo<D: Domain>(
-    alloc: Global,
+    scratch: &mut D::Scratch,
     circuit: &Circuit,
     cube: &Cube,
     position: usize,
@@ -46,7 +46,7 @@ pub fn redo<D: Domain>(
     let mut replaced = room;
     replaced.reserve(cone.len() + 1)?;
     let signal = D::input(
-        alloc,
+        scratch,
         cube.trit(2 * input),
         cube.trit(2 * input + 1),
         moments[input],
@@ -54,10 +54,10 @@ pub fn redo<D: Domain>(
     put(signals, &mut replaced, 2 + input, signal);
     changed.fill(false);
     changed[2 + input] = true;
-    match redo_gates::<D>(alloc, circuit, cone, signals, changed, &mut replaced) {
+    match redo_gates::<D>(scratch, circuit, cone, signals, changed, &mut replaced) {
         Ok(()) => Ok(replaced),
         Err(error) => {
-            let _room = undo(signals, replaced);
+            let _room = undo::<D>(scratch, signals, replaced);
             Err(error)
         }
     }
@@ -65,7 +65,7 @@ pub fn redo<D: Domain>(
 
 /// Evaluates those of the gates with these outputs anew that read a changed signal, in this order.
 fn redo_gates<D: Domain>(
-    alloc: Global,
+    scratch: &mut D::Scratch,
     circuit: &Circuit,
     cone: &[u32],
     signals: &mut [D::Sig],
@@ -87,7 +87,7 @@ fn redo_gates<D: Domain>(
     let first = circuit.input_count() + 2;
     for output in cone {
         let net = *output as usize;
-        redo_gate::<D>(alloc, circuit, net - first, signals, changed, replaced)?;
+        redo_gate::<D>(scratch, circuit, net - first, signals, changed, replaced)?;
     }
     Ok(())
 }
@@ -96,7 +96,7 @@ fn redo_gates<D: Domain>(
 /// calls it for each gate that its input reaches, so it stands in their loop.
 #[inline(always)]
 fn redo_gate<D: Domain>(
-    alloc: Global,
+    scratch: &mut D::Scratch,
     circuit: &Circuit,
     place: usize,
     signals: &mut [D::Sig],
@@ -123,7 +123,7 @@ fn redo_gate<D: Domain>(
     let gates = circuit.gates();
     let gate = &gates[place];
     if reads_one(changed, &gate.inputs) {
-        evaluate::<D>(alloc, circuit, place, signals, changed, replaced)
+        evaluate::<D>(scratch, circuit, place, signals, changed, replaced)
     } else {
         Ok(())
     }
@@ -132,7 +132,7 @@ fn redo_gate<D: Domain>(
 /// Evaluates the gate at a place anew. Its output is marked where its signal has changed.
 #[inline(always)]
 fn evaluate<D: Domain>(
-    alloc: Global,
+    scratch: &mut D::Scratch,
     circuit: &Circuit,
     place: usize,
     signals: &mut [D::Sig],
@@ -158,9 +158,10 @@ fn evaluate<D: Domain>(
 {
     let gates = circuit.gates();
     let gate = &gates[place];
-    let signal = D::gate(alloc, gate.kind, gate.delay, signals, &gate.inputs)?;
+    let signal = D::gate(scratch, gate.kind, gate.delay, signals, &gate.inputs)?;
     let net = circuit.input_count() + 2 + place;
     if D::is_same(&signal, &signals[net]) {
+        D::release(scratch, signal);
         return Ok(());
     }
     put(signals, replaced, net, signal);

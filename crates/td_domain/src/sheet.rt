@@ -37,6 +37,9 @@ pub struct Sheet<D: Domain> {
     changed: Vec<bool>,
     // The room of narrowings that were taken back, to be used again.
     spare: Vec<Vec<Replaced<D::Sig>>>,
+    // Room for signals, and how many of these can be released by taking back all narrowings that still stand.
+    scratch: D::Scratch,
+    standing: usize,
 }
 
 impl<D: Domain> Model for Sheet<D> {
@@ -70,6 +73,8 @@ impl<D: Domain> Sheet<D> {
             cones: no_cones(alloc, circuit)?,
             changed: vec![in alloc; false; circuit.net_count()]?,
             spare: Vec::new(alloc),
+            scratch: D::scratch(alloc),
+            standing: 0,
         })
     }
 
@@ -115,10 +120,12 @@ impl<D: Domain> Sheet<D> {
         self.narrowings.reserve(1)?;
         self.spare.reserve(self.narrowings.len().saturating_add(1))?;
         let cone = taken_cone(self.alloc, circuit, &mut self.cones, input)?;
+        let most = cone.len().saturating_add(self.standing);
+        D::reserve(&mut self.scratch, most.saturating_add(1))?;
         self.cube.set(position, known(bit));
         let room = taken_room(self.alloc, &mut self.spare);
         let redone = redo::<D>(
-            self.alloc,
+            &mut self.scratch,
             circuit,
             &self.cube,
             position,
@@ -131,6 +138,7 @@ impl<D: Domain> Sheet<D> {
         self.cones[input] = kept(circuit, cone);
         match redone {
             Ok(replaced) => {
+                self.standing = self.standing.saturating_add(replaced.len());
                 self.narrowings
                     .push_reserved(Narrowing { position, replaced });
                 self.redone = count;
@@ -161,7 +169,8 @@ impl<D: Domain> Sheet<D> {
         self.redone = 0;
         match self.narrowings.pop() {
             Some(narrowing) => {
-                let room = undo(&mut self.signals, narrowing.replaced);
+                self.standing = self.standing.saturating_sub(narrowing.replaced.len());
+                let room = undo::<D>(&mut self.scratch, &mut self.signals, narrowing.replaced);
                 put_aside(&mut self.spare, room);
                 self.cube.set(narrowing.position, Trit::Free);
                 true

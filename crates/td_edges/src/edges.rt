@@ -17,6 +17,9 @@ pub struct Edges;
 impl Domain for Edges {
     type Sig = Signal;
 
+    /// A gate needs no room.
+    type Scratch = ();
+
     ghost covers = { Covers };
 
     ghost functions = { edge_functions };
@@ -25,7 +28,20 @@ impl Domain for Edges {
 
     ghost reach = { λ signal. span_reach signal.changes };
 
-    fn input(_alloc: Global, first: Trit, second: Trit, moment: u64) -> Result<Signal, AllocError> {
+    fn scratch(_alloc: Global) {}
+
+    fn release(_scratch: &mut (), _signal: Signal) {}
+
+    fn reserve(_scratch: &mut (), _signals: usize) -> Result<(), AllocError> {
+        Ok(())
+    }
+
+    fn input(
+        _scratch: &mut (),
+        first: Trit,
+        second: Trit,
+        moment: u64,
+    ) -> Result<Signal, AllocError> {
         let start = first.level();
         let finish = second.level();
         let span = Span {
@@ -50,7 +66,7 @@ impl Domain for Edges {
     }
 
     fn gate(
-        _alloc: Global,
+        _scratch: &mut (),
         kind: Kind,
         delay: Delay,
         all: &[Signal],

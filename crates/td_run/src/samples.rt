@@ -9,7 +9,7 @@ ghost use Rattle.td_run.specs.Waves.{waves_of};
 ghost use Rattle.td_run.specs.Turns.{turns_from, turns_of, is_next, samples_from, changing, IsSortedFrom};
 
 use crate::wave::Wave;
-use std::alloc::{AllocError, Global};
+use std::alloc::AllocError;
 use td_gates::{Change, Counts, Kind, Level, eval_counts};
 
 /// A change of an input, with the level that it leaves.
@@ -48,17 +48,18 @@ fn count_changes(waves: &[Wave], inputs: &[u32]) -> usize
     count
 }
 
-/// The turns of the inputs, one input after another.
-fn turns(alloc: Global, waves: &[Wave], inputs: &[u32]) -> Result<Vec<Turn>, AllocError>
+/// Makes the list that of the turns of the inputs, one input after another.
+fn list_turns(turns: &mut Vec<Turn>, waves: &[Wave], inputs: &[u32]) -> Result<(), AllocError>
     requires { All (λ input. input < length waves.now) inputs.now }
-    ensures turns { IfOk result (λ turns. turns.items ≡ turns_of (waves_of waves.now inputs.now)) }
+    ensures turns { OnOk result (turns.new.items ≡ turns_of (waves_of waves.now inputs.now)) }
     ensures rising { OnOk result (All IsWave (waves_of waves.now inputs.now)) }
 {
-    let mut turns = Vec::with_capacity(alloc, count_changes(waves, inputs))?;
+    turns.clear();
+    turns.reserve(count_changes(waves, inputs))?;
     for input in inputs {
-        push_turns(&mut turns, &waves[*input as usize])?;
+        push_turns(turns, &waves[*input as usize])?;
     }
-    Ok(turns)
+    Ok(())
 }
 
 /// How many inputs start at each level.
@@ -96,22 +97,25 @@ fn add_change(changes: &mut Vec<Change>, level: Level, change: Change) -> Result
     Ok(change.level)
 }
 
-/// The changes of the target from this level on: its level after the last turn of each moment, where it is another one.
+/// The changes of the target from this level on: its level after the last turn of each moment, where it is another one. They take the
+/// memory of `room`.
 pub fn changes_of(
-    alloc: Global,
     kind: Kind,
     start: Counts,
     first: Level,
     turns: &[Turn],
+    room: Vec<Change>,
 ) -> Result<Vec<Change>, AllocError>
     requires few { (level : LevelModel) → count_at start level ≤ 1024 }
     requires short { length turns.now < 2 ^ 63 }
+    requires room { room.items ≡ [] }
     ensures { IfOk result (λ changes. changes.items ≡ changing first (samples_from kind start Counts.NONE turns.now)) }
 {
     let mut entered = start;
     let mut left = Counts::NONE;
     let mut level = first;
-    let mut changes = Vec::with_capacity(alloc, turns.len())?;
+    let mut changes = room;
+    changes.reserve(turns.len())?;
     for (i, turn) in turns.iter().enumerate() {
         entered.add(turn.to);
         left.add(turn.from);
@@ -126,18 +130,18 @@ pub fn changes_of(
     Ok(changes)
 }
 
-/// The turns of the inputs, in the order of their moments.
-pub fn turns_in_order(
-    alloc: Global,
+/// Makes the list that of the turns of the inputs, in the order of their moments.
+pub fn list_in_order(
+    turns: &mut Vec<Turn>,
     waves: &[Wave],
     inputs: &[u32],
-) -> Result<Vec<Turn>, AllocError>
+) -> Result<(), AllocError>
     requires numbers { All (λ input. input < length waves.now) inputs.now }
-    ensures sorted { IfOk result (λ turns. IsSortedFrom 0 turns.items) }
-    ensures moved { IfOk result (λ turns. IsPermutation (turns_of (waves_of waves.now inputs.now)) turns.items) }
+    ensures sorted { OnOk result (IsSortedFrom 0 turns.new.items) }
+    ensures moved { OnOk result (IsPermutation (turns_of (waves_of waves.now inputs.now)) turns.new.items) }
     ensures rising { OnOk result (All IsWave (waves_of waves.now inputs.now)) }
 {
-    let mut turns = turns(alloc, waves, inputs)?;
+    list_turns(turns, waves, inputs)?;
     turns.sort_unstable_by_key(|turn| turn.moment);
-    Ok(turns)
+    Ok(())
 }

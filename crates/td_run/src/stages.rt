@@ -7,7 +7,7 @@ ghost use Rattle.td_gates.specs.Wave.{before, IsWave};
 ghost use Rattle.td_gates.specs.Schedule.{Obeys, target_before};
 ghost use Rattle.td_run.specs.Waves.{AreWithin, event_for, due, waves_of};
 
-use crate::samples::{changes_of, starts, turns_in_order};
+use crate::samples::{Turn, changes_of, list_in_order, starts};
 use crate::wave::Wave;
 use std::alloc::{AllocError, Global};
 use td_gates::{Change, Delay, Kind, Level, eval_counts};
@@ -22,10 +22,31 @@ pub fn target(alloc: Global, kind: Kind, waves: &[Wave], inputs: &[u32]) -> Resu
     ensures within { (bound : ℕ) → All (λ wave. AreWithin bound wave.changes) (waves_of waves.now inputs.now)
         → IfOk result (λ wave. AreWithin bound wave.changes) }
 {
+    let mut turns = Vec::new(alloc);
+    target_in(&mut turns, kind, waves, inputs, Vec::new(alloc))
+}
+
+/// The wave of a gate's target, as `target` has it, in the memory of `room`. `turns` is room too: what stands in it doesn't matter.
+pub fn target_in(
+    turns: &mut Vec<Turn>,
+    kind: Kind,
+    waves: &[Wave],
+    inputs: &[u32],
+    room: Vec<Change>,
+) -> Result<Wave, AllocError>
+    requires room { room.items ≡ [] }
+    requires numbers { All (λ input. input < length waves.now) inputs.now }
+    requires few { length inputs.now ≤ 1024 }
+    requires takes { TakesInputs kind (length inputs.now) }
+    ensures shows { IfOk result (λ wave. (t : ℕ) → before wave t ≡ target_before kind (waves_of waves.now inputs.now) t) }
+    ensures wave { IfOk result (λ wave. IsWave wave) }
+    ensures within { (bound : ℕ) → All (λ wave. AreWithin bound wave.changes) (waves_of waves.now inputs.now)
+        → IfOk result (λ wave. AreWithin bound wave.changes) }
+{
     let counts = starts(waves, inputs);
     let start = eval_counts(kind, counts);
-    let turns = turns_in_order(alloc, waves, inputs)?;
-    let changes = changes_of(alloc, kind, counts, start, &turns)?;
+    list_in_order(turns, waves, inputs)?;
+    let changes = changes_of(kind, counts, start, turns, room)?;
     Ok(Wave::from_changes(start, changes))
 }
 

@@ -1,6 +1,6 @@
 //! The signal of a gate's output.
 
-ghost use Rattle.std.specs.Prelude.{◌≡◌, ℕ, ◌≤◌, ◌<◌, ◌+◌, ◌^◌, ◌++◌, max, IfOk, OnOk, length, filter_map, slice_get};
+ghost use Rattle.std.specs.Prelude.{◌≡◌, ℕ, [], ◌≤◌, ◌<◌, ◌+◌, ◌^◌, ◌++◌, max, IfOk, OnOk, length, filter_map, slice_get};
 ghost use Rattle.std.specs.List.{All};
 ghost use Rattle.td_gates.specs.Delays.{IsInRange};
 ghost use Rattle.td_gates.specs.Table.{TakesInputs};
@@ -10,18 +10,19 @@ ghost use Rattle.td_ternary.specs.Possibles.{gate_signal, possible, last_change,
 ghost use Rattle.td_ternary.specs.Turning.{possible_after};
 
 use crate::merging::{output_of_one, output_of_two};
+use crate::scratch::Scratch;
 use crate::tracks::{begun, finish, pass};
-use std::alloc::{AllocError, Global};
+use std::alloc::AllocError;
 use td_gates::{Change, Delay, Kind, Level};
 use td_run::Wave;
-use td_run::stages::target;
+use td_run::stages::target_in;
 
 /// The greatest number of changes of a signal.
 pub(crate) const MAX_CHANGES: usize = 512;
 
 /// The signal of the output of a gate whose inputs have the signals at these places.
 pub fn output(
-    alloc: Global,
+    scratch: &mut Scratch,
     kind: Kind,
     delay: Delay,
     all: &[Wave],
@@ -35,13 +36,13 @@ pub fn output(
 {
     // The range of the delay, for the proof.
     let _rise = delay.rise;
-    let signal = uncapped(alloc, kind, delay, all, ins)?;
-    capped(alloc, signal)
+    let signal = uncapped(scratch, kind, delay, all, ins)?;
+    capped(signal)
 }
 
 /// The possible levels of the output of such a gate, with all changes.
 fn uncapped(
-    alloc: Global,
+    scratch: &mut Scratch,
     kind: Kind,
     delay: Delay,
     all: &[Wave],
@@ -54,27 +55,30 @@ fn uncapped(
     ensures shows { IfOk result (λ wave. (n : ℕ) → before wave n ≡ possible kind delay (waves_of all.now ins.now) n) }
     ensures wave { IfOk result (λ wave. IsWave wave) }
 {
+    let room = scratch.room();
     match ins.len() {
-        1 => output_of_one(alloc, kind, delay, &all[ins[0] as usize]),
+        1 => output_of_one(scratch.alloc, kind, delay, &all[ins[0] as usize], room),
         2 => output_of_two(
-            alloc,
             kind,
             delay,
             &all[ins[0] as usize],
             &all[ins[1] as usize],
+            room,
         ),
-        _ => output_of_many(alloc, kind, delay, all, ins),
+        _ => output_of_many(scratch, kind, delay, all, ins, room),
     }
 }
 
 /// The possible levels of the output of a gate with any number of inputs, from the wave of its target.
 fn output_of_many(
-    alloc: Global,
+    scratch: &mut Scratch,
     kind: Kind,
     delay: Delay,
     all: &[Wave],
     ins: &[u32],
+    room: Vec<Change>,
 ) -> Result<Wave, AllocError>
+    requires room { room.items ≡ [] }
     requires places { All (λ place. place < length all.now) ins.now }
     requires few { length ins.now ≤ 1024 }
     requires takes { TakesInputs kind (length ins.now) }
@@ -82,20 +86,25 @@ fn output_of_many(
     ensures shows { IfOk result (λ wave. (n : ℕ) → before wave n ≡ possible kind delay (waves_of all.now ins.now) n) }
     ensures wave { IfOk result (λ wave. IsWave wave) }
 {
-    let target = target(alloc, kind, all, ins)?;
-    possible_after(alloc, delay, &target)
+    let target_room = scratch.target_room();
+    let target = target_in(&mut scratch.turns, kind, all, ins, target_room)?;
+    let wave = possible_after(delay, &target, room)?;
+    scratch.keep_target(target.into_changes());
+    Ok(wave)
 }
 
 /// The possible levels of an output whose target has these.
-fn possible_after(alloc: Global, delay: Delay, target: &Wave) -> Result<Wave, AllocError>
-    requires { AreWithin (2 ^ 63) target.now.changes }
+fn possible_after(delay: Delay, target: &Wave, room: Vec<Change>) -> Result<Wave, AllocError>
+    requires within { AreWithin (2 ^ 63) target.now.changes }
+    requires room { room.items ≡ [] }
     ensures shows { IfOk result (λ wave. (n : ℕ) → before wave n ≡ possible_after delay (before target.now) n) }
     ensures wave { IfOk result (λ wave. IsWave wave) }
 {
     let reversed = reversed(delay);
     let start = target.start();
     let mut now = begun(start);
-    let mut changes = Vec::with_capacity(alloc, target.changes().len())?;
+    let mut changes = room;
+    changes.reserve(target.changes().len())?;
     for change in target.changes() {
         let next = pass(&mut changes, now, reversed, delay, *change)?;
         now = next;
@@ -139,7 +148,7 @@ fn widen(changes: &mut Vec<Change>, start: Level, moment: u64) -> Result<(), All
 }
 
 /// The signal with at most so many changes: of more the first stay, and from the next one on both levels are possible.
-fn capped(alloc: Global, signal: Wave) -> Result<Wave, AllocError>
+fn capped(signal: Wave) -> Result<Wave, AllocError>
     ensures { IfOk result (λ wave. wave ≡ record { start = signal.start; changes = capped signal.start signal.changes }) }
 {
     let start = signal.start();
@@ -147,7 +156,9 @@ fn capped(alloc: Global, signal: Wave) -> Result<Wave, AllocError>
     if all.len() <= MAX_CHANGES {
         return Ok(signal);
     }
-    let mut changes = Vec::from_slice(alloc, &all[..MAX_CHANGES - 1])?;
-    widen(&mut changes, start, all[MAX_CHANGES - 1].moment)?;
+    let moment = all[MAX_CHANGES - 1].moment;
+    let mut changes = signal.into_changes();
+    changes.truncate(MAX_CHANGES - 1);
+    widen(&mut changes, start, moment)?;
     Ok(Wave::from_changes(start, changes))
 }

@@ -85,14 +85,15 @@ fn shift(
     pass(changes, now, falling, rising, sample)
 }
 
-/// The possible levels of the output of a gate whose two inputs have these signals.
+/// The possible levels of the output of a gate whose two inputs have these signals, in the memory of `room`.
 pub fn output_of_two(
-    alloc: Global,
     kind: Kind,
     delay: Delay,
     left: &Wave,
     right: &Wave,
+    room: Vec<Change>,
 ) -> Result<Wave, AllocError>
+    requires room { room.items ≡ [] }
     requires left { AreWithin (2 ^ 63) left.now.changes }
     requires right { AreWithin (2 ^ 63) right.now.changes }
     ensures shows { IfOk result (λ wave. (n : ℕ) → before wave n ≡ possible kind delay (left.now ∷ right.now ∷ []) n) }
@@ -111,8 +112,8 @@ pub fn output_of_two(
     };
     let start = level_of_two(kind, first.level, second.level);
     let mut now = begun(start);
-    let room = room_for(lefts, rights);
-    let mut changes = Vec::new(alloc);
+    let most = room_for(lefts, rights);
+    let mut changes = room;
     while let Some(moment) = earlier(
         moment_at(lefts, first.place),
         moment_at(rights, second.place),
@@ -126,7 +127,7 @@ pub fn output_of_two(
             falling,
             delay,
             Change { moment, level },
-            room,
+            most,
         )?;
         now = next;
     }
@@ -150,13 +151,15 @@ pub fn output_of_one(
     kind: Kind,
     delay: Delay,
     input: &Wave,
+    room: Vec<Change>,
 ) -> Result<Wave, AllocError>
-    requires { AreWithin (2 ^ 63) input.now.changes }
+    requires room { room.items ≡ [] }
+    requires within { AreWithin (2 ^ 63) input.now.changes }
     ensures shows { IfOk result (λ wave. (n : ℕ) → before wave n ≡ possible kind delay (input.now ∷ []) n) }
     ensures wave { IfOk result (λ wave. IsWave wave) }
 {
     let ones = Wave::from_changes(Level::One, Vec::new(alloc));
-    output_of_two(alloc, beside_one(kind), delay, input, &ones)
+    output_of_two(beside_one(kind), delay, input, &ones, room)
 }
 
 /// How many changes the output is given room for: as many as both inputs have.

@@ -8,6 +8,7 @@ ghost use Rattle.td_ternary.specs.Coverage.{Covers, HasMoment};
 ghost use Rattle.td_ternary.specs.PossibleLaws.{covers_input, covers_constant, covers_gate, quiet_after_last, reach_input, reach_constant, reach_gate, last_is_moment, reach_each};
 
 use crate::gates;
+use crate::scratch::Scratch;
 use std::alloc::{AllocError, Global};
 use td_domain::{Domain, Trit};
 use td_gates::{Change, Delay, Kind, Level};
@@ -19,6 +20,8 @@ pub struct Possible;
 impl Domain for Possible {
     type Sig = Wave;
 
+    type Scratch = Scratch;
+
     ghost covers = { Covers };
 
     ghost functions = { possible_functions };
@@ -27,10 +30,27 @@ impl Domain for Possible {
 
     ghost reach = { λ signal. last_change signal.changes };
 
-    fn input(alloc: Global, first: Trit, second: Trit, moment: u64) -> Result<Wave, AllocError> {
+    fn scratch(alloc: Global) -> Scratch {
+        Scratch::new(alloc)
+    }
+
+    fn release(scratch: &mut Scratch, signal: Wave) {
+        scratch.keep(signal.into_changes());
+    }
+
+    fn reserve(scratch: &mut Scratch, signals: usize) -> Result<(), AllocError> {
+        scratch.reserve(signals)
+    }
+
+    fn input(
+        scratch: &mut Scratch,
+        first: Trit,
+        second: Trit,
+        moment: u64,
+    ) -> Result<Wave, AllocError> {
         let start = first.level();
         let level = second.level();
-        let mut changes = Vec::new(alloc);
+        let mut changes = scratch.room();
         if start != level {
             changes.push(Change { moment, level })?;
         }
@@ -43,13 +63,13 @@ impl Domain for Possible {
     }
 
     fn gate(
-        alloc: Global,
+        scratch: &mut Scratch,
         kind: Kind,
         delay: Delay,
         all: &[Wave],
         ins: &[u32],
     ) -> Result<Wave, AllocError> {
-        gates::output(alloc, kind, delay, all, ins)
+        gates::output(scratch, kind, delay, all, ins)
     }
 
     fn copy(alloc: Global, signal: &Wave) -> Result<Wave, AllocError> {

@@ -70,7 +70,7 @@ pub output-requires-in_default-clause-takes : goal.output-requires-in_default-cl
 output-requires-in_default-clause-takes c =
     rw (
       c.deref.ensures.value,
-      c.in_ok-signals-in_default.ensures,
+      c.in_ok-pick-in_default.ensures,
       length-picked c.args.all.now c.args.places.now (recursion_from_All (λ place. place < length c.args.all.now) c.args.places.now c.requires.places),
     )
     c.requires.takes
@@ -79,7 +79,7 @@ pub output-requires-in_default-clause-few : goal.output-requires-in_default-clau
 output-requires-in_default-clause-few c =
     rw (
       c.deref.ensures.value,
-      c.in_ok-signals-in_default.ensures,
+      c.in_ok-pick-in_default.ensures,
       length-picked c.args.all.now c.args.places.now (recursion_from_All (λ place. place < length c.args.all.now) c.args.places.now c.requires.places),
     ) c.requires.few
 

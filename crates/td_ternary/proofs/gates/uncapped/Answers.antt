@@ -3,8 +3,8 @@ use Rattle.td_run.specs.Waves.{waves_of}
 use Rattle.td_ternary.proofs.Picked.{one-picked, two-picked, first-within, second-within}
 use Rattle.td_ternary.proofs.gates.uncapped.Goals as goal
 
-pub output_of_one-requires : goal.output_of_one-requires
-output_of_one-requires c = first-within 9223372036854775808 (waves_of c.args.all.now c.args.ins.now) c.index-all-ins.result []
+pub output_of_one-requires-clause-within : goal.output_of_one-requires-clause-within
+output_of_one-requires-clause-within c = first-within 9223372036854775808 (waves_of c.args.all.now c.args.ins.now) c.index-all-ins.result []
     (one-picked c.args.all.now c.args.ins.now c.index-all-ins.result c.in-1.is c.requires.places c.index-all-ins.is) c.requires.within
 
 pub output_of_two-requires-clause-left : goal.output_of_two-requires-clause-left

@@ -3,7 +3,7 @@ use Rattle.std.specs.Prelude.{filter_map, slice_get}
 use Rattle.std.proofs.lemmas.List.{take_more}
 use Rattle.std.proofs.lemmas.List.Elements.{filter_map-append}
 use Rattle.std.proofs.lemmas.Option.{slice_get-get_or}
-use Rattle.td_arrival.proofs.gates.picked.Goals as goal
+use Rattle.td_arrival.proofs.gates.pick.Goals as goal
 
 -- the elements at one more place
 more : {X : Type 0} (xs : List X) (places : List ℕ) (i : ℕ) (d : X) (parts after : List X)
