@@ -1,4 +1,4 @@
-use Rattle.std.proofs.Common.{◌≡◌, sym, ap, subst, ◌∙◌, length}
+use Rattle.std.proofs.Common.{sym, ap, subst, ◌∙◌, length}
 use Rattle.td_search.specs.Best.{Found}
 use Rattle.td_search.specs.Problems.{Problem, problem_by}
 use Rattle.td_search.specs.Splitting.{IsReached}
