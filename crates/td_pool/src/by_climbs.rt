@@ -11,7 +11,7 @@ ghost use Rattle.td_pool.specs.Truth.{IsTrueFound, IsRoot};
 
 use crate::finder::Finder;
 use crate::found::Found;
-use crate::offers::{offer, offer_pair};
+use crate::offers::{best_seen, offer, offer_pair};
 use crate::root::Root;
 use std::alloc::{AllocError, Global};
 use std::sync::atomic::{AtomicBool, Ordering};
@@ -92,8 +92,25 @@ impl ByClimbs {
         requires any { HasAdmitted admit.now admit.now.pins }
         ensures { IfOk result (λ answer. IsRoot (problem_by Lead circuit.now admit.now) answer.1) }
     {
+        let mut scratch = Scratch::new(alloc, circuit, admit.pins())?;
+        ByClimbs::over(alloc, circuit, admit, workers, &mut scratch)
+    }
+
+    // As `of`, by way of a scratch.
+    fn over(
+        alloc: Global,
+        circuit: &Circuit,
+        admit: &Admit,
+        workers: u32,
+        scratch: &mut Scratch,
+    ) -> Result<(ByClimbs, Root), AllocError>
+        requires some { 0 < workers }
+        requires held { length admit.now.held ≡ length circuit.now.netlist.inputs }
+        requires any { HasAdmitted admit.now admit.now.pins }
+        requires scratch { IsScratch circuit.now scratch.old }
+        ensures { IfOk result (λ answer. IsRoot (problem_by Lead circuit.now admit.now) answer.1) }
+    {
         let pins = admit.pins();
-        let mut scratch = Scratch::new(alloc, circuit, pins)?;
         let first = measure(
             alloc,
             &mut scratch.events,
@@ -102,9 +119,9 @@ impl ByClimbs {
             admit,
             pins,
         )?;
-        let bound = strongest_with_edges(alloc, &mut scratch, circuit, pins)?;
+        let bound = strongest_with_edges(alloc, scratch, circuit, pins)?;
         let climbs = ByClimbs {
-            enough: bound_by_edges(&scratch),
+            enough: bound_by_edges(scratch),
             tries: (tries_for(circuit) / workers).max(1),
             is_found: AtomicBool::new(false),
         };
@@ -138,8 +155,8 @@ fn begin(
     ensures seat { found.new.seat.table ≡ word.now.table }
     ensures found { IsTrueFound (problem_by Lead circuit.now admit.now) found.new }
 {
-    let mut scratch = Scratch::new(alloc, circuit, admit.pins())?;
     let start = found.best.timed(alloc)?;
+    let mut scratch = Scratch::new(alloc, circuit, admit.pins())?;
     let plan = Plan {
         seed: u64::from(worker) + 1,
         tries: climbs.tries,
@@ -185,7 +202,7 @@ fn find(
 {
     let _numbering = circuit.gates();
     let _pins = admit.pins();
-    let cut = word.look(&mut found.seat);
+    let cut = best_seen(circuit, admit, Strategy::Lead, word, found);
     if !admit.any(cube) {
         return Ok((Finding::Closed(Mark::Empty, 0), cut));
     }

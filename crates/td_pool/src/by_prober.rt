@@ -5,7 +5,7 @@ ghost use Rattle.td_pool.specs.Truth.{IsPlaced, found_by};
 
 use crate::finder::Finder;
 use crate::found::Found;
-use crate::offers::offer;
+use crate::offers::{best_seen, offer};
 use std::alloc::{AllocError, Global};
 use std::mem;
 use td_book::Mark;
@@ -68,7 +68,8 @@ impl<'a, P: Prober> Finder for ByProber<'a, P> {
         let _numbering = circuit.gates();
         let _pins = admit.pins();
         if !admit.any(cube) {
-            return Ok((Finding::Closed(Mark::Empty, 0), word.look(&mut found.seat)));
+            let cut = best_seen(circuit, admit, Strategy::Least, word, found);
+            return Ok((Finding::Closed(Mark::Empty, 0), cut));
         }
         let other = mem::replace(&mut bench.pair, no_bits(alloc));
         let pair = representative_over(cube, admit, other)?;

@@ -15,6 +15,24 @@ use td_incumbent::Incumbent;
 use td_lead::Timed;
 use td_search::Strategy;
 
+/// The best time that is told to the worker. What it has found stays as true as it was.
+pub fn best_seen(
+    circuit: &Circuit,
+    admit: &Admit,
+    strategy: Strategy,
+    word: &Incumbent,
+    found: &mut Found,
+) -> u64
+    requires seat { found.old.seat.table ≡ word.now.table }
+    requires found { IsTrueFound (problem_by strategy circuit.now admit.now) found.old }
+    ensures seat { found.new.seat.table ≡ word.now.table }
+    ensures found { IsTrueFound (problem_by strategy circuit.now admit.now) found.new }
+    ensures evidence { found.new.evidence ≡ found.old.evidence }
+    ensures least { found.new.best.time ≤ result }
+{
+    word.look(&mut found.seat)
+}
+
 /// The best time after the representative of a cube was measured, which is kept and offered where it is better. Takes no memory.
 pub fn offer(
     circuit: &Circuit,

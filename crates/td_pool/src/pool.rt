@@ -12,24 +12,22 @@ use crate::by_prober::ByProber;
 use crate::deck::Deck;
 use crate::finder::Finder;
 use crate::found::{Found, Report};
-use crate::frontier::Frontier;
 use crate::hints::Hints;
 use crate::lent::{Lent, take_back};
 use crate::root::{Root, measure_root};
 use crate::shared::Shared;
 use crate::standing::Standing;
-use crate::starting::{first_best, fresh_of, seats_of};
+use crate::starting::{first_best, shared_of, starting_of};
 use crate::subject::Subject;
 use crate::watch::{Unwatched, Watch};
 use crate::working::work;
 use std::alloc::{AllocError, Global};
 use std::marker::Brand;
 use std::snapshot::Snapshot;
+use std::sync::Wait;
 use std::sync::ledger::{Blank, Ledger, Share};
-use std::sync::{Condvar, Mutex, Wait};
 use std::thread;
 use std::thread::{Promise, PromisedHandle, Threads};
-use td_book::{Book, Counted};
 use td_circuit::Circuit;
 use td_domain::Admit;
 use td_search::{Answer, Best, Evidence, Prober, SearchFault, Strategy, finish_by};
@@ -212,21 +210,64 @@ fn search_all<
     ensures text { IfOk result (CanBeWritten (problem_by F.by circuit.now admit.now)) }
     ensures told { W.told (problem_by F.by circuit.now admit.now) watch.old watch.new }
 {
-    let _numbering = circuit.gates();
     let first = first_best::<F>(alloc, circuit, admit, root.first)?;
-    let (word, seats) = seats_of(alloc, workers as usize)?;
-    let found = fresh_of::<F>(alloc, circuit, admit, &word, seats, root.first)?;
-    let book = Book::new(alloc, admit.pins().copy(alloc)?, workers, budget)?;
-    let frontier = frontier_of::<L, W>(alloc, circuit, admit, F::strategy(), root, watch)?;
+    let (word, found) = starting_of::<F>(alloc, circuit, admit, workers, root.first)?;
     let (ledger, share) = blank.open::<L>();
-    let shared = Shared {
-        standing: Mutex::new(Standing {
-            book: Counted::new(book, ledger),
-            frontier,
-        }),
-        moved: Condvar::new(),
+    let shared = shared_of::<L, W>(
+        alloc,
+        circuit,
+        admit,
+        F::strategy(),
         word,
-    };
+        workers,
+        budget,
+        ledger,
+        root,
+        watch,
+    )?;
+    search_over::<L, F, D, W, R>(
+        rt, alloc, circuit, admit, finder, decks, workers, budget, root, first, found, share,
+        shared, watch,
+    )
+}
+
+// As `search`, with what the workers share and begin with, and the pair that stands for the pins.
+fn search_over<
+    L: Subject + Send + Sync,
+    F: Finder + Sync,
+    D: Hints + Drop + Send,
+    W: Watch,
+    R: Threads + Wait + Sync,
+>(
+    rt: &R,
+    alloc: Global,
+    circuit: &Circuit,
+    admit: &Admit,
+    finder: &F,
+    decks: Vec<D>,
+    workers: u32,
+    budget: u64,
+    root: Root,
+    first: Best,
+    found: Vec<Found>,
+    share: Share<L>,
+    shared: Shared<L>,
+    watch: &mut W,
+) -> Result<Answer, AllocError>
+    requires asked { L.asked ≡ problem_by F.by circuit.now admit.now }
+    requires some { 0 < workers }
+    requires modest { budget ≤ 10000000 }
+    requires held { length admit.now.held ≡ length circuit.now.netlist.inputs }
+    requires root { IsRoot (problem_by F.by circuit.now admit.now) root }
+    requires first { IsBest (problem_by F.by circuit.now admit.now) first }
+    requires parts { share.parts ≡ workers }
+    requires amount { share.amount ≡ 0 }
+    requires count { length found.items ≡ workers }
+    requires found { AllByRecursion (IsStarting (problem_by F.by circuit.now admit.now) shared.word) found.items }
+    ensures answer { IfOk result (IsAnswer (problem_by F.by circuit.now admit.now) budget) }
+    ensures text { IfOk result (CanBeWritten (problem_by F.by circuit.now admit.now)) }
+    ensures told { W.told (problem_by F.by circuit.now admit.now) watch.old watch.new }
+{
     let (all, lent) = found_by_all(
         rt,
         alloc,
@@ -243,11 +284,33 @@ fn search_all<
     let Lent { watch } = lent;
     take_back(watch);
     let all = all?;
+    Ok(ended::<L, F>(alloc, circuit, admit, shared, all, first, root, budget))
+}
+
+// What this thread ends from what all workers found, what they shared, and what is known of the pins.
+fn ended<L: Subject, F: Finder>(
+    alloc: Global,
+    circuit: &Circuit,
+    admit: &Admit,
+    shared: Shared<L>,
+    all: Vec<Report<L>>,
+    first: Best,
+    root: Root,
+    budget: u64,
+) -> Answer
+    requires modest { budget ≤ 10000000 }
+    requires held { length admit.now.held ≡ length circuit.now.netlist.inputs }
+    requires all { AllByRecursion (λ report. IsTrueFound (problem_by F.by circuit.now admit.now) report.found) all.items }
+    requires first { IsBest (problem_by F.by circuit.now admit.now) first }
+    requires root { IsRoot (problem_by F.by circuit.now admit.now) root }
+    ensures answer { IsAnswer (problem_by F.by circuit.now admit.now) budget result }
+    ensures text { CanBeWritten (problem_by F.by circuit.now admit.now) result }
+{
     let (evidence, best) = gather::<L, F>(alloc, circuit, admit, all, first);
     let Shared { standing, .. } = shared;
     let Standing { book, .. } = standing.into_inner();
     let partial = book.into_book().into_tree();
-    Ok(finish_by(
+    finish_by(
         alloc,
         circuit,
         admit,
@@ -257,25 +320,7 @@ fn search_all<
         best,
         budget,
         F::strategy(),
-    ))
-}
-
-// What is left at the beginning, for a watch that looks. The error is want of memory.
-fn frontier_of<L: Subject, W: Watch>(
-    alloc: Global,
-    circuit: &Circuit,
-    admit: &Admit,
-    strategy: Strategy,
-    root: Root,
-    watch: &W,
-) -> Result<Frontier<L>, AllocError>
-    requires asked { L.asked ≡ problem_by strategy circuit.now admit.now }
-    requires root { IsRoot (problem_by strategy circuit.now admit.now) root }
-{
-    if watch.is_looking() {
-        return Frontier::new(alloc, circuit, admit, strategy, root);
-    }
-    Ok(Frontier::unkept(alloc, circuit, admit, strategy, root))
+    )
 }
 
 // What all workers found: this thread, and another one for each further worker, where a thread can be made. The watch, which this thread

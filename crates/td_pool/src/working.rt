@@ -212,36 +212,21 @@ pub fn work<L: Subject, F: Finder, D: Hints + Drop, W: Watch, R: Wait>(
         return Report { found, share };
     };
     let mut milestone = milestone_above(0);
-    for _ in rt.forever() {
-        let Some(lease) = shared.lease(rt, circuit, admit, worker, &mut deck) else {
-            break;
-        };
-        let goes_on = handle(
-            rt,
-            alloc,
-            circuit,
-            admit,
-            finder,
-            &mut scratch,
-            shared,
-            &mut deck,
-            lease,
-            &mut found,
-            &mut share,
-        );
-        tell_progress(
-            rt,
-            circuit,
-            admit,
-            F::strategy(),
-            shared,
-            &mut milestone,
-            watch,
-        );
-        if !goes_on {
-            break;
-        }
-    }
+    work_on(
+        rt,
+        alloc,
+        circuit,
+        admit,
+        finder,
+        &mut scratch,
+        shared,
+        worker,
+        &mut deck,
+        &mut found,
+        &mut share,
+        &mut milestone,
+        watch,
+    );
     tell_progress(
         rt,
         circuit,
@@ -252,4 +237,43 @@ pub fn work<L: Subject, F: Finder, D: Hints + Drop, W: Watch, R: Wait>(
         watch,
     );
     Report { found, share }
+}
+
+// Handles leaves as `work` does.
+fn work_on<L: Subject, F: Finder, D: Hints, W: Watch, R: Wait>(
+    rt: &R,
+    alloc: Global,
+    circuit: &Circuit,
+    admit: &Admit,
+    finder: &F,
+    scratch: &mut F::Scratch,
+    shared: &Shared<L>,
+    worker: u32,
+    deck: &mut D,
+    found: &mut Found,
+    share: &mut Share<L>,
+    milestone: &mut u64,
+    watch: &mut W,
+)
+    requires asked { L.asked ≡ problem_by F.by circuit.now admit.now }
+    requires held { length admit.now.held ≡ length circuit.now.netlist.inputs }
+    requires scratch { F.is_for scratch.old circuit.now }
+    requires seat { found.old.seat.table ≡ shared.now.word.table }
+    requires found { IsTrueFound (problem_by F.by circuit.now admit.now) found.old }
+    requires part { 0 < share.old.parts }
+    ensures found { IsTrueFound (problem_by F.by circuit.now admit.now) found.new }
+    ensures told { W.told (problem_by F.by circuit.now admit.now) watch.old watch.new }
+{
+    for _ in rt.forever() {
+        let Some(lease) = shared.lease(rt, circuit, admit, worker, deck) else {
+            return;
+        };
+        let goes_on = handle(
+            rt, alloc, circuit, admit, finder, scratch, shared, deck, lease, found, share,
+        );
+        tell_progress(rt, circuit, admit, F::strategy(), shared, milestone, watch);
+        if !goes_on {
+            return;
+        }
+    }
 }

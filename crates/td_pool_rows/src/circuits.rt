@@ -1,5 +1,7 @@
 //! Circuits and searches for the tests, and what a search comes to as plain values.
 
+ghost use Rattle.std.specs.Prelude.{◌≡◌, length, IfOk};
+
 use std::alloc::{AllocError, Global};
 use std::process::Abort;
 use std::sync::Wait;
@@ -29,18 +31,43 @@ pub const WIDE: &str = "module t (e, f, g, a, b, y); input e, f, g, a, b; output
 pub const SLOW_ARM: &str =
     "module t (a, b, y); input a, b; output y; buf #4 s(t,a); or #1 g(y,b,t); endmodule";
 
-/// The circuit of a netlist. The error is want of memory, or a text that is refused.
-pub fn circuit_of(alloc: Global, text: &str) -> Result<Circuit, AllocError> {
-    let unit = Delay { rise: 1, fall: 1 };
-    let netlist = read(alloc, text.as_bytes(), unit).ok().ok_or(AllocError)?;
-    build(alloc, netlist).ok().ok_or(AllocError)
+/// A circuit, and all its pairs.
+#[derive(Drop)]
+pub struct Asked {
+    pub circuit: Circuit,
+    pub admit: Admit,
 }
 
-/// All pairs of a circuit.
-pub fn all_of(rt: &impl Abort, alloc: Global, circuit: &Circuit) -> Result<Admit, AllocError> {
+/// The circuit of a netlist, and all its pairs. The error is want of memory, or a text that is refused.
+pub fn asked_of(rt: &impl Abort, alloc: Global, netlist: &str) -> Result<Asked, AllocError>
+    ensures { IfOk result (λ asked. length asked.admit.held ≡ length asked.circuit.netlist.inputs) }
+{
+    let circuit = circuit_of(alloc, netlist)?;
+    let admit = all_of(rt, alloc, &circuit)?;
+    Ok(Asked { circuit, admit })
+}
+
+// The circuit of a netlist. The error is want of memory, or a text that is refused.
+fn circuit_of(alloc: Global, text: &str) -> Result<Circuit, AllocError> {
+    let unit = Delay { rise: 1, fall: 1 };
+    let Ok(netlist) = read(alloc, text.as_bytes(), unit) else {
+        return Err(AllocError);
+    };
+    let Ok(circuit) = build(alloc, netlist) else {
+        return Err(AllocError);
+    };
+    Ok(circuit)
+}
+
+// All pairs of a circuit.
+fn all_of(rt: &impl Abort, alloc: Global, circuit: &Circuit) -> Result<Admit, AllocError>
+    ensures { IfOk result (λ admit. length admit.held ≡ length circuit.now.netlist.inputs) }
+{
     let inputs = circuit.input_count();
     assert!(rt; inputs <= 4096);
-    Admit::all(alloc, inputs)
+    let admit = Admit::all(alloc, inputs)?;
+    assert!(rt; admit.held().len() == inputs);
+    Ok(admit)
 }
 
 /// What a search came to: the two figures around the worst delay, whether it is exact, the number of its nodes, and how many leaves of its
@@ -63,14 +90,14 @@ fn by_both(tree: &Tree) -> usize {
 }
 
 // What an answer says.
-fn as_told(answer: Result<Answer, SearchFault>) -> Result<Told, Fail> {
+fn as_told(answer: &Result<Answer, SearchFault>) -> Result<Told, Fail> {
     match answer {
         Ok(Answer::Exact { time, tree, .. }) => Ok(Told {
-            low: time,
-            high: time,
+            low: *time,
+            high: *time,
             is_exact: true,
             nodes: tree.nodes().len() as u64,
-            by_both: by_both(&tree),
+            by_both: by_both(tree),
         }),
         Ok(
             Answer::Between {
@@ -80,10 +107,10 @@ fn as_told(answer: Result<Answer, SearchFault>) -> Result<Told, Fail> {
                 ..
             },
         ) => Ok(Told {
-            low,
-            high,
+            low: *low,
+            high: *high,
             is_exact: false,
-            nodes,
+            nodes: *nodes,
             by_both: 0,
         }),
         Err(_) => Err(Fail::from("no answer")),
@@ -99,11 +126,17 @@ pub fn found<P: Prober + Sync, R: Threads + Wait + Sync + Abort>(
     workers: u32,
     budget: u64,
 ) -> Result<Told, Fail> {
-    let circuit = circuit_of(alloc, netlist)?;
-    let admit = all_of(rt, alloc, &circuit)?;
     assert!(rt; 0 < workers && workers <= 64 && budget <= 10_000_000);
-    assert_eq!(rt; admit.held().len(), circuit.input_count());
-    as_told(worst(rt, alloc, &circuit, &admit, prober, workers, budget))
+    let asked = asked_of(rt, alloc, netlist)?;
+    as_told(&worst(
+        rt,
+        alloc,
+        &asked.circuit,
+        &asked.admit,
+        prober,
+        workers,
+        budget,
+    ))
 }
 
 /// What a search of all pairs by so many workers comes to, which with one goes without what workers share.
@@ -114,15 +147,13 @@ pub fn found_with<R: Threads + Wait + Sync + Abort>(
     workers: u32,
     budget: u64,
 ) -> Result<Told, Fail> {
-    let circuit = circuit_of(alloc, netlist)?;
-    let admit = all_of(rt, alloc, &circuit)?;
     assert!(rt; 0 < workers && workers <= 64 && budget <= 10_000_000);
-    assert_eq!(rt; admit.held().len(), circuit.input_count());
-    as_told(worst_with(
+    let asked = asked_of(rt, alloc, netlist)?;
+    as_told(&worst_with(
         rt,
         alloc,
-        &circuit,
-        &admit,
+        &asked.circuit,
+        &asked.admit,
         &Own,
         Strategy::Least,
         workers,
@@ -138,12 +169,19 @@ pub fn found_by<D: Hints + Drop + Send, R: Threads + Wait + Sync + Abort>(
     decks: Vec<D>,
     workers: u32,
 ) -> Result<Told, Fail> {
-    let circuit = circuit_of(alloc, netlist)?;
-    let admit = all_of(rt, alloc, &circuit)?;
     assert!(rt; 0 < workers && workers <= 64);
-    assert_eq!(rt; decks.len(), workers as usize);
-    assert_eq!(rt; admit.held().len(), circuit.input_count());
-    as_told(worst_by(rt, alloc, &circuit, &admit, &Own, decks, workers, 1_000_000))
+    assert!(rt; decks.len() == workers as usize);
+    let asked = asked_of(rt, alloc, netlist)?;
+    as_told(&worst_by(
+        rt,
+        alloc,
+        &asked.circuit,
+        &asked.admit,
+        &Own,
+        decks,
+        workers,
+        1_000_000,
+    ))
 }
 
 /// What a search of all pairs in one thread comes to.
@@ -153,9 +191,7 @@ pub fn found_alone(
     netlist: &str,
     budget: u64,
 ) -> Result<Told, Fail> {
-    let circuit = circuit_of(alloc, netlist)?;
-    let admit = all_of(rt, alloc, &circuit)?;
     assert!(rt; budget <= 10_000_000);
-    assert_eq!(rt; admit.held().len(), circuit.input_count());
-    as_told(alone(alloc, &circuit, &admit, budget))
+    let asked = asked_of(rt, alloc, netlist)?;
+    as_told(&alone(alloc, &asked.circuit, &asked.admit, budget))
 }

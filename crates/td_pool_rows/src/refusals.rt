@@ -1,15 +1,13 @@
 //! Searches where memory is refused. What a prober refuses is refused wherever these tests run. Of other growths none is, unless
 //! `rt try --test --fail-alloc N` refuses the Nth, in an unproved build; the tests pass then too.
 
-use crate::circuits::{RECONVERGENT, SLOW_ARM, all_of, circuit_of};
+use crate::circuits::{Asked, RECONVERGENT, SLOW_ARM, asked_of};
 use crate::prober::Watching;
 use std::alloc::{AllocError, Global};
 use std::process::Abort;
 use std::sync::Wait;
 use std::test::*;
 use std::thread::Threads;
-use td_circuit::Circuit;
-use td_domain::Admit;
 use td_pool::worst;
 use td_search::{Answer, Cause, Own, Prober, SearchFault};
 
@@ -21,10 +19,9 @@ enum End {
     Wrong,
 }
 
-/// How a search ended that has this worst delay: also right are two bounds around it for want of memory.
-fn end_of(answer: Result<Answer, SearchFault>, delay: u64) -> End {
-    let is_right = match answer {
-        Ok(Answer::Exact { time, .. }) if time == delay => return End::Exact,
+/// Whether an answer other than the worst delay is right: two bounds around it for want of memory, or want of memory.
+fn is_short(answer: &Result<Answer, SearchFault>, delay: u64) -> bool {
+    match answer {
         Ok(Answer::Exact { .. }) | Err(SearchFault::NoPair) => false,
         Ok(
             Answer::Between {
@@ -33,13 +30,17 @@ fn end_of(answer: Result<Answer, SearchFault>, delay: u64) -> End {
                 cause,
                 ..
             },
-        ) => low <= delay && delay <= high && cause == Cause::Memory,
+        ) => *low <= delay && delay <= *high && *cause == Cause::Memory,
         Err(SearchFault::OutOfMemory) => true,
-    };
-    if is_right {
-        End::OutOfMemory
-    } else {
-        End::Wrong
+    }
+}
+
+/// How a search ended that has this worst delay.
+fn end_of(answer: &Result<Answer, SearchFault>, delay: u64) -> End {
+    match answer {
+        Ok(Answer::Exact { time, .. }) if *time == delay => End::Exact,
+        _ if is_short(answer, delay) => End::OutOfMemory,
+        _ => End::Wrong,
     }
 }
 
@@ -47,16 +48,16 @@ fn end_of(answer: Result<Answer, SearchFault>, delay: u64) -> End {
 fn searched<P: Prober + Sync, R: Threads + Wait + Sync + Abort>(
     rt: &R,
     alloc: Global,
-    circuit: &Circuit,
-    admit: &Admit,
+    asked: &Asked,
     prober: &P,
     workers: u32,
     delay: u64,
 ) -> End {
+    let Asked { circuit, admit } = asked;
     assert!(rt; 0 < workers && workers <= 64);
-    assert_eq!(rt; admit.held().len(), circuit.input_count());
+    assert!(rt; admit.held().len() == circuit.input_count());
     end_of(
-        worst(rt, alloc, circuit, admit, prober, workers, 1_000),
+        &worst(rt, alloc, circuit, admit, prober, workers, 1_000),
         delay,
     )
 }
@@ -65,12 +66,11 @@ fn searched<P: Prober + Sync, R: Threads + Wait + Sync + Abort>(
 #[test]
 fn refused_once(rt: HostRuntime) -> Result<(), Fail> {
     let alloc = rt.alloc();
-    let circuit = circuit_of(alloc, RECONVERGENT)?;
-    let admit = all_of(&rt, alloc, &circuit)?;
+    let asked = asked_of(&rt, alloc, RECONVERGENT)?;
     for fails in 1..41 {
         for workers in 1..3 {
             let prober = Watching::new(fails, false);
-            let end = searched(&rt, alloc, &circuit, &admit, &prober, workers, 3);
+            let end = searched(&rt, alloc, &asked, &prober, workers, 3);
             let wanted = if fails <= 2 {
                 End::OutOfMemory
             } else {
@@ -88,10 +88,9 @@ fn again<R: Threads + Wait + Sync + Abort>(
     alloc: Global,
     workers: u32,
 ) -> Result<bool, AllocError> {
-    let circuit = circuit_of(alloc, SLOW_ARM)?;
-    let admit = all_of(rt, alloc, &circuit)?;
-    let first = searched(rt, alloc, &circuit, &admit, &Own, workers, 5);
-    let second = searched(rt, alloc, &circuit, &admit, &Own, workers, 5);
+    let asked = asked_of(rt, alloc, SLOW_ARM)?;
+    let first = searched(rt, alloc, &asked, &Own, workers, 5);
+    let second = searched(rt, alloc, &asked, &Own, workers, 5);
     Ok(
         first == End::Exact && second != End::Wrong
             || first == End::OutOfMemory && second == End::Exact,

@@ -65,4 +65,23 @@ impl Trail {
         let place = (*self.places.get(number as usize)?)?;
         self.evidence.get(place as usize)
     }
+    /// The evidence of the node of this number, if there is some and it is of this cube.
+    pub fn evidence_for(
+        &self,
+        circuit: &Circuit,
+        admit: &Admit,
+        strategy: Strategy,
+        number: u32,
+        cube: &Cube,
+    ) -> Option<&Evidence>
+        requires { IsTrueTrail (problem_by strategy circuit.now admit.now) self.now }
+        ensures cube { IfSome result (λ evidence. evidence.now.cube ≡ cube.now) }
+        ensures evidence { IfSome result (λ evidence. IsTrueEvidence (problem_by strategy circuit.now admit.now) evidence.now) }
+    {
+        let evidence = self.evidence_of(circuit, admit, strategy, number)?;
+        if !evidence.cube.is_same(cube) {
+            return None;
+        }
+        Some(evidence)
+    }
 }

@@ -169,18 +169,47 @@ impl Search {
         let Some(lease) = self.lease_again(circuit, admit, strategy, number, node.state)? else {
             return pass(coming, node.state);
         };
-        if let Some(evidence) = trail.evidence_of(circuit, admit, strategy, node.number)
-            && evidence.cube.is_same(&lease.cube)
-        {
+        if let Some(evidence) = trail.evidence_for(
+            circuit,
+            admit,
+            strategy,
+            node.number,
+            &lease.cube,
+        ) {
             return self.graft_again(alloc, circuit, admit, strategy, lease, evidence, coming);
         }
-        let State::Split(position) = node.state else {
+        self.replay_split(
+            alloc, scratch, circuit, admit, strategy, lease, node.state, coming,
+        )
+    }
+
+    // As `replay_node`, of a leaf without evidence.
+    fn replay_split(
+        &mut self,
+        alloc: Global,
+        scratch: &mut Scratch,
+        circuit: &Circuit,
+        admit: &Admit,
+        strategy: Strategy,
+        lease: Lease,
+        state: State,
+        coming: &mut Vec<Option<u32>>,
+    ) -> Result<usize, AllocError>
+        requires search { IsUnderWay (problem_by strategy circuit.now admit.now) self.old.book.budget self.old }
+        requires scratch { IsScratch circuit.now scratch.old }
+        requires held { length admit.now.held ≡ length circuit.now.netlist.inputs }
+        requires positions { length lease.cube ≡ 2 * length circuit.now.netlist.inputs }
+        requires part { IsPart lease.cube admit.now.pins }
+        ensures search { IsUnderWay (problem_by strategy circuit.now admit.now) self.old.book.budget self.new }
+        ensures scratch { IsScratch circuit.now scratch.new }
+    {
+        let State::Split(position) = state else {
             self.give_back(circuit, admit, strategy, lease);
             return Ok(1);
         };
         let sides = self.split_again(alloc, scratch, circuit, admit, strategy, lease, position);
         let Some((zero, one)) = sides else {
-            return pass(coming, node.state);
+            return pass(coming, state);
         };
         put_before(coming, &[zero, one])?;
         Ok(1)

@@ -29,10 +29,12 @@ impl Scratch {
         ensures arrival { IfOk result (λ scratch. scratch.sheets.arrival.cube ≡ cube.now) }
         ensures possible { IfOk result (λ scratch. scratch.sheets.possible.cube ≡ cube.now) }
     {
+        let events = Events::new(alloc, circuit)?;
+        let sheets = Sheets::new(alloc, circuit, cube)?;
         Ok(Scratch {
-            events: Events::new(alloc, circuit)?,
+            events,
             pair: no_bits(alloc),
-            sheets: Sheets::new(alloc, circuit, cube)?,
+            sheets,
             guide: None,
         })
     }

@@ -88,29 +88,53 @@ pub fn is_admitted(admit: &Admit, first: &[bool], second: &[bool]) -> bool {
     keeps && flips <= admit.flips() && is_in(first, second, admit.pins())
 }
 
+/// Whether the pair with these numbers is admitted and lies in the cube.
+fn is_pair(
+    alloc: Global,
+    admit: &Admit,
+    cube: &Cube,
+    before: u32,
+    after: u32,
+) -> Result<bool, AllocError> {
+    let inputs = admit.held().len();
+    let first = bits_of(alloc, before, inputs)?;
+    let second = bits_of(alloc, after, inputs)?;
+    Ok(is_admitted(admit, &first, &second) && is_in(&first, &second, cube))
+}
+
 /// Whether one of the pairs is admitted and lies in the cube.
 fn some_pair(alloc: Global, admit: &Admit, cube: &Cube) -> Result<bool, AllocError> {
-    let inputs = admit.held().len();
+    let vectors = vectors_of(admit.held().len());
     let mut found = false;
-    for before in 0..vectors_of(inputs) {
-        for after in 0..vectors_of(inputs) {
-            let first = bits_of(alloc, before, inputs)?;
-            let second = bits_of(alloc, after, inputs)?;
-            found = found || (is_admitted(admit, &first, &second) && is_in(&first, &second, cube));
+    for before in 0..vectors {
+        for after in 0..vectors {
+            let is_one = is_pair(alloc, admit, cube, before, after)?;
+            found = found || is_one;
         }
     }
     Ok(found)
 }
 
-/// Whether an admitted pair lies in a random cube, as `any` and a look at each pair say.
+/// Whether an admitted pair lies in a cube, as `any` and a look at each pair say.
+fn looked_at(
+    rt: &impl Abort,
+    alloc: Global,
+    admit: &Admit,
+    cube: &Cube,
+    seed: u64,
+) -> Result<bool, Fail> {
+    assert!(rt; cube.len() == admit.pins().len());
+    let found = some_pair(alloc, admit, cube)?;
+    assert!(rt; admit.any(cube) == found, "cube {seed}");
+    Ok(found)
+}
+
+/// Whether an admitted pair lies in a random cube.
 fn has_pair(rt: &impl Abort, alloc: Global, seed: u64) -> Result<bool, Fail> {
     let inputs = 1 + seed as usize % 3;
     let admit = random_pairs(rt, alloc, inputs, seed)?;
     let cube = random_cube(alloc, inputs, next(seed ^ 3))?;
-    assert_eq!(rt; cube.len(), admit.pins().len());
-    let found = some_pair(alloc, &admit, &cube)?;
-    assert_eq!(rt; admit.any(&cube), found, "cube {seed}");
-    Ok(found)
+    looked_at(rt, alloc, &admit, &cube, seed)
 }
 
 #[test]

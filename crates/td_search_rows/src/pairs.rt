@@ -20,7 +20,7 @@ fn found_by(
     strategy: Strategy,
 ) -> Result<Option<Answer>, Fail> {
     assert!(rt; budget <= 10_000_000);
-    assert_eq!(rt; admit.held().len(), circuit.input_count());
+    assert!(rt; admit.held().len() == circuit.input_count());
     let answer = match strategy {
         Strategy::Least => alone(alloc, circuit, admit, budget),
         Strategy::Lead => alone_by(alloc, circuit, admit, budget, strategy),
@@ -90,10 +90,28 @@ fn pair_fits(
         Answer::Exact { time, pair, .. } => (*time, pair),
         Answer::Between { low, pair, .. } => (*low, pair),
     };
-    assert_eq!(rt; pair.first().len(), circuit.input_count());
-    assert_eq!(rt; pair.second().len(), circuit.input_count());
+    let inputs = circuit.input_count();
+    assert!(rt; pair.first().len() == inputs && pair.second().len() == inputs);
     let delay = delay_by_waves(alloc, circuit, pair.first(), pair.second())?;
     Ok(delay == time && is_admitted(admit, pair.first(), pair.second()))
+}
+
+/// Whether an answer fits the worst delay of the admitted pairs. It doesn't where there are none.
+fn answer_fits(
+    rt: &impl Abort,
+    alloc: Global,
+    circuit: &Circuit,
+    admit: &Admit,
+    budget: u64,
+    worst: Option<u64>,
+    answer: &Answer,
+) -> Result<bool, Fail> {
+    match worst {
+        Some(worst) if figures_fit(answer, budget, worst) => {
+            pair_fits(rt, alloc, circuit, admit, answer)
+        }
+        _ => Ok(false),
+    }
 }
 
 /// Whether a search within a budget fits the worst delay, and finds no pair exactly where none is admitted.
@@ -106,16 +124,10 @@ fn agrees(
     worst: Option<u64>,
     strategy: Strategy,
 ) -> Result<bool, Fail> {
-    match (
-        found_by(rt, alloc, circuit, admit, budget, strategy)?,
-        worst,
-    ) {
-        (Some(answer), Some(worst)) => Ok(
-            figures_fit(&answer, budget, worst) && pair_fits(rt, alloc, circuit, admit, &answer)?,
-        ),
-        (None, None) => Ok(true),
-        _ => Ok(false),
-    }
+    let Some(answer) = found_by(rt, alloc, circuit, admit, budget, strategy)? else {
+        return Ok(worst.is_none());
+    };
+    answer_fits(rt, alloc, circuit, admit, budget, worst, &answer)
 }
 
 /// Checks searches by a strategy, within each budget below a number and within an ample one.
@@ -138,38 +150,46 @@ fn check(
     Ok(())
 }
 
+/// Checks searches of all pairs of a circuit.
+fn check_all(rt: &impl Abort, alloc: Global, circuit: &Circuit) -> Result<(), Fail> {
+    assert!(rt; circuit.input_count() <= 4096);
+    let admit = Admit::all(alloc, circuit.input_count())?;
+    check(rt, alloc, circuit, &admit, 41, Strategy::Least)?;
+    check(rt, alloc, circuit, &admit, 3, Strategy::Lead)
+}
+
+/// The circuit with this number.
+fn circuit_of(alloc: Global, seed: u64) -> Result<Circuit, Fail> {
+    Ok(generated(alloc, 1 + seed % 3, 2 + seed % 4, seed).ok_or("a circuit")?)
+}
+
 /// All pairs, within each budget up to 40.
 #[test]
 fn every_pair(rt: HostRuntime) -> Result<(), Fail> {
     let alloc = rt.alloc();
     for seed in 0..9 {
-        let circuit = generated(alloc, 1 + seed % 3, 2 + seed % 4, seed).ok_or("a circuit")?;
-        assert!(rt; circuit.input_count() <= 4096);
-        let admit = Admit::all(alloc, circuit.input_count())?;
-        check(&rt, alloc, &circuit, &admit, 41, Strategy::Least)?;
-        check(&rt, alloc, &circuit, &admit, 3, Strategy::Lead)?;
+        check_all(&rt, alloc, &circuit_of(alloc, seed)?)?;
     }
     Ok(())
 }
 
-/// Some pairs, within some small budgets and an ample one. A search with `lead` climbs long, and so there are few of them.
+/// Checks searches of some pairs of a circuit. One with `lead` climbs long, and so there are few of them.
+fn check_some(rt: &impl Abort, alloc: Global, circuit: &Circuit, seed: u64) -> Result<(), Fail> {
+    let admit = random_pairs(rt, alloc, circuit.input_count(), next(seed))?;
+    let budgets = random(next(seed), 20);
+    check(rt, alloc, circuit, &admit, budgets, Strategy::Least)?;
+    if seed % 25 == 0 {
+        check(rt, alloc, circuit, &admit, 1, Strategy::Lead)?;
+    }
+    Ok(())
+}
+
+/// Some pairs, within some small budgets and an ample one.
 #[test]
 fn every_admitted_pair(rt: HostRuntime) -> Result<(), Fail> {
     let alloc = rt.alloc();
     for seed in 0..200 {
-        let circuit = generated(alloc, 1 + seed % 3, 2 + seed % 4, seed).ok_or("a circuit")?;
-        let admit = random_pairs(&rt, alloc, circuit.input_count(), next(seed))?;
-        check(
-            &rt,
-            alloc,
-            &circuit,
-            &admit,
-            random(next(seed), 20),
-            Strategy::Least,
-        )?;
-        if seed % 25 == 0 {
-            check(&rt, alloc, &circuit, &admit, 1, Strategy::Lead)?;
-        }
+        check_some(&rt, alloc, &circuit_of(alloc, seed)?, seed)?;
     }
     Ok(())
 }

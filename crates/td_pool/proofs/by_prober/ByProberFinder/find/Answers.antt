@@ -11,7 +11,7 @@ use Rattle.td_search.specs.Problems.{Problem, problem}
 use Rattle.td_search.specs.Representatives.{representative}
 use Rattle.td_search.proofs.Bounded.{vectors_inside}
 use Rattle.td_pool.specs.Truth.{IsPlaced}
-use Rattle.td_pool.proofs.Finds.{true_finding}
+use Rattle.td_pool.proofs.Finds.{nothing_there, true_finding}
 use Rattle.td_pool.proofs.by_prober.ByProberFinder.find.Goals as goal
 
 pub measure-requires-clause-first_fits : goal.measure-requires-clause-first_fits
@@ -52,3 +52,7 @@ returns-clause-finding g c =
     (record { is = (c.in_ok-pair.ensures.admitted, c.in_ok-time.ensures.delay); only = λ other h. c.in_ok-time.ensures.only other h.1 }) in
     subst (IsTrueOf asked c.args.cube.now) (sym c.finding_of.ensures)
     (true_finding c.args.circuit.now c.args.admit.now c.args.cube.now c.in_ok-time.time c.offer-cut.result c.decide-decision.result measured c.offer-cut.ensures.within c.decide-decision.ensures)
+
+pub returns-then-not-any-clause-finding : goal.returns-then-not-any-clause-finding
+returns-then-not-any-clause-finding g c =
+    nothing_there (problem c.args.circuit.now c.args.admit.now) c.args.cube.now (λ there. let told = c.if-not-any.ensures.1 there in cc)

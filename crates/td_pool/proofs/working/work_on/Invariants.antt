@@ -1,7 +1,7 @@
 use Rattle.std.proofs.Common.{◌≡◌, ◌<◌}
 use Rattle.td_search.specs.Problems.{problem_by}
 use Rattle.td_pool.specs.Truth.{IsTrueFound}
-use Rattle.td_pool.proofs.working.work.Given as goal
+use Rattle.td_pool.proofs.working.work_on.Given as goal
 
 abbrev pub invariant-loop : goal.invariant-loop
 invariant-loop g l = record {
