@@ -1,6 +1,6 @@
 //! The book of a search: which cubes are still to be handled, who handles which, and what was done.
 
-ghost use Rattle.std.specs.Prelude.{◌≡◌, ℕ, ◌+◌, ◌-◌, ◌*◌, ◌<◌, ◌≤◌, ◌^◌, ◌↔◌, true, false, List, [], ◌∷◌, ◌++◌, length, slice_get, Some, vec_capacity, IsTrue, IfOk, OnErr, IfErr, MatchResult};
+ghost use Rattle.std.specs.Prelude.{◌≡◌, ℕ, ◌+◌, ◌-◌, ◌*◌, ◌<◌, ◌≤◌, ◌^◌, ◌↔◌, true, false, List, [], ◌∷◌, ◌++◌, length, slice_get, Some, vec_capacity, IsTrue, IfOk, OnOk, OnErr, IfErr, MatchResult};
 ghost use Rattle.td_domain.specs.declared.cubes.Trit.{Trit};
 ghost use Rattle.td_domain.specs.declared.cubes.Trit.TheVariants.{Free};
 ghost use Rattle.td_book.specs.declared.node.Node.{Node};
@@ -8,7 +8,7 @@ ghost use Rattle.td_book.specs.declared.node.State.{State};
 ghost use Rattle.td_book.specs.Board.{Leaf, board_of, node, cubes_after, opening, handled, allowed};
 ghost use Rattle.td_book.specs.Chained.{has_number, first_number, board_with};
 ghost use Rattle.td_book.specs.Kept.{as_open, IsKept, IsBook};
-ghost use Rattle.td_book.specs.Grafting.{FitAll, open_leaf, settlements, leaves_left, numbers, leaf_nodes, Grafted};
+ghost use Rattle.td_book.specs.Grafting.{cubes_left, FitAll, open_leaf, settlements, leaves_left, numbers, leaf_nodes, Grafted};
 ghost use Rattle.td_book.specs.GraftFaults.{IsGraftFault};
 ghost use Rattle.td_book.specs.Claimed.{fixed, allowance, IsLease, Claimed, ClaimedAt, IsSplitFault};
 ghost use Rattle.td_book.specs.Steps.{Has, SettlesAll, Shows, Splits, Closes, Releases, IsStranger};
@@ -141,6 +141,20 @@ fn settle_all(chain: &mut Chain, order: &mut Vec<Node>, lease: &Lease, states: &
         at = chain.next(at);
     }
     at
+}
+
+// Room for what a private tree leaves: places in the chain, and an empty vector for the numbers of its leaves. The error is want of memory.
+fn room_for(alloc: Global, chain: &mut Chain, subtree: &Subtree) -> Result<Vec<u32>, AllocError>
+    requires { length subtree.now.states < 2 ^ 32 }
+    ensures empty { IfOk result (λ room. room.items ≡ []) }
+    ensures roomy { IfOk result (λ room. length (cubes_left subtree.now.states (subtree.now.cube ∷ [])) ≤ vec_capacity room) }
+    ensures cube { chain.new.cube ≡ chain.old.cube }
+    ensures nodes { chain.new.nodes ≡ chain.old.nodes }
+    ensures room { OnOk result (length chain.old.nodes + 2 * length subtree.now.states ≤ chain.new.room) }
+{
+    let room = Vec::with_capacity(alloc, subtree.left())?;
+    chain.reserve(2 * subtree.states().len())?;
+    Ok(room)
 }
 
 // The numbers of so many leaves from the first on, in an empty vector that has room for them.
@@ -336,10 +350,7 @@ impl Book {
         if !shows(&self.chain, &mut self.cube, &lease) {
             return Err(GraftFault::Stranger(lease, subtree));
         }
-        let Ok(room) = Vec::with_capacity(self.alloc, subtree.left()) else {
-            return Err(GraftFault::OutOfMemory(lease, subtree));
-        };
-        let Ok(()) = self.chain.reserve(2 * subtree.states().len()) else {
+        let Ok(room) = room_for(self.alloc, &mut self.chain, &subtree) else {
             return Err(GraftFault::OutOfMemory(lease, subtree));
         };
         let number = lease.number;
