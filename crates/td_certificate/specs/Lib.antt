@@ -9,3 +9,4 @@ pub mod Reading
 pub mod Accepts
 pub mod Lengths
 pub mod Walks
+pub mod Tails

@@ -1,7 +1,9 @@
 //! Reading what a certificate is about.
 
 ghost use Rattle.std.specs.Prelude.{◌≡◌, ◌≤◌, ◌<◌, ◌^◌, ◌==◌, ◌&&◌, length, true, IfOk};
+ghost use Rattle.td_certificate.specs.declared.question.Version.TheVariants as of_version;
 ghost use Rattle.td_certificate.specs.Text.{weave};
+ghost use Rattle.td_certificate.specs.Tails.{limited_at};
 ghost use Rattle.td_certificate.specs.Reading.{Gives, most_flips, flips_at, admit_at, moment_at, moments_at, at_line, dated_at, question_at};
 
 use crate::characters::{Holds, Trits, row};
@@ -57,6 +59,25 @@ fn flips(most: u64, text: &[u8]) -> Result<(u64, &[u8]), Stop<'_>>
     }
 }
 
+/// Takes the line of the flips, behind rows of these trits and held inputs.
+fn limited<'a>(
+    alloc: Global,
+    version: Version,
+    firsts: &[Trit],
+    seconds: &[Trit],
+    held: Vec<bool>,
+    text: &'a [u8],
+) -> Result<(Admit, &'a [u8]), Stop<'a>>
+    requires firsts { length firsts.now ≡ length held.items }
+    requires seconds { length seconds.now ≡ length held.items }
+    requires few { length held.items ≤ 4096 }
+    ensures { Gives (λ x. (x.0, x.1.now)) result (limited_at version firsts.now seconds.now held.items text.now) }
+{
+    let pins = weave(alloc, firsts, seconds)?;
+    let (flips, rest) = flips(most_flips(version, &pins, &held), text)?;
+    Ok((Admit::new(pins, held, flips as u32), rest))
+}
+
 /// Takes the lines from `first` to `flips`.
 #[tactic(auto, unfolding(crate::specs::Reading::admit_at))]
 fn admit(
@@ -71,9 +92,7 @@ fn admit(
     let (firsts, rest) = row::<Trits>(alloc, b"first ", inputs, text)?;
     let (seconds, rest) = row::<Trits>(alloc, b"second ", inputs, rest)?;
     let (held, rest) = row::<Holds>(alloc, b"hold ", inputs, rest)?;
-    let pins = weave(alloc, &firsts, &seconds)?;
-    let (flips, rest) = flips(most_flips(version, &pins, &held), rest)?;
-    Ok((Admit::new(pins, held, flips as u32), rest))
+    limited(alloc, version, &firsts, &seconds, held, rest)
 }
 
 /// Takes a moment with so many others to come, behind moments that are all 0 or not.
@@ -138,6 +157,27 @@ fn dated(
     Ok((Question::new(admit, moments), rest))
 }
 
+/// The question of the first version, which has no lines.
+#[tactic(auto, unfolding(crate::specs::Reading::question_at))]
+fn unrestricted(alloc: Global, inputs: u32, text: &[u8]) -> Result<(Question, &[u8]), Stop<'_>>
+    ensures { Gives (λ x. (x.0, x.1.now)) result (question_at of_version.First inputs text.now) }
+{
+    let admit = Admit::all(alloc, inputs as usize)?;
+    let moments = vec![in alloc; 0u64; inputs as usize]?;
+    Ok((Question::new(admit, moments), text))
+}
+
+/// Takes the lines of a question of the second version.
+#[tactic(auto, unfolding(crate::specs::Reading::question_at))]
+fn restricted(alloc: Global, inputs: u32, text: &[u8]) -> Result<(Question, &[u8]), Stop<'_>>
+    requires { inputs ≤ 4096 }
+    ensures { Gives (λ x. (x.0, x.1.now)) result (question_at of_version.Second inputs text.now) }
+{
+    let (admit, rest) = admit(alloc, Version::Second, inputs, text)?;
+    let moments = vec![in alloc; 0u64; inputs as usize]?;
+    Ok((Question::new(admit, moments), rest))
+}
+
 /// Takes the lines of a question.
 #[tactic(auto, unfolding(crate::specs::Reading::question_at))]
 pub fn question(
@@ -150,16 +190,8 @@ pub fn question(
     ensures { Gives (λ x. (x.0, x.1.now)) result (question_at version inputs text.now) }
 {
     match version {
-        Version::First => {
-            let admit = Admit::all(alloc, inputs as usize)?;
-            let moments = vec![in alloc; 0u64; inputs as usize]?;
-            Ok((Question::new(admit, moments), text))
-        }
-        Version::Second => {
-            let (admit, rest) = admit(alloc, version, inputs, text)?;
-            let moments = vec![in alloc; 0u64; inputs as usize]?;
-            Ok((Question::new(admit, moments), rest))
-        }
+        Version::First => unrestricted(alloc, inputs, text),
+        Version::Second => restricted(alloc, inputs, text),
         Version::Third => dated(alloc, version, true, inputs, text),
         Version::Fourth => dated(alloc, version, false, inputs, text),
     }

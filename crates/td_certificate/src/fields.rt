@@ -12,7 +12,7 @@ use std::alloc::{AllocError, AllocFailed};
 pub const GREATEST: u64 = 1_000_000_000_000_000_000;
 
 /// What is wrong at a byte.
-#[derive(Clone, Copy, Debug, PartialEq, Eq, Drop)]
+#[derive(Clone, Copy, Drop)]
 pub enum Reason {
     Syntax,
     NumberTooLarge,
@@ -20,7 +20,7 @@ pub enum Reason {
 }
 
 /// Why reading stops: the bytes end, or from here on they can't be read.
-#[derive(Clone, Copy, Debug, Drop)]
+#[derive(Clone, Copy, Drop)]
 pub enum Stop<'a> {
     OutOfMemory,
     Ends,
@@ -44,7 +44,7 @@ impl<T: Drop> From<AllocFailed<T>> for Stop<'_> {
 }
 
 /// Which leaves may stand in a tree, from some place on.
-#[derive(Clone, Copy, Debug, PartialEq, Eq, Drop)]
+#[derive(Clone, Copy, Drop)]
 pub enum Leaves {
     /// Those of the first version: none without an admitted pair, none bounded by edges.
     First,

@@ -3,6 +3,7 @@
 ghost use Rattle.std.specs.Prelude.{◌≡◌, ◌≤◌, ◌<◌, ◌+◌, ◌-◌, ◌^◌, ℕ, take, length, Some, IfOk, IfErr};
 ghost use Rattle.td_certificate.specs.Reading.{Gives, begins_number, front_number, IsUpTo, is_version, version_reason, digit_at, version_at, has_inputs, leaves_in, nodes_at, lines_at, certificate_at};
 ghost use Rattle.td_certificate.specs.Spelling.{Spells};
+ghost use Rattle.td_certificate.specs.Tails.{tree_at, answer_at};
 ghost use Rattle.td_certificate.specs.declared.certificate.Certificate.{Certificate as Contents};
 ghost use Rattle.td_certificate.specs.declared.fault.CertFaultKind.{CertFaultKind as Kind};
 ghost use Rattle.td_certificate.specs.Faults.{IsFault, kind_of, kind_in, IsWithinLimit, IsFront, HasMore, IsReadAs, IsTold, line_behind};
@@ -14,7 +15,7 @@ use crate::fault::{CertFault, CertFaultKind};
 use crate::fields::{
     GREATEST, Leaves, Reason, Stop, literal, node, number, number_behind, number_from,
 };
-use crate::question::Version;
+use crate::question::{Question, Version};
 use crate::tree::Tree;
 use std::alloc::Global;
 use td_domain::Pair;
@@ -142,6 +143,47 @@ fn has_inputs(version: Version) -> bool
     }
 }
 
+/// Takes the tree, the last part of a certificate.
+fn closed<'a>(
+    alloc: Global,
+    version: Version,
+    gates: u32,
+    question: Question,
+    time: u64,
+    pair: Pair,
+    text: &'a [u8],
+) -> Result<(Certificate, &'a [u8]), Stop<'a>>
+    ensures { Gives (λ x. (x.0, x.1.now)) result (tree_at version gates question time pair.first pair.second text.now) }
+{
+    let (tree, rest) = tree(alloc, version, text)?;
+    let certificate = Certificate {
+        gates,
+        question,
+        time,
+        pair,
+        tree,
+    };
+    Ok((certificate, rest))
+}
+
+/// Takes the lines behind those of the question.
+fn answered<'a>(
+    alloc: Global,
+    version: Version,
+    inputs: u32,
+    gates: u32,
+    question: Question,
+    text: &'a [u8],
+) -> Result<(Certificate, &'a [u8]), Stop<'a>>
+    ensures { Gives (λ x. (x.0, x.1.now)) result (answer_at version inputs gates question text.now) }
+{
+    let (time, rest) = number_behind(b"time ", GREATEST, b'\n', text)?;
+    let (first, rest) = row::<Bits>(alloc, b"from ", inputs, rest)?;
+    let (second, rest) = row::<Bits>(alloc, b"to ", inputs, rest)?;
+    let pair = Pair::new(first, second);
+    closed(alloc, version, gates, question, time, pair, rest)
+}
+
 /// Takes the lines behind the first.
 #[tactic(auto, unfolding(crate::specs::Reading::lines_at))]
 fn lines(alloc: Global, version: Version, text: &[u8]) -> Result<(Certificate, &[u8]), Stop<'_>>
@@ -151,18 +193,7 @@ fn lines(alloc: Global, version: Version, text: &[u8]) -> Result<(Certificate, &
     let (inputs, rest) = number_from(has_inputs(version), MAX_INPUTS, b' ', rest)?;
     let (gates, rest) = number(MAX_GATES, b'\n', rest)?;
     let (question, rest) = question(alloc, version, inputs as u32, rest)?;
-    let (time, rest) = number_behind(b"time ", GREATEST, b'\n', rest)?;
-    let (first, rest) = row::<Bits>(alloc, b"from ", inputs as u32, rest)?;
-    let (second, rest) = row::<Bits>(alloc, b"to ", inputs as u32, rest)?;
-    let (tree, rest) = tree(alloc, version, rest)?;
-    let certificate = Certificate {
-        gates: gates as u32,
-        question,
-        time,
-        pair: Pair::new(first, second),
-        tree,
-    };
-    Ok((certificate, rest))
+    answered(alloc, version, inputs as u32, gates as u32, question, rest)
 }
 
 /// Takes a certificate.
