@@ -379,20 +379,6 @@ no_name word certificate none = ap (λ (it : Option (Bor (List ℕ))). certifica
 abbrev pub certificate_file : List ℕ → Certificate → FileText
 certificate_file name certificate = record { name = name; text = spelling certificate }
 
--- what a search says
-pub worst_product : (text : List ℕ) (default : Delay) (words : QuestionWords) (budget : ℕ) (path : Bool) (name vcd : Option (List ℕ)) (report shown : List ℕ)
-    (certificate : Option Certificate) (dumps : List FileText) → IsWorstReport text default words budget path vcd report certificate dumps
-    → IsBeside (certificate_files name certificate ++ dumps) report shown → IsWorstProduct text default words budget path name vcd
-    (record { report = shown; files = certificate_files name certificate ++ dumps; ending = search_ending certificate })
-worst_product text default words budget path name vcd report shown certificate dumps is beside =
-    record { report = report; certificate = certificate; dumps = dumps; is = is; files = refl; shown = beside; ends = refl }
-
--- what a simulation says
-pub sim_product : (text : List ℕ) (default : Delay) (from to : List ℕ) (at vcd : Option (List ℕ)) (report shown : List ℕ) (dumps : List FileText)
-    → IsSimReport text default from to at vcd report dumps → IsBeside dumps report shown
-    → IsSimProduct text default from to at vcd (record { report = shown; files = dumps; ending = Done })
-sim_product text default from to at vcd report shown dumps is beside = record { report = report; is = is; shown = beside; ends = refl }
-
 -- ---- what is kept
 
 pub none_kept : {F : Type 0} (did : F → F → List FileStep → Type 0) (did_nothing : (files : F) → did files files []) (files : F)
@@ -420,17 +406,3 @@ pub due_certificate : (word : Option (Bor (List ℕ))) (name : Bor (List ℕ)) (
     → given ≡ Some certificate → certificate_files (words_of word) given ≡ certificate_file name.now certificate ∷ []
 due_certificate word name given certificate is has =
     ap (λ (it : Option (Bor (List ℕ))). certificate_files (words_of it) given) is ∙ ap (certificate_files (Some name.now)) has
-
--- what a join says
-pub join_product : (disk : Disk) (text : List ℕ) (default : Delay) (names : List (List ℕ)) (check : Bool) (first second name : Option (List ℕ))
-    (report shown : List ℕ) (whole : Certificate) → IsJoinReport disk text default names check first second report whole
-    → IsBeside (certificate_files name (Some whole) ++ []) report shown → IsJoinProduct disk text default names check first second name
-    (record { report = shown; files = certificate_files name (Some whole); ending = Done })
-join_product disk text default names check first second name report shown whole is beside = record {
-  report = report;
-  whole = whole;
-  is = is;
-  files = refl;
-  shown = subst (λ (files : List FileText). IsBeside files report shown) (append-nil (certificate_files name (Some whole))) beside;
-  ends = refl;
-}
