@@ -1,12 +1,11 @@
 -- How the program ends.
-use Rattle.std.proofs.Common.{◌≡◌, ◌≢◌, ◌⊎◌, ◌∙◌, ◌++◌, ℕ, Bool, List, [], ◌∷◌, Option, Some, None, Result, Ok, Err, OnErr, IfErr, refl, sym, ap, subst, inl, inr, append-nil, append_assoc, codes}
+use Rattle.std.proofs.Common.{◌≡◌, ◌≢◌, ◌⊎◌, ◌∙◌, ◌++◌, ℕ, List, [], ◌∷◌, Option, Some, None, Result, Ok, Err, OnErr, IfErr, refl, sym, ap, subst, inl, inr, append-nil, append_assoc, codes}
 use Rattle.std.specs.Borrow.{Bor}
 use Rattle.clap.specs.Words.{kind_of, HasKind}
 use Rattle.clap.specs.declared.error.Error.{Error}
 use Rattle.clap.specs.declared.error.kind.ErrorKind.{ErrorKind}
 use Rattle.clap.specs.declared.error.kind.ErrorKind.TheVariants as kind
 use Rattle.td_gates.specs.Output.{Output, Sent, Failed}
-use Rattle.td_gates.specs.declared.timing.Delay.{Delay}
 use Rattle.td_certificate.specs.declared.certificate.Certificate.{Certificate}
 use Rattle.td_certificate.specs.Spelling.{spelling}
 use Rattle.td_certificate.specs.declared.fault.WriteFault.{WriteFault}
@@ -14,22 +13,18 @@ use Rattle.td_certificate.specs.declared.fault.WriteFault.TheVariants as unwritt
 use Rattle.td_report.specs.declared.files.ReadFault.{ReadFault}
 use Rattle.td_report.specs.declared.files.ReadFault.TheVariants as unread
 use Rattle.td_report.specs.declared.status.Status.{Status}
-use Rattle.td_report.specs.declared.status.Status.TheVariants.{Done, Device}
+use Rattle.td_report.specs.declared.status.Status.TheVariants.{Device}
 use Rattle.td_report.specs.declared.refusal.Refusal.{Refusal}
 use Rattle.td_report.specs.declared.refusal.Refusal.TheVariants as refusal
 use Rattle.td_command.specs.declared.command.Request.{Request}
 use Rattle.td_command.specs.declared.command.Request.TheVariants as request
 use Rattle.td_report.specs.Files.{FileStep, Made, Ended, FileText, HasBeginning, IsWritten, IsLeft, AreWritten, Takes}
-use Rattle.td_cli.specs.declared.asking.QuestionWords.{QuestionWords}
 use Rattle.td_report.specs.Vectors.{words_of}
 use Rattle.td_report.specs.Refusals.{unwritten_text}
-use Rattle.td_report.specs.Reports.{IsSimReport}
-use Rattle.td_cli.specs.WorstReports.{IsWorstReport}
-use Rattle.td_cli.specs.JoinReports.{IsJoinReport}
 use Rattle.td_command.specs.CommandLine.{kinds_of}
 use Rattle.td_report.specs.Ends.{Product, Streams, streams, Tells, TellsReason, TellsUnread, TellsUnwritten, LosesOne, Says, Ends, EndsBehind}
 use Rattle.td_cli.specs.Disks.{Disk, Reads, HoldsOnFile}
-use Rattle.td_cli.specs.Requests.{certificate_files, search_ending, IsBeside, IsSimProduct, IsWorstProduct, IsJoinProduct, IsOutOfMemory, IsShown, TellsText, IsProductOf, HoldsOf, KeepsFiles, Overwrites, TellsBefore, RequestRuns, RequestEnds, ProgramEnds}
+use Rattle.td_cli.specs.Requests.{certificate_files, IsOutOfMemory, IsShown, TellsText, IsProductOf, HoldsOf, KeepsFiles, Overwrites, TellsBefore, RequestRuns, RequestEnds, ProgramEnds}
 
 -- a kind whose text goes to standard error isn't
 pub not_shown : (k : ErrorKind) → (k ≢ kind.DisplayHelp) × (k ≢ kind.DisplayVersion) → ¬ IsShown k

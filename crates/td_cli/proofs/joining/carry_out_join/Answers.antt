@@ -1,4 +1,4 @@
-use Rattle.std.proofs.Common.{◌++◌, [], map, refl, Some}
+use Rattle.std.proofs.Common.{◌++◌, [], map, Some}
 use Rattle.td_report.specs.declared.status.Status.TheVariants.{Done}
 use Rattle.td_report.specs.Vectors.{words_of}
 use Rattle.td_cli.specs.Disks.{disk_of}
