@@ -27,7 +27,7 @@ use td_netlist::FaultKind;
 use td_nets::Netlist;
 
 /// The first bad line of a tree: its place among the tree's lines, from 0, and what is wrong with it.
-#[derive(Clone, Copy, Debug, PartialEq, Eq, Drop)]
+#[derive(Clone, Copy, Drop)]
 pub struct BadLine {
     pub place: usize,
     pub flaw: Flaw,

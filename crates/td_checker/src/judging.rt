@@ -18,7 +18,7 @@ use td_event_sim::{Scratch, delay_of};
 use td_ternary::Possible;
 
 /// What is wrong with a line.
-#[derive(Clone, Copy, Debug, PartialEq, Eq, Drop)]
+#[derive(Clone, Copy, Drop)]
 pub enum Flaw {
     /// A split at a position that doesn't exist or isn't free.
     Misplaced,

@@ -13,7 +13,7 @@ use td_domain::{Cube, Trit};
 
 /// A place in a tree: the cube of a node, and the positions of the splits above it, the lowest one last. Which side of a
 /// split this is can be read off the cube, so no other cube is kept.
-#[derive(Debug, Drop)]
+#[derive(Drop)]
 pub struct Walk {
     pub cube: Cube,
     pub path: Vec<usize>,

@@ -1,3 +1,4 @@
 pub mod Programs
+pub mod HandingOver
 pub mod Questions
 pub mod Joinings

@@ -1,12 +1,11 @@
 -- How the program ends.
-use Rattle.std.proofs.Common.{◌≡◌, ◌≢◌, ◌⊎◌, ◌∙◌, ◌++◌, ℕ, Bool, List, [], ◌∷◌, Option, Some, None, Result, Ok, Err, OnErr, IfErr, refl, sym, ap, subst, inl, inr, append-nil, append_assoc, codes}
+use Rattle.std.proofs.Common.{◌≡◌, ◌≢◌, ◌⊎◌, ◌∙◌, ◌++◌, ℕ, List, [], ◌∷◌, Option, Some, None, Result, Ok, Err, OnErr, IfErr, refl, sym, ap, subst, inl, inr, append-nil, append_assoc, codes}
 use Rattle.std.specs.Borrow.{Bor}
 use Rattle.clap.specs.Words.{kind_of, HasKind}
 use Rattle.clap.specs.declared.error.Error.{Error}
 use Rattle.clap.specs.declared.error.kind.ErrorKind.{ErrorKind}
 use Rattle.clap.specs.declared.error.kind.ErrorKind.TheVariants as kind
 use Rattle.td_gates.specs.Output.{Output, Sent, Failed}
-use Rattle.td_gates.specs.declared.timing.Delay.{Delay}
 use Rattle.td_certificate.specs.declared.certificate.Certificate.{Certificate}
 use Rattle.td_certificate.specs.Spelling.{spelling}
 use Rattle.td_certificate.specs.declared.fault.WriteFault.{WriteFault}
@@ -14,22 +13,18 @@ use Rattle.td_certificate.specs.declared.fault.WriteFault.TheVariants as unwritt
 use Rattle.td_report.specs.declared.files.ReadFault.{ReadFault}
 use Rattle.td_report.specs.declared.files.ReadFault.TheVariants as unread
 use Rattle.td_report.specs.declared.status.Status.{Status}
-use Rattle.td_report.specs.declared.status.Status.TheVariants.{Done, Device}
+use Rattle.td_report.specs.declared.status.Status.TheVariants.{Device}
 use Rattle.td_report.specs.declared.refusal.Refusal.{Refusal}
 use Rattle.td_report.specs.declared.refusal.Refusal.TheVariants as refusal
 use Rattle.td_command.specs.declared.command.Request.{Request}
 use Rattle.td_command.specs.declared.command.Request.TheVariants as request
 use Rattle.td_report.specs.Files.{FileStep, Made, Ended, FileText, HasBeginning, IsWritten, IsLeft, AreWritten, Takes}
-use Rattle.td_cli.specs.declared.asking.QuestionWords.{QuestionWords}
 use Rattle.td_report.specs.Vectors.{words_of}
 use Rattle.td_report.specs.Refusals.{unwritten_text}
-use Rattle.td_report.specs.Reports.{IsSimReport}
-use Rattle.td_cli.specs.WorstReports.{IsWorstReport}
-use Rattle.td_cli.specs.JoinReports.{IsJoinReport}
 use Rattle.td_command.specs.CommandLine.{kinds_of}
 use Rattle.td_report.specs.Ends.{Product, Streams, streams, Tells, TellsReason, TellsUnread, TellsUnwritten, LosesOne, Says, Ends, EndsBehind}
 use Rattle.td_cli.specs.Disks.{Disk, Reads, HoldsOnFile}
-use Rattle.td_cli.specs.Requests.{certificate_files, search_ending, IsBeside, IsSimProduct, IsWorstProduct, IsJoinProduct, IsOutOfMemory, IsShown, TellsText, IsProductOf, HoldsOf, KeepsFiles, Overwrites, TellsBefore, RequestRuns, RequestEnds, ProgramEnds}
+use Rattle.td_cli.specs.Requests.{certificate_files, IsOutOfMemory, IsShown, TellsText, IsProductOf, HoldsOf, KeepsFiles, Overwrites, TellsBefore, RequestRuns, RequestEnds, ProgramEnds}
 
 -- a kind whose text goes to standard error isn't
 pub not_shown : (k : ErrorKind) → (k ≢ kind.DisplayHelp) × (k ≢ kind.DisplayVersion) → ¬ IsShown k
@@ -379,20 +374,6 @@ no_name word certificate none = ap (λ (it : Option (Bor (List ℕ))). certifica
 abbrev pub certificate_file : List ℕ → Certificate → FileText
 certificate_file name certificate = record { name = name; text = spelling certificate }
 
--- what a search says
-pub worst_product : (text : List ℕ) (default : Delay) (words : QuestionWords) (budget : ℕ) (path : Bool) (name vcd : Option (List ℕ)) (report shown : List ℕ)
-    (certificate : Option Certificate) (dumps : List FileText) → IsWorstReport text default words budget path vcd report certificate dumps
-    → IsBeside (certificate_files name certificate ++ dumps) report shown → IsWorstProduct text default words budget path name vcd
-    (record { report = shown; files = certificate_files name certificate ++ dumps; ending = search_ending certificate })
-worst_product text default words budget path name vcd report shown certificate dumps is beside =
-    record { report = report; certificate = certificate; dumps = dumps; is = is; files = refl; shown = beside; ends = refl }
-
--- what a simulation says
-pub sim_product : (text : List ℕ) (default : Delay) (from to : List ℕ) (at vcd : Option (List ℕ)) (report shown : List ℕ) (dumps : List FileText)
-    → IsSimReport text default from to at vcd report dumps → IsBeside dumps report shown
-    → IsSimProduct text default from to at vcd (record { report = shown; files = dumps; ending = Done })
-sim_product text default from to at vcd report shown dumps is beside = record { report = report; is = is; shown = beside; ends = refl }
-
 -- ---- what is kept
 
 pub none_kept : {F : Type 0} (did : F → F → List FileStep → Type 0) (did_nothing : (files : F) → did files files []) (files : F)
@@ -420,17 +401,3 @@ pub due_certificate : (word : Option (Bor (List ℕ))) (name : Bor (List ℕ)) (
     → given ≡ Some certificate → certificate_files (words_of word) given ≡ certificate_file name.now certificate ∷ []
 due_certificate word name given certificate is has =
     ap (λ (it : Option (Bor (List ℕ))). certificate_files (words_of it) given) is ∙ ap (certificate_files (Some name.now)) has
-
--- what a join says
-pub join_product : (disk : Disk) (text : List ℕ) (default : Delay) (names : List (List ℕ)) (check : Bool) (first second name : Option (List ℕ))
-    (report shown : List ℕ) (whole : Certificate) → IsJoinReport disk text default names check first second report whole
-    → IsBeside (certificate_files name (Some whole) ++ []) report shown → IsJoinProduct disk text default names check first second name
-    (record { report = shown; files = certificate_files name (Some whole); ending = Done })
-join_product disk text default names check first second name report shown whole is beside = record {
-  report = report;
-  whole = whole;
-  is = is;
-  files = refl;
-  shown = subst (λ (files : List FileText). IsBeside files report shown) (append-nil (certificate_files name (Some whole))) beside;
-  ends = refl;
-}

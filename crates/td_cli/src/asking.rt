@@ -11,7 +11,7 @@ use td_search::Strategy;
 
 /// What a search is asked, and by which strategy it goes: the words say which pairs of vectors are admitted and when inputs change, and
 /// each may be left out.
-#[derive(Clone, Copy, Debug)]
+#[derive(Clone, Copy)]
 pub struct QuestionWords<'a> {
     pub first: Option<&'a str>,
     pub second: Option<&'a str>,

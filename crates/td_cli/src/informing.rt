@@ -22,12 +22,12 @@ use td_report::status::Status;
 pub fn run_info<F: Files, O: Sink, E: Sink>(
     alloc: Global,
     files: &mut F,
-    request: InfoRequest<'_>,
+    request: &InfoRequest<'_>,
     out: &mut O,
     err: &mut E,
 ) -> Status
-    requires { IsInRange (delays request.rise request.fall) }
-    ensures { Takes (F.did files.old files.new) (λ steps. RequestRuns (disk_of (F.holds files.old) (F.fails files.old) (F.breaks files.old) (F.is_one files.old)) (Asked.Info request.entry) steps result
+    requires { IsInRange (delays request.now.rise request.now.fall) }
+    ensures { Takes (F.did files.old files.new) (λ steps. RequestRuns (disk_of (F.holds files.old) (F.fails files.old) (F.breaks files.old) (F.is_one files.old)) (Asked.Info request.now) steps result
         (streams (O.output out.old) (E.output err.old)) (streams (O.output out.new) (E.output err.new))) }
 {
     let Some(default) = Delay::new(request.rise, request.fall) else {

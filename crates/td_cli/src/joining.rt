@@ -21,8 +21,8 @@ ghost use Rattle.td_report.specs.declared.refusal.Refusal.TheVariants as Reason;
 ghost use Rattle.td_command.specs.declared.command.Request.TheVariants as Asked;
 
 use crate::gathering::parts_in;
-use crate::searching::{exact, pair_of};
-use crate::telling::{beside_files, keep_certificate, tell, tell_refusal, tell_unread};
+use crate::searching::exact_answer;
+use crate::telling::{hand_over, tell_refusal, tell_unread};
 use std::alloc::{AllocError, Global};
 use td_certificate::Certificate;
 use td_circuit::Circuit;
@@ -129,10 +129,8 @@ fn report_of(alloc: Global, circuit: &Circuit, whole: &Certificate) -> Result<Te
     ensures { IfOk result (λ text. text ≡ worst_text circuit.now.netlist (Answered.Exact whole.now.time whole.now.pair whole.now.tree)) }
 {
     let mut text = Text::new(alloc);
-    report::unit(&mut text, circuit.unit())?;
-    report::defaulted(&mut text, circuit.defaulted())?;
-    exact(&mut text, whole.time)?;
-    pair_of(&mut text, &whole.pair, whole.tree.nodes().len() as u64)?;
+    report::head(&mut text, circuit)?;
+    exact_answer(&mut text, whole.time, &whole.pair, &whole.tree)?;
     Ok(text)
 }
 
@@ -222,19 +220,24 @@ pub fn carry_out_join<F: Files, O: Sink, E: Sink>(
         (map (λ part. part.now) names.now) is_checked (words_of first.entry) (words_of second.entry)) (F.breaks files.old) steps result
         (streams (O.output out.old) (E.output err.old)) (streams (O.output out.new) (E.output err.new))) }
 {
-    let Joined { report, whole } = match join_files(
+    match join_files(
         alloc, files, text, default, names, is_checked, first, second,
     ) {
-        Ok(joined) => joined,
-        Err(refusal) => return tell_refusal(alloc, err, &refusal),
-    };
-    let certificate = Some(whole);
-    let shown = beside_files(&report, name, &certificate, &None);
-    let Ok(()) = out.write_all(shown) else {
-        return tell(err, b"tdelay: cannot write stdout\n", Status::Device);
-    };
-    let Ok(()) = keep_certificate(alloc, files, name, &certificate, err) else {
-        return Status::Device;
-    };
-    Status::Done
+        Ok(joined) => {
+            let Joined { report, whole } = joined;
+            let certificate = Some(whole);
+            hand_over(
+                alloc,
+                files,
+                &report,
+                name,
+                &certificate,
+                &None,
+                Status::Done,
+                out,
+                err,
+            )
+        }
+        Err(refusal) => tell_refusal(alloc, err, &refusal),
+    }
 }

@@ -19,8 +19,8 @@ pub fn overwriting<'a, F: Files>(files: &mut F, request: &Request<'a>) -> Option
     ensures stays { files.new ≡ files.old }
 {
     match request {
-        Request::Sim(request) => over_netlist(files, *request),
-        Request::Worst(request) => over_another(files, *request),
+        Request::Sim(request) => over_netlist(files, request),
+        Request::Worst(request) => over_another(files, request),
         Request::Join(request) => over_part(files, request),
         Request::Path(_) => None,
         Request::Bound(_) => None,
@@ -31,18 +31,18 @@ pub fn overwriting<'a, F: Files>(files: &mut F, request: &Request<'a>) -> Option
 }
 
 /// The waves of `sim` in place of its netlist.
-fn over_netlist<'a, F: Files>(files: &mut F, request: SimRequest<'a>) -> Option<Refusal<'a>>
-    ensures some { IfSome result (λ reason. Overwrites (disk_of (F.holds files.old) (F.fails files.old) (F.breaks files.old) (F.is_one files.old)) (Asked.Sim request.entry) reason) }
-    ensures none { IfNone result (KeepsFiles (disk_of (F.holds files.old) (F.fails files.old) (F.breaks files.old) (F.is_one files.old)) (Asked.Sim request.entry)) }
+fn over_netlist<'a, F: Files>(files: &mut F, request: &SimRequest<'a>) -> Option<Refusal<'a>>
+    ensures some { IfSome result (λ reason. Overwrites (disk_of (F.holds files.old) (F.fails files.old) (F.breaks files.old) (F.is_one files.old)) (Asked.Sim request.now) reason) }
+    ensures none { IfNone result (KeepsFiles (disk_of (F.holds files.old) (F.fails files.old) (F.breaks files.old) (F.is_one files.old)) (Asked.Sim request.now)) }
     ensures stays { files.new ≡ files.old }
 {
     over(files, request.vcd, Some(read_as(request.file)))
 }
 
 /// The certificate or the waves of `worst` in place of its netlist, or the waves in place of the certificate.
-fn over_another<'a, F: Files>(files: &mut F, request: WorstRequest<'a>) -> Option<Refusal<'a>>
-    ensures some { IfSome result (λ reason. Overwrites (disk_of (F.holds files.old) (F.fails files.old) (F.breaks files.old) (F.is_one files.old)) (Asked.Worst request.entry) reason) }
-    ensures none { IfNone result (KeepsFiles (disk_of (F.holds files.old) (F.fails files.old) (F.breaks files.old) (F.is_one files.old)) (Asked.Worst request.entry)) }
+fn over_another<'a, F: Files>(files: &mut F, request: &WorstRequest<'a>) -> Option<Refusal<'a>>
+    ensures some { IfSome result (λ reason. Overwrites (disk_of (F.holds files.old) (F.fails files.old) (F.breaks files.old) (F.is_one files.old)) (Asked.Worst request.now) reason) }
+    ensures none { IfNone result (KeepsFiles (disk_of (F.holds files.old) (F.fails files.old) (F.breaks files.old) (F.is_one files.old)) (Asked.Worst request.now)) }
     ensures stays { files.new ≡ files.old }
 {
     let read = read_as(request.file);

@@ -117,10 +117,7 @@ fn push_option(text: &mut Text, name: &[u8], word: Option<&str>) -> Result<(), A
 {
     match word {
         None => Ok(()),
-        Some(word) => {
-            text.push(name)?;
-            text.word(word)
-        }
+        Some(word) => text.word_behind(name, word),
     }
 }
 
@@ -130,10 +127,7 @@ fn push_flips(text: &mut Text, flips: Option<u64>) -> Result<(), AllocError>
 {
     match flips {
         None => Ok(()),
-        Some(flips) => {
-            text.push(b" --flips ")?;
-            text.number(flips)
-        }
+        Some(flips) => text.number_behind(b" --flips ", flips),
     }
 }
 
@@ -144,21 +138,20 @@ fn push_default(text: &mut Text, name: &[u8], steps: u32) -> Result<(), AllocErr
     if steps == 1 {
         return Ok(());
     }
-    text.push(name)?;
-    text.number(u64::from(steps))
+    text.number_behind(name, u64::from(steps))
 }
 
 /// The command `parts`.
 pub fn run_parts<F: Files, O: Sink, E: Sink>(
     alloc: Global,
     files: &mut F,
-    request: PartsRequest<'_>,
+    request: &PartsRequest<'_>,
     out: &mut O,
     err: &mut E,
 ) -> Status
-    requires range { IsInRange (delays request.rise request.fall) }
-    requires some { 0 < request.parts }
-    ensures { Takes (F.did files.old files.new) (λ steps. RequestRuns (disk_of (F.holds files.old) (F.fails files.old) (F.breaks files.old) (F.is_one files.old)) (Asked.Parts request.entry) steps result
+    requires range { IsInRange (delays request.now.rise request.now.fall) }
+    requires some { 0 < request.now.parts }
+    ensures { Takes (F.did files.old files.new) (λ steps. RequestRuns (disk_of (F.holds files.old) (F.fails files.old) (F.breaks files.old) (F.is_one files.old)) (Asked.Parts request.now) steps result
         (streams (O.output out.old) (E.output err.old)) (streams (O.output out.new) (E.output err.new))) }
 {
     let Some(default) = Delay::new(request.rise, request.fall) else {
@@ -179,8 +172,8 @@ pub fn run_parts<F: Files, O: Sink, E: Sink>(
 }
 
 /// The words of a request that say what is asked, and by which strategy its searches go.
-fn words_in(request: PartsRequest<'_>) -> QuestionWords<'_>
-    ensures { result ≡ parts_words request.entry }
+fn words_in<'a>(request: &PartsRequest<'a>) -> QuestionWords<'a>
+    ensures { result ≡ parts_words request.now }
 {
     QuestionWords {
         first: request.first,

@@ -19,10 +19,7 @@ use crate::joining::run_join;
 use crate::overwriting::overwriting;
 use crate::parting::run_parts;
 use crate::progress::searched;
-use crate::telling::{
-    beside_dump, beside_files, keep_certificate, keep_dump, say, tell, tell_error, tell_refusal,
-    tell_unread,
-};
+use crate::telling::{hand_over, say, tell, tell_error, tell_refusal, tell_unread};
 use std::alloc::Global;
 use std::convert::AsStr;
 use std::sync::Wait;
@@ -176,7 +173,7 @@ fn run_request<R: Threads + Wait + Sync, F: Files, O: Sink, E: Sink>(
         (streams (O.output out.old) (E.output err.old)) (streams (O.output out.new) (E.output err.new))) }
 {
     match request {
-        Request::Worst(request) => run_worst(rt, alloc, files, *request, out, err),
+        Request::Worst(request) => run_worst(rt, alloc, files, request, out, err),
         _ => run_plain_request(alloc, files, request, out, err),
     }
 }
@@ -195,13 +192,13 @@ fn run_plain_request<F: Files, O: Sink, E: Sink>(
         (streams (O.output out.old) (E.output err.old)) (streams (O.output out.new) (E.output err.new))) }
 {
     match request {
-        Request::Sim(request) => run_sim(alloc, files, *request, out, err),
-        Request::Path(request) => run_path(alloc, files, *request, out, err),
-        Request::Bound(request) => run_bound(alloc, files, *request, out, err),
-        Request::Check(request) => run_check(alloc, files, *request, out, err),
-        Request::Parts(request) => run_parts(alloc, files, *request, out, err),
+        Request::Sim(request) => run_sim(alloc, files, request, out, err),
+        Request::Path(request) => run_path(alloc, files, request, out, err),
+        Request::Bound(request) => run_bound(alloc, files, request, out, err),
+        Request::Check(request) => run_check(alloc, files, request, out, err),
+        Request::Parts(request) => run_parts(alloc, files, request, out, err),
         Request::Join(request) => run_join(alloc, files, request, out, err),
-        Request::Info(request) => run_info(alloc, files, *request, out, err),
+        Request::Info(request) => run_info(alloc, files, request, out, err),
         Request::Worst(_) => unreachable!(),
     }
 }
@@ -210,12 +207,12 @@ fn run_plain_request<F: Files, O: Sink, E: Sink>(
 fn run_sim<F: Files, O: Sink, E: Sink>(
     alloc: Global,
     files: &mut F,
-    request: SimRequest<'_>,
+    request: &SimRequest<'_>,
     out: &mut O,
     err: &mut E,
 ) -> Status
-    requires { IsInRange (delays request.rise request.fall) }
-    ensures { Takes (F.did files.old files.new) (λ steps. RequestRuns (disk_of (F.holds files.old) (F.fails files.old) (F.breaks files.old) (F.is_one files.old)) (Asked.Sim request.entry) steps result
+    requires { IsInRange (delays request.now.rise request.now.fall) }
+    ensures { Takes (F.did files.old files.new) (λ steps. RequestRuns (disk_of (F.holds files.old) (F.fails files.old) (F.breaks files.old) (F.is_one files.old)) (Asked.Sim request.now) steps result
         (streams (O.output out.old) (E.output err.old)) (streams (O.output out.new) (E.output err.new))) }
 {
     let Some(default) = Delay::new(request.rise, request.fall) else {
@@ -242,12 +239,12 @@ fn run_sim<F: Files, O: Sink, E: Sink>(
 fn run_path<F: Files, O: Sink, E: Sink>(
     alloc: Global,
     files: &mut F,
-    request: PathRequest<'_>,
+    request: &PathRequest<'_>,
     out: &mut O,
     err: &mut E,
 ) -> Status
-    requires { IsInRange (delays request.rise request.fall) }
-    ensures { Takes (F.did files.old files.new) (λ steps. RequestRuns (disk_of (F.holds files.old) (F.fails files.old) (F.breaks files.old) (F.is_one files.old)) (Asked.Path request.entry) steps result
+    requires { IsInRange (delays request.now.rise request.now.fall) }
+    ensures { Takes (F.did files.old files.new) (λ steps. RequestRuns (disk_of (F.holds files.old) (F.fails files.old) (F.breaks files.old) (F.is_one files.old)) (Asked.Path request.now) steps result
         (streams (O.output out.old) (E.output err.old)) (streams (O.output out.new) (E.output err.new))) }
 {
     let Some(default) = Delay::new(request.rise, request.fall) else {
@@ -273,12 +270,12 @@ fn run_path<F: Files, O: Sink, E: Sink>(
 fn run_bound<F: Files, O: Sink, E: Sink>(
     alloc: Global,
     files: &mut F,
-    request: BoundRequest<'_>,
+    request: &BoundRequest<'_>,
     out: &mut O,
     err: &mut E,
 ) -> Status
-    requires { IsInRange (delays request.rise request.fall) }
-    ensures { Takes (F.did files.old files.new) (λ steps. RequestRuns (disk_of (F.holds files.old) (F.fails files.old) (F.breaks files.old) (F.is_one files.old)) (Asked.Bound request.entry) steps result
+    requires { IsInRange (delays request.now.rise request.now.fall) }
+    ensures { Takes (F.did files.old files.new) (λ steps. RequestRuns (disk_of (F.holds files.old) (F.fails files.old) (F.breaks files.old) (F.is_one files.old)) (Asked.Bound request.now) steps result
         (streams (O.output out.old) (E.output err.old)) (streams (O.output out.new) (E.output err.new))) }
 {
     let Some(default) = Delay::new(request.rise, request.fall) else {
@@ -305,15 +302,15 @@ fn run_worst<R: Threads + Wait + Sync, F: Files, O: Sink, E: Sink>(
     rt: &R,
     alloc: Global,
     files: &mut F,
-    request: WorstRequest<'_>,
+    request: &WorstRequest<'_>,
     out: &mut O,
     err: &mut E,
 ) -> Status
-    requires range { IsInRange (delays request.rise request.fall) }
-    requires budget { request.budget ≤ 10000000 }
-    requires some { 0 < request.workers }
-    requires few { request.workers ≤ 64 }
-    ensures { Takes (F.did files.old files.new) (λ steps. RequestRuns (disk_of (F.holds files.old) (F.fails files.old) (F.breaks files.old) (F.is_one files.old)) (Asked.Worst request.entry) steps result
+    requires range { IsInRange (delays request.now.rise request.now.fall) }
+    requires budget { request.now.budget ≤ 10000000 }
+    requires some { 0 < request.now.workers }
+    requires few { request.now.workers ≤ 64 }
+    ensures { Takes (F.did files.old files.new) (λ steps. RequestRuns (disk_of (F.holds files.old) (F.fails files.old) (F.breaks files.old) (F.is_one files.old)) (Asked.Worst request.now) steps result
         (streams (O.output out.old) (E.output err.old)) (streams (O.output out.new) (E.output err.new))) }
 {
     let Some(default) = Delay::new(request.rise, request.fall) else {
@@ -344,8 +341,8 @@ fn run_worst<R: Threads + Wait + Sync, F: Files, O: Sink, E: Sink>(
 }
 
 /// The words of a request that say what its search is about, and by which strategy it goes.
-fn words_in(request: WorstRequest<'_>) -> QuestionWords<'_>
-    ensures { result ≡ words_in request.entry }
+fn words_in<'a>(request: &WorstRequest<'a>) -> QuestionWords<'a>
+    ensures { result ≡ words_in request.now }
 {
     QuestionWords {
         first: request.first,
@@ -371,12 +368,12 @@ pub fn strategy_of(word: StrategyWord) -> Strategy
 fn run_check<F: Files, O: Sink, E: Sink>(
     alloc: Global,
     files: &mut F,
-    request: CheckRequest<'_>,
+    request: &CheckRequest<'_>,
     out: &mut O,
     err: &mut E,
 ) -> Status
-    requires { IsInRange (delays request.rise request.fall) }
-    ensures { Takes (F.did files.old files.new) (λ steps. RequestRuns (disk_of (F.holds files.old) (F.fails files.old) (F.breaks files.old) (F.is_one files.old)) (Asked.Check request.entry) steps result
+    requires { IsInRange (delays request.now.rise request.now.fall) }
+    ensures { Takes (F.did files.old files.new) (λ steps. RequestRuns (disk_of (F.holds files.old) (F.fails files.old) (F.breaks files.old) (F.is_one files.old)) (Asked.Check request.now) steps result
         (streams (O.output out.old) (E.output err.old)) (streams (O.output out.new) (E.output err.new))) }
 {
     let Some(default) = Delay::new(request.rise, request.fall) else {
@@ -427,18 +424,20 @@ pub fn carry_out_sim<F: Files, O: Sink, E: Sink>(
         Ends (IsSimProduct text.now default from.now to.now (words_of at.entry) (words_of vcd.entry)) (HasNoReport text.now default from.now to.now (words_of at.entry)) (F.breaks files.old) steps result
         (streams (O.output out.old) (E.output err.old)) (streams (O.output out.new) (E.output err.new))) }
 {
-    let simulated = match sim(alloc, text, default, from, to, at, vcd) {
-        Ok(simulated) => simulated,
-        Err(refusal) => return tell_refusal(alloc, err, &refusal),
-    };
-    let shown = beside_dump(&simulated.report, &simulated.dump);
-    let Ok(()) = out.write_all(shown) else {
-        return tell(err, b"tdelay: cannot write stdout\n", Status::Device);
-    };
-    let Ok(()) = keep_dump(alloc, files, &simulated.dump, err) else {
-        return Status::Device;
-    };
-    Status::Done
+    match sim(alloc, text, default, from, to, at, vcd) {
+        Ok(simulated) => hand_over(
+            alloc,
+            files,
+            &simulated.report,
+            None,
+            &None,
+            &simulated.dump,
+            Status::Done,
+            out,
+            err,
+        ),
+        Err(refusal) => tell_refusal(alloc, err, &refusal),
+    }
 }
 
 /// Carries out `path` on bytes that were read: the report goes to `out`, why there is none to `err`.
@@ -529,24 +528,22 @@ pub fn carry_out_worst<R: Threads + Wait + Sync, F: Files, O: Sink, E: Sink>(
         EndsBehind (TellsSearch progress text.now default words.entry) (IsWorstProduct text.now default words.entry budget path (words_of name.entry) (words_of vcd.entry)) (HasNoAnswer text.now default words.entry) (F.breaks files.old) steps result
         (streams (O.output out.old) (E.output err.old)) (streams (O.output out.new) (E.output err.new))) }
 {
-    let answer = searched(
+    match searched(
         rt, alloc, text, default, words, workers, budget, path, vcd, progress, err,
-    );
-    let found = match answer {
-        Ok(found) => found,
-        Err(refusal) => return tell_refusal(alloc, err, &refusal),
-    };
-    let shown = beside_files(&found.report, name, &found.certificate, &found.dump);
-    let Ok(()) = out.write_all(shown) else {
-        return tell(err, b"tdelay: cannot write stdout\n", Status::Device);
-    };
-    let Ok(()) = keep_certificate(alloc, files, name, &found.certificate, err) else {
-        return Status::Device;
-    };
-    let Ok(()) = keep_dump(alloc, files, &found.dump, err) else {
-        return Status::Device;
-    };
-    ending(&found.certificate)
+    ) {
+        Ok(found) => hand_over(
+            alloc,
+            files,
+            &found.report,
+            name,
+            &found.certificate,
+            &found.dump,
+            ending(&found.certificate),
+            out,
+            err,
+        ),
+        Err(refusal) => tell_refusal(alloc, err, &refusal),
+    }
 }
 
 /// How a search ends with a certificate, or without one.

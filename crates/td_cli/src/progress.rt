@@ -1,6 +1,6 @@
 //! Lines on standard error that tell how far a search has come.
 
-ghost use Rattle.std.specs.Prelude.{◌≡◌, ◌<◌, ◌≤◌, true, IfOk, IfErr, IfSome};
+ghost use Rattle.std.specs.Prelude.{◌≡◌, ◌<◌, ◌≤◌, ◌++◌, true, IfOk, IfErr, IfSome, OnOk};
 ghost use Rattle.td_certificate.specs.Spelling.{HasSpelling};
 ghost use Rattle.td_report.specs.Dumps.{dump_files, HasRun};
 ghost use Rattle.td_report.specs.Vectors.{words_of};
@@ -35,16 +35,18 @@ fn line_of(alloc: Global, progress: Progress) -> Result<Text, AllocError>
     ensures { IfOk result (λ text. text ≡ progress_line progress) }
 {
     let mut text = Text::new(alloc);
-    text.push(b"nodes ")?;
-    text.number(progress.nodes)?;
-    text.push(b" low ")?;
-    text.number(progress.low)?;
-    text.push(b" high ")?;
-    text.number(progress.high)?;
-    text.push(b" open ")?;
-    text.number(progress.open)?;
-    text.push(b"\n")?;
+    push_progress(&mut text, progress)?;
     Ok(text)
+}
+
+/// Appends the line that tells this.
+fn push_progress(text: &mut Text, progress: Progress) -> Result<(), AllocError>
+    ensures { OnOk result (text.new ≡ text.old ++ progress_line progress) }
+{
+    text.number_behind(b"nodes ", progress.nodes)?;
+    text.number_behind(b" low ", progress.low)?;
+    text.number_behind(b" high ", progress.high)?;
+    text.number_between(b" open ", progress.open, b"\n")
 }
 
 impl<'e, E: Sink> Watch for ProgressLines<'e, E> {

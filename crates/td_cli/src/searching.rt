@@ -1,21 +1,25 @@
 //! The command `worst`: the search for the worst delay.
 
-ghost use Rattle.std.specs.Prelude.{◌≡◌, ◌<◌, ◌≤◌, ◌⊎◌, ◌++◌, length, IfOk, IfErr, IfSome, OnOk};
+ghost use Rattle.std.specs.Prelude.{◌≡◌, ◌<◌, ◌≤◌, ◌^◌, ◌⊎◌, ◌++◌, ℕ, List, length, IfOk, IfErr, IfSome, OnOk};
 ghost use Rattle.td_search.specs.Problems.{Problem, problem_by};
 ghost use Rattle.td_certificate.specs.Spelling.{HasSpelling};
 ghost use Rattle.td_certificate.specs.Text.{bits};
+ghost use Rattle.td_circuit.specs.Numbering.{setting};
 ghost use Rattle.td_report.specs.Dumps.{dump_files, HasRun};
+ghost use Rattle.td_report.specs.Chains.{AddsChain};
+ghost use Rattle.td_report.specs.PairReports.{IsDumpOf};
 ghost use Rattle.td_report.specs.Vectors.{words_of};
 ghost use Rattle.td_cli.specs.WorstReports.{exact_line, between_line, cause_line, pair_lines};
 ghost use Rattle.td_cli.specs.WorstReports.{answer_lines, worst_text, certificate_in, pair_in, IsAsked, IsWorstReport};
 ghost use Rattle.td_cli.specs.Outcomes.{unanswered, question_words, HasNoAnswer};
-ghost use Rattle.td_report.specs.Outcomes.{IsRefusedFor};
+ghost use Rattle.td_report.specs.Outcomes.{IsCircuitOf, HasBadWord, IsRefusedFor};
+ghost use Rattle.td_gates.specs.declared.timing.Delay.{Delay as Default};
 
 use crate::asking::{QuestionWords, admit};
 use std::alloc::{AllocError, Global};
 use std::sync::Wait;
 use std::thread::Threads;
-use td_certificate::{Certificate, Question};
+use td_certificate::{Certificate, Question, Tree};
 use td_circuit::Circuit;
 use td_domain::{Admit, Pair};
 use td_gates::Delay;
@@ -57,16 +61,35 @@ pub fn question_of<'a>(
     ensures refusal { IfErr result (IsRefusedFor text.now default (question_words words.entry)) }
 {
     let mut circuit = circuit(alloc, text, default)?;
-    let inputs = circuit.input_count();
-    let admit = match admit(alloc, words, inputs)? {
+    let admit = match admit_in(alloc, &mut circuit, words)? {
         Ok(admit) => admit,
         Err(word) => return Err(Refusal::BadVector(word)),
     };
+    Ok(Asked { circuit, admit })
+}
+
+/// Gives a circuit the moments of the words, and tells which pairs of its inputs they admit; or the first word that gives nothing for its inputs.
+fn admit_in(
+    alloc: Global,
+    circuit: &mut Circuit,
+    words: QuestionWords<'_>,
+) -> Result<Result<Admit, VectorWord>, AllocError>
+    requires { length circuit.old.netlist.inputs < 2 ^ 32 }
+    ensures asked { IfOk result (λ told. IfOk told (λ admit. (text : List ℕ) (default : Default) → IsCircuitOf text default circuit.old
+        → IsAsked text default words.entry (problem_by words.entry.strategy circuit.new admit))) }
+    ensures bad { IfOk result (λ told. IfErr told (λ word. (text : List ℕ) (default : Default) → IsCircuitOf text default circuit.old
+        → HasBadWord text default (question_words words.entry) word)) }
+{
+    let inputs = circuit.input_count();
+    let admit = match admit(alloc, words, inputs)? {
+        Ok(admit) => admit,
+        Err(word) => return Ok(Err(word)),
+    };
     let Some(moments) = moments(alloc, words.at, inputs)? else {
-        return Err(Refusal::BadVector(VectorWord::At));
+        return Ok(Err(VectorWord::At));
     };
     circuit.set_moments(moments);
-    Ok(Asked { circuit, admit })
+    Ok(Ok(admit))
 }
 
 /// The report of the search for the worst delay of what the words ask, by so many workers, from 1 to 64, which handles at most so
@@ -115,16 +138,63 @@ pub fn worst<'a, 'v, W: Watch, R: Threads + Wait + Sync>(
         Ok(answer) => answer,
         Err(fault) => return Err(unanswered(fault)),
     };
-    let report = report_of(alloc, &circuit, &answer)?;
+    let found = found_of(
+        alloc,
+        circuit,
+        admit,
+        moments,
+        words.strategy,
+        answer,
+        path,
+        vcd,
+    )?;
+    Ok(found)
+}
+
+/// What there is to show and to keep of an answer about a circuit with these moments.
+fn found_of<'v>(
+    alloc: Global,
+    circuit: Circuit,
+    admit: Admit,
+    moments: Vec<u64>,
+    strategy: Strategy,
+    answer: Answer,
+    path: bool,
+    vcd: Option<&'v str>,
+) -> Result<Found<'v>, AllocError>
+    requires flips { admit.flips ≤ length admit.held }
+    requires moments { moments.items ≡ circuit.moments }
+    requires first_fits { length (pair_in answer).first ≡ length circuit.netlist.inputs }
+    requires second_fits { length (pair_in answer).second ≡ length circuit.netlist.inputs }
+    ensures report { IfOk result (λ found. AddsChain path (setting circuit) (pair_in answer) (worst_text circuit.netlist answer) found.report) }
+    ensures certified { IfOk result (λ found. found.certificate ≡ certificate_in (problem_by strategy circuit admit) answer) }
+    ensures dumped { IfOk result (λ found. IsDumpOf (setting circuit) (pair_in answer) (words_of vcd.entry) (dump_files found.dump)) }
+    ensures has { IfOk result (λ found. IfSome found.dump HasRun) }
+{
+    let report = explained(alloc, &circuit, &answer, path)?;
     let pair = pair_in(&answer).copy(alloc)?;
-    let explained = with_chain(alloc, &circuit, &pair, path, report)?;
-    let certificate = certificate(&circuit, admit, moments, words.strategy, answer);
+    let certificate = certificate(&circuit, admit, moments, strategy, answer);
     let dump = pair_dump(alloc, vcd, circuit, &pair)?;
     Ok(Found {
-        report: explained,
+        report,
         certificate,
         dump,
     })
+}
+
+/// The report of an answer, and behind it the changes that lead to the last change of its pair's run, where they are asked for.
+fn explained(
+    alloc: Global,
+    circuit: &Circuit,
+    answer: &Answer,
+    path: bool,
+) -> Result<Text, AllocError>
+    requires first_fits { length (pair_in answer.now).first ≡ length circuit.now.netlist.inputs }
+    requires second_fits { length (pair_in answer.now).second ≡ length circuit.now.netlist.inputs }
+    ensures { IfOk result (AddsChain path (setting circuit.now) (pair_in answer.now) (worst_text circuit.now.netlist answer.now)) }
+{
+    let report = report_of(alloc, circuit, answer)?;
+    with_chain(alloc, circuit, pair_in(answer), path, report)
 }
 
 /// The pair of an answer.
@@ -173,8 +243,7 @@ fn report_of(alloc: Global, circuit: &Circuit, answer: &Answer) -> Result<Text, 
     ensures { IfOk result (λ text. text ≡ worst_text circuit.now.netlist answer.now) }
 {
     let mut text = Text::new(alloc);
-    report::unit(&mut text, circuit.unit())?;
-    report::defaulted(&mut text, circuit.defaulted())?;
+    report::head(&mut text, circuit)?;
     answer_of(&mut text, answer)?;
     Ok(text)
 }
@@ -183,40 +252,46 @@ fn answer_of(text: &mut Text, answer: &Answer) -> Result<(), AllocError>
     ensures { OnOk result (text.new ≡ text.old ++ answer_lines answer.now) }
 {
     match answer {
-        Answer::Exact { time, pair, tree } => {
-            exact(text, *time)?;
-            pair_of(text, pair, tree.nodes().len() as u64)
-        }
+        Answer::Exact { time, pair, tree } => exact_answer(text, *time, pair, tree),
         Answer::Between {
             low,
             high,
             pair,
             nodes,
             cause,
-        } => {
-            between(text, *low, *high)?;
-            cause_of(text, *cause)?;
-            pair_of(text, pair, *nodes)
-        }
+        } => between_answer(text, *low, *high, *cause, pair, *nodes),
     }
 }
 
-pub fn exact(text: &mut Text, time: u64) -> Result<(), AllocError>
-    ensures { OnOk result (text.new ≡ text.old ++ exact_line time) }
+/// Appends the lines of an exact answer.
+pub fn exact_answer(text: &mut Text, time: u64, pair: &Pair, tree: &Tree) -> Result<(), AllocError>
+    ensures { OnOk result (text.new ≡ text.old ++ (exact_line time ++ pair_lines pair.now (length tree.now))) }
 {
-    text.push(b"exact ")?;
-    text.number(time)?;
-    text.push(b"\n")
+    text.number_between(b"exact ", time, b"\n")?;
+    pair_of(text, pair, tree.nodes().len() as u64)
+}
+
+/// Appends the lines of the answer of a search that was cut short.
+fn between_answer(
+    text: &mut Text,
+    low: u64,
+    high: u64,
+    cause: Cause,
+    pair: &Pair,
+    nodes: u64,
+) -> Result<(), AllocError>
+    ensures { OnOk result (text.new ≡ text.old ++ (between_line low high ++ cause_line cause ++ pair_lines pair.now nodes)) }
+{
+    between(text, low, high)?;
+    cause_of(text, cause)?;
+    pair_of(text, pair, nodes)
 }
 
 fn between(text: &mut Text, low: u64, high: u64) -> Result<(), AllocError>
     ensures { OnOk result (text.new ≡ text.old ++ between_line low high) }
 {
-    text.push(b"between ")?;
-    text.number(low)?;
-    text.push(b" ")?;
-    text.number(high)?;
-    text.push(b"\n")
+    text.number_behind(b"between ", low)?;
+    text.number_between(b" ", high, b"\n")
 }
 
 fn cause_of(text: &mut Text, cause: Cause) -> Result<(), AllocError>
@@ -231,16 +306,20 @@ fn cause_of(text: &mut Text, cause: Cause) -> Result<(), AllocError>
 }
 
 /// The lines of a pair, and of a number of nodes.
-pub fn pair_of(text: &mut Text, pair: &Pair, nodes: u64) -> Result<(), AllocError>
+fn pair_of(text: &mut Text, pair: &Pair, nodes: u64) -> Result<(), AllocError>
     ensures { OnOk result (text.new ≡ text.old ++ pair_lines pair.now nodes) }
 {
-    text.push(b"from ")?;
-    vector(text, pair.first())?;
-    text.push(b"\nto ")?;
-    vector(text, pair.second())?;
-    text.push(b"\nnodes ")?;
-    text.number(nodes)?;
-    text.push(b"\n")
+    vector_behind(text, b"from ", pair.first())?;
+    vector_behind(text, b"\nto ", pair.second())?;
+    text.number_between(b"\nnodes ", nodes, b"\n")
+}
+
+/// Appends bytes, and behind them what stands for a vector.
+fn vector_behind(text: &mut Text, front: &[u8], levels: &[bool]) -> Result<(), AllocError>
+    ensures { OnOk result (text.new ≡ text.old ++ (front.now ++ bits levels.now)) }
+{
+    text.push(front)?;
+    vector(text, levels)
 }
 
 /// A character for each bit of a vector, or `none`.

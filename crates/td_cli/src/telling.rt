@@ -4,11 +4,12 @@ ghost use Rattle.std.specs.Prelude.{◌≡◌, ◌⊎◌, ◌++◌, ℕ, List, O
 ghost use Rattle.clap.specs.Words.{kind_of};
 ghost use Rattle.clap.specs.declared.error.kind.ErrorKind.TheVariants as Kind;
 ghost use Rattle.td_certificate.specs.Spelling.{HasSpelling, spelling};
-ghost use Rattle.td_report.specs.Ends.{LosesOne, Tells, TellsReason, TellsUnread, TellsUnwritten, Says, streams};
+ghost use Rattle.td_report.specs.Ends.{Ends, LosesOne, Tells, TellsReason, TellsUnread, TellsUnwritten, Says, streams};
 ghost use Rattle.td_report.specs.Files.{IsWritten, AreWritten, IsLeft, Takes};
 ghost use Rattle.td_report.specs.Dumps.{file_of, dump_files, HasRun};
 ghost use Rattle.td_report.specs.Refusals.{unwritten_text};
 ghost use Rattle.td_report.specs.Vectors.{words_of};
+ghost use Rattle.td_cli.specs.HandingOver.{IsHandedOver};
 ghost use Rattle.td_cli.specs.Requests.{IsBeside, certificate_files, IsOutOfMemory, IsShown, TellsText};
 ghost use Rattle.td_report.specs.declared.status.Status.TheVariants as Ended;
 
@@ -24,7 +25,7 @@ use td_report::status::Status;
 use td_report::text::Text;
 
 /// What is shown beside the waves of a run: the report, unless they go to standard output.
-pub fn beside_dump<'a>(report: &'a Text, dump: &Option<Dump<'_>>) -> &'a [u8]
+fn beside_dump<'a>(report: &'a Text, dump: &Option<Dump<'_>>) -> &'a [u8]
     ensures { IsBeside (dump_files dump.now) report.now result.now }
 {
     match dump {
@@ -34,7 +35,7 @@ pub fn beside_dump<'a>(report: &'a Text, dump: &Option<Dump<'_>>) -> &'a [u8]
 }
 
 /// What is shown beside the files of a search: the report, unless one of them goes to standard output.
-pub fn beside_files<'a>(
+fn beside_files<'a>(
     report: &'a Text,
     name: Option<&str>,
     certificate: &Option<Certificate>,
@@ -51,8 +52,40 @@ pub fn beside_files<'a>(
     beside_dump(report, dump)
 }
 
+/// Shows a report, and then writes a certificate and the waves of a run to files, where there are any to be written. Where one of these fails,
+/// it is told, and what is behind it isn't begun.
+pub fn hand_over<F: Files, O: Sink, E: Sink>(
+    alloc: Global,
+    files: &mut F,
+    report: &Text,
+    name: Option<&str>,
+    certificate: &Option<Certificate>,
+    dump: &Option<Dump<'_>>,
+    ending: Status,
+    out: &mut O,
+    err: &mut E,
+) -> Status
+    requires spelled { IfSome certificate.now HasSpelling }
+    requires run { IfSome dump.now HasRun }
+    ensures { Takes (F.did files.old files.new) (λ steps.
+        Ends (IsHandedOver report.now (certificate_files (words_of name.entry) certificate.now ++ dump_files dump.now) ending) (λ _. ⊥) (F.breaks files.old) steps result
+        (streams (O.output out.old) (E.output err.old)) (streams (O.output out.new) (E.output err.new))) }
+{
+    let shown = beside_files(report, name, certificate, dump);
+    let Ok(()) = out.write_all(shown) else {
+        return tell(err, b"tdelay: cannot write stdout\n", Status::Device);
+    };
+    let Ok(()) = keep_certificate(alloc, files, name, certificate, err) else {
+        return Status::Device;
+    };
+    let Ok(()) = keep_dump(alloc, files, dump, err) else {
+        return Status::Device;
+    };
+    ending
+}
+
 /// Writes a certificate to a new file, if there is one and a name is given for it. Where that fails, it is told.
-pub fn keep_certificate<F: Files, E: Sink>(
+fn keep_certificate<F: Files, E: Sink>(
     alloc: Global,
     files: &mut F,
     name: Option<&str>,
@@ -102,7 +135,7 @@ fn write_certificate<F: Files>(
 }
 
 /// Writes the waves of a run to a new file, if there are any to be written. Where that fails, it is told.
-pub fn keep_dump<F: Files, E: Sink>(
+fn keep_dump<F: Files, E: Sink>(
     alloc: Global,
     files: &mut F,
     dump: &Option<Dump<'_>>,
@@ -180,9 +213,7 @@ fn tell_unwritten<E: Sink>(alloc: Global, err: &mut E, file: &str, fault: WriteF
 fn unwritten_line(text: &mut Text, file: &str) -> Result<(), AllocError>
     ensures { OnOk result (text.new ≡ text.old ++ unwritten_text file.now) }
 {
-    text.push(b"tdelay: cannot write ")?;
-    text.word(file)?;
-    text.push(b"\n")
+    text.word_between(b"tdelay: cannot write ", file, b"\n")
 }
 
 /// Tells a line on standard error, where a failure is ignored.

@@ -83,23 +83,8 @@ three_pushed old front name line_end first second new is_first is_second is_new 
 pub two_pushed : (old front name first new : List ℕ) → first ≡ old ++ front → new ≡ first ++ name → new ≡ old ++ (front ++ name)
 two_pushed old front name first new is_first is_new = rw (is_new, is_first, append_assoc old front name) refl
 
--- a text to which four were appended in turn
-pub four_pushed : (old front name middle other first second third new : List ℕ) → first ≡ old ++ front → second ≡ first ++ name
-    → third ≡ second ++ middle → new ≡ third ++ other → new ≡ old ++ (front ++ ((name ++ middle) ++ other))
-four_pushed old front name middle other first second third new is_first is_second is_third is_new =
-    rw (
-      is_new,
-      is_third,
-      is_second,
-      is_first,
-      append_assoc ((old ++ front) ++ name) middle other,
-      append_assoc (old ++ front) name (middle ++ other),
-      append_assoc old front (name ++ (middle ++ other)),
-      append_assoc name middle other,
-    ) refl
-
--- a text to which six were appended in turn
-pub six_pushed : (old a b c d e f first second third fourth fifth new : List ℕ) → first ≡ old ++ a → second ≡ first ++ b → third ≡ second ++ c
-    → fourth ≡ third ++ d → fifth ≡ fourth ++ e → new ≡ fifth ++ f → new ≡ old ++ (a ++ ((((b ++ c) ++ d) ++ e) ++ f))
-six_pushed old a b c d e f first second third fourth fifth new is_first is_second is_third is_fourth is_fifth is_new =
-    rw (is_new, is_fifth, is_fourth, is_third, is_second, is_first) (simp append_assoc)
+-- a text to which two words were appended in turn, each behind a text, with one between the second and what comes behind it
+pub two_words_pushed : (old a b c d e f first second new : List ℕ) → first ≡ old ++ (a ++ b) → second ≡ first ++ ((c ++ d) ++ e)
+    → new ≡ second ++ f → new ≡ old ++ (a ++ ((((b ++ c) ++ d) ++ e) ++ f))
+two_words_pushed old a b c d e f first second new is_first is_second is_new =
+    rw (is_new, is_second, is_first) (simp append_assoc)

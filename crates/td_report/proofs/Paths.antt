@@ -11,7 +11,6 @@ use Rattle.std.proofs.lemmas.List.{length-map, get_or_past}
 use Rattle.td_gates.specs.declared.primitives.Level.TheVariants.{Zero}
 use Rattle.td_gates.specs.Wave.{Wave}
 use Rattle.td_nets.specs.Netlist.{Name, Net, Low, Named, Netlist}
-use Rattle.td_nets.specs.declared.netlist.Unit.{Unit as Step}
 use Rattle.td_gates.specs.declared.timing.Delay.{Delay}
 use Rattle.td_report.specs.Simulations.{IsSimulation}
 use Rattle.td_nets.specs.Printed.{printed}
@@ -24,7 +23,7 @@ use Rattle.td_path.specs.Links.{Link, IsChain, LeadTo}
 use Rattle.td_path.specs.Chains.{link_of, net_at, IsLatest}
 use Rattle.td_report.specs.Paths.{AreNamed, numbered_line, named_line, change_lines, IsOutputNamed, TellsNet, TellsLatest}
 use Rattle.td_report.specs.PathReports.{change_line, cause_text, net_text, IsPathReport, NamesNoOutput, TellsChain, TellsPath}
-use Rattle.td_report.specs.Reports.{newline, last_line, unit_line, defaulted_line, head_lines}
+use Rattle.td_report.specs.Reports.{newline, last_line, head_lines}
 use Rattle.td_report.specs.Vectors.{level_character}
 use Rattle.td_report.proofs.Outputs.{output_at, no_low}
 
@@ -192,12 +191,6 @@ tells_latest circuit run links old new is added = (
 )
 
 -- ---- the report
-
-pub head_of : (netlist : Netlist) (unit : Step) (count : ℕ) (none one two : List ℕ) → none ≡ [] → unit ≡ netlist.unit → one ≡ none ++ unit_line unit
-    → count ≡ netlist.defaulted → two ≡ one ++ defaulted_line count → two ≡ head_lines netlist
-head_of netlist unit count none one two is_none is_unit is_one is_count is_two =
-    is_two ∙ ap (λ t. t ++ defaulted_line count) (is_one ∙ ap (λ t. t ++ unit_line unit) is_none ∙ ap unit_line is_unit)
-    ∙ ap (λ n. unit_line netlist.unit ++ defaulted_line n) is_count
 
 module _ (text : List ℕ) (default : Delay) (from to : List ℕ) (at : Option (List ℕ)) (circuit : Numbered) (run : NetWaves)
     (is : IsSimulation text default from to at circuit run) where

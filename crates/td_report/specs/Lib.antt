@@ -4,7 +4,9 @@ pub mod Reports
 pub mod Simulations
 pub mod PathReports
 pub mod Paths
+pub mod RunPaths
 pub mod BoundReports
+pub mod BoundTexts
 pub mod CheckReports
 pub mod Pinning
 pub mod JoinTexts

@@ -1,11 +1,14 @@
 //! The command `bound`: the bounds of a cube of pairs.
 
-ghost use Rattle.std.specs.Prelude.{◌≡◌, ◌*◌, ◌++◌, length, Option, Some, IfOk, IfErr, OnOk};
+ghost use Rattle.std.specs.Prelude.{◌≡◌, ◌*◌, ◌++◌, ℕ, List, length, Option, Some, IfOk, IfErr, OnOk};
+ghost use Rattle.td_gates.specs.declared.timing.Delay.{Delay as Default};
 ghost use Rattle.td_circuit.specs.Numbering.{setting};
 ghost use Rattle.td_certificate.specs.declared.tree.BoundedBy.TheVariants as by;
 ghost use Rattle.td_report.specs.Vectors.{words_of};
 ghost use Rattle.td_report.specs.BoundReports.{bounds_text, edges_text, IsSoundBound, HasEdges, IsBoundReport};
-ghost use Rattle.td_report.specs.Outcomes.{HasNoBounds};
+ghost use Rattle.td_report.specs.BoundTexts.{IsBoundTextOf};
+ghost use Rattle.td_report.specs.Outcomes.{IsCircuitOf, HasNoBounds};
+ghost use Rattle.td_report.specs.declared.refusal.Refusal.TheVariants as Reason;
 
 use crate::refusal::Refusal;
 use crate::report;
@@ -40,26 +43,56 @@ pub fn bounds<'a>(
         HasNoBounds text.now default (words_of first.entry) (words_of second.entry) (words_of at.entry) refusal) }
 {
     let mut circuit = circuit(alloc, text, default)?;
+    let told = bounds_in(alloc, &mut circuit, first, second, at, edges)?;
+    match told {
+        Ok(report) => Ok(report),
+        Err(word) => Err(Refusal::BadVector(word)),
+    }
+}
+
+/// The report of the bounds of a cube of a circuit's pairs, with the moments of an option; or the first word that gives nothing for the circuit's
+/// inputs.
+fn bounds_in(
+    alloc: Global,
+    circuit: &mut Circuit,
+    first: Option<&str>,
+    second: Option<&str>,
+    at: Option<&str>,
+    edges: bool,
+) -> Result<Result<Text, VectorWord>, AllocError>
+    ensures report { IfOk result (λ told. IfOk told (λ report. (text : List ℕ) (default : Default) → IsCircuitOf text default circuit.old
+        → IsBoundReport text default (words_of first.entry) (words_of second.entry) (words_of at.entry) edges report)) }
+    ensures bad { IfOk result (λ told. IfErr told (λ word. (text : List ℕ) (default : Default) → IsCircuitOf text default circuit.old
+        → HasNoBounds text default (words_of first.entry) (words_of second.entry) (words_of at.entry) (Reason.BadVector word))) }
+{
     let inputs = circuit.input_count();
     let Some(firsts) = given(alloc, first, inputs, Trit::Free)? else {
-        return Err(Refusal::BadVector(VectorWord::First));
+        return Ok(Err(VectorWord::First));
     };
     let Some(seconds) = given(alloc, second, inputs, Trit::Free)? else {
-        return Err(Refusal::BadVector(VectorWord::Second));
+        return Ok(Err(VectorWord::Second));
     };
     let Some(moments) = moments(alloc, at, inputs)? else {
-        return Err(Refusal::BadVector(VectorWord::At));
+        return Ok(Err(VectorWord::At));
     };
     circuit.set_moments(moments);
     let cube = cube(alloc, &firsts, &seconds)?;
-    let bounds = bounds_of(alloc, &circuit, &cube)?;
-    let report = report_of(alloc, &circuit, bounds)?;
-    let report = with_edges(alloc, &circuit, &cube, edges, report)?;
-    Ok(report)
+    let report = report_on(alloc, circuit, &cube, edges)?;
+    Ok(Ok(report))
+}
+
+/// The report of the bounds of a cube.
+fn report_on(alloc: Global, circuit: &Circuit, cube: &Cube, edges: bool) -> Result<Text, AllocError>
+    requires { length cube.now ≡ 2 * length circuit.now.netlist.inputs }
+    ensures { IfOk result (IsBoundTextOf edges (setting circuit.now) cube.now) }
+{
+    let bounds = bounds_of(alloc, circuit, cube)?;
+    let report = report_of(alloc, circuit, bounds)?;
+    with_edges(alloc, circuit, cube, edges, report)
 }
 
 /// The bounds of a cube by each of the domains.
-#[derive(Clone, Copy, Debug, Drop)]
+#[derive(Drop)]
 struct CubeBounds {
     arrivals: Option<u64>,
     possibles: Option<u64>,
@@ -87,16 +120,22 @@ fn report_of(alloc: Global, circuit: &Circuit, bounds: CubeBounds) -> Result<Tex
     ensures { IfOk result (λ text. text ≡ bounds_text circuit.now.netlist bounds.arrivals bounds.possibles bounds.together) }
 {
     let mut text = Text::new(alloc);
-    report::unit(&mut text, circuit.unit())?;
-    report::defaulted(&mut text, circuit.defaulted())?;
-    report::bound(&mut text, b"a", bounds.arrivals)?;
-    report::bound(&mut text, b"t", bounds.possibles)?;
-    report::bound(&mut text, b"m", bounds.together)?;
+    push_bounds(&mut text, circuit, bounds)?;
     Ok(text)
 }
 
+/// Appends the lines of the bounds.
+fn push_bounds(text: &mut Text, circuit: &Circuit, bounds: CubeBounds) -> Result<(), AllocError>
+    ensures { OnOk result (text.new ≡ text.old ++ bounds_text circuit.now.netlist bounds.arrivals bounds.possibles bounds.together) }
+{
+    report::head(text, circuit)?;
+    report::bound(text, b"a", bounds.arrivals)?;
+    report::bound(text, b"t", bounds.possibles)?;
+    report::bound(text, b"m", bounds.together)
+}
+
 /// The bounds of a cube by edges, alone and with possible levels.
-#[derive(Clone, Copy, Debug, Drop)]
+#[derive(Drop)]
 struct EdgeBounds {
     alone: Option<u64>,
     together: Option<u64>,

@@ -84,9 +84,7 @@ fn report_of(alloc: Global, verdict: Verdict, certificate: &Certificate) -> Resu
 fn accepted(alloc: Global, text: &mut Text, certificate: &Certificate) -> Result<(), AllocError>
     ensures { OnOk result (text.new ≡ text.old ++ accepted_text certificate.now) }
 {
-    text.push(b"accepted ")?;
-    text.number(certificate.time)?;
-    text.push(b"\n")?;
+    text.number_between(b"accepted ", certificate.time, b"\n")?;
     about(alloc, text, certificate)
 }
 
@@ -110,9 +108,7 @@ fn refuses(text: &mut Text, verdict: Verdict) -> Result<(), AllocError>
 pub fn refusing(text: &mut Text, verdict: Verdict) -> Result<(), AllocError>
     ensures { OnOk result (text.new ≡ text.old ++ refusing_text verdict) }
 {
-    text.push(b"refused ")?;
-    text.number(u64::from(verdict.number()))?;
-    text.push(b" ")?;
+    text.number_between(b"refused ", u64::from(verdict.number()), b" ")?;
     text.word(verdict.name())?;
     place(text, verdict.line())
 }
@@ -122,9 +118,6 @@ fn place(text: &mut Text, line: Option<u32>) -> Result<(), AllocError>
 {
     match line {
         None => Ok(()),
-        Some(line) => {
-            text.push(b" line ")?;
-            text.number(u64::from(line))
-        }
+        Some(line) => text.number_behind(b" line ", u64::from(line)),
     }
 }

@@ -2,8 +2,9 @@
 
 ghost use Rattle.std.specs.Prelude.{◌≡◌, ◌++◌, codes, IfOk, IfErr, OnOk};
 ghost use Rattle.td_nets.specs.Views.{name_of};
-ghost use Rattle.td_report.specs.InfoReports.{module_line, count_line, range_text, delay_line, place_line, place_lines, size_lines, TellsNetlist, IsInfoReport};
+ghost use Rattle.td_report.specs.InfoReports.{module_line, count_line, range_text, delay_line, place_line, place_lines, size_lines, info_text, TellsNetlist, IsInfoReport};
 ghost use Rattle.td_report.specs.Outcomes.{HasNoCircuit};
+ghost use Rattle.td_report.specs.Reports.{unit_line, defaulted_line};
 
 use crate::refusal::Refusal;
 use crate::report;
@@ -33,15 +34,43 @@ fn report_of(alloc: Global, circuit: &Circuit) -> Result<Text, AllocError>
     let depth = depth(alloc, circuit)?;
     let range = range_of(circuit);
     let mut text = Text::new(alloc);
-    module(alloc, &mut text, circuit)?;
-    report::unit(&mut text, circuit.unit())?;
-    sizes(&mut text, circuit)?;
-    report::defaulted(&mut text, circuit.defaulted())?;
-    count(&mut text, b"depth", u64::from(depth))?;
-    delay(&mut text, range)?;
-    inputs(&mut text, circuit)?;
-    outputs(&mut text, circuit)?;
+    push_netlist(alloc, &mut text, circuit, depth, range)?;
     Ok(text)
+}
+
+/// Appends the lines of a circuit's netlist, which has this depth and these delays.
+fn push_netlist(
+    alloc: Global,
+    text: &mut Text,
+    circuit: &Circuit,
+    depth: u32,
+    range: Option<Range>,
+) -> Result<(), AllocError>
+    ensures { OnOk result (text.new ≡ text.old ++ info_text circuit.now.netlist depth range) }
+{
+    push_head(alloc, text, circuit)?;
+    push_delays(text, depth, range)?;
+    inputs(text, circuit)?;
+    outputs(text, circuit)
+}
+
+/// Appends the lines of the module's name, the unit of a step, and how many inputs, outputs and gates there are.
+fn push_head(alloc: Global, text: &mut Text, circuit: &Circuit) -> Result<(), AllocError>
+    ensures { OnOk result (text.new ≡ text.old ++ (module_line circuit.now.netlist.name ++ unit_line circuit.now.netlist.unit
+        ++ size_lines circuit.now.netlist ++ defaulted_line circuit.now.netlist.defaulted)) }
+{
+    module(alloc, text, circuit)?;
+    report::unit(text, circuit.unit())?;
+    sizes(text, circuit)?;
+    report::defaulted(text, circuit.defaulted())
+}
+
+/// Appends the lines of the depth and of the delays.
+fn push_delays(text: &mut Text, depth: u32, range: Option<Range>) -> Result<(), AllocError>
+    ensures { OnOk result (text.new ≡ text.old ++ (count_line (codes "depth") depth ++ delay_line range)) }
+{
+    count(text, b"depth", u64::from(depth))?;
+    delay(text, range)
 }
 
 /// The line of the module's name.
@@ -52,9 +81,7 @@ fn module(alloc: Global, text: &mut Text, circuit: &Circuit) -> Result<(), Alloc
         text: Vec::from_slice(alloc, circuit.module())?,
         bit: None,
     };
-    text.push(b"module ")?;
-    text.name(&name)?;
-    text.push(b"\n")
+    text.name_between(b"module ", &name, b"\n")
 }
 
 /// A line of a key and a number.
@@ -62,9 +89,7 @@ fn count(text: &mut Text, key: &[u8], count: u64) -> Result<(), AllocError>
     ensures { OnOk result (text.new ≡ text.old ++ count_line key.now count) }
 {
     text.push(key)?;
-    text.push(b" ")?;
-    text.number(count)?;
-    text.push(b"\n")
+    text.number_between(b" ", count, b"\n")
 }
 
 /// The lines of the numbers of inputs, outputs and gates.
@@ -93,8 +118,7 @@ fn delays(text: &mut Text, range: Option<Range>) -> Result<(), AllocError>
         return text.push(b"none");
     };
     text.number(u64::from(range.least))?;
-    text.push(b" ")?;
-    text.number(u64::from(range.greatest))
+    text.number_behind(b" ", u64::from(range.greatest))
 }
 
 /// The line of the net at a place.
@@ -102,9 +126,7 @@ fn place(text: &mut Text, key: &[u8], place: usize, name: &Name) -> Result<(), A
     ensures { OnOk result (text.new ≡ text.old ++ place_line key.now place (name_of name.now)) }
 {
     text.push(key)?;
-    text.push(b" ")?;
-    text.number(place as u64)?;
-    text.push(b" ")?;
+    text.number_between(b" ", place as u64, b" ")?;
     text.name(name)?;
     text.push(b"\n")
 }

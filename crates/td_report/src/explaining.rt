@@ -1,6 +1,6 @@
 //! The command `path`: why an output changes last when it does.
 
-ghost use Rattle.std.specs.Prelude.{◌≡◌, ◌++◌, ◌<◌, [], ◌∷◌, length, IfOk, IfErr, OnOk};
+ghost use Rattle.std.specs.Prelude.{◌≡◌, ◌++◌, ◌<◌, [], ◌∷◌, codes, decimal, length, Some, None, IfOk, IfErr, IfSome, IfNone, OnOk};
 ghost use Rattle.std.specs.Str.{bytes_eq};
 ghost use Rattle.td_nets.specs.Printed.{printed};
 ghost use Rattle.td_circuit.specs.Numbering.{nets};
@@ -9,6 +9,7 @@ ghost use Rattle.td_path.specs.Chains.{IsRunFor};
 ghost use Rattle.td_report.specs.Vectors.{words_of, level_character};
 ghost use Rattle.td_report.specs.PathReports.{kind_text, cause_text, IsPathReport};
 ghost use Rattle.td_report.specs.Paths.{AreNamed, IsOutputNamed, TellsNet, TellsLatest, change_lines, numbered_line, named_line};
+ghost use Rattle.td_report.specs.RunPaths.{ReportsPath, HasNoneNamed};
 ghost use Rattle.td_report.specs.Outcomes.{HasNoPath};
 
 use crate::refusal::Refusal;
@@ -38,24 +39,60 @@ pub fn path<'a>(
     ensures refusal { IfErr result (HasNoPath text.now default from.now to.now (words_of at.entry) (words_of output.entry)) }
 {
     let simulation = simulated_run(alloc, text, default, from, to, at)?;
+    let told = path_in(alloc, &simulation.circuit, &simulation.run, output)?;
+    match told {
+        Some(report) => Ok(report),
+        None => Err(Refusal::NoOutput),
+    }
+}
+
+/// The report on a run, of the output of this name or of the one that changes last; none where no output has the name.
+fn path_in(
+    alloc: Global,
+    circuit: &Circuit,
+    run: &Run,
+    output: Option<&str>,
+) -> Result<Option<Text>, AllocError>
+    requires { IsRunFor circuit.now run.now }
+    ensures told { IfOk result (λ told. IfSome told (ReportsPath circuit.now run.now (words_of output.entry))) }
+    ensures none { IfOk result (λ told. IfNone told (HasNoneNamed circuit.now (words_of output.entry))) }
+{
+    match output {
+        None => latest_path(alloc, circuit, run),
+        Some(word) => named_path(alloc, circuit, run, word),
+    }
+}
+
+/// The report on the output of a run that changes last.
+fn latest_path(alloc: Global, circuit: &Circuit, run: &Run) -> Result<Option<Text>, AllocError>
+    requires { IsRunFor circuit.now run.now }
+    ensures told { IfOk result (λ told. IfSome told (ReportsPath circuit.now run.now None)) }
+    ensures is { IfOk result (λ told. IfNone told ⊥) }
+{
     let mut report = Text::new(alloc);
-    report::unit(&mut report, simulation.circuit.unit())?;
-    report::defaulted(&mut report, simulation.circuit.defaulted())?;
-    let Some(word) = output else {
-        latest(alloc, &mut report, &simulation.circuit, &simulation.run)?;
-        return Ok(report);
+    report::head(&mut report, circuit)?;
+    latest(alloc, &mut report, circuit, run)?;
+    Ok(Some(report))
+}
+
+/// The report on the output of a run that reports name so, if there is one.
+fn named_path(
+    alloc: Global,
+    circuit: &Circuit,
+    run: &Run,
+    word: &str,
+) -> Result<Option<Text>, AllocError>
+    requires { IsRunFor circuit.now run.now }
+    ensures told { IfOk result (λ told. IfSome told (ReportsPath circuit.now run.now (Some word.now))) }
+    ensures none { IfOk result (λ told. IfNone told (HasNoneNamed circuit.now (Some word.now))) }
+{
+    let mut report = Text::new(alloc);
+    report::head(&mut report, circuit)?;
+    let Some(net) = output_named(alloc, circuit, word)? else {
+        return Ok(None);
     };
-    let Some(net) = output_named(alloc, &simulation.circuit, word)? else {
-        return Err(Refusal::NoOutput);
-    };
-    chain(
-        alloc,
-        &mut report,
-        &simulation.circuit,
-        &simulation.run,
-        net,
-    )?;
-    Ok(report)
+    chain(alloc, &mut report, circuit, run, net)?;
+    Ok(Some(report))
 }
 
 /// The net of an output that reports name so.
@@ -140,17 +177,35 @@ fn change(text: &mut Text, circuit: &Circuit, link: Link) -> Result<(), AllocErr
 fn named_change(text: &mut Text, name: &Name, link: Link) -> Result<(), AllocError>
     ensures { OnOk result (text.new ≡ text.old ++ named_line (name_of name.now) link) }
 {
-    text.push(b"change ")?;
-    text.number(link.moment)?;
-    text.push(b" ")?;
-    text.name(name)?;
-    text.push(b" ")?;
-    level(text, link.from)?;
-    text.push(b" ")?;
-    level(text, link.to)?;
-    text.push(b" ")?;
+    changing(text, name, link.moment)?;
+    levels(text, link.from, link.to)?;
     cause(text, link.cause)?;
     text.push(b"\n")
+}
+
+/// Appends when a net of this name changes.
+fn changing(text: &mut Text, name: &Name, moment: u64) -> Result<(), AllocError>
+    ensures { OnOk result (text.new ≡ text.old ++ (codes "change " ++ decimal moment ++ codes " " ++ printed (name_of name.now))) }
+{
+    text.number_between(b"change ", moment, b" ")?;
+    text.name(name)
+}
+
+/// Appends the levels before a change and from then on, with blanks between.
+fn levels(text: &mut Text, from: Level, to: Level) -> Result<(), AllocError>
+    ensures { OnOk result (text.new ≡ text.old ++ (codes " " ++ (level_character from ∷ []) ++ codes " " ++ (level_character to ∷ []) ++ codes " ")) }
+{
+    behind_blank(text, from)?;
+    behind_blank(text, to)?;
+    text.push(b" ")
+}
+
+/// Appends a blank and the character of a level.
+fn behind_blank(text: &mut Text, behind: Level) -> Result<(), AllocError>
+    ensures { OnOk result (text.new ≡ text.old ++ (codes " " ++ (level_character behind ∷ []))) }
+{
+    text.push(b" ")?;
+    level(text, behind)
 }
 
 /// Appends the character of a level.
@@ -172,8 +227,7 @@ fn cause(text: &mut Text, cause: Option<Cause>) -> Result<(), AllocError>
         return text.push(b"input");
     };
     kind(text, cause.kind)?;
-    text.push(b" ")?;
-    text.number(cause.delay)
+    text.number_behind(b" ", cause.delay)
 }
 
 /// Appends the keyword of a kind of gates.

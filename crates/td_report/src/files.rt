@@ -6,7 +6,7 @@ use td_certificate::WriteFault;
 use td_gates::Sink;
 
 /// Why a file couldn't be read.
-#[derive(Clone, Copy, Debug, PartialEq, Eq, Drop)]
+#[derive(Clone, Copy, Drop)]
 pub enum ReadFault {
     OutOfMemory,
     Device,

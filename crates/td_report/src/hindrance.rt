@@ -84,11 +84,8 @@ pub fn tell_unjoined(
 fn tell_two(text: &mut Text, one: &str, other: &str, why: &[u8]) -> Result<(), AllocError>
     ensures { OnOk result (text.new ≡ text.old ++ two_text one.now other.now why.now) }
 {
-    text.push(b"tdelay: cannot join ")?;
-    text.word(one)?;
-    text.push(b" and ")?;
-    text.word(other)?;
-    text.push(b": ")?;
+    text.word_behind(b"tdelay: cannot join ", one)?;
+    text.word_between(b" and ", other, b": ")?;
     text.push(why)
 }
 
@@ -96,9 +93,7 @@ fn tell_two(text: &mut Text, one: &str, other: &str, why: &[u8]) -> Result<(), A
 fn tell_one(text: &mut Text, one: &str, why: &[u8]) -> Result<(), AllocError>
     ensures { OnOk result (text.new ≡ text.old ++ one_text one.now why.now) }
 {
-    text.push(b"tdelay: ")?;
-    text.word(one)?;
-    text.push(b": ")?;
+    text.word_between(b"tdelay: ", one, b": ")?;
     text.push(why)
 }
 

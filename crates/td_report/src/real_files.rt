@@ -47,6 +47,21 @@ pub struct RealFile<F> {
     place: Option<Place>,
 }
 
+impl<F: io::Write, P: io::Write> RealWriter<F, P> {
+    /// Where a file is written beside its target, if this is such a file.
+    fn place(&self) -> Option<&Place> {
+        match self {
+            RealWriter::File(
+                RealFile {
+                    place: Some(place),
+                    ..
+                },
+            ) => Some(place),
+            _ => None,
+        }
+    }
+}
+
 impl<F: io::Write, P: io::Write> Sink for RealWriter<F, P> {
     ghost use Rattle.std.specs.Prelude.{◌≡◌};
     ghost use Rattle.td_report.specs.RealWriters.{output_of};
@@ -116,6 +131,22 @@ impl<'r, R: rt::Files + Input + Print + AllocGlobal> RealFiles<'r, R> {
                 self.beside(alloc, String::from_str(alloc, name)?)
             }
         }
+    }
+
+    /// Puts a file that was written beside its target into the target's place.
+    fn put(&self, place: &Place) -> Result<(), WriteFault> {
+        match fs::rename(self.rt, place.part.as_str(), place.target.as_str()) {
+            Ok(()) => Ok(()),
+            Err(error) => {
+                self.give_up(place);
+                Err(write_fault_of(error))
+            }
+        }
+    }
+
+    /// Removes a file that was written beside its target.
+    fn give_up(&self, place: &Place) {
+        let _lost = fs::remove_file(self.rt, place.part.as_str());
     }
 
     /// Whether two names that no file has would be of one file: the same name in the same folder.
@@ -236,33 +267,15 @@ impl<'r, R: rt::Files + Input + Print + AllocGlobal> Files for RealFiles<'r, R> 
         _name: &str,
         writer: Self::Writer,
     ) -> Result<(), WriteFault> {
-        let RealWriter::File(
-            RealFile {
-                place: Some(place),
-                ..
-            },
-        ) = &writer
-        else {
-            return Ok(());
-        };
-        match fs::rename(self.rt, place.part.as_str(), place.target.as_str()) {
-            Ok(()) => Ok(()),
-            Err(error) => {
-                let _lost = fs::remove_file(self.rt, place.part.as_str());
-                Err(write_fault_of(error))
-            }
+        match writer.place() {
+            Some(place) => self.put(place),
+            None => Ok(()),
         }
     }
 
     fn discard(&mut self, writer: Self::Writer) {
-        if let RealWriter::File(
-            RealFile {
-                place: Some(place),
-                ..
-            },
-        ) = &writer
-        {
-            let _lost = fs::remove_file(self.rt, place.part.as_str());
+        if let Some(place) = writer.place() {
+            self.give_up(place);
         }
     }
 }

@@ -1,7 +1,7 @@
 //! Why a command was not carried out, and how that is told.
 
-ghost use Rattle.std.specs.Prelude.{◌≡◌, ◌++◌, OnOk};
-ghost use Rattle.td_report.specs.Refusals.{vector_word, number_and_name, fault_text, certificate_fault_text, unreadable_text, one_file_text, loop_text, certificate_text, bad_vector_text, too_long_text, bad_part_text, unaccepted_text, other_circuit_text, reason_text, refusal_text};
+ghost use Rattle.std.specs.Prelude.{◌≡◌, ◌++◌, codes, OnOk};
+ghost use Rattle.td_report.specs.Refusals.{vector_word, number_and_name, token_text, fault_text, certificate_fault_text, unreadable_text, one_file_text, loop_text, certificate_text, bad_vector_text, too_long_text, bad_part_text, unaccepted_text, other_circuit_text, reason_text, refusal_text};
 ghost use Rattle.td_nets.specs.Views.{name_of};
 ghost use Rattle.td_report.specs.Ends.{status_of};
 
@@ -17,7 +17,7 @@ use td_join::JoinFault;
 use td_netlist::{Fault, FaultKind};
 
 /// Why a command was not carried out.
-#[derive(Debug, Drop)]
+#[derive(Drop)]
 pub enum Refusal<'a> {
     OutOfMemory,
     /// The file of this name can't be read.
@@ -106,26 +106,30 @@ impl<'a> Refusal<'a> {
         ensures { OnOk result (text.new ≡ text.old ++ reason_text self.now) }
     {
         match self {
-            Refusal::OutOfMemory => text.push(b"tdelay: out of memory")?,
-            Refusal::Unreadable(name) => tell_unreadable(text, name)?,
-            Refusal::Netlist(fault) => {
-                text.push(b"tdelay: netlist fault ")?;
-                tell_fault(text, *fault)?;
-            }
-            Refusal::Loop(name) => tell_loop(text, name)?,
-            Refusal::Certificate(fault) => tell_certificate(text, *fault)?,
-            Refusal::BadVector(word) => tell_bad_vector(text, *word)?,
-            Refusal::NoOutput => text.push(b"tdelay: no output of this name")?,
-            Refusal::NoPair => text.push(b"tdelay: no admitted pair")?,
-            Refusal::OneFile(out, file) => tell_one_file(text, out, file)?,
-            Refusal::BadPart(name, fault) => tell_bad_part(text, name, *fault)?,
-            Refusal::Unaccepted(name, verdict) => tell_unaccepted(text, name, *verdict)?,
-            Refusal::OtherCircuit(name) => tell_other_circuit(text, name)?,
-            Refusal::NotJoined(fault, one, other) => tell_unjoined(text, fault, one, other)?,
-            Refusal::TooLong => tell_too_long(text)?,
+            Refusal::OutOfMemory => text.push(b"tdelay: out of memory"),
+            Refusal::Unreadable(name) => tell_unreadable(text, name),
+            Refusal::Netlist(fault) => tell_netlist(text, *fault),
+            Refusal::Loop(name) => tell_loop(text, name),
+            Refusal::Certificate(fault) => tell_certificate(text, *fault),
+            Refusal::BadVector(word) => tell_bad_vector(text, *word),
+            Refusal::NoOutput => text.push(b"tdelay: no output of this name"),
+            Refusal::NoPair => text.push(b"tdelay: no admitted pair"),
+            Refusal::OneFile(out, file) => tell_one_file(text, out, file),
+            Refusal::BadPart(name, fault) => tell_bad_part(text, name, *fault),
+            Refusal::Unaccepted(name, verdict) => tell_unaccepted(text, name, *verdict),
+            Refusal::OtherCircuit(name) => tell_other_circuit(text, name),
+            Refusal::NotJoined(fault, one, other) => tell_unjoined(text, fault, one, other),
+            Refusal::TooLong => tell_too_long(text),
         }
-        Ok(())
     }
+}
+
+/// Appends the line, but for its end, that tells a fault of a netlist's text.
+fn tell_netlist(text: &mut Text, fault: Fault<'_>) -> Result<(), AllocError>
+    ensures { OnOk result (text.new ≡ text.old ++ (codes "tdelay: netlist fault " ++ fault_text fault.entry)) }
+{
+    text.push(b"tdelay: netlist fault ")?;
+    tell_fault(text, fault)
 }
 
 /// Appends the line, but for its end, that tells a net on a loop.
@@ -163,9 +167,7 @@ fn tell_too_long(text: &mut Text) -> Result<(), AllocError>
 fn tell_bad_part(text: &mut Text, name: &str, fault: CertFault) -> Result<(), AllocError>
     ensures { OnOk result (text.new ≡ text.old ++ bad_part_text name.now fault) }
 {
-    text.push(b"tdelay: ")?;
-    text.word(name)?;
-    text.push(b": certificate fault ")?;
+    text.word_between(b"tdelay: ", name, b": certificate fault ")?;
     tell_certificate_fault(text, fault)
 }
 
@@ -173,9 +175,7 @@ fn tell_bad_part(text: &mut Text, name: &str, fault: CertFault) -> Result<(), Al
 fn tell_unaccepted(text: &mut Text, name: &str, verdict: Verdict) -> Result<(), AllocError>
     ensures { OnOk result (text.new ≡ text.old ++ unaccepted_text name.now verdict) }
 {
-    text.push(b"tdelay: ")?;
-    text.word(name)?;
-    text.push(b": ")?;
+    text.word_between(b"tdelay: ", name, b": ")?;
     refusing(text, verdict)
 }
 
@@ -183,9 +183,7 @@ fn tell_unaccepted(text: &mut Text, name: &str, verdict: Verdict) -> Result<(), 
 fn tell_other_circuit(text: &mut Text, name: &str) -> Result<(), AllocError>
     ensures { OnOk result (text.new ≡ text.old ++ other_circuit_text name.now) }
 {
-    text.push(b"tdelay: ")?;
-    text.word(name)?;
-    text.push(b": other circuit")
+    text.word_between(b"tdelay: ", name, b": other circuit")
 }
 
 impl VectorWord {
@@ -209,25 +207,21 @@ fn tell_kind(text: &mut Text, kind: FaultKind<'_>) -> Result<(), AllocError>
     ensures { OnOk result (text.new ≡ text.old ++ number_and_name kind.entry) }
 {
     text.number(u64::from(kind.number()))?;
-    text.push(b" ")?;
-    text.word(kind.name())
+    text.word_behind(b" ", kind.name())
 }
 
 /// Appends the line, but for its end, that tells a file that can't be read.
 fn tell_unreadable(text: &mut Text, name: &str) -> Result<(), AllocError>
     ensures { OnOk result (text.new ≡ text.old ++ unreadable_text name.now) }
 {
-    text.push(b"tdelay: cannot read ")?;
-    text.word(name)
+    text.word_behind(b"tdelay: cannot read ", name)
 }
 
 /// Appends the line, but for its end, that tells a file that would be written over another.
 fn tell_one_file(text: &mut Text, out: &str, file: &str) -> Result<(), AllocError>
     ensures { OnOk result (text.new ≡ text.old ++ one_file_text out.now file.now) }
 {
-    text.push(b"tdelay: ")?;
-    text.word(out)?;
-    text.push(b" is ")?;
+    text.word_between(b"tdelay: ", out, b" is ")?;
     text.word(file)
 }
 
@@ -236,16 +230,20 @@ fn tell_fault(text: &mut Text, fault: Fault<'_>) -> Result<(), AllocError>
     ensures { OnOk result (text.new ≡ text.old ++ fault_text fault.entry) }
 {
     tell_kind(text, fault.kind)?;
-    text.push(b" at line ")?;
-    text.number(u64::from(fault.line))?;
-    match fault.kind {
-        FaultKind::OutOfSubset(token) => {
-            text.push(b" (")?;
-            text.push(token)?;
-            text.push(b")")
-        }
-        _ => Ok(()),
-    }
+    text.number_behind(b" at line ", u64::from(fault.line))?;
+    tell_token(text, fault.kind)
+}
+
+/// Appends the token at which a text leaves the subset, in round brackets.
+fn tell_token(text: &mut Text, kind: FaultKind<'_>) -> Result<(), AllocError>
+    ensures { OnOk result (text.new ≡ text.old ++ token_text kind.entry) }
+{
+    let FaultKind::OutOfSubset(token) = kind else {
+        return Ok(());
+    };
+    text.push(b" (")?;
+    text.push(token)?;
+    text.push(b")")
 }
 
 /// Appends the number, name and line of a fault of a certificate's text.
@@ -253,8 +251,6 @@ fn tell_certificate_fault(text: &mut Text, fault: CertFault) -> Result<(), Alloc
     ensures { OnOk result (text.new ≡ text.old ++ certificate_fault_text fault) }
 {
     text.number(u64::from(fault.kind.number()))?;
-    text.push(b" ")?;
-    text.word(fault.kind.name())?;
-    text.push(b" at line ")?;
+    text.word_between(b" ", fault.kind.name(), b" at line ")?;
     text.number(u64::from(fault.line))
 }

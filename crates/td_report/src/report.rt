@@ -2,20 +2,19 @@
 
 ghost use Rattle.std.specs.Prelude.{◌≡◌, ◌++◌, OnOk};
 ghost use Rattle.td_nets.specs.Views.{name_of};
-ghost use Rattle.td_report.specs.Reports.{unit_line, defaulted_line, moment_text, last_line, time_line};
+ghost use Rattle.td_report.specs.Reports.{unit_line, defaulted_line, head_lines, moment_text, last_line, time_line};
 ghost use Rattle.td_report.specs.BoundReports.{bound_text, bound_line};
 
 use crate::text::Text;
 use std::alloc::AllocError;
+use td_circuit::Circuit;
 use td_nets::{Name, Unit};
 
 /// The line that tells how long a step takes.
 pub fn unit(text: &mut Text, unit: Unit) -> Result<(), AllocError>
     ensures { OnOk result (text.new ≡ text.old ++ unit_line unit) }
 {
-    text.push(b"unit ")?;
-    text.number(u64::from(unit.magnitude))?;
-    text.push(b" ")?;
+    text.number_between(b"unit ", u64::from(unit.magnitude), b" ")?;
     text.push(unit.scale.word())?;
     text.push(b"\n")
 }
@@ -24,9 +23,15 @@ pub fn unit(text: &mut Text, unit: Unit) -> Result<(), AllocError>
 pub fn defaulted(text: &mut Text, count: usize) -> Result<(), AllocError>
     ensures { OnOk result (text.new ≡ text.old ++ defaulted_line count) }
 {
-    text.push(b"defaulted ")?;
-    text.number(count as u64)?;
-    text.push(b"\n")
+    text.number_between(b"defaulted ", count as u64, b"\n")
+}
+
+/// The first lines of a report: how long a step takes, and how many gates the default delay serves.
+pub fn head(text: &mut Text, circuit: &Circuit) -> Result<(), AllocError>
+    ensures { OnOk result (text.new ≡ text.old ++ head_lines circuit.now.netlist) }
+{
+    unit(text, circuit.unit())?;
+    defaulted(text, circuit.defaulted())
 }
 
 fn moment(text: &mut Text, moment: Option<u64>) -> Result<(), AllocError>
@@ -42,9 +47,7 @@ fn moment(text: &mut Text, moment: Option<u64>) -> Result<(), AllocError>
 pub fn last(text: &mut Text, name: &Name, last: Option<u64>) -> Result<(), AllocError>
     ensures { OnOk result (text.new ≡ text.old ++ last_line (name_of name.now) last) }
 {
-    text.push(b"last ")?;
-    text.name(name)?;
-    text.push(b" ")?;
+    text.name_between(b"last ", name, b" ")?;
     moment(text, last)?;
     text.push(b"\n")
 }
@@ -53,9 +56,7 @@ pub fn last(text: &mut Text, name: &Name, last: Option<u64>) -> Result<(), Alloc
 pub fn time(text: &mut Text, time: u64) -> Result<(), AllocError>
     ensures { OnOk result (text.new ≡ text.old ++ time_line time) }
 {
-    text.push(b"time ")?;
-    text.number(time)?;
-    text.push(b"\n")
+    text.number_between(b"time ", time, b"\n")
 }
 
 fn bound_moment(text: &mut Text, bound: Option<u64>) -> Result<(), AllocError>

@@ -1,6 +1,7 @@
 //! The command `sim`: the run of one pair of vectors.
 
-ghost use Rattle.std.specs.Prelude.{◌≡◌, ◌++◌, length, map, IfOk, IfErr, IfSome, OnOk};
+ghost use Rattle.std.specs.Prelude.{◌≡◌, ◌++◌, ℕ, List, length, map, IfOk, IfErr, IfSome, OnOk};
+ghost use Rattle.td_gates.specs.declared.timing.Delay.{Delay as Default};
 ghost use Rattle.td_circuit.specs.Numbering.{nets};
 ghost use Rattle.td_circuit.specs.Run.{latest_change};
 ghost use Rattle.td_circuit.specs.NetValues.{net_wave};
@@ -11,6 +12,7 @@ ghost use Rattle.td_report.specs.Simulations.{IsSimulation};
 ghost use Rattle.td_report.specs.Reports.{output_lines, sim_text, IsSimReport};
 ghost use Rattle.td_report.specs.Dumps.{dump_files, HasRun};
 ghost use Rattle.td_report.specs.Vectors.{words_of};
+ghost use Rattle.td_report.specs.declared.refusal.Refusal.TheVariants as Reason;
 ghost use Rattle.td_report.specs.Outcomes.{IsOfLoop, IsOfFault, IsCircuitOf, HasNoCircuit, HasNoReport};
 
 use crate::dumping::{Dump, dump_to};
@@ -79,19 +81,40 @@ pub fn simulated_run<'a>(
         HasNoReport text.now default from.now to.now (words_of at.entry) refusal) }
 {
     let mut circuit = circuit(alloc, text, default)?;
+    let run = match run_in(alloc, &mut circuit, from, to, at)? {
+        Ok(run) => run,
+        Err(word) => return Err(Refusal::BadVector(word)),
+    };
+    Ok(Simulation { circuit, run })
+}
+
+/// The run of a circuit under a pair of vectors, with the moments of an option; or the first word that gives nothing for the circuit's inputs.
+fn run_in(
+    alloc: Global,
+    circuit: &mut Circuit,
+    from: &str,
+    to: &str,
+    at: Option<&str>,
+) -> Result<Result<Run, VectorWord>, AllocError>
+    ensures is { IfOk result (λ told. IfOk told (λ run. (text : List ℕ) (default : Default) → IsCircuitOf text default circuit.old
+        → IsSimulation text default from.now to.now (words_of at.entry) circuit.new run)) }
+    ensures has { IfOk result (λ told. IfOk told (IsRunFor circuit.new)) }
+    ensures bad { IfOk result (λ told. IfErr told (λ word. (text : List ℕ) (default : Default) → IsCircuitOf text default circuit.old
+        → HasNoReport text default from.now to.now (words_of at.entry) (Reason.BadVector word))) }
+{
     let inputs = circuit.input_count();
     let Some(first) = vector::<Level>(alloc, from, inputs)? else {
-        return Err(Refusal::BadVector(VectorWord::From));
+        return Ok(Err(VectorWord::From));
     };
     let Some(second) = vector::<Level>(alloc, to, inputs)? else {
-        return Err(Refusal::BadVector(VectorWord::To));
+        return Ok(Err(VectorWord::To));
     };
     let Some(moments) = moments(alloc, at, inputs)? else {
-        return Err(Refusal::BadVector(VectorWord::At));
+        return Ok(Err(VectorWord::At));
     };
     circuit.set_moments(moments);
-    let run = waves(alloc, &circuit, &first, &second)?;
-    Ok(Simulation { circuit, run })
+    let run = waves(alloc, circuit, &first, &second)?;
+    Ok(Ok(run))
 }
 
 /// The circuit of a netlist's text.
@@ -152,9 +175,18 @@ fn report_of(alloc: Global, circuit: &Circuit, run: &Run) -> Result<Text, AllocE
     ensures { IfOk result (λ text. text ≡ sim_text circuit.now.netlist (net_wave (nets circuit.now) run.now.waves)) }
 {
     let mut text = Text::new(alloc);
-    report::unit(&mut text, circuit.unit())?;
-    report::defaulted(&mut text, circuit.defaulted())?;
-    outputs(&mut text, circuit, run)?;
-    report::time(&mut text, run.last_of_outputs())?;
+    push_run(&mut text, circuit, run)?;
     Ok(text)
+}
+
+/// Appends the lines of a run.
+fn push_run(text: &mut Text, circuit: &Circuit, run: &Run) -> Result<(), AllocError>
+    requires waves { length run.now.waves ≡ length (nets circuit.now) }
+    requires time { latest_change (output_waves run.now)
+        ≡ latest_change (map (λ name. net_wave (nets circuit.now) run.now.waves (Named name)) circuit.now.netlist.outputs) }
+    ensures { OnOk result (text.new ≡ text.old ++ sim_text circuit.now.netlist (net_wave (nets circuit.now) run.now.waves)) }
+{
+    report::head(text, circuit)?;
+    outputs(text, circuit, run)?;
+    report::time(text, run.last_of_outputs())
 }

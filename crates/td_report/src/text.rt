@@ -68,6 +68,62 @@ impl Text {
         Ok(())
     }
 
+    /// Appends bytes and a word behind them.
+    pub fn word_behind(&mut self, front: &[u8], word: &str) -> Result<(), AllocError>
+        ensures { OnOk result (self.new ≡ self.old ++ (front.now ++ word.now)) }
+    {
+        self.push(front)?;
+        self.word(word)
+    }
+
+    /// Appends a word between bytes.
+    pub fn word_between(
+        &mut self,
+        front: &[u8],
+        word: &str,
+        behind: &[u8],
+    ) -> Result<(), AllocError>
+        ensures { OnOk result (self.new ≡ self.old ++ (front.now ++ word.now ++ behind.now)) }
+    {
+        self.word_behind(front, word)?;
+        self.push(behind)
+    }
+
+    /// Appends bytes and a number behind them.
+    pub fn number_behind(&mut self, front: &[u8], number: u64) -> Result<(), AllocError>
+        ensures { OnOk result (self.new ≡ self.old ++ (front.now ++ decimal number)) }
+    {
+        self.push(front)?;
+        self.number(number)
+    }
+
+    /// Appends a number between bytes.
+    pub fn number_between(
+        &mut self,
+        front: &[u8],
+        number: u64,
+        behind: &[u8],
+    ) -> Result<(), AllocError>
+        ensures { OnOk result (self.new ≡ self.old ++ (front.now ++ decimal number ++ behind.now)) }
+    {
+        self.number_behind(front, number)?;
+        self.push(behind)
+    }
+
+    /// Appends the printed form of a name between bytes.
+    pub fn name_between(
+        &mut self,
+        front: &[u8],
+        name: &Name,
+        behind: &[u8],
+    ) -> Result<(), AllocError>
+        ensures { OnOk result (self.new ≡ self.old ++ (front.now ++ printed (name_of name.now) ++ behind.now)) }
+    {
+        self.push(front)?;
+        self.name(name)?;
+        self.push(behind)
+    }
+
     /// Appends the printed form of a name.
     pub fn name(&mut self, name: &Name) -> Result<(), AllocError>
         ensures appended { OnOk result (self.new ≡ self.old ++ printed (name_of name.now)) }

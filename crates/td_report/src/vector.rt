@@ -8,7 +8,7 @@ use td_domain::{Cube, Trit};
 use td_gates::Level;
 
 /// A word of the command line that gives something for each input.
-#[derive(Clone, Copy, Debug, PartialEq, Eq, Drop)]
+#[derive(Clone, Copy, Drop)]
 pub enum VectorWord {
     From,
     To,

@@ -11,11 +11,11 @@ pub returns-in-Err : goal.returns-in-Err
 returns-in-Err g c = (
   _,
   nothing_done g.F.Files.did g.met.F.Files.did_nothing _ _ c.read.ensures.stays,
-  behind _ _ _ _ _ _ _ _ _ refl (not_read (disk_of (g.F.Files.holds c.args.files.now) (g.F.Files.fails c.args.files.now) (g.F.Files.breaks c.args.files.now) (g.F.Files.is_one c.args.files.now)) c.args.request.file _ _ _ c.in-Err.fault _ _ _ _ c.in-Err.ensures.fault c.tell_unread.ensures),
+  behind _ _ _ _ _ _ _ _ _ refl (not_read (disk_of (g.F.Files.holds c.args.files.now) (g.F.Files.fails c.args.files.now) (g.F.Files.breaks c.args.files.now) (g.F.Files.is_one c.args.files.now)) c.args.request.now.file _ _ _ c.in-Err.fault _ _ _ _ c.in-Err.ensures.fault c.tell_unread.ensures),
 )
 
 pub returns-in-Ok : goal.returns-in-Ok
 returns-in-Ok g c =
-    behind_nothing _ _ _ _ _ _ _ _ refl (on_file_taking (g.F.Files.did c.args.files.now c.carry_out_sim.new.files) (disk_of (g.F.Files.holds c.args.files.now) (g.F.Files.fails c.args.files.now) (g.F.Files.breaks c.args.files.now) (g.F.Files.is_one c.args.files.now)) c.args.request.file.now c.deref.result.now (subst (λ bytes. g.F.Files.holds c.args.files.now c.args.request.file.now bytes) (sym c.deref.ensures.value) c.in-Ok.ensures.bytes)
-    (λ text. IsSimProduct text (delays c.args.request.rise c.args.request.fall) c.args.request.from.now c.args.request.to.now (words_of c.args.request.at) (words_of c.args.request.vcd)) (λ text. HasNoReport text (delays c.args.request.rise c.args.request.fall) c.args.request.from.now c.args.request.to.now (words_of c.args.request.at)) _ _ _
+    behind_nothing _ _ _ _ _ _ _ _ refl (on_file_taking (g.F.Files.did c.args.files.now c.carry_out_sim.new.files) (disk_of (g.F.Files.holds c.args.files.now) (g.F.Files.fails c.args.files.now) (g.F.Files.breaks c.args.files.now) (g.F.Files.is_one c.args.files.now)) c.args.request.now.file.now c.deref.result.now (subst (λ bytes. g.F.Files.holds c.args.files.now c.args.request.now.file.now bytes) (sym c.deref.ensures.value) c.in-Ok.ensures.bytes)
+    (λ text. IsSimProduct text (delays c.args.request.now.rise c.args.request.now.fall) c.args.request.now.from.now c.args.request.now.to.now (words_of c.args.request.now.at) (words_of c.args.request.now.vcd)) (λ text. HasNoReport text (delays c.args.request.now.rise c.args.request.now.fall) c.args.request.now.from.now c.args.request.now.to.now (words_of c.args.request.now.at)) _ _ _
     (rw (c.read.ensures.stays, c.in-Some.ensures.delay) at c.carry_out_sim.ensures))

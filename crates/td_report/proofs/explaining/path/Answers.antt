@@ -1,35 +1,31 @@
-use Rattle.td_report.proofs.Paths.{named_number, head_of, path_report, no_output}
+use Rattle.std.proofs.Common.{ℕ, List, refl}
+use Rattle.std.specs.Prelude.{Option, Some, None}
+use Rattle.td_gates.specs.declared.timing.Delay.{Delay}
+use Rattle.td_circuit.specs.Numbering.{Numbered}
+use Rattle.td_run.specs.Runs.{NetWaves}
+use Rattle.td_report.specs.declared.refusal.Refusal.TheVariants.{NoOutput}
+use Rattle.td_report.specs.Outcomes.{HasNoPath}
+use Rattle.td_report.specs.Reports.{head_lines}
+use Rattle.td_report.specs.RunPaths.{HasNoneNamed}
+use Rattle.td_report.specs.Simulations.{IsSimulation}
 use Rattle.td_report.specs.Vectors.{words_of}
-use Rattle.std.specs.Prelude.{Some, None}
+use Rattle.td_report.proofs.Paths.{path_report, no_output}
 use Rattle.td_report.proofs.explaining.path.Goals as goal
 
-pub returns-in_default-clause-report : goal.returns-in_default-clause-report
-returns-in_default-clause-report c = rw c.in_default.is
-    (path_report c.args.text.now c.args.default c.args.from.now c.args.to.now (words_of c.args.at) c.in_ok-simulation.simulation.circuit
-    c.in_ok-simulation.simulation.run c.in_ok-simulation.ensures.is None c.in_ok-latest.ensures.0 c.defaulted-2.new.text c.latest.new.text
-    c.in_ok-latest.ensures.2
-    (head_of c.in_ok-simulation.simulation.circuit.netlist c.unit.result c.defaulted.result c.new-report.result c.unit-2.new.text c.defaulted-2.new.text
-    c.new-report.ensures c.unit.ensures c.in_ok-unit.ensures c.defaulted.ensures c.in_ok-defaulted.ensures)
-    c.in_ok-latest.ensures.1)
+none_named_so : (text : List ℕ) (default : Delay) (from to : List ℕ) (at : Option (List ℕ)) (circuit : Numbered) (run : NetWaves)
+    → IsSimulation text default from to at circuit run → (output : Option (List ℕ)) → HasNoneNamed circuit output
+    → HasNoPath text default from to at output NoOutput
+none_named_so text default from to at circuit run is None none = absurd none
+none_named_so text default from to at circuit run is (Some word) none = no_output text default from to at circuit run is word none
 
-pub returns-in_default-2-clause-refusal : goal.returns-in_default-2-clause-refusal
-returns-in_default-2-clause-refusal c = rw c.in-Some.is
-    (no_output c.args.text.now c.args.default c.args.from.now c.args.to.now (words_of c.args.at) c.in_ok-simulation.simulation.circuit
-    c.in_ok-simulation.simulation.run c.in_ok-simulation.ensures.is c.in-Some.word.now (rw c.in_default-2.is at c.in_ok-net.ensures))
+pub returns-in-Some-clause-report : goal.returns-in-Some-clause-report
+returns-in-Some-clause-report c =
+    let told = rw c.in-Some.is at c.in_ok-told.ensures.told in
+    path_report c.args.text.now c.args.default c.args.from.now c.args.to.now (words_of c.args.at) c.in_ok-simulation.simulation.circuit
+    c.in_ok-simulation.simulation.run c.in_ok-simulation.ensures.is (words_of c.args.output) told.0 (head_lines c.in_ok-simulation.simulation.circuit.netlist)
+    c.in-Some.report told.2 refl told.1
 
-pub chain-requires-clause-net : goal.chain-requires-clause-net
-chain-requires-clause-net c =
-    let found = rw c.in-Some-2.is at c.in_ok-net.ensures in
-    (named_number c.in_ok-simulation.simulation.circuit c.in-Some-2.net found.0 found.2).1
-
-pub returns-clause-report : goal.returns-clause-report
-returns-clause-report c =
-    let found = rw c.in-Some-2.is at c.in_ok-net.ensures in
-    let told = c.in_ok-chain.ensures found.0 found.2 in
-    rw c.in-Some.is
-    (path_report c.args.text.now c.args.default c.args.from.now c.args.to.now (words_of c.args.at) c.in_ok-simulation.simulation.circuit
-    c.in_ok-simulation.simulation.run c.in_ok-simulation.ensures.is (Some c.in-Some.word.now) told.0 c.defaulted-2.new.text c.chain.new.text
-    (found.0, found.1, told.2)
-    (head_of c.in_ok-simulation.simulation.circuit.netlist c.unit.result c.defaulted.result c.new-report.result c.unit-2.new.text c.defaulted-2.new.text
-    c.new-report.ensures c.unit.ensures c.in_ok-unit.ensures c.defaulted.ensures c.in_ok-defaulted.ensures)
-    told.1)
+pub returns-clause-refusal : goal.returns-clause-refusal
+returns-clause-refusal c =
+    none_named_so c.args.text.now c.args.default c.args.from.now c.args.to.now (words_of c.args.at) c.in_ok-simulation.simulation.circuit
+    c.in_ok-simulation.simulation.run c.in_ok-simulation.ensures.is (words_of c.args.output) (rw c.in-None.is at c.in_ok-told.ensures.none)
