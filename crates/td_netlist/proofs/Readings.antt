@@ -4,7 +4,6 @@ use Rattle.std.specs.Prelude.{MatchOption, sum_by, IfOk, IfErr}
 use Rattle.td_gates.specs.declared.timing.Delay.{Delay}
 use Rattle.td_syntax.specs.declared.fault.FaultKind as syntax_kind
 use Rattle.td_syntax.specs.declared.fault.FaultKind.TheVariants as syntax
-use Rattle.td_syntax.specs.declared.fault.Reason.TheVariants as reason
 use Rattle.td_syntax.specs.declared.fault.Fault as syntax_fault
 use Rattle.td_syntax.specs.Grammar as grammar
 use Rattle.td_syntax.specs.Faults as syntax_faults
@@ -68,18 +67,17 @@ memory_breaks m checked y is f e = fault_breaks m checked (λ g other. absurd (o
 -- a fault of the grammar is the first one of the text
 pub first_by : (text : List ℕ) (k : syntax_kind.FaultKind) (line : ℕ) → MatchOption (syntax_faults.told k) (Unit {0}) (λ j. syntax_of text ≡ Err (syntax_faults.fault j line))
     → IsFaultIn text (kind_from k) line
-first_by text (syntax.Untold reason.OutOfMemory) line e = tt
-first_by text (syntax.Untold reason.BadByte) line e = inl (record { first = syntax_faults.fault syntax_faults.BadByte line; stands = e; of_kind = refl; there = refl })
-first_by text (syntax.Untold reason.UnexpectedEnd) line e = inl (record { first = syntax_faults.fault syntax_faults.UnexpectedEnd line; stands = e; of_kind = refl; there = refl })
-first_by text (syntax.Untold reason.Syntax) line e = inl (record { first = syntax_faults.fault syntax_faults.Syntax line; stands = e; of_kind = refl; there = refl })
+first_by text syntax.OutOfMemory line e = tt
+first_by text syntax.BadByte line e = inl (record { first = syntax_faults.fault syntax_faults.BadByte line; stands = e; of_kind = refl; there = refl })
+first_by text syntax.UnexpectedEnd line e = inl (record { first = syntax_faults.fault syntax_faults.UnexpectedEnd line; stands = e; of_kind = refl; there = refl })
+first_by text syntax.Syntax line e = inl (record { first = syntax_faults.fault syntax_faults.Syntax line; stands = e; of_kind = refl; there = refl })
 first_by text (syntax.OutOfSubset w) line e = inl (record { first = syntax_faults.fault (syntax_faults.OutOfSubset w.now) line; stands = e; of_kind = refl; there = refl })
-first_by text (syntax.Untold reason.ZeroDelay) line e = inl (record { first = syntax_faults.fault syntax_faults.ZeroDelay line; stands = e; of_kind = refl; there = refl })
-first_by text (syntax.Untold reason.DelayTooFine) line e = inl (record { first = syntax_faults.fault syntax_faults.DelayTooFine line; stands = e; of_kind = refl; there = refl })
-first_by text (syntax.Untold reason.DelayTooLarge) line e = inl (record { first = syntax_faults.fault syntax_faults.DelayTooLarge line; stands = e; of_kind = refl; there = refl })
-first_by text (syntax.Untold reason.TooMany) line e = inl (record { first = syntax_faults.fault syntax_faults.TooMany line; stands = e; of_kind = refl; there = refl })
+first_by text syntax.ZeroDelay line e = inl (record { first = syntax_faults.fault syntax_faults.ZeroDelay line; stands = e; of_kind = refl; there = refl })
+first_by text syntax.DelayTooFine line e = inl (record { first = syntax_faults.fault syntax_faults.DelayTooFine line; stands = e; of_kind = refl; there = refl })
+first_by text syntax.DelayTooLarge line e = inl (record { first = syntax_faults.fault syntax_faults.DelayTooLarge line; stands = e; of_kind = refl; there = refl })
+first_by text syntax.TooMany line e = inl (record { first = syntax_faults.fault syntax_faults.TooMany line; stands = e; of_kind = refl; there = refl })
 
--- a fault of the names of the text's tree is one of the text
-pub broken_by : (text : List ℕ) (m : grammar.Module) (k : FaultKind) (line : ℕ) → Parses text m → UnlessMemory k (IsNameFault k line m)
+broken_by : (text : List ℕ) (m : grammar.Module) (k : FaultKind) (line : ℕ) → Parses text m → UnlessMemory k (IsNameFault k line m)
     → MatchOption (told k) (Unit {0}) (λ j. checked_at m ≡ Err (record { kind = j; line = line })) → IsFaultIn text k line
 broken_by text m kind.OutOfMemory line p at e = tt
 broken_by text m kind.BadByte line p at e = inr (record { tree = m; parses = p; breaks = at; first = e })
@@ -98,28 +96,43 @@ broken_by text m kind.Undriven line p at e = inr (record { tree = m; parses = p;
 broken_by text m kind.TooMany line p at e = inr (record { tree = m; parses = p; breaks = at; first = e })
 broken_by text m kind.PortUndeclared line p at e = inr (record { tree = m; parses = p; breaks = at; first = e })
 
+-- a fault of the names of the text's tree is one of the text
+pub broken_in : {Y : Type 0} (text : List ℕ) (m : grammar.Module) (r : Result Y Fault) → Parses text m → IfErr r (λ e. UnlessMemory e.kind (IsNameFault e.kind e.line m))
+    → IfErr r (λ e. Fails e (checked_at m)) → IfErr r (λ e. IsFaultIn text e.kind e.line)
+broken_in text m (Ok y) p at first = tt
+broken_in text m (Err e) p at first = broken_by text m e.kind e.line p at first
+
 module _ (text : List ℕ) (m : grammar.Module) (default : Delay) (p : Parses text m) where
   pub found_by : (netlist : Netlist) → IsConsistent m → netlist ≡ netlist_in default m → IsWellFormed netlist → Means text default netlist
   found_by netlist keeps is formed = record { tree = m; parses = p; declared = keeps.declared; joined = keeps.joined; few_nets = few_nets m keeps.within.few_nets; lists = is; formed = formed }
 
-  pub only_by : (netlist n : Netlist) → netlist ≡ netlist_in default m → Means text default n → netlist ≡ n
+  pub found_as : (r : Result Netlist Fault) → IfOk r (λ netlist. IsConsistent m) → IfOk r (λ netlist. netlist ≡ netlist_in default m) → IfOk r (λ netlist. IsWellFormed netlist) → IfOk r (λ netlist. Means text default netlist)
+  found_as (Ok netlist) keeps is formed = found_by netlist keeps is formed
+  found_as (Err e) keeps is formed = tt
+
+  only_by : (netlist n : Netlist) → netlist ≡ netlist_in default m → Means text default n → netlist ≡ n
   only_by netlist n is means = is ∙ ap (λ (t : grammar.Module). netlist_in default t) (one_tree text m means.tree p means.parses) ∙ sym means.lists
 
-  pub only_memory : (k : FaultKind) (line : ℕ) (n : Netlist) → UnlessMemory k (IsNameFault k line m) → Means text default n → k ≡ kind.OutOfMemory
+  only_memory : (k : FaultKind) (line : ℕ) (n : Netlist) → UnlessMemory k (IsNameFault k line m) → Means text default n → k ≡ kind.OutOfMemory
   only_memory k line n at means =
       let keeps = consistent means.tree means.declared means.joined means.parses.kept.items default (subst IsWellFormed means.lists means.formed) means.few_nets in
       memory_alone m line (subst IsConsistent (one_tree text means.tree m means.parses p) keeps) k at
 
+  pub only_as : (r : Result Netlist Fault) → IfOk r (λ netlist. netlist ≡ netlist_in default m) → IfErr r (λ e. UnlessMemory e.kind (IsNameFault e.kind e.line m))
+      → (n : Netlist) → Means text default n → IsUnlessMemory r n
+  only_as (Ok netlist) is breaks n means = only_by netlist n is means
+  only_as (Err e) is breaks n means = only_memory e.kind e.line n breaks means
+
 untold_by : {Y : Type 0} (k : syntax_kind.FaultKind) (line : ℕ) (y : Y) → MatchOption (syntax_faults.told k) (Unit {0}) (λ j. parsed_as y ≡ Err (syntax_faults.fault j line)) → kind_from k ≡ kind.OutOfMemory
-untold_by (syntax.Untold reason.OutOfMemory) line y e = refl
-untold_by (syntax.Untold reason.BadByte) line y e = absurd cc
-untold_by (syntax.Untold reason.UnexpectedEnd) line y e = absurd cc
-untold_by (syntax.Untold reason.Syntax) line y e = absurd cc
+untold_by syntax.OutOfMemory line y e = refl
+untold_by syntax.BadByte line y e = absurd cc
+untold_by syntax.UnexpectedEnd line y e = absurd cc
+untold_by syntax.Syntax line y e = absurd cc
 untold_by (syntax.OutOfSubset w) line y e = absurd cc
-untold_by (syntax.Untold reason.ZeroDelay) line y e = absurd cc
-untold_by (syntax.Untold reason.DelayTooFine) line y e = absurd cc
-untold_by (syntax.Untold reason.DelayTooLarge) line y e = absurd cc
-untold_by (syntax.Untold reason.TooMany) line y e = absurd cc
+untold_by syntax.ZeroDelay line y e = absurd cc
+untold_by syntax.DelayTooFine line y e = absurd cc
+untold_by syntax.DelayTooLarge line y e = absurd cc
+untold_by syntax.TooMany line y e = absurd cc
 
 -- where the text has a syntax tree, reading it fails for want of memory alone
 pub parse_memory : (e : syntax_fault.Fault) (m : grammar.Module) → syntax_faults.Fails e (Ok m) → kind_from e.kind ≡ kind.OutOfMemory

@@ -10,8 +10,6 @@ use Rattle.td_syntax.specs.Grammar.{decimal_value, IsMaybeRange}
 use Rattle.td_netlist.specs.declared.fault.FaultKind.{FaultKind}
 use Rattle.td_netlist.specs.declared.fault.FaultKind.TheVariants.{Redeclared, PortUndeclared, UnknownBit, WidthNotOne, DrivenInput, TwoDrivers, Undriven, TooMany}
 use Rattle.td_netlist.specs.declared.fault.Fault.{Fault}
-use Rattle.td_netlist.specs.declared.fault.Flaw.{Flaw}
-use Rattle.td_netlist.specs.declared.fault.Flaw.TheVariants as flaw
 use Rattle.td_netlist.specs.Faults.{fault, unless, ◌>>=◌}
 use Rattle.td_netlist.specs.declared.ranges.Range.{Range}
 use Rattle.td_nets.specs.Netlist.{Name, Net, Low, High, Named}
@@ -207,10 +205,6 @@ pub record Drivers : Type 0 where
 -- an input, or another net that is driven
 abbrev pub second_driver : List Name → Name → FaultKind
 second_driver inputs name = if is_in name inputs then DrivenInput else TwoDrivers
-
--- the same without a text that could be told
-abbrev pub second_flaw : List Name → Name → Flaw
-second_flaw inputs name = if is_in name inputs then flaw.DrivenInput else flaw.TwoDrivers
 
 abbrev pub drive_fault : List Name → List Name → Name → Option FaultKind
 drive_fault inputs driven name = if is_in name driven then Some (second_driver inputs name) else None

@@ -3,30 +3,9 @@ use Rattle.std.specs.Prelude.{◌≡◌, ℕ, Option, None, Some, Result, Ok, Er
 use Rattle.td_netlist.specs.declared.fault.FaultKind.{FaultKind}
 use Rattle.td_netlist.specs.declared.fault.FaultKind.TheVariants as kind
 use Rattle.td_netlist.specs.declared.fault.Fault.{Fault}
-use Rattle.td_netlist.specs.declared.fault.Flaw.{Flaw}
-use Rattle.td_netlist.specs.declared.fault.Flaw.TheVariants as flaw
-use Rattle.td_netlist.specs.declared.fault.Mistake.{Mistake}
 
 abbrev pub fault : FaultKind → ℕ → Fault
 fault k line = record { kind = k; line = line }
-
--- ---- what the checks of names tell
-
-abbrev pub kind_of : Flaw → FaultKind
-kind_of flaw.OutOfMemory = kind.OutOfMemory
-kind_of flaw.Redeclared = kind.Redeclared
-kind_of flaw.UnknownBit = kind.UnknownBit
-kind_of flaw.WidthNotOne = kind.WidthNotOne
-kind_of flaw.TwoDrivers = kind.TwoDrivers
-kind_of flaw.DrivenInput = kind.DrivenInput
-kind_of flaw.Undriven = kind.Undriven
-kind_of flaw.TooMany = kind.TooMany
-kind_of flaw.PortUndeclared = kind.PortUndeclared
-
-abbrev pub fault_of : Mistake → Fault
-fault_of e = fault (kind_of e.flaw) e.line
-
--- ----
 
 -- want of memory isn't a fault of the text
 abbrev pub told : FaultKind → Option FaultKind
@@ -37,9 +16,9 @@ abbrev pub Fails : {Y : Type 0} → Fault → Result Y Fault → Type 0
 Fails e checked = MatchOption (told e.kind) (Unit {0}) (λ k. checked ≡ Err (fault k e.line))
 
 -- What a function returned, seen by view, is what the check gives, unless memory ran out.
-abbrev pub Gives : {X Y : Type 0} → (X → Y) → Result X Mistake → Result Y Fault → Type 0
+abbrev pub Gives : {X Y : Type 0} → (X → Y) → Result X Fault → Result Y Fault → Type 0
 Gives view (Ok x) checked = checked ≡ Ok (view x)
-Gives view (Err e) checked = Fails (fault_of e) checked
+Gives view (Err e) checked = Fails e checked
 
 -- The result is this value, unless memory ran out.
 abbrev pub IsUnlessMemory : {X : Type 0} → Result X Fault → X → Type 0

@@ -4,24 +4,19 @@ use Rattle.td_syntax.specs.Faults as syntax_faults
 use Rattle.td_syntax.specs.FirstFault.{syntax_of}
 use Rattle.td_syntax.specs.declared.fault.FaultKind as syntax_kind
 use Rattle.td_syntax.specs.declared.fault.FaultKind.TheVariants as syntax
-use Rattle.td_syntax.specs.declared.fault.Reason as syntax_reason
-use Rattle.td_syntax.specs.declared.fault.Reason.TheVariants as reason
 use Rattle.td_netlist.specs.declared.fault.FaultKind.{FaultKind}
 use Rattle.td_netlist.specs.declared.fault.FaultKind.TheVariants as kind
 
-abbrev pub kind_by : syntax_reason.Reason → FaultKind
-kind_by reason.OutOfMemory = kind.OutOfMemory
-kind_by reason.BadByte = kind.BadByte
-kind_by reason.UnexpectedEnd = kind.UnexpectedEnd
-kind_by reason.Syntax = kind.Syntax
-kind_by reason.ZeroDelay = kind.ZeroDelay
-kind_by reason.DelayTooFine = kind.DelayTooFine
-kind_by reason.DelayTooLarge = kind.DelayTooLarge
-kind_by reason.TooMany = kind.TooMany
-
 abbrev pub kind_from : syntax_kind.FaultKind → FaultKind
-kind_from (syntax.Untold r) = kind_by r
+kind_from syntax.OutOfMemory = kind.OutOfMemory
+kind_from syntax.BadByte = kind.BadByte
+kind_from syntax.UnexpectedEnd = kind.UnexpectedEnd
+kind_from syntax.Syntax = kind.Syntax
 kind_from (syntax.OutOfSubset w) = kind.OutOfSubset w
+kind_from syntax.ZeroDelay = kind.ZeroDelay
+kind_from syntax.DelayTooFine = kind.DelayTooFine
+kind_from syntax.DelayTooLarge = kind.DelayTooLarge
+kind_from syntax.TooMany = kind.TooMany
 
 -- the kind as one of tokens and grammar, where it is one
 abbrev pub syntax_kind_of : FaultKind → Option syntax_faults.FaultKind

@@ -12,13 +12,12 @@ ghost use Rattle.td_netlist.specs.NameViews.{name_ref_of, placed_ref_of};
 ghost use Rattle.td_netlist.specs.CheckViews.{lists_of, ported_of, sides_of};
 
 use crate::directions::Directions;
-use crate::fault::{Flaw, Mistake};
+use crate::fault::{Fault, FaultKind};
 use crate::known::Known;
 use crate::name_ref::{Direction, NameRef, PlacedRef};
 use crate::names::Names;
 use crate::ranges::{Range, push_nets, range_of, width_of};
 use std::alloc::{AllocError, Global};
-use std::mem;
 use td_nets::SeededState;
 use td_syntax::{Item, Module, Name as Placed, Port, Ports, Role};
 
@@ -60,13 +59,13 @@ pub fn scalar<'a>(name: Placed<'a>) -> NameRef<'a>
     }
 }
 
-/// A flaw at the line of the name.
-pub fn refused(flaw: Flaw, name: Placed<'_>) -> Mistake
-    ensures flaw { result.flaw ≡ flaw }
+/// A fault of that kind at the line of the name.
+pub fn refused<'a>(kind: FaultKind<'a>, name: Placed<'a>) -> Fault<'a>
+    ensures kind { result.kind ≡ kind.entry }
     ensures line { result.line ≡ name.entry.line }
 {
-    Mistake {
-        flaw,
+    Fault {
+        kind,
         line: name.line,
     }
 }
@@ -115,23 +114,23 @@ impl<'a> Lists<'a> {
 
     /// Lists a port, unless it is listed already.
     #[tactic(auto, unfolding(crate::specs::Checks::list_port))]
-    fn list_port(&mut self, port: Placed<'a>) -> Result<(), Mistake>
+    fn list_port(&mut self, port: Placed<'a>) -> Result<(), Fault<'a>>
         ensures { Gives (λ _. lists_of self.new) result (with_port (lists_of self.old) (name_view port.entry)) }
     {
         if self.listed.add(scalar(port))? {
             Ok(())
         } else {
-            Err(refused(Flaw::Redeclared, port))
+            Err(refused(FaultKind::Redeclared, port))
         }
     }
 
     #[tactic(auto, unfolding(crate::specs::Checks::declare_wire))]
-    fn declare_wire(&mut self, range: Option<Range>, name: Placed<'a>) -> Result<(), Mistake>
+    fn declare_wire(&mut self, range: Option<Range>, name: Placed<'a>) -> Result<(), Fault<'a>>
         requires { IsLimited range }
         ensures { Gives (λ _. lists_of self.new) result (declare_wire range (lists_of self.old) (name_view name.entry)) }
     {
         if !self.wires.add(scalar(name))? || is_other(&self.names, name, range) {
-            return Err(refused(Flaw::Redeclared, name));
+            return Err(refused(FaultKind::Redeclared, name));
         }
         self.names.know(name, range)
     }
@@ -142,19 +141,19 @@ impl<'a> Lists<'a> {
         role: Role,
         range: Option<Range>,
         name: Placed<'a>,
-    ) -> Result<(), Mistake>
+    ) -> Result<(), Fault<'a>>
         requires { IsLimited range }
         ensures { Gives (λ _. lists_of self.new) result (declare_direction role range (lists_of self.old) (name_view name.entry)) }
     {
         if self.directions.get(name).is_some() || is_other(&self.names, name, range) {
-            return Err(refused(Flaw::Redeclared, name));
+            return Err(refused(FaultKind::Redeclared, name));
         }
         if !self.listed.has(scalar(name)) {
-            return Err(refused(Flaw::PortUndeclared, name));
+            return Err(refused(FaultKind::PortUndeclared, name));
         }
         let inputs = self.inputs.saturating_add(input_bits(role, range));
         if MAX_INPUTS < inputs {
-            return Err(refused(Flaw::TooMany, name));
+            return Err(refused(FaultKind::TooMany, name));
         }
         self.names.know(name, range)?;
         self.inputs = inputs;
@@ -163,7 +162,12 @@ impl<'a> Lists<'a> {
     }
 
     #[tactic(auto, unfolding(crate::specs::Checks::declare))]
-    fn declare(&mut self, role: Role, range: Option<Range>, name: Placed<'a>) -> Result<(), Mistake>
+    fn declare(
+        &mut self,
+        role: Role,
+        range: Option<Range>,
+        name: Placed<'a>,
+    ) -> Result<(), Fault<'a>>
         requires { IsLimited range }
         ensures { Gives (λ _. lists_of self.new) result (declare role range (lists_of self.old) (name_view name.entry)) }
     {
@@ -179,7 +183,7 @@ impl<'a> Lists<'a> {
         role: Role,
         range: Option<Range>,
         names: &[Placed<'a>],
-    ) -> Result<(), Mistake>
+    ) -> Result<(), Fault<'a>>
         requires { IsLimited range }
         ensures { Gives (λ _. lists_of self.new) result (each (declare role range) (lists_of self.old) (names_view names.now)) }
     {
@@ -190,7 +194,7 @@ impl<'a> Lists<'a> {
     }
 
     #[tactic(auto, unfolding(crate::specs::Checks::declare_item))]
-    fn declare_item(&mut self, item: &Item<'a>) -> Result<(), Mistake>
+    fn declare_item(&mut self, item: &Item<'a>) -> Result<(), Fault<'a>>
         requires { IsRanged (item_view item.now) }
         ensures { Gives (λ _. lists_of self.new) result (declare_item (lists_of self.old) (item_view item.now)) }
     {
@@ -204,7 +208,7 @@ impl<'a> Lists<'a> {
         }
     }
 
-    fn declare_items(&mut self, items: &[Item<'a>]) -> Result<(), Mistake>
+    fn declare_items(&mut self, items: &[Item<'a>]) -> Result<(), Fault<'a>>
         requires { AllByRecursion IsRanged (map item_view items.now) }
         ensures { Gives (λ _. lists_of self.new) result (each declare_item (lists_of self.old) (map item_view items.now)) }
     {
@@ -215,7 +219,7 @@ impl<'a> Lists<'a> {
     }
 
     /// What the items declare too, and then the nets of the ports by direction.
-    fn sided(&mut self, alloc: Global, source: &Module<'a>) -> Result<Sides<'a>, Mistake>
+    fn sided(&mut self, alloc: Global, source: &Module<'a>) -> Result<Sides<'a>, Fault<'a>>
         requires ports { ArePorts (module_view source.now).ports }
         requires items { AllByRecursion (IsItem (unit_exponent (module_view source.now).fronts)) (module_view source.now).items }
         ensures { Gives (λ sides. (sides_of sides, (lists_of self.new).names)) result (declared_from (lists_of self.old) (module_view source.now)) }
@@ -225,23 +229,28 @@ impl<'a> Lists<'a> {
         Ok(sides)
     }
 
-    /// The nets of the ports by direction, and the names of all declarations, behind those of the port list. The names are taken out.
+    /// The nets of the ports by direction, and the names of all declarations, behind those of the port list.
     fn finished(
-        &mut self,
+        mut self,
         alloc: Global,
-        hashing: SeededState,
         source: &Module<'a>,
-    ) -> Result<(Sides<'a>, Known<'a>), Mistake>
+    ) -> Result<(Sides<'a>, Known<'a>), Fault<'a>>
         requires ports { ArePorts (module_view source.now).ports }
         requires items { AllByRecursion (IsItem (unit_exponent (module_view source.now).fronts)) (module_view source.now).items }
-        ensures { Gives (λ x. (sides_of x.0, x.1)) result (declared_from (lists_of self.old) (module_view source.now)) }
+        ensures { Gives (λ x. (sides_of x.0, x.1)) result (declared_from (lists_of self.entry) (module_view source.now)) }
     {
         let sides = self.sided(alloc, source)?;
-        let names = mem::replace(&mut self.names, Known::new(alloc, hashing));
-        Ok((sides, names))
+        Ok((sides, self.into_names()))
     }
 
-    fn list_ports(&mut self, ports: &[Placed<'a>]) -> Result<(), Mistake>
+    /// What is known of the names that are declared.
+    fn into_names(self) -> Known<'a>
+        ensures { result ≡ (lists_of self.entry).names }
+    {
+        self.names
+    }
+
+    fn list_ports(&mut self, ports: &[Placed<'a>]) -> Result<(), Fault<'a>>
         ensures { Gives (λ _. lists_of self.new) result (each with_port (lists_of self.old) (names_view ports.now)) }
     {
         for port in ports {
@@ -264,7 +273,7 @@ impl<'a> Ported<'a> {
 
     /// Lists a declared port and declares it.
     #[tactic(auto, unfolding(crate::specs::Checks::declare_port))]
-    fn declare(&mut self, port: Port<'a>) -> Result<(), Mistake>
+    fn declare(&mut self, port: Port<'a>) -> Result<(), Fault<'a>>
         requires ranged { IsPort (port_view port) }
         requires so_far { IsLimited self.old.range }
         ensures ranged { IsLimited self.new.range }
@@ -282,7 +291,7 @@ impl<'a> Ported<'a> {
         self.lists.declare_direction(self.role, self.range, name)
     }
 
-    fn declare_each(&mut self, ports: &[Port<'a>]) -> Result<(), Mistake>
+    fn declare_each(&mut self, ports: &[Port<'a>]) -> Result<(), Fault<'a>>
         requires ranged { AllByRecursion IsPort (map port_view ports.now) }
         requires so_far { IsLimited self.old.range }
         ensures { Gives (λ _. ported_of self.new) result (each declare_port (ported_of self.old) (map port_view ports.now)) }
@@ -295,7 +304,7 @@ impl<'a> Ported<'a> {
 
     /// What the port list declares, where nothing is declared so far.
     #[tactic(auto, unfolding(crate::specs::Checks::declare_ports))]
-    fn declare_ports(&mut self, ports: &Option<Ports<'a>>) -> Result<(), Mistake>
+    fn declare_ports(&mut self, ports: &Option<Ports<'a>>) -> Result<(), Fault<'a>>
         requires fit { ArePorts (ports_view ports.now) }
         requires first { ported_of self.old ≡ portless }
         ensures { Gives (λ _. lists_of self.new.lists) result (declare_ports (ports_view ports.now)) }
@@ -347,11 +356,11 @@ impl<'a> Sides<'a> {
         alloc: Global,
         directions: &Directions<'a>,
         port: Placed<'a>,
-    ) -> Result<(), Mistake>
+    ) -> Result<(), Fault<'a>>
         ensures { Gives (λ _. sides_of self.new) result (take_side directions.now (sides_of self.old) (name_view port.entry)) }
     {
         let Some(direction) = directions.get(port) else {
-            return Err(refused(Flaw::PortUndeclared, port));
+            return Err(refused(FaultKind::PortUndeclared, port));
         };
         if is_input(direction.role) {
             push_nets(port.name, direction.range, &mut self.inputs)?;
@@ -366,7 +375,7 @@ impl<'a> Sides<'a> {
         alloc: Global,
         directions: &Directions<'a>,
         ports: &[Placed<'a>],
-    ) -> Result<(), Mistake>
+    ) -> Result<(), Fault<'a>>
         ensures { Gives (λ _. sides_of self.new) result (each (take_side directions.now) (sides_of self.old) (names_view ports.now)) }
     {
         for port in ports {
@@ -380,7 +389,7 @@ impl<'a> Sides<'a> {
         alloc: Global,
         directions: &Directions<'a>,
         ports: &[Port<'a>],
-    ) -> Result<(), Mistake>
+    ) -> Result<(), Fault<'a>>
         ensures { Gives (λ _. sides_of self.new) result (each (take_side directions.now) (sides_of self.old) (map port_name (map port_view ports.now))) }
     {
         for port in ports {
@@ -405,7 +414,7 @@ fn by_side<'a>(
     alloc: Global,
     directions: &Directions<'a>,
     ports: &Option<Ports<'a>>,
-) -> Result<Sides<'a>, Mistake>
+) -> Result<Sides<'a>, Fault<'a>>
     ensures { Gives sides_of result (sides_at directions.now (ports_view ports.now)) }
 {
     match ports {
@@ -429,12 +438,12 @@ pub fn declared<'a>(
     alloc: Global,
     hashing: SeededState,
     source: &Module<'a>,
-) -> Result<(Sides<'a>, Known<'a>), Mistake>
+) -> Result<(Sides<'a>, Known<'a>), Fault<'a>>
     requires ports { ArePorts (module_view source.now).ports }
     requires items { AllByRecursion (IsItem (unit_exponent (module_view source.now).fronts)) (module_view source.now).items }
     ensures { Gives (λ x. (sides_of x.0, x.1)) result (declared_at (module_view source.now)) }
 {
     let mut ported = Ported::new(alloc, hashing);
     ported.declare_ports(&source.ports)?;
-    ported.lists.finished(alloc, hashing, source)
+    ported.lists.finished(alloc, source)
 }

@@ -10,12 +10,12 @@ ghost use Rattle.td_netlist.specs.Ranges.{bit_name, IsLimited};
 ghost use Rattle.td_syntax.specs.Grammar.{decimal_value};
 ghost use Rattle.td_nets.specs.Names.{is_in};
 ghost use Rattle.td_netlist.specs.PlacedNets.{line_of};
-ghost use Rattle.td_netlist.specs.Checks.{each, known, range_known, joined, resolve, meet, drive, drives, see, seen, read_from, drive_all, read_net, read_all, read_placed, driven_at, driven_from, second_flaw};
+ghost use Rattle.td_netlist.specs.Checks.{each, known, range_known, joined, resolve, meet, drive, drives, see, seen, read_from, drive_all, read_net, read_all, read_placed, driven_at, driven_from, second_driver};
 ghost use Rattle.td_netlist.specs.NameViews.{name_ref_of, net_ref_of, placed_ref_of};
 ghost use Rattle.td_netlist.specs.CheckViews.{primitive_of, sides_of, drivers_of};
 
 use crate::declarations::{Sides, refused};
-use crate::fault::{Flaw, Mistake};
+use crate::fault::{Fault, FaultKind};
 use crate::known::Known;
 use crate::name_ref::{NameRef, NetRef, PlacedRef};
 use crate::names::Names;
@@ -38,14 +38,14 @@ fn is_among<'a>(names: &[NameRef<'a>], name: NameRef<'a>) -> bool
     names.contains(&name)
 }
 
-/// The flaw of a second driver: of an input or of another net.
-fn second_driver<'a>(inputs: &[NameRef<'a>], net: NameRef<'a>) -> Flaw
-    ensures { result ≡ second_flaw (map name_ref_of inputs.now) (name_ref_of net.entry) }
+/// The fault of a second driver: of an input or of another net.
+fn second_driver<'a>(inputs: &[NameRef<'a>], net: NameRef<'a>) -> FaultKind<'a>
+    ensures { result ≡ second_driver (map name_ref_of inputs.now) (name_ref_of net.entry) }
 {
     if is_among(inputs, net) {
-        Flaw::DrivenInput
+        FaultKind::DrivenInput
     } else {
-        Flaw::TwoDrivers
+        FaultKind::TwoDrivers
     }
 }
 
@@ -84,7 +84,7 @@ fn bit_of<'a>(name: Placed<'a>, bit: u32) -> NetRef<'a>
 }
 
 /// The net of a plain name with this range.
-fn whole<'a>(name: Placed<'a>, range: Option<Range>) -> Result<NetRef<'a>, Mistake>
+fn whole<'a>(name: Placed<'a>, range: Option<Range>) -> Result<NetRef<'a>, Fault<'a>>
     ensures { Gives net_ref_of result (joined name.entry.line (whole_source name.entry.name.now range)) }
 {
     match range {
@@ -96,14 +96,18 @@ fn whole<'a>(name: Placed<'a>, range: Option<Range>) -> Result<NetRef<'a>, Mista
             if range.left == range.right {
                 Ok(bit_of(name, range.left))
             } else {
-                Err(refused(Flaw::WidthNotOne, name))
+                Err(refused(FaultKind::WidthNotOne, name))
             }
         }
     }
 }
 
 /// The net of a bit of a name with this range. A bit above the greatest number of a range is in none.
-fn select<'a>(name: Placed<'a>, digits: &[u8], range: Option<Range>) -> Result<NetRef<'a>, Mistake>
+fn select<'a>(
+    name: Placed<'a>,
+    digits: &[u8],
+    range: Option<Range>,
+) -> Result<NetRef<'a>, Fault<'a>>
     requires { IsLimited range }
     ensures { Gives net_ref_of result (joined name.entry.line (bit_source name.entry.name.now (decimal_value digits.now) range)) }
 {
@@ -113,10 +117,10 @@ fn select<'a>(name: Placed<'a>, digits: &[u8], range: Option<Range>) -> Result<N
             if holds(range, bit) {
                 Ok(bit_of(name, bit))
             } else {
-                Err(refused(Flaw::UnknownBit, name))
+                Err(refused(FaultKind::UnknownBit, name))
             }
         }
-        None => Err(refused(Flaw::UnknownBit, name)),
+        None => Err(refused(FaultKind::UnknownBit, name)),
     }
 }
 
@@ -132,7 +136,7 @@ fn range_known<'a>(names: &Known<'a>, name: Placed<'a>) -> Option<Range>
 
 /// The net of a terminal, by what is known of its name.
 #[tactic(auto, unfolding(crate::specs::Checks::resolve))]
-pub fn resolve<'a>(names: &Known<'a>, terminal: Terminal<'a>) -> Result<NetRef<'a>, Mistake>
+pub fn resolve<'a>(names: &Known<'a>, terminal: Terminal<'a>) -> Result<NetRef<'a>, Fault<'a>>
     ensures { Gives net_ref_of result (resolve names.now (terminal_view terminal.entry)) }
 {
     match terminal {
@@ -144,7 +148,7 @@ pub fn resolve<'a>(names: &Known<'a>, terminal: Terminal<'a>) -> Result<NetRef<'
 }
 
 /// A plain name without a declaration is a net.
-fn meet<'a>(names: &mut Known<'a>, terminal: Terminal<'a>) -> Result<(), Mistake>
+fn meet<'a>(names: &mut Known<'a>, terminal: Terminal<'a>) -> Result<(), Fault<'a>>
     ensures { Gives (λ _. names.new) result (meet names.old (terminal_view terminal.entry)) }
 {
     match terminal {
@@ -156,7 +160,7 @@ fn meet<'a>(names: &mut Known<'a>, terminal: Terminal<'a>) -> Result<(), Mistake
 impl<'a> Drivers<'a> {
     /// The net of a terminal, whose name is known from now on.
     #[tactic(auto, unfolding(crate::specs::Checks::seen))]
-    fn see(&mut self, terminal: Terminal<'a>) -> Result<NetRef<'a>, Mistake>
+    fn see(&mut self, terminal: Terminal<'a>) -> Result<NetRef<'a>, Fault<'a>>
         ensures { Gives (λ net. (net_ref_of net, drivers_of self.new)) result (seen (drivers_of self.old) (terminal_view terminal.entry)) }
     {
         let net = resolve(&self.names, terminal)?;
@@ -165,7 +169,7 @@ impl<'a> Drivers<'a> {
     }
 
     #[tactic(auto, unfolding(crate::specs::Checks::drive))]
-    fn drive(&mut self, inputs: &[NameRef<'a>], terminal: Terminal<'a>) -> Result<(), Mistake>
+    fn drive(&mut self, inputs: &[NameRef<'a>], terminal: Terminal<'a>) -> Result<(), Fault<'a>>
         ensures { Gives (λ _. drivers_of self.new) result (drive (map name_ref_of inputs.now) (drivers_of self.old) (terminal_view terminal.entry)) }
     {
         let net = self.see(terminal)?;
@@ -179,7 +183,7 @@ impl<'a> Drivers<'a> {
         inputs: &[NameRef<'a>],
         net: NetRef<'a>,
         line: u32,
-    ) -> Result<(), Mistake>
+    ) -> Result<(), Fault<'a>>
         ensures { Gives (λ _. drivers_of self.new) result (drives (map name_ref_of inputs.now) (drivers_of self.old) line (net_ref_of net.entry)) }
     {
         match net {
@@ -188,8 +192,8 @@ impl<'a> Drivers<'a> {
                 if self.driven.add(name)? {
                     Ok(())
                 } else {
-                    Err(Mistake {
-                        flaw: second_driver(inputs, name),
+                    Err(Fault {
+                        kind: second_driver(inputs, name),
                         line,
                     })
                 }
@@ -201,7 +205,7 @@ impl<'a> Drivers<'a> {
         &mut self,
         inputs: &[NameRef<'a>],
         terminals: &[Terminal<'a>],
-    ) -> Result<(), Mistake>
+    ) -> Result<(), Fault<'a>>
         ensures { Gives (λ _. drivers_of self.new) result (each (drive (map name_ref_of inputs.now)) (drivers_of self.old) (map terminal_view terminals.now)) }
     {
         for terminal in terminals {
@@ -210,7 +214,7 @@ impl<'a> Drivers<'a> {
         Ok(())
     }
 
-    fn see_terminals(&mut self, terminals: &[Terminal<'a>]) -> Result<(), Mistake>
+    fn see_terminals(&mut self, terminals: &[Terminal<'a>]) -> Result<(), Fault<'a>>
         ensures { Gives (λ _. drivers_of self.new) result (each see (drivers_of self.old) (map terminal_view terminals.now)) }
     {
         for terminal in terminals {
@@ -224,7 +228,7 @@ impl<'a> Drivers<'a> {
         &mut self,
         inputs: &[NameRef<'a>],
         primitive: Primitive<'_, 'a>,
-    ) -> Result<(), Mistake>
+    ) -> Result<(), Fault<'a>>
         ensures { Gives (λ _. drivers_of self.new) result (drive_all (map name_ref_of inputs.now) (drivers_of self.old) (primitive_of primitive.entry)) }
     {
         self.drive_terminals(inputs, primitive.outputs())?;
@@ -235,7 +239,7 @@ impl<'a> Drivers<'a> {
         &mut self,
         inputs: &[NameRef<'a>],
         primitives: &[Primitive<'_, 'a>],
-    ) -> Result<(), Mistake>
+    ) -> Result<(), Fault<'a>>
         ensures { Gives (λ _. drivers_of self.new) result (each (drive_all (map name_ref_of inputs.now)) (drivers_of self.old) (map primitive_of primitives.now)) }
     {
         for primitive in primitives {
@@ -245,7 +249,7 @@ impl<'a> Drivers<'a> {
     }
 
     /// A net that is read on this line is driven.
-    fn read_from(&self, net: NetRef<'a>, line: u32) -> Result<(), Mistake>
+    fn read_from(&self, net: NetRef<'a>, line: u32) -> Result<(), Fault<'a>>
         ensures { Gives (λ _. tt) result (read_from (drivers_of self.now).driven line (net_ref_of net.entry)) }
     {
         match net {
@@ -254,8 +258,8 @@ impl<'a> Drivers<'a> {
                 if self.driven.has(name) {
                     Ok(())
                 } else {
-                    Err(Mistake {
-                        flaw: Flaw::Undriven,
+                    Err(Fault {
+                        kind: FaultKind::Undriven,
                         line,
                     })
                 }
@@ -264,13 +268,13 @@ impl<'a> Drivers<'a> {
     }
 
     #[tactic(auto, unfolding(crate::specs::Checks::read_net))]
-    fn read_net(&self, terminal: Terminal<'a>) -> Result<(), Mistake>
+    fn read_net(&self, terminal: Terminal<'a>) -> Result<(), Fault<'a>>
         ensures { Gives (λ _. tt) result (read_net (drivers_of self.now) tt (terminal_view terminal.entry)) }
     {
         self.read_from(resolve(&self.names, terminal)?, line_of(terminal))
     }
 
-    fn read_terminals(&self, terminals: &[Terminal<'a>]) -> Result<(), Mistake>
+    fn read_terminals(&self, terminals: &[Terminal<'a>]) -> Result<(), Fault<'a>>
         ensures { Gives (λ _. tt) result (each (read_net (drivers_of self.now)) tt (map terminal_view terminals.now)) }
     {
         for terminal in terminals {
@@ -280,13 +284,13 @@ impl<'a> Drivers<'a> {
     }
 
     #[tactic(auto, unfolding(crate::specs::Checks::read_all))]
-    fn read_all(&self, primitive: Primitive<'_, 'a>) -> Result<(), Mistake>
+    fn read_all(&self, primitive: Primitive<'_, 'a>) -> Result<(), Fault<'a>>
         ensures { Gives (λ _. tt) result (read_all (drivers_of self.now) tt (primitive_of primitive.entry)) }
     {
         self.read_terminals(primitive.inputs())
     }
 
-    fn read_each(&self, primitives: &[Primitive<'_, 'a>]) -> Result<(), Mistake>
+    fn read_each(&self, primitives: &[Primitive<'_, 'a>]) -> Result<(), Fault<'a>>
         ensures { Gives (λ _. tt) result (each (read_all (drivers_of self.now)) tt (map primitive_of primitives.now)) }
     {
         for primitive in primitives {
@@ -295,7 +299,7 @@ impl<'a> Drivers<'a> {
         Ok(())
     }
 
-    fn read_outputs(&self, outputs: &[PlacedRef<'a>]) -> Result<(), Mistake>
+    fn read_outputs(&self, outputs: &[PlacedRef<'a>]) -> Result<(), Fault<'a>>
         ensures { Gives (λ _. tt) result (each (read_placed (drivers_of self.now).driven) tt (map placed_ref_of outputs.now)) }
     {
         for output in outputs {
@@ -309,7 +313,7 @@ impl<'a> Drivers<'a> {
         &mut self,
         sides: &Sides<'a>,
         primitives: &[Primitive<'_, 'a>],
-    ) -> Result<(), Mistake>
+    ) -> Result<(), Fault<'a>>
         ensures { Gives (λ _. drivers_of self.new) result (driven_from (drivers_of self.old) (sides_of sides.now) (map primitive_of primitives.now)) }
     {
         self.drive_each(&sides.inputs, primitives)?;
@@ -334,7 +338,7 @@ pub fn all_driven<'a>(
     sides: &Sides<'a>,
     names: Known<'a>,
     primitives: &[Primitive<'_, 'a>],
-) -> Result<Drivers<'a>, Mistake>
+) -> Result<Drivers<'a>, Fault<'a>>
     ensures { Gives drivers_of result (driven_at (sides_of sides.now) names.entry (map primitive_of primitives.now)) }
 {
     let mut drivers = Drivers {

@@ -2,13 +2,10 @@
 
 ghost use Rattle.std.specs.Prelude.{◌≡◌};
 ghost use Rattle.td_netlist.specs.declared.fault.FaultKind.TheVariants.{OutOfMemory};
-ghost use Rattle.td_netlist.specs.declared.fault.Flaw.TheVariants as of_flaw;
-ghost use Rattle.td_netlist.specs.Faults.{kind_of};
-ghost use Rattle.td_netlist.specs.FirstPass.{kind_by, kind_from};
+ghost use Rattle.td_netlist.specs.FirstPass.{kind_from};
 ghost use Rattle.td_netlist.specs.Kinds.{kind_number, kind_name};
 
 use std::alloc::{AllocError, AllocFailed};
-use td_syntax::Reason;
 use thiserror::Error;
 
 /// What is wrong with a text. A token that is told is borrowed from the text.
@@ -144,101 +141,20 @@ impl<'a, T: Drop> From<AllocFailed<T>> for Fault<'a> {
     }
 }
 
-/// What is wrong with a name, or want of memory. It tells no text, so that it borrows nothing.
-#[derive(Clone, Copy)]
-pub enum Flaw {
-    OutOfMemory,
-    Redeclared,
-    UnknownBit,
-    WidthNotOne,
-    TwoDrivers,
-    DrivenInput,
-    Undriven,
-    TooMany,
-    PortUndeclared,
-}
-
-/// The first fault of a module's names, and its line.
-#[derive(Clone, Copy)]
-pub struct Mistake {
-    pub flaw: Flaw,
-    pub line: u32,
-}
-
-impl From<AllocError> for Mistake {
-    ghost from_gives = { λ _ e. e.flaw ≡ of_flaw.OutOfMemory };
-
-    fn from(_e: AllocError) -> Mistake {
-        Mistake {
-            flaw: Flaw::OutOfMemory,
-            line: 0,
-        }
-    }
-}
-
-impl<T: Drop> From<AllocFailed<T>> for Mistake {
-    ghost from_gives = { λ _ e. e.flaw ≡ of_flaw.OutOfMemory };
-
-    fn from(_e: AllocFailed<T>) -> Mistake {
-        Mistake {
-            flaw: Flaw::OutOfMemory,
-            line: 0,
-        }
-    }
-}
-
-impl<'a> From<Flaw> for FaultKind<'a> {
-    ghost from_gives = { λ flaw result. result ≡ kind_of flaw };
-
-    fn from(flaw: Flaw) -> FaultKind<'a> {
-        match flaw {
-            Flaw::OutOfMemory => FaultKind::OutOfMemory,
-            Flaw::Redeclared => FaultKind::Redeclared,
-            Flaw::UnknownBit => FaultKind::UnknownBit,
-            Flaw::WidthNotOne => FaultKind::WidthNotOne,
-            Flaw::TwoDrivers => FaultKind::TwoDrivers,
-            Flaw::DrivenInput => FaultKind::DrivenInput,
-            Flaw::Undriven => FaultKind::Undriven,
-            Flaw::TooMany => FaultKind::TooMany,
-            Flaw::PortUndeclared => FaultKind::PortUndeclared,
-        }
-    }
-}
-
-impl<'a> From<Mistake> for Fault<'a> {
-    ghost from_gives = { λ mistake result. (result.kind ≡ kind_of mistake.flaw) × (result.line ≡ mistake.line) };
-
-    fn from(mistake: Mistake) -> Fault<'a> {
-        Fault {
-            kind: FaultKind::from(mistake.flaw),
-            line: mistake.line,
-        }
-    }
-}
-
-/// The kind of a fault that tells no text.
-fn untold<'a>(reason: Reason) -> FaultKind<'a>
-    ensures { result ≡ kind_by reason }
-{
-    match reason {
-        Reason::OutOfMemory => FaultKind::OutOfMemory,
-        Reason::BadByte => FaultKind::BadByte,
-        Reason::UnexpectedEnd => FaultKind::UnexpectedEnd,
-        Reason::Syntax => FaultKind::Syntax,
-        Reason::ZeroDelay => FaultKind::ZeroDelay,
-        Reason::DelayTooFine => FaultKind::DelayTooFine,
-        Reason::DelayTooLarge => FaultKind::DelayTooLarge,
-        Reason::TooMany => FaultKind::TooMany,
-    }
-}
-
 impl<'a> From<td_syntax::FaultKind<'a>> for FaultKind<'a> {
     ghost from_gives = { λ kind result. result ≡ kind_from kind };
 
     fn from(kind: td_syntax::FaultKind<'a>) -> FaultKind<'a> {
         match kind {
-            td_syntax::FaultKind::Untold(reason) => untold(reason),
+            td_syntax::FaultKind::OutOfMemory => FaultKind::OutOfMemory,
+            td_syntax::FaultKind::BadByte => FaultKind::BadByte,
+            td_syntax::FaultKind::UnexpectedEnd => FaultKind::UnexpectedEnd,
+            td_syntax::FaultKind::Syntax => FaultKind::Syntax,
             td_syntax::FaultKind::OutOfSubset(text) => FaultKind::OutOfSubset(text),
+            td_syntax::FaultKind::ZeroDelay => FaultKind::ZeroDelay,
+            td_syntax::FaultKind::DelayTooFine => FaultKind::DelayTooFine,
+            td_syntax::FaultKind::DelayTooLarge => FaultKind::DelayTooLarge,
+            td_syntax::FaultKind::TooMany => FaultKind::TooMany,
         }
     }
 }

@@ -13,7 +13,7 @@ ghost use Rattle.td_netlist.specs.NameViews.{name_ref_of, net_ref_of};
 ghost use Rattle.td_netlist.specs.CheckViews.{primitive_of};
 
 use crate::drivers::resolve;
-use crate::fault::Mistake;
+use crate::fault::Fault;
 use crate::known::Known;
 use crate::name_ref::{NameRef, NetRef};
 use crate::primitive::Primitive;
@@ -75,7 +75,7 @@ fn owned_net(alloc: Global, net: NetRef<'_>) -> Result<Net, AllocError>
 
 /// How the delays of a module are taken: a unit has 10 to the power of `tens` steps, and a gate that states no delay has
 /// the default one.
-#[derive(Clone, Copy)]
+#[derive(Clone, Copy, Debug)]
 pub struct Timing {
     pub tens: u8,
     pub default: Delay,
@@ -85,7 +85,7 @@ fn nets<'a>(
     alloc: Global,
     names: &Known<'a>,
     terminals: &[Terminal<'a>],
-) -> Result<Vec<Net>, Mistake>
+) -> Result<Vec<Net>, Fault<'a>>
     ensures { Gives (λ nets. map net_of nets.items) result (each (with_net names.now) [] (map terminal_view terminals.now)) }
 {
     let mut nets = Vec::new(alloc);
@@ -101,7 +101,7 @@ fn push_net<'a>(
     names: &Known<'a>,
     terminal: Terminal<'a>,
     nets: &mut Vec<Net>,
-) -> Result<(), Mistake>
+) -> Result<(), Fault<'a>>
     ensures { Gives (λ _. map net_of nets.new.items) result (with_net names.now (map net_of nets.old.items) (terminal_view terminal.entry)) }
 {
     nets.push(owned_net(alloc, resolve(names, terminal)?)?)?;
@@ -115,7 +115,7 @@ fn gate<'a>(
     timing: &Timing,
     primitive: Primitive<'_, 'a>,
     output: NameRef<'a>,
-) -> Result<Gate, Mistake>
+) -> Result<Gate, Fault<'a>>
     requires { IsStatedDelay timing.now.tens (option_delay_view primitive.delay) }
     ensures { Gives gate_of result (gate_at names.now timing.now.tens timing.now.default (primitive_of primitive.entry) (name_ref_of output.entry)) }
 {
@@ -135,7 +135,7 @@ fn add_gates<'a>(
     timing: &Timing,
     primitive: Primitive<'_, 'a>,
     gates: &mut Vec<Gate>,
-) -> Result<(), Mistake>
+) -> Result<(), Fault<'a>>
     requires { IsStatedDelay timing.now.tens (option_delay_view primitive.delay) }
     ensures { Gives (λ _. map gate_of gates.new.items) result (with_gates names.now timing.now.tens timing.now.default (map gate_of gates.old.items) (primitive_of primitive.entry)) }
 {
@@ -153,7 +153,7 @@ fn add_gate<'a>(
     primitive: Primitive<'_, 'a>,
     terminal: Terminal<'a>,
     gates: &mut Vec<Gate>,
-) -> Result<(), Mistake>
+) -> Result<(), Fault<'a>>
     requires { IsStatedDelay timing.now.tens (option_delay_view primitive.delay) }
     ensures { Gives (λ _. map gate_of gates.new.items) result (with_gate names.now timing.now.tens timing.now.default (primitive_of primitive.entry) (map gate_of gates.old.items) (terminal_view terminal.entry)) }
 {
@@ -172,7 +172,7 @@ pub fn gates<'a>(
     names: &Known<'a>,
     timing: &Timing,
     primitives: &[Primitive<'_, 'a>],
-) -> Result<Vec<Gate>, Mistake>
+) -> Result<Vec<Gate>, Fault<'a>>
     requires { AllByRecursion (λ p. IsStatedDelay timing.now.tens (option_delay_view p.delay)) primitives.now }
     ensures { Gives (λ gates. map gate_of gates.items) result (each (with_gates names.now timing.now.tens timing.now.default) [] (map primitive_of primitives.now)) }
 {

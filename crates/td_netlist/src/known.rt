@@ -7,7 +7,7 @@ ghost use Rattle.td_netlist.specs.Checks.{known, know};
 ghost use Rattle.td_netlist.specs.KnownViews.{known_as};
 ghost use Rattle.td_netlist.specs.Ranges.{IsLimited};
 
-use crate::fault::{Flaw, Mistake};
+use crate::fault::{Fault, FaultKind};
 use crate::ranges::{Range, width_of};
 use indexmap::IndexMap;
 use std::alloc::Global;
@@ -57,7 +57,7 @@ impl<'a> Known<'a> {
 
     /// Counts the nets of a name, unless it is known.
     #[tactic(auto, unfolding(crate::specs::Checks::know))]
-    pub fn know(&mut self, name: Placed<'a>, range: Option<Range>) -> Result<(), Mistake>
+    pub fn know(&mut self, name: Placed<'a>, range: Option<Range>) -> Result<(), Fault<'a>>
         requires { IsLimited range }
         ensures { Gives (λ _. self.new) result (know self.old (name_view name.entry) range) }
     {
@@ -66,8 +66,8 @@ impl<'a> Known<'a> {
         }
         let width = width_of(range);
         if MAX_NETS < self.nets + width {
-            return Err(Mistake {
-                flaw: Flaw::TooMany,
+            return Err(Fault {
+                kind: FaultKind::TooMany,
                 line: name.line,
             });
         }

@@ -5,7 +5,7 @@ ghost use Rattle.std.specs.List.{AllByRecursion};
 ghost use Rattle.td_syntax.specs.Grammar.{IsItem, ArePorts, item_gates, unit_exponent};
 ghost use Rattle.td_syntax.specs.Views.{module_view};
 ghost use Rattle.td_nets.specs.Netlist as netlist;
-ghost use Rattle.td_netlist.specs.Faults.{IsUnlessMemory, UnlessMemory, Fails, fault_of};
+ghost use Rattle.td_netlist.specs.Faults.{IsUnlessMemory, UnlessMemory, Fails};
 ghost use Rattle.td_netlist.specs.Checked.{IsChecked};
 ghost use Rattle.td_netlist.specs.Checks.{checked_at};
 ghost use Rattle.td_netlist.specs.CheckViews.{primitive_of, sides_of};
@@ -22,7 +22,7 @@ ghost use Rattle.td_nets.specs.WellFormed.{IsWellFormed};
 
 use crate::declarations::{Sides, declared};
 use crate::drivers::all_driven;
-use crate::fault::{Fault, Mistake};
+use crate::fault::Fault;
 use crate::gates::{Timing, gates, owned};
 use crate::known::Known;
 use crate::name_ref::{NameRef, PlacedRef};
@@ -106,15 +106,15 @@ fn listed<'a>(
     sides: &Sides<'a>,
     names: &Known<'a>,
     instances: &[Primitive<'_, 'a>],
-) -> Result<Netlist, Mistake>
+) -> Result<Netlist, Fault<'a>>
     requires ports { ArePorts (module_view source.now).ports }
     requires items { AllByRecursion (IsItem (unit_exponent (module_view source.now).fronts)) (module_view source.now).items }
     requires gates { sum_by item_gates (module_view source.now).items ≤ 200000 }
     requires checked { IsChecked (module_view source.now) (sides_of sides.now) names.now (map primitive_of instances.now) }
     ensures lists { IfOk result (λ n. n ≡ netlist_in default (module_view source.now)) }
     ensures formed { IfOk result (λ n. IsWellFormed n) }
-    ensures breaks { IfErr result (λ e. UnlessMemory (fault_of e).kind (IsNameFault (fault_of e).kind e.line (module_view source.now))) }
-    ensures first { IfErr result (λ e. Fails (fault_of e) (checked_at (module_view source.now))) }
+    ensures breaks { IfErr result (λ e. UnlessMemory e.kind (IsNameFault e.kind e.line (module_view source.now))) }
+    ensures first { IfErr result (λ e. Fails e (checked_at (module_view source.now))) }
 {
     let inputs = owned_names(alloc, &sides.inputs)?;
     let outputs = owned_outputs(alloc, &sides.outputs)?;
@@ -137,7 +137,7 @@ fn from_instances<'a>(
     source: &Module<'a>,
     default: Delay,
     instances: &[Primitive<'_, 'a>],
-) -> Result<Netlist, Mistake>
+) -> Result<Netlist, Fault<'a>>
     requires ports { ArePorts (module_view source.now).ports }
     requires items { AllByRecursion (IsItem (unit_exponent (module_view source.now).fronts)) (module_view source.now).items }
     requires gates { sum_by item_gates (module_view source.now).items ≤ 200000 }
@@ -145,8 +145,8 @@ fn from_instances<'a>(
     ensures consistent { IfOk result (λ _. IsConsistent (module_view source.now)) }
     ensures lists { IfOk result (λ n. n ≡ netlist_in default (module_view source.now)) }
     ensures formed { IfOk result (λ n. IsWellFormed n) }
-    ensures breaks { IfErr result (λ e. UnlessMemory (fault_of e).kind (IsNameFault (fault_of e).kind e.line (module_view source.now))) }
-    ensures first { IfErr result (λ e. Fails (fault_of e) (checked_at (module_view source.now))) }
+    ensures breaks { IfErr result (λ e. UnlessMemory e.kind (IsNameFault e.kind e.line (module_view source.now))) }
+    ensures first { IfErr result (λ e. Fails e (checked_at (module_view source.now))) }
 {
     let (sides, names) = declared(alloc, hashing, source)?;
     let drivers = all_driven(alloc, hashing, &sides, names, instances)?;
@@ -159,15 +159,15 @@ fn netlist<'a>(
     hashing: SeededState,
     source: &Module<'a>,
     default: Delay,
-) -> Result<Netlist, Mistake>
+) -> Result<Netlist, Fault<'a>>
     requires ports { ArePorts (module_view source.now).ports }
     requires items { AllByRecursion (IsItem (unit_exponent (module_view source.now).fronts)) (module_view source.now).items }
     requires gates { sum_by item_gates (module_view source.now).items ≤ 200000 }
     ensures consistent { IfOk result (λ _. IsConsistent (module_view source.now)) }
     ensures lists { IfOk result (λ n. n ≡ netlist_in default (module_view source.now)) }
     ensures formed { IfOk result (λ n. IsWellFormed n) }
-    ensures breaks { IfErr result (λ e. UnlessMemory (fault_of e).kind (IsNameFault (fault_of e).kind e.line (module_view source.now))) }
-    ensures first { IfErr result (λ e. Fails (fault_of e) (checked_at (module_view source.now))) }
+    ensures breaks { IfErr result (λ e. UnlessMemory e.kind (IsNameFault e.kind e.line (module_view source.now))) }
+    ensures first { IfErr result (λ e. Fails e (checked_at (module_view source.now))) }
 {
     let instances = primitives(alloc, source)?;
     from_instances(alloc, hashing, source, default, &instances)
@@ -193,6 +193,5 @@ pub fn read<'a>(alloc: Global, text: &'a [u8], default: Delay) -> Result<Netlist
     ensures fault { IfErr result (λ e. IsFaultIn text.now e.kind e.line) }
 {
     let module = parse(alloc, text)?;
-    let meant = netlist(alloc, hashing_of(text), &module, default)?;
-    Ok(meant)
+    netlist(alloc, hashing_of(text), &module, default)
 }

@@ -12,7 +12,7 @@ use td_gates::Kind;
 use td_syntax::{Delay, Item, Module, Statement, Terminal};
 
 /// An instance, with what its statement says of it.
-#[derive(Clone, Copy)]
+#[derive(Clone, Copy, Debug)]
 pub struct Primitive<'m, 'a> {
     pub kind: Kind,
     pub delay: Option<Delay<'a>>,

@@ -11,7 +11,7 @@ use std::alloc::AllocError;
 use td_syntax::{Range as Written, decimal_value};
 
 /// The numbers of a range, as written: the bits go from the left number to the right.
-#[derive(Clone, Copy, PartialEq, Eq)]
+#[derive(Clone, Copy, Debug, PartialEq, Eq)]
 pub struct Range {
     pub left: u32,
     pub right: u32,

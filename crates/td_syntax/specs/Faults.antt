@@ -2,8 +2,6 @@
 use Rattle.std.specs.Prelude.{◌≡◌, ℕ, List, Option, None, Some, Result, Ok, Err, MatchOption, codes}
 use Rattle.td_syntax.specs.declared.fault.FaultKind as code_kind
 use Rattle.td_syntax.specs.declared.fault.FaultKind.TheVariants as code
-use Rattle.td_syntax.specs.declared.fault.Reason as code_reason
-use Rattle.td_syntax.specs.declared.fault.Reason.TheVariants as reason
 use Rattle.td_syntax.specs.declared.fault.Fault as code_fault
 use Rattle.td_syntax.specs.declared.token.Stop.TheVariants as stop
 use Rattle.td_syntax.specs.declared.token.Stop.{Stop}
@@ -63,19 +61,16 @@ stopped stop.Malformed line = fault Syntax line
 stopped stop.End line = fault UnexpectedEnd line
 
 -- want of memory isn't a fault of the text
-abbrev pub told_reason : code_reason.Reason → Option FaultKind
-told_reason reason.OutOfMemory = None
-told_reason reason.BadByte = Some BadByte
-told_reason reason.UnexpectedEnd = Some UnexpectedEnd
-told_reason reason.Syntax = Some Syntax
-told_reason reason.ZeroDelay = Some ZeroDelay
-told_reason reason.DelayTooFine = Some DelayTooFine
-told_reason reason.DelayTooLarge = Some DelayTooLarge
-told_reason reason.TooMany = Some TooMany
-
 abbrev pub told : code_kind.FaultKind → Option FaultKind
-told (code.Untold r) = told_reason r
+told code.OutOfMemory = None
+told code.BadByte = Some BadByte
+told code.UnexpectedEnd = Some UnexpectedEnd
+told code.Syntax = Some Syntax
 told (code.OutOfSubset w) = Some (OutOfSubset w.now)
+told code.ZeroDelay = Some ZeroDelay
+told code.DelayTooFine = Some DelayTooFine
+told code.DelayTooLarge = Some DelayTooLarge
+told code.TooMany = Some TooMany
 
 abbrev pub Fails : {Y : Type 0} → code_fault.Fault → Result Y Fault → Type 0
 Fails e read = MatchOption (told e.kind) (Unit {0}) (λ kind. read ≡ Err (fault kind e.line))

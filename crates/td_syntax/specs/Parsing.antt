@@ -370,19 +370,11 @@ declares d = Ok (More (grammar.Declares d.0), d.1)
 abbrev pub gates : grammar.Statement × Remainder → Result (Step grammar.Item × Remainder) Fault
 gates g = Ok (More (grammar.Gates g.0), g.1)
 
--- an item that declares names, behind the word of their role
-abbrev pub declares_at : ℕ → Role → Remainder → Result (Step grammar.Item × Remainder) Fault
-declares_at attributes r s = declaration_at attributes r s >>= declares
-
--- an item of gates, behind the word of their kind
-abbrev pub gates_at : ℕ → ℕ → Kind → Remainder → Result (Step grammar.Item × Remainder) Fault
-gates_at tens attributes kind s = statement_at tens attributes kind s >>= gates
-
 abbrev pub item_word : ℕ → ℕ → Placed → Remainder → Keyword → Result (Step grammar.Item × Remainder) Fault
-item_word tens attributes p s keyword.Input = declares_at attributes role.Input s
-item_word tens attributes p s keyword.Output = declares_at attributes role.Output s
-item_word tens attributes p s keyword.Wire = declares_at attributes role.Wire s
-item_word tens attributes p s (keyword.Gate kind) = gates_at tens attributes kind s
+item_word tens attributes p s keyword.Input = declaration_at attributes role.Input s >>= declares
+item_word tens attributes p s keyword.Output = declaration_at attributes role.Output s >>= declares
+item_word tens attributes p s keyword.Wire = declaration_at attributes role.Wire s >>= declares
+item_word tens attributes p s (keyword.Gate kind) = statement_at tens attributes kind s >>= gates
 -- attributes stand before items alone
 item_word tens attributes p s keyword.EndModule = if attributes == 0 then Ok (Done, s) else Err (refused p)
 item_word tens attributes p s keyword.Module = Err (refused p)

@@ -5,7 +5,7 @@ ghost use Rattle.td_syntax.specs.Lexical.{closes, behind_byte, end_behind};
 ghost use Rattle.td_syntax.specs.declared.attribute.Place.TheVariants.{Plain};
 
 /// What stands before a byte of an attribute.
-#[derive(Clone, Copy)]
+#[derive(Clone, Copy, Debug, PartialEq, Eq)]
 pub enum Place {
     Plain,
     /// A `*`, which a `)` may follow to end the attribute.

@@ -7,9 +7,9 @@ ghost use Rattle.td_syntax.specs.Readers.{many};
 ghost use Rattle.td_syntax.specs.Parsing.{behind_wire, wire_at, limited_at, bounds_at, range_at, declaration_at, direction_at, header_at, headed_at, port_at, port_step, is_heading, listed_at, ports_at};
 
 use crate::delay::decimal_value;
-use crate::fault::{Fault, FaultKind, Reason};
+use crate::fault::{Fault, FaultKind};
 use crate::parser::{Parser, direction_of, fault, is_attribute, is_mark, refused, whole_of};
-use crate::step::{Step, append};
+use crate::step::Step;
 use crate::syntax::{Declaration, Header, Port, Ports, Range, Role};
 use crate::token::{Placed, Symbol};
 use std::alloc::Global;
@@ -72,7 +72,7 @@ impl<'a> Parser<'a> {
             return Err(refused(placed));
         };
         if MAX_BOUND < decimal_value(digits) {
-            Err(fault(FaultKind::Untold(Reason::TooMany), placed.line))
+            Err(fault(FaultKind::TooMany, placed.line))
         } else {
             Ok(digits)
         }
@@ -195,9 +195,9 @@ impl<'a> Parser<'a> {
         let mut ports = Vec::new(alloc);
         'ports: loop {
             match self.port_step(ports.len())? {
-                Step::More(port) => append(&mut ports, port)?,
+                Step::More(port) => ports.push(port)?,
                 Step::Final(port) => {
-                    append(&mut ports, port)?;
+                    ports.push(port)?;
                     return Ok(ports);
                 }
                 Step::Done => return Ok(ports),

@@ -7,9 +7,9 @@ ghost use Rattle.td_syntax.specs.Grammar.{unit_exponent};
 ghost use Rattle.td_syntax.specs.Readers.{many};
 ghost use Rattle.td_syntax.specs.Parsing.{attributes_at, directive_at, front_step, behind_step};
 
-use crate::fault::{Fault, FaultKind, Reason};
+use crate::fault::{Fault, FaultKind};
 use crate::parser::{Parser, fault, is_module, refused};
-use crate::step::{Step, append};
+use crate::step::Step;
 use crate::syntax::Front;
 use crate::token::{Directive, Token, Unread};
 use std::alloc::Global;
@@ -53,7 +53,7 @@ impl<'a> Parser<'a> {
     {
         match read {
             Ok(directive) => Ok(directive),
-            Err(Unread::Wrong) => Err(fault(FaultKind::Untold(Reason::Syntax), line)),
+            Err(Unread::Wrong) => Err(fault(FaultKind::Syntax, line)),
             Err(Unread::Short) => {
                 let placed = self.next()?;
                 Err(refused(placed))
@@ -87,9 +87,9 @@ impl<'a> Parser<'a> {
         let mut fronts = Vec::new(alloc);
         'fronts: loop {
             match self.front_step(fronts.len())? {
-                Step::More(front) => append(&mut fronts, front)?,
+                Step::More(front) => fronts.push(front)?,
                 Step::Final(front) => {
-                    append(&mut fronts, front)?;
+                    fronts.push(front)?;
                     return Ok(fronts);
                 }
                 Step::Done => return Ok(fronts),
@@ -122,9 +122,9 @@ impl<'a> Parser<'a> {
         let mut directives = Vec::new(alloc);
         'directives: loop {
             match self.behind_step(directives.len())? {
-                Step::More(directive) => append(&mut directives, directive)?,
+                Step::More(directive) => directives.push(directive)?,
                 Step::Final(directive) => {
-                    append(&mut directives, directive)?;
+                    directives.push(directive)?;
                     return Ok(directives);
                 }
                 Step::Done => return Ok(directives),

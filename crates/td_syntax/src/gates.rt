@@ -8,9 +8,9 @@ ghost use Rattle.td_syntax.specs.Readers.{many};
 ghost use Rattle.td_syntax.specs.Parsing.{steps_at, second_at, close_at, bracketed_at, delay_at, output_at, begin_terminal, more_terminals, terminal_end, bit_at, selected_at, terminal_step, opening_refusal, opening_at, instance_at, instance_step, statement_at};
 
 use crate::delay::{MAX_DELAY, steps_of};
-use crate::fault::{Fault, FaultKind, Reason};
+use crate::fault::{Fault, FaultKind};
 use crate::parser::{Parser, base_of, fault, is_mark, number_of, refused, refused_name};
-use crate::step::{Step, append};
+use crate::step::Step;
 use crate::syntax::{Delay, Instance, Statement, Terminal};
 use crate::token::{Number, Placed, Symbol};
 use std::alloc::Global;
@@ -51,10 +51,10 @@ impl<'a> Parser<'a> {
             return Err(refused_name(placed));
         };
         match steps_of(tens, number) {
-            None => Err(fault(FaultKind::Untold(Reason::DelayTooFine), placed.line)),
-            Some(0) => Err(fault(FaultKind::Untold(Reason::ZeroDelay), placed.line)),
+            None => Err(fault(FaultKind::DelayTooFine, placed.line)),
+            Some(0) => Err(fault(FaultKind::ZeroDelay, placed.line)),
             Some(1..=MAX_DELAY) => Ok(number),
-            Some(_) => Err(fault(FaultKind::Untold(Reason::DelayTooLarge), placed.line)),
+            Some(_) => Err(fault(FaultKind::DelayTooLarge, placed.line)),
         }
     }
 
@@ -125,7 +125,7 @@ impl<'a> Parser<'a> {
     {
         match terminal {
             Terminal::Whole(_) | Terminal::Select(_, _) => self.count_gate(line),
-            Terminal::Level(_) => Err(fault(FaultKind::Untold(Reason::Syntax), line)),
+            Terminal::Level(_) => Err(fault(FaultKind::Syntax, line)),
         }
     }
 
@@ -140,7 +140,7 @@ impl<'a> Parser<'a> {
         ensures { Gives (λ _. self.new) result (begin_terminal place line (terminal_view terminal.entry) self.old) }
     {
         if MAX_TERMINALS <= place {
-            Err(fault(FaultKind::Untold(Reason::TooMany), line))
+            Err(fault(FaultKind::TooMany, line))
         } else if place == 0 {
             self.output(line, terminal)
         } else {
@@ -184,7 +184,7 @@ impl<'a> Parser<'a> {
         } else if !is_mark(Symbol::Close, placed.token) {
             Err(refused(placed))
         } else if place == 0 {
-            Err(fault(FaultKind::Untold(Reason::Syntax), placed.line))
+            Err(fault(FaultKind::Syntax, placed.line))
         } else {
             Ok(Step::Final(terminal))
         }
@@ -237,9 +237,9 @@ impl<'a> Parser<'a> {
         let mut terminals = Vec::new(alloc);
         'terminals: loop {
             match self.terminal_step(kind, terminals.len())? {
-                Step::More(terminal) => append(&mut terminals, terminal)?,
+                Step::More(terminal) => terminals.push(terminal)?,
                 Step::Final(terminal) => {
-                    append(&mut terminals, terminal)?;
+                    terminals.push(terminal)?;
                     return Ok(terminals);
                 }
                 Step::Done => return Ok(terminals),
@@ -295,9 +295,9 @@ impl<'a> Parser<'a> {
         let mut instances = Vec::new(alloc);
         'instances: loop {
             match self.instance_step(alloc, kind, instances.len())? {
-                Step::More(instance) => append(&mut instances, instance)?,
+                Step::More(instance) => instances.push(instance)?,
                 Step::Final(instance) => {
-                    append(&mut instances, instance)?;
+                    instances.push(instance)?;
                     return Ok(instances);
                 }
                 Step::Done => return Ok(instances),

@@ -4,46 +4,18 @@ ghost use Rattle.std.specs.Prelude.{map};
 ghost use Rattle.td_syntax.specs.Faults.{Gives};
 ghost use Rattle.td_syntax.specs.Views.{placed_view, step_view, item_view, module_view};
 ghost use Rattle.td_syntax.specs.Readers.{many};
-ghost use Rattle.td_syntax.specs.Parsing.{declares_at, gates_at, item_word, item_step, module_at};
+ghost use Rattle.td_syntax.specs.Parsing.{item_word, item_step, module_at};
 
 use crate::directives::unit_exponent;
 use crate::fault::Fault;
 use crate::parser::{Parser, keyword_of, refused, refused_name};
-use crate::step::{Step, append};
+use crate::step::Step;
 use crate::syntax::{Item, Module, Role};
 use crate::token::{Placed, Symbol};
 use std::alloc::Global;
-use td_gates::Kind;
 use td_nets::Keyword;
 
 impl<'a> Parser<'a> {
-    /// A declaration, behind the word of its role.
-    fn declares(
-        &mut self,
-        alloc: Global,
-        attributes: usize,
-        role: Role,
-    ) -> Result<Step<Item<'a>>, Fault<'a>>
-        ensures { Gives (λ x. (step_view item_view x, self.new)) result (declares_at attributes role self.old) }
-    {
-        let declaration = self.declaration(alloc, attributes, role)?;
-        Ok(Step::More(Item::Declares(declaration)))
-    }
-
-    /// A statement of gates, behind the word of their kind.
-    fn gates(
-        &mut self,
-        alloc: Global,
-        tens: u8,
-        attributes: usize,
-        kind: Kind,
-    ) -> Result<Step<Item<'a>>, Fault<'a>>
-        ensures { Gives (λ x. (step_view item_view x, self.new)) result (gates_at tens attributes kind self.old) }
-    {
-        let statement = self.statement(alloc, tens, attributes, kind)?;
-        Ok(Step::More(Item::Gates(statement)))
-    }
-
     /// An item that begins with this word, or the end of the items.
     fn item_word(
         &mut self,
@@ -56,10 +28,24 @@ impl<'a> Parser<'a> {
         ensures { Gives (λ x. (step_view item_view x, self.new)) result (item_word tens attributes (placed_view placed.entry) self.old keyword) }
     {
         match keyword {
-            Keyword::Input => self.declares(alloc, attributes, Role::Input),
-            Keyword::Output => self.declares(alloc, attributes, Role::Output),
-            Keyword::Wire => self.declares(alloc, attributes, Role::Wire),
-            Keyword::Gate(kind) => self.gates(alloc, tens, attributes, kind),
+            Keyword::Input => Ok(Step::More(Item::Declares(self.declaration(
+                alloc,
+                attributes,
+                Role::Input,
+            )?))),
+            Keyword::Output => Ok(Step::More(Item::Declares(self.declaration(
+                alloc,
+                attributes,
+                Role::Output,
+            )?))),
+            Keyword::Wire => Ok(Step::More(Item::Declares(self.declaration(
+                alloc,
+                attributes,
+                Role::Wire,
+            )?))),
+            Keyword::Gate(kind) => Ok(Step::More(Item::Gates(self.statement(
+                alloc, tens, attributes, kind,
+            )?))),
             Keyword::EndModule => {
                 if attributes == 0 {
                     Ok(Step::Done)
@@ -95,9 +81,9 @@ impl<'a> Parser<'a> {
         let mut items = Vec::new(alloc);
         'items: loop {
             match self.item_step(alloc, tens, items.len())? {
-                Step::More(item) => append(&mut items, item)?,
+                Step::More(item) => items.push(item)?,
                 Step::Final(item) => {
-                    append(&mut items, item)?;
+                    items.push(item)?;
                     return Ok(items);
                 }
                 Step::Done => return Ok(items),

@@ -20,7 +20,7 @@ mod token;
 
 pub use delay::{decimal_value, steps_of};
 pub use directives::unit_exponent;
-pub use fault::{Fault, FaultKind, Reason};
+pub use fault::{Fault, FaultKind};
 pub use read::parse;
 pub use syntax::{
     Declaration, Delay, Front, Header, Instance, Item, Module, Name, Port, Ports, Range, Role,

@@ -8,9 +8,9 @@ ghost use Rattle.td_syntax.specs.Readers as readers;
 ghost use Rattle.td_syntax.specs.Readers.{behind_front, is_mark, as_name, as_number, as_whole, as_attribute, as_keyword, refused_name, next_at, name_at, whole_at, maybe_at, mark_at, maybe_mark_at, separator_at, name_step, names_at};
 ghost use Rattle.td_syntax.specs.Parsing.{as_wire, as_module, as_direction, as_base, second_refusal, count_at, is_behind, end_at};
 
-use crate::fault::{Fault, FaultKind, Reason};
+use crate::fault::{Fault, FaultKind};
 use crate::lexer::Lexer;
-use crate::step::{Step, append};
+use crate::step::Step;
 use crate::syntax::{Name, Role, Terminal};
 use crate::token::{Front, Number, Placed, Stop, Symbol, Token};
 use std::alloc::Global;
@@ -51,7 +51,7 @@ pub fn refused<'a>(placed: Placed<'a>) -> Fault<'a>
         }
         Token::Attribute => fault(FaultKind::OutOfSubset(b"(*"), placed.line),
         Token::Mark(Symbol::Colon) => fault(FaultKind::OutOfSubset(b":"), placed.line),
-        _ => fault(FaultKind::Untold(Reason::Syntax), placed.line),
+        _ => fault(FaultKind::Syntax, placed.line),
     }
 }
 
@@ -74,9 +74,9 @@ fn stopped<'a>(stop: Stop, line: u32) -> Fault<'a>
     ensures line { result.line ≡ line }
 {
     match stop {
-        Stop::Bad => fault(FaultKind::Untold(Reason::BadByte), line),
-        Stop::Malformed => fault(FaultKind::Untold(Reason::Syntax), line),
-        Stop::Cut | Stop::End => fault(FaultKind::Untold(Reason::UnexpectedEnd), line),
+        Stop::Bad => fault(FaultKind::BadByte, line),
+        Stop::Malformed => fault(FaultKind::Syntax, line),
+        Stop::Cut | Stop::End => fault(FaultKind::UnexpectedEnd, line),
     }
 }
 
@@ -363,9 +363,9 @@ impl<'a> Parser<'a> {
         let mut names = Vec::new(alloc);
         'names: loop {
             match self.name_step(end, names.len())? {
-                Step::More(name) => append(&mut names, name)?,
+                Step::More(name) => names.push(name)?,
                 Step::Final(name) => {
-                    append(&mut names, name)?;
+                    names.push(name)?;
                     return Ok(names);
                 }
                 Step::Done => return Ok(names),
@@ -391,7 +391,7 @@ impl<'a> Parser<'a> {
             self.gates += 1;
             Ok(())
         } else {
-            Err(fault(FaultKind::Untold(Reason::TooMany), line))
+            Err(fault(FaultKind::TooMany, line))
         }
     }
 

@@ -19,7 +19,7 @@ use memchr::{memchr, memmem};
 use td_nets::{is_candidate, is_letter, is_name_byte, is_reserved, keyword_of};
 
 /// A piece of a text and how many bytes it takes.
-#[derive(Clone, Copy)]
+#[derive(Clone, Copy, Debug)]
 pub enum Piece<'a> {
     /// White space or a comment.
     Space(usize),

@@ -7,7 +7,7 @@ ghost use Rattle.td_syntax.specs.FirstFault.{syntax_of};
 ghost use Rattle.td_syntax.specs.Text.{Parses};
 ghost use Rattle.td_syntax.specs.Views.{module_view};
 
-use crate::fault::{Fault, FaultKind, Reason};
+use crate::fault::{Fault, FaultKind};
 use crate::lexer::MAX_TEXT;
 use crate::parser::Parser;
 use crate::syntax::Module;
@@ -19,7 +19,7 @@ fn parsed<'a>(alloc: Global, text: &'a [u8]) -> Result<Module<'a>, Fault<'a>>
 {
     if MAX_TEXT < text.len() {
         return Err(Fault {
-            kind: FaultKind::Untold(Reason::TooMany),
+            kind: FaultKind::TooMany,
             line: 1,
         });
     }

@@ -3,7 +3,7 @@
 use td_nets::Keyword;
 
 /// The characters that the grammar names, a colon inside a range alone.
-#[derive(Clone, Copy)]
+#[derive(Clone, Copy, Debug, PartialEq, Eq)]
 pub enum Symbol {
     Open,
     Close,
@@ -16,7 +16,7 @@ pub enum Symbol {
 }
 
 /// What no token comes after.
-#[derive(Clone, Copy)]
+#[derive(Clone, Copy, Debug, PartialEq, Eq)]
 pub enum Stop {
     /// The text ends inside a comment or an attribute.
     Cut,
@@ -28,7 +28,7 @@ pub enum Stop {
 }
 
 /// A number as written: its digits, and those behind its point. `_` may stand between them.
-#[derive(Clone, Copy)]
+#[derive(Clone, Copy, Debug)]
 pub struct Number<'a> {
     pub whole: &'a [u8],
     pub fraction: Option<&'a [u8]>,
@@ -36,14 +36,14 @@ pub struct Number<'a> {
 
 /// What a `timescale sets: the unit of delays and the step of time, each as the power of ten of a femtosecond that it
 /// is, from 0 to 17. The step is not greater than the unit.
-#[derive(Clone, Copy, Debug)]
+#[derive(Clone, Copy, Debug, PartialEq, Eq)]
 pub struct Timescale {
     pub unit: u8,
     pub step: u8,
 }
 
 /// A compiler directive of the subset.
-#[derive(Clone, Copy, Debug)]
+#[derive(Clone, Copy, Debug, PartialEq, Eq)]
 pub enum Directive {
     Timescale(Timescale),
     /// `celldefine or `endcelldefine.
@@ -51,7 +51,7 @@ pub enum Directive {
 }
 
 /// Why the parts of a directive can't be read.
-#[derive(Clone, Copy)]
+#[derive(Clone, Copy, Debug, PartialEq, Eq)]
 pub enum Unread {
     /// A byte breaks their form.
     Wrong,
@@ -59,7 +59,7 @@ pub enum Unread {
     Short,
 }
 
-#[derive(Clone, Copy)]
+#[derive(Clone, Copy, Debug)]
 pub enum Token<'a> {
     Name(&'a [u8]),
     /// A name with a backslash before it, which isn't part of the name.
@@ -77,14 +77,14 @@ pub enum Token<'a> {
 }
 
 /// A token, and the line of its first byte.
-#[derive(Clone, Copy)]
+#[derive(Clone, Copy, Debug)]
 pub struct Placed<'a> {
     pub token: Token<'a>,
     pub line: u32,
 }
 
 /// What stands in front of the rest of a text: a token, or what no token comes after, with its line.
-#[derive(Clone, Copy)]
+#[derive(Clone, Copy, Debug)]
 pub enum Front<'a> {
     Next(Placed<'a>),
     Behind(Stop, u32),

@@ -2,7 +2,6 @@ use Rattle.std.proofs.Common.{◌≡◌, ◌∙◌, ℕ, List, map, ap, sym}
 use Rattle.td_gates.specs.declared.timing.Delay.{Delay}
 use Rattle.td_syntax.specs.Grammar as grammar
 use Rattle.td_nets.specs.Netlist.{Gate}
-use Rattle.td_netlist.specs.Faults.{fault_of}
 use Rattle.td_netlist.specs.Module.{Primitive, outputs_of}
 use Rattle.std.proofs.lemmas.Result.{err_from_is_err_and}
 use Rattle.td_syntax.specs.Views.{terminal_view}
@@ -25,7 +24,7 @@ pub returns-in_err-add_gate : goal.returns-in_err-add_gate
 returns-in_err-add_gate c =
     let p = err_from_is_err_and c.from_residual.result c.from_residual.ensures.1 in
     let all = over c.args.names.now c.args.timing.now.tens c.args.timing.now.default (map gate_of c.args.gates.now.items) (primitive_of c.args.primitive) (map terminal_view c.outputs-terminal-items.result.now) c.outputs-terminal-items.ensures in
-    rw (p.1, p.2, all) (fails (making.with_gate c.args.names.now c.args.timing.now.tens c.args.timing.now.default (primitive_of c.args.primitive)) terminal_view c.outputs-terminal-items.result.now c.loop-terminal.terminal-index _ (map gate_of c.loop-terminal.gates.items) (each (making.with_gate c.args.names.now c.args.timing.now.tens c.args.timing.now.default (primitive_of c.args.primitive)) (map gate_of c.args.gates.now.items) (map terminal_view c.outputs-terminal-items.result.now)) (fault_of c.in_err-add_gate.field-0.0) c.loop-terminal-test.true c.in_err-add_gate.ensures c.loop-terminal.invariant)
+    rw (p.1, p.2, all) (fails (making.with_gate c.args.names.now c.args.timing.now.tens c.args.timing.now.default (primitive_of c.args.primitive)) terminal_view c.outputs-terminal-items.result.now c.loop-terminal.terminal-index _ (map gate_of c.loop-terminal.gates.items) (each (making.with_gate c.args.names.now c.args.timing.now.tens c.args.timing.now.default (primitive_of c.args.primitive)) (map gate_of c.args.gates.now.items) (map terminal_view c.outputs-terminal-items.result.now)) c.in_err-add_gate.field-0.0 c.loop-terminal-test.true c.in_err-add_gate.ensures c.loop-terminal.invariant)
 
 pub returns : goal.returns
 returns c =

@@ -6,7 +6,6 @@ use Rattle.td_gates.specs.Delays.{IsInRange}
 use Rattle.td_syntax.specs.declared.syntax.Front.{Front}
 use Rattle.td_syntax.specs.Grammar.{IsStatedDelay, unit_exponent}
 use Rattle.td_syntax.specs.Views.{module_view, option_delay_view}
-use Rattle.td_netlist.specs.Faults.{fault_of}
 use Rattle.td_netlist.specs.declared.primitive.Primitive as code_primitive
 use Rattle.td_nets.specs.WellFormed.{IsWellFormed}
 use Rattle.td_netlist.specs.NameViews.{name_ref_of, placed_ref_of}
@@ -35,7 +34,7 @@ returns-in_err-gates-clause-breaks c =
     let tens : c.unit_exponent.result ≡ unit_exponent m.fronts = c.unit_exponent.ensures ∙ ap (λ (fs : List Front). unit_exponent fs) c.deref-3.ensures.value in
     let p = err_from_is_err_and c.from_residual-in_err-gates.result c.from_residual-in_err-gates.ensures.1 in
     rw (p.1, p.2) (gates_fault m c.requires.ports (sides_of c.args.sides.now) k.declared k.declares (primitives m) refl k.drivers k.drives
-    c.requires.items c.args.default c.args.names.now c.unit_exponent.result (map primitive_of c.args.instances.now) k.named tens k.lists (fault_of c.in_err-gates.field-0.0) c.in_err-gates.ensures)
+    c.requires.items c.args.default c.args.names.now c.unit_exponent.result (map primitive_of c.args.instances.now) k.named tens k.lists c.in_err-gates.field-0.0 c.in_err-gates.ensures)
 
 pub returns-in_err-gates-clause-first : goal.returns-in_err-gates-clause-first
 returns-in_err-gates-clause-first c =
@@ -44,7 +43,7 @@ returns-in_err-gates-clause-first c =
     let tens : c.unit_exponent.result ≡ unit_exponent m.fronts = c.unit_exponent.ensures ∙ ap (λ (fs : List Front). unit_exponent fs) c.deref-3.ensures.value in
     let p = err_from_is_err_and c.from_residual-in_err-gates.result c.from_residual-in_err-gates.ensures.1 in
     rw (p.1, p.2) (gates_first m c.requires.ports (sides_of c.args.sides.now) k.declared k.declares (primitives m) refl k.drivers k.drives
-    c.requires.items c.args.default c.args.names.now c.unit_exponent.result (map primitive_of c.args.instances.now) k.named tens k.lists (fault_of c.in_err-gates.field-0.0) c.in_err-gates.ensures)
+    c.requires.items c.args.default c.args.names.now c.unit_exponent.result (map primitive_of c.args.instances.now) k.named tens k.lists c.in_err-gates.field-0.0 c.in_err-gates.ensures)
 
 pub defaulted_count-defaulted-requires : goal.defaulted_count-defaulted-requires
 defaulted_count-defaulted-requires c =

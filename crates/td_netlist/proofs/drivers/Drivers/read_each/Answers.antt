@@ -1,6 +1,5 @@
 use Rattle.std.proofs.Common.{map}
 use Rattle.std.proofs.lemmas.Result.{err_from_is_err_and}
-use Rattle.td_netlist.specs.Faults.{fault_of}
 use Rattle.td_netlist.specs.Checks as checks
 use Rattle.td_netlist.specs.Checks.{each}
 use Rattle.td_netlist.specs.CheckViews.{drivers_of, primitive_of}
@@ -13,7 +12,7 @@ loop-primitive-preserved c = goes (checks.read_all (drivers_of c.args.self.now))
 pub returns-in_err-read_all : goal.returns-in_err-read_all
 returns-in_err-read_all c =
     let p = err_from_is_err_and c.from_residual.result c.from_residual.ensures.1 in
-    rw (p.1, p.2) (fails (checks.read_all (drivers_of c.args.self.now)) primitive_of c.args.primitives.now c.loop-primitive.primitive-index _ (tt) (each (checks.read_all (drivers_of c.args.self.now)) (tt) (map primitive_of c.args.primitives.now)) (fault_of c.in_err-read_all.field-0.0) c.loop-primitive-test.true c.in_err-read_all.ensures c.loop-primitive.invariant)
+    rw (p.1, p.2) (fails (checks.read_all (drivers_of c.args.self.now)) primitive_of c.args.primitives.now c.loop-primitive.primitive-index _ (tt) (each (checks.read_all (drivers_of c.args.self.now)) (tt) (map primitive_of c.args.primitives.now)) c.in_err-read_all.field-0.0 c.loop-primitive-test.true c.in_err-read_all.ensures c.loop-primitive.invariant)
 
 pub returns : goal.returns
 returns c = ends (checks.read_all (drivers_of c.args.self.now)) primitive_of c.args.primitives.now c.loop-primitive.primitive-index (tt) (each (checks.read_all (drivers_of c.args.self.now)) (tt) (map primitive_of c.args.primitives.now)) c.loop-primitive-test.false c.loop-primitive.invariant

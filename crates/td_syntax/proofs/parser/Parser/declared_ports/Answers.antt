@@ -16,8 +16,8 @@ ports-smaller c =
 pub ports-preserved : goal.ports-preserved
 ports-preserved c =
     let e = c.in_ok-port.ensures ∙ ap (λ (x : _). Ok (step_view port_view x, c.port_step.new.self)) c.in-More.is in
-    let pushed : map port_view c.append.new.members.items ≡ map port_view c.ports.ports.items ++ port_view c.in-More.port ∷ [] = rw c.in_ok-append-in-More.ensures (map_push port_view c.ports.ports.items c.in-More.port) in
-    goes_on port_step ports_shorten port_view c.ports.ports.items c.append.new.members.items c.ports.self (port_view c.in-More.port) c.port_step.new.self (many port_step c.args.self.now) (rw (← (c.len.ensures ∙ c.ports.ports.ok.0)) e) pushed c.ports.invariant
+    let pushed : map port_view c.push.new.self.items ≡ map port_view c.ports.ports.items ++ port_view c.in-More.port ∷ [] = rw c.in_ok-push-in-More.ensures.items (map_push port_view c.ports.ports.items c.in-More.port) in
+    goes_on port_step ports_shorten port_view c.ports.ports.items c.push.new.self.items c.ports.self (port_view c.in-More.port) c.port_step.new.self (many port_step c.args.self.now) (rw (← (c.len.ensures ∙ c.ports.ports.ok.0)) e) pushed c.ports.invariant
 
 pub returns-in_err-port : goal.returns-in_err-port
 returns-in_err-port c =
@@ -27,8 +27,8 @@ returns-in_err-port c =
 pub returns-in-Final : goal.returns-in-Final
 returns-in-Final c =
     let e = c.in_ok-port.ensures ∙ ap (λ (x : _). Ok (step_view port_view x, c.port_step.new.self)) c.in-Final.is in
-    let pushed : map port_view c.append-in-Final.new.members.items ≡ map port_view c.ports.ports.items ++ port_view c.in-Final.port ∷ [] = rw c.in_ok-append-in-Final.ensures (map_push port_view c.ports.ports.items c.in-Final.port) in
-    final port_step ports_shorten port_view c.ports.ports.items c.append-in-Final.new.members.items c.ports.self (port_view c.in-Final.port) c.port_step.new.self (many port_step c.args.self.now) (rw (← (c.len.ensures ∙ c.ports.ports.ok.0)) e) pushed c.ports.invariant
+    let pushed : map port_view c.push-in-Final.new.self.items ≡ map port_view c.ports.ports.items ++ port_view c.in-Final.port ∷ [] = rw c.in_ok-push-in-Final.ensures.items (map_push port_view c.ports.ports.items c.in-Final.port) in
+    final port_step ports_shorten port_view c.ports.ports.items c.push-in-Final.new.self.items c.ports.self (port_view c.in-Final.port) c.port_step.new.self (many port_step c.args.self.now) (rw (← (c.len.ensures ∙ c.ports.ports.ok.0)) e) pushed c.ports.invariant
 
 pub returns-in-Done : goal.returns-in-Done
 returns-in-Done c =

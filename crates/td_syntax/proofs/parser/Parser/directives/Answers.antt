@@ -16,8 +16,8 @@ directives-smaller c =
 pub directives-preserved : goal.directives-preserved
 directives-preserved c =
     let e = c.in_ok-directive.ensures ∙ ap (λ (x : _). Ok (step_view same x, c.behind_step.new.self)) c.in-More.is in
-    let pushed : map same c.append.new.members.items ≡ map same c.directives.directives.items ++ same c.in-More.directive ∷ [] = rw c.in_ok-append-in-More.ensures (map_push same c.directives.directives.items c.in-More.directive) in
-    goes_on behind_step behind_shortens same c.directives.directives.items c.append.new.members.items c.directives.self (same c.in-More.directive) c.behind_step.new.self (many behind_step c.args.self.now) (rw (← (c.len.ensures ∙ c.directives.directives.ok.0)) e) pushed c.directives.invariant
+    let pushed : map same c.push.new.self.items ≡ map same c.directives.directives.items ++ same c.in-More.directive ∷ [] = rw c.in_ok-push-in-More.ensures.items (map_push same c.directives.directives.items c.in-More.directive) in
+    goes_on behind_step behind_shortens same c.directives.directives.items c.push.new.self.items c.directives.self (same c.in-More.directive) c.behind_step.new.self (many behind_step c.args.self.now) (rw (← (c.len.ensures ∙ c.directives.directives.ok.0)) e) pushed c.directives.invariant
 
 pub returns-in_err-directive : goal.returns-in_err-directive
 returns-in_err-directive c =
@@ -27,8 +27,8 @@ returns-in_err-directive c =
 pub returns-in-Final : goal.returns-in-Final
 returns-in-Final c =
     let e = c.in_ok-directive.ensures ∙ ap (λ (x : _). Ok (step_view same x, c.behind_step.new.self)) c.in-Final.is in
-    let pushed : map same c.append-in-Final.new.members.items ≡ map same c.directives.directives.items ++ same c.in-Final.directive ∷ [] = rw c.in_ok-append-in-Final.ensures (map_push same c.directives.directives.items c.in-Final.directive) in
-    final behind_step behind_shortens same c.directives.directives.items c.append-in-Final.new.members.items c.directives.self (same c.in-Final.directive) c.behind_step.new.self (many behind_step c.args.self.now) (rw (← (c.len.ensures ∙ c.directives.directives.ok.0)) e) pushed c.directives.invariant ∙ ap (λ (xs : _). Ok (xs, c.behind_step.new.self)) (map_same c.append-in-Final.new.members.items)
+    let pushed : map same c.push-in-Final.new.self.items ≡ map same c.directives.directives.items ++ same c.in-Final.directive ∷ [] = rw c.in_ok-push-in-Final.ensures.items (map_push same c.directives.directives.items c.in-Final.directive) in
+    final behind_step behind_shortens same c.directives.directives.items c.push-in-Final.new.self.items c.directives.self (same c.in-Final.directive) c.behind_step.new.self (many behind_step c.args.self.now) (rw (← (c.len.ensures ∙ c.directives.directives.ok.0)) e) pushed c.directives.invariant ∙ ap (λ (xs : _). Ok (xs, c.behind_step.new.self)) (map_same c.push-in-Final.new.self.items)
 
 pub returns-in-Done : goal.returns-in-Done
 returns-in-Done c =

@@ -16,8 +16,8 @@ fronts-smaller c =
 pub fronts-preserved : goal.fronts-preserved
 fronts-preserved c =
     let e = c.in_ok-front.ensures ∙ ap (λ (x : _). Ok (step_view same x, c.front_step.new.self)) c.in-More.is in
-    let pushed : map same c.append.new.members.items ≡ map same c.fronts.fronts.items ++ same c.in-More.front ∷ [] = rw c.in_ok-append-in-More.ensures (map_push same c.fronts.fronts.items c.in-More.front) in
-    goes_on front_step fronts_shorten same c.fronts.fronts.items c.append.new.members.items c.fronts.self (same c.in-More.front) c.front_step.new.self (many front_step c.args.self.now) (rw (← (c.len.ensures ∙ c.fronts.fronts.ok.0)) e) pushed c.fronts.invariant
+    let pushed : map same c.push.new.self.items ≡ map same c.fronts.fronts.items ++ same c.in-More.front ∷ [] = rw c.in_ok-push-in-More.ensures.items (map_push same c.fronts.fronts.items c.in-More.front) in
+    goes_on front_step fronts_shorten same c.fronts.fronts.items c.push.new.self.items c.fronts.self (same c.in-More.front) c.front_step.new.self (many front_step c.args.self.now) (rw (← (c.len.ensures ∙ c.fronts.fronts.ok.0)) e) pushed c.fronts.invariant
 
 pub returns-in_err-front : goal.returns-in_err-front
 returns-in_err-front c =
@@ -27,8 +27,8 @@ returns-in_err-front c =
 pub returns-in-Final : goal.returns-in-Final
 returns-in-Final c =
     let e = c.in_ok-front.ensures ∙ ap (λ (x : _). Ok (step_view same x, c.front_step.new.self)) c.in-Final.is in
-    let pushed : map same c.append-in-Final.new.members.items ≡ map same c.fronts.fronts.items ++ same c.in-Final.front ∷ [] = rw c.in_ok-append-in-Final.ensures (map_push same c.fronts.fronts.items c.in-Final.front) in
-    final front_step fronts_shorten same c.fronts.fronts.items c.append-in-Final.new.members.items c.fronts.self (same c.in-Final.front) c.front_step.new.self (many front_step c.args.self.now) (rw (← (c.len.ensures ∙ c.fronts.fronts.ok.0)) e) pushed c.fronts.invariant ∙ ap (λ (xs : _). Ok (xs, c.front_step.new.self)) (map_same c.append-in-Final.new.members.items)
+    let pushed : map same c.push-in-Final.new.self.items ≡ map same c.fronts.fronts.items ++ same c.in-Final.front ∷ [] = rw c.in_ok-push-in-Final.ensures.items (map_push same c.fronts.fronts.items c.in-Final.front) in
+    final front_step fronts_shorten same c.fronts.fronts.items c.push-in-Final.new.self.items c.fronts.self (same c.in-Final.front) c.front_step.new.self (many front_step c.args.self.now) (rw (← (c.len.ensures ∙ c.fronts.fronts.ok.0)) e) pushed c.fronts.invariant ∙ ap (λ (xs : _). Ok (xs, c.front_step.new.self)) (map_same c.push-in-Final.new.self.items)
 
 pub returns-in-Done : goal.returns-in-Done
 returns-in-Done c =

@@ -16,8 +16,8 @@ instances-smaller c =
 pub instances-preserved : goal.instances-preserved
 instances-preserved c =
     let e = c.in_ok-instance.ensures ∙ ap (λ (x : _). Ok (step_view instance_view x, c.instance_step.new.self)) c.in-More.is in
-    let pushed : map instance_view c.append.new.members.items ≡ map instance_view c.instances.instances.items ++ instance_view c.in-More.instance ∷ [] = rw c.in_ok-append-in-More.ensures (map_push instance_view c.instances.instances.items c.in-More.instance) in
-    goes_on (instance_step c.args.kind) (instances_shorten c.args.kind) instance_view c.instances.instances.items c.append.new.members.items c.instances.self (instance_view c.in-More.instance) c.instance_step.new.self (many (instance_step c.args.kind) c.args.self.now) (rw (← (c.len.ensures ∙ c.instances.instances.ok.0)) e) pushed c.instances.invariant
+    let pushed : map instance_view c.push.new.self.items ≡ map instance_view c.instances.instances.items ++ instance_view c.in-More.instance ∷ [] = rw c.in_ok-push-in-More.ensures.items (map_push instance_view c.instances.instances.items c.in-More.instance) in
+    goes_on (instance_step c.args.kind) (instances_shorten c.args.kind) instance_view c.instances.instances.items c.push.new.self.items c.instances.self (instance_view c.in-More.instance) c.instance_step.new.self (many (instance_step c.args.kind) c.args.self.now) (rw (← (c.len.ensures ∙ c.instances.instances.ok.0)) e) pushed c.instances.invariant
 
 pub returns-in_err-instance : goal.returns-in_err-instance
 returns-in_err-instance c =
@@ -27,8 +27,8 @@ returns-in_err-instance c =
 pub returns-in-Final : goal.returns-in-Final
 returns-in-Final c =
     let e = c.in_ok-instance.ensures ∙ ap (λ (x : _). Ok (step_view instance_view x, c.instance_step.new.self)) c.in-Final.is in
-    let pushed : map instance_view c.append-in-Final.new.members.items ≡ map instance_view c.instances.instances.items ++ instance_view c.in-Final.instance ∷ [] = rw c.in_ok-append-in-Final.ensures (map_push instance_view c.instances.instances.items c.in-Final.instance) in
-    final (instance_step c.args.kind) (instances_shorten c.args.kind) instance_view c.instances.instances.items c.append-in-Final.new.members.items c.instances.self (instance_view c.in-Final.instance) c.instance_step.new.self (many (instance_step c.args.kind) c.args.self.now) (rw (← (c.len.ensures ∙ c.instances.instances.ok.0)) e) pushed c.instances.invariant
+    let pushed : map instance_view c.push-in-Final.new.self.items ≡ map instance_view c.instances.instances.items ++ instance_view c.in-Final.instance ∷ [] = rw c.in_ok-push-in-Final.ensures.items (map_push instance_view c.instances.instances.items c.in-Final.instance) in
+    final (instance_step c.args.kind) (instances_shorten c.args.kind) instance_view c.instances.instances.items c.push-in-Final.new.self.items c.instances.self (instance_view c.in-Final.instance) c.instance_step.new.self (many (instance_step c.args.kind) c.args.self.now) (rw (← (c.len.ensures ∙ c.instances.instances.ok.0)) e) pushed c.instances.invariant
 
 pub returns-in-Done : goal.returns-in-Done
 returns-in-Done c =

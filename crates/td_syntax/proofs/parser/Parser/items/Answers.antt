@@ -16,8 +16,8 @@ items-smaller c =
 pub items-preserved : goal.items-preserved
 items-preserved c =
     let e = c.in_ok-item.ensures ∙ ap (λ (x : _). Ok (step_view item_view x, c.item_step.new.self)) c.in-More.is in
-    let pushed : map item_view c.append.new.members.items ≡ map item_view c.items.items.items ++ item_view c.in-More.item ∷ [] = rw c.in_ok-append-in-More.ensures (map_push item_view c.items.items.items c.in-More.item) in
-    goes_on (item_step c.args.tens) (items_shorten c.args.tens) item_view c.items.items.items c.append.new.members.items c.items.self (item_view c.in-More.item) c.item_step.new.self (many (item_step c.args.tens) c.args.self.now) (rw (← (c.len.ensures ∙ c.items.items.ok.0)) e) pushed c.items.invariant
+    let pushed : map item_view c.push.new.self.items ≡ map item_view c.items.items.items ++ item_view c.in-More.item ∷ [] = rw c.in_ok-push-in-More.ensures.items (map_push item_view c.items.items.items c.in-More.item) in
+    goes_on (item_step c.args.tens) (items_shorten c.args.tens) item_view c.items.items.items c.push.new.self.items c.items.self (item_view c.in-More.item) c.item_step.new.self (many (item_step c.args.tens) c.args.self.now) (rw (← (c.len.ensures ∙ c.items.items.ok.0)) e) pushed c.items.invariant
 
 pub returns-in_err-item : goal.returns-in_err-item
 returns-in_err-item c =
@@ -27,8 +27,8 @@ returns-in_err-item c =
 pub returns-in-Final : goal.returns-in-Final
 returns-in-Final c =
     let e = c.in_ok-item.ensures ∙ ap (λ (x : _). Ok (step_view item_view x, c.item_step.new.self)) c.in-Final.is in
-    let pushed : map item_view c.append-in-Final.new.members.items ≡ map item_view c.items.items.items ++ item_view c.in-Final.item ∷ [] = rw c.in_ok-append-in-Final.ensures (map_push item_view c.items.items.items c.in-Final.item) in
-    final (item_step c.args.tens) (items_shorten c.args.tens) item_view c.items.items.items c.append-in-Final.new.members.items c.items.self (item_view c.in-Final.item) c.item_step.new.self (many (item_step c.args.tens) c.args.self.now) (rw (← (c.len.ensures ∙ c.items.items.ok.0)) e) pushed c.items.invariant
+    let pushed : map item_view c.push-in-Final.new.self.items ≡ map item_view c.items.items.items ++ item_view c.in-Final.item ∷ [] = rw c.in_ok-push-in-Final.ensures.items (map_push item_view c.items.items.items c.in-Final.item) in
+    final (item_step c.args.tens) (items_shorten c.args.tens) item_view c.items.items.items c.push-in-Final.new.self.items c.items.self (item_view c.in-Final.item) c.item_step.new.self (many (item_step c.args.tens) c.args.self.now) (rw (← (c.len.ensures ∙ c.items.items.ok.0)) e) pushed c.items.invariant
 
 pub returns-in-Done : goal.returns-in-Done
 returns-in-Done c =

@@ -15,8 +15,8 @@ names-smaller c =
 pub names-preserved : goal.names-preserved
 names-preserved c =
     let e = c.in_ok-name.ensures ∙ ap (λ (x : _). Ok (step_view name_view x, c.name_step.new.self)) c.in-More.is in
-    let pushed : map name_view c.append.new.members.items ≡ map name_view c.names.names.items ++ name_view c.in-More.name ∷ [] = rw c.in_ok-append-in-More.ensures (map_push name_view c.names.names.items c.in-More.name) in
-    goes_on (name_step c.args.end) (names_shorten c.args.end) name_view c.names.names.items c.append.new.members.items c.names.self (name_view c.in-More.name) c.name_step.new.self (many (name_step c.args.end) c.args.self.now) (rw (← (c.len.ensures ∙ c.names.names.ok.0)) e) pushed c.names.invariant
+    let pushed : map name_view c.push.new.self.items ≡ map name_view c.names.names.items ++ name_view c.in-More.name ∷ [] = rw c.in_ok-push-in-More.ensures.items (map_push name_view c.names.names.items c.in-More.name) in
+    goes_on (name_step c.args.end) (names_shorten c.args.end) name_view c.names.names.items c.push.new.self.items c.names.self (name_view c.in-More.name) c.name_step.new.self (many (name_step c.args.end) c.args.self.now) (rw (← (c.len.ensures ∙ c.names.names.ok.0)) e) pushed c.names.invariant
 
 pub returns-in_err-name : goal.returns-in_err-name
 unfolding names_at
@@ -28,8 +28,8 @@ pub returns-in-Final : goal.returns-in-Final
 unfolding names_at
 returns-in-Final c =
     let e = c.in_ok-name.ensures ∙ ap (λ (x : _). Ok (step_view name_view x, c.name_step.new.self)) c.in-Final.is in
-    let pushed : map name_view c.append-in-Final.new.members.items ≡ map name_view c.names.names.items ++ name_view c.in-Final.name ∷ [] = rw c.in_ok-append-in-Final.ensures (map_push name_view c.names.names.items c.in-Final.name) in
-    final (name_step c.args.end) (names_shorten c.args.end) name_view c.names.names.items c.append-in-Final.new.members.items c.names.self (name_view c.in-Final.name) c.name_step.new.self (many (name_step c.args.end) c.args.self.now) (rw (← (c.len.ensures ∙ c.names.names.ok.0)) e) pushed c.names.invariant
+    let pushed : map name_view c.push-in-Final.new.self.items ≡ map name_view c.names.names.items ++ name_view c.in-Final.name ∷ [] = rw c.in_ok-push-in-Final.ensures.items (map_push name_view c.names.names.items c.in-Final.name) in
+    final (name_step c.args.end) (names_shorten c.args.end) name_view c.names.names.items c.push-in-Final.new.self.items c.names.self (name_view c.in-Final.name) c.name_step.new.self (many (name_step c.args.end) c.args.self.now) (rw (← (c.len.ensures ∙ c.names.names.ok.0)) e) pushed c.names.invariant
 
 pub returns-in-Done : goal.returns-in-Done
 unfolding names_at

@@ -16,8 +16,8 @@ terminals-smaller c =
 pub terminals-preserved : goal.terminals-preserved
 terminals-preserved c =
     let e = c.in_ok-terminal.ensures ∙ ap (λ (x : _). Ok (step_view terminal_view x, c.terminal_step.new.self)) c.in-More.is in
-    let pushed : map terminal_view c.append.new.members.items ≡ map terminal_view c.terminals.terminals.items ++ terminal_view c.in-More.terminal ∷ [] = rw c.in_ok-append-in-More.ensures (map_push terminal_view c.terminals.terminals.items c.in-More.terminal) in
-    goes_on (terminal_step c.args.kind) (terminals_shorten c.args.kind) terminal_view c.terminals.terminals.items c.append.new.members.items c.terminals.self (terminal_view c.in-More.terminal) c.terminal_step.new.self (many (terminal_step c.args.kind) c.args.self.now) (rw (← (c.len.ensures ∙ c.terminals.terminals.ok.0)) e) pushed c.terminals.invariant
+    let pushed : map terminal_view c.push.new.self.items ≡ map terminal_view c.terminals.terminals.items ++ terminal_view c.in-More.terminal ∷ [] = rw c.in_ok-push-in-More.ensures.items (map_push terminal_view c.terminals.terminals.items c.in-More.terminal) in
+    goes_on (terminal_step c.args.kind) (terminals_shorten c.args.kind) terminal_view c.terminals.terminals.items c.push.new.self.items c.terminals.self (terminal_view c.in-More.terminal) c.terminal_step.new.self (many (terminal_step c.args.kind) c.args.self.now) (rw (← (c.len.ensures ∙ c.terminals.terminals.ok.0)) e) pushed c.terminals.invariant
 
 pub returns-in_err-terminal : goal.returns-in_err-terminal
 returns-in_err-terminal c =
@@ -27,8 +27,8 @@ returns-in_err-terminal c =
 pub returns-in-Final : goal.returns-in-Final
 returns-in-Final c =
     let e = c.in_ok-terminal.ensures ∙ ap (λ (x : _). Ok (step_view terminal_view x, c.terminal_step.new.self)) c.in-Final.is in
-    let pushed : map terminal_view c.append-in-Final.new.members.items ≡ map terminal_view c.terminals.terminals.items ++ terminal_view c.in-Final.terminal ∷ [] = rw c.in_ok-append-in-Final.ensures (map_push terminal_view c.terminals.terminals.items c.in-Final.terminal) in
-    final (terminal_step c.args.kind) (terminals_shorten c.args.kind) terminal_view c.terminals.terminals.items c.append-in-Final.new.members.items c.terminals.self (terminal_view c.in-Final.terminal) c.terminal_step.new.self (many (terminal_step c.args.kind) c.args.self.now) (rw (← (c.len.ensures ∙ c.terminals.terminals.ok.0)) e) pushed c.terminals.invariant
+    let pushed : map terminal_view c.push-in-Final.new.self.items ≡ map terminal_view c.terminals.terminals.items ++ terminal_view c.in-Final.terminal ∷ [] = rw c.in_ok-push-in-Final.ensures.items (map_push terminal_view c.terminals.terminals.items c.in-Final.terminal) in
+    final (terminal_step c.args.kind) (terminals_shorten c.args.kind) terminal_view c.terminals.terminals.items c.push-in-Final.new.self.items c.terminals.self (terminal_view c.in-Final.terminal) c.terminal_step.new.self (many (terminal_step c.args.kind) c.args.self.now) (rw (← (c.len.ensures ∙ c.terminals.terminals.ok.0)) e) pushed c.terminals.invariant
 
 pub returns-in-Done : goal.returns-in-Done
 returns-in-Done c =
