@@ -2,13 +2,13 @@
 
 ghost use Rattle.std.specs.Prelude.{◌≡◌, [], ◌∷◌, Some, ◌≤◌, ◌<◌, ◌+◌, ◌^◌, max, IfOk, OnOk, length, filter_map, slice_get};
 ghost use Rattle.std.specs.List.{All};
-ghost use Rattle.td_gates.specs.Table.{TakesInputs, controls, controlling};
+ghost use Rattle.td_gates.specs.Table.{TakesInputs, controlling};
 ghost use Rattle.td_arrival.specs.Arrivals.{gate_signal, hull, around, is_held, opens_at, closes_at, gate_changes, last_delay, is_lost, gate_start, gate_finish};
 ghost use Rattle.td_arrival.specs.Coverage.{span_reach};
 
 use crate::signals::{Signal, Span};
 use std::alloc::AllocError;
-use td_domain::level_of_two;
+use td_domain::{controlling_level, is_control, level_of_two};
 use td_gates::{Counts, Delay, Kind, Level, eval_counts};
 
 /// The signal of the output of a gate whose inputs have the signals at these places. Those of a gate with more than three inputs are
@@ -192,27 +192,6 @@ fn changes_within(
         earliest: earliest + delay.to(start.inverse()),
         latest: latest + slowest_to(delay, finish),
     })
-}
-
-/// The level of an input that settles the output by itself.
-fn controlling_level(kind: Kind) -> Option<Level>
-    ensures { result ≡ controlling kind }
-{
-    match kind {
-        Kind::And | Kind::Nand => Some(Level::Zero),
-        Kind::Or | Kind::Nor => Some(Level::One),
-        Kind::Xor | Kind::Xnor | Kind::Buf | Kind::Not => None,
-    }
-}
-
-/// Whether this is the controlling level.
-fn is_control(control: Option<Level>, level: Level) -> bool
-    ensures { result ≡ controls control level }
-{
-    match control {
-        None => false,
-        Some(control) => control == level,
-    }
 }
 
 /// Whether an input keeps the controlling level for ever.

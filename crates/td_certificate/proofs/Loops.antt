@@ -15,10 +15,6 @@ use Rattle.td_certificate.specs.Reading.{Ends, Wrong, Reading, ◌>>=◌, Fails,
 abbrev pub with_front : {A : Type 0} → List A → Reading (List A) → Reading (List A)
 with_front front read = read >>= λ x. Ok (front ++ x.0, x.1)
 
-pub with_front-nil : {A : Type 0} (read : Reading (List A)) → with_front [] read ≡ read
-with_front-nil (Ok x) = refl
-with_front-nil (Err stop) = refl
-
 -- one more element moves to the front
 pub with_front-push : {A : Type 0} (front : List A) (x : A) (read : Reading (List A)) → with_front front (read >>= λ y. Ok (x ∷ y.0, y.1)) ≡ with_front (front ++ x ∷ []) read
 with_front-push {A} front x (Ok y) = ap (λ (l : List A). Ok (l, y.1)) (sym (append_assoc front (x ∷ []) y.0))

@@ -1,7 +1,8 @@
-//! The table of gates with two inputs, which most gates have: in straight lines, without a list of levels.
+//! What gates make of levels: the table of those with two inputs, which most have, in straight lines and without a list of levels, and the
+//! level of an input that settles the output by itself.
 
 ghost use Rattle.std.specs.Prelude.{◌≡◌, [], ◌∷◌};
-ghost use Rattle.td_gates.specs.Table.{table, and_of, or_of, xor_of};
+ghost use Rattle.td_gates.specs.Table.{table, and_of, or_of, xor_of, controlling, controls};
 
 use td_gates::{Kind, Level};
 
@@ -59,5 +60,26 @@ fn xor(first: Level, second: Level) -> Level
         (Level::Zero, Level::Zero) => Level::Zero,
         (Level::One, Level::One) => Level::Zero,
         (_, _) => Level::One,
+    }
+}
+
+/// The level of an input that settles the output by itself.
+pub fn controlling_level(kind: Kind) -> Option<Level>
+    ensures { result ≡ controlling kind }
+{
+    match kind {
+        Kind::And | Kind::Nand => Some(Level::Zero),
+        Kind::Or | Kind::Nor => Some(Level::One),
+        Kind::Xor | Kind::Xnor | Kind::Buf | Kind::Not => None,
+    }
+}
+
+/// Whether this is the controlling level.
+pub fn is_control(control: Option<Level>, level: Level) -> bool
+    ensures { result ≡ controls control level }
+{
+    match control {
+        None => false,
+        Some(control) => control == level,
     }
 }

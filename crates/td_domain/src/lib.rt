@@ -22,7 +22,7 @@ pub use both::Both;
 pub use bounding::{bound, signals};
 pub use cubes::{Cube, Trit};
 pub use domain::Domain;
-pub use levels::level_of_two;
+pub use levels::{controlling_level, is_control, level_of_two};
 pub use moving::move_to;
 pub use pairs::Pair;
 pub use sheet::Sheet;

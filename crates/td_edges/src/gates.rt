@@ -2,12 +2,13 @@
 
 ghost use Rattle.std.specs.Prelude.{◌≡◌, Some, ◌≤◌, ◌<◌, ◌+◌, ◌^◌, max, length, filter_map, slice_get};
 ghost use Rattle.std.specs.List.{All};
-ghost use Rattle.td_gates.specs.Table.{TakesInputs, controlling, controls};
+ghost use Rattle.td_gates.specs.Table.{TakesInputs, controlling};
 ghost use Rattle.td_edges.specs.EdgeSignals.{gate_signal, gate_start, gate_finish, hull, around, turned, target_span, settled, limited, capped, raised, kept_by, filtered, after_earliest, timely, put_off, delayed_changes};
 ghost use Rattle.td_edges.specs.Coverage.{span_reach};
 
 use crate::parting::parity_span;
 use crate::signals::{Signal, Span, earliest_of, until_of};
+use td_domain::{controlling_level, is_control};
 use td_gates::{Counts, Delay, Kind, Level, eval_counts};
 
 /// The signal of the output of a gate whose inputs have the signals at these places.
@@ -99,27 +100,6 @@ fn target_span(kind: Kind, all: &[Signal], ins: &[u32], span: Span) -> Span
         Kind::Nand | Kind::Nor | Kind::Not => turned(span),
         Kind::Xor => parity_span(Level::Zero, all, ins, span.earliest),
         Kind::Xnor => parity_span(Level::One, all, ins, span.earliest),
-    }
-}
-
-/// The level of an input that settles the output by itself.
-fn controlling_level(kind: Kind) -> Option<Level>
-    ensures { result ≡ controlling kind }
-{
-    match kind {
-        Kind::And | Kind::Nand => Some(Level::Zero),
-        Kind::Or | Kind::Nor => Some(Level::One),
-        Kind::Xor | Kind::Xnor | Kind::Buf | Kind::Not => None,
-    }
-}
-
-/// Whether this is the controlling level.
-fn is_control(control: Option<Level>, level: Level) -> bool
-    ensures { result ≡ controls control level }
-{
-    match control {
-        None => false,
-        Some(control) => control == level,
     }
 }
 

@@ -1,15 +1,9 @@
 -- Lemmas on the earliest moments of blocks of slots.
-use Rattle.std.proofs.Common.{◌≡◌, ◌≢◌, ℕ, ◌+◌, ◌-◌, ◌*◌, ◌/◌, ◌^◌, ◌<◌, ◌≤◌, min, List, length, get_or, set, arith, ap, ◌∙◌, replicate, inl, inr, length-set, get_or-set_same, get_or-set_other}
+use Rattle.std.proofs.Common.{◌≢◌, ℕ, ◌+◌, ◌-◌, ◌*◌, ◌/◌, ◌^◌, ◌<◌, ◌≤◌, min, List, length, get_or, set, arith, inl, inr, length-set, get_or-set_same, get_or-set_other}
 use Rattle.std.proofs.lemmas.Bool.{cases_eq}
-use Rattle.std.proofs.lemmas.List.{length-replicate, get_or-replicate}
 use Rattle.td_event_sim.specs.Earliest.{IsLeast, AreBlocks, IsFrom}
 
 -- ---- the least of some moments
-pub none-least : (start : ℕ) (moments : List ℕ) → IsLeast start start moments (2 ^ 64 - 1)
-none-least start moments = record {
-  low = λ place from before. absurd (omega arith);
-  greatest = λ from small all. small;
-}
 
 pub least-more : (start place : ℕ) (moments : List ℕ) (least : ℕ) → start ≤ place → IsLeast start place moments least
     → IsLeast start (place + 1) moments (min least (get_or moments place 0))
@@ -93,20 +87,3 @@ first-greatest moments blocks read are is from all =
     is.greatest from small (λ block zero inside. (are.least block inside).greatest from small (λ slot lower upper. all slot (omega (arith, are.slots))))
 
 -- ---- no moment at all
-pub no-moments : (moments blocks : List ℕ) (count : ℕ) → 0 < count → moments ≡ replicate (count * 8) (2 ^ 64 - 1) → blocks ≡ replicate count (2 ^ 64 - 1)
-    → AreBlocks moments blocks
-no-moments moments blocks count some m b =
-    let long : length moments ≡ count * 8 = ap length m ∙ length-replicate (count * 8) (2 ^ 64 - 1) in
-    let many : length blocks ≡ count = ap length b ∙ length-replicate count (2 ^ 64 - 1) in
-    let each : (slot : ℕ) → slot < length moments → get_or moments slot 0 ≡ 2 ^ 64 - 1 = λ slot h. rw m (get_or-replicate (count * 8) slot (2 ^ 64 - 1) 0 (omega arith)) in
-    record {
-      some = omega arith;
-      slots = omega arith;
-      within = λ slot h. (let is = each slot h in omega arith);
-      least = λ block h.
-          let is : get_or blocks block 0 ≡ 2 ^ 64 - 1 = rw b (get_or-replicate count block (2 ^ 64 - 1) 0 (omega arith)) in
-          rw is record {
-            low = λ slot lower upper. (let at = each slot (omega arith) in omega arith);
-            greatest = λ from small all. small;
-          };
-    }

@@ -162,9 +162,6 @@ turned-counted first net readers levels ones new_ones inside all gates listed na
     turned-one first place net (bit_at levels net) gate levels (get_or ones place 0) (get_or new_ones place 0) inside refl (narrow place gate at_place) (was place gate at_place)
     (all.each place (omega (arith, long)) ∙ ap (λ (n : ℕ). recounted (not (bit_at levels net)) n (get_or ones place 0)) (listed place gate net at_place))
 
-pub stay-counted : (first : ℕ) (readers : List (List ℕ)) (levels : List Bool) (ones : List ℕ) → StayCounted first readers levels levels ones ones
-stay-counted first readers levels ones gates listed narrow long was = was
-
 pub then-counted : (first : ℕ) (readers : List (List ℕ)) (levels middle_levels new_levels : List Bool) (ones middle new_ones : List ℕ) → length middle ≡ length ones
     → StayCounted first readers levels middle_levels ones middle → StayCounted first readers middle_levels new_levels middle new_ones
     → StayCounted first readers levels new_levels ones new_ones
@@ -205,9 +202,6 @@ counted-more circuit place levels ones gate bit count numbering at_place inside 
           ∙ ap (λ (g : NumberedGate). count_by (bit_at levels) g.inputs) (sym same) ∙ sym kept
       | inr apart ↦ get_or-set_other ones place other count 0 apart ∙ all other at_gate (omega arith) at_other ∙ sym kept
     ]
-
-pub counted-none : (gates : List NumberedGate) (levels : List Bool) (ones : List ℕ) → AreCountedTo gates 0 levels ones
-counted-none gates levels ones place gate below at_place = absurd (omega arith)
 
 pub counted-all : (gates : List NumberedGate) (end : ℕ) (levels : List Bool) (ones : List ℕ) → length gates ≤ end → AreCountedTo gates end levels ones → AreCounted gates levels ones
 counted-all gates end levels ones past all place gate at_place = all place gate (omega (arith, slice_get-some gates place gate at_place)) at_place

@@ -7,7 +7,7 @@ use Rattle.td_gates.specs.declared.primitives.Kind.{Kind}
 use Rattle.td_gates.specs.declared.timing.Delay.{Delay}
 use Rattle.td_gates.specs.declared.timing.Change.{Change}
 use Rattle.td_gates.specs.Delays.{IsInRange}
-use Rattle.td_gates.specs.Table.{level_from, level_eq, delay_to}
+use Rattle.td_gates.specs.Table.{level_from, delay_to}
 use Rattle.td_gates.specs.Wave.{Wave}
 use Rattle.td_gates.specs.Schedule.{GateState, updated, evaluated, step, target_at, target_before, state_before}
 use Rattle.td_gates.proofs.Levels.{level_eq-same, level_eq-other, cases_level}
@@ -114,10 +114,6 @@ kept-bits t when level apart = updated-later t (level_from level) (event_of leve
 pub other-level : (bit : Bool) → level_from (not bit) ≢ level_from bit
 other-level true = λ e. cc
 other-level false = λ e. cc
-
-pub bits-apart : (bit : Bool) → level_eq (level_from (not bit)) (level_from bit) ≡ false
-bits-apart true = refl
-bits-apart false = refl
 
 delay-small : (d : Delay) (level : Bool) → IsInRange d → delay_to d (level_from level) ≤ 1000000000
 delay-small d true range = range.greatest_rise

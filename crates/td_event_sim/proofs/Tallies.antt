@@ -80,8 +80,6 @@ pub target-is : (gate : NumberedGate) (rule : Rule) (levels : List Bool) (ones :
 target-is gate rule levels ones is count = is.target ones ∙ target-by gate.kind levels gate.inputs ones count
 
 -- ---- the gates whose target turns
-pub told-begun : (first : ℕ) (rules : List Rule) (ones outputs : List ℕ) → AreTold first rules ones ones outputs
-told-begun first rules ones outputs place rule at_rule = inr refl
 
 still-told : (rule : Rule) (before after output : ℕ) (outputs new_outputs : List ℕ) → IsTold rule before after output outputs new_outputs
     → (other : ℕ) → Contains outputs other → Contains new_outputs other

@@ -83,9 +83,6 @@ abbrev pub declared_as : (Role → Bool) → List Declared → List grammar.Name
 declared_as is ds = map (λ (d : Declared). d.name) (filter (λ (d : Declared). is d.role) ds)
 
 module _ (is : Role → Bool) where
-  declared_end : (d : Declared) → is d.role ≡ true → map (λ (x : Declared). x.name) (filter (λ (x : Declared). is x.role) (d ∷ [])) ≡ d.name ∷ []
-  declared_end d yes_is = rw yes_is refl
-
   declared_both : (ds es : List Declared) → declared_as is (ds ++ es) ≡ declared_as is ds ++ declared_as is es
   declared_both ds es =
       ap (λ (xs : List Declared). map (λ (x : Declared). x.name) xs) (filter-append (λ (x : Declared). is x.role) ds es)

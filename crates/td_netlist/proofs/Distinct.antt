@@ -1,9 +1,9 @@
 -- Lists in which nothing stands twice.
-use Rattle.std.proofs.Common.{◌≡◌, ◌≢◌, ℕ, zero, suc, ◌≤◌, Bool, true, false, cond, List, [], ◌∷◌, ◌++◌, length, filter, Some, refl, sym, ap, ◌∙◌, subst, arith, inl, inr}
+use Rattle.std.proofs.Common.{◌≡◌, ◌≢◌, ℕ, zero, suc, ◌≤◌, List, [], ◌∷◌, ◌++◌, length, Some, refl, sym, ap, ◌∙◌, subst, arith, inl, inr}
 use Rattle.std.specs.Prelude.{slice_get}
 use Rattle.std.specs.List.{Contains}
 use Rattle.td_gates.proofs.Places.{none-some, some-same, slice_get-Contains, Contains-slice_get}
-use Rattle.td_netlist.proofs.Members.{first, later, one_of, nowhere, behind, either_side, of_filtered}
+use Rattle.td_netlist.proofs.Members.{first, later, one_of, nowhere, behind, either_side}
 
 module _ {X : Type 0} where
   -- no element stands twice
@@ -49,14 +49,6 @@ module _ {X : Type 0} where
         | inl same ↦ new (subst (λ (z : X). Contains xs z) (sym same) in_it)
         | inr rest ↦ nowhere y rest
       ])
-
-  pub distinct_filter : (p : X → Bool) (xs : List X) → Distinct xs → Distinct (filter p xs)
-  distinct_filter p [] apart = distinct_nil
-  distinct_filter p (x ∷ xs) apart = by (p x) (distinct_filter p xs (distinct_tail x xs apart))
-    where
-      by : (b : Bool) → Distinct (filter p xs) → Distinct (cond b (x ∷ filter p xs) (filter p xs))
-      by true rest = distinct_cons x (filter p xs) (λ has. distinct_head x xs apart (of_filtered p x xs has).0) rest
-      by false rest = rest
 
   -- an element that stands before another place of the list too
   pub not_distinct : (before : List X) (x : X) (after : List X) → Contains before x → ¬ Distinct (before ++ x ∷ after)

@@ -1,5 +1,5 @@
 -- The lines of a netlist's inputs and outputs, by their places.
-use Rattle.std.proofs.Common.{◌≡◌, ◌∙◌, ℕ, zero, suc, ◌+◌, ◌<◌, ◌≤◌, List, [], ◌∷◌, ◌++◌, length, drop, get_or, refl, sym, ap, arith, append-nil, append_assoc, Some}
+use Rattle.std.proofs.Common.{◌≡◌, ◌∙◌, ℕ, zero, suc, ◌+◌, ◌<◌, List, [], ◌∷◌, ◌++◌, length, drop, get_or, sym, ap, arith, append_assoc, Some}
 use Rattle.std.specs.Prelude.{slice_get}
 use Rattle.td_gates.proofs.Places.{some-same, slice_get-some, slice_get-within}
 use Rattle.td_nets.specs.Netlist.{Name, Named}
@@ -30,12 +30,6 @@ drop_next (first ∷ others) (suc i) name at =
     let next : suc i + 1 ≡ suc (i + 1) = omega arith in
     rw next (drop_next others i name at)
 
-drop_past : (names : List Name) (i : ℕ) → length names ≤ i → drop i names ≡ []
-drop_past [] zero past = refl
-drop_past [] (suc i) past = refl
-drop_past (first ∷ others) zero past = absurd (omega arith)
-drop_past (first ∷ others) (suc i) past = drop_past others i (omega arith)
-
 module _ (key : List ℕ) (names : List Name) (i : ℕ) (initial text : List ℕ)
     (so_far : text ++ place_lines key i (drop i names) ≡ initial ++ place_lines key 0 names) where
   -- the line of one more name is appended
@@ -45,10 +39,6 @@ module _ (key : List ℕ) (names : List Name) (i : ℕ) (initial text : List ℕ
       ap (λ (t : List ℕ). t ++ place_lines key (i + 1) (drop (i + 1) names)) added
       ∙ append_assoc text (place_line key i name) (place_lines key (i + 1) (drop (i + 1) names))
       ∙ ap (λ (n : List Name). text ++ place_lines key i n) (sym (drop_next names i name at)) ∙ so_far
-
-  -- all lines are there
-  pub place_end : length names ≤ i → text ≡ initial ++ place_lines key 0 names
-  place_end past = sym (append-nil text) ∙ ap (λ (n : List Name). text ++ place_lines key i n) (sym (drop_past names i past)) ∙ so_far
 
 -- the name that was found is the input's
 pub input_named : (circuit : Numbered) (i : ℕ) (less : i < length circuit.netlist.inputs) (name : Name)

@@ -73,12 +73,6 @@ line_added circuit numbering waves long i within initial text new name wave mome
     ∙ append_assoc initial (flat_map (line_of circuit waves) (take i circuit.netlist.outputs)) (line_of circuit waves out.name)
     ∙ ap (λ t. initial ++ t) (sym (flat_map-more (line_of circuit waves) circuit.netlist.outputs i out.name out.at))
 
--- a text to which three were appended in turn
-pub three_pushed : (old front name line_end first second new : List ℕ) → first ≡ old ++ front → second ≡ first ++ name → new ≡ second ++ line_end
-    → new ≡ old ++ (front ++ (name ++ line_end))
-three_pushed old front name line_end first second new is_first is_second is_new =
-    rw (is_new, is_second, is_first, append_assoc (old ++ front) name line_end, append_assoc old front (name ++ line_end)) refl
-
 -- a text to which two were appended in turn
 pub two_pushed : (old front name first new : List ℕ) → first ≡ old ++ front → new ≡ first ++ name → new ≡ old ++ (front ++ name)
 two_pushed old front name first new is_first is_new = rw (is_new, is_first, append_assoc old front name) refl

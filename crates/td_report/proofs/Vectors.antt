@@ -24,12 +24,6 @@ module _ {S : Type 0} (character : S → ℕ) where
   no_vector count word some none [] spells = (let none_left : 0 ≡ count = spells.fits in omega arith)
   no_vector count word some none (symbol ∷ symbols) spells = none (symbol ∷ symbols) spells.spells
 
-  pub wrong_length : (count : ℕ) (word : List ℕ) → 0 < count → ¬ (length word ≡ count) → (symbols : List S)
-      → ¬ SpellsVector character count word symbols
-  wrong_length count word some differs [] spells = (let none_left : 0 ≡ count = spells.fits in omega arith)
-  wrong_length count word some differs (symbol ∷ symbols) spells =
-      differs (ap length spells.spells ∙ length-map (symbol ∷ symbols) character ∙ spells.fits)
-
   pub spelled : (count : ℕ) (word : List ℕ) (symbols : List S) → 0 < count → length word ≡ count → word ≡ map character symbols
       → SpellsVector character count word symbols
   spelled count word [] some long is = (let none_left : length word ≡ 0 = ap length is in absurd (omega arith))
