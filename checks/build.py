@@ -35,7 +35,7 @@ def copy_crates(crates, room):
     shutil.copy(os.path.join(TOP, "HANDLES"), room)
     with open(os.path.join(room, "crates.txt"), "w") as text:
         for line in open(os.path.join(TOP, "crates.txt")):
-            if line.partition(":")[0].split()[:1] in [[crate] for crate in crates]:
+            if line.split(":")[0].split(" ")[0] in crates:
                 text.write(line)
     for crate in crates:
         folder = os.path.join("crates", crate)
@@ -126,12 +126,19 @@ def take(room):
     return True
 
 
+def fail(why):
+    sys.stderr.write(f"tdelay: {why}\n")
+    sys.exit(5)
+
+
 def main():
     signal.signal(signal.SIGTERM, lambda *_: sys.exit(5))
+    if not shutil.which("rt"):
+        fail("the toolchain's command `rt` isn't there")
     build = Build()
     if not build.run():
-        sys.stderr.write("\n".join(build.said) + "\ntdelay: the build failed\n")
-        sys.exit(5)
+        sys.stderr.write("\n".join(build.said) + "\n")
+        fail("the build failed")
 
 
 if __name__ == "__main__":
