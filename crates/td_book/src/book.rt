@@ -241,7 +241,7 @@ impl Book {
 
     /// The first open leaf, held from now on by this worker, below the number of workers, where the budget allows it. The
     /// error is want of memory, and then the book is as before. All room that a close or release of the lease needs is
-    /// taken here.
+    /// taken here, and some of what a split or graft of it needs.
     pub fn claim(&mut self, worker: u32) -> Result<Claim, AllocError>
         requires { worker < self.old.workers }
         ensures ok { IfOk result (λ answer. Claimed self.old worker answer self.new) }
@@ -266,7 +266,8 @@ impl Book {
 
     /// The leaf of this number, held from now on by this worker, below the number of workers. `None` where it isn't an open
     /// leaf, or where all of the budget is handled or allowed. The error is want of memory, and then the book is as before.
-    /// All room that a close or release of the lease needs is taken here. Takes as many steps as the node lies deep.
+    /// All room that a close or release of the lease needs is taken here, and some of what a split or graft of it needs. Takes as many steps as the
+    /// node lies deep.
     pub fn claim_id(&mut self, worker: u32, number: u32) -> Result<Option<Lease>, AllocError>
         requires { worker < self.old.workers }
         ensures ok { IfOk result (λ answer. ClaimedAt self.old worker number answer self.new) }

@@ -71,7 +71,8 @@ NoDigit (b ∷ rest) = is_ascii_digit b ≡ false
 abbrev pub IsOther : ℕ → Type 0
 IsOther number = (version : Version) → number ≢ version_number version
 
--- A first line with a number of no version is told as another version, or as a number too large, whatever follows the number.
+-- A first line with a number of no version, of at most 64 digits, is told as another version, or as a number too large, whatever follows the
+-- number.
 abbrev pub VersionsAreTold : Type 0
 VersionsAreTold = (n : ℕ) (later : List ℕ) → IsOther n → n < 10 ^ 64 → NoDigit later
     → kind_in (codes "tdelay-cert " ++ decimal n ++ later) ≡ Some (if nat_le n greatest then kind.Version else kind.NumberTooLarge)

@@ -11,7 +11,7 @@ use thiserror::Error;
 /// What is wrong with a text.
 #[derive(Clone, Copy, Debug, PartialEq, Eq, Drop, Error)]
 pub enum CertFaultKind {
-    /// A growth was refused. The line says nothing.
+    /// A growth was refused. The line is 0.
     #[error("out of memory")]
     OutOfMemory,
     /// A byte that the format doesn't allow there.

@@ -244,7 +244,7 @@ pub fn check<'a>(
     ensures spelled { IfOk result (λ checked. Spells checked.certificate certificate.now) }
     ensures fault { IfErr result (λ fault. IsCheckFault netlist.now default certificate.now fault) }
 
-    // Unless memory runs out, texts that have a verdict are told it.
+    // Unless want of memory is told, texts that have a verdict are told it.
     ensures only { (verdict : Told) → HaveVerdict netlist.now default certificate.now verdict → IsToldAs verdict result }
 
     // An accepted time is the worst delay of the admitted pairs.

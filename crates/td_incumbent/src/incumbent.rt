@@ -62,7 +62,7 @@ impl Incumbent {
         Ok((Incumbent { table }, all))
     }
 
-    /// The greatest offer so far, which is at least what this seat, one of this incumbent, has seen.
+    /// What the word holds, which is at least what this seat, one of this incumbent, has seen.
     pub fn look(&self, seat: &mut Seat) -> u64
         requires { seat.old.table ≡ self.now.table }
         ensures seen { seat.old.seen ≤ result }

@@ -22,7 +22,7 @@ use std::alloc::{AllocError, Global};
 use td_certificate::{Certificate, Question, Tree};
 use td_domain::{Admit, Cube};
 
-/// The place of the first certificate with the greatest time.
+/// The place of a certificate with the greatest time.
 fn greatest(certificates: &[Certificate]) -> usize
     requires { 0 < length certificates.now }
     ensures within { result < length certificates.now }
@@ -104,7 +104,7 @@ fn question_with(alloc: Global, first: &Certificate, pins: Cube) -> Result<Quest
 ///
 /// # Errors
 ///
-/// The first that is there of: no certificate; one that isn't as the first; one whose pins aren't a part of these; a leaf of one that
+/// One that is there of: no certificate; one that isn't as the first; one whose pins aren't a part of these; a leaf of one that
 /// says that no admitted pair lies in its cube, where all pairs are admitted; what keeps them from being joined. `OutOfMemory` where a
 /// growth was refused.
 pub fn join_in(

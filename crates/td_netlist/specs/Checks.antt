@@ -256,7 +256,6 @@ read_placed driven u p = read_from driven p.line (Named p.net)
 
 -- ---- the whole
 
--- the ports by direction and the names of the declarations
 -- what the items declare too, and then the nets of the ports by direction
 abbrev pub declared_from : Lists → grammar.Module → Result (Sides × List Known) Fault
 declared_from ported m = do
@@ -264,6 +263,7 @@ declared_from ported m = do
   sides ← sides_at lists.directions m.ports
   Ok (sides, lists.names)
 
+-- the ports by direction and the names of the declarations
 unfoldable pub declared_at : grammar.Module → Result (Sides × List Known) Fault
 declared_at m = do
   ported ← declare_ports m.ports

@@ -32,8 +32,8 @@ pub record IsOfInput (setting : Setting) (waves : Net → Wave) (link : Link) : 
   pub moment : slice_get setting.moments place ≡ Some link.moment
   pub cause : link.cause ≡ None
 
--- A gate's output changes, since the gate's target changed to that level just the delay to it before. There the net of the terminal
--- that is the cause changed, and those of the terminals before it didn't.
+-- A gate's output changes, since the gate's target changed to that level just the delay to it before. The earlier link is of the net of the
+-- terminal that is the cause, and the nets of the terminals before that one didn't change there.
 pub record IsCausedBy (netlist : Netlist) (waves : Net → Wave) (earlier later : Link) : Type 0 where
   pub change : IsChange waves later
   pub cause : Cause

@@ -1,4 +1,5 @@
--- What stands at the front of a text: white space, a comment or a token of the grammar, each the longest that begins there.
+-- What stands at the front of a text: white space, a comment or a token of the grammar, each the longest that begins there. Nothing stands there
+-- where that one runs into what it may not: a number into a letter, an attribute that isn't closed into the end of the text.
 use Rattle.std.specs.Prelude.{ℕ, suc, ◌+◌, ◌-◌, List, [], ◌∷◌, length, take, drop, Option, None, Some, Bool, ◌||◌, ◌&&◌, ◌==◌, if◌then◌else◌, codes, true, false, not, Ok}
 use Rattle.std.specs.List.{prefix_len, position_or_len, list_any}
 use Rattle.std.specs.Option.{option_map}

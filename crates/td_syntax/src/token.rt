@@ -72,7 +72,7 @@ pub enum Token<'a> {
     Attribute,
     /// What a directive says and its word. Parts that can't be read matter only where a directive may stand.
     Directive(Result<Directive, Unread>, &'a [u8]),
-    /// What the subset leaves out: another reserved word, another constant or directive, another character.
+    /// What the subset leaves out: another reserved word, another constant or directive, a number that runs into letters, another character.
     Outside(&'a [u8]),
 }
 
