@@ -129,8 +129,8 @@ class Cases:
             self.run("a pipe", ["worst", "-", "--cert", "-"], (0, CERTIFICATE, b""), stdin=file)
         self.run("both to -", ["worst", "t.v", "--cert", "-", "--vcd", "-"], (2, b"", b"tdelay: - is -\n"))
         with open("/dev/full", "wb") as full:
-            self.run("certificate to a full disk as -", ["worst", "t.v", "--cert", "-"], unwritten(b"-", b""), stdout=full)
-            self.run("waveform to a full disk as -", ["sim", "t.v", "0", "1", "--vcd", "-"], unwritten(b"-", b""), stdout=full)
+            self.run("certificate to a full disk as -", ["worst", "t.v", "--cert", "-"], unwritten(b"stdout", b""), stdout=full)
+            self.run("waveform to a full disk as -", ["sim", "t.v", "0", "1", "--vcd", "-"], unwritten(b"stdout", b""), stdout=full)
         shown = subprocess.run([self.program, "sim", "t.v", "0", "1", "--vcd", "-"], cwd=self.folder, capture_output=True, timeout=LONGEST)
         subprocess.run([self.program, "sim", "t.v", "0", "1", "--vcd", "t.vcd"], cwd=self.folder, capture_output=True, timeout=LONGEST)
         with open(self.path("t.vcd"), "rb") as file:

@@ -1,4 +1,5 @@
 pub mod Programs
+pub mod Searches
 pub mod HandingOver
 pub mod Questions
 pub mod Joinings

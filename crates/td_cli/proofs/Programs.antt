@@ -16,15 +16,16 @@ use Rattle.td_report.specs.declared.status.Status.{Status}
 use Rattle.td_report.specs.declared.status.Status.TheVariants.{Device}
 use Rattle.td_report.specs.declared.refusal.Refusal.{Refusal}
 use Rattle.td_report.specs.declared.refusal.Refusal.TheVariants as refusal
+use Rattle.td_command.specs.declared.command.WorstRequest.{WorstRequest}
 use Rattle.td_command.specs.declared.command.Request.{Request}
 use Rattle.td_command.specs.declared.command.Request.TheVariants as request
 use Rattle.td_report.specs.Files.{FileStep, Made, Ended, FileText, HasBeginning, IsWritten, IsLeft, AreWritten, Takes}
 use Rattle.td_report.specs.Vectors.{words_of}
-use Rattle.td_report.specs.Refusals.{unwritten_text}
+use Rattle.td_report.specs.Refusals.{refusal_text, unwritten_text}
 use Rattle.td_command.specs.CommandLine.{kinds_of}
-use Rattle.td_report.specs.Ends.{Product, Streams, streams, Tells, TellsReason, TellsUnread, TellsUnwritten, LosesOne, Says, Ends, EndsBehind}
-use Rattle.td_cli.specs.Disks.{Disk, Reads, HoldsOnFile}
-use Rattle.td_cli.specs.Requests.{certificate_files, IsOutOfMemory, IsShown, TellsText, IsProductOf, HoldsOf, KeepsFiles, Overwrites, TellsBefore, RequestRuns, RequestEnds, ProgramEnds}
+use Rattle.td_report.specs.Ends.{Product, Streams, streams, Tells, TellsReason, TellsUnread, TellsUnwritten, IsWrittenAs, LosesOne, Says, Ends, EndsBehind}
+use Rattle.td_cli.specs.Disks.{Disk, Reads, IsUnreadable, HoldsOnFile}
+use Rattle.td_cli.specs.Requests.{certificate_files, IsOutOfMemory, IsShown, TellsText, KeepsFiles, Overwrites, SearchRuns, RequestRuns, RequestEnds, ProgramEnds}
 
 -- a kind whose text goes to standard error isn't
 pub not_shown : (k : ErrorKind) → (k ≢ kind.DisplayHelp) × (k ≢ kind.DisplayVersion) → ¬ IsShown k
@@ -245,37 +246,11 @@ module _ (Told : Output → Output → Type 0) (P : Product → Type 0) (H : Ref
       → Ends P H b steps status (streams old.out mid) new → EndsBehind Told P H b steps status old new
   behind steps status old mid new told ends = record { mid = mid; told = told; ends = ends }
 
-  -- no line was told before a command ended that may take steps on files
-  pub behind_nothing : (WereTaken : List FileStep → Type 0) (status : Status) (old new : Streams) → Told old.err old.err
-      → Takes WereTaken (λ steps. Ends P H b steps status old new) → Takes WereTaken (λ steps. EndsBehind Told P H b steps status old new)
-  behind_nothing WereTaken status old new told taken = (taken.0, taken.1, behind taken.0 status old old.err new told taken.2)
-
 -- what a search of a text does, said of the file that was read as it
-pub search_on_file : (WereTaken : List FileStep → Type 0) (disk : Disk) (name text : List ℕ) → disk.holds name text
-    → (T : List ℕ → Output → Output → Type 0) (P : List ℕ → Product → Type 0) (H : List ℕ → Refusal → Type 0) (status : Status) (old new : Streams)
-    → Takes WereTaken (λ steps. EndsBehind (T text) (P text) (H text) disk.breaks steps status old new)
-    → Takes WereTaken (λ steps. EndsBehind (λ before mid. (mid ≡ before) ⊎ Reads disk name (λ read. T read before mid))
-    (λ product. Reads disk name (λ read. P read product)) (HoldsOnFile disk name H) disk.breaks steps status old new)
-search_on_file WereTaken disk name text held T P H status old new taken = (
-  taken.0,
-  taken.1,
-  record {
-    mid = taken.2.mid;
-    told = inr (text, held, taken.2.told);
-    ends = on_file disk name text held P H disk.breaks disk.breaks (λ name may. may) taken.0 status (streams old.out taken.2.mid) new taken.2.ends;
-  },
-)
-
--- before a command ends nothing has to be told
-pub tells_nothing : (disk : Disk) (asked : Request) (err : Output) → TellsBefore disk asked err err
-tells_nothing disk (request.Sim asked) err = refl
-tells_nothing disk (request.Path asked) err = refl
-tells_nothing disk (request.Bound asked) err = refl
-tells_nothing disk (request.Worst asked) err = inl refl
-tells_nothing disk (request.Parts asked) err = refl
-tells_nothing disk (request.Join asked) err = refl
-tells_nothing disk (request.Check asked) err = refl
-tells_nothing disk (request.Info asked) err = refl
+pub search_on_file : (WereTaken : List FileStep → Type 0) (disk : Disk) (asked : WorstRequest) (text : List ℕ) → disk.holds asked.file.now text
+    → (status : Status) (old new : Streams) → Takes WereTaken (λ steps. SearchRuns asked text disk.breaks steps status old new)
+    → Takes WereTaken (λ steps. RequestRuns disk (request.Worst asked) steps status old new)
+search_on_file WereTaken disk asked text held status old new taken = (taken.0, taken.1, inr (text, held, taken.2))
 
 -- why a file can't be read was told
 pub told_memory : (file : Bor (List ℕ)) (fault : ReadFault) (status : Status) (old new : Output) → fault ≡ unread.OutOfMemory
@@ -296,6 +271,22 @@ not_read disk file P H b unread.OutOfMemory status out err_old err_new fails tol
 not_read disk file P H b unread.Device status out err_old err_new fails told =
     refused P (HoldsOnFile disk file.now H) b (refusal.Unreadable file) status out err_old err_new
     (λ other. inl (file, refl, refl, fails refl)) told
+
+-- a file that can't be written was told by its name, or want of memory
+pub told_unwritten : (name word : List ℕ) (fault : WriteFault) (old new : Output) → fault ≡ unwritten.Device → IsWrittenAs name word
+    → (Tells old new (unwritten_text word) ⊎ Tells old new (refusal_text refusal.OutOfMemory)) → TellsUnwritten name fault old new
+told_unwritten name word fault old new is named (inl told) = inl (is, (word, named, told))
+told_unwritten name word fault old new is named (inr told) = inr told
+
+-- a netlist that a search can't read was told
+pub search_not_read : (disk : Disk) (file : Bor (List ℕ)) (b : List ℕ → Type 0) (fault : ReadFault) (status : Status) (out err_old err_new : Output)
+    → (fault ≡ unread.Device → disk.fails file.now) → TellsUnread file fault status err_old err_new
+    → Ends (λ product. ⊥) (IsUnreadable disk file.now) b [] status (streams out err_old) (streams out err_new)
+search_not_read disk file b unread.OutOfMemory status out err_old err_new fails told =
+    refused (λ product. ⊥) (IsUnreadable disk file.now) b refusal.OutOfMemory status out err_old err_new (λ other. absurd (other refl)) told
+search_not_read disk file b unread.Device status out err_old err_new fails told =
+    refused (λ product. ⊥) (IsUnreadable disk file.now) b (refusal.Unreadable file) status out err_old err_new
+    (λ other. (file, refl, refl, fails refl)) told
 
 -- ---- files
 
@@ -339,27 +330,13 @@ asked_as WereTaken disk asked other status old new same taken =
 -- how a command ends that keeps its files
 pub runs_apart : (WereTaken : List FileStep → Type 0) (disk : Disk) (asked : Request) (status : Status) (old new : Streams) → KeepsFiles disk asked
     → Takes WereTaken (λ steps. RequestRuns disk asked steps status old new) → Takes WereTaken (λ steps. RequestEnds disk asked steps status old new)
-runs_apart WereTaken disk asked status old new keeps taken = (
-  taken.0,
-  taken.1,
-  record {
-    mid = taken.2.mid;
-    told = taken.2.told;
-    ends = lifted (IsProductOf disk asked) (HoldsOf disk asked) disk.breaks (λ product. KeepsFiles disk asked × IsProductOf disk asked product)
-        (λ reason. Overwrites disk asked reason ⊎ HoldsOf disk asked reason) disk.breaks (λ product is. (keeps, is)) (λ reason holds. inr holds)
-        (λ name may. may) taken.0 status (streams old.out taken.2.mid) new taken.2.ends;
-  },
-)
+runs_apart WereTaken disk asked status old new keeps taken = (taken.0, taken.1, inr (keeps, taken.2))
 
 -- a command that would overwrite a file is refused
 pub refused_over : (disk : Disk) (asked : Request) (reason : Refusal) (status : Status) (out err_old err_new : Output) → Overwrites disk asked reason
     → TellsReason reason status err_old err_new → RequestEnds disk asked [] status (streams out err_old) (streams out err_new)
-refused_over disk asked reason status out err_old err_new over told = record {
-  mid = err_old;
-  told = tells_nothing disk asked err_old;
-  ends = refused (λ product. KeepsFiles disk asked × IsProductOf disk asked product) (λ reason. Overwrites disk asked reason ⊎ HoldsOf disk asked reason) disk.breaks
-      reason status out err_old err_new (λ other. inl over) told;
-}
+refused_over disk asked reason status out err_old err_new over told =
+    inl (refused (λ product. ⊥) (Overwrites disk asked) disk.breaks reason status out err_old err_new (λ other. over) told)
 
 -- ---- the files of a search
 

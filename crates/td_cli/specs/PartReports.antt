@@ -6,6 +6,7 @@ use Rattle.td_domain.specs.declared.cubes.Trit.{Trit}
 use Rattle.td_domain.specs.Admits.{HasAdmitted}
 use Rattle.td_search.specs.Problems.{Problem, IsPart}
 use Rattle.td_join.specs.Partition.{IsPartition}
+use Rattle.td_parts.specs.Whole.{IsWhole}
 use Rattle.td_cli.specs.declared.asking.QuestionWords.{QuestionWords}
 use Rattle.td_report.specs.Vectors.{words_of}
 use Rattle.td_report.specs.Reports.{newline}
@@ -36,8 +37,9 @@ abbrev pub part_line : Delay → QuestionWords → List Trit → List ℕ
 part_line default words pins =
     part_options words pins ++ default_text (codes " --default-rise ") default.rise ++ default_text (codes " --default-fall ") default.fall ++ newline
 
--- The report has a line for each of at most so many cubes, at least one. They share out the admitted pairs of what the words ask of the text:
--- each lies in exactly one, and in each lies one. No cube has a pair that isn't one of the pins.
+-- The report has a line for each of at most so many cubes, at least one, and fewer only where a search would split none of them. They share
+-- out the admitted pairs of what the words ask of the text: each lies in exactly one, and in each lies one. No cube has a pair that isn't one
+-- of the pins.
 pub record IsPartsReport (text : List ℕ) (default : Delay) (words : QuestionWords) (parts : ℕ) (report : List ℕ) : Type 0 where
   pub asked : Problem
   pub is_asked : IsAsked text default words asked
@@ -45,6 +47,7 @@ pub record IsPartsReport (text : List ℕ) (default : Delay) (words : QuestionWo
   pub partition : IsPartition asked.admit cubes
   pub any : 0 < length cubes
   pub few : length cubes ≤ parts
+  pub enough : length cubes < parts → All (IsWhole asked.setting) cubes
   pub some : All (HasAdmitted asked.admit) cubes
   pub inside : All (λ cube. IsPart cube asked.admit.pins) cubes
   pub is : report ≡ flat_map (part_line default words) cubes

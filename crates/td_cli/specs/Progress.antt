@@ -10,7 +10,7 @@ use Rattle.td_report.specs.Reports.{newline}
 use Rattle.td_cli.specs.WorstReports.{IsAsked}
 use Rattle.td_report.specs.Ends.{Tells}
 
--- how many nodes are handled, a delay that was found, a figure above which none is, and how many leaves are left
+-- how many nodes are handled, a delay of an admitted pair, a figure above which none is, and how many leaves are left
 abbrev pub progress_line : Progress → List ℕ
 progress_line progress =
     codes "nodes " ++ decimal progress.nodes ++ codes " low " ++ decimal progress.low ++ codes " high " ++ decimal progress.high

@@ -38,8 +38,8 @@ use Rattle.td_report.specs.Refusals.{refusal_text, unwritten_text}
 use Rattle.td_cli.specs.Outcomes.{HasNoAnswer}
 use Rattle.td_report.specs.Outcomes.{HasNoCircuit, HasNoReport, HasNoPath, HasNoBounds, HasNoVerdict}
 use Rattle.td_report.specs.Files.{FileStep, FileText}
-use Rattle.td_cli.specs.Disks.{Disk, Reads, HoldsOnFile}
-use Rattle.td_report.specs.Ends.{Product, IsReportOnly, Streams, Tells, EndsBehind}
+use Rattle.td_cli.specs.Disks.{Disk, Reads, IsUnreadable, HoldsOnFile}
+use Rattle.td_report.specs.Ends.{Product, IsReportOnly, Streams, Tells, Ends, EndsBehind}
 use Rattle.td_cli.specs.Progress.{TellsSearch}
 
 -- ---- the commands, on bytes that were read
@@ -141,7 +141,7 @@ parts_words asked = record {
   strategy = strategy_of asked.strategy;
 }
 
--- what is said for a request
+-- what is said for a request that is no search
 abbrev pub IsProductOf : Disk → Request → Product → Type 0
 IsProductOf disk (request.Sim asked) product =
     Reads disk asked.file.now (λ text. IsSimProduct text (delays asked.rise asked.fall) asked.from.now asked.to.now (words_of asked.at) (words_of asked.vcd) product)
@@ -149,8 +149,7 @@ IsProductOf disk (request.Path asked) product =
     Reads disk asked.file.now (λ text. IsPathProduct text (delays asked.rise asked.fall) asked.from.now asked.to.now (words_of asked.at) (words_of asked.output) product)
 IsProductOf disk (request.Bound asked) product =
     Reads disk asked.file.now (λ text. IsBoundProduct text (delays asked.rise asked.fall) (words_of asked.first) (words_of asked.second) (words_of asked.at) asked.edges product)
-IsProductOf disk (request.Worst asked) product =
-    Reads disk asked.file.now (λ text. IsWorstProduct text (delays asked.rise asked.fall) (words_in asked) asked.budget asked.path (words_of asked.certificate) (words_of asked.vcd) product)
+IsProductOf disk (request.Worst asked) product = ⊥
 IsProductOf disk (request.Check asked) product =
     Reads disk asked.file.now (λ text. Reads disk asked.certificate.now (λ certificate.
     IsCheckProduct text (delays asked.rise asked.fall) certificate product))
@@ -161,7 +160,7 @@ IsProductOf disk (request.Join asked) product =
     (words_of asked.second) (words_of asked.certificate) product)
 IsProductOf disk (request.Info asked) product = Reads disk asked.file.now (λ text. IsInfoProduct text (delays asked.rise asked.fall) product)
 
--- why a request is refused
+-- why a request is refused that is no search
 abbrev pub HoldsOf : Disk → Request → Refusal → Type 0
 HoldsOf disk (request.Sim asked) =
     HoldsOnFile disk asked.file.now (λ text. HasNoReport text (delays asked.rise asked.fall) asked.from.now asked.to.now (words_of asked.at))
@@ -169,7 +168,7 @@ HoldsOf disk (request.Path asked) =
     HoldsOnFile disk asked.file.now (λ text. HasNoPath text (delays asked.rise asked.fall) asked.from.now asked.to.now (words_of asked.at) (words_of asked.output))
 HoldsOf disk (request.Bound asked) =
     HoldsOnFile disk asked.file.now (λ text. HasNoBounds text (delays asked.rise asked.fall) (words_of asked.first) (words_of asked.second) (words_of asked.at))
-HoldsOf disk (request.Worst asked) = HoldsOnFile disk asked.file.now (λ text. HasNoAnswer text (delays asked.rise asked.fall) (words_in asked))
+HoldsOf disk (request.Worst asked) = λ reason. ⊥
 HoldsOf disk (request.Check asked) =
     HoldsOnFile disk asked.file.now (λ text. HoldsOnFile disk asked.certificate.now (HasNoVerdict text (delays asked.rise asked.fall)))
 HoldsOf disk (request.Parts asked) = HoldsOnFile disk asked.file.now (λ text. HasNoAnswer text (delays asked.rise asked.fall) (parts_words asked))
@@ -187,15 +186,20 @@ is_search other = false
 abbrev pub AsksSearch : List (List ℕ) → Type 0
 AsksSearch words = (asked : Request) × Asks words asked × (is_search asked ≡ true)
 
--- what standard error gets before a command ends: of a search, lines of progress where they are asked for
-abbrev pub TellsBefore : Disk → Request → Output → Output → Type 0
-TellsBefore disk (request.Worst asked) old mid =
-    (mid ≡ old) ⊎ Reads disk asked.file.now (λ text. TellsSearch asked.progress text (delays asked.rise asked.fall) (words_in asked) old mid)
-TellsBefore disk other old mid = mid ≡ old
+-- how a search of a text ends: lines of progress are told first, where they are asked for
+abbrev pub SearchRuns : WorstRequest → List ℕ → (List ℕ → Type 0) → List FileStep → Status → Streams → Streams → Type 0
+SearchRuns asked text =
+    EndsBehind (TellsSearch asked.progress text (delays asked.rise asked.fall) (words_in asked))
+    (IsWorstProduct text (delays asked.rise asked.fall) (words_in asked) asked.budget asked.path (words_of asked.certificate) (words_of asked.vcd))
+    (HasNoAnswer text (delays asked.rise asked.fall) (words_in asked))
 
--- how the command that is asked for ends, once it is known that no file of it is written over another
+-- How the command that is asked for ends, once it is known that no file of it is written over another. A search that can't read its netlist tells
+-- that and nothing before it.
 abbrev pub RequestRuns : Disk → Request → List FileStep → Status → Streams → Streams → Type 0
-RequestRuns disk asked = EndsBehind (TellsBefore disk asked) (IsProductOf disk asked) (HoldsOf disk asked) disk.breaks
+RequestRuns disk (request.Worst asked) steps status old new =
+    Ends (λ product. ⊥) (IsUnreadable disk asked.file.now) disk.breaks steps status old new
+    ⊎ Reads disk asked.file.now (λ text. SearchRuns asked text disk.breaks steps status old new)
+RequestRuns disk other steps status old new = Ends (IsProductOf disk other) (HoldsOf disk other) disk.breaks steps status old new
 
 -- the names that are given are of different files
 abbrev pub AreApart : Disk → Option (List ℕ) → Option (List ℕ) → Type 0
@@ -246,10 +250,11 @@ Overwrites disk (request.Worst asked) reason =
     ⊎ IsOverwritten disk (words_of asked.vcd) (words_of asked.certificate) reason)
 Overwrites disk other reason = ⊥
 
--- how the command that is asked for ends: none that says something writes one of its files over another
+-- how the command that is asked for ends: it would write one of its files over another, which is told and nothing else, or it runs
 abbrev pub RequestEnds : Disk → Request → List FileStep → Status → Streams → Streams → Type 0
-RequestEnds disk asked =
-    EndsBehind (TellsBefore disk asked) (λ product. KeepsFiles disk asked × IsProductOf disk asked product) (λ reason. Overwrites disk asked reason ⊎ HoldsOf disk asked reason) disk.breaks
+RequestEnds disk asked steps status old new =
+    Ends (λ product. ⊥) (Overwrites disk asked) disk.breaks steps status old new
+    ⊎ (KeepsFiles disk asked × RequestRuns disk asked steps status old new)
 
 -- ---- the program
 

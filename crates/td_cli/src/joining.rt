@@ -198,7 +198,7 @@ pub fn run_join<F: Files, O: Sink, E: Sink>(
     }
 }
 
-/// Carries out `join` on a netlist's bytes that were read: the report goes to `out`, and then the certificate to the file of the name `name`; why
+/// Carries out `join` on a netlist's bytes that were read: the report goes to `out`, unless the certificate does, and then the certificate to the file of the name `name`; why
 /// there is none goes to `err`.
 pub fn carry_out_join<F: Files, O: Sink, E: Sink>(
     alloc: Global,

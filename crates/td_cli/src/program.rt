@@ -406,7 +406,7 @@ fn check_file<F: Files, O: Sink, E: Sink>(
     }
 }
 
-/// Carries out `sim` on bytes that were read: the report goes to `out`, and then the waves to the file of the name `vcd`; why
+/// Carries out `sim` on bytes that were read: the report goes to `out`, unless the waves do, and then the waves to the file of the name `vcd`; why
 /// there is none goes to `err`.
 pub fn carry_out_sim<F: Files, O: Sink, E: Sink>(
     alloc: Global,
@@ -502,7 +502,7 @@ pub fn carry_out_check<O: Sink, E: Sink>(
     }
 }
 
-/// Carries out `worst` on bytes that were read, with 1 to 64 workers and a budget of at most 10,000,000 nodes: the report goes to `out`, then the
+/// Carries out `worst` on bytes that were read, with 1 to 64 workers and a budget of at most 10,000,000 nodes: the report goes to `out`, unless a file does, then the
 /// certificate of an exact answer to the file of this name, and then the waves of the given pair to that of the name `vcd`; why
 /// there is none goes to `err`, and before that, where it is asked for, lines that tell how far the search has come.
 pub fn carry_out_worst<R: Threads + Wait + Sync, F: Files, O: Sink, E: Sink>(

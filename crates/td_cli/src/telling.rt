@@ -4,14 +4,15 @@ ghost use Rattle.std.specs.Prelude.{◌≡◌, ◌⊎◌, ◌++◌, ℕ, List, O
 ghost use Rattle.clap.specs.Words.{kind_of};
 ghost use Rattle.clap.specs.declared.error.kind.ErrorKind.TheVariants as Kind;
 ghost use Rattle.td_certificate.specs.Spelling.{HasSpelling, spelling};
-ghost use Rattle.td_report.specs.Ends.{Ends, LosesOne, Tells, TellsReason, TellsUnread, TellsUnwritten, Says, streams};
+ghost use Rattle.td_report.specs.Ends.{Ends, IsWrittenAs, LosesOne, Tells, TellsReason, TellsUnread, TellsUnwritten, Says, streams};
 ghost use Rattle.td_report.specs.Files.{IsWritten, AreWritten, IsLeft, Takes};
 ghost use Rattle.td_report.specs.Dumps.{file_of, dump_files, HasRun};
-ghost use Rattle.td_report.specs.Refusals.{unwritten_text};
+ghost use Rattle.td_report.specs.Refusals.{refusal_text, unwritten_text};
 ghost use Rattle.td_report.specs.Vectors.{words_of};
 ghost use Rattle.td_cli.specs.HandingOver.{IsHandedOver};
 ghost use Rattle.td_cli.specs.Requests.{IsBeside, certificate_files, IsOutOfMemory, IsShown, TellsText};
 ghost use Rattle.td_report.specs.declared.status.Status.TheVariants as Ended;
+ghost use Rattle.td_report.specs.declared.refusal.Refusal.TheVariants as Reason;
 
 use clap::Error;
 use clap::error::ErrorKind;
@@ -198,15 +199,30 @@ fn tell_unwritten<E: Sink>(alloc: Global, err: &mut E, file: &str, fault: WriteF
     ensures ends { result ≡ Ended.Device }
     ensures told { TellsUnwritten file.now fault (E.output err.old) (E.output err.new) }
 {
+    match fault {
+        WriteFault::OutOfMemory => tell(err, b"tdelay: out of memory\n", Status::Device),
+        WriteFault::Device => tell_unwritten_as(alloc, err, written_as(file)),
+    }
+}
+
+/// Tells that a file can't be written that is told by this name, or want of memory.
+fn tell_unwritten_as<E: Sink>(alloc: Global, err: &mut E, name: &str) -> Status
+    ensures ends { result ≡ Ended.Device }
+    ensures told { Tells (E.output err.old) (E.output err.new) (unwritten_text name.now)
+        ⊎ Tells (E.output err.old) (E.output err.new) (refusal_text Reason.OutOfMemory) }
+{
     let mut text = Text::new(alloc);
-    let told = match fault {
-        WriteFault::OutOfMemory => Err(AllocError),
-        WriteFault::Device => unwritten_line(&mut text, file),
-    };
-    match told {
+    match unwritten_line(&mut text, name) {
         Ok(()) => tell(err, text.bytes(), Status::Device),
         Err(_) => tell(err, b"tdelay: out of memory\n", Status::Device),
     }
+}
+
+/// The name by which a file that is written is told: `-` is `stdout`.
+fn written_as(name: &str) -> &str
+    ensures { IsWrittenAs name.now result.now }
+{
+    if name == "-" { "stdout" } else { name }
 }
 
 /// Appends the line that tells a file that can't be written.

@@ -1,3 +1,4 @@
 pub mod Shares
 pub mod Weighing
 pub mod Steps
+pub mod Waiting

@@ -1,3 +1,4 @@
+pub mod Whole
 pub mod Queues
 pub mod Splits
 pub mod Sharing

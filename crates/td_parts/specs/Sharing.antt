@@ -1,5 +1,6 @@
 -- Internal: parts that share out the admitted pairs.
 use Rattle.std.specs.Prelude.{◌≡◌, ℕ, ◌+◌, List, [], ◌∷◌, All, length, slice_get, Some}
+use Rattle.td_circuit.specs.Settings.{Setting}
 use Rattle.td_domain.specs.declared.cubes.Trit.{Trit}
 use Rattle.td_domain.specs.declared.cubes.Trit.TheVariants.{Free}
 use Rattle.td_domain.specs.Admits.{Admitted, HasAdmitted}
@@ -8,7 +9,7 @@ use Rattle.td_join.specs.Partition.{IsPartition}
 use Rattle.td_join.specs.Stacks.{most_nodes}
 use Rattle.td_parts.specs.declared.cutting.Cutting.{Cutting}
 use Rattle.td_parts.specs.Queues.{AreBelow}
-use Rattle.td_parts.specs.Splits.{IsSplitFree, cubes_of}
+use Rattle.td_parts.specs.Splits.{IsTruePart, cubes_of}
 
 -- a part of the pins with an admitted pair
 pub record IsShare (admit : Admitted) (cube : List Trit) : Type 0 where
@@ -25,10 +26,10 @@ pub record AreShares (admit : Admitted) (cubes : List (List Trit)) : Type 0 wher
 abbrev pub IsFreeIn : List (List Trit) → ℕ → ℕ → Type 0
 IsFreeIn cubes place position = (cube : List Trit) → slice_get cubes place ≡ Some cube → slice_get cube position ≡ Some Free
 
--- the parts share out the pairs, may be split where they say, and are those of the queue
-pub record IsCutting (admit : Admitted) (cutting : Cutting) : Type 0 where
+-- the parts share out the pairs, may be split where they say and nowhere else, and the queue has places of parts alone
+pub record IsCutting (given : Setting) (admit : Admitted) (cutting : Cutting) : Type 0 where
   pub shares : AreShares admit (cubes_of cutting.parts.items)
-  pub splits : All IsSplitFree cutting.parts.items
+  pub splits : All (IsTruePart given) cutting.parts.items
   pub queued : AreBelow (length cutting.parts.items) cutting.queue
 
 -- how many nodes the trees of some cubes have at most

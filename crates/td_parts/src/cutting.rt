@@ -1,14 +1,16 @@
 //! Cutting the pins of a question into parts.
 
-ghost use Rattle.std.specs.Prelude.{◌≡◌, [], ◌∷◌, ◌++◌, ◌*◌, ◌<◌, ◌≤◌, ◌+◌, max, set, IfOk, IfSome, OnOk, All, length, slice_get, Some};
+ghost use Rattle.std.specs.Prelude.{◌≡◌, [], ◌∷◌, ◌++◌, ◌*◌, ◌<◌, ◌≤◌, ◌+◌, max, set, IfOk, IfSome, OnOk, MatchOption, All, length, slice_get, Some};
+ghost use Rattle.td_circuit.specs.Numbering.{setting};
 ghost use Rattle.td_domain.specs.declared.cubes.Trit.TheVariants.{Free};
 ghost use Rattle.td_domain.specs.Admits.{HasAdmitted};
 ghost use Rattle.td_certificate.specs.Cubes.{zero_side, one_side};
 ghost use Rattle.td_search.specs.Problems.{IsPart};
 ghost use Rattle.td_search.specs.Sheeted.{IsScratch};
 ghost use Rattle.td_join.specs.Partition.{IsPartition};
-ghost use Rattle.td_parts.specs.Queues.{AreBelow};
-ghost use Rattle.td_parts.specs.Splits.{IsSplitFree, cubes_of as cubes};
+ghost use Rattle.td_parts.specs.Queues.{AreBelow, AreWaiting, AreWaitingBut};
+ghost use Rattle.td_parts.specs.Splits.{IsSplitFree, IsTruePart, IsUnsplit, cubes_of as cubes};
+ghost use Rattle.td_parts.specs.Whole.{IsWhole};
 ghost use Rattle.td_parts.specs.Sharing.{AreShares, IsCutting, IsFreeIn, weight};
 
 use crate::part::{Part, cubes_of};
@@ -50,7 +52,8 @@ impl Cutting {
         requires scratch { IsScratch circuit.now scratch.old }
         requires held { length admit.now.held ≡ length circuit.now.netlist.inputs }
         requires any { HasAdmitted admit.now admit.now.pins }
-        ensures cutting { IfOk result (IsCutting admit.now) }
+        ensures cutting { IfOk result (IsCutting (setting circuit.now) admit.now) }
+        ensures waiting { IfOk result (λ cutting. AreWaiting cutting.parts.items cutting.queue) }
         ensures one { IfOk result (λ cutting. length cutting.parts.items ≡ 1) }
         ensures scratch { IsScratch circuit.now scratch.new }
     {
@@ -77,8 +80,9 @@ impl Cutting {
         requires positions { length half ≡ 2 * length circuit.now.netlist.inputs }
         requires place { place < length self.old.parts.items }
         ensures cubes { OnOk result (cubes self.new.parts.items ≡ set (cubes self.old.parts.items) place half) }
-        ensures splits { All IsSplitFree self.old.parts.items → OnOk result (All IsSplitFree self.new.parts.items) }
+        ensures splits { All (IsTruePart (setting circuit.now)) self.old.parts.items → OnOk result (All (IsTruePart (setting circuit.now)) self.new.parts.items) }
         ensures queued { AreBelow (length self.old.parts.items) self.old.queue → OnOk result (AreBelow (length self.old.parts.items) self.new.queue) }
+        ensures waiting { AreWaitingBut place self.old.parts.items self.old.queue → OnOk result (AreWaiting self.new.parts.items self.new.queue) }
         ensures scratch { IsScratch circuit.now scratch.new }
     {
         let part = Part::new(alloc, scratch, circuit, strategy, half)?;
@@ -99,8 +103,9 @@ impl Cutting {
         requires scratch { IsScratch circuit.now scratch.old }
         requires positions { length half ≡ 2 * length circuit.now.netlist.inputs }
         ensures cubes { OnOk result (cubes self.new.parts.items ≡ cubes self.old.parts.items ++ half ∷ []) }
-        ensures splits { All IsSplitFree self.old.parts.items → OnOk result (All IsSplitFree self.new.parts.items) }
+        ensures splits { All (IsTruePart (setting circuit.now)) self.old.parts.items → OnOk result (All (IsTruePart (setting circuit.now)) self.new.parts.items) }
         ensures queued { AreBelow (length self.old.parts.items) self.old.queue → OnOk result (AreBelow (length self.old.parts.items + 1) self.new.queue) }
+        ensures waiting { AreWaiting self.old.parts.items self.old.queue → OnOk result (AreWaiting self.new.parts.items self.new.queue) }
         ensures scratch { IsScratch circuit.now scratch.new }
     {
         let part = Part::new(alloc, scratch, circuit, strategy, half)?;
@@ -123,10 +128,12 @@ impl Cutting {
     ) -> Result<(), AllocError>
         requires scratch { IsScratch circuit.now scratch.old }
         requires held { length admit.now.held ≡ length circuit.now.netlist.inputs }
-        requires cutting { IsCutting admit.now self.old }
+        requires cutting { IsCutting (setting circuit.now) admit.now self.old }
         requires place { place < length self.old.parts.items }
         requires free { IsFreeIn (cubes self.old.parts.items) place position }
-        ensures cutting { OnOk result (IsCutting admit.now self.new) }
+        requires waiting { AreWaitingBut place self.old.parts.items self.old.queue }
+        ensures cutting { OnOk result (IsCutting (setting circuit.now) admit.now self.new) }
+        ensures waiting { OnOk result (AreWaiting self.new.parts.items self.new.queue) }
         ensures few { OnOk result (length self.new.parts.items ≤ length self.old.parts.items + 1) }
         ensures smaller { OnOk result (weight (cubes self.new.parts.items) < weight (cubes self.old.parts.items)) }
         ensures scratch { IsScratch circuit.now scratch.new }
@@ -145,21 +152,27 @@ impl Cutting {
         Ok(())
     }
 
-    /// The place of the part that is halved next, and the position at which it is. None where no part can be halved.
+    /// The place of the part that is halved next, and the position at which it is. None where a search would split no part.
     fn next(&mut self) -> Option<(usize, usize)>
         requires splits { All IsSplitFree self.old.parts.items }
         requires queued { AreBelow (length self.old.parts.items) self.old.queue }
+        requires waiting { AreWaiting self.old.parts.items self.old.queue }
         ensures place { IfSome result (λ next. next.0 < length self.old.parts.items) }
         ensures free { IfSome result (λ next. IsFreeIn (cubes self.old.parts.items) next.0 next.1) }
         ensures parts { self.new.parts ≡ self.old.parts }
         ensures queued { AreBelow (length self.old.parts.items) self.new.queue }
+        ensures waiting { MatchOption result (All IsUnsplit self.new.parts.items) (λ next. AreWaitingBut next.0 self.new.parts.items self.new.queue) }
     {
-        let place = self.queue.pop()?;
-        let split = self.parts[place].split?;
-        Some((place, split.position))
+        while let Some(place) = self.queue.pop() {
+            match self.parts[place].split {
+                Some(split) => return Some((place, split.position)),
+                None => {}
+            }
+        }
+        None
     }
 
-    /// Halves parts until there are so many, or none can be halved. The error is want of memory.
+    /// Halves parts until there are so many, or a search would split none. The error is want of memory.
     fn halve_until(
         &mut self,
         alloc: Global,
@@ -171,10 +184,12 @@ impl Cutting {
     ) -> Result<(), AllocError>
         requires scratch { IsScratch circuit.now scratch.old }
         requires held { length admit.now.held ≡ length circuit.now.netlist.inputs }
-        requires cutting { IsCutting admit.now self.old }
+        requires cutting { IsCutting (setting circuit.now) admit.now self.old }
+        requires waiting { AreWaiting self.old.parts.items self.old.queue }
         requires few { length self.old.parts.items ≤ max 1 parts }
-        ensures cutting { OnOk result (IsCutting admit.now self.new) }
+        ensures cutting { OnOk result (IsCutting (setting circuit.now) admit.now self.new) }
         ensures few { OnOk result (length self.new.parts.items ≤ max 1 parts) }
+        ensures enough { OnOk result (length self.new.parts.items < parts → All IsUnsplit self.new.parts.items) }
     {
         while self.parts.len() < parts {
             let Some((place, position)) = self.next() else {
@@ -200,6 +215,7 @@ fn cut_pins(
     requires any { HasAdmitted admit.now admit.now.pins }
     ensures shares { IfOk result (λ cubes. AreShares admit.now cubes.items) }
     ensures few { IfOk result (λ cubes. length cubes.items ≤ max 1 parts) }
+    ensures enough { IfOk result (λ cubes. length cubes.items < parts → All (IsWhole (setting circuit.now)) cubes.items) }
 {
     let mut cutting = Cutting::begin(alloc, scratch, circuit, admit, strategy)?;
     cutting.halve_until(alloc, scratch, circuit, admit, strategy, parts)?;
@@ -226,6 +242,8 @@ pub fn cut(
     ensures inside { IfOk result (λ cubes. All (λ cube. IsPart cube admit.now.pins) cubes.items) }
     ensures fits { IfOk result (λ cubes. All (λ cube. length cube ≡ length admit.now.pins) cubes.items) }
     ensures few { IfOk result (λ cubes. length cubes.items ≤ max 1 parts) }
+    // There are fewer than asked for only where a search would split none of them.
+    ensures enough { IfOk result (λ cubes. length cubes.items < parts → All (IsWhole (setting circuit.now)) cubes.items) }
 {
     let pins = admit.pins();
     if !admit.any(pins) {

@@ -1,8 +1,9 @@
 //! Parts of the pins.
 
 ghost use Rattle.std.specs.Prelude.{◌≡◌, ◌*◌, length, IfOk};
+ghost use Rattle.td_circuit.specs.Numbering.{setting};
 ghost use Rattle.td_search.specs.Sheeted.{IsScratch};
-ghost use Rattle.td_parts.specs.Splits.{IsSplitFree, bound_of, cubes_of};
+ghost use Rattle.td_parts.specs.Splits.{IsTruePart, bound_of, cubes_of};
 
 use crate::split::{Split, split_of};
 use std::alloc::{AllocError, Global};
@@ -29,7 +30,7 @@ impl Part {
         requires scratch { IsScratch circuit.now scratch.old }
         requires positions { length cube ≡ 2 * length circuit.now.netlist.inputs }
         ensures cube { IfOk result (λ part. part.cube ≡ cube) }
-        ensures split { IfOk result IsSplitFree }
+        ensures split { IfOk result (IsTruePart (setting circuit.now)) }
         ensures scratch { IsScratch circuit.now scratch.new }
     {
         let split = split_of(alloc, scratch, circuit, &cube, strategy)?;

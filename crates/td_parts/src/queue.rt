@@ -1,7 +1,7 @@
 //! The order in which parts are halved.
 
-ghost use Rattle.std.specs.Prelude.{ℕ, ◌<◌, IfSome, OnOk};
-ghost use Rattle.td_parts.specs.Queues.{AreBelow};
+ghost use Rattle.std.specs.Prelude.{◌≡◌, [], ◌∷◌, OnOk, MatchOption, IsPermutation};
+ghost use Rattle.td_parts.specs.Queues.{places_of};
 
 use std::alloc::{AllocError, Global};
 use std::cmp::Reverse;
@@ -16,7 +16,7 @@ pub struct Queue {
 impl Queue {
     /// The queue of no part.
     pub fn new(alloc: Global) -> Queue
-        ensures { (count : ℕ) → AreBelow count result }
+        ensures { places_of result ≡ [] }
     {
         Queue {
             heap: BinaryHeap::new(alloc),
@@ -25,18 +25,19 @@ impl Queue {
 
     /// Puts the place of a part with this bound into the queue. The error is want of memory.
     pub fn push(&mut self, bound: u64, place: usize) -> Result<(), AllocError>
-        ensures { (count : ℕ) → AreBelow count self.old → place < count → OnOk result (AreBelow count self.new) }
+        ensures { OnOk result (IsPermutation (place ∷ places_of self.old) (places_of self.new)) }
     {
         self.heap.push((bound, Reverse(place)))?;
         Ok(())
     }
 
-    /// Takes the place that comes first out of the queue.
+    /// Takes the place that comes first out of the queue, if there is one.
     pub fn pop(&mut self) -> Option<usize>
-        ensures place { (count : ℕ) → AreBelow count self.old → IfSome result (λ place. place < count) }
-        ensures rest { (count : ℕ) → AreBelow count self.old → AreBelow count self.new }
+        ensures { MatchOption result ((places_of self.old ≡ []) × (places_of self.new ≡ [])) (λ place. IsPermutation (places_of self.old) (place ∷ places_of self.new)) }
     {
-        let (_, Reverse(place)) = self.heap.pop()?;
-        Some(place)
+        match self.heap.pop() {
+            Some((_, Reverse(place))) => Some(place),
+            None => None,
+        }
     }
 }

@@ -1,10 +1,11 @@
 //! Where a search would split a cube.
 
-ghost use Rattle.std.specs.Prelude.{◌≡◌, ◌*◌, length, IfOk, IfSome};
+ghost use Rattle.std.specs.Prelude.{◌≡◌, ◌*◌, length, IfOk, MatchOption};
 ghost use Rattle.td_circuit.specs.Numbering.{setting};
 ghost use Rattle.td_search.specs.declared.strategy.Strategy.TheVariants.{Least, Lead};
 ghost use Rattle.td_search.specs.Sheeted.{IsScratch};
 ghost use Rattle.td_parts.specs.Splits.{IsSplit};
+ghost use Rattle.td_parts.specs.Whole.{IsWhole};
 
 use std::alloc::{AllocError, Global};
 use td_circuit::Circuit;
@@ -29,7 +30,7 @@ pub fn split_of(
 ) -> Result<Option<Split>, AllocError>
     requires scratch { IsScratch circuit.now scratch.old }
     requires positions { length cube.now ≡ 2 * length circuit.now.netlist.inputs }
-    ensures split { IfOk result (λ split. IfSome split (IsSplit strategy (setting circuit.now) cube.now)) }
+    ensures split { IfOk result (λ split. MatchOption split (IsWhole (setting circuit.now) cube.now) (IsSplit strategy (setting circuit.now) cube.now)) }
     ensures scratch { IsScratch circuit.now scratch.new }
 {
     match strategy {
@@ -47,7 +48,7 @@ fn least_split(
 ) -> Result<Option<Split>, AllocError>
     requires scratch { IsScratch circuit.now scratch.old }
     requires positions { length cube.now ≡ 2 * length circuit.now.netlist.inputs }
-    ensures split { IfOk result (λ split. IfSome split (IsSplit Least (setting circuit.now) cube.now)) }
+    ensures split { IfOk result (λ split. MatchOption split (IsWhole (setting circuit.now) cube.now) (IsSplit Least (setting circuit.now) cube.now)) }
     ensures scratch { IsScratch circuit.now scratch.new }
 {
     let probe = Own.bound(scratch, alloc, circuit, cube, 0)?;
@@ -72,7 +73,7 @@ fn lead_split(
 ) -> Result<Option<Split>, AllocError>
     requires scratch { IsScratch circuit.now scratch.old }
     requires positions { length cube.now ≡ 2 * length circuit.now.netlist.inputs }
-    ensures split { IfOk result (λ split. IfSome split (IsSplit Lead (setting circuit.now) cube.now)) }
+    ensures split { IfOk result (λ split. MatchOption split (IsWhole (setting circuit.now) cube.now) (IsSplit Lead (setting circuit.now) cube.now)) }
     ensures scratch { IsScratch circuit.now scratch.new }
 {
     match next_step(alloc, scratch, circuit, cube, 0)? {

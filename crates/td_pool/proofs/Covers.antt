@@ -1,13 +1,15 @@
 -- The leaves that are left hold each pair with a greater delay than was found, after a leaf was closed or split.
-use Rattle.std.proofs.Common.{◌≡◌, ℕ, zero, suc, ◌+◌, ◌<◌, ◌≤◌, ◌⊎◌, max, List, [], ◌∷◌, ◌++◌, length, take, drop, get_or, min, refl, sym, ap, subst, ◌∙◌, inl, inr, ⊎_elim, arith}
+use Rattle.std.proofs.Common.{◌≡◌, ℕ, zero, suc, ◌+◌, ◌<◌, ◌≤◌, ◌⊎◌, max, List, [], ◌∷◌, ◌++◌, length, map, take, drop, get_or, min, refl, sym, ap, subst, ◌∙◌, inl, inr, ⊎_elim, arith}
 use Rattle.std.specs.Prelude.{slice_get, Some, Result, Ok, Err, OnOk, OnErr}
 use Rattle.std.specs.List.{AllByRecursion}
+use Rattle.std.specs.Coded.{le_prop}
+use Rattle.std.proofs.Math.Logic.{∥∥₁_elim}
 use Rattle.std.proofs.lemmas.Option.{slice_get-get_or}
 use Rattle.td_domain.specs.declared.cubes.Trit.{Trit}
 use Rattle.td_domain.specs.declared.cubes.Trit.TheVariants.{Free}
 use Rattle.td_domain.specs.Pairs.{Pair}
 use Rattle.td_domain.specs.Cubes.{IsIn}
-use Rattle.td_domain.specs.Worst.{IsUpperBound}
+use Rattle.td_domain.specs.Worst.{IsUpperBound, IsWorst}
 use Rattle.td_certificate.specs.Cubes.{zero_side, one_side}
 use Rattle.td_certificate.proofs.Acceptance.{side, low, high}
 use Rattle.td_search.specs.CutShort.{greatest_of}
@@ -25,7 +27,7 @@ use Rattle.td_search.proofs.Found.{nothing}
 use Rattle.td_pool.specs.declared.leaf.OpenLeaf.{OpenLeaf}
 use Rattle.td_pool.specs.declared.root.Root.{Root}
 use Rattle.td_pool.specs.Truth.{IsRoot}
-use Rattle.td_pool.specs.Watched.{IsLowerBound}
+use Rattle.td_pool.specs.Watched.{IsFound, FoundIsAtMostWorst}
 use Rattle.td_pool.specs.Frontiers.{IsWithin, IsCover, IsSplit, IsSettled, AreSettled, leaf_of, bounds_of}
 
 module _ {X : Type 0} (P : X → Type 0) where
@@ -51,6 +53,14 @@ module _ {X : Type 0} (P : X → Type 0) where
 pub greatest_max : (from bound : ℕ) (others : List ℕ) → greatest_of (max from bound) others ≡ max bound (greatest_of from others)
 greatest_max from bound [] = omega arith
 greatest_max from bound (x ∷ others) = let e = greatest_max from bound others in omega arith
+
+module _ {X : Type 0} where
+  -- the next one is taken off, and the greater of both goes on
+  pub greatest_next : (all rest : List X) (next : X) (size : X → ℕ) (from more most : ℕ) → all ≡ next ∷ rest → more ≡ max from (size next)
+      → greatest_of from (map size all) ≡ most → greatest_of more (map size rest) ≡ most
+  greatest_next all rest next size from more most is same before =
+      ap (λ (n : ℕ). greatest_of n (map size rest)) same
+      ∙ (greatest_max from (size next) (map size rest) ∙ (ap (λ (xs : List X). greatest_of from (map size xs)) (sym is) ∙ before))
 
 closed_within : (closed : ℕ) (xs : List ℕ) → closed ≤ greatest_of closed xs
 closed_within closed [] = omega arith
@@ -138,19 +148,30 @@ module _ (asked : Problem) (closed : ℕ) where
 
 -- ---- what is known of the delays
 
--- a delay of an admitted pair
-pub found_least : (asked : Problem) (pair : Pair) (delay time : ℕ) → has_delay asked pair delay → time ≡ delay → IsLowerBound asked time
-found_least asked pair delay time is same worst w = let e = w.greatest pair delay is.0 is.1 in omega arith
+-- an admitted pair has this delay
+pub pair_found : (asked : Problem) (pair : Pair) (delay time : ℕ) → has_delay asked pair delay → time ≡ delay → IsFound asked time
+pair_found asked pair delay time is same = ∣ (pair, subst (has_delay asked pair) (sym same) is) ∣₁
 
-pub least_max : (asked : Problem) (a b n : ℕ) → n ≡ max a b → IsLowerBound asked a → IsLowerBound asked b → IsLowerBound asked n
-least_max asked a b n same one other worst w = let e = one worst w in let f = other worst w in omega arith
+-- the greater of two is one of them
+pub found_max : (asked : Problem) (a b n : ℕ) → n ≡ max a b → IsFound asked a → IsFound asked b → IsFound asked n
+found_max asked a b n same one other = ⊎_elim
+    (λ (le : a ≤ b). let e : b ≡ n = omega (arith, same, le) in subst (IsFound asked) e other)
+    (λ (less : b < a). let e : a ≡ n = omega (arith, same, less) in subst (IsFound asked) e one)
+    (either a b)
+
+-- no pair has a greater delay than the worst one
+within_worst : (asked : Problem) (time worst : ℕ) (pair : Pair) → has_delay asked pair time → IsWorst asked.setting asked.admit worst → time ≤ worst
+within_worst asked time worst pair is w = w.greatest pair time is.0 is.1
+
+pub at_most_worst : FoundIsAtMostWorst
+at_most_worst asked time worst found w = ∥∥₁_elim found le_prop (λ it. within_worst asked time worst it.0 it.1 w)
 
 pub upper_min : (asked : Problem) (a b n : ℕ) → n ≡ min a b → IsUpperBound asked.setting asked.admit a → IsUpperBound asked.setting asked.admit b
     → IsUpperBound asked.setting asked.admit n
 upper_min asked a b n same one other pair delay admitted is = let e = one pair delay admitted is in let f = other pair delay admitted is in omega arith
 
-pub root_least : (asked : Problem) (root : Root) → IsRoot asked root → IsLowerBound asked root.first
-root_least asked root is = found_least asked (representative asked.admit asked.admit.pins) root.first root.first is.first refl
+pub root_found : (asked : Problem) (root : Root) → IsRoot asked root → IsFound asked root.first
+root_found asked root is = pair_found asked (representative asked.admit asked.admit.pins) root.first root.first is.first refl
 
 module _ (strategy : Strategy) (circuit : Numbered) (admit : Admitted) (numbering : IsNumbering circuit) (fit : AreMoments circuit.netlist circuit.moments)
     (root : Root) (known : IsRoot (problem_by strategy circuit admit) root) where

@@ -9,7 +9,7 @@ ghost use Rattle.td_search.specs.Problems.{problem_by, IsAbove};
 ghost use Rattle.td_pool.specs.declared.leaf.OpenLeaf.{OpenLeaf};
 ghost use Rattle.td_pool.specs.Frontiers.{AreToldOf, BeginsAt, IsCover, IsSplit, IsSettled, leaf_of, bounds_of};
 ghost use Rattle.td_pool.specs.Truth.{IsRoot};
-ghost use Rattle.td_pool.specs.Watched.{IsLowerBound};
+ghost use Rattle.td_pool.specs.Watched.{IsFound};
 
 use crate::leaf::OpenLeaf;
 use crate::root::Root;
@@ -25,9 +25,9 @@ use td_search::{Evidence, Finding, Strategy};
 #[derive(Drop)]
 pub struct Frontier<L: Subject> {
     alloc: Global,
-    // The worst delay is no less,
+    // A delay of an admitted pair that was found,
     low: u64,
-    // nor is it greater than this.
+    // and no admitted pair's is above this.
     high: u64,
     // The greatest bound of a leaf that was closed.
     closed: u64,
@@ -35,7 +35,7 @@ pub struct Frontier<L: Subject> {
     // The number of the next node.
     next: u32,
     asked: PhantomData<L>,
-    ghost least: { IsLowerBound L.asked low },
+    ghost found: { IsFound L.asked low },
     ghost greatest: { IsUpperBound L.asked.setting L.asked.admit high },
     ghost cover: { IsCover L.asked closed leaves.items },
 }
@@ -194,7 +194,7 @@ impl<L: Subject> Frontier<L> {
 
     /// The greatest delay that was found of an admitted pair.
     pub fn low(&self) -> u64
-        ensures { IsLowerBound L.asked result }
+        ensures { IsFound L.asked result }
     {
         self.low
     }
@@ -222,9 +222,9 @@ impl<L: Subject> Frontier<L> {
         self.high = self.high.min(high);
     }
 
-    /// The worst delay is no less than this.
+    /// This delay of an admitted pair was found.
     pub fn reach(&mut self, delay: u64)
-        requires { IsLowerBound L.asked delay }
+        requires { IsFound L.asked delay }
         ensures low { self.new.low ≡ max self.old.low delay }
         ensures high { self.new.high ≡ self.old.high }
         ensures leaves { self.new.leaves.items ≡ self.old.leaves.items }

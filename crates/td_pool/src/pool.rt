@@ -1,8 +1,9 @@
 //! The search by several workers.
 
-ghost use Rattle.std.specs.Prelude.{◌≡◌, ◌+◌, ◌<◌, ◌≤◌, [], length, vec_capacity, IfOk, IfErr, IfSome};
+ghost use Rattle.std.specs.Prelude.{◌≡◌, ◌+◌, ◌<◌, ◌≤◌, max, [], length, map, vec_capacity, IfOk, IfErr, IfSome};
 ghost use Rattle.std.specs.List.{AllByRecursion};
 ghost use Rattle.td_search.specs.Answers.{IsAnswer, IsSearchFault};
+ghost use Rattle.td_search.specs.CutShort.{greatest_of};
 ghost use Rattle.td_search.specs.Findings.{IsTrueEvidence};
 ghost use Rattle.td_search.specs.Problems.{problem, problem_by};
 ghost use Rattle.td_search.specs.Written.{CanBeWritten};
@@ -532,6 +533,7 @@ fn gather<L: Subject, F: Finder>(
     requires first { IsBest (problem_by F.by circuit.now admit.now) first }
     ensures evidence { AllByRecursion (IsTrueEvidence (problem_by F.by circuit.now admit.now)) result.0.items }
     ensures best { IsBest (problem_by F.by circuit.now admit.now) result.1 }
+    ensures greatest { result.1.time ≡ greatest_of first.time (map (λ report. report.found.best.time) all.items) }
 {
     let mut evidence = Vec::new(alloc);
     let mut best = first;
@@ -551,7 +553,8 @@ fn gather<L: Subject, F: Finder>(
 fn better<F: Finder>(circuit: &Circuit, admit: &Admit, best: Best, other: Best) -> Best
     requires best { IsBest (problem_by F.by circuit.now admit.now) best }
     requires other { IsBest (problem_by F.by circuit.now admit.now) other }
-    ensures { IsBest (problem_by F.by circuit.now admit.now) result }
+    ensures best { IsBest (problem_by F.by circuit.now admit.now) result }
+    ensures greatest { result.time ≡ max best.time other.time }
 {
     if other.time() > best.time() {
         other

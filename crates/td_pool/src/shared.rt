@@ -5,7 +5,7 @@ ghost use Rattle.td_search.specs.Below.{IsWithin};
 ghost use Rattle.td_search.specs.Findings.{IsTrueEvidence};
 ghost use Rattle.td_search.specs.Problems.{problem, problem_by};
 ghost use Rattle.td_pool.specs.Turning.{IsPinned, IsTurn};
-ghost use Rattle.td_pool.specs.Watched.{IsLowerBound, IsTrueProgress};
+ghost use Rattle.td_pool.specs.Watched.{IsFound, IsTrueProgress};
 
 use crate::hints::Hints;
 use crate::standing::Standing;
@@ -173,9 +173,9 @@ impl<L: Subject> Shared<L> {
         None
     }
 
-    /// Tells the book what was split and closed below a leaf, under one hold, with the evidence of it and the delay of a pair that was
-    /// found, and wakes those that wait. Where nothing was, or memory runs out, the leaf is opened again. Answers the numbers of the leaves
-    /// that are left open there, in the tree's order, and none where the worker is to end.
+    /// Tells the book what was split and closed below a leaf, under one hold, with the evidence of it and a delay of an admitted pair that
+    /// was found, and wakes those that wait. Where nothing was, or memory runs out, the leaf is opened again. Answers the numbers of the
+    /// leaves that are left open there, in the tree's order, and none where the worker is to end.
     pub fn graft<R: MayWait>(
         &self,
         rt: &R,
@@ -193,7 +193,7 @@ impl<L: Subject> Shared<L> {
         requires few { length subtree.states ≤ lease.allowance }
         requires part { 0 < mine.old.parts }
         requires evidence { IsTrueEvidence (problem_by strategy circuit.now admit.now) evidence.now }
-        requires best { IsLowerBound (problem_by strategy circuit.now admit.now) best }
+        requires best { IsFound (problem_by strategy circuit.now admit.now) best }
         ensures { mine.new.parts ≡ mine.old.parts }
     {
         let mut standing = self.standing.lock(rt);

@@ -3,7 +3,7 @@
 ghost use Rattle.std.specs.Prelude.{◌≡◌, ◌<◌, ◌≤◌, length, IfSome};
 ghost use Rattle.td_search.specs.Findings.{IsTrueEvidence};
 ghost use Rattle.td_search.specs.Problems.{problem_by};
-ghost use Rattle.td_pool.specs.Watched.{IsLowerBound, IsTrueProgress};
+ghost use Rattle.td_pool.specs.Watched.{IsFound, IsTrueProgress};
 
 use crate::frontier::Frontier;
 use crate::subject::Subject;
@@ -38,9 +38,9 @@ impl<L: Subject> Standing<L> {
         })
     }
 
-    /// Tells the book what was split and closed below a leaf, and keeps account of what that leaves. Where nothing was, or memory runs
-    /// out, the leaf is opened again. Answers the numbers of the leaves that are left open there, in the tree's order, and none where the
-    /// worker is to end.
+    /// Tells the book what was split and closed below a leaf, and keeps account of what that leaves and of a delay of an admitted pair that
+    /// was found. Where nothing was, or memory runs out, the leaf is opened again. Answers the numbers of the leaves that are left open
+    /// there, in the tree's order, and none where the worker is to end.
     pub fn graft(
         &mut self,
         circuit: &Circuit,
@@ -57,7 +57,7 @@ impl<L: Subject> Standing<L> {
         requires few { length subtree.states ≤ lease.allowance }
         requires part { 0 < mine.old.parts }
         requires evidence { IsTrueEvidence (problem_by strategy circuit.now admit.now) evidence.now }
-        requires best { IsLowerBound (problem_by strategy circuit.now admit.now) best }
+        requires best { IsFound (problem_by strategy circuit.now admit.now) best }
         ensures { mine.new.parts ≡ mine.old.parts }
     {
         self.frontier.reach(best);

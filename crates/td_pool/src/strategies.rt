@@ -60,8 +60,8 @@ pub fn worst_with<P: Prober + Sync, R: Threads + Wait + Sync>(
 
 /// As `worst_with`, and tells a watch how far the search has come each time that the nodes handled have passed 1, 2 or 5 thousand, ten
 /// thousand and so on. This thread tells it, and only once it has handled what it was leased, so a milestone may be told
-/// somewhat later, with the nodes that are handled by then, and of several that were passed meanwhile only the last. The answer
-/// is the same.
+/// somewhat later, with the nodes that are handled by then, and of several that were passed meanwhile only the last. Of the
+/// answer the same is said.
 ///
 /// # Errors
 ///

@@ -25,7 +25,8 @@ pub trait Watch: Drop {
     /// Whether it is to be told anything. A search keeps no account of what is left for a watch that doesn't look.
     fn is_looking(&self) -> bool;
 
-    /// Tells how far the search has come. What is told of delays is true of the circuit's admitted pairs.
+    /// Tells how far the search has come. An admitted pair of the circuit has the lower figure as its delay, and none has a delay above
+    /// the upper one.
     fn passed(&mut self, circuit: &Circuit, admit: &Admit, strategy: Strategy, progress: Progress)
         requires { IsTrueProgress (problem_by strategy circuit.now admit.now) progress }
         ensures { told (problem_by strategy circuit.now admit.now) self.old self.new };

@@ -1,7 +1,11 @@
 pub mod Vectors
 pub mod Refusing
 pub mod Outputs
-pub mod Missing
+pub mod FirstFiles
 pub mod Moments
 pub mod Paths
 pub mod Listing
+pub mod TokenNames
+pub mod TreeNames
+pub mod NetNames
+pub mod DumpNames

@@ -51,10 +51,15 @@ status_of reason = Refused
 abbrev pub Tells : Output → Output → List ℕ → Type 0
 Tells old new line = Sent old new line ⊎ Failed old new line
 
+-- the name by which a file that is written is told: `-` is standard output
+abbrev pub IsWrittenAs : List ℕ → List ℕ → Type 0
+IsWrittenAs name told = ((name ≢ codes "-") × (told ≡ name)) ⊎ ((name ≡ codes "-") × (told ≡ codes "stdout"))
+
 -- it was told that a file can't be written; want of memory may be told in place of a device's failure
 abbrev pub TellsUnwritten : List ℕ → WriteFault → Output → Output → Type 0
 TellsUnwritten name fault old new =
-    ((fault ≡ unwritten.Device) × Tells old new (unwritten_text name)) ⊎ Tells old new (refusal_text refusal.OutOfMemory)
+    ((fault ≡ unwritten.Device) × ((word : List ℕ) × IsWrittenAs name word × Tells old new (unwritten_text word)))
+    ⊎ Tells old new (refusal_text refusal.OutOfMemory)
 
 -- a reason was told, or want of memory in its place
 pub record TellsReason (reason : Refusal) (status : Status) (old new : Output) : Type 0 where

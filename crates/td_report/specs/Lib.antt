@@ -21,3 +21,4 @@ pub mod MemoryFiles
 pub mod Dumps
 pub mod RealWriters
 pub mod PairReports
+pub mod DumpLaws

@@ -1,5 +1,5 @@
 -- Files in memory.
-use Rattle.std.proofs.Common.{◌≡◌, ◌<◌, ◌⊎◌, ◌∙◌, ℕ, List, [], ◌++◌, length, map, slice_get, Option, Some, None, sym, ap, append-nil, append_assoc}
+use Rattle.std.proofs.Common.{◌≡◌, ◌<◌, ◌≤◌, ◌⊎◌, ◌∙◌, ℕ, List, [], ◌++◌, length, map, find, option_map, bytes_eq, Option, Some, None, sym, ap, append-nil, append_assoc}
 use Rattle.std.specs.Borrow.{Bor}
 use Rattle.td_gates.specs.MemorySinks.{output_of}
 use Rattle.td_report.specs.declared.memory_files.MemoryFile.{MemoryFile}
@@ -7,21 +7,18 @@ use Rattle.td_report.specs.declared.memory_files.MemoryStep.{MemoryStep}
 use Rattle.td_report.specs.declared.memory_files.MemoryStep.TheVariants as step
 use Rattle.td_report.specs.Files.{FileStep, Made, Ended}
 
--- the file at this place has this name and these bytes
-abbrev pub IsFileAt : List (Bor (List ℕ) × Bor (List ℕ)) → ℕ → Bor (List ℕ) × Bor (List ℕ) → List ℕ → List ℕ → Type 0
-IsFileAt files place file name bytes = (slice_get files place ≡ Some file) × (file.0.now ≡ name) × (file.1.now ≡ bytes)
+-- the bytes of the first file of this name, if one has it
+abbrev pub bytes_of : List (Bor (List ℕ) × Bor (List ℕ)) → List ℕ → Option (List ℕ)
+bytes_of files name = option_map (λ file. file.1.now) (find (λ file. bytes_eq file.0.now name) files)
 
--- one of the files has this name and these bytes
-abbrev pub HasFile : List (Bor (List ℕ) × Bor (List ℕ)) → List ℕ → List ℕ → Type 0
-HasFile files name bytes = (place : ℕ) × (file : Bor (List ℕ) × Bor (List ℕ)) × IsFileAt files place file name bytes
+-- a read of this name gives these bytes, where readers give so many: the first file of the name has them, and no more than so many
+abbrev pub Reads : List (Bor (List ℕ) × Bor (List ℕ)) → ℕ → List ℕ → List ℕ → Type 0
+Reads files readable name bytes = (bytes_of files name ≡ Some bytes) × (length bytes ≤ readable)
 
--- no file has this name
-abbrev pub IsMissing : List (Bor (List ℕ) × Bor (List ℕ)) → List ℕ → Type 0
-IsMissing files name = (bytes : List ℕ) → ¬ HasFile files name bytes
-
--- a read of this name fails, where readers give so many bytes: no file has the name, or one of the name has more bytes
+-- a read of this name fails, where readers give so many bytes: no file has the name, or the first one of the name has more
 abbrev pub FailsOn : List (Bor (List ℕ) × Bor (List ℕ)) → ℕ → List ℕ → Type 0
-FailsOn files readable name = IsMissing files name ⊎ ((bytes : List ℕ) × HasFile files name bytes × (readable < length bytes))
+FailsOn files readable name =
+    (bytes_of files name ≡ None) ⊎ ((bytes : List ℕ) × (bytes_of files name ≡ Some bytes) × (readable < length bytes))
 
 -- a file is made empty, with a writer that hasn't failed
 abbrev pub step_of : MemoryStep → FileStep

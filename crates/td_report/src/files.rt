@@ -51,7 +51,7 @@ pub trait Files {
     /// Between the two moments these steps were taken, in order, and no others.
     ghost did: { Self → Self → List FileStep → Type 0 };
 
-    /// All bytes of a file. The name `stdin` is standard input.
+    /// All bytes of a file. Of the system's files those named `stdin` and `-` are standard input.
     fn read(&mut self, alloc: Global, name: &str) -> Result<Vec<u8>, ReadFault>
         ensures bytes { IfOk result (λ bytes. holds self.old name.now bytes.items) }
         ensures fault { IfErr result (λ fault. fault ≡ Fault.Device → fails self.old name.now) }

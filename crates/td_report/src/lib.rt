@@ -9,6 +9,7 @@ pub mod dumping;
 pub mod explaining;
 pub mod files;
 pub mod hindrance;
+pub mod laws;
 pub mod memory_files;
 pub mod pinning;
 pub mod real_files;

@@ -1,7 +1,7 @@
 //! Files in memory, for tests.
 
-ghost use Rattle.std.specs.Prelude.{◌≡◌, [], option_map, IfOk, IfSome, IfNone};
-ghost use Rattle.td_report.specs.MemoryFiles.{HasFile, IsMissing, made_name, ended_file};
+ghost use Rattle.std.specs.Prelude.{◌≡◌, [], option_map, IfOk};
+ghost use Rattle.td_report.specs.MemoryFiles.{bytes_of, made_name, ended_file};
 
 use crate::files::{Files, ReadFault};
 use std::alloc::{AllocError, Global};
@@ -123,8 +123,7 @@ fn copied(alloc: Global, bytes: &[u8]) -> Result<Vec<u8>, AllocError>
 
 /// The bytes of the first file of this name.
 fn found<'a>(files: &[(&'a str, &'a [u8])], name: &str) -> Option<&'a [u8]>
-    ensures some { IfSome result (λ bytes. HasFile files.now name.now bytes.now) }
-    ensures none { IfNone result (IsMissing files.now name.now) }
+    ensures { option_map (λ bytes. bytes.now) result ≡ bytes_of files.now name.now }
 {
     for (file, bytes) in files {
         if *file == name {
@@ -135,13 +134,16 @@ fn found<'a>(files: &[(&'a str, &'a [u8])], name: &str) -> Option<&'a [u8]>
 }
 
 impl<'a> Files for MemoryFiles<'a> {
-    ghost use Rattle.std.specs.Prelude.{◌≡◌, ◌↔◌, ◌++◌, IsTrue, map};
-    ghost use Rattle.td_report.specs.MemoryFiles.{HasFile, FailsOn, IsAfter, after_nothing, after_both};
+    ghost use Rattle.std.specs.Prelude.{◌≡◌, ◌↔◌, ◌++◌, ◌∷◌, [], IsTrue, IfOk, IfErr, OnErr, map};
+    ghost use Rattle.td_gates.specs.MemorySinks.{output_of};
+    ghost use Rattle.td_certificate.specs.declared.fault.WriteFault.TheVariants as Unwritten;
+    ghost use Rattle.td_report.specs.Files.{Made};
+    ghost use Rattle.td_report.specs.MemoryFiles.{Reads, FailsOn, IsAfter, after_nothing, after_both};
 
-    /// A file of this name has these bytes.
-    ghost holds = { λ files name bytes. HasFile files.files.now name bytes };
+    /// The first file of this name has these bytes, which are no more than a reader gives.
+    ghost holds = { λ files name bytes. Reads files.files.now files.readable name bytes };
 
-    /// No file has this name, or the reader of one fails.
+    /// No file has this name, or the first one has more bytes than a reader gives.
     ghost fails = { λ files name. FailsOn files.files.now files.readable name };
 
     /// Only its writer fails, and want of memory.
@@ -171,7 +173,12 @@ impl<'a> Files for MemoryFiles<'a> {
         one == other
     }
 
-    fn create(&mut self, alloc: Global, name: &str) -> Result<MemorySink, WriteFault> {
+    fn create(&mut self, alloc: Global, name: &str) -> Result<MemorySink, WriteFault>
+        ensures made { IfOk result (λ writer. IsAfter self.old.steps.items self.new.steps.items (Made name.now (output_of writer) ∷ [])) }
+        ensures limit { IfOk result (λ writer. writer.limit ≡ self.old.writable) }
+        ensures fault { IfErr result (λ fault. ¬ (fault ≡ Unwritten.Device)) }
+        ensures stays { OnErr result (IsAfter self.old.steps.items self.new.steps.items []) }
+    {
         let sink = MemorySink::new(alloc, self.writable, usize::MAX)?;
         let name = copied(alloc, name.as_bytes())?;
         self.steps.reserve(1)?;

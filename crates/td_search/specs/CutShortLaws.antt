@@ -26,7 +26,8 @@ module _ (IsDelay : Pair → ℕ → Type 0) (IsBoundOf : List Trit → ℕ → 
   abbrev pub AreAbove : Type 0
   AreAbove = (cube : List Trit) (bound : ℕ) (pair : Pair) (delay : ℕ) → IsBoundOf cube bound → IsIn pair cube → IsDelay pair delay → delay ≤ bound
 
-  -- No pair of the root is above the upper figure of a search that was cut short, and the lower is the delay of its pair.
+  -- Where bounds are above the pairs of their cubes, no pair of the root is above the upper figure of a search that was cut short, and the lower
+  -- is the delay of its pair.
   abbrev pub CutShortIsBetween : Type 0
   CutShortIsBetween = AreAbove → (root : List Trit) (pair : Pair) (low high count : ℕ) → IsCutShort IsDelay IsBoundOf SplitsAbove root pair low high count
       → IsDelay pair low × (low ≤ high) × ((other : Pair) (delay : ℕ) → IsIn other root → IsDelay other delay → delay ≤ high)

@@ -22,7 +22,7 @@ pub struct Below {
 }
 
 impl Below {
-    /// Nothing is split or closed yet. All room that the lease's allowance needs is taken here. The error is want of memory.
+    /// The root alone, open. All room that the lease's allowance needs is taken here. The error is want of memory.
     pub fn new(
         alloc: Global,
         circuit: &Circuit,

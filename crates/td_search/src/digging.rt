@@ -1,6 +1,6 @@
 //! What a search does with the leaf that comes next: it splits and closes below it in a private tree, and then tells its book.
 
-ghost use Rattle.std.specs.Prelude.{◌≡◌, ◌*◌, length, IfOk};
+ghost use Rattle.std.specs.Prelude.{◌≡◌, ◌≤◌, ◌*◌, length, IfOk};
 ghost use Rattle.td_domain.specs.Admits.{HasAdmitted};
 ghost use Rattle.td_search.specs.Below.{IsBelow, IsWithin};
 ghost use Rattle.td_search.specs.Findings.{IsTrueOf};
@@ -36,7 +36,8 @@ impl Search {
         requires search { IsUnderWay (problem_by strategy circuit.now admit.now) budget self.old }
         requires scratch { IsScratch circuit.now scratch.old }
         requires held { length admit.now.held ≡ length circuit.now.netlist.inputs }
-        ensures { IsUnderWay (problem_by strategy circuit.now admit.now) budget self.new }
+        ensures search { IsUnderWay (problem_by strategy circuit.now admit.now) budget self.new }
+        ensures kept { self.old.best.time ≤ self.new.best.time }
     {
         for _ in 0..budget {
             let Ok(true) = self.handle_next(alloc, scratch, circuit, admit, strategy) else {
@@ -59,6 +60,7 @@ impl Search {
         requires scratch { IsScratch circuit.now scratch.old }
         requires held { length admit.now.held ≡ length circuit.now.netlist.inputs }
         ensures search { IsUnderWay (problem_by strategy circuit.now admit.now) self.old.book.budget self.new }
+        ensures kept { self.old.best.time ≤ self.new.best.time }
         ensures scratch { IsScratch circuit.now scratch.new }
     {
         let Claim::Lease(lease) = self.book.claim(0)? else {
@@ -84,6 +86,7 @@ impl Search {
         requires held { length admit.now.held ≡ length circuit.now.netlist.inputs }
         requires within { IsWithin (problem_by strategy circuit.now admit.now) lease.cube }
         ensures search { IsUnderWay (problem_by strategy circuit.now admit.now) self.old.book.budget self.new }
+        ensures kept { self.old.best.time ≤ self.new.best.time }
         ensures scratch { IsScratch circuit.now scratch.new }
     {
         let mut below = Below::new(alloc, circuit, admit, strategy, &lease)?;
@@ -109,6 +112,7 @@ impl Search {
         requires held { length admit.now.held ≡ length circuit.now.netlist.inputs }
         requires below { IsBelow (problem_by strategy circuit.now admit.now) lease.now below.old }
         ensures search { IsUnderWay (problem_by strategy circuit.now admit.now) self.old.book.budget self.new }
+        ensures kept { self.old.best.time ≤ self.new.best.time }
         ensures book { self.new.book ≡ self.old.book }
         ensures scratch { IsScratch circuit.now scratch.new }
         ensures below { IsBelow (problem_by strategy circuit.now admit.now) lease.now below.new }
@@ -141,6 +145,7 @@ impl Search {
         requires held { length admit.now.held ≡ length circuit.now.netlist.inputs }
         requires within { IsWithin (problem_by strategy circuit.now admit.now) cube.now }
         ensures search { IsUnderWay (problem_by strategy circuit.now admit.now) self.old.book.budget self.new }
+        ensures kept { self.old.best.time ≤ self.new.best.time }
         ensures book { self.new.book ≡ self.old.book }
         ensures scratch { IsScratch circuit.now scratch.new }
         ensures finding { IfOk result (IsTrueOf (problem_by strategy circuit.now admit.now) cube.now) }
@@ -171,6 +176,7 @@ impl Search {
         requires part { IsPart cube.now admit.now.pins }
         requires any { HasAdmitted admit.now cube.now }
         ensures search { IsUnderWay (problem circuit.now admit.now) self.old.book.budget self.new }
+        ensures kept { self.old.best.time ≤ self.new.best.time }
         ensures book { self.new.book ≡ self.old.book }
         ensures scratch { IsScratch circuit.now scratch.new }
         ensures finding { IfOk result (IsTrueOf (problem circuit.now admit.now) cube.now) }
@@ -209,6 +215,7 @@ impl Search {
         requires part { IsPart cube.now admit.now.pins }
         requires any { HasAdmitted admit.now cube.now }
         ensures search { IsUnderWay (problem_by Lead circuit.now admit.now) self.old.book.budget self.new }
+        ensures kept { self.old.best.time ≤ self.new.best.time }
         ensures book { self.new.book ≡ self.old.book }
         ensures scratch { IsScratch circuit.now scratch.new }
         ensures finding { IfOk result (IsTrueOf (problem_by Lead circuit.now admit.now) cube.now) }

@@ -65,6 +65,7 @@ impl Trail {
         let place = (*self.places.get(number as usize)?)?;
         self.evidence.get(place as usize)
     }
+
     /// The evidence of the node of this number, if there is some and it is of this cube.
     pub fn evidence_for(
         &self,

@@ -2,7 +2,7 @@
 
 ghost use Rattle.std.specs.Prelude.{◌≡◌, ◌≤◌, ◌<◌, ◌^◌, length};
 ghost use Rattle.std.specs.List.{All};
-ghost use Rattle.td_search.specs.Answers.{IsAnswer};
+ghost use Rattle.td_search.specs.Answers.{IsAnswer, low_of};
 ghost use Rattle.td_search.specs.Findings.{IsTrueEvidence};
 ghost use Rattle.td_search.specs.Problems.{problem_by, has_delay, has_bound};
 ghost use Rattle.td_search.specs.Progress.{IsUnderWay};
@@ -45,6 +45,8 @@ pub fn finish_by(
     requires best { has_delay (problem_by strategy circuit.now admit.now) best.pair best.time }
     requires start { strategy ≡ Lead → IsReached (problem_by strategy circuit.now admit.now) best.time }
     ensures answer { IsAnswer (problem_by strategy circuit.now admit.now) budget result }
+    // Its lower figure, or its time, is no less than the delay of the pair that was handed in.
+    ensures kept { best.time ≤ low_of result }
     // The certificate of an exact answer has a text within the limit.
     ensures text { CanBeWritten (problem_by strategy circuit.now admit.now) result }
 {
@@ -83,6 +85,7 @@ fn nothing_handled(
     requires best { has_delay (problem_by strategy circuit.now admit.now) best.pair best.time }
     requires start { strategy ≡ Lead → IsReached (problem_by strategy circuit.now admit.now) best.time }
     ensures answer { IsAnswer (problem_by strategy circuit.now admit.now) budget result }
+    ensures low { low_of result ≡ best.time }
     ensures text { CanBeWritten (problem_by strategy circuit.now admit.now) result }
 {
     let _numbering = circuit.gates();
@@ -124,6 +127,7 @@ fn replay_tree(
     requires held { length admit.now.held ≡ length circuit.now.netlist.inputs }
     requires evidence { All (IsTrueEvidence (problem_by strategy circuit.now admit.now)) evidence.items }
     ensures search { IsUnderWay (problem_by strategy circuit.now admit.now) budget search.new }
+    ensures kept { search.old.best.time ≤ search.new.best.time }
     ensures scratch { IsScratch circuit.now scratch.new }
 {
     if !partial.cube().is_same(admit.pins()) {

@@ -115,6 +115,7 @@ impl Search {
         requires held { length admit.now.held ≡ length circuit.now.netlist.inputs }
         requires trail { IsTrueTrail (problem_by strategy circuit.now admit.now) trail.now }
         ensures search { IsUnderWay (problem_by strategy circuit.now admit.now) self.old.book.budget self.new }
+        ensures kept { self.old.best.time ≤ self.new.best.time }
         ensures scratch { IsScratch circuit.now scratch.new }
     {
         // By their numbers in this search the trees that come next, the first of them last. Those that are passed have none.
@@ -164,6 +165,7 @@ impl Search {
         requires held { length admit.now.held ≡ length circuit.now.netlist.inputs }
         requires trail { IsTrueTrail (problem_by strategy circuit.now admit.now) trail.now }
         ensures search { IsUnderWay (problem_by strategy circuit.now admit.now) self.old.book.budget self.new }
+        ensures kept { self.old.best.time ≤ self.new.best.time }
         ensures scratch { IsScratch circuit.now scratch.new }
     {
         let Some(lease) = self.lease_again(circuit, admit, strategy, number, node.state)? else {
@@ -201,6 +203,7 @@ impl Search {
         requires positions { length lease.cube ≡ 2 * length circuit.now.netlist.inputs }
         requires part { IsPart lease.cube admit.now.pins }
         ensures search { IsUnderWay (problem_by strategy circuit.now admit.now) self.old.book.budget self.new }
+        ensures kept { self.old.best.time ≤ self.new.best.time }
         ensures scratch { IsScratch circuit.now scratch.new }
     {
         let State::Split(position) = state else {
@@ -227,6 +230,7 @@ impl Search {
         requires search { IsUnderWay (problem_by strategy circuit.now admit.now) self.old.book.budget self.old }
         requires held { length admit.now.held ≡ length circuit.now.netlist.inputs }
         ensures search { IsUnderWay (problem_by strategy circuit.now admit.now) self.old.book.budget self.new }
+        ensures kept { self.old.best.time ≤ self.new.best.time }
         ensures worker { IfOk result (λ answer. IfSome answer (λ lease. lease.worker ≡ 0)) }
         ensures positions { IfOk result (λ answer. IfSome answer (λ lease. length lease.cube ≡ 2 * length circuit.now.netlist.inputs)) }
         ensures part { IfOk result (λ answer. IfSome answer (λ lease. IsPart lease.cube admit.now.pins)) }
@@ -253,7 +257,8 @@ impl Search {
         requires search { IsUnderWay (problem_by strategy circuit.now admit.now) self.old.book.budget self.old }
         requires cube { evidence.now.cube ≡ lease.cube }
         requires evidence { IsTrueEvidence (problem_by strategy circuit.now admit.now) evidence.now }
-        ensures { IsUnderWay (problem_by strategy circuit.now admit.now) self.old.book.budget self.new }
+        ensures search { IsUnderWay (problem_by strategy circuit.now admit.now) self.old.book.budget self.new }
+        ensures kept { self.old.best.time ≤ self.new.best.time }
     {
         let grafted = self.graft_found(alloc, circuit, admit, strategy, lease, &evidence.findings)?;
         let Some((count, left)) = grafted else {
@@ -276,7 +281,8 @@ impl Search {
     ) -> Result<Option<(usize, Vec<u32>)>, AllocError>
         requires search { IsUnderWay (problem_by strategy circuit.now admit.now) self.old.book.budget self.old }
         requires found { AreTrue (problem_by strategy circuit.now admit.now) (lease.cube ∷ []) findings.now }
-        ensures { IsUnderWay (problem_by strategy circuit.now admit.now) self.old.book.budget self.new }
+        ensures search { IsUnderWay (problem_by strategy circuit.now admit.now) self.old.book.budget self.new }
+        ensures kept { self.old.best.time ≤ self.new.best.time }
     {
         let mut subtree = match Subtree::new(alloc, &lease) {
             Ok(subtree) => subtree,
@@ -319,6 +325,7 @@ impl Search {
         requires positions { length lease.cube ≡ 2 * length circuit.now.netlist.inputs }
         requires part { IsPart lease.cube admit.now.pins }
         ensures search { IsUnderWay (problem_by strategy circuit.now admit.now) self.old.book.budget self.new }
+        ensures kept { self.old.best.time ≤ self.new.best.time }
         ensures scratch { IsScratch circuit.now scratch.new }
     {
         let position = position as usize;
@@ -363,6 +370,7 @@ impl Search {
         requires positions { length cube.now ≡ 2 * length circuit.now.netlist.inputs }
         requires part { IsPart cube.now admit.now.pins }
         ensures search { IsUnderWay (problem_by strategy circuit.now admit.now) self.old.book.budget self.new }
+        ensures kept { self.old.best.time ≤ self.new.best.time }
         ensures scratch { IsScratch circuit.now scratch.new }
         ensures book { self.new.book ≡ self.old.book }
         ensures bound { IfOk result (λ answer. IfSome answer (has_bound (problem_by strategy circuit.now admit.now) cube.now)) }
@@ -390,6 +398,7 @@ impl Search {
         requires positions { length cube.now ≡ 2 * length circuit.now.netlist.inputs }
         requires part { IsPart cube.now admit.now.pins }
         ensures search { IsUnderWay (problem circuit.now admit.now) self.old.book.budget self.new }
+        ensures kept { self.old.best.time ≤ self.new.best.time }
         ensures scratch { IsScratch circuit.now scratch.new }
         ensures book { self.new.book ≡ self.old.book }
         ensures bound { IfOk result (λ answer. IfSome answer (has_bound (problem circuit.now admit.now) cube.now)) }
@@ -431,6 +440,7 @@ impl Search {
         requires held { length admit.now.held ≡ length circuit.now.netlist.inputs }
         requires positions { length cube.now ≡ 2 * length circuit.now.netlist.inputs }
         ensures search { IsUnderWay (problem_by Lead circuit.now admit.now) self.old.book.budget self.new }
+        ensures kept { self.old.best.time ≤ self.new.best.time }
         ensures scratch { IsScratch circuit.now scratch.new }
         ensures book { self.new.book ≡ self.old.book }
         ensures bound { IfOk result (λ answer. IfSome answer (has_bound (problem_by Lead circuit.now admit.now) cube.now)) }

@@ -25,6 +25,7 @@ returns-clause-report c =
       partition = c.in_ok-cubes.ensures.partition;
       any = is.0;
       few = omega (arith, c.in_ok-cubes.ensures.few, c.requires);
+      enough = c.in_ok-cubes.ensures.enough;
       some = c.in_ok-cubes.ensures.some;
       inside = c.in_ok-cubes.ensures.inside;
       is = is.1;

@@ -1,6 +1,7 @@
-use Rattle.std.proofs.Common.{map, refl}
+use Rattle.std.proofs.Common.{◌∙◌, map, refl, sym}
 use Rattle.td_cli.specs.Disks.{disk_of}
 use Rattle.td_cli.proofs.Programs.{nothing_done, refused_words}
+use Rattle.td_cli.proofs.Searches.{no_search}
 use Rattle.td_cli.proofs.program.run_plain.Goals as goal
 
 pub returns-clause-ends : goal.returns-clause-ends
@@ -10,3 +11,7 @@ returns-clause-ends g c = (
   refused_words (disk_of (g.F.Files.holds c.args.files.now) (g.F.Files.fails c.args.files.now) (g.F.Files.breaks c.args.files.now) (g.F.Files.is_one c.args.files.now)) (map g.S.AsStr.text c.args.words.now) c.in-Err.error c.tell_error.result _ _
       c.in-Err.ensures.fault c.tell_error.ensures.memory c.tell_error.ensures.told,
 )
+
+pub returns-in-Ok-clause-others : goal.returns-in-Ok-clause-others
+returns-in-Ok-clause-others g c search =
+    absurd (no_search (map g.S.AsStr.text c.args.words.now) c.in-Ok.request c.in-Ok.ensures.asked (sym c.is_search.ensures ∙ c.if-is_search.false) search)

@@ -1,24 +1,17 @@
-use Rattle.std.proofs.Common.{refl, sym}
-use Rattle.std.proofs.lemmas.Option.{slice_get-get_or}
-use Rattle.std.proofs.lemmas.Slice.Eq.{bytes_eq-Decides}
-use Rattle.td_report.proofs.Missing.{missing_at_first, missing_next, missing_whole}
+use Rattle.std.proofs.Common.{refl}
+use Rattle.td_report.proofs.FirstFiles.{from_next, is_here, is_nowhere}
 use Rattle.td_report.proofs.memory_files.found.Goals as goal
 
 pub loop-file-init : goal.loop-file-init
-loop-file-init c = missing_at_first c.args.files.now c.args.name.now
+loop-file-init c = refl
 
 pub loop-file-preserved : goal.loop-file-preserved
 loop-file-preserved c =
-    missing_next c.args.files.now c.loop-file.file-index c.args.name.now _ c.loop-file-test.true
-    c.if-eq.ensures
-    c.loop-file.invariant
+    from_next c.args.files.now c.loop-file.file-index c.args.name.now c.loop-file.invariant _ c.loop-file-test.true c.if-eq.ensures
 
-pub returns-then-eq-clause-some : goal.returns-then-eq-clause-some
-returns-then-eq-clause-some c = (
-  c.loop-file.file-index,
-  _,
-  (slice_get-get_or c.args.files.now c.loop-file.file-index _ c.loop-file-test.true, (bytes_eq-Decides _ _).0 (sym c.if-eq.ensures), refl),
-)
+pub returns-then-eq : goal.returns-then-eq
+returns-then-eq c =
+    is_here c.args.files.now c.loop-file.file-index c.args.name.now c.loop-file.invariant _ c.loop-file-test.true c.if-eq.ensures
 
-pub returns-clause-none : goal.returns-clause-none
-returns-clause-none c = missing_whole c.args.files.now c.loop-file.file-index c.args.name.now c.loop-file-test.false c.loop-file.invariant
+pub returns : goal.returns
+returns c = is_nowhere c.args.files.now c.loop-file.file-index c.args.name.now c.loop-file.invariant c.loop-file-test.false

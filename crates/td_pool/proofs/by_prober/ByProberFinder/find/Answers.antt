@@ -38,7 +38,7 @@ pub finding_of-requires : goal.finding_of-requires
 finding_of-requires g c =
     let few = c.gates-numbering.ensures.numbering.well_formed.few_inputs in
     let long : length c.args.cube.now ≡ 2 * length c.args.circuit.now.netlist.inputs = c.requires.within.0 ∙ (c.pins-pins.ensures.fit ∙ ap (λ n. 2 * n) c.requires.held) in
-    placed (problem c.args.circuit.now c.args.admit.now) c.args.cube.now c.offer-cut.result c.decide-decision.result (omega (arith, few, long)) c.decide-decision.ensures
+    placed (problem c.args.circuit.now c.args.admit.now) c.args.cube.now c.offer-cut.result c.decide-decision.result (omega (arith, few, long)) c.decide-decision.ensures.decided
   where
     placed : (asked : Problem) (cube : List Trit) (cut : ℕ) (d : Decision) → length cube < 2 ^ 32 → IsDecided asked cube cut d → IsPlaced d
     placed asked cube cut (decision.Close mark bound) long decided = tt
@@ -51,7 +51,7 @@ returns-clause-finding g c =
     subst (λ (pair : Pair). IsMeasured asked pair c.in_ok-time.time) c.in_ok-pair.ensures.pair
     (record { is = (c.in_ok-pair.ensures.admitted, c.in_ok-time.ensures.delay); only = λ other h. c.in_ok-time.ensures.only other h.1 }) in
     subst (IsTrueOf asked c.args.cube.now) (sym c.finding_of.ensures)
-    (true_finding c.args.circuit.now c.args.admit.now c.args.cube.now c.in_ok-time.time c.offer-cut.result c.decide-decision.result measured c.offer-cut.ensures.within c.decide-decision.ensures)
+    (true_finding c.args.circuit.now c.args.admit.now c.args.cube.now c.in_ok-time.time c.offer-cut.result c.decide-decision.result measured c.offer-cut.ensures.within c.decide-decision.ensures.decided)
 
 pub returns-then-not-any-clause-finding : goal.returns-then-not-any-clause-finding
 returns-then-not-any-clause-finding g c =

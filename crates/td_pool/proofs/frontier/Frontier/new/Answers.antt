@@ -3,14 +3,14 @@ use Rattle.td_domain.specs.Worst.{IsUpperBound}
 use Rattle.td_search.specs.Problems.{Problem, problem_by}
 use Rattle.td_pool.specs.declared.leaf.OpenLeaf.{OpenLeaf}
 use Rattle.td_pool.specs.Frontiers.{IsCover, leaf_of}
-use Rattle.td_pool.specs.Watched.{IsLowerBound}
-use Rattle.td_pool.proofs.Covers.{root_least, root_above, root_greatest, cover_begins}
+use Rattle.td_pool.specs.Watched.{IsFound}
+use Rattle.td_pool.proofs.Covers.{root_found, root_above, root_greatest, cover_begins}
 use Rattle.td_pool.proofs.frontier.Frontier.new.Goals as goal
 
-pub invariant_of-result-clause-least : goal.invariant_of-result-clause-least
-invariant_of-result-clause-least g c =
-    subst (λ (a : Problem). IsLowerBound a c.args.root.first) (sym c.requires.asked)
-    (root_least (problem_by c.args.strategy c.args.circuit.now c.args.admit.now) c.args.root c.requires.root)
+pub invariant_of-result-clause-found : goal.invariant_of-result-clause-found
+invariant_of-result-clause-found g c =
+    subst (λ (a : Problem). IsFound a c.args.root.first) (sym c.requires.asked)
+    (root_found (problem_by c.args.strategy c.args.circuit.now c.args.admit.now) c.args.root c.requires.root)
 
 pub invariant_of-result-clause-greatest : goal.invariant_of-result-clause-greatest
 invariant_of-result-clause-greatest g c =

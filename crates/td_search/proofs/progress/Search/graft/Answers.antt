@@ -7,8 +7,8 @@ use Rattle.td_search.proofs.Found.{side_long}
 use Rattle.td_search.proofs.Going.{grafts}
 use Rattle.td_search.proofs.progress.Search.graft.Goals as goal
 
-pub returns-in-Ok-graft : goal.returns-in-Ok-graft
-returns-in-Ok-graft c =
+pub returns-in-Ok-graft-clause-search : goal.returns-in-Ok-graft-clause-search
+returns-in-Ok-graft-clause-search c =
     let s = c.args.self.now in
     let findings = c.args.findings.now in
     let items : c.push_side_bounds.new.bounds.items ≡ s.bounds.items ++ side_bounds findings =

@@ -8,7 +8,7 @@ graft-requires-clause-found c =
     true_front (problem_by c.args.strategy c.args.circuit.now c.args.admit.now) _ c.args.findings.now c.dig_again-count.result c.requires.found
 
 pub give_back-requires-in-Err-graft : goal.give_back-requires-in-Err-graft
-give_back-requires-in-Err-graft c = again (problem_by c.args.strategy c.args.circuit.now c.args.admit.now) _ c.graft.new.self c.graft.ensures
+give_back-requires-in-Err-graft c = again (problem_by c.args.strategy c.args.circuit.now c.args.admit.now) _ c.graft.new.self c.graft.ensures.search
 
-pub returns-in-Err-graft : goal.returns-in-Err-graft
-returns-in-Err-graft c = still (problem_by c.args.strategy c.args.circuit.now c.args.admit.now) _ c.graft.new.self c.give_back-in-Err-graft.new.self c.graft.ensures c.give_back-in-Err-graft.ensures
+pub returns-in-Err-graft-clause-search : goal.returns-in-Err-graft-clause-search
+returns-in-Err-graft-clause-search c = still (problem_by c.args.strategy c.args.circuit.now c.args.admit.now) _ c.graft.new.self c.give_back-in-Err-graft.new.self c.graft.ensures.search c.give_back-in-Err-graft.ensures.search

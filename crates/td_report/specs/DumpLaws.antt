@@ -1,0 +1,40 @@
+-- Laws of the dumps of netlists that texts mean.
+use Rattle.std.specs.Prelude.{◌≡◌, ℕ, List, [], ◌∷◌, Option, Some}
+use Rattle.std.specs.List.{AllByRecursion}
+use Rattle.td_gates.specs.declared.timing.Delay.{Delay}
+use Rattle.td_gates.specs.Wave.{Wave, IsWave}
+use Rattle.td_nets.specs.Netlist.{Netlist}
+use Rattle.td_netlist.specs.Means.{Means}
+use Rattle.td_circuit.specs.Settings.{Setting}
+use Rattle.td_domain.specs.Pairs.{Pair}
+use Rattle.td_vcd.specs.Text.{dump, variable_waves}
+use Rattle.td_vcd.specs.Says.{Says}
+use Rattle.td_vcd.specs.Laws.{HasNamesOnOneLine}
+use Rattle.td_report.specs.Files.{FileText}
+use Rattle.td_report.specs.PairReports.{IsDumpOf}
+use Rattle.td_report.specs.Reports.{IsSimReport}
+
+-- no name of the netlist that a text means has a newline
+abbrev pub NamesOfTexts : Type 0
+NamesOfTexts = (text : List ℕ) (default : Delay) (netlist : Netlist) → Means text default netlist → HasNamesOnOneLine netlist
+
+-- read back, a dump of the netlist that a text means says exactly its waves
+abbrev pub DumpsOfTextsSay : Type 0
+DumpsOfTextsSay = (text : List ℕ) (default : Delay) (netlist : Netlist) (waves : List Wave) → Means text default netlist
+    → AllByRecursion IsWave waves → Says (dump netlist waves) waves
+
+-- there is one file, it has this name, and its text says exactly these waves
+abbrev pub IsFileOf : List ℕ → List Wave → List FileText → Type 0
+IsFileOf name waves files = (text : List ℕ) × (files ≡ record { name = name; text = text } ∷ []) × Says text waves
+
+-- the file that `sim` writes says exactly the waves of the run that its report tells
+abbrev pub FilesOfSimSay : Type 0
+FilesOfSimSay = (text : List ℕ) (default : Delay) (from to : List ℕ) (at : Option (List ℕ)) (name report : List ℕ) (files : List FileText)
+    → (told : IsSimReport text default from to at (Some name) report files)
+    → IsFileOf name (variable_waves told.setting.netlist told.waves) files
+
+-- the file of a pair's dump says exactly the waves of the pair's run, where the netlist is that of a text
+abbrev pub FilesOfPairsSay : Type 0
+FilesOfPairsSay = (text : List ℕ) (default : Delay) (setting : Setting) (pair : Pair) (name : List ℕ) (files : List FileText)
+    → Means text default setting.netlist → (dumped : IsDumpOf setting pair (Some name) files)
+    → IsFileOf name (variable_waves setting.netlist dumped.0) files
