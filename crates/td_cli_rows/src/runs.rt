@@ -16,6 +16,7 @@ pub struct Ended<'a> {
     pub files: MemoryFiles<'a>,
 }
 
+/// How many bytes a stream takes that doesn't fail.
 pub const ROOM: usize = 1 << 16;
 
 /// Carries out a command over files in memory. Standard output takes so many bytes, some at a time.
@@ -38,9 +39,11 @@ pub fn carried_out<'a, R: Threads + Wait + Sync>(
     })
 }
 
+/// A netlist.
 pub const INVERTER: &[u8] =
     b"module t(a, y);\ninput a;\noutput y;\nnot #(2,3) g(y,a);\nendmodule\n";
 
+/// Two files that have it.
 pub const FILES: [(&str, &[u8]); 2] = [("inverter.v", INVERTER), ("-", INVERTER)];
 
 /// The status of a command, and whether standard output, which takes so many bytes, has just the first of these, that it can't be

@@ -30,6 +30,7 @@ impl<'a> Model for Directions<'a> {
 }
 
 impl<'a> Directions<'a> {
+    /// No directions.
     pub fn new(alloc: Global, hashing: SeededState) -> Directions<'a>
         ensures { result ≡ [] }
     {

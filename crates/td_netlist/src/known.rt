@@ -38,6 +38,7 @@ impl<'a> Model for Known<'a> {
 }
 
 impl<'a> Known<'a> {
+    /// Nothing known.
     pub fn new(alloc: Global, hashing: SeededState) -> Known<'a>
         ensures { result ≡ [] }
     {

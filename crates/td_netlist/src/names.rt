@@ -27,6 +27,7 @@ impl<'a> Model for Names<'a> {
 }
 
 impl<'a> Names<'a> {
+    /// No names.
     pub fn new(alloc: Global, hashing: SeededState) -> Names<'a>
         ensures { result ≡ [] }
     {
@@ -43,12 +44,14 @@ impl<'a> Names<'a> {
         self.set.insert(name)
     }
 
+    /// How many names there are.
     pub fn len(&self) -> usize
         ensures { result ≡ length self.now }
     {
         self.set.len()
     }
 
+    /// Whether a name is there.
     pub fn has(&self, name: NameRef<'a>) -> bool
         ensures { result ≡ is_in (name_ref_of name.entry) self.now }
     {

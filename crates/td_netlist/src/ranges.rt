@@ -54,6 +54,7 @@ pub fn bit_at(range: Range, place: u32) -> u32
     }
 }
 
+/// Whether a range has this bit.
 pub fn holds(range: Range, bit: u32) -> bool
     ensures { result ≡ holds range bit }
 {

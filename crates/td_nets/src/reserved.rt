@@ -156,6 +156,7 @@ fn is_listed(word: &[u8]) -> bool
     has(&WORDS, word)
 }
 
+/// Whether a word is one of the language's reserved words outside the subset.
 pub fn is_reserved(word: &[u8]) -> bool
     ensures { result ≡ list_any (λ w. bytes_eq w word.now) reserved_words }
 {

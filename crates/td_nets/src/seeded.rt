@@ -13,6 +13,7 @@ pub struct SeededState {
 }
 
 impl SeededState {
+    /// Hashers that begin with this seed.
     pub fn with_seed(seed: u64) -> SeededState
         ensures { start_of result ≡ seeded seed }
     {

@@ -67,12 +67,14 @@ impl Own {
         Ok(Other { thief, pass })
     }
 
+    /// Puts a number in. One that is refused comes back.
     pub fn push(&mut self, number: u32) -> Result<(), u32>
         ensures { MatchResult result (λ _. self.new ≡ puts self.old number) (λ back. (back ≡ number) × (self.new ≡ self.old)) }
     {
         self.owner.push_as::<Puts>(number)
     }
 
+    /// Takes the number that was put in last, if one is left.
     pub fn pop(&mut self) -> Option<u32>
         ensures { MatchOption result (self.new ≡ self.old) (λ number. (self.new ≡ takes self.old number) × TookItsOwn self.new.hand) }
     {
@@ -81,6 +83,7 @@ impl Own {
 }
 
 impl Other {
+    /// Takes the number that was put in first, if one is left and nobody else takes it meanwhile.
     pub fn steal(&mut self) -> Option<u32>
         ensures { MatchOption result (self.new ≡ self.old) (λ number. self.new ≡ takes self.old number) }
     {

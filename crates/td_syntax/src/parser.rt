@@ -33,6 +33,7 @@ impl<'a> Model for Parser<'a> {
     ghost view = { λ p. record { stream = p.lexer; gates = p.gates } };
 }
 
+/// A fault of this kind on this line.
 pub fn fault<'a>(kind: FaultKind<'a>, line: u32) -> Fault<'a>
     ensures kind { result.kind ≡ kind.entry }
     ensures line { result.line ≡ line }
@@ -80,6 +81,7 @@ fn stopped<'a>(stop: Stop, line: u32) -> Fault<'a>
     }
 }
 
+/// Whether a token is this mark.
 pub fn is_mark(mark: Symbol, token: Token<'_>) -> bool
     ensures { result ≡ is_mark mark (view token.entry) }
 {
@@ -129,6 +131,7 @@ pub fn base_of<'a>(placed: Placed<'a>) -> Option<Terminal<'a>>
     }
 }
 
+/// The number that a token is, if it is one.
 pub fn number_of<'a>(placed: Placed<'a>) -> Option<Number<'a>>
     ensures { option_number_view result ≡ as_number (placed_view placed.entry) }
 {
@@ -151,6 +154,7 @@ pub fn whole_of<'a>(placed: Placed<'a>) -> Option<&'a [u8]>
     }
 }
 
+/// The reserved word of the subset that a token is, if it is one.
 pub fn keyword_of(placed: Placed<'_>) -> Option<Keyword>
     ensures { result ≡ as_keyword (placed_view placed.entry) }
 {
@@ -169,6 +173,7 @@ fn is_wire(placed: Placed<'_>) -> Option<()>
     }
 }
 
+/// Something where a token is an attribute, else nothing.
 pub fn is_attribute(placed: Placed<'_>) -> Option<()>
     ensures { result ≡ as_attribute (placed_view placed.entry) }
 {
@@ -178,6 +183,7 @@ pub fn is_attribute(placed: Placed<'_>) -> Option<()>
     }
 }
 
+/// Something where a token is the word `module`, else nothing.
 pub fn is_module(placed: Placed<'_>) -> Option<()>
     ensures { result ≡ as_module (placed_view placed.entry) }
 {
@@ -210,6 +216,7 @@ fn second_refused<'a>(placed: Placed<'a>) -> Fault<'a>
 }
 
 impl<'a> Parser<'a> {
+    /// A parser that stands before the first token of a text and has seen no gate.
     pub fn new(text: &'a [u8]) -> Parser<'a>
         requires { length text.now ≤ 67108864 }
         ensures { result ≡ readers.start (tokens_of 1 text.now) }
@@ -244,6 +251,7 @@ impl<'a> Parser<'a> {
         }
     }
 
+    /// Takes a name.
     #[tactic(auto, unfolding(crate::specs::Readers::name_at, crate::specs::Readers::take_at))]
     pub fn name(&mut self) -> Result<Name<'a>, Fault<'a>>
         ensures { Gives (λ n. (name_view n, self.new)) result (name_at self.old) }
@@ -267,6 +275,7 @@ impl<'a> Parser<'a> {
         }
     }
 
+    /// Takes this mark.
     #[tactic(auto, unfolding(crate::specs::Readers::mark_at))]
     pub fn mark(&mut self, mark: Symbol) -> Result<(), Fault<'a>>
         ensures { Gives (λ _. self.new) result (mark_at mark self.old) }
@@ -293,6 +302,7 @@ impl<'a> Parser<'a> {
         }
     }
 
+    /// Takes a name, if one is in front.
     #[tactic(auto, unfolding(crate::specs::Readers::maybe_at))]
     pub fn maybe_name(&mut self) -> Result<Option<Name<'a>>, Fault<'a>>
         ensures { Gives (λ n. (option_name_view n, self.new)) result (maybe_at as_name self.old) }
@@ -304,6 +314,7 @@ impl<'a> Parser<'a> {
         Ok(found)
     }
 
+    /// Takes the word `wire`, if it is in front.
     #[tactic(auto, unfolding(crate::specs::Readers::maybe_at))]
     pub fn maybe_wire(&mut self) -> Result<Option<()>, Fault<'a>>
         ensures { Gives (λ w. (w, self.new)) result (maybe_at as_wire self.old) }
@@ -315,6 +326,7 @@ impl<'a> Parser<'a> {
         Ok(found)
     }
 
+    /// Takes an attribute, if one is in front.
     #[tactic(auto, unfolding(crate::specs::Readers::maybe_at))]
     pub fn maybe_attribute(&mut self) -> Result<Option<()>, Fault<'a>>
         ensures { Gives (λ a. (a, self.new)) result (maybe_at as_attribute self.old) }
@@ -344,6 +356,7 @@ impl<'a> Parser<'a> {
         }
     }
 
+    /// Takes a name of a list, and the comma or the mark that ends the list behind it.
     #[tactic(auto, unfolding(crate::specs::Readers::name_step))]
     pub fn name_step(&mut self, end: Symbol, place: usize) -> Result<Step<Name<'a>>, Fault<'a>>
         ensures { Gives (λ x. (step_view name_view x, self.new)) result (name_step end place self.old) }

@@ -10,6 +10,7 @@ ghost use Rattle.td_syntax.specs.TimescaleViews.{part_view, rest_view, directive
 use crate::bytes::is_blank;
 use crate::token::{Directive, Timescale, Unread};
 
+/// How many bytes of white space are in front.
 pub fn blank_len(text: &[u8]) -> usize
     ensures run { result ≡ prefix_len is_blank text.now }
     ensures within { result ≤ length text.now }

@@ -59,6 +59,7 @@ pub enum Unread {
     Short,
 }
 
+/// A token.
 #[derive(Clone, Copy, Debug)]
 pub enum Token<'a> {
     Name(&'a [u8]),
