@@ -8,9 +8,11 @@ Without a word it prints the picture. `--write` puts it into README.md between t
 (exit status 1 where README.md has another one). Run it at the top of the repository.
 """
 
+import os
 import sys
 
-from crates import lower_first, uses_of
+sys.path.insert(0, os.path.join(os.path.dirname(os.path.dirname(os.path.abspath(__file__))), "build"))
+from crates import lower_first, uses_of  # noqa: E402
 
 PAGE = "README.md"
 START = "<!-- The picture from here to the next comment is written by checks/picture.py. -->\n"

@@ -1,5 +1,5 @@
 #!/usr/bin/env python3
-"""build.py: proves and builds the program `tdelay`, and says on standard error how far it is.
+"""proved.py: proves and builds the program `tdelay`, and says on standard error how far it is.
 
 It runs the gate, `rt ci`, over a copy of the crates that the program stands on, without their must-fail edits: crates that don't need each
 other are proved side by side, as many as there are processors and memory for. What passes the toolchain keeps on this machine, by the
