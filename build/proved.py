@@ -1,12 +1,16 @@
 #!/usr/bin/env python3
-"""proved.py: proves and builds the program `tdelay`, and says on standard error how far it is.
+"""proved.py [--record] FOLDER: proves and builds `tdelay`, as FOLDER/tdelay, and shows how far it is.
 
-It runs the gate, `rt ci`, over a copy of the crates that the program stands on, without their must-fail edits: crates that don't need each
-other are proved side by side, as many as there are processors and memory for. What passes the toolchain keeps on this machine, by the
-checksums of all that it read, so that an interrupted build goes on behind the crates that were proved, and `rt ci` doesn't prove these
-again. Exit status 0 where the program is built, else 5, with what the toolchain said.
+It runs the gate, `rt ci`, over a copy of the crates that the program stands on, without their
+must-fail edits: crates that don't need each other are proved side by side, as many as there are
+processors and memory for. What is proved the toolchain keeps on this machine, by checksums of all
+that it read, so that an interrupted build goes on after the crates that were proved, and `rt ci`
+doesn't prove these again. `--record` writes how long each crate took into times.json, from which
+the time that is left is told: give it on a machine where nothing is kept, and nothing else works.
+Exit status 0 where the program is built, else 5, with what the toolchain said.
 """
 
+import errno
 import os
 import queue
 import re
@@ -18,91 +22,100 @@ import tempfile
 import threading
 import time
 
-from crates import lower_first, uses_of
+import sources
+from kit import fail, find_kit, need_disk
+from times import read_times, write_times
+from watch import Watch
 
-TOP = os.path.dirname(os.path.dirname(os.path.abspath(__file__)))
-PROGRAM = "tdelay"
-
-
-def seconds_of():
-    """How long the proof of each crate takes at most, by the table of docs/FIGURES.md."""
-    text = open(os.path.join(TOP, "docs/FIGURES.md")).read()
-    return {name: int(seconds) for name, seconds in re.findall(r"^\| `(\w+)` \| (\d+) \|", text, flags=re.M)}
+ROOM_MEGABYTES = 5000
 
 
 def copy_crates(crates, room):
     """Makes a repository of these crates alone, without their edits and what was built of them."""
-    shutil.copy(os.path.join(TOP, "HANDLES"), room)
+    shutil.copy(os.path.join(sources.TOP, "HANDLES"), room)
     with open(os.path.join(room, "crates.txt"), "w") as text:
-        for line in open(os.path.join(TOP, "crates.txt")):
-            if line.split(":")[0].split(" ")[0] in crates:
-                text.write(line)
+        text.write(sources.lines_of_crates(crates))
     for crate in crates:
-        folder = os.path.join("crates", crate)
-        shutil.copytree(os.path.join(TOP, folder), os.path.join(room, folder), ignore=shutil.ignore_patterns("out", "must-fail"))
+        folder, unread = os.path.join("crates", crate), shutil.ignore_patterns("out", "must-fail")
+        shutil.copytree(os.path.join(sources.TOP, folder), os.path.join(room, folder), ignore=unread)
+
+
+def lines_of(process):
+    """What a process writes, line by line, and None about each second in between."""
+    lines = queue.Queue()
+
+    def put_lines():
+        for line in process.stdout:
+            lines.put(line.rstrip("\n"))
+        lines.put(process)
+
+    threading.Thread(target=put_lines, daemon=True).start()
+    while True:
+        try:
+            line = lines.get(timeout=1)
+        except queue.Empty:
+            line = None
+        if line is process:
+            return
+        yield line
 
 
 class Build:
     def __init__(self):
-        uses = uses_of(TOP)
-        self.uses = {crate: [low for low in uses[crate] if low in uses] for crate in lower_first(uses, [PROGRAM])}
-        self.table = seconds_of()
+        self.uses = sources.program_crates()
+        self.usual = read_times()["crates"]
         self.began = time.monotonic()
         self.done, self.said = [], []
+        self.kept = set()
+        self.watch = Watch()
         self.terminal = sys.stderr.isatty()
 
     def left(self):
         """The seconds on the longest chain of crates that aren't proved yet."""
         chain = {}
         for crate, lows in self.uses.items():
-            own = 0 if crate in self.done else self.table.get(crate, 30)
+            own = 0 if crate in self.done else self.usual.get(crate, 30)
             chain[crate] = own + max([chain[low] for low in lows], default=0)
-        return chain[PROGRAM]
+        return chain[sources.PROGRAM]
 
-    def tell(self):
+    def show(self):
         so_far = int(time.monotonic() - self.began)
         last = f", {self.done[-1]} last" if self.done else ""
-        text = f"tdelay: {len(self.done)} of {len(self.uses)} crates proved{last}: {so_far} s so far, at most some {self.left()} s left"
+        text = f"tdelay: {len(self.done)} of {len(self.uses)} crates proved{last}: "
+        text += f"{so_far} s so far, at most some {self.left()} s left"
         sys.stderr.write("\r\033[K" + text if self.terminal else text + "\n")
         sys.stderr.flush()
 
     def read(self, line):
         """Takes a line of the toolchain, which may say that a crate is proved."""
         self.said.append(line)
-        proved = re.match(r"rt: (\w+)(?: proved$| is kept: )", line)
+        proved = re.match(r"rt: (\w+)( proved$| is kept: )", line)
         if proved and proved[1] in self.uses:
             self.done.append(proved[1])
-            self.tell()
+            if proved[2] != " proved":
+                self.kept.add(proved[1])
+            self.show()
 
     def follow(self, process):
-        """Reads what the toolchain says until it ends, and tells on a terminal each second how far it is. Answers its exit status."""
-        lines = queue.Queue()
+        """Reads what the toolchain says until it ends. Answers its exit status."""
+        for line in lines_of(process):
+            self.watch.look()
+            if line is not None:
+                self.read(line)
+            elif self.terminal:
+                self.show()
+        return process.wait()
 
-        def put_lines():
-            for line in process.stdout:
-                lines.put(line.rstrip("\n"))
-            lines.put(None)
-
-        threading.Thread(target=put_lines, daemon=True).start()
-        while True:
-            try:
-                line = lines.get(timeout=1)
-            except queue.Empty:
-                if self.terminal:
-                    self.tell()
-                continue
-            if line is None:
-                return process.wait()
-            self.read(line)
-
-    def run(self):
-        """Builds the program. Answers whether it is built."""
-        self.tell()
+    def run(self, folder):
+        """Builds the program into the folder. Answers whether it is built."""
+        self.show()
+        made_of = sources.stamp()
         with tempfile.TemporaryDirectory(prefix="tdelay-build-") as room:
             copy_crates(self.uses, room)
             process = subprocess.Popen(
-                ["rt", "ci"], cwd=room, stdin=subprocess.DEVNULL, stdout=subprocess.PIPE, stderr=subprocess.STDOUT, text=True, errors="replace"
-            )
+                ["rt", "ci"], cwd=room, stdin=subprocess.DEVNULL, stdout=subprocess.PIPE,
+                stderr=subprocess.STDOUT, text=True, errors="replace",
+            )  # fmt: skip
             try:
                 status = self.follow(process)
             finally:
@@ -110,36 +123,54 @@ class Build:
                 process.wait()
             if self.terminal:
                 sys.stderr.write("\r\033[K")
-            return status == 0 and take(room)
+            return status == 0 and take(room, made_of, folder)
+
+    def record(self):
+        """Writes how long the crates took that were proved in this run."""
+        times = read_times()
+        proved = [it for it in self.done if it not in self.kept]
+        times["crates"].update({it: round(self.watch.seconds.get(it, 0)) for it in proved})
+        write_times(times)
 
 
-def take(room):
-    """Puts the program where it belongs. Answers whether there is one."""
-    inside = os.path.join("crates", PROGRAM, "out")
-    built = os.path.join(room, inside, PROGRAM)
+def take(room, made_of, folder):
+    """Puts the program and its stamp into the folder. Answers whether there is one."""
+    built = os.path.join(room, "crates", sources.PROGRAM, "out", sources.PROGRAM)
     if not os.access(built, os.X_OK):
         return False
-    os.makedirs(os.path.join(TOP, inside), exist_ok=True)
-    part = os.path.join(TOP, inside, f"{PROGRAM}.{os.getpid()}")
+    os.makedirs(folder, exist_ok=True)
+    program = os.path.join(folder, sources.PROGRAM)
+    part = f"{program}.{os.getpid()}"
     shutil.copy(built, part)
-    os.replace(part, os.path.join(TOP, inside, PROGRAM))
+    os.replace(part, program)
+    sources.write_stamp(program, made_of)
     return True
 
 
-def fail(why):
-    sys.stderr.write(f"tdelay: {why}\n")
-    sys.exit(5)
+def interrupt(*_):
+    raise KeyboardInterrupt
 
 
-def main():
-    signal.signal(signal.SIGTERM, lambda *_: sys.exit(5))
-    if not shutil.which("rt"):
-        fail("the toolchain's command `rt` isn't there")
+def main(words):
+    is_recorded = words[:1] == ["--record"]
+    if len(words) != 1 + is_recorded:
+        sys.exit(__doc__)
+    signal.signal(signal.SIGTERM, interrupt)
+    find_kit()
     build = Build()
-    if not build.run():
-        sys.stderr.write("\n".join(build.said) + "\n")
-        fail("the build failed")
+    try:
+        need_disk(tempfile.gettempdir(), ROOM_MEGABYTES, "proving")
+        if not build.run(os.path.abspath(words[-1])):
+            sys.stderr.write("\n".join(build.said) + "\n")
+            fail(5, "the build failed")
+    except KeyboardInterrupt:
+        fail(5, "interrupted; what is proved is kept, and ./prove goes on after it")
+    except OSError as why:
+        full = why.errno in (errno.ENOSPC, errno.EDQUOT)
+        fail(5, f"no room on disk: {why}" if full else f"the program can't be built: {why}")
+    if is_recorded:
+        build.record()
 
 
 if __name__ == "__main__":
-    main()
+    main(sys.argv[1:])

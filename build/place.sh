@@ -1,0 +1,7 @@
+# Sets `place`: the folder for programs that are built of the checkout at `here`. In a read-only
+# checkout it is a folder of the user's cache.
+if [ -w "$here" ]; then
+    place="$here/out"
+else
+    place="${XDG_CACHE_HOME:-${HOME:-/tmp}/.cache}/tdelay/$(printf %s "$here" | cksum | cut -d' ' -f1)"
+fi
