@@ -1,11 +1,11 @@
 #!/usr/bin/env python3
-"""picture.py [--write | --check]: the picture of the crates in README.md, made from crates.txt.
+"""picture.py [--write | --check]: the picture of the crates in docs/ARCHITECTURE.md, made from crates.txt.
 
 A crate stands in the lowest layer above all crates that it uses. Each layer is a line, the highest first, and the crates of tests, whose
 names end in `_rows`, stand apart below. Behind `on` stand the crates that a crate uses, without those that another one of them stands on.
 
-Without a word it prints the picture. `--write` puts it into README.md between two marker comments, `--check` looks whether it is there
-(exit status 1 where README.md has another one). Run it at the top of the repository.
+Without a word it prints the picture. `--write` puts it into docs/ARCHITECTURE.md between two marker comments, `--check` looks whether it is there
+(exit status 1 where that page has another one). Run it at the top of the repository.
 """
 
 import os
@@ -14,10 +14,10 @@ import sys
 sys.path.insert(0, os.path.join(os.path.dirname(os.path.dirname(os.path.abspath(__file__))), "build"))
 from crates import lower_first, uses_of  # noqa: E402
 
-PAGE = "README.md"
+PAGE = "docs/ARCHITECTURE.md"
 START = "<!-- The picture from here to the next comment is written by checks/picture.py. -->\n"
 END = "<!-- The picture ends. -->\n"
-WIDTH = 120
+WIDTH = 100
 
 
 def own_uses():

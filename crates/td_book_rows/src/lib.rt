@@ -9,5 +9,3 @@ mod runs;
 mod steps;
 #[cfg(test)]
 mod totals;
-#[cfg(test)]
-mod walks;

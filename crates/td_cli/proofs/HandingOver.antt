@@ -4,7 +4,7 @@ use Rattle.td_gates.specs.declared.timing.Delay.{Delay}
 use Rattle.td_certificate.specs.declared.certificate.Certificate.{Certificate}
 use Rattle.td_report.specs.declared.status.Status.{Status}
 use Rattle.td_report.specs.declared.status.Status.TheVariants.{Done}
-use Rattle.td_report.specs.Files.{FileText}
+use Rattle.td_files.specs.Files.{FileText}
 use Rattle.td_report.specs.Ends.{Product}
 use Rattle.td_report.specs.Reports.{IsSimReport}
 use Rattle.td_cli.specs.declared.asking.QuestionWords.{QuestionWords}

@@ -10,8 +10,8 @@ use Rattle.td_certificate.specs.declared.certificate.Certificate.{Certificate}
 use Rattle.td_certificate.specs.Spelling.{spelling}
 use Rattle.td_certificate.specs.declared.fault.WriteFault.{WriteFault}
 use Rattle.td_certificate.specs.declared.fault.WriteFault.TheVariants as unwritten
-use Rattle.td_report.specs.declared.files.ReadFault.{ReadFault}
-use Rattle.td_report.specs.declared.files.ReadFault.TheVariants as unread
+use Rattle.td_files.specs.declared.disk.ReadFault.{ReadFault}
+use Rattle.td_files.specs.declared.disk.ReadFault.TheVariants as unread
 use Rattle.td_report.specs.declared.status.Status.{Status}
 use Rattle.td_report.specs.declared.status.Status.TheVariants.{Device}
 use Rattle.td_report.specs.declared.refusal.Refusal.{Refusal}
@@ -19,7 +19,7 @@ use Rattle.td_report.specs.declared.refusal.Refusal.TheVariants as refusal
 use Rattle.td_command.specs.declared.command.WorstRequest.{WorstRequest}
 use Rattle.td_command.specs.declared.command.Request.{Request}
 use Rattle.td_command.specs.declared.command.Request.TheVariants as request
-use Rattle.td_report.specs.Files.{FileStep, Made, Ended, FileText, HasBeginning, IsWritten, IsLeft, AreWritten, Takes}
+use Rattle.td_files.specs.Files.{FileStep, Made, Ended, FileText, HasBeginning, IsWritten, IsLeft, AreWritten, Takes}
 use Rattle.td_report.specs.Vectors.{words_of}
 use Rattle.td_report.specs.Refusals.{refusal_text, unwritten_text}
 use Rattle.td_command.specs.CommandLine.{kinds_of}

@@ -1,7 +1,7 @@
 -- What a command hands over once it has its answer.
 use Rattle.std.specs.Prelude.{◌≡◌, ℕ, List}
 use Rattle.td_report.specs.declared.status.Status.{Status}
-use Rattle.td_report.specs.Files.{FileText}
+use Rattle.td_files.specs.Files.{FileText}
 use Rattle.td_report.specs.Ends.{Product}
 use Rattle.td_cli.specs.Requests.{IsBeside}
 

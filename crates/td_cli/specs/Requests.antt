@@ -11,8 +11,8 @@ use Rattle.td_certificate.specs.declared.certificate.Certificate.{Certificate}
 use Rattle.td_certificate.specs.Spelling.{spelling}
 use Rattle.td_report.specs.declared.status.Status.{Status}
 use Rattle.td_report.specs.declared.status.Status.TheVariants.{Done, BadCommand, Between, Device}
-use Rattle.td_report.specs.declared.files.ReadFault.{ReadFault}
-use Rattle.td_report.specs.declared.files.ReadFault.TheVariants as unread
+use Rattle.td_files.specs.declared.disk.ReadFault.{ReadFault}
+use Rattle.td_files.specs.declared.disk.ReadFault.TheVariants as unread
 use Rattle.td_report.specs.declared.refusal.Refusal.{Refusal}
 use Rattle.td_report.specs.declared.refusal.Refusal.TheVariants as refusal
 use Rattle.td_search.specs.declared.strategy.Strategy.{Strategy}
@@ -37,7 +37,7 @@ use Rattle.td_cli.specs.JoinReports.{IsJoinReport, HasNoJoin}
 use Rattle.td_report.specs.Refusals.{refusal_text, unwritten_text}
 use Rattle.td_cli.specs.Outcomes.{HasNoAnswer}
 use Rattle.td_report.specs.Outcomes.{HasNoCircuit, HasNoReport, HasNoPath, HasNoBounds, HasNoVerdict}
-use Rattle.td_report.specs.Files.{FileStep, FileText}
+use Rattle.td_files.specs.Files.{FileStep, FileText}
 use Rattle.td_cli.specs.Disks.{Disk, Reads, IsUnreadable, HoldsOnFile}
 use Rattle.td_report.specs.Ends.{Product, IsReportOnly, Streams, Tells, Ends, EndsBehind}
 use Rattle.td_cli.specs.Progress.{TellsSearch}

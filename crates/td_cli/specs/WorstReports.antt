@@ -13,7 +13,7 @@ use Rattle.td_search.specs.Problems.{Problem}
 use Rattle.td_search.specs.Answers.{IsAnswer, certificate_of}
 use Rattle.td_cli.specs.declared.asking.QuestionWords.{QuestionWords}
 use Rattle.td_report.specs.Vectors.{words_of}
-use Rattle.td_report.specs.Files.{FileText}
+use Rattle.td_files.specs.Files.{FileText}
 use Rattle.td_cli.specs.Admitting.{AreAdmitted}
 use Rattle.td_report.specs.Reports.{newline, head_lines, IsSetting}
 use Rattle.td_report.specs.PairReports.{IsDumpOf, TellsPair}

@@ -4,7 +4,7 @@ ghost use Rattle.std.specs.Prelude.{[]};
 ghost use Rattle.td_gates.specs.Delays.{IsInRange};
 ghost use Rattle.td_command.specs.CommandLine.{delays};
 ghost use Rattle.td_report.specs.Ends.{Ends, streams};
-ghost use Rattle.td_report.specs.Files.{Takes};
+ghost use Rattle.td_files.specs.Files.{Takes};
 ghost use Rattle.td_report.specs.Outcomes.{HasNoCircuit};
 ghost use Rattle.td_cli.specs.Disks.{disk_of};
 ghost use Rattle.td_cli.specs.Requests.{IsInfoProduct, RequestRuns};
@@ -15,7 +15,7 @@ use std::alloc::Global;
 use td_command::InfoRequest;
 use td_gates::{Delay, Sink};
 use td_report::describing::info;
-use td_report::files::Files;
+use td_files::Files;
 use td_report::status::Status;
 
 /// The command `info`.

@@ -25,17 +25,16 @@ pub use td_command::{
     BoundRequest, Certificates, CheckRequest, InfoRequest, JoinRequest, PartsRequest, PathRequest,
     Request, SimRequest, StrategyWord, WorstRequest, laws, parse,
 };
+pub use td_files::{
+    Files, MemoryFile, MemoryFiles, MemoryStep, ReadFault, RealFiles, RealWriter, WriterSink,
+};
 pub use td_report::bounding::bounds;
 pub use td_report::checking::{Checked, verdict_on};
 pub use td_report::describing::info;
 pub use td_report::dumping::Dump;
 pub use td_report::explaining::path;
-pub use td_report::files::{Files, ReadFault};
-pub use td_report::memory_files::{MemoryFile, MemoryFiles, MemoryStep};
-pub use td_report::real_files::{RealFiles, RealWriter};
 pub use td_report::refusal::Refusal;
 pub use td_report::simulate::{Simulated, sim};
 pub use td_report::status::Status;
 pub use td_report::text::Text;
 pub use td_report::vector::Symbol;
-pub use td_report::writer::WriterSink;

@@ -8,7 +8,7 @@ ghost use Rattle.td_report.specs.Vectors.{words_of};
 ghost use Rattle.td_command.specs.declared.command.Request.TheVariants as Asked;
 
 use td_command::{JoinRequest, Request, SimRequest, WorstRequest};
-use td_report::files::Files;
+use td_files::Files;
 use td_report::refusal::Refusal;
 
 /// Why a command isn't carried out that would write one of its files over another: the netlist or a part's certificate that it reads, or the other

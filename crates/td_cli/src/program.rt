@@ -4,7 +4,7 @@ ghost use Rattle.std.specs.Prelude.{◌≡◌, ◌<◌, ◌≤◌, [], map, IfSo
 ghost use Rattle.td_gates.specs.Delays.{IsInRange};
 ghost use Rattle.td_command.specs.CommandLine.{delays, IsCarriedOut};
 ghost use Rattle.td_report.specs.Ends.{Ends, EndsBehind, streams};
-ghost use Rattle.td_report.specs.Files.{Takes};
+ghost use Rattle.td_files.specs.Files.{Takes};
 ghost use Rattle.td_cli.specs.Outcomes.{HasNoAnswer};
 ghost use Rattle.td_report.specs.Outcomes.{HasNoReport, HasNoPath, HasNoBounds, HasNoVerdict};
 ghost use Rattle.td_cli.specs.Progress.{TellsSearch};
@@ -32,7 +32,7 @@ use td_gates::{Delay, Sink};
 use td_report::bounding::bounds;
 use td_report::checking::verdict_on;
 use td_report::explaining::path;
-use td_report::files::{Files, ReadFault};
+use td_files::{Files, ReadFault};
 use td_report::simulate::sim;
 use td_report::status::Status;
 use td_search::Strategy;

@@ -1,4 +1,4 @@
-//! Standard output that fails, a reader that fails, and words that can't be read.
+//! A reader that fails, and words that can't be read.
 
 use std::alloc::Global;
 use std::sync::Wait;
@@ -46,47 +46,25 @@ pub const INVERTER: &[u8] =
 /// Two files that have it.
 pub const FILES: [(&str, &[u8]); 2] = [("inverter.v", INVERTER), ("-", INVERTER)];
 
-/// The status of a command, and whether standard output, which takes so many bytes, has just the first of these, that it can't be
-/// written is told, and no file is made.
-pub fn shows_a_beginning<R: Threads + Wait + Sync>(
+/// The status of a command whose reader fails after so many bytes, and whether that is told and nothing else is shown.
+fn failing_to_read<R: Threads + Wait + Sync>(
     rt: &R,
     alloc: Global,
-    words: &[&str],
-    room: usize,
-    report: &[u8],
+    readable: usize,
 ) -> Result<(u8, bool), Fail> {
-    let ended = carried_out(rt, alloc, words, MemoryFiles::new(alloc, &FILES), room)?;
-    let is_shown = Some(ended.out.bytes()) == report.get(..room);
-    let is_told = ended.err.bytes() == b"tdelay: cannot write stdout\n".as_slice();
-    let is_all = ended.files.steps().is_empty();
-    Ok((ended.status, is_shown && is_told && is_all))
-}
-
-/// Standard output that fails after each number of bytes: they are the report's first, and the failure is told.
-#[test]
-fn failing_output(rt: HostRuntime) -> Result<(), Fail> {
-    let report = b"unit 1 ns\ndefaulted 0\nlast y 3\ntime 3\n";
     let words = ["tdelay", "sim", "inverter.v", "0", "1"];
-    for room in 0..report.len() {
-        let said = shows_a_beginning(&rt, rt.alloc(), &words, room, report)?;
-        assert_eq!(rt; said, (5, true));
-    }
-    Ok(())
-}
-
-/// The status of a command whose reader fails before the last byte, and whether that is told and nothing else is shown.
-fn failing_to_read<R: Threads + Wait + Sync>(rt: &R, alloc: Global) -> Result<(u8, bool), Fail> {
-    let words = ["tdelay", "sim", "inverter.v", "0", "1"];
-    let files = MemoryFiles::new(alloc, &FILES).reading(INVERTER.len() - 1);
+    let files = MemoryFiles::new(alloc, &FILES).reading(readable);
     let ended = carried_out(rt, alloc, &words, files, ROOM)?;
     let is_told = ended.err.bytes() == b"tdelay: cannot read inverter.v\n".as_slice();
     Ok((ended.status, is_told && ended.out.bytes().is_empty()))
 }
 
-/// A file whose reader fails on the way.
+/// A file whose reader fails after each number of bytes.
 #[test]
 fn failing_reader(rt: HostRuntime) -> Result<(), Fail> {
-    assert_eq!(rt; failing_to_read(&rt, rt.alloc())?, (5, true));
+    for readable in 0..INVERTER.len() {
+        assert_eq!(rt; failing_to_read(&rt, rt.alloc(), readable)?, (5, true));
+    }
     Ok(())
 }
 

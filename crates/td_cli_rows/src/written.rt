@@ -1,6 +1,6 @@
 //! Files that are made, in which order, and files whose writer fails.
 
-use crate::runs::{Ended, FILES, ROOM, carried_out, shows_a_beginning};
+use crate::runs::{Ended, FILES, ROOM, carried_out};
 use std::alloc::Global;
 use std::sync::Wait;
 use std::test::*;
@@ -45,14 +45,6 @@ fn are_both(steps: &[MemoryStep], certificate: &[u8], waves: &[u8]) -> bool {
     }
 }
 
-/// Whether a certificate was put under this name, and nothing else was done.
-fn is_one(steps: &[MemoryStep], name: &[u8]) -> bool {
-    match steps {
-        [begun, put] => is_put(begun, put, name, CERTIFICATE),
-        _ => false,
-    }
-}
-
 /// Carries out a command over the inverter, whose files take so many bytes.
 fn over_files<R: Threads + Wait + Sync>(
     rt: &R,
@@ -80,25 +72,6 @@ fn waves_behind_a_certificate(rt: HostRuntime) -> Result<(), Fail> {
     Ok(())
 }
 
-/// The status of a search from standard input to standard output, whether it reports nothing, and whether it put the certificate there.
-fn from_end_to_end<R: Threads + Wait + Sync>(
-    rt: &R,
-    alloc: Global,
-) -> Result<(u8, bool, bool), Fail> {
-    let words = ["tdelay", "worst", "-", "--cert", "-"];
-    let ended = over_files(rt, alloc, &words, ROOM)?;
-    let is_silent = ended.out.bytes().is_empty() && ended.err.bytes().is_empty();
-    let is_put = is_one(ended.files.steps(), b"-");
-    Ok((ended.status, is_silent, is_put))
-}
-
-/// Standard input and standard output may both be called `-`, and the file is alone there.
-#[test]
-fn both_ends(rt: HostRuntime) -> Result<(), Fail> {
-    assert_eq!(rt; from_end_to_end(&rt, rt.alloc())?, (0, true, true));
-    Ok(())
-}
-
 /// The status of a run whose files take so many bytes, whether it told this, and whether it gave up the file of this name and did
 /// nothing else.
 fn failing<R: Threads + Wait + Sync>(
@@ -118,18 +91,6 @@ fn failing<R: Threads + Wait + Sync>(
     ))
 }
 
-/// A file of waves whose writer fails after each number of bytes isn't put under its name.
-#[test]
-fn failing_waves(rt: HostRuntime) -> Result<(), Fail> {
-    let words = ["tdelay", "sim", "inverter.v", "0", "1", "--vcd", "o"];
-    let told = b"tdelay: cannot write o\n".as_slice();
-    for room in 0..RISES.len() {
-        let said = failing(&rt, rt.alloc(), &words, room, b"o", told)?;
-        assert_eq!(rt; said, (5, true, true));
-    }
-    Ok(())
-}
-
 /// A certificate whose writer fails after each number of bytes isn't put under its name, and where it fails, the waves are not begun.
 #[test]
 fn failing_certificates(rt: HostRuntime) -> Result<(), Fail> {
@@ -138,26 +99,6 @@ fn failing_certificates(rt: HostRuntime) -> Result<(), Fail> {
     for room in 0..CERTIFICATE.len() {
         let said = failing(&rt, rt.alloc(), &words, room, b"c", told)?;
         assert_eq!(rt; said, (5, true, true));
-    }
-    Ok(())
-}
-
-/// The report goes out before the certificate fails.
-#[test]
-fn report_of_a_failing_certificate(rt: HostRuntime) -> Result<(), Fail> {
-    let words = ["tdelay", "worst", "inverter.v", "--cert", "c"];
-    let ended = over_files(&rt, rt.alloc(), &words, 9)?;
-    assert_eq!(rt; ended.out.bytes(), REPORT);
-    Ok(())
-}
-
-/// Where standard output fails, the certificate isn't begun.
-#[test]
-fn certificate_behind_a_failing_report(rt: HostRuntime) -> Result<(), Fail> {
-    let words = ["tdelay", "worst", "inverter.v", "--cert", "c"];
-    for room in 0..REPORT.len() {
-        let said = shows_a_beginning(&rt, rt.alloc(), &words, room, REPORT)?;
-        assert_eq!(rt; said, (5, true));
     }
     Ok(())
 }

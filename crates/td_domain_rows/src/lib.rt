@@ -1,21 +1,17 @@
-//! Runs, the event queue, bounds and dumps of small circuits. There are tests here, and nothing else.
+//! The event queue, sheets and sinks, and calls that no command makes. There are tests here, and nothing else.
 #![tactic(auto)]
 
 #[cfg(test)]
-mod cubes;
-#[cfg(test)]
-mod dumps;
-#[cfg(test)]
-mod edges;
-#[cfg(test)]
-mod points;
+mod circuits;
 #[cfg(test)]
 mod queue;
 #[cfg(test)]
-mod rule;
+mod settled;
 #[cfg(test)]
 mod sheets;
 #[cfg(test)]
 mod sinks;
 #[cfg(test)]
-mod sound;
+mod texts;
+#[cfg(test)]
+mod together;

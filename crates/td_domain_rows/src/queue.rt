@@ -3,13 +3,13 @@
 ghost use Rattle.std.specs.Prelude.{◌≡◌, length};
 ghost use Rattle.td_event_sim.specs.Scratch.{IsFor};
 
+use crate::circuits::{bits_of, delay_by_waves, generated, moments_of, vectors_of};
 use std::alloc::{AllocError, Global};
 use std::process::Abort;
 use std::test::*;
 use td_circuit::Circuit;
 use td_domain::Pair;
 use td_event_sim::{Scratch, delay_of};
-use td_rows::{bits_of, delay_by_waves, generated, moments_of, vectors_of};
 
 /// The delay of a pair by the queue, asked again where a growth was refused.
 fn by_queue(scratch: &mut Scratch, circuit: &Circuit, pair: &Pair) -> Result<u64, AllocError>

@@ -6,6 +6,8 @@ ghost use Rattle.td_arrival.specs.Coverage.{span_reach};
 ghost use Rattle.td_domain.specs.declared.cubes.Trit.TheVariants.{Free};
 ghost use Rattle.td_domain.specs.Sheets.{IsSheet};
 
+use crate::circuits::circuit_of;
+use crate::texts::module;
 use std::alloc::Global;
 use std::process::Abort;
 use std::test::*;
@@ -13,8 +15,6 @@ use td_arrival::Arrival;
 use td_circuit::Circuit;
 use td_domain::{Cube, Domain, Sheet};
 use td_edges::Edges;
-use td_rows::circuit_of;
-use td_rows::texts::module;
 use td_ternary::Possible;
 
 /// How many gates the narrowing of the free cube at this position reaches.

@@ -1,7 +1,6 @@
 pub mod Vectors
 pub mod Refusing
 pub mod Outputs
-pub mod FirstFiles
 pub mod Moments
 pub mod Paths
 pub mod Listing

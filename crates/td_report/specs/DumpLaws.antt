@@ -10,7 +10,7 @@ use Rattle.td_domain.specs.Pairs.{Pair}
 use Rattle.td_vcd.specs.Text.{dump, variable_waves}
 use Rattle.td_vcd.specs.Says.{Says}
 use Rattle.td_vcd.specs.Laws.{HasNamesOnOneLine}
-use Rattle.td_report.specs.Files.{FileText}
+use Rattle.td_files.specs.Files.{FileText}
 use Rattle.td_report.specs.PairReports.{IsDumpOf}
 use Rattle.td_report.specs.Reports.{IsSimReport}
 

@@ -6,7 +6,7 @@ use Rattle.td_vcd.specs.declared.fault.VcdFault.{VcdFault}
 use Rattle.td_vcd.specs.declared.fault.VcdFault.TheVariants as undumped
 use Rattle.td_vcd.specs.Writes.{IsRunFor, dump_of}
 use Rattle.td_report.specs.declared.dumping.Dump.{Dump}
-use Rattle.td_report.specs.Files.{FileText}
+use Rattle.td_files.specs.Files.{FileText}
 
 -- the file of a dump
 abbrev pub file_of : Dump → FileText

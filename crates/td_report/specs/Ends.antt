@@ -4,13 +4,13 @@ use Rattle.std.specs.Borrow.{Bor}
 use Rattle.td_gates.specs.Output.{Output, Sent, Failed}
 use Rattle.td_certificate.specs.declared.fault.WriteFault.{WriteFault}
 use Rattle.td_certificate.specs.declared.fault.WriteFault.TheVariants as unwritten
-use Rattle.td_report.specs.declared.files.ReadFault.{ReadFault}
-use Rattle.td_report.specs.declared.files.ReadFault.TheVariants as unread
+use Rattle.td_files.specs.declared.disk.ReadFault.{ReadFault}
+use Rattle.td_files.specs.declared.disk.ReadFault.TheVariants as unread
 use Rattle.td_report.specs.declared.status.Status.{Status}
 use Rattle.td_report.specs.declared.status.Status.TheVariants.{Refused, BadCommand, Rejected, Device}
 use Rattle.td_report.specs.declared.refusal.Refusal.{Refusal}
 use Rattle.td_report.specs.declared.refusal.Refusal.TheVariants as refusal
-use Rattle.td_report.specs.Files.{FileStep, FileText, AreWritten, IsLeft}
+use Rattle.td_files.specs.Files.{FileStep, FileText, AreWritten, IsLeft}
 use Rattle.td_report.specs.Refusals.{refusal_text, unwritten_text}
 
 -- what a command says: its report, the texts for files in the order in which they are written, and how it ends once all that

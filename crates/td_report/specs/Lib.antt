@@ -12,13 +12,9 @@ pub mod Pinning
 pub mod JoinTexts
 pub mod InfoReports
 pub mod Chains
-pub mod Files
-pub mod Devices
 pub mod Refusals
 pub mod Outcomes
 pub mod Ends
-pub mod MemoryFiles
 pub mod Dumps
-pub mod RealWriters
 pub mod PairReports
 pub mod DumpLaws

@@ -7,7 +7,7 @@ use Rattle.td_circuit.specs.Settings.{Setting}
 use Rattle.td_circuit.specs.Run.{Runs}
 use Rattle.td_domain.specs.Pairs.{Pair}
 use Rattle.td_vcd.specs.Text.{dump, variable_waves}
-use Rattle.td_report.specs.Files.{FileText, file_for}
+use Rattle.td_files.specs.Files.{FileText, file_for}
 use Rattle.td_report.specs.PathReports.{TellsPath}
 
 -- where a name is given, the one file is the dump of the pair's run

@@ -13,7 +13,7 @@ use Rattle.td_circuit.specs.Loops.{Loop}
 use Rattle.td_circuit.specs.Settings.{Setting}
 use Rattle.td_circuit.specs.Run.{Runs, latest_change}
 use Rattle.td_vcd.specs.Text.{dump, variable_waves}
-use Rattle.td_report.specs.Files.{FileText, file_for}
+use Rattle.td_files.specs.Files.{FileText, file_for}
 use Rattle.td_report.specs.Vectors.{level_character, SpellsVector, AreMomentsOf}
 
 abbrev pub newline : List ℕ

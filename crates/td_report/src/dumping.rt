@@ -8,7 +8,7 @@ ghost use Rattle.td_circuit.specs.NetValues.{net_wave};
 ghost use Rattle.td_circuit.specs.Run.{Runs};
 ghost use Rattle.td_vcd.specs.Writes.{IsRunFor, dump_of};
 ghost use Rattle.td_report.specs.Dumps.{dump_files, fault_of, HasRun};
-ghost use Rattle.td_report.specs.Files.{file_for};
+ghost use Rattle.td_files.specs.Files.{file_for};
 ghost use Rattle.td_report.specs.Vectors.{words_of};
 ghost use Rattle.td_report.specs.PairReports.{IsDumpOf};
 

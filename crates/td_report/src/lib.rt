@@ -1,4 +1,4 @@
-//! What the commands of `tdelay` print that don't search, why a command is refused, and the files that they read and write.
+//! What the commands of `tdelay` print that do not search, and why a command is refused.
 #![tactic(auto)]
 
 pub mod bounding;
@@ -7,12 +7,9 @@ pub mod checking;
 pub mod describing;
 pub mod dumping;
 pub mod explaining;
-pub mod files;
 pub mod hindrance;
 pub mod laws;
-pub mod memory_files;
 pub mod pinning;
-pub mod real_files;
 pub mod refusal;
 pub mod report;
 pub mod simulate;
@@ -20,4 +17,3 @@ pub mod status;
 pub mod text;
 pub mod timing;
 pub mod vector;
-pub mod writer;

@@ -1,0 +1,4 @@
+pub mod Files
+pub mod Devices
+pub mod MemoryFiles
+pub mod RealWriters

@@ -1,6 +1,0 @@
-use Rattle.td_report.proofs.FirstFiles.{IsFrom}
-use Rattle.td_report.proofs.memory_files.found.Given as goal
-
--- none of the files so far has the name
-abbrev pub invariant-loop-file : goal.invariant-loop-file
-invariant-loop-file l = IsFrom l.files l.file-index l.name
