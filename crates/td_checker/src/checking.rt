@@ -232,7 +232,7 @@ fn verdict_of_texts<'a>(
 /// # Errors
 ///
 /// The first that is there of a fault of the netlist's text, a loop of the netlist and a fault of the certificate's text.
-/// `OutOfMemory` where a growth was refused, or where a pair that is measured has events at more than 2^30 moments.
+/// `OutOfMemory` where a growth was refused.
 pub fn check<'a>(
     alloc: Global,
     netlist: &'a [u8],

@@ -135,10 +135,6 @@ fn greatest(latest: &[u64], nets: &[u32]) -> u64
     moment
 }
 
-/// The most moments at which events are handled for a pair: the waves of more changes would take more memory than machines have, and
-/// their simulation minutes.
-const MOST_MOMENTS: u32 = 1 << 30;
-
 /// The delay of a pair.
 fn simulate(
     levels: &mut [bool],
@@ -169,12 +165,7 @@ fn simulate(
     let _moments = circuit.moments();
     start(levels, tallies, latest, whens, queue, circuit, pair)?;
     let mut moment = queue.first();
-    let mut left = MOST_MOMENTS;
     while moment < NEVER {
-        if left == 0 {
-            return Err(AllocError);
-        }
-        left -= 1;
         advance(
             levels, tallies, latest, whens, queue, taken, turned, readers, circuit, moment,
         )?;
@@ -275,8 +266,9 @@ impl Scratch {
     }
 }
 
-/// The delay of a pair of vectors: the latest moment at which an output changes, 0 where none does. The error is want of
-/// memory, as which events at more than 1,073,741,824 moments are told too, and the scratch may be used again.
+/// The delay of a pair of vectors: the latest moment at which an output changes, 0 where none does. It takes time in the number of
+/// events, which may double from gate to gate, and memory in the size of the circuit. The error is out of memory, and the scratch may be
+/// used again.
 pub fn delay_of(scratch: &mut Scratch, circuit: &Circuit, pair: &Pair) -> Result<u64, AllocError>
     requires scratch { IsFor circuit.now scratch.old }
     requires first_fits { length pair.now.first ≡ length circuit.now.netlist.inputs }

@@ -55,7 +55,7 @@ impl<L: Ledger> Promise<Report<L>> for Truthful {
 /// # Errors
 ///
 /// `NoPair` where no pair is admitted. `OutOfMemory` where a growth was refused before the first pair was measured and the cube
-/// of the pins bounded, or for what the workers share, or where that pair has events at more than 2^30 moments.
+/// of the pins bounded, or for what the workers share.
 pub fn worst<P: Prober + Sync, R: Threads + Wait + Sync>(
     rt: &R,
     alloc: Global,
