@@ -47,7 +47,7 @@ pub record IsPartsReport (text : List ℕ) (default : Delay) (words : QuestionWo
   pub partition : IsPartition asked.admit cubes
   pub any : 0 < length cubes
   pub few : length cubes ≤ parts
-  pub enough : length cubes < parts → All (IsWhole asked.setting) cubes
+  pub enough : length cubes < parts → All (IsWhole asked.strategy asked.setting) cubes
   pub some : All (HasAdmitted asked.admit) cubes
   pub inside : All (λ cube. IsPart cube asked.admit.pins) cubes
   pub is : report ≡ flat_map (part_line default words) cubes

@@ -12,6 +12,7 @@ use Rattle.td_parts.specs.declared.cutting.Cutting.{Cutting}
 use Rattle.td_parts.specs.declared.part.Part.{Part}
 use Rattle.td_parts.specs.Queues.{AreBelow}
 use Rattle.td_circuit.specs.Settings.{Setting}
+use Rattle.td_search.specs.declared.strategy.Strategy.{Strategy}
 use Rattle.td_parts.specs.Splits.{IsTruePart, cube_of, cubes_of}
 use Rattle.td_parts.specs.Sharing.{IsShare, AreShares, IsFreeIn, IsCutting, weight}
 use Rattle.td_join.proofs.Weights.{Known}
@@ -31,19 +32,19 @@ pub added_length : (new old : List Part) (half : List Trit) → cubes_of new ≡
 added_length new old half e =
     sym (length-map new cube_of) ∙ ap length e ∙ snoc_length (cubes_of old) half ∙ ap (λ (k : ℕ). k + 1) (length-map old cube_of)
 
-pub one_half : (given : Setting) (admit : Admitted) (old new : Cutting) (place : ℕ) (half : List Trit) → AreShares admit (set (cubes_of old.parts.items) place half)
-    → cubes_of new.parts.items ≡ set (cubes_of old.parts.items) place half → All (IsTruePart given) new.parts.items
-    → AreBelow (length old.parts.items) new.queue → IsCutting given admit new
-one_half given admit old new place half shares e splits queued = record {
+pub one_half : (strategy : Strategy) (given : Setting) (admit : Admitted) (old new : Cutting) (place : ℕ) (half : List Trit) → AreShares admit (set (cubes_of old.parts.items) place half)
+    → cubes_of new.parts.items ≡ set (cubes_of old.parts.items) place half → All (IsTruePart strategy given) new.parts.items
+    → AreBelow (length old.parts.items) new.queue → IsCutting strategy given admit new
+one_half strategy given admit old new place half shares e splits queued = record {
   shares = subst (λ (cubes : List (List Trit)). AreShares admit cubes) (sym e) shares;
   splits = splits;
   queued = subst (λ (n : ℕ). AreBelow n new.queue) (sym (narrowed_length new.parts.items old.parts.items place half e)) queued;
 }
 
-pub two_halves : (given : Setting) (admit : Admitted) (old new : Cutting) (cubes : List (List Trit)) (half : List Trit) → AreShares admit (cubes ++ half ∷ [])
-    → cubes_of old.parts.items ≡ cubes → cubes_of new.parts.items ≡ cubes_of old.parts.items ++ half ∷ [] → All (IsTruePart given) new.parts.items
-    → AreBelow (length old.parts.items + 1) new.queue → IsCutting given admit new
-two_halves given admit old new cubes half shares before e splits queued = record {
+pub two_halves : (strategy : Strategy) (given : Setting) (admit : Admitted) (old new : Cutting) (cubes : List (List Trit)) (half : List Trit) → AreShares admit (cubes ++ half ∷ [])
+    → cubes_of old.parts.items ≡ cubes → cubes_of new.parts.items ≡ cubes_of old.parts.items ++ half ∷ [] → All (IsTruePart strategy given) new.parts.items
+    → AreBelow (length old.parts.items + 1) new.queue → IsCutting strategy given admit new
+two_halves strategy given admit old new cubes half shares before e splits queued = record {
   shares = subst (λ (cs : List (List Trit)). AreShares admit cs) (sym (e ∙ ap (λ (cs : List (List Trit)). cs ++ half ∷ []) before)) shares;
   splits = splits;
   queued = subst (λ (n : ℕ). AreBelow n new.queue) (sym (added_length new.parts.items old.parts.items half e)) queued;
@@ -51,7 +52,7 @@ two_halves given admit old new cubes half shares before e splits queued = record
 
 -- ---- a part that is halved
 
-module _ (given : Setting) (admit : Admitted) (old : Cutting) (place : ℕ) (part : Part) (position : ℕ) (cutting : IsCutting given admit old)
+module _ (strategy : Strategy) (given : Setting) (admit : Admitted) (old : Cutting) (place : ℕ) (part : Part) (position : ℕ) (cutting : IsCutting strategy given admit old)
     (at : slice_get old.parts.items place ≡ Some part) (free_at : IsFreeIn (cubes_of old.parts.items) place position) where
   at_cube : slice_get (cubes_of old.parts.items) place ≡ Some part.cube
   at_cube = slice_get-map_some cube_of old.parts.items place part at
@@ -64,10 +65,10 @@ module _ (given : Setting) (admit : Admitted) (old : Cutting) (place : ℕ) (par
 
   -- the zero side has no admitted pair
   pub high_kept : (new : Cutting) (low high : List Trit) → low ≡ set part.cube position Zero → high ≡ set part.cube position One → (¬ HasAdmitted admit low)
-      → cubes_of new.parts.items ≡ set (cubes_of old.parts.items) place high → All (IsTruePart given) new.parts.items
-      → AreBelow (length old.parts.items) new.queue → IsCutting given admit new
+      → cubes_of new.parts.items ≡ set (cubes_of old.parts.items) place high → All (IsTruePart strategy given) new.parts.items
+      → AreBelow (length old.parts.items) new.queue → IsCutting strategy given admit new
   high_kept new low high is_low is_high none e splits queued =
-      one_half given admit old new place high
+      one_half strategy given admit old new place high
       (subst (λ (h : List Trit). AreShares admit (set (cubes_of old.parts.items) place h)) (sym is_high)
       (only_high admit (cubes_of old.parts.items) place part.cube position cutting.shares at_cube free
       (subst (λ (l : List Trit). ¬ HasAdmitted admit l) is_low none)))
@@ -75,10 +76,10 @@ module _ (given : Setting) (admit : Admitted) (old : Cutting) (place : ℕ) (par
 
   -- the one side has none
   pub low_kept : (new : Cutting) (low high : List Trit) → low ≡ set part.cube position Zero → high ≡ set part.cube position One → HasAdmitted admit low
-      → (¬ HasAdmitted admit high) → cubes_of new.parts.items ≡ set (cubes_of old.parts.items) place low → All (IsTruePart given) new.parts.items
-      → AreBelow (length old.parts.items) new.queue → IsCutting given admit new
+      → (¬ HasAdmitted admit high) → cubes_of new.parts.items ≡ set (cubes_of old.parts.items) place low → All (IsTruePart strategy given) new.parts.items
+      → AreBelow (length old.parts.items) new.queue → IsCutting strategy given admit new
   low_kept new low high is_low is_high some none e splits queued =
-      one_half given admit old new place low
+      one_half strategy given admit old new place low
       (subst (λ (l : List Trit). AreShares admit (set (cubes_of old.parts.items) place l)) (sym is_low)
       (only_low admit (cubes_of old.parts.items) place part.cube position cutting.shares at_cube free
       (subst (λ (l : List Trit). HasAdmitted admit l) is_low some) (subst (λ (h : List Trit). ¬ HasAdmitted admit h) is_high none)))
@@ -86,11 +87,11 @@ module _ (given : Setting) (admit : Admitted) (old : Cutting) (place : ℕ) (par
 
   pub both_kept : (mid new : Cutting) (low high : List Trit) → low ≡ set part.cube position Zero → high ≡ set part.cube position One → HasAdmitted admit low
       → HasAdmitted admit high → cubes_of mid.parts.items ≡ set (cubes_of old.parts.items) place low
-      → cubes_of new.parts.items ≡ cubes_of mid.parts.items ++ high ∷ [] → All (IsTruePart given) new.parts.items
+      → cubes_of new.parts.items ≡ cubes_of mid.parts.items ++ high ∷ [] → All (IsTruePart strategy given) new.parts.items
       → AreBelow (length old.parts.items) mid.queue
-      → (AreBelow (length mid.parts.items) mid.queue → AreBelow (length mid.parts.items + 1) new.queue) → IsCutting given admit new
+      → (AreBelow (length mid.parts.items) mid.queue → AreBelow (length mid.parts.items + 1) new.queue) → IsCutting strategy given admit new
   both_kept mid new low high is_low is_high some more before e splits queued adds =
-      two_halves given admit mid new (set (cubes_of old.parts.items) place low) high
+      two_halves strategy given admit mid new (set (cubes_of old.parts.items) place low) high
       (subst (λ (h : List Trit). AreShares admit (set (cubes_of old.parts.items) place low ++ h ∷ [])) (sym is_high)
       (subst (λ (l : List Trit). AreShares admit (set (cubes_of old.parts.items) place l ++ set part.cube position One ∷ [])) (sym is_low)
       (both_sides admit (cubes_of old.parts.items) place part.cube position cutting.shares at_cube free

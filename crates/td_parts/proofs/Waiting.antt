@@ -6,6 +6,7 @@ use Rattle.std.proofs.lemmas.List.Elements.{All-nil, All-cons, All-head, All-tai
 use Rattle.std.proofs.lemmas.List.Sorted.{All-permutation, Contains-permutation}
 use Rattle.td_gates.proofs.Places.{none-some, some-same, slice_get-set_cases, slice_get-push_cases, slice_get-map_some, Contains-slice_get, slice_get-Contains, All-from_contains}
 use Rattle.td_circuit.specs.Settings.{Setting}
+use Rattle.td_search.specs.declared.strategy.Strategy.{Strategy}
 use Rattle.td_domain.specs.declared.cubes.Trit.{Trit}
 use Rattle.td_domain.specs.declared.cubes.Trit.TheVariants.{Free}
 use Rattle.td_join.proofs.Restricting.{order, same, apart}
@@ -114,22 +115,22 @@ begun_waits parts part old new one moved =
 
 -- ---- what a part says
 
-module _ (given : Setting) where
-  whole_one : (part : Part) → IsTruePart given part → IsUnsplit part → IsWhole given part.cube
+module _ (strategy : Strategy) (given : Setting) where
+  whole_one : (part : Part) → IsTruePart strategy given part → IsUnsplit part → IsWhole strategy given part.cube
   whole_one part true none = subst
-      (λ (split : Option Split). MatchOption split (IsWhole given part.cube) (λ split. slice_get part.cube split.position ≡ Some Free)) none true
+      (λ (split : Option Split). MatchOption split (IsWhole strategy given part.cube) (λ split. slice_get part.cube split.position ≡ Some Free)) none true
 
-  pub whole_each : (parts : List Part) → All (IsTruePart given) parts → All IsUnsplit parts → All (IsWhole given) (cubes_of parts)
-  whole_each parts true none = All-map (IsWhole given) cube_of parts (All-from_contains (λ part. IsWhole given part.cube) parts (λ part there.
-      whole_one part (All-contains (IsTruePart given) parts part true there) (All-contains IsUnsplit parts part none there)))
+  pub whole_each : (parts : List Part) → All (IsTruePart strategy given) parts → All IsUnsplit parts → All (IsWhole strategy given) (cubes_of parts)
+  whole_each parts true none = All-map (IsWhole strategy given) cube_of parts (All-from_contains (λ part. IsWhole strategy given part.cube) parts (λ part there.
+      whole_one part (All-contains (IsTruePart strategy given) parts part true there) (All-contains IsUnsplit parts part none there)))
 
-  free_in : (cube : List Trit) (split : Option Split) → MatchOption split (IsWhole given cube) (λ split. slice_get cube split.position ≡ Some Free)
+  free_in : (cube : List Trit) (split : Option Split) → MatchOption split (IsWhole strategy given cube) (λ split. slice_get cube split.position ≡ Some Free)
       → IfSome split (λ split. slice_get cube split.position ≡ Some Free)
   free_in cube None true = tt
   free_in cube (Some split) true = true
 
-  pub free_each : (parts : List Part) → All (IsTruePart given) parts → All IsSplitFree parts
-  free_each parts true = All-weaker (IsTruePart given) IsSplitFree (λ part one. free_in part.cube part.split one) parts true
+  pub free_each : (parts : List Part) → All (IsTruePart strategy given) parts → All IsSplitFree parts
+  free_each parts true = All-weaker (IsTruePart strategy given) IsSplitFree (λ part one. free_in part.cube part.split one) parts true
 
 pub free_at : (parts : List Part) (place : ℕ) (part : Part) (split : Split) → All IsSplitFree parts → slice_get parts place ≡ Some part
     → part.split ≡ Some split → IsFreeIn (cubes_of parts) place split.position

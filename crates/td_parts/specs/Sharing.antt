@@ -4,6 +4,7 @@ use Rattle.td_circuit.specs.Settings.{Setting}
 use Rattle.td_domain.specs.declared.cubes.Trit.{Trit}
 use Rattle.td_domain.specs.declared.cubes.Trit.TheVariants.{Free}
 use Rattle.td_domain.specs.Admits.{Admitted, HasAdmitted}
+use Rattle.td_search.specs.declared.strategy.Strategy.{Strategy}
 use Rattle.td_search.specs.Problems.{IsPart}
 use Rattle.td_join.specs.Partition.{IsPartition}
 use Rattle.td_join.specs.Stacks.{most_nodes}
@@ -27,9 +28,9 @@ abbrev pub IsFreeIn : List (List Trit) → ℕ → ℕ → Type 0
 IsFreeIn cubes place position = (cube : List Trit) → slice_get cubes place ≡ Some cube → slice_get cube position ≡ Some Free
 
 -- the parts share out the pairs, may be split where they say and nowhere else, and the queue has places of parts alone
-pub record IsCutting (given : Setting) (admit : Admitted) (cutting : Cutting) : Type 0 where
+pub record IsCutting (strategy : Strategy) (given : Setting) (admit : Admitted) (cutting : Cutting) : Type 0 where
   pub shares : AreShares admit (cubes_of cutting.parts.items)
-  pub splits : All (IsTruePart given) cutting.parts.items
+  pub splits : All (IsTruePart strategy given) cutting.parts.items
   pub queued : AreBelow (length cutting.parts.items) cutting.queue
 
 -- how many nodes the trees of some cubes have at most

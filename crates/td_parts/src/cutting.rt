@@ -52,7 +52,7 @@ impl Cutting {
         requires scratch { IsScratch circuit.now scratch.old }
         requires held { length admit.now.held ≡ length circuit.now.netlist.inputs }
         requires any { HasAdmitted admit.now admit.now.pins }
-        ensures cutting { IfOk result (IsCutting (setting circuit.now) admit.now) }
+        ensures cutting { IfOk result (IsCutting strategy (setting circuit.now) admit.now) }
         ensures waiting { IfOk result (λ cutting. AreWaiting cutting.parts.items cutting.queue) }
         ensures one { IfOk result (λ cutting. length cutting.parts.items ≡ 1) }
         ensures scratch { IsScratch circuit.now scratch.new }
@@ -80,7 +80,7 @@ impl Cutting {
         requires positions { length half ≡ 2 * length circuit.now.netlist.inputs }
         requires place { place < length self.old.parts.items }
         ensures cubes { OnOk result (cubes self.new.parts.items ≡ set (cubes self.old.parts.items) place half) }
-        ensures splits { All (IsTruePart (setting circuit.now)) self.old.parts.items → OnOk result (All (IsTruePart (setting circuit.now)) self.new.parts.items) }
+        ensures splits { All (IsTruePart strategy (setting circuit.now)) self.old.parts.items → OnOk result (All (IsTruePart strategy (setting circuit.now)) self.new.parts.items) }
         ensures queued { AreBelow (length self.old.parts.items) self.old.queue → OnOk result (AreBelow (length self.old.parts.items) self.new.queue) }
         ensures waiting { AreWaitingBut place self.old.parts.items self.old.queue → OnOk result (AreWaiting self.new.parts.items self.new.queue) }
         ensures scratch { IsScratch circuit.now scratch.new }
@@ -103,7 +103,7 @@ impl Cutting {
         requires scratch { IsScratch circuit.now scratch.old }
         requires positions { length half ≡ 2 * length circuit.now.netlist.inputs }
         ensures cubes { OnOk result (cubes self.new.parts.items ≡ cubes self.old.parts.items ++ half ∷ []) }
-        ensures splits { All (IsTruePart (setting circuit.now)) self.old.parts.items → OnOk result (All (IsTruePart (setting circuit.now)) self.new.parts.items) }
+        ensures splits { All (IsTruePart strategy (setting circuit.now)) self.old.parts.items → OnOk result (All (IsTruePart strategy (setting circuit.now)) self.new.parts.items) }
         ensures queued { AreBelow (length self.old.parts.items) self.old.queue → OnOk result (AreBelow (length self.old.parts.items + 1) self.new.queue) }
         ensures waiting { AreWaiting self.old.parts.items self.old.queue → OnOk result (AreWaiting self.new.parts.items self.new.queue) }
         ensures scratch { IsScratch circuit.now scratch.new }
@@ -128,11 +128,11 @@ impl Cutting {
     ) -> Result<(), AllocError>
         requires scratch { IsScratch circuit.now scratch.old }
         requires held { length admit.now.held ≡ length circuit.now.netlist.inputs }
-        requires cutting { IsCutting (setting circuit.now) admit.now self.old }
+        requires cutting { IsCutting strategy (setting circuit.now) admit.now self.old }
         requires place { place < length self.old.parts.items }
         requires free { IsFreeIn (cubes self.old.parts.items) place position }
         requires waiting { AreWaitingBut place self.old.parts.items self.old.queue }
-        ensures cutting { OnOk result (IsCutting (setting circuit.now) admit.now self.new) }
+        ensures cutting { OnOk result (IsCutting strategy (setting circuit.now) admit.now self.new) }
         ensures waiting { OnOk result (AreWaiting self.new.parts.items self.new.queue) }
         ensures few { OnOk result (length self.new.parts.items ≤ length self.old.parts.items + 1) }
         ensures smaller { OnOk result (weight (cubes self.new.parts.items) < weight (cubes self.old.parts.items)) }
@@ -184,10 +184,10 @@ impl Cutting {
     ) -> Result<(), AllocError>
         requires scratch { IsScratch circuit.now scratch.old }
         requires held { length admit.now.held ≡ length circuit.now.netlist.inputs }
-        requires cutting { IsCutting (setting circuit.now) admit.now self.old }
+        requires cutting { IsCutting strategy (setting circuit.now) admit.now self.old }
         requires waiting { AreWaiting self.old.parts.items self.old.queue }
         requires few { length self.old.parts.items ≤ max 1 parts }
-        ensures cutting { OnOk result (IsCutting (setting circuit.now) admit.now self.new) }
+        ensures cutting { OnOk result (IsCutting strategy (setting circuit.now) admit.now self.new) }
         ensures few { OnOk result (length self.new.parts.items ≤ max 1 parts) }
         ensures enough { OnOk result (length self.new.parts.items < parts → All IsUnsplit self.new.parts.items) }
     {
@@ -215,7 +215,7 @@ fn cut_pins(
     requires any { HasAdmitted admit.now admit.now.pins }
     ensures shares { IfOk result (λ cubes. AreShares admit.now cubes.items) }
     ensures few { IfOk result (λ cubes. length cubes.items ≤ max 1 parts) }
-    ensures enough { IfOk result (λ cubes. length cubes.items < parts → All (IsWhole (setting circuit.now)) cubes.items) }
+    ensures enough { IfOk result (λ cubes. length cubes.items < parts → All (IsWhole strategy (setting circuit.now)) cubes.items) }
 {
     let mut cutting = Cutting::begin(alloc, scratch, circuit, admit, strategy)?;
     cutting.halve_until(alloc, scratch, circuit, admit, strategy, parts)?;
@@ -243,7 +243,7 @@ pub fn cut(
     ensures fits { IfOk result (λ cubes. All (λ cube. length cube ≡ length admit.now.pins) cubes.items) }
     ensures few { IfOk result (λ cubes. length cubes.items ≤ max 1 parts) }
     // There are fewer than asked for only where a search would split none of them.
-    ensures enough { IfOk result (λ cubes. length cubes.items < parts → All (IsWhole (setting circuit.now)) cubes.items) }
+    ensures enough { IfOk result (λ cubes. length cubes.items < parts → All (IsWhole strategy (setting circuit.now)) cubes.items) }
 {
     let pins = admit.pins();
     if !admit.any(pins) {

@@ -30,7 +30,7 @@ impl Part {
         requires scratch { IsScratch circuit.now scratch.old }
         requires positions { length cube ≡ 2 * length circuit.now.netlist.inputs }
         ensures cube { IfOk result (λ part. part.cube ≡ cube) }
-        ensures split { IfOk result (IsTruePart (setting circuit.now)) }
+        ensures split { IfOk result (IsTruePart strategy (setting circuit.now)) }
         ensures scratch { IsScratch circuit.now scratch.new }
     {
         let split = split_of(alloc, scratch, circuit, &cube, strategy)?;

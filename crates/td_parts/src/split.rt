@@ -30,7 +30,7 @@ pub fn split_of(
 ) -> Result<Option<Split>, AllocError>
     requires scratch { IsScratch circuit.now scratch.old }
     requires positions { length cube.now ≡ 2 * length circuit.now.netlist.inputs }
-    ensures split { IfOk result (λ split. MatchOption split (IsWhole (setting circuit.now) cube.now) (IsSplit strategy (setting circuit.now) cube.now)) }
+    ensures split { IfOk result (λ split. MatchOption split (IsWhole strategy (setting circuit.now) cube.now) (IsSplit strategy (setting circuit.now) cube.now)) }
     ensures scratch { IsScratch circuit.now scratch.new }
 {
     match strategy {
@@ -48,7 +48,7 @@ fn least_split(
 ) -> Result<Option<Split>, AllocError>
     requires scratch { IsScratch circuit.now scratch.old }
     requires positions { length cube.now ≡ 2 * length circuit.now.netlist.inputs }
-    ensures split { IfOk result (λ split. MatchOption split (IsWhole (setting circuit.now) cube.now) (IsSplit Least (setting circuit.now) cube.now)) }
+    ensures split { IfOk result (λ split. MatchOption split (IsWhole Least (setting circuit.now) cube.now) (IsSplit Least (setting circuit.now) cube.now)) }
     ensures scratch { IsScratch circuit.now scratch.new }
 {
     let probe = Own.bound(scratch, alloc, circuit, cube, 0)?;
@@ -73,7 +73,7 @@ fn lead_split(
 ) -> Result<Option<Split>, AllocError>
     requires scratch { IsScratch circuit.now scratch.old }
     requires positions { length cube.now ≡ 2 * length circuit.now.netlist.inputs }
-    ensures split { IfOk result (λ split. MatchOption split (IsWhole (setting circuit.now) cube.now) (IsSplit Lead (setting circuit.now) cube.now)) }
+    ensures split { IfOk result (λ split. MatchOption split (IsWhole Lead (setting circuit.now) cube.now) (IsSplit Lead (setting circuit.now) cube.now)) }
     ensures scratch { IsScratch circuit.now scratch.new }
 {
     match next_step(alloc, scratch, circuit, cube, 0)? {

@@ -1,5 +1,5 @@
 -- What a search is asked: the delays of the admitted pairs of a setting, and by which strategy.
-use Rattle.std.specs.Prelude.{ℕ, ◌≤◌, List, Some}
+use Rattle.std.specs.Prelude.{Bool, true, false, ℕ, ◌≤◌, List, Some}
 use Rattle.td_circuit.specs.Settings.{Setting}
 use Rattle.td_circuit.specs.Numbering.{Numbered, setting}
 use Rattle.td_circuit.specs.Run.{IsDelayOfBits}
@@ -8,7 +8,7 @@ use Rattle.td_domain.specs.Pairs.{Pair}
 use Rattle.td_domain.specs.Cubes.{IsIn}
 use Rattle.td_domain.specs.Admits.{Admitted, IsAdmitted}
 use Rattle.td_certificate.specs.declared.tree.BoundedBy.{BoundedBy}
-use Rattle.td_certificate.specs.declared.tree.BoundedBy.TheVariants.{Both, EdgesAndPossible}
+use Rattle.td_certificate.specs.declared.tree.BoundedBy.TheVariants.{Arrival, Possible, Both, Edges, EdgesAndPossible}
 use Rattle.td_certificate.specs.Accepts.{IsBoundBy}
 use Rattle.td_search.specs.declared.strategy.Strategy.{Strategy}
 use Rattle.td_search.specs.declared.strategy.Strategy.TheVariants.{Least, Lead}
@@ -29,6 +29,19 @@ problem circuit admit = problem_by Least circuit admit
 abbrev pub strongest : Strategy → BoundedBy
 strongest Least = Both
 strongest Lead = EdgesAndPossible
+
+-- the domains by whose bounds a strategy closes cubes
+abbrev pub asks : Strategy → BoundedBy → Bool
+asks Least Arrival = true
+asks Least Possible = true
+asks Least Both = true
+asks Least Edges = false
+asks Least EdgesAndPossible = false
+asks Lead Arrival = false
+asks Lead Possible = true
+asks Lead Both = false
+asks Lead Edges = true
+asks Lead EdgesAndPossible = true
 
 -- the pair is admitted, and has this delay
 abbrev pub has_delay : Problem → Pair → ℕ → Type 0

@@ -178,10 +178,44 @@ impl Search {
             node.number,
             &lease.cube,
         ) {
-            return self.graft_again(alloc, circuit, admit, strategy, lease, evidence, coming);
+            let done =
+                self.graft_again(alloc, circuit, admit, strategy, lease, evidence, coming)?;
+            return match done {
+                Some(count) => Ok(count),
+                None => self.replay_anew(
+                    alloc, scratch, circuit, admit, strategy, number, node.state, coming,
+                ),
+            };
         }
         self.replay_split(
             alloc, scratch, circuit, admit, strategy, lease, node.state, coming,
+        )
+    }
+
+    // As `replay_node`, of a node whose evidence isn't usable: it is leased once more, and done again as one without evidence.
+    fn replay_anew(
+        &mut self,
+        alloc: Global,
+        scratch: &mut Scratch,
+        circuit: &Circuit,
+        admit: &Admit,
+        strategy: Strategy,
+        number: Option<u32>,
+        state: State,
+        coming: &mut Vec<Option<u32>>,
+    ) -> Result<usize, AllocError>
+        requires search { IsUnderWay (problem_by strategy circuit.now admit.now) self.old.book.budget self.old }
+        requires scratch { IsScratch circuit.now scratch.old }
+        requires held { length admit.now.held ≡ length circuit.now.netlist.inputs }
+        ensures search { IsUnderWay (problem_by strategy circuit.now admit.now) self.old.book.budget self.new }
+        ensures kept { self.old.best.time ≤ self.new.best.time }
+        ensures scratch { IsScratch circuit.now scratch.new }
+    {
+        let Some(lease) = self.lease_again(circuit, admit, strategy, number, state)? else {
+            return pass(coming, state);
+        };
+        self.replay_split(
+            alloc, scratch, circuit, admit, strategy, lease, state, coming,
         )
     }
 
@@ -243,7 +277,7 @@ impl Search {
         }
     }
 
-    // Splits and closes below a leaf what there is evidence of, and answers how many nodes that were.
+    // Splits and closes below a leaf what there is evidence of, and answers how many nodes that were; none where nothing of it is usable.
     fn graft_again(
         &mut self,
         alloc: Global,
@@ -253,7 +287,7 @@ impl Search {
         lease: Lease,
         evidence: &Evidence,
         coming: &mut Vec<Option<u32>>,
-    ) -> Result<usize, AllocError>
+    ) -> Result<Option<usize>, AllocError>
         requires search { IsUnderWay (problem_by strategy circuit.now admit.now) self.old.book.budget self.old }
         requires cube { evidence.now.cube ≡ lease.cube }
         requires evidence { IsTrueEvidence (problem_by strategy circuit.now admit.now) evidence.now }
@@ -262,10 +296,10 @@ impl Search {
     {
         let grafted = self.graft_found(alloc, circuit, admit, strategy, lease, &evidence.findings)?;
         let Some((count, left)) = grafted else {
-            return Ok(1);
+            return Ok(None);
         };
         put_before(coming, &left)?;
-        Ok(count)
+        Ok(Some(count))
     }
 
     /// Splits and closes below a held leaf what was found there, as far as it is usable under the best. Answers how many nodes that are,

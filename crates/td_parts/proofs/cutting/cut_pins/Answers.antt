@@ -23,6 +23,6 @@ pub returns-clause-enough : goal.returns-clause-enough
 returns-clause-enough c less =
     let parts = c.halve_until.new.self.parts.items in
     let count = ap (λ (cubes : List (List Trit)). length cubes) c.in_ok-cubes.ensures ∙ length-map parts cube_of in
-    subst (λ (cubes : List (List Trit)). All (IsWhole (setting c.args.circuit.now)) cubes) (sym c.in_ok-cubes.ensures)
-    (whole_each (setting c.args.circuit.now) parts c.in_ok-halve_until.ensures.cutting.splits
+    subst (λ (cubes : List (List Trit)). All (IsWhole c.args.strategy (setting c.args.circuit.now)) cubes) (sym c.in_ok-cubes.ensures)
+    (whole_each c.args.strategy (setting c.args.circuit.now) parts c.in_ok-halve_until.ensures.cutting.splits
     (c.in_ok-halve_until.ensures.enough (subst (λ (n : ℕ). n < c.args.parts) count less)))

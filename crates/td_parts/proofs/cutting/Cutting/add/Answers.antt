@@ -10,8 +10,8 @@ use Rattle.td_parts.proofs.cutting.Cutting.add.Goals as goal
 
 pub returns-clause-splits : goal.returns-clause-splits
 returns-clause-splits c true =
-    subst (λ (parts : List Part). All (IsTruePart (setting c.args.circuit.now)) parts) (sym c.in_ok-push-2.ensures.items)
-    (All-push (IsTruePart (setting c.args.circuit.now)) c.args.self.now.parts.items c.in_ok-part.part true c.in_ok-part.ensures.split)
+    subst (λ (parts : List Part). All (IsTruePart c.args.strategy (setting c.args.circuit.now)) parts) (sym c.in_ok-push-2.ensures.items)
+    (All-push (IsTruePart c.args.strategy (setting c.args.circuit.now)) c.args.self.now.parts.items c.in_ok-part.part true c.in_ok-part.ensures.split)
 
 pub returns-clause-queued : goal.returns-clause-queued
 returns-clause-queued c below =

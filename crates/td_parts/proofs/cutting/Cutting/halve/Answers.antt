@@ -8,64 +8,64 @@ use Rattle.td_parts.proofs.cutting.Cutting.halve.Goals as goal
 
 pub any-requires : goal.any-requires
 any-requires c =
-    half_fits (setting c.args.circuit.now) c.args.admit.now c.args.self.now c.args.place c.index.result.now c.args.position c.requires.cutting
+    half_fits c.args.strategy (setting c.args.circuit.now) c.args.admit.now c.args.self.now c.args.place c.index.result.now c.args.position c.requires.cutting
     (slice_get_read c.args.self.now.parts.items (length c.args.self.now.parts.items) c.args.place c.index.result.now refl c.requires.place c.index.ensures) c.requires.free Zero c.in_ok-low.low c.in_ok-low.ensures.low
 
 pub any-requires-2 : goal.any-requires-2
 any-requires-2 c =
-    half_fits (setting c.args.circuit.now) c.args.admit.now c.args.self.now c.args.place c.index.result.now c.args.position c.requires.cutting
+    half_fits c.args.strategy (setting c.args.circuit.now) c.args.admit.now c.args.self.now c.args.place c.index.result.now c.args.position c.requires.cutting
     (slice_get_read c.args.self.now.parts.items (length c.args.self.now.parts.items) c.args.place c.index.result.now refl c.requires.place c.index.ensures) c.requires.free One c.in_ok-low.high c.in_ok-low.ensures.high
 
 pub narrow-requires-clause-positions : goal.narrow-requires-clause-positions
 narrow-requires-clause-positions c =
-    half_fits (setting c.args.circuit.now) c.args.admit.now c.args.self.now c.args.place c.index.result.now c.args.position c.requires.cutting
+    half_fits c.args.strategy (setting c.args.circuit.now) c.args.admit.now c.args.self.now c.args.place c.index.result.now c.args.position c.requires.cutting
     (slice_get_read c.args.self.now.parts.items (length c.args.self.now.parts.items) c.args.place c.index.result.now refl c.requires.place c.index.ensures) c.requires.free One c.in_ok-low.high c.in_ok-low.ensures.high
     ∙ c.pins-fit.ensures.fit ∙ ap (λ (n : ℕ). 2 * n) c.requires.held
 
 pub narrow-requires-2-clause-positions : goal.narrow-requires-2-clause-positions
 narrow-requires-2-clause-positions c =
-    half_fits (setting c.args.circuit.now) c.args.admit.now c.args.self.now c.args.place c.index.result.now c.args.position c.requires.cutting
+    half_fits c.args.strategy (setting c.args.circuit.now) c.args.admit.now c.args.self.now c.args.place c.index.result.now c.args.position c.requires.cutting
     (slice_get_read c.args.self.now.parts.items (length c.args.self.now.parts.items) c.args.place c.index.result.now refl c.requires.place c.index.ensures) c.requires.free Zero c.in_ok-low.low c.in_ok-low.ensures.low
     ∙ c.pins-fit.ensures.fit ∙ ap (λ (n : ℕ). 2 * n) c.requires.held
 
 pub add-requires-clause-positions : goal.add-requires-clause-positions
 add-requires-clause-positions c =
-    half_fits (setting c.args.circuit.now) c.args.admit.now c.args.self.now c.args.place c.index.result.now c.args.position c.requires.cutting
+    half_fits c.args.strategy (setting c.args.circuit.now) c.args.admit.now c.args.self.now c.args.place c.index.result.now c.args.position c.requires.cutting
     (slice_get_read c.args.self.now.parts.items (length c.args.self.now.parts.items) c.args.place c.index.result.now refl c.requires.place c.index.ensures) c.requires.free One c.in_ok-low.high c.in_ok-low.ensures.high
     ∙ c.pins-fit.ensures.fit ∙ ap (λ (n : ℕ). 2 * n) c.requires.held
 
 pub returns-then-not-any-clause-cutting : goal.returns-then-not-any-clause-cutting
 returns-then-not-any-clause-cutting c =
-    high_kept (setting c.args.circuit.now) c.args.admit.now c.args.self.now c.args.place c.index.result.now c.args.position c.requires.cutting
+    high_kept c.args.strategy (setting c.args.circuit.now) c.args.admit.now c.args.self.now c.args.place c.index.result.now c.args.position c.requires.cutting
     (slice_get_read c.args.self.now.parts.items (length c.args.self.now.parts.items) c.args.place c.index.result.now refl c.requires.place c.index.ensures) c.requires.free c.narrow.new.self c.in_ok-low.low c.in_ok-low.high c.in_ok-low.ensures.low c.in_ok-low.ensures.high (search rules)
     c.in_ok-narrow.ensures.cubes (c.in_ok-narrow.ensures.splits c.requires.cutting.splits) (c.in_ok-narrow.ensures.queued c.requires.cutting.queued)
 
 pub returns-then-not-any-clause-smaller : goal.returns-then-not-any-clause-smaller
 returns-then-not-any-clause-smaller c =
-    one_smaller (setting c.args.circuit.now) c.args.admit.now c.args.self.now c.args.place c.index.result.now c.args.position c.requires.cutting
+    one_smaller c.args.strategy (setting c.args.circuit.now) c.args.admit.now c.args.self.now c.args.place c.index.result.now c.args.position c.requires.cutting
     (slice_get_read c.args.self.now.parts.items (length c.args.self.now.parts.items) c.args.place c.index.result.now refl c.requires.place c.index.ensures) c.requires.free One one_is c.narrow.new.self c.in_ok-low.high c.in_ok-low.ensures.high c.in_ok-narrow.ensures.cubes
 
 pub returns-then-not-any-2-clause-cutting : goal.returns-then-not-any-2-clause-cutting
 returns-then-not-any-2-clause-cutting c =
-    low_kept (setting c.args.circuit.now) c.args.admit.now c.args.self.now c.args.place c.index.result.now c.args.position c.requires.cutting
+    low_kept c.args.strategy (setting c.args.circuit.now) c.args.admit.now c.args.self.now c.args.place c.index.result.now c.args.position c.requires.cutting
     (slice_get_read c.args.self.now.parts.items (length c.args.self.now.parts.items) c.args.place c.index.result.now refl c.requires.place c.index.ensures) c.requires.free c.narrow-2.new.self c.in_ok-low.low c.in_ok-low.high c.in_ok-low.ensures.low c.in_ok-low.ensures.high (search rules) (search rules)
     c.in_ok-narrow-2.ensures.cubes (c.in_ok-narrow-2.ensures.splits c.requires.cutting.splits) (c.in_ok-narrow-2.ensures.queued c.requires.cutting.queued)
 
 pub returns-then-not-any-2-clause-smaller : goal.returns-then-not-any-2-clause-smaller
 returns-then-not-any-2-clause-smaller c =
-    one_smaller (setting c.args.circuit.now) c.args.admit.now c.args.self.now c.args.place c.index.result.now c.args.position c.requires.cutting
+    one_smaller c.args.strategy (setting c.args.circuit.now) c.args.admit.now c.args.self.now c.args.place c.index.result.now c.args.position c.requires.cutting
     (slice_get_read c.args.self.now.parts.items (length c.args.self.now.parts.items) c.args.place c.index.result.now refl c.requires.place c.index.ensures) c.requires.free Zero zero_is c.narrow-2.new.self c.in_ok-low.low c.in_ok-low.ensures.low c.in_ok-narrow-2.ensures.cubes
 
 pub returns-clause-cutting : goal.returns-clause-cutting
 returns-clause-cutting c =
-    both_kept (setting c.args.circuit.now) c.args.admit.now c.args.self.now c.args.place c.index.result.now c.args.position c.requires.cutting
+    both_kept c.args.strategy (setting c.args.circuit.now) c.args.admit.now c.args.self.now c.args.place c.index.result.now c.args.position c.requires.cutting
     (slice_get_read c.args.self.now.parts.items (length c.args.self.now.parts.items) c.args.place c.index.result.now refl c.requires.place c.index.ensures) c.requires.free c.narrow-2.new.self c.add.new.self c.in_ok-low.low c.in_ok-low.high c.in_ok-low.ensures.low c.in_ok-low.ensures.high (search rules) (search rules)
     c.in_ok-narrow-2.ensures.cubes c.in_ok-add.ensures.cubes (c.in_ok-add.ensures.splits (c.in_ok-narrow-2.ensures.splits c.requires.cutting.splits))
     (c.in_ok-narrow-2.ensures.queued c.requires.cutting.queued) c.in_ok-add.ensures.queued
 
 pub returns-clause-smaller : goal.returns-clause-smaller
 returns-clause-smaller c =
-    both_smaller (setting c.args.circuit.now) c.args.admit.now c.args.self.now c.args.place c.index.result.now c.args.position c.requires.cutting
+    both_smaller c.args.strategy (setting c.args.circuit.now) c.args.admit.now c.args.self.now c.args.place c.index.result.now c.args.position c.requires.cutting
     (slice_get_read c.args.self.now.parts.items (length c.args.self.now.parts.items) c.args.place c.index.result.now refl c.requires.place c.index.ensures) c.requires.free c.narrow-2.new.self c.add.new.self c.in_ok-low.low c.in_ok-low.high c.in_ok-low.ensures.low c.in_ok-low.ensures.high c.in_ok-narrow-2.ensures.cubes c.in_ok-add.ensures.cubes
 
 pub returns-then-not-any-clause-waiting : goal.returns-then-not-any-clause-waiting

@@ -9,7 +9,7 @@ use Rattle.td_parts.proofs.cutting.Cutting.halve_until.Given as goal
 
 abbrev pub invariant-loop-alloc : goal.invariant-loop-alloc
 invariant-loop-alloc l = record {
-  cutting : IsCutting (setting l.circuit) l.admit l.self;
+  cutting : IsCutting l.strategy (setting l.circuit) l.admit l.self;
   waiting : AreWaiting l.self.parts.items l.self.queue;
   few : length l.self.parts.items ≤ max 1 l.parts;
   scratch : IsScratch l.circuit l.scratch;

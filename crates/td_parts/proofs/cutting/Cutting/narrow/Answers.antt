@@ -14,7 +14,7 @@ returns-clause-cubes c =
 
 pub returns-clause-splits : goal.returns-clause-splits
 returns-clause-splits c true =
-    All-set (IsTruePart (setting c.args.circuit.now)) c.args.self.now.parts.items c.args.place c.in_ok-part.part c.in_ok-part.ensures.split true
+    All-set (IsTruePart c.args.strategy (setting c.args.circuit.now)) c.args.self.now.parts.items c.args.place c.in_ok-part.part c.in_ok-part.ensures.split true
 
 pub returns-clause-queued : goal.returns-clause-queued
 returns-clause-queued c below =
