@@ -1,5 +1,8 @@
 //! A prober that passes all on to the product's own, and looks at what passes.
 
+ghost use Rattle.std.specs.Prelude.{◌≡◌, ◌*◌, length, IfOk};
+ghost use Rattle.td_circuit.specs.Numbering.{setting};
+ghost use Rattle.td_search.specs.Deciding.{IsProbe};
 ghost use Rattle.td_search.specs.Sheeted.{IsScratch};
 
 use std::alloc::{AllocError, Global};
@@ -7,16 +10,18 @@ use std::sync::atomic::{AtomicU64, Ordering};
 use std::thread::yield_now;
 use td_circuit::Circuit;
 use td_domain::{Cube, Pair, Trit};
-use td_search::{Own, Probe, Prober};
+use td_search::{Own, Probe, Prober, Scratch};
 
-/// Counts the pairs that are measured, and asks for each cube's strongest bound, whatever the cut. One call may be refused, and the first
-/// bound of a cube with one fixed position may wait until another such cube was bounded.
+/// Counts the pairs that are measured, and passes all on. One call may be refused, the first bound of a cube with one fixed position may wait
+/// until another such cube was bounded, and each cube's strongest bound may be asked for, whatever the cut.
 #[derive(Drop)]
 pub struct Watching {
     pub measured: AtomicU64,
     /// How many calls there were, and the number of the one that is refused for want of memory, 0 for none.
     pub calls: AtomicU64,
     pub fails: u64,
+    /// Whether the strongest bound is asked for in place of one under the cut.
+    pub strongest: bool,
     /// Whether the first bound waits, how many bounds began, how many ended, and whether nothing came while it waited.
     pub waits: bool,
     pub begun: AtomicU64,
@@ -31,6 +36,7 @@ impl Watching {
             measured: AtomicU64::new(0),
             calls: AtomicU64::new(0),
             fails,
+            strongest: false,
             waits,
             begun: AtomicU64::new(0),
             bounded: AtomicU64::new(0),
@@ -38,11 +44,38 @@ impl Watching {
         }
     }
 
+    /// The same, but for the strongest bound of each cube.
+    pub fn with_the_strongest(mut self) -> Self {
+        self.strongest = true;
+        self
+    }
+
     fn call(&self) -> Result<(), AllocError> {
         if self.calls.fetch_add(1, Ordering::SeqCst).saturating_add(1) == self.fails {
             return Err(AllocError);
         }
         Ok(())
+    }
+
+    // The product's own bound of a cube under this cut, or its strongest one.
+    fn own_bound(
+        &self,
+        scratch: &mut Scratch,
+        alloc: Global,
+        circuit: &Circuit,
+        cube: &Cube,
+        cut: u64,
+    ) -> Result<Probe, AllocError>
+        requires scratch { IsScratch circuit.now scratch.old }
+        requires positions { length cube.now ≡ 2 * length circuit.now.netlist.inputs }
+        ensures probe { IfOk result (IsProbe (setting circuit.now) cube.now cut) }
+        ensures scratch { IsScratch circuit.now scratch.new }
+    {
+        if self.strongest {
+            Own.bound(scratch, alloc, circuit, cube, 0)
+        } else {
+            Own.bound(scratch, alloc, circuit, cube, cut)
+        }
     }
 
     fn wait(&self) {
@@ -89,14 +122,14 @@ impl Prober for Watching {
         alloc: Global,
         circuit: &Circuit,
         cube: &Cube,
-        _cut: u64,
+        cut: u64,
     ) -> Result<Probe, AllocError> {
         self.call()?;
         let meets = self.waits && fixed(cube) == 1;
         if meets {
             self.wait();
         }
-        let probe = Own.bound(scratch, alloc, circuit, cube, 0)?;
+        let probe = self.own_bound(scratch, alloc, circuit, cube, cut)?;
         if meets {
             self.bounded.fetch_add(1, Ordering::SeqCst);
         }

@@ -15,14 +15,15 @@ use td_search::{Answer, Cause, Own, Prober, SearchFault};
 #[derive(Clone, Copy, PartialEq, Eq, Drop)]
 enum End {
     Exact,
+    /// Between two bounds around the worst delay, because memory ran out.
+    Short,
     OutOfMemory,
     Wrong,
 }
 
-/// Whether an answer other than the worst delay is right: two bounds around it for want of memory, or want of memory.
+/// Whether an answer has two bounds around the worst delay, because memory ran out.
 fn is_short(answer: &Result<Answer, SearchFault>, delay: u64) -> bool {
     match answer {
-        Ok(Answer::Exact { .. }) | Err(SearchFault::NoPair) => false,
         Ok(
             Answer::Between {
                 low,
@@ -31,7 +32,7 @@ fn is_short(answer: &Result<Answer, SearchFault>, delay: u64) -> bool {
                 ..
             },
         ) => *low <= delay && delay <= *high && *cause == Cause::Memory,
-        Err(SearchFault::OutOfMemory) => true,
+        Ok(Answer::Exact { .. }) | Err(SearchFault::NoPair | SearchFault::OutOfMemory) => false,
     }
 }
 
@@ -39,7 +40,8 @@ fn is_short(answer: &Result<Answer, SearchFault>, delay: u64) -> bool {
 fn end_of(answer: &Result<Answer, SearchFault>, delay: u64) -> End {
     match answer {
         Ok(Answer::Exact { time, .. }) if *time == delay => End::Exact,
-        _ if is_short(answer, delay) => End::OutOfMemory,
+        Err(SearchFault::OutOfMemory) => End::OutOfMemory,
+        _ if is_short(answer, delay) => End::Short,
         _ => End::Wrong,
     }
 }
@@ -93,7 +95,7 @@ fn again<R: Threads + Wait + Sync + Abort>(
     let second = searched(rt, alloc, &asked, &Own, workers, 5);
     Ok(
         first == End::Exact && second != End::Wrong
-            || first == End::OutOfMemory && second == End::Exact,
+            || (first == End::OutOfMemory || first == End::Short) && second == End::Exact,
     )
 }
 

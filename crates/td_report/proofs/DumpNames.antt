@@ -1,6 +1,7 @@
 -- The dump of a netlist that a text means says its waves.
 use Rattle.std.proofs.Common.{List, [], ◌∷◌, map, sym, subst}
 use Rattle.std.specs.List.{AllByRecursion}
+use Rattle.std.proofs.lemmas.List.{length-map}
 use Rattle.td_gates.specs.Wave.{Wave, IsWave}
 use Rattle.td_nets.specs.Netlist.{Name, Net, Named, Netlist}
 use Rattle.td_nets.specs.WellFormed.{driven}
@@ -17,7 +18,7 @@ names_fine text default netlist means =
     (netlist_fine default means.tree (module_fine means.tree (tokens_fine means.parses.spelled)))
 
 pub dumps_say : NamesOfTexts → SaysTheWaves → DumpsOfTextsSay
-dumps_say fine say text default netlist waves means are = say netlist waves (fine text default netlist means) are
+dumps_say fine say text default netlist waves means are long = say netlist waves (fine text default netlist means) are long
 
 are_waves : (names : List Name) (waves : Net → Wave) → ((net : Net) → IsWave (waves net))
     → AllByRecursion IsWave (map (λ (name : Name). waves (Named name)) names)
@@ -29,7 +30,8 @@ sim_says say text default from to at name report files told = (
   dump told.setting.netlist (variable_waves told.setting.netlist told.waves),
   told.dumped,
   say text default told.setting.netlist (variable_waves told.setting.netlist told.waves) told.is_setting.means
-      (are_waves (driven told.setting.netlist) told.waves told.runs.are_waves),
+      (are_waves (driven told.setting.netlist) told.waves told.runs.are_waves)
+      (length-map (driven told.setting.netlist) (λ (name : Name). told.waves (Named name))),
 )
 
 pub pair_says : DumpsOfTextsSay → FilesOfPairsSay
@@ -37,5 +39,6 @@ pair_says say text default setting pair name files means dumped = (
   dump setting.netlist (variable_waves setting.netlist dumped.0),
   dumped.2,
   say text default setting.netlist (variable_waves setting.netlist dumped.0) means
-      (are_waves (driven setting.netlist) dumped.0 dumped.1.are_waves),
+      (are_waves (driven setting.netlist) dumped.0 dumped.1.are_waves)
+      (length-map (driven setting.netlist) (λ (name : Name). dumped.0 (Named name))),
 )

@@ -1,9 +1,10 @@
 -- Laws of the dumps of netlists that texts mean.
-use Rattle.std.specs.Prelude.{◌≡◌, ℕ, List, [], ◌∷◌, Option, Some}
+use Rattle.std.specs.Prelude.{◌≡◌, ℕ, List, [], ◌∷◌, length, Option, Some}
 use Rattle.std.specs.List.{AllByRecursion}
 use Rattle.td_gates.specs.declared.timing.Delay.{Delay}
 use Rattle.td_gates.specs.Wave.{Wave, IsWave}
 use Rattle.td_nets.specs.Netlist.{Netlist}
+use Rattle.td_nets.specs.WellFormed.{driven}
 use Rattle.td_netlist.specs.Means.{Means}
 use Rattle.td_circuit.specs.Settings.{Setting}
 use Rattle.td_domain.specs.Pairs.{Pair}
@@ -18,10 +19,10 @@ use Rattle.td_report.specs.Reports.{IsSimReport}
 abbrev pub NamesOfTexts : Type 0
 NamesOfTexts = (text : List ℕ) (default : Delay) (netlist : Netlist) → Means text default netlist → HasNamesOnOneLine netlist
 
--- read back, a dump of the netlist that a text means says exactly its waves
+-- read back, a dump of a wave for each driven net of the netlist that a text means says exactly these waves
 abbrev pub DumpsOfTextsSay : Type 0
 DumpsOfTextsSay = (text : List ℕ) (default : Delay) (netlist : Netlist) (waves : List Wave) → Means text default netlist
-    → AllByRecursion IsWave waves → Says (dump netlist waves) waves
+    → AllByRecursion IsWave waves → length waves ≡ length (driven netlist) → Says (dump netlist waves) waves
 
 -- there is one file, it has this name, and its text says exactly these waves
 abbrev pub IsFileOf : List ℕ → List Wave → List FileText → Type 0

@@ -8,3 +8,4 @@ pub mod Playing
 pub mod Rising
 pub mod Saying
 pub mod Steps
+pub mod Counted

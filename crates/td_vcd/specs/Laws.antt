@@ -1,5 +1,5 @@
 -- Laws of dumps.
-use Rattle.std.specs.Prelude.{List}
+use Rattle.std.specs.Prelude.{◌≡◌, List, length}
 use Rattle.std.specs.List.{AllByRecursion}
 use Rattle.td_gates.specs.Wave.{Wave, IsWave}
 use Rattle.td_nets.specs.Netlist.{Name, Netlist}
@@ -12,7 +12,7 @@ pub record HasNamesOnOneLine (netlist : Netlist) : Type 0 where
   pub own : IsOnOneLine netlist.name
   pub nets : AllByRecursion (λ (name : Name). IsOnOneLine name.text) (driven netlist)
 
--- read back, a dump says exactly its waves
+-- read back, a dump of a wave for each driven net says exactly these waves
 abbrev pub SaysTheWaves : Type 0
 SaysTheWaves = (netlist : Netlist) (waves : List Wave) → HasNamesOnOneLine netlist → AllByRecursion IsWave waves
-    → Says (dump netlist waves) waves
+    → length waves ≡ length (driven netlist) → Says (dump netlist waves) waves

@@ -1,5 +1,5 @@
 -- What a value change dump says of its variables, by its lines alone.
-use Rattle.std.specs.Prelude.{◌≡◌, ◌≢◌, ◌≤◌, ℕ, suc, List, [], ◌∷◌, slice_get, Some, nat_le, ◌==◌, ◌&&◌, if◌then◌else◌}
+use Rattle.std.specs.Prelude.{◌≡◌, ◌≢◌, ◌≤◌, ℕ, suc, Bool, true, false, List, [], ◌∷◌, length, take, codes, bytes_eq, slice_get, Some, nat_le, ◌==◌, ◌&&◌, if◌then◌else◌}
 use Rattle.std.specs.List.{AllByRecursion}
 use Rattle.td_gates.specs.declared.primitives.Level.{Level}
 use Rattle.td_gates.specs.Wave.{Wave, at}
@@ -36,11 +36,24 @@ abbrev pub AreRisingFrom : ℕ → List ℕ → Type 0
 AreRisingFrom least [] = Unit {0}
 AreRisingFrom least (number ∷ later) = (least ≤ number) × AreRisingFrom (suc number) later
 
--- The numbers rise, and at each of them the lines give each variable the level of its wave: 0 is before moment 0, and t + 1 is moment t.
+-- whether a line declares a variable
+abbrev pub declares : Line → Bool
+declares (Keyword words) = bytes_eq (take 4 words) (codes "var ")
+declares (Number number) = false
+declares (Sets variable level) = false
+
+-- how many variables are declared
+abbrev pub declared : List Line → ℕ
+declared [] = 0
+declared (line ∷ lines) = if declares line then suc (declared lines) else declared lines
+
+-- As many variables are declared as there are waves. The numbers rise, and at each of them the lines give each variable the level of its
+-- wave: 0 is before moment 0, and t + 1 is moment t.
 pub record Says (text : List ℕ) (waves : List Wave) : Type 0 where
   pub lines : List Line
   pub each : AllByRecursion IsOneLine lines
   pub parts : text ≡ text_of lines
+  pub count : declared lines ≡ length waves
   pub rising : AreRisingFrom 0 (numbers lines)
   pub starts : (variable : ℕ) (wave : Wave) → slice_get waves variable ≡ Some wave
       → (level : Level) → level_by variable 0 0 level lines ≡ wave.start

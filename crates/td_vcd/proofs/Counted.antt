@@ -1,0 +1,55 @@
+-- A dump declares a variable for each driven net.
+use Rattle.std.proofs.Common.{◌≡◌, ℕ, suc, ◌+◌, Bool, true, false, List, [], ◌∷◌, ◌++◌, length, map, refl, ap, sym, ◌∙◌, arith}
+use Rattle.std.specs.Prelude.{if◌then◌else◌}
+use Rattle.std.specs.List.{flat_map}
+use Rattle.td_gates.specs.Wave.{Wave}
+use Rattle.td_nets.specs.Netlist.{Name, Netlist}
+use Rattle.td_nets.specs.WellFormed.{driven}
+use Rattle.td_vcd.specs.declared.events.Event.{Event}
+use Rattle.td_vcd.specs.Text.{Line, numbered, start_line, declaration, events_from, events_at, event_line, moment_of, moment_lines, rising, change_lines, dump_lines, head_lines, dump_begins, dump_ends}
+use Rattle.td_vcd.specs.Says.{declares, declared}
+
+both : (xs ys : List Line) → declared (xs ++ ys) ≡ declared xs + declared ys
+both [] ys = refl
+both (x ∷ xs) ys = go (declares x)
+  where
+    go : (is : Bool) → (if is then suc (declared (xs ++ ys)) else declared (xs ++ ys)) ≡ (if is then suc (declared xs) else declared xs) + declared ys
+    go true = let more = both xs ys in omega (arith, more)
+    go false = both xs ys
+
+declarations : (j : ℕ) (names : List Name) → declared (numbered declaration j names) ≡ length names
+declarations j [] = refl
+declarations j (name ∷ names) = ap suc (declarations (suc j) names)
+
+starts : (j : ℕ) (waves : List Wave) → declared (numbered start_line j waves) ≡ 0
+starts j [] = refl
+starts j (wave ∷ waves) = starts (suc j) waves
+
+sets : (events : List Event) → declared (map event_line events) ≡ 0
+sets [] = refl
+sets (event ∷ later) = sets later
+
+moments : (events : List Event) (times : List ℕ) → declared (flat_map (moment_lines events) times) ≡ 0
+moments events [] = refl
+moments events (t ∷ times) =
+    let all = both (moment_lines events t) (flat_map (moment_lines events) times) in
+    let now = sets (events_at t events) in let later = moments events times in omega (arith, all, now, later)
+
+head : (netlist : Netlist) → declared (head_lines netlist) ≡ 0
+head netlist = refl
+
+pub dump_declares : (netlist : Netlist) (waves : List Wave) → declared (dump_lines netlist waves) ≡ length (driven netlist)
+dump_declares netlist waves =
+    let names : List Line = numbered declaration 0 (driven netlist) in
+    let begun : List Line = numbered start_line 0 waves in
+    let changes : List Line = change_lines (events_from 0 waves) in
+    let five = both ((((head_lines netlist ++ names) ++ dump_begins) ++ begun) ++ dump_ends) changes in
+    let four = both (((head_lines netlist ++ names) ++ dump_begins) ++ begun) dump_ends in
+    let three = both ((head_lines netlist ++ names) ++ dump_begins) begun in
+    let two = both (head_lines netlist ++ names) dump_begins in
+    let one = both (head_lines netlist) names in
+    let none = moments (events_from 0 waves) (rising (map moment_of (events_from 0 waves))) in
+    let still = starts 0 waves in
+    let each = declarations 0 (driven netlist) in
+    let first = head netlist in
+    omega (arith, five, four, three, two, one, none, still, each, first)
