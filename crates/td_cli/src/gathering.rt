@@ -16,8 +16,8 @@ use std::alloc::Global;
 use td_certificate::{CertFault, CertFaultKind, Certificate, read};
 use td_checker::{CheckFault, Verdict, check};
 use td_circuit::Circuit;
-use td_gates::Delay;
 use td_files::{Files, ReadFault};
+use td_gates::Delay;
 use td_report::refusal::Refusal;
 
 /// The reason that tells a fault of a part's text, in the file of this name.

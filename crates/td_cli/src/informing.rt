@@ -13,9 +13,9 @@ ghost use Rattle.td_command.specs.declared.command.Request.TheVariants as Asked;
 use crate::telling::{say, tell_refusal, tell_unread};
 use std::alloc::Global;
 use td_command::InfoRequest;
+use td_files::Files;
 use td_gates::{Delay, Sink};
 use td_report::describing::info;
-use td_files::Files;
 use td_report::status::Status;
 
 /// The command `info`.

@@ -28,11 +28,11 @@ use td_certificate::Certificate;
 use td_command::{
     BoundRequest, CheckRequest, PathRequest, Request, SimRequest, StrategyWord, WorstRequest, parse,
 };
+use td_files::{Files, ReadFault};
 use td_gates::{Delay, Sink};
 use td_report::bounding::bounds;
 use td_report::checking::verdict_on;
 use td_report::explaining::path;
-use td_files::{Files, ReadFault};
 use td_report::simulate::sim;
 use td_report::status::Status;
 use td_search::Strategy;

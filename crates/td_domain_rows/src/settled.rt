@@ -17,7 +17,14 @@ fn a_lost_pulse_settled(rt: HostRuntime) -> Result<(), Fail> {
     let levels = settle(alloc, &circuit, &[Level::Zero])?;
     assert_eq!(rt;
         levels.as_slice(),
-        [Level::Zero, Level::One, Level::Zero, Level::One, Level::Zero].as_slice()
+        [
+            Level::Zero,
+            Level::One,
+            Level::Zero,
+            Level::One,
+            Level::Zero
+        ]
+        .as_slice()
     );
     Ok(())
 }

@@ -31,8 +31,7 @@ fn counted<R: Threads + Wait + Sync + Abort>(
 fn probes_counted(rt: HostRuntime) -> Result<(), Fail> {
     let alloc = rt.alloc();
     for workers in 1..5 {
-        let (told, measured) =
-            counted(&rt, alloc, RECONVERGENT, workers, Watching::new(0, false))?;
+        let (told, measured) = counted(&rt, alloc, RECONVERGENT, workers, Watching::new(0, false))?;
         assert!(&rt; (told.is_exact, told.low, told.nodes, measured) == (true, 3, 31, 32));
         let (told, measured) = counted(&rt, alloc, SLOW_ARM, workers, Watching::new(0, false))?;
         assert!(&rt; told.is_exact && told.low == 5 && told.nodes >= 9);

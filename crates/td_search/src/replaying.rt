@@ -178,8 +178,7 @@ impl Search {
             node.number,
             &lease.cube,
         ) {
-            let done =
-                self.graft_again(alloc, circuit, admit, strategy, lease, evidence, coming)?;
+            let done = self.graft_again(alloc, circuit, admit, strategy, lease, evidence, coming)?;
             return match done {
                 Some(count) => Ok(count),
                 None => self.replay_anew(
