@@ -129,7 +129,7 @@ class Build:
         """Writes how long the crates took that were proved in this run."""
         times = read_times()
         proved = [it for it in self.done if it not in self.kept]
-        times["crates"].update({it: round(self.watch.seconds.get(it, 0)) for it in proved})
+        times["crates"].update({it: round(self.watch.seconds_by_clock(it)) for it in proved})
         write_times(times)
 
 

@@ -3,8 +3,13 @@
 import os
 import time
 
+TICKS = os.sysconf("SC_CLK_TCK")
+# What a prover's work is for: the crate's own proof, the same once more for its must-fail edits,
+# such an edit, or its tests.
+PROOF, AGAIN, EDIT, TESTS = "proof", "again", "edit", "tests"
 
-def command_of(process):
+
+def read_words(process):
     """The words of a process's command line, none where it ended."""
     try:
         with open(f"/proc/{process}/cmdline", "rb") as it:
@@ -13,24 +18,59 @@ def command_of(process):
         return []
 
 
-def crate_at_work(words):
-    """The crate that a prover's command line builds, or none."""
-    if len(words) < 2 or os.path.basename(words[0]) != "rattle" or "--test" in words:
+def read_seconds(process):
+    """The processor seconds of a process so far, none where it ended."""
+    try:
+        with open(f"/proc/{process}/stat") as it:
+            fields = it.read().rpartition(")")[2].split()
+        return (int(fields[11]) + int(fields[12])) / TICKS
+    except (OSError, ValueError, IndexError):
+        return None
+
+
+def work_of(words):
+    """The crate that a prover's command line is about, and what its work is for, or none."""
+    if len(words) < 2 or os.path.basename(words[0]) != "rattle":
         return None
     after = {word: value for word, value in zip(words, [*words[1:], ""])}
-    return after.get("--crate-name")
+    crate, kept = after.get("--crate-name"), after.get("--incremental", "")
+    if not crate:
+        return None
+    if "rt-edits-" in kept:
+        return crate, AGAIN if kept.endswith("/seed") else EDIT
+    if words[1] == "check" and not kept:
+        return crate, EDIT
+    return crate, TESTS if "--test" in words else PROOF
 
 
 class Watch:
-    """The seconds by the clock for which each crate was seen at work, by looks at /proc."""
+    """The seconds that each crate's proofs, edits and tests took, by looks at /proc."""
 
     def __init__(self):
-        self.seconds = {}
+        self.clock = {}
+        self.processes = {}
         self.last = time.monotonic()
 
     def look(self):
         now = time.monotonic()
-        crates = {crate_at_work(command_of(it)) for it in os.listdir("/proc") if it.isdigit()}
-        for crate in crates - {None}:
-            self.seconds[crate] = self.seconds.get(crate, 0) + now - self.last
+        works = set()
+        for process in filter(str.isdigit, os.listdir("/proc")):
+            work = work_of(read_words(process))
+            seconds = read_seconds(process) if work else None
+            if seconds is not None:
+                works.add(work)
+                self.processes[process, work] = seconds
+        for work in works:
+            self.clock[work] = self.clock.get(work, 0) + now - self.last
         self.last = now
+
+    def seconds_by_clock(self, crate):
+        """How long the crate's own proof was at work, by the clock."""
+        return self.clock.get((crate, PROOF), 0)
+
+    def processor_seconds(self):
+        """The processor seconds by crate and by what the work was for."""
+        total = {}
+        for (_, work), seconds in self.processes.items():
+            total[work] = total.get(work, 0) + seconds
+        return total
