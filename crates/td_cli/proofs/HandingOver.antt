@@ -8,15 +8,12 @@ use Rattle.td_files.specs.Files.{FileText}
 use Rattle.td_report.specs.Ends.{Product}
 use Rattle.td_report.specs.Reports.{IsSimReport}
 use Rattle.td_cli.specs.declared.asking.QuestionWords.{QuestionWords}
-use Rattle.td_cli.specs.Disks.{Disk}
+use Rattle.td_delivery.specs.Disks.{Disk}
 use Rattle.td_cli.specs.WorstReports.{IsWorstReport}
 use Rattle.td_cli.specs.JoinReports.{IsJoinReport}
-use Rattle.td_cli.specs.Requests.{certificate_files, search_ending, IsBeside, IsSimProduct, IsWorstProduct, IsJoinProduct}
-use Rattle.td_cli.specs.HandingOver.{IsHandedOver}
-
-pub handed : (report shown : List ℕ) (files : List FileText) (ending : Status) → IsBeside files report shown
-    → IsHandedOver report files ending (record { report = shown; files = files; ending = ending })
-handed report shown files ending beside = record { files_are = refl; shown = beside; ends = refl }
+use Rattle.td_delivery.specs.Beside.{certificate_files, IsBeside}
+use Rattle.td_cli.specs.Requests.{search_ending, IsSimProduct, IsWorstProduct, IsJoinProduct}
+use Rattle.td_delivery.specs.HandingOver.{IsHandedOver}
 
 -- a run
 pub sim_said : (text : List ℕ) (default : Delay) (from to : List ℕ) (at vcd : Option (List ℕ)) (report : List ℕ) (dumps : List FileText)

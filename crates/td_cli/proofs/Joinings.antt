@@ -18,7 +18,7 @@ use Rattle.td_checker.specs.declared.verdict.CheckFault.TheVariants as check
 use Rattle.td_checker.specs.Checks.{IsCheckFault}
 use Rattle.td_report.specs.declared.refusal.Refusal.{Refusal}
 use Rattle.td_report.specs.declared.refusal.Refusal.TheVariants as refusal
-use Rattle.td_cli.specs.Disks.{Disk, HoldsOnFile}
+use Rattle.td_delivery.specs.Disks.{Disk, HoldsOnFile}
 use Rattle.td_cli.specs.Outcomes.{HasNoAnswer}
 use Rattle.td_report.specs.Outcomes.{IsCircuitOf}
 use Rattle.td_cli.specs.declared.asking.QuestionWords.{QuestionWords}
@@ -26,6 +26,7 @@ use Rattle.td_cli.specs.WorstReports.{IsAsked}
 use Rattle.td_search.specs.Problems.{Problem}
 use Rattle.td_join.specs.Partition.{IsPartition}
 use Rattle.td_gates.proofs.Places.{slice_get-some}
+use Rattle.td_delivery.proofs.Words.{now_of, contains_word}
 use Rattle.td_cli.specs.JoinReports.{TellsNoPart, GivesPart, AreParts, HasNoPart, ArePinned, whole_pins, IsToJoin}
 use Rattle.td_cli.specs.Parts.{IsOfPart, unjudged}
 
@@ -51,15 +52,6 @@ zip_mapped f R [] [] all = tt
 zip_mapped f R [] (b ∷ ys) all = absurd all
 zip_mapped f R (a ∷ xs) [] all = absurd all
 zip_mapped f R (a ∷ xs) (b ∷ ys) all = (all.0, zip_mapped f R xs ys all.1)
-
--- the text behind a word
-abbrev pub now_of : Bor (List ℕ) → List ℕ
-now_of word = word.now
-
-contains_word : (words : List (Bor (List ℕ))) (i : ℕ) (d : Bor (List ℕ)) → i < length words → Contains (map now_of words) (get_or words i d).now
-contains_word words i d less =
-    let here = Contains-get_or (map now_of words) i d.now (subst (λ count. i < count) (sym (length-map words now_of)) less) in
-    subst (λ (name : List ℕ). Contains (map now_of words) name) (get_or-map now_of words i d d.now less) here
 
 -- ---- the parts
 
@@ -116,22 +108,6 @@ to_join disk text default names check first second circuit count parts given is 
   pinned = subst (λ (inputs : ℕ). ArePinned inputs first second given) counts pinned;
   pins_are = refl;
 }
-
--- no file that is read is written over
-pub all_kept : (P : List ℕ → Type 0) (words : List (Bor (List ℕ))) (i : ℕ) → length words ≤ i → All (λ (word : Bor (List ℕ)). P word.now) (take i words)
-    → All P (map now_of words)
-all_kept P words i past all =
-    All-map P now_of words (subst (λ (front : List (Bor (List ℕ))). All (λ (word : Bor (List ℕ)). P word.now) front) (take_all i words past) all)
-
--- one of those that are read is written over
-pub one_over : (P : List ℕ → Type 0) (words : List (Bor (List ℕ))) (i : ℕ) (d : Bor (List ℕ)) → i < length words → P (get_or words i d).now
-    → (name : List ℕ) × Contains (map now_of words) name × P name
-one_over P words i d less holds = ((get_or words i d).now, contains_word words i d less, holds)
-
--- where there is no value, and this follows
-pub none_with : {X A B : Type 0} (r : Option X) → (A → B) → IfNone r A → IfNone r B
-none_with (Some x) follows none = tt
-none_with None follows none = follows none
 
 -- without parts no pair is admitted
 pub no_parts : (text : List ℕ) (default : Delay) (words : QuestionWords) (asked : Problem) (cubes : List (List Trit)) (reason : Refusal)

@@ -21,7 +21,7 @@ use Rattle.td_report.specs.declared.refusal.Refusal.TheVariants as refusal
 use Rattle.td_report.specs.Vectors.{AreTrits, woven, VectorWords, GivesTrits}
 use Rattle.td_cli.specs.WorstReports.{worst_text}
 use Rattle.td_report.specs.Outcomes.{HasNoCircuit, IsRefusedFor}
-use Rattle.td_cli.specs.Disks.{Disk, Reads, HoldsOnFile}
+use Rattle.td_delivery.specs.Disks.{Disk, Reads, HoldsOnFile}
 use Rattle.td_report.specs.JoinTexts.{first_place, second_place}
 
 -- ---- the pins of the whole

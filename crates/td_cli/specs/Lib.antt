@@ -1,11 +1,9 @@
 pub mod Admitting
 pub mod WorstReports
 pub mod PartReports
-pub mod Disks
 pub mod Outcomes
 pub mod JoinReports
 pub mod Parts
 pub mod Progress
 pub mod ProgressLaws
 pub mod Requests
-pub mod HandingOver

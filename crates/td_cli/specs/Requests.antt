@@ -38,20 +38,11 @@ use Rattle.td_report.specs.Refusals.{refusal_text, unwritten_text}
 use Rattle.td_cli.specs.Outcomes.{HasNoAnswer}
 use Rattle.td_report.specs.Outcomes.{HasNoCircuit, HasNoReport, HasNoPath, HasNoBounds, HasNoVerdict}
 use Rattle.td_files.specs.Files.{FileStep, FileText}
-use Rattle.td_cli.specs.Disks.{Disk, Reads, IsUnreadable, HoldsOnFile}
+use Rattle.td_delivery.specs.Disks.{Disk, Reads, IsUnreadable, HoldsOnFile}
 use Rattle.td_report.specs.Ends.{Product, IsReportOnly, Streams, Tells, Ends, EndsBehind}
 use Rattle.td_cli.specs.Progress.{TellsSearch}
 
 -- ---- the commands, on bytes that were read
-
--- one of the files is standard output
-abbrev pub GoesOut : List FileText → Type 0
-GoesOut [] = ⊥
-GoesOut (file ∷ files) = (file.name ≡ codes "-") ⊎ GoesOut files
-
--- what is shown beside such files: the report, unless a file goes to standard output, which then holds the file alone
-abbrev pub IsBeside : List FileText → List ℕ → List ℕ → Type 0
-IsBeside files report shown = (¬ GoesOut files × (shown ≡ report)) ⊎ (GoesOut files × (shown ≡ []))
 
 -- what `sim` says
 pub record IsSimProduct (text : List ℕ) (default : Delay) (from to : List ℕ) (at vcd : Option (List ℕ)) (product : Product) : Type 0 where
@@ -80,11 +71,6 @@ IsPartsProduct text default words parts = IsReportOnly (IsPartsReport text defau
 -- what `info` says
 abbrev pub IsInfoProduct : List ℕ → Delay → Product → Type 0
 IsInfoProduct text default = IsReportOnly (IsInfoReport text default) Done
-
--- the files of a search: the certificate of an exact answer, where a name is given
-abbrev pub certificate_files : Option (List ℕ) → Option Certificate → List FileText
-certificate_files (Some name) (Some certificate) = record { name = name; text = spelling certificate } ∷ []
-certificate_files _ _ = []
 
 -- a search with an exact answer ends so
 abbrev pub search_ending : Option Certificate → Status
@@ -201,55 +187,6 @@ RequestRuns disk (request.Worst asked) steps status old new =
     ⊎ Reads disk asked.file.now (λ text. SearchRuns asked text disk.breaks steps status old new)
 RequestRuns disk other steps status old new = Ends (IsProductOf disk other) (HoldsOf disk other) disk.breaks steps status old new
 
--- the names that are given are of different files
-abbrev pub AreApart : Disk → Option (List ℕ) → Option (List ℕ) → Type 0
-AreApart disk (Some out) (Some file) = disk.is_one out file false
-AreApart disk _ _ = ⊤
-
--- the names that are given are of one file, which the reason tells
-pub record IsOverwritten (disk : Disk) (out file : Option (List ℕ)) (reason : Refusal) : Type 0 where
-  pub written : Bor (List ℕ)
-  pub lost : Bor (List ℕ)
-  pub out_is : out ≡ Some written.now
-  pub file_is : file ≡ Some lost.now
-  pub one : disk.is_one written.now lost.now true
-  pub told : reason ≡ refusal.OneFile written lost
-
--- the name under which a file is read: standard input has two, of which `-` may be that of a file to be written too
-abbrev pub IsReadAs : List ℕ → List ℕ → Type 0
-IsReadAs name read = ((name ≢ codes "-") × (read ≡ name)) ⊎ ((name ≡ codes "-") × (read ≡ codes "stdin"))
-
--- a file that a command writes, where it writes one, isn't this one that it reads
-abbrev pub KeepsRead : Disk → Option (List ℕ) → List ℕ → Type 0
-KeepsRead disk out file = (read : List ℕ) × IsReadAs file read × AreApart disk out (Some read)
-
--- no file that a command writes is one that it reads, or another one that it writes
-abbrev pub KeepsFiles : Disk → Request → Type 0
-KeepsFiles disk (request.Sim asked) = (read : List ℕ) × IsReadAs asked.file.now read × AreApart disk (words_of asked.vcd) (Some read)
-KeepsFiles disk (request.Join asked) =
-    KeepsRead disk (words_of asked.certificate) asked.file.now × All (KeepsRead disk (words_of asked.certificate)) asked.certificates
-KeepsFiles disk (request.Worst asked) =
-    (read : List ℕ) × IsReadAs asked.file.now read
-    × AreApart disk (words_of asked.certificate) (Some read) × AreApart disk (words_of asked.vcd) (Some read)
-    × AreApart disk (words_of asked.vcd) (words_of asked.certificate)
-KeepsFiles disk other = ⊤
-
--- a file that a command would write is this one that it reads
-abbrev pub OverwritesRead : Disk → List ℕ → Option (List ℕ) → Refusal → Type 0
-OverwritesRead disk file out reason = (read : List ℕ) × IsReadAs file read × IsOverwritten disk out (Some read) reason
-
--- a file that a command would write is one that it reads, or another one that it would write
-abbrev pub Overwrites : Disk → Request → Refusal → Type 0
-Overwrites disk (request.Join asked) reason =
-    OverwritesRead disk asked.file.now (words_of asked.certificate) reason
-    ⊎ ((name : List ℕ) × Contains asked.certificates name × OverwritesRead disk name (words_of asked.certificate) reason)
-Overwrites disk (request.Sim asked) reason = OverwritesRead disk asked.file.now (words_of asked.vcd) reason
-Overwrites disk (request.Worst asked) reason =
-    OverwritesRead disk asked.file.now (words_of asked.certificate) reason
-    ⊎ (OverwritesRead disk asked.file.now (words_of asked.vcd) reason
-    ⊎ IsOverwritten disk (words_of asked.vcd) (words_of asked.certificate) reason)
-Overwrites disk other reason = ⊥
-
 -- how the command that is asked for ends: it would write one of its files over another, which is told and nothing else, or it runs
 abbrev pub RequestEnds : Disk → Request → List FileStep → Status → Streams → Streams → Type 0
 RequestEnds disk asked steps status old new =
@@ -257,43 +194,6 @@ RequestEnds disk asked steps status old new =
     ⊎ (KeepsFiles disk asked × RequestRuns disk asked steps status old new)
 
 -- ---- the program
-
--- a kind of text that goes to standard output
-abbrev pub IsShown : ErrorKind → Type 0
-IsShown told = (told ≡ kind.DisplayHelp) ⊎ (told ≡ kind.DisplayVersion)
-
-module _ (told_kind : ErrorKind) (text : List ℕ) (status : Status) (old new : Streams) where
-  -- help went out
-  pub record IsHelp : Type 0 where
-    pub shown : IsShown told_kind
-    pub ends : status ≡ Done
-    pub sent : Sent old.out new.out text
-    pub silent : new.err ≡ old.err
-
-  -- standard output failed behind a beginning of help, which was told
-  pub record IsLostHelp : Type 0 where
-    pub shown : IsShown told_kind
-    pub ends : status ≡ Device
-    pub broke : Failed old.out new.out text
-    pub told : Tells old.err new.err (unwritten_text (codes "stdout"))
-
-  -- a fault of the command line was told
-  pub record IsMistake : Type 0 where
-    pub mistake : ¬ IsShown told_kind
-    pub ends : status ≡ BadCommand
-    pub nothing : new.out ≡ old.out
-    pub told : Tells old.err new.err text
-
--- the parser's text of this kind was told: help, or a fault of the command line
-abbrev pub TellsText : ErrorKind → Status → Streams → Streams → Type 0
-TellsText told_kind status old new =
-    (text : List ℕ) × (IsHelp told_kind text status old new ⊎ (IsMistake told_kind text status old new ⊎ IsLostHelp told_kind text status old new))
-
--- nothing went out, and want of memory was told
-pub record IsOutOfMemory (status : Status) (old new : Streams) : Type 0 where
-  pub ends : status ≡ Device
-  pub nothing : new.out ≡ old.out
-  pub told : Tells old.err new.err (refusal_text refusal.OutOfMemory)
 
 -- help or a fault was told, of a kind that there is to tell of the words
 abbrev pub TellsOf : List (List ℕ) → Status → Streams → Streams → Type 0

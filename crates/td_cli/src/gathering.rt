@@ -7,7 +7,7 @@ ghost use Rattle.td_certificate.specs.Accepts.{IsOfSize};
 ghost use Rattle.td_certificate.specs.Spelling.{Spells};
 ghost use Rattle.td_checker.specs.declared.verdict.Verdict.TheVariants as Told;
 ghost use Rattle.td_checker.specs.Checks.{HaveVerdict};
-ghost use Rattle.td_cli.specs.Disks.{disk_of, HoldsOnFile};
+ghost use Rattle.td_delivery.specs.Disks.{disk_of, HoldsOnFile};
 ghost use Rattle.td_cli.specs.JoinReports.{TellsPart, TellsNoPart, GivesPart, AreParts, HasNoPart};
 ghost use Rattle.td_cli.specs.Parts.{IsOfPart, unjudged};
 ghost use Rattle.td_report.specs.declared.refusal.Refusal.TheVariants as Reason;

@@ -6,13 +6,13 @@ ghost use Rattle.td_command.specs.CommandLine.{delays};
 ghost use Rattle.td_report.specs.Ends.{Ends, streams};
 ghost use Rattle.td_files.specs.Files.{Takes};
 ghost use Rattle.td_report.specs.Outcomes.{HasNoCircuit};
-ghost use Rattle.td_cli.specs.Disks.{disk_of};
+ghost use Rattle.td_delivery.specs.Disks.{disk_of};
 ghost use Rattle.td_cli.specs.Requests.{IsInfoProduct, RequestRuns};
 ghost use Rattle.td_command.specs.declared.command.Request.TheVariants as Asked;
 
-use crate::telling::{say, tell_refusal, tell_unread};
 use std::alloc::Global;
 use td_command::InfoRequest;
+use td_delivery::telling::{say, tell_refusal, tell_unread};
 use td_files::Files;
 use td_gates::{Delay, Sink};
 use td_report::describing::info;

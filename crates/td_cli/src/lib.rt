@@ -5,12 +5,10 @@ mod asking;
 mod gathering;
 mod informing;
 mod joining;
-mod overwriting;
 mod parting;
 mod program;
 mod progress;
 mod searching;
-mod telling;
 
 pub use asking::QuestionWords;
 pub use informing::carry_out_info;

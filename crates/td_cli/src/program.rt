@@ -9,17 +9,16 @@ ghost use Rattle.td_cli.specs.Outcomes.{HasNoAnswer};
 ghost use Rattle.td_report.specs.Outcomes.{HasNoReport, HasNoPath, HasNoBounds, HasNoVerdict};
 ghost use Rattle.td_cli.specs.Progress.{TellsSearch};
 ghost use Rattle.td_report.specs.Vectors.{words_of};
-ghost use Rattle.td_cli.specs.Disks.{disk_of, Reads, HoldsOnFile};
-ghost use Rattle.td_cli.specs.Requests.{is_search, AsksSearch, strategy_of, words_in, IsSimProduct, IsPathProduct, IsBoundProduct, IsCheckProduct, IsWorstProduct, search_ending, RequestRuns, RequestEnds, IsOutOfMemory, ProgramEnds, RefusesWords};
+ghost use Rattle.td_delivery.specs.Disks.{disk_of, Reads, HoldsOnFile};
+ghost use Rattle.td_delivery.specs.Shown.{IsOutOfMemory};
+ghost use Rattle.td_cli.specs.Requests.{is_search, AsksSearch, strategy_of, words_in, IsSimProduct, IsPathProduct, IsBoundProduct, IsCheckProduct, IsWorstProduct, search_ending, RequestRuns, RequestEnds, ProgramEnds, RefusesWords};
 ghost use Rattle.td_command.specs.declared.command.Request.TheVariants as Asked;
 
 use crate::asking::QuestionWords;
 use crate::informing::run_info;
 use crate::joining::run_join;
-use crate::overwriting::overwriting;
 use crate::parting::run_parts;
 use crate::progress::searched;
-use crate::telling::{hand_over, say, tell, tell_error, tell_refusal, tell_unread};
 use std::alloc::Global;
 use std::convert::AsStr;
 use std::sync::Wait;
@@ -28,6 +27,8 @@ use td_certificate::Certificate;
 use td_command::{
     BoundRequest, CheckRequest, PathRequest, Request, SimRequest, StrategyWord, WorstRequest, parse,
 };
+use td_delivery::overwriting::overwriting;
+use td_delivery::telling::{hand_over, say, tell, tell_error, tell_refusal, tell_unread};
 use td_files::{Files, ReadFault};
 use td_gates::{Delay, Sink};
 use td_report::bounding::bounds;

@@ -10,11 +10,11 @@ ghost use Rattle.td_cli.specs.Progress.{progress_line, TellsSearch};
 
 use crate::asking::QuestionWords;
 use crate::searching::{Found, worst};
-use crate::telling::tell;
 use std::alloc::{AllocError, Global};
 use std::sync::Wait;
 use std::thread::Threads;
 use td_circuit::Circuit;
+use td_delivery::telling::tell;
 use td_domain::Admit;
 use td_gates::{Delay, Sink};
 use td_pool::{Progress, Unwatched, Watch};

@@ -3,7 +3,7 @@ use Rattle.std.proofs.lemmas.Result.{err_from_is_err_and}
 use Rattle.std.specs.Borrow.{Bor}
 use Rattle.std.specs.Prelude.{ℕ, List}
 use Rattle.td_certificate.specs.declared.certificate.Certificate.{Certificate}
-use Rattle.td_cli.specs.Disks.{disk_of}
+use Rattle.td_delivery.specs.Disks.{disk_of}
 use Rattle.td_cli.specs.JoinReports.{GivesPart}
 use Rattle.td_cli.proofs.Joinings.{no_part, zip_more, parts_read}
 use Rattle.td_cli.proofs.gathering.parts_in.Goals as goal

@@ -2,7 +2,7 @@ use Rattle.std.proofs.Common.{◌≡◌, ℕ, List, take}
 use Rattle.std.specs.List.{AllZip}
 use Rattle.std.specs.Borrow.{Bor}
 use Rattle.td_certificate.specs.declared.certificate.Certificate.{Certificate}
-use Rattle.td_cli.specs.Disks.{disk_of}
+use Rattle.td_delivery.specs.Disks.{disk_of}
 use Rattle.td_cli.specs.JoinReports.{GivesPart}
 use Rattle.td_cli.proofs.gathering.parts_in.Given as goal
 

@@ -2,7 +2,7 @@ use Rattle.std.proofs.Common.{refl}
 use Rattle.td_report.specs.declared.status.Status.TheVariants.{Done}
 use Rattle.td_report.specs.Outcomes.{HasNoCircuit}
 use Rattle.td_cli.specs.Requests.{IsInfoProduct}
-use Rattle.td_cli.proofs.Programs.{said, refused}
+use Rattle.td_delivery.proofs.Endings.{said, refused}
 use Rattle.td_cli.proofs.informing.carry_out_info.Goals as goal
 
 pub returns-in-Ok : goal.returns-in-Ok

@@ -1,13 +1,14 @@
 use Rattle.std.proofs.Common.{◌++◌, [], map, Some}
 use Rattle.td_report.specs.declared.status.Status.TheVariants.{Done}
 use Rattle.td_report.specs.Vectors.{words_of}
-use Rattle.td_cli.specs.Disks.{disk_of}
+use Rattle.td_delivery.specs.Disks.{disk_of}
 use Rattle.td_cli.specs.JoinReports.{HasNoJoin}
-use Rattle.td_cli.specs.Requests.{certificate_files, IsJoinProduct}
-use Rattle.td_cli.specs.HandingOver.{IsHandedOver}
+use Rattle.td_delivery.specs.Beside.{certificate_files}
+use Rattle.td_cli.specs.Requests.{IsJoinProduct}
+use Rattle.td_delivery.specs.HandingOver.{IsHandedOver}
 use Rattle.td_cli.proofs.HandingOver.{join_said}
-use Rattle.td_cli.proofs.Joinings.{now_of}
-use Rattle.td_cli.proofs.Programs.{nothing_done, refused, lifted}
+use Rattle.td_delivery.proofs.Words.{now_of}
+use Rattle.td_delivery.proofs.Endings.{nothing_done, refused, lifted}
 use Rattle.td_cli.proofs.joining.carry_out_join.Goals as goal
 
 pub returns-in-Err : goal.returns-in-Err

@@ -1,10 +1,11 @@
 use Rattle.std.proofs.Common.{map, refl, inl, inr}
 use Rattle.std.proofs.lemmas.Result.{err_from_is_err_and}
 use Rattle.td_report.specs.Vectors.{words_of}
-use Rattle.td_cli.specs.Disks.{disk_of}
+use Rattle.td_delivery.specs.Disks.{disk_of}
 use Rattle.td_cli.specs.JoinReports.{pin_words, whole_pins}
 use Rattle.td_report.proofs.Refusing.{bad_word}
-use Rattle.td_cli.proofs.Joinings.{now_of, to_join, parts_spelled}
+use Rattle.td_delivery.proofs.Words.{now_of}
+use Rattle.td_cli.proofs.Joinings.{to_join, parts_spelled}
 use Rattle.td_cli.proofs.joining.join_files.Goals as goal
 
 pub returns-in-Err-clause-refusal : goal.returns-in-Err-clause-refusal

@@ -2,7 +2,7 @@ use Rattle.std.proofs.Common.{refl}
 use Rattle.td_report.specs.declared.status.Status.TheVariants.{Done}
 use Rattle.td_cli.specs.Outcomes.{HasNoAnswer}
 use Rattle.td_cli.specs.Requests.{IsPartsProduct}
-use Rattle.td_cli.proofs.Programs.{said, refused}
+use Rattle.td_delivery.proofs.Endings.{said, refused}
 use Rattle.td_cli.proofs.parting.carry_out_parts.Goals as goal
 
 pub returns-in-Ok : goal.returns-in-Ok

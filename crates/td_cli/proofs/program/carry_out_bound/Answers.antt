@@ -3,7 +3,7 @@ use Rattle.td_report.specs.declared.status.Status.TheVariants.{Done}
 use Rattle.td_report.specs.Vectors.{words_of}
 use Rattle.td_report.specs.Outcomes.{HasNoBounds}
 use Rattle.td_cli.specs.Requests.{IsBoundProduct}
-use Rattle.td_cli.proofs.Programs.{said, refused}
+use Rattle.td_delivery.proofs.Endings.{said, refused}
 use Rattle.td_cli.proofs.program.carry_out_bound.Goals as goal
 
 pub returns-in-Ok : goal.returns-in-Ok

@@ -1,7 +1,7 @@
 use Rattle.std.proofs.Common.{refl}
 use Rattle.td_report.specs.Outcomes.{HasNoVerdict}
 use Rattle.td_cli.specs.Requests.{IsCheckProduct}
-use Rattle.td_cli.proofs.Programs.{said, refused}
+use Rattle.td_delivery.proofs.Endings.{said, refused}
 use Rattle.td_cli.proofs.program.carry_out_check.Goals as goal
 
 pub returns-in-Ok : goal.returns-in-Ok

@@ -1,5 +1,6 @@
-use Rattle.td_cli.specs.Disks.{disk_of}
-use Rattle.td_cli.proofs.Programs.{nothing_done, refused_over, runs_apart}
+use Rattle.td_delivery.specs.Disks.{disk_of}
+use Rattle.td_delivery.proofs.Endings.{nothing_done}
+use Rattle.td_cli.proofs.Programs.{refused_over, runs_apart}
 use Rattle.td_cli.proofs.program.carry_out_plain.Goals as goal
 
 pub returns-in-Some : goal.returns-in-Some

@@ -4,9 +4,9 @@ use Rattle.td_report.specs.Dumps.{dump_files}
 use Rattle.td_report.specs.Vectors.{words_of}
 use Rattle.td_report.specs.Outcomes.{HasNoReport}
 use Rattle.td_cli.specs.Requests.{IsSimProduct}
-use Rattle.td_cli.specs.HandingOver.{IsHandedOver}
+use Rattle.td_delivery.specs.HandingOver.{IsHandedOver}
 use Rattle.td_cli.proofs.HandingOver.{sim_said}
-use Rattle.td_cli.proofs.Programs.{nothing_done, refused, lifted}
+use Rattle.td_delivery.proofs.Endings.{nothing_done, refused, lifted}
 use Rattle.td_cli.proofs.program.carry_out_sim.Goals as goal
 
 pub returns-in-Err : goal.returns-in-Err

@@ -2,10 +2,12 @@ use Rattle.std.proofs.Common.{◌++◌, refl}
 use Rattle.td_report.specs.Dumps.{dump_files}
 use Rattle.td_report.specs.Vectors.{words_of}
 use Rattle.td_cli.specs.Outcomes.{HasNoAnswer}
-use Rattle.td_cli.specs.Requests.{certificate_files, IsWorstProduct}
-use Rattle.td_cli.specs.HandingOver.{IsHandedOver}
+use Rattle.td_delivery.specs.Beside.{certificate_files}
+use Rattle.td_cli.specs.Requests.{IsWorstProduct}
+use Rattle.td_delivery.specs.HandingOver.{IsHandedOver}
 use Rattle.td_cli.proofs.HandingOver.{worst_said}
-use Rattle.td_cli.proofs.Programs.{behind, nothing_done, refused, lifted}
+use Rattle.td_delivery.proofs.Endings.{nothing_done, refused, lifted}
+use Rattle.td_cli.proofs.Programs.{behind}
 use Rattle.td_cli.proofs.program.carry_out_worst.Goals as goal
 
 pub returns-in-Err : goal.returns-in-Err

@@ -1,6 +1,6 @@
 use Rattle.std.proofs.Common.{subst, sym}
 use Rattle.td_report.specs.Outcomes.{HasNoVerdict}
-use Rattle.td_cli.specs.Disks.{disk_of}
+use Rattle.td_delivery.specs.Disks.{disk_of}
 use Rattle.td_cli.specs.Requests.{IsCheckProduct}
 use Rattle.td_cli.proofs.Programs.{on_file, not_read}
 use Rattle.td_cli.proofs.program.check_file.Goals as goal

@@ -1,9 +1,10 @@
 use Rattle.std.proofs.Common.{◌∙◌, sym, subst}
 use Rattle.td_command.specs.CommandLine.{delays}
 use Rattle.td_report.specs.Outcomes.{HasNoVerdict}
-use Rattle.td_cli.specs.Disks.{disk_of, HoldsOnFile, Reads}
+use Rattle.td_delivery.specs.Disks.{disk_of, HoldsOnFile, Reads}
 use Rattle.td_cli.specs.Requests.{IsCheckProduct}
-use Rattle.td_cli.proofs.Programs.{nothing_done, on_file, not_read}
+use Rattle.td_delivery.proofs.Endings.{nothing_done}
+use Rattle.td_cli.proofs.Programs.{on_file, not_read}
 use Rattle.td_cli.proofs.program.run_check.Goals as goal
 
 pub returns-in-Err : goal.returns-in-Err

@@ -1,6 +1,7 @@
 use Rattle.std.proofs.Common.{◌∙◌, map, refl, sym}
-use Rattle.td_cli.specs.Disks.{disk_of}
-use Rattle.td_cli.proofs.Programs.{nothing_done, refused_words}
+use Rattle.td_delivery.specs.Disks.{disk_of}
+use Rattle.td_delivery.proofs.Endings.{nothing_done}
+use Rattle.td_cli.proofs.Programs.{refused_words}
 use Rattle.td_cli.proofs.Searches.{no_search}
 use Rattle.td_cli.proofs.program.run_plain.Goals as goal
 

@@ -1,4 +1,4 @@
-use Rattle.td_cli.specs.Disks.{disk_of}
+use Rattle.td_delivery.specs.Disks.{disk_of}
 use Rattle.td_cli.proofs.Programs.{asked_as}
 use Rattle.td_cli.proofs.program.run_request.Goals as goal
 

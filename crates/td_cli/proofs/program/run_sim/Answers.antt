@@ -2,9 +2,10 @@ use Rattle.std.proofs.Common.{sym, subst}
 use Rattle.td_command.specs.CommandLine.{delays}
 use Rattle.td_report.specs.Vectors.{words_of}
 use Rattle.td_report.specs.Outcomes.{HasNoReport}
-use Rattle.td_cli.specs.Disks.{disk_of}
+use Rattle.td_delivery.specs.Disks.{disk_of}
 use Rattle.td_cli.specs.Requests.{IsSimProduct}
-use Rattle.td_cli.proofs.Programs.{nothing_done, not_read, on_file_taking}
+use Rattle.td_delivery.proofs.Endings.{nothing_done}
+use Rattle.td_cli.proofs.Programs.{not_read, on_file_taking}
 use Rattle.td_cli.proofs.program.run_sim.Goals as goal
 
 pub returns-in-Err : goal.returns-in-Err

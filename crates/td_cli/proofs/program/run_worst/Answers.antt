@@ -1,6 +1,7 @@
 use Rattle.std.proofs.Common.{sym, subst, inl}
-use Rattle.td_cli.specs.Disks.{disk_of}
-use Rattle.td_cli.proofs.Programs.{nothing_done, search_not_read, search_on_file}
+use Rattle.td_delivery.specs.Disks.{disk_of}
+use Rattle.td_delivery.proofs.Endings.{nothing_done}
+use Rattle.td_cli.proofs.Programs.{search_not_read, search_on_file}
 use Rattle.td_cli.proofs.program.run_worst.Goals as goal
 
 pub returns-in-Err : goal.returns-in-Err

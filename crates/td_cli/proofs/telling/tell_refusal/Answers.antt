@@ -1,6 +1,0 @@
-use Rattle.std.proofs.Common.{refl, inr}
-use Rattle.td_report.specs.declared.refusal.Refusal.TheVariants.{OutOfMemory}
-use Rattle.td_cli.proofs.telling.tell_refusal.Goals as goal
-
-pub returns : goal.returns
-returns g c = record { told = OutOfMemory; which = inr refl; tells = c.tell-in-Err.ensures.told; ends = c.tell-in-Err.ensures.status }

@@ -1,8 +1,0 @@
-use Rattle.td_cli.proofs.Programs.{told_memory, told_device}
-use Rattle.td_cli.proofs.telling.tell_unread.Goals as goal
-
-pub returns-in-OutOfMemory : goal.returns-in-OutOfMemory
-returns-in-OutOfMemory g c = told_memory c.args.file c.args.fault _ _ _ c.in-OutOfMemory.is c.tell_refusal.ensures
-
-pub returns-in-Device : goal.returns-in-Device
-returns-in-Device g c = told_device c.args.file c.args.fault _ _ _ c.in-Device.is c.tell_refusal-in-Device.ensures

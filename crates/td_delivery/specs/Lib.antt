@@ -1,0 +1,5 @@
+pub mod Disks
+pub mod Beside
+pub mod HandingOver
+pub mod Overwriting
+pub mod Shown

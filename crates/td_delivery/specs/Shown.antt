@@ -1,0 +1,47 @@
+-- What is told of the words of a command line.
+use Rattle.std.specs.Prelude.{◌≡◌, ℕ, List, ◌⊎◌, codes}
+use Rattle.clap.specs.declared.error.kind.ErrorKind.{ErrorKind}
+use Rattle.clap.specs.declared.error.kind.ErrorKind.TheVariants as kind
+use Rattle.td_gates.specs.Output.{Sent, Failed}
+use Rattle.td_report.specs.declared.status.Status.{Status}
+use Rattle.td_report.specs.declared.status.Status.TheVariants.{Done, BadCommand, Device}
+use Rattle.td_report.specs.declared.refusal.Refusal.TheVariants as refusal
+use Rattle.td_report.specs.Refusals.{refusal_text, unwritten_text}
+use Rattle.td_report.specs.Ends.{Streams, Tells}
+
+-- a kind of text that goes to standard output
+abbrev pub IsShown : ErrorKind → Type 0
+IsShown told = (told ≡ kind.DisplayHelp) ⊎ (told ≡ kind.DisplayVersion)
+
+module _ (told_kind : ErrorKind) (text : List ℕ) (status : Status) (old new : Streams) where
+  -- help went out
+  pub record IsHelp : Type 0 where
+    pub shown : IsShown told_kind
+    pub ends : status ≡ Done
+    pub sent : Sent old.out new.out text
+    pub silent : new.err ≡ old.err
+
+  -- standard output failed behind a beginning of help, which was told
+  pub record IsLostHelp : Type 0 where
+    pub shown : IsShown told_kind
+    pub ends : status ≡ Device
+    pub broke : Failed old.out new.out text
+    pub told : Tells old.err new.err (unwritten_text (codes "stdout"))
+
+  -- a fault of the command line was told
+  pub record IsMistake : Type 0 where
+    pub mistake : ¬ IsShown told_kind
+    pub ends : status ≡ BadCommand
+    pub nothing : new.out ≡ old.out
+    pub told : Tells old.err new.err text
+
+-- the parser's text of this kind was told: help, or a fault of the command line
+abbrev pub TellsText : ErrorKind → Status → Streams → Streams → Type 0
+TellsText told_kind status old new =
+    (text : List ℕ) × (IsHelp told_kind text status old new ⊎ (IsMistake told_kind text status old new ⊎ IsLostHelp told_kind text status old new))
+
+-- nothing went out, and want of memory was told
+pub record IsOutOfMemory (status : Status) (old new : Streams) : Type 0 where
+  pub ends : status ≡ Device
+  pub nothing : new.out ≡ old.out
+  pub told : Tells old.err new.err (refusal_text refusal.OutOfMemory)
