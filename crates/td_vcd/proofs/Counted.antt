@@ -9,13 +9,13 @@ use Rattle.td_vcd.specs.declared.events.Event.{Event}
 use Rattle.td_vcd.specs.Text.{Line, numbered, start_line, declaration, events_from, events_at, event_line, moment_of, moment_lines, rising, change_lines, dump_lines, head_lines, dump_begins, dump_ends}
 use Rattle.td_vcd.specs.Says.{declares, declared}
 
+step : (is : Bool) (all front back : ℕ) → all ≡ front + back → (if is then suc all else all) ≡ (if is then suc front else front) + back
+step true all front back sum = omega (arith, sum)
+step false all front back sum = sum
+
 both : (xs ys : List Line) → declared (xs ++ ys) ≡ declared xs + declared ys
 both [] ys = refl
-both (x ∷ xs) ys = go (declares x)
-  where
-    go : (is : Bool) → (if is then suc (declared (xs ++ ys)) else declared (xs ++ ys)) ≡ (if is then suc (declared xs) else declared xs) + declared ys
-    go true = let more = both xs ys in omega (arith, more)
-    go false = both xs ys
+both (x ∷ xs) ys = step (declares x) (declared (xs ++ ys)) (declared xs) (declared ys) (both xs ys)
 
 declarations : (j : ℕ) (names : List Name) → declared (numbered declaration j names) ≡ length names
 declarations j [] = refl
