@@ -178,16 +178,45 @@ impl Search {
             node.number,
             &lease.cube,
         ) {
-            let done = self.graft_again(alloc, circuit, admit, strategy, lease, evidence, coming)?;
-            return match done {
-                Some(count) => Ok(count),
-                None => self.replay_anew(
-                    alloc, scratch, circuit, admit, strategy, number, node.state, coming,
-                ),
-            };
+            return self.replay_with(
+                alloc, scratch, circuit, admit, strategy, number, node.state, lease, evidence,
+                coming,
+            );
         }
         self.replay_split(
             alloc, scratch, circuit, admit, strategy, lease, node.state, coming,
+        )
+    }
+
+    // As `replay_node`, of a node with evidence.
+    fn replay_with(
+        &mut self,
+        alloc: Global,
+        scratch: &mut Scratch,
+        circuit: &Circuit,
+        admit: &Admit,
+        strategy: Strategy,
+        number: Option<u32>,
+        state: State,
+        lease: Lease,
+        evidence: &Evidence,
+        coming: &mut Vec<Option<u32>>,
+    ) -> Result<usize, AllocError>
+        requires search { IsUnderWay (problem_by strategy circuit.now admit.now) self.old.book.budget self.old }
+        requires scratch { IsScratch circuit.now scratch.old }
+        requires held { length admit.now.held ≡ length circuit.now.netlist.inputs }
+        requires cube { evidence.now.cube ≡ lease.cube }
+        requires evidence { IsTrueEvidence (problem_by strategy circuit.now admit.now) evidence.now }
+        ensures search { IsUnderWay (problem_by strategy circuit.now admit.now) self.old.book.budget self.new }
+        ensures kept { self.old.best.time ≤ self.new.best.time }
+        ensures scratch { IsScratch circuit.now scratch.new }
+    {
+        let done = self.graft_again(alloc, circuit, admit, strategy, lease, evidence, coming)?;
+        if let Some(count) = done {
+            return Ok(count);
+        }
+        self.replay_anew(
+            alloc, scratch, circuit, admit, strategy, number, state, coming,
         )
     }
 

@@ -14,7 +14,7 @@ step true all front back sum = omega (arith, sum)
 step false all front back sum = sum
 
 both : (xs ys : List Line) → declared (xs ++ ys) ≡ declared xs + declared ys
-both [] ys = refl
+both [] ys = omega arith
 both (x ∷ xs) ys = step (declares x) (declared (xs ++ ys)) (declared xs) (declared ys) (both xs ys)
 
 declarations : (j : ℕ) (names : List Name) → declared (numbered declaration j names) ≡ length names
