@@ -2,11 +2,11 @@ use Rattle.td_search.specs.Problems.{problem_by}
 use Rattle.td_search.proofs.Again.{again, still}
 use Rattle.td_search.proofs.progress.Search.replay_node.Goals as goal
 
-pub graft_again-requires-clause-search : goal.graft_again-requires-clause-search
-graft_again-requires-clause-search c = again (problem_by c.args.strategy c.args.circuit.now c.args.admit.now) _ c.lease_again.new.self c.lease_again.ensures.search
+pub replay_with-requires-clause-search : goal.replay_with-requires-clause-search
+replay_with-requires-clause-search c = again (problem_by c.args.strategy c.args.circuit.now c.args.admit.now) _ c.lease_again.new.self c.lease_again.ensures.search
 
 pub returns-in-Some-evidence_for-clause-search : goal.returns-in-Some-evidence_for-clause-search
-returns-in-Some-evidence_for-clause-search c = still (problem_by c.args.strategy c.args.circuit.now c.args.admit.now) _ c.lease_again.new.self c.graft_again.new.self c.lease_again.ensures.search c.graft_again.ensures.search
+returns-in-Some-evidence_for-clause-search c = still (problem_by c.args.strategy c.args.circuit.now c.args.admit.now) _ c.lease_again.new.self c.replay_with.new.self c.lease_again.ensures.search c.replay_with.ensures.search
 
 pub replay_split-requires-clause-search : goal.replay_split-requires-clause-search
 replay_split-requires-clause-search c = again (problem_by c.args.strategy c.args.circuit.now c.args.admit.now) _ c.lease_again.new.self c.lease_again.ensures.search
