@@ -1,27 +1,40 @@
 #!/usr/bin/env python3
-"""devices.py [PROGRAM]: runs `tdelay` on devices that fail, and compares how it ends with docs/OUTPUT.md.
+"""Runs all commands on devices that fail, and compares how they end with docs/OUTPUT.md.
 
 Standard input and output closed, a full disk (/dev/full), a directory as FILE, a name that is no UTF-8, FIFOs, an output in a folder that
-isn't there or that is a directory, a file that may not be read, standard output that is closed in the midst, outputs that are
-the netlist or each other, and files that are cut off. Prints a line for each case that
-ends in another way, and their number. Exit status 1 where there is one. As root, files that may not be read are left out.
+isn't there or that is a directory, a file that may not be read, standard output that is closed in the midst, outputs that are the netlist, a
+part or each other, and files that are cut off. Each case is how one run ends, or what is there afterwards. As root, files that may not be
+read are left out.
 """
 
 import os
 import resource
 import stat
-import subprocess
 import sys
-import tempfile
 import threading
 
-TOP = os.path.dirname(os.path.dirname(os.path.abspath(__file__)))
-# The longest that a run may take, in seconds.
-LONGEST = 30
-REPORT = b"unit 1 ns\ndefaulted 0\nlast y 3\ntime 3\n"
-WORST = b"unit 1 ns\ndefaulted 0\nexact 3\nfrom 0\nto 1\nnodes 1\n"
-SHORT = b"unit 1 ns\ndefaulted 0\nbetween 0 3\ncause budget\nfrom 0\nto 1\nnodes 1\n"
+from lib import check, running
+from lib.netlists import INVERTER, LOST
+
+SIM = ["sim", "t.v", "0", "1"]
+WORST = ["worst", "t.v"]
+JOIN = ["join", "t.v", "p0", "p1"]
+HEAD = b"unit 1 ns\ndefaulted 0\n"
+REPORT = HEAD + b"last y 3\ntime 3\n"
+EXACT = HEAD + b"exact 3\nfrom 0\nto 1\nnodes 1\n"
+JOINED = HEAD + b"exact 3\nfrom 0\nto 1\nnodes 5\n"
+SHORT = HEAD + b"between 0 3\ncause budget\nfrom 0\nto 1\nnodes 1\n"
 CERTIFICATE = b"tdelay-cert 1\ncircuit 1 1\ntime 3\nfrom 0\nto 1\nb a 3\n"
+WHOLE = b"tdelay-cert 1\ncircuit 1 1\ntime 3\nfrom 0\nto 1\ns 0\nb a 3\ns 1\nb a 2\nb a 0\n"
+# Each command that reads a netlist, with what it reports of an inverter.
+REPORTS = [
+    (SIM, REPORT),
+    (["path", "t.v", "0", "1"], HEAD + b"change 0 a 0 1 input\nchange 3 y 1 0 not 3\n"),
+    (["bound", "t.v"], HEAD + b"a 3\nt none\nm 3\n"),
+    (WORST, EXACT),
+    (["parts", "t.v", "--parts", "2"], b"--first 0 --second .\n--first 1 --second .\n"),
+    (["info", "t.v"], b"module t\nunit 1 ns\ninputs 1\noutputs 1\ngates 1\ndefaulted 0\ndepth 1\ndelay 2 3\ninput 0 a\noutput 0 y\n"),
+]
 
 
 def unread(name):
@@ -29,175 +42,223 @@ def unread(name):
     return 5, b"", b"tdelay: cannot read " + name + b"\n"
 
 
-def unwritten(name, out):
-    """How a run ends that can't write a file, behind this output."""
+def unwritten(name, out=b""):
+    """How a run ends that can't write a file, after this output."""
     return 5, out, b"tdelay: cannot write " + name + b"\n"
 
 
-class Cases:
-    def __init__(self, program, folder):
-        self.program, self.folder, self.count, self.wrong = program, folder, 0, 0
+def is_other(name, other):
+    """How a run ends whose output would be written over another file."""
+    return 2, b"", f"tdelay: {name} is {other}\n".encode()
+
+
+def over(words, name):
+    """The words with another netlist."""
+    return [words[0], name, *words[2:]]
+
+
+class Devices:
+    """The cases, by what fails."""
+
+    def __init__(self, tested):
+        self.tested = tested
 
     def path(self, name):
-        return os.path.join(self.folder, name)
+        return os.path.join(self.tested.folder, name)
+
+    def open(self, name):
+        return open(self.path(name), "rb")
 
     def expect(self, what, wanted, got):
-        self.count += 1
-        if got != wanted:
-            self.wrong += 1
-            print(f"wrong: {what}: {got}, not {wanted}")
+        self.tested.expect(what, wanted, got)
 
-    def run(self, what, words, wanted, stdout=subprocess.PIPE, **how):
-        """Compares the status, standard output and standard error of a run with the wanted ones."""
-        how = {"stdin": subprocess.DEVNULL, **how}
-        done = subprocess.run([self.program, *words], cwd=self.folder, stdout=stdout, stderr=subprocess.PIPE, timeout=LONGEST, **how)
-        self.expect(what, wanted, (done.returncode, done.stdout or b"", done.stderr))
+    def run(self, what, words, wanted, **how):
+        """A case: the status, standard output and standard error of a run."""
+        self.expect(f"{what}: {words}", wanted, tuple(self.tested.run_bytes(*words, **how)))
+
+    def commands(self):
+        """What each command reports where nothing fails."""
+        for words, report in REPORTS:
+            self.run("a file", words, (0, report, b""))
+        for bit in "01":
+            self.run("a part", ["worst", "t.v", "--first", bit, "--second", ".", "--cert", f"p{bit}"], self.searched(bit))
+        self.run("both parts", JOIN, (0, JOINED, b""))
+        self.run("both parts, checked", [*JOIN, "--check"], (0, JOINED, b""))
+
+    @staticmethod
+    def searched(bit):
+        """What the search of a part reports."""
+        time, other, nodes = (3, 1, 1) if bit == "0" else (2, 0, 3)
+        return 0, HEAD + f"exact {time}\nfrom {bit}\nto {other}\nnodes {nodes}\n".encode(), b""
 
     def reading(self):
         """Netlists and certificates that can't be read."""
-        sim = ["sim", "t.v", "0", "1"]
-        self.run("a file", sim, (0, REPORT, b""))
         os.mkdir(self.path("folder"))
-        for name in (b"folder", b"absent.v", b"absent/t.v", b"t.v/t.v"):
-            self.run(f"FILE {name}", [b"sim", name, b"0", b"1"], unread(name))
-            self.run(f"CERT {name}", [b"check", b"t.v", name], unread(name))
-        self.run("FILE not UTF-8", [b"sim", b"\xff.v", b"0", b"1"], (2, b"", b"tdelay: bad command line\n"))
-        self.run("FILE empty", ["sim", "", "0", "1"], unread(b""))
-        self.run("standard input closed", ["sim", "stdin", "0", "1"], unread(b"stdin"), stdin=None, preexec_fn=lambda: os.close(0))
-        self.run("standard input a folder", ["sim", "stdin", "0", "1"], unread(b"stdin"), stdin=os.open(self.folder, os.O_RDONLY))
-        for name in ("stdin", "-"):
-            with open(self.path("t.v"), "rb") as file:
-                self.run(f"standard input as {name}", ["sim", name, "0", "1"], (0, REPORT, b""), stdin=file)
+        for name in ("folder", "absent.v", "absent/t.v", "t.v/t.v"):
+            for words, _ in REPORTS:
+                self.run("the netlist", over(words, name), unread(name.encode()))
+            self.run("the certificate", ["check", "t.v", name], unread(name.encode()))
+            self.run("a part", ["join", "t.v", "p0", name], unread(name.encode()))
+            self.run("the netlist of parts", ["join", name, "p0", "p1"], unread(name.encode()))
+        self.run("the name not UTF-8", [b"sim", b"\xff.v", b"0", b"1"], (2, b"", b"tdelay: bad command line\n"))
+        self.run("the name empty", over(SIM, ""), unread(b""))
         if os.geteuid() != 0:
-            open(self.path("closed.v"), "w").close()
+            self.tested.write("closed.v", "")
             os.chmod(self.path("closed.v"), 0)
-            self.run("FILE may not be read", ["sim", "closed.v", "0", "1"], unread(b"closed.v"))
+            self.run("the netlist may not be read", over(SIM, "closed.v"), unread(b"closed.v"))
+
+    def standard_input(self):
+        """A netlist from standard input, which is there, closed, or a folder."""
+        self.run("standard input closed", over(SIM, "stdin"), unread(b"stdin"), stdin=None, before=lambda: os.close(0))
+        self.run("standard input a folder", over(SIM, "stdin"), unread(b"stdin"), stdin=os.open(self.tested.folder, os.O_RDONLY))
+        for words, report in REPORTS:
+            for name in ("stdin", "-"):
+                with self.open("t.v") as file:
+                    self.run("standard input", over(words, name), (0, report, b""), stdin=file)
+        with self.open("p1") as file:
+            self.run("a part from standard input", ["join", "t.v", "p0", "-"], (0, JOINED, b""), stdin=file)
 
     def fifos(self):
         """A netlist from a FIFO, and a certificate into one."""
-        with open(self.path("t.v"), "rb") as file:
-            text = file.read()
+        text = self.tested.read("t.v")
         os.mkfifo(self.path("in"))
         os.mkfifo(self.path("out"))
-        writer = threading.Thread(target=lambda: open(self.path("in"), "wb").write(text))
-        writer.start()
-        self.run("a FIFO", ["sim", "in", "0", "1"], (0, REPORT, b""))
-        writer.join()
-        told = []
-        reader = threading.Thread(target=lambda: told.append(open(self.path("out"), "rb").read()))
-        reader.start()
-        self.run("a FIFO as OUT", ["worst", "t.v", "--cert", "out"], (0, WORST, b""))
-        reader.join()
-        self.expect("what the FIFO has", [CERTIFICATE], told)
+        with Beside(lambda: self.fill("in", text), self.path("in")):
+            self.run("a FIFO", over(SIM, "in"), (0, REPORT, b""))
+        got = []
+        with Beside(lambda: got.append(self.tested.read("out")), self.path("out")):
+            self.run("a FIFO as OUT", [*WORST, "--cert", "out"], (0, EXACT, b""))
+        self.expect("what the FIFO has", [CERTIFICATE], got)
+
+    def fill(self, name, text):
+        """Writes into a FIFO, as far as somebody reads it."""
+        try:
+            with open(self.path(name), "wb") as file:
+                file.write(text)
+        except BrokenPipeError:
+            pass
 
     def standard_output(self):
         """Standard output that can't be written."""
-        sim = ["sim", "t.v", "0", "1"]
         with open("/dev/full", "wb") as full:
-            self.run("standard output full", sim, unwritten(b"stdout", b""), stdout=full)
-            self.run("the certificate isn't begun", ["worst", "t.v", "--cert", "new.cert"], unwritten(b"stdout", b""), stdout=full)
-            self.run("help to a full disk", ["--help"], unwritten(b"stdout", b""), stdout=full)
+            for words in [words for words, _ in REPORTS] + [JOIN, ["check", "t.v", "p0"], ["--help"]]:
+                self.run("standard output full", words, unwritten(b"stdout"), stdout=full)
+            for words in (WORST, JOIN):
+                self.run("the certificate isn't begun", [*words, "--cert", "new.cert"], unwritten(b"stdout"), stdout=full)
         self.expect("no certificate", False, os.path.exists(self.path("new.cert")))
-        self.run("standard output closed", sim, unwritten(b"stdout", b""), stdout=None, preexec_fn=lambda: os.close(1))
-        ends = os.pipe()
-        os.close(ends[0])
-        self.run("a pipe that nobody reads", sim, unwritten(b"stdout", b""), stdout=ends[1])
-        os.close(ends[1])
-        status = subprocess.run([self.program, "sim", "t.v", "0"], cwd=self.folder, preexec_fn=lambda: os.close(2), timeout=LONGEST).returncode
+        for words in (SIM, ["parts", "t.v", "--parts", "2"], ["info", "t.v"], JOIN):
+            self.run("standard output closed", words, unwritten(b"stdout"), stdout=None, before=lambda: os.close(1))
+            ends = os.pipe()
+            os.close(ends[0])
+            self.run("a pipe that nobody reads", words, unwritten(b"stdout"), stdout=ends[1])
+            os.close(ends[1])
+        status = self.tested.run_bytes("sim", "t.v", "0", stderr=None, before=lambda: os.close(2)).status
         self.expect("standard error closed", True, status in (2, 5))
 
     def outputs(self):
         """Certificates and waveforms that can't be written."""
-        for name in (b"/dev/full", b"absent/out", b"folder", b""):
-            self.run(f"certificate to {name}", [b"worst", b"t.v", b"--cert", name], unwritten(name, WORST))
-            self.run(f"waveform to {name}", [b"sim", b"t.v", b"0", b"1", b"--vcd", name], unwritten(name, REPORT))
-        self.run("a full certificate, no waveform", ["worst", "t.v", "--cert", "/dev/full", "--vcd", "new.vcd"], unwritten(b"/dev/full", WORST))
+        for name in ("/dev/full", "absent/out", "folder", ""):
+            self.run("a certificate", [*WORST, "--cert", name], unwritten(name.encode(), EXACT))
+            self.run("a joined certificate", [*JOIN, "--cert", name], unwritten(name.encode(), JOINED))
+            self.run("a waveform", [*SIM, "--vcd", name], unwritten(name.encode(), REPORT))
+        self.run("no waveform", [*WORST, "--cert", "/dev/full", "--vcd", "new.vcd"], unwritten(b"/dev/full", EXACT))
         self.expect("no waveform", False, os.path.exists(self.path("new.vcd")))
-        self.run("both", ["worst", "t.v", "--cert", "new.cert", "--vcd", "new.vcd"], (0, WORST, b""))
-        self.run("/dev/null", ["worst", "t.v", "--cert", "/dev/null"], (0, WORST, b""))
+        self.run("both", [*WORST, "--cert", "new.cert", "--vcd", "new.vcd"], (0, EXACT, b""))
+        self.expect("the certificate", CERTIFICATE, self.tested.read("new.cert"))
+        self.expect("the waveform", True, (self.tested.read("new.vcd") or b"").endswith(b'#1\n1!\n#4\n0"\n'))
+        self.run("joined", [*JOIN, "--cert", "joined"], (0, JOINED, b""))
+        self.expect("the joined certificate", WHOLE, self.tested.read("joined"))
+        self.run("/dev/null", [*WORST, "--cert", "/dev/null"], (0, EXACT, b""))
         self.expect("/dev/null is a device", False, os.path.isfile("/dev/null"))
-
 
     def standard_files(self):
         """Certificates and waveforms that go to standard output."""
-        with open(self.path("-"), "w") as file:
-            file.write("kept")
-        self.run("certificate to -", ["worst", "t.v", "--cert", "-"], (0, CERTIFICATE, b""))
-        self.run("waveform to a file, certificate to -", ["worst", "t.v", "--cert", "-", "--vcd", "/dev/null"], (0, CERTIFICATE, b""))
+        self.tested.write("-", "kept")
+        self.run("certificate to -", [*WORST, "--cert", "-"], (0, CERTIFICATE, b""))
+        self.run("joined certificate to -", [*JOIN, "--cert", "-"], (0, WHOLE, b""))
+        self.run("waveform to a file", [*WORST, "--cert", "-", "--vcd", "/dev/null"], (0, CERTIFICATE, b""))
         self.run("no certificate to -", ["worst", "two.v", "--budget", "1", "--cert", "-"], (3, SHORT, b""))
-        with open(self.path("t.v"), "rb") as file:
+        with self.open("t.v") as file:
             self.run("a pipe", ["worst", "-", "--cert", "-"], (0, CERTIFICATE, b""), stdin=file)
-        self.run("both to -", ["worst", "t.v", "--cert", "-", "--vcd", "-"], (2, b"", b"tdelay: - is -\n"))
+        self.run("both to -", [*WORST, "--cert", "-", "--vcd", "-"], is_other("-", "-"))
         with open("/dev/full", "wb") as full:
-            self.run("certificate to a full disk as -", ["worst", "t.v", "--cert", "-"], unwritten(b"stdout", b""), stdout=full)
-            self.run("waveform to a full disk as -", ["sim", "t.v", "0", "1", "--vcd", "-"], unwritten(b"stdout", b""), stdout=full)
-        shown = subprocess.run([self.program, "sim", "t.v", "0", "1", "--vcd", "-"], cwd=self.folder, capture_output=True, timeout=LONGEST)
-        subprocess.run([self.program, "sim", "t.v", "0", "1", "--vcd", "t.vcd"], cwd=self.folder, capture_output=True, timeout=LONGEST)
-        with open(self.path("t.vcd"), "rb") as file:
-            self.expect("waveform to -", (0, file.read(), b""), (shown.returncode, shown.stdout, shown.stderr))
-        with open(self.path("-")) as file:
-            self.expect("a file of this name", "kept", file.read())
+            for words in ([*WORST, "--cert", "-"], [*JOIN, "--cert", "-"], [*SIM, "--vcd", "-"]):
+                self.run("to a full disk as -", words, unwritten(b"stdout"), stdout=full)
+        self.tested.run_bytes(*SIM, "--vcd", "t.vcd")
+        self.run("waveform to -", [*SIM, "--vcd", "-"], (0, self.tested.read("t.vcd"), b""))
+        self.expect("a file of this name", b"kept", self.tested.read("-"))
 
     def over_others(self):
-        """Outputs that are the netlist, or each other."""
-        with open(self.path("t.v"), "rb") as file:
-            text = file.read()
+        """Outputs that are the netlist, a part, or each other."""
+        text = self.tested.read("t.v")
         os.link(self.path("t.v"), self.path("hard.v"))
         os.symlink("t.v", self.path("soft.v"))
-        sim, worst = ["sim", "t.v", "0", "1"], ["worst", "t.v"]
         for name in ("t.v", "./t.v", "hard.v", "soft.v"):
-            told = 2, b"", f"tdelay: {name} is t.v\n".encode()
-            self.run(f"waveform over the netlist as {name}", [*sim, "--vcd", name], told)
-            self.run(f"certificate over the netlist as {name}", [*worst, "--cert", name], told)
-        self.run("one new file for both", [*worst, "--cert", "one", "--vcd", "./one"], (2, b"", b"tdelay: ./one is one\n"))
+            self.run("waveform over the netlist", [*SIM, "--vcd", name], is_other(name, "t.v"))
+            self.run("certificate over the netlist", [*WORST, "--cert", name], is_other(name, "t.v"))
+            self.run("joined over the netlist", [*JOIN, "--cert", name], is_other(name, "t.v"))
+        for name in ("p1", "./p1"):
+            self.run("joined over a part", [*JOIN, "--cert", name], is_other(name, "p1"))
+        self.run("one new file for both", [*WORST, "--cert", "one", "--vcd", "./one"], is_other("./one", "one"))
         self.expect("no such file", False, os.path.exists(self.path("one")))
-        with open(self.path("t.v"), "rb") as file:
-            self.run("over standard input", ["worst", "stdin", "--cert", "t.v"], (2, b"", b"tdelay: t.v is stdin\n"), stdin=file)
-        with open(self.path("t.v"), "rb") as file:
-            self.run("over standard input as -", ["worst", "-", "--cert", "t.v"], (2, b"", b"tdelay: t.v is stdin\n"), stdin=file)
-        self.run("a device for both", [*worst, "--cert", "/dev/null", "--vcd", "/dev/null"], (0, WORST, b""))
-        with open(self.path("t.v"), "rb") as file:
-            self.expect("the netlist", text, file.read())
+        for name in ("stdin", "-"):
+            with self.open("t.v") as file:
+                self.run("over standard input", ["worst", name, "--cert", "t.v"], is_other("t.v", "stdin"), stdin=file)
+        self.run("a device for both", [*WORST, "--cert", "/dev/null", "--vcd", "/dev/null"], (0, EXACT, b""))
+        self.expect("the netlist", text, self.tested.read("t.v"))
 
     def whole_or_nothing(self):
         """Outputs in the place of files, written in full and cut off."""
-        with open(self.path("old"), "w") as file:
-            file.write("old")
+        self.tested.write("old", "old")
         os.chmod(self.path("old"), 0o640)
         os.symlink("old", self.path("link"))
-        cut = {"preexec_fn": lambda: resource.setrlimit(resource.RLIMIT_FSIZE, (20, 20)), "restore_signals": False}
+        cut = {"before": lambda: resource.setrlimit(resource.RLIMIT_FSIZE, (20, 20)), "restore_signals": False}
         for name in ("old", "link", "fresh"):
-            wanted = unwritten(name.encode(), WORST)
-            self.run(f"a file cut off at 20 bytes as {name}", ["worst", "t.v", "--cert", name], wanted, **cut)
-        with open(self.path("old")) as file:
-            self.expect("the old file", "old", file.read())
+            self.run("a certificate cut off", [*WORST, "--cert", name], unwritten(name.encode(), EXACT), **cut)
+            self.run("a joined one cut off", [*JOIN, "--cert", name], unwritten(name.encode(), JOINED), **cut)
+            self.run("a waveform cut off", [*SIM, "--vcd", name], unwritten(name.encode(), REPORT), **cut)
+        self.expect("the old file", b"old", self.tested.read("old"))
         self.expect("no new file", False, os.path.exists(self.path("fresh")))
-        self.run("in the place of a file, through a link", ["worst", "t.v", "--cert", "link"], (0, WORST, b""))
-        with open(self.path("old"), "rb") as file:
-            self.expect("the new file", CERTIFICATE, file.read())
+        self.run("in the place of a file, through a link", [*WORST, "--cert", "link"], (0, EXACT, b""))
+        self.expect("the new file", CERTIFICATE, self.tested.read("old"))
         self.expect("its permissions", 0o640, stat.S_IMODE(os.stat(self.path("old")).st_mode))
         self.expect("the link is one", True, os.path.islink(self.path("link")))
-        self.expect("nothing else is left", [], [name for name in os.listdir(self.folder) if ".part" in name])
+        self.expect("nothing else is left", [], [name for name in os.listdir(self.tested.folder) if ".part" in name])
 
 
-def main():
-    program = os.path.abspath(sys.argv[1]) if len(sys.argv) > 1 else os.path.join(TOP, "crates/tdelay/out/tdelay")
-    with tempfile.TemporaryDirectory() as folder:
-        with open(os.path.join(folder, "t.v"), "w") as file:
-            file.write("module t(a, y);\ninput a;\noutput y;\nnot #(2,3) g(y,a);\nendmodule\n")
-        with open(os.path.join(folder, "two.v"), "w") as file:
-            file.write("module t(a, y);\ninput a;\noutput y;\nnot #1 n(b,a); and #2 g(y,a,b);\nendmodule\n")
-        cases = Cases(program, folder)
-        cases.reading()
-        cases.fifos()
-        cases.standard_output()
-        cases.outputs()
-        cases.standard_files()
-        cases.over_others()
-        cases.whole_or_nothing()
-    print(f"{cases.count} cases, {cases.wrong} wrong")
-    return 1 if cases.wrong else 0
+class Beside:
+    """Work at the other end of a FIFO while the program runs. It ends also where the program never opens the FIFO."""
+
+    def __init__(self, work, fifo):
+        self.fifo = fifo
+        self.thread = threading.Thread(target=work, daemon=True)
+
+    def __enter__(self):
+        self.thread.start()
+
+    def __exit__(self, *_):
+        self.thread.join(timeout=1)
+        while self.thread.is_alive():
+            end = os.open(self.fifo, os.O_RDWR | os.O_NONBLOCK)
+            self.thread.join(timeout=0.1)
+            os.close(end)
+            self.thread.join(timeout=0.1)
+
+
+def work(tested):
+    tested.write("t.v", INVERTER)
+    tested.write("two.v", LOST)
+    devices = Devices(tested)
+    devices.commands()
+    devices.reading()
+    devices.standard_input()
+    devices.fifos()
+    devices.standard_output()
+    devices.outputs()
+    devices.standard_files()
+    devices.over_others()
+    devices.whole_or_nothing()
 
 
 if __name__ == "__main__":
-    sys.exit(main())
+    sys.exit(check.main(work, __doc__))

@@ -1,32 +1,32 @@
 #!/usr/bin/env python3
-"""mutations.py [PROGRAM] [--seconds S] [--seed N] [--keep DIR]: gives `tdelay` mutated netlists, certificates and command lines.
+"""Gives all commands mutated netlists, certificates and command lines.
 
-The corpus is made from examples/: its small netlists, and certificates of every version that `worst` writes of them. Each round takes one
-command, mutates some of its netlist, certificate and words, and runs it, for S seconds (60 where left out). A run must not crash; must end
-within 10 seconds, with a status that docs/OUTPUT.md has; has one line on standard error, `tdelay: ..`, where the status is 1, 2 or 5 (or what
-the library of command lines says, with status 2) and none elsewhere; an `exact` answer has a certificate that `check` accepts with its time;
-and where checks/second_opinion.py reads the same netlist, its verdict on the certificate is that of `check`. Prints how many runs ended with
-each status, and the first runs that did anything else, whose files are left in DIR. Exit status 1 where there is one.
+The corpus is made from examples/: its small netlists, and certificates of every version that `worst` writes of them, of whole questions and of
+the parts of some. Each case takes one command, mutates some of its netlist, certificate and words, and runs it. A run must not crash; must
+end within 10 seconds, with a status that docs/OUTPUT.md has; has one line on standard error, `tdelay: ..`, where the status is 1, 2 or 5, or
+4 of `join` (or what the library of command lines says, with status 2), and none elsewhere but lines of progress; an `exact` answer has a
+certificate that `check` accepts with its time; and where tools/second_opinion.py reads the same netlist, its verdict on the certificate is
+that of `check`. The files of the first run that did anything else are kept in DIR, where `--keep DIR` names one. Of each command a
+fair share of the runs has to end well, and a fair share of all with each status.
 """
 
-import argparse
-import collections
-import os
-import random
 import re
 import shutil
-import subprocess
 import sys
-import tempfile
-import time
+
+from lib import check, places, reports, running
 
 import second_opinion
 
-TOP = os.path.dirname(os.path.dirname(os.path.abspath(__file__)))
+CASES = 4000
 # The longest that a run may take, in seconds.
 LONGEST = 10
 SMALL = ["c17.v", "hazard.v", "inverter.v", "late_fall.v", "lost_pulse.v", "passed_pulse.v"]
-STATUSES = {"sim": {0, 1, 2, 5}, "path": {0, 1, 2, 5}, "bound": {0, 1, 2, 5}, "worst": {0, 1, 2, 3, 5}, "check": {0, 1, 2, 4, 5}}
+STATUSES = {
+    "sim": {0, 1, 2, 5}, "path": {0, 1, 2, 5}, "bound": {0, 1, 2, 5}, "worst": {0, 1, 2, 3, 5}, "parts": {0, 1, 2, 5}, "join": {0, 1, 2, 4, 5},
+    "info": {0, 1, 2, 5}, "check": {0, 1, 2, 4, 5},
+}
+WRITTEN = ("out.cert", "out.vcd")
 TOKENS = [
     b"module", b"endmodule", b"input", b"output", b"wire", b"and", b"nand", b"or", b"nor", b"xor", b"xnor", b"not", b"buf", b"inout", b"reg",
     b"assign", b"(", b")", b"[", b"]", b",", b";", b":", b"#", b"#(1,2)", b"#(1,2,3)", b"1'b0", b"1'b1", b"1'bx", b"4096", b"1000000001",
@@ -70,39 +70,79 @@ def mutated(rng, text, pieces, corpus):
 
 def vector(rng, inputs, letters):
     """A word for a vector, mostly of the right length."""
-    count = max(0, inputs + rng.choice([0] * 12 + [-1, 1]))
+    count = max(0, inputs + rng.choice([0] * 40 + [-1, 1]))
     return "".join(rng.choice(letters) for _ in range(count)) or "none"
+
+
+def pins(rng, inputs, chance=0.2):
+    words = []
+    for option in ("--first", "--second"):
+        if rng.random() < chance:
+            words += [option, vector(rng, inputs, "01.")]
+    return words
+
+
+def moments(rng, inputs, chance=0.3):
+    return ["--at", ",".join(str(rng.choice([0, 1, 2, 7, 10**9])) for _ in range(inputs))] if rng.random() < chance else []
 
 
 def question(rng, inputs):
     """Options that say which pairs are asked about, and when the inputs change."""
-    words = []
-    for option, letters in (("--first", "01."), ("--second", "01."), ("--hold", "..=")):
-        if rng.random() < 0.2:
-            words += [option, vector(rng, inputs, letters)]
+    words = pins(rng, inputs)
+    if rng.random() < 0.2:
+        words += ["--hold", vector(rng, inputs, "..=")]
     if rng.random() < 0.2:
         words += ["--flips", str(rng.choice([0, 1, 2, 5, 4097]))]
-    if rng.random() < 0.3:
-        words += ["--at", ",".join(str(rng.choice([0, 1, 2, 7, 10**9])) for _ in range(inputs))]
-    return words
+    return words + moments(rng, inputs)
+
+
+def flags(rng, *names):
+    """Some of these options: a flag, or an option with one of its values."""
+    return [word for name, *values in names if rng.random() < 0.3 for word in [name, *([rng.choice(values)] if values else [])]]
+
+
+def pair_words(rng, inputs):
+    return [vector(rng, inputs, "0011x"), vector(rng, inputs, "0011x"), *moments(rng, inputs)]
+
+
+def sim_words(rng, inputs):
+    return ["t.v", *pair_words(rng, inputs), *flags(rng, ("--vcd", "out.vcd"))]
+
+
+def path_words(rng, inputs):
+    return ["t.v", *pair_words(rng, inputs), *flags(rng, ("--output", "y", "N22", "nothing"))]
+
+
+def bound_words(rng, inputs):
+    return ["t.v", *pins(rng, inputs), *moments(rng, inputs), *flags(rng, ("--edges",))]
+
+
+def worst_words(rng, inputs):
+    words = ["t.v", "--budget", str(rng.choice([0, 1, 10, 300, 3000])), *question(rng, inputs), "--cert", "out.cert"]
+    more = ("--workers", "1", "2", "4"), ("--strategy", "least", "lead", "lead"), ("--path",), ("--progress",), ("--vcd", "out.vcd")
+    return words + flags(rng, *more)
+
+
+def parts_words(rng, inputs):
+    count = str(rng.choice([1, 2, 3, 7, 40, 0, 65537]))
+    return ["t.v", "--parts", count, *question(rng, inputs), *flags(rng, ("--strategy", "least", "lead"))]
+
+
+def join_words(rng, inputs):
+    names = rng.choice([["p0", "p1"], ["p0", "p1"], ["p1", "p0"], ["p0"], ["p0", "p1", "c"], ["c", "p1"]])
+    return ["t.v", *names, *pins(rng, inputs, 0.1), *flags(rng, ("--check",), ("--cert", "out.cert"))]
+
+
+WORDS = {
+    "sim": sim_words, "path": path_words, "bound": bound_words, "worst": worst_words, "parts": parts_words, "join": join_words,
+    "info": lambda rng, inputs: ["t.v"], "check": lambda rng, inputs: ["t.v", "c"],
+}
 
 
 def command(rng, inputs):
-    """The words of a command on `t.v` and `c`."""
-    name = rng.choice(list(STATUSES))
-    words = [name, "t.v"]
-    if name in ("sim", "path"):
-        words += [vector(rng, inputs, "0011x"), vector(rng, inputs, "0011x")]
-        words += question(rng, inputs)[-2:] if rng.random() < 0.3 else []
-        if rng.random() < 0.2:
-            words += ["--vcd", "out.vcd"] if name == "sim" else ["--output", rng.choice(["y", "N22", "nothing"])]
-    elif name == "bound":
-        words += [word for word in question(rng, inputs)]
-    elif name == "worst":
-        words += ["--budget", str(rng.choice([0, 1, 10, 300]))] + question(rng, inputs) + ["--cert", "out.cert"]
-        words += ["--workers", str(rng.choice([1, 2, 4]))] if rng.random() < 0.3 else []
-    else:
-        words += ["c"]
+    """The words of a command on `t.v`, `c` and the parts `p0` and `p1`."""
+    name = rng.choice(list(WORDS))
+    words = [name, *WORDS[name](rng, inputs)]
     if rng.random() < 0.1:
         words += ["--default-rise", str(rng.choice([1, 7, 10**9, 0, 10**9 + 1]))]
     return words
@@ -120,7 +160,7 @@ def mangled(rng, words):
     elif kind == 2:
         words[place] = "".join(rng.choice("01x.=-, \u00e9/abc") for _ in range(rng.randint(0, 9)))
     else:
-        words.insert(place, rng.choice(["--budget", "--cert", "--at", "-h", "--", "-", "--workers=0", "--flips=-1", "stdin", ""]))
+        words.insert(place, rng.choice(["--budget", "--cert", "--at", "-h", "--", "-", "--workers=0", "--flips=-1", "--parts=0", "stdin", ""]))
     return words
 
 
@@ -132,115 +172,125 @@ def inputs_of(text):
         return 2
 
 
-def make_corpus(program, rng, folder):
-    """Small netlists, each with certificates of every version."""
-    corpus = []
-    for name in SMALL:
-        with open(os.path.join(TOP, "examples", name), "rb") as file:
-            text = file.read()
-        with open(os.path.join(folder, "t.v"), "wb") as file:
-            file.write(text)
-        inputs, certificates = inputs_of(text), []
-        for words in ([], ["--flips", "1"], ["--at", ",".join(["3"] * inputs)]):
-            subprocess.run([program, "worst", "t.v", "--cert", "out.cert", *words], cwd=folder, check=True, capture_output=True)
-            with open(os.path.join(folder, "out.cert"), "rb") as file:
-                certificates.append(file.read())
-        with_edges = re.sub(rb"(?m)^b [atm] ", b"b e ", certificates[-1].replace(b"tdelay-cert 3", b"tdelay-cert 4"))
-        corpus.append((text, certificates + [with_edges], inputs))
-    return corpus
+class Netlist:
+    """A small netlist with certificates of every version, and those of two parts of its question."""
+
+    def __init__(self, tested, name):
+        with open(places.example(name), "rb") as file:
+            self.text = file.read()
+        tested.write("t.v", self.text)
+        self.inputs = inputs_of(self.text)
+        whole = [[], ["--flips", "1"], ["--at", ",".join(["3"] * self.inputs)], ["--strategy", "lead"]]
+        self.certificates = [certificate_of(tested, words) for words in whole]
+        free = "." * (self.inputs - 1)
+        self.parts = [certificate_of(tested, ["--first", bit + free, "--second", "." + free]) for bit in "01"]
 
 
-def run(program, folder, words):
-    """The status, standard output and standard error of a run; the status is None where it took too long."""
-    try:
-        done = subprocess.run([program, *words], cwd=folder, stdin=subprocess.DEVNULL, capture_output=True, timeout=LONGEST)
-    except subprocess.TimeoutExpired:
-        return None, b"", b""
-    return done.returncode, done.stdout, done.stderr
+def certificate_of(tested, words):
+    """The certificate of a search of `t.v`."""
+    tested.remove("out.cert")
+    done = tested.run("worst", "t.v", "--cert", "out.cert", *words)
+    certificate = tested.read("out.cert")
+    if done.status != 0 or certificate is None:
+        raise RuntimeError(f"worst {words}: status {done.status}, {done.out}{done.err}, no certificate")
+    return certificate
 
 
-def fault_of_exact(program, folder, words, out):
+def fault_of_exact(tested, words, out):
     """What is wrong with the certificate of an exact answer, None where nothing is."""
-    time_told = int(re.search(rb"(?m)^exact (\d+)$", out)[1])
+    time = reports.figures_of(out.decode()).low
     defaults = [word for at, word in enumerate(words) if word.startswith("--default") or at and words[at - 1].startswith("--default")]
-    status, checked, _ = run(program, folder, ["check", "t.v", "out.cert", *defaults])
-    if status != 0 or not checked.startswith(b"accepted %d\n" % time_told):
-        return f"its certificate is not accepted: {checked!r}"
-    return None
+    checked = tested.run("check", "t.v", "out.cert", *defaults, seconds=LONGEST)
+    return None if reports.accepted_time(checked.out) == time else f"its certificate is not accepted: {checked.out}{checked.err}"
 
 
-def fault_of_check(text, certificate, status, out):
+def fault_of_check(texts, done):
     """What is wrong with a verdict, by the second opinion, None where nothing is."""
-    wanted_out, fault, wanted = second_opinion.told(lambda: second_opinion.check(second_opinion.read_circuit(text), certificate))
-    if status != wanted or out.decode() != wanted_out:
-        return f"the second opinion says {wanted}: {wanted_out}{fault}"
-    return None
+    out, fault, status = second_opinion.told(lambda: second_opinion.check(second_opinion.read_circuit(texts["t.v"]), texts["c"]))
+    return None if (done.status, done.out.decode()) == (status, out) else f"the second opinion says {status}: {out}{fault}"
 
 
-def fault_of(program, folder, words, status, out, err, texts):
+def fault_of_error(words, done):
+    """What is wrong with standard error, None where nothing is."""
+    error = done.err
+    if "--progress" in words:
+        error = re.sub(rb"nodes \d+ low \d+ high \d+ open \d+\n", b"", error)
+    one_line = re.fullmatch(rb"tdelay: [^\n]*\n", error)
+    if done.status in (1, 5) or done.status == 4 and words[0] == "join":
+        return None if one_line else "standard error"
+    return None if bool(error) == (done.status == 2) else "standard error"
+
+
+def fault_of(tested, words, done, texts):
     """What is wrong with a run, None where nothing is."""
-    if status is None:
-        return "it took too long"
-    if status < 0 or status not in STATUSES.get(words[0] if words else "", {0, 2}) | {0, 2}:
-        return f"status {status}"
-    if status in (1, 5) and not re.fullmatch(rb"tdelay: [^\n]*\n", err):
-        return "standard error"
-    if status == 2 and not err:
-        return "standard error"
-    if status in (0, 3, 4) and err:
-        return "standard error"
-    if status == 0 and words[0] == "worst" and out.startswith(b"unit"):
-        return fault_of_exact(program, folder, words, out) if os.path.exists(os.path.join(folder, "out.cert")) else None
-    if words[:3] == ["check", "t.v", "c"] and len(words) == 3:
-        return fault_of_check(*texts, status, out)
-    return None
+    if done.status not in STATUSES.get(words[0] if words else "", {0, 2}) | {0, 2}:
+        return f"status {done.status}"
+    if done.status in (1, 2, 5) and done.out and not (done.status == 5 and b"cannot write" in done.err):
+        return "standard output"
+    if done.status in (0, 3, 4) and not done.out and not (done.status == 4 and words[0] == "join"):
+        return "nothing on standard output"
+    fault = fault_of_error(words, done)
+    if fault is None and done.status == 0 and words[0] == "worst" and b"\nexact " in done.out:
+        return fault_of_exact(tested, words, done.out) if tested.read("out.cert") is not None else None
+    if fault is None and words == ["check", "t.v", "c"]:
+        return fault_of_check(texts, done)
+    return fault
 
 
-def main():
-    parser = argparse.ArgumentParser()
-    parser.add_argument("program", nargs="?", default=os.path.join(TOP, "crates/tdelay/out/tdelay"))
-    parser.add_argument("--seconds", type=float, default=60)
-    parser.add_argument("--seed", type=int, default=1)
-    parser.add_argument("--keep", default="/tmp/mutations")
-    given = parser.parse_args()
-    program, rng = os.path.abspath(given.program), random.Random(given.seed)
-    ends, wrong = collections.Counter(), 0
-    with tempfile.TemporaryDirectory() as folder:
-        corpus = make_corpus(program, rng, folder)
-        netlists, certificates = [one[0] for one in corpus], [cert for one in corpus for cert in one[1]]
-        until = time.monotonic() + given.seconds
-        while time.monotonic() < until:
-            text, own, inputs = rng.choice(corpus)
-            certificate = rng.choice(own)
-            words = command(rng, inputs)
-            what = rng.random()
-            if what < 0.45:
-                text = mutated(rng, text, TOKENS, netlists)
-            elif what < 0.8 and words[0] == "check":
-                certificate = mutated(rng, certificate, LINES, certificates)
-            elif what < 0.9:
-                words = mangled(rng, words)
-            for name, content in (("t.v", text), ("c", certificate)):
-                with open(os.path.join(folder, name), "wb") as file:
-                    file.write(content)
-            for name in ("out.cert", "out.vcd"):
-                if os.path.exists(os.path.join(folder, name)):
-                    os.remove(os.path.join(folder, name))
-            status, out, err = run(program, folder, words)
-            fault = fault_of(program, folder, words, status, out, err, (text, certificate))
-            ends[(words[0] if words and words[0] in STATUSES else "other", status)] += 1
-            if fault is not None:
-                wrong += 1
-                print("wrong:", fault, words, status, out[:200], err[:200], flush=True)
-                shutil.rmtree(given.keep, ignore_errors=True)
-                shutil.copytree(folder, given.keep)
-                if wrong >= 5:
-                    break
-    for (name, status), count in sorted(ends.items(), key=str):
-        print(f"{name}: {count} with status {status}")
-    print(f"{sum(ends.values())} runs, {wrong} wrong")
-    return 1 if wrong else 0
+def made_up(rng, corpus):
+    """The words of a command, and the texts of its files, some of them mutated."""
+    one = rng.choice(corpus)
+    texts = {"t.v": one.text, "c": rng.choice(one.certificates), "p0": one.parts[0], "p1": one.parts[1]}
+    words = command(rng, one.inputs)
+    what = rng.random()
+    if what < 0.35:
+        texts["t.v"] = mutated(rng, one.text, TOKENS, [it.text for it in corpus])
+    elif what < 0.7 and words[0] in ("check", "join"):
+        name = "c" if words[0] == "check" else rng.choice(["p0", "p1"])
+        texts[name] = mutated(rng, texts[name], LINES, [text for it in corpus for text in it.certificates])
+    elif what < 0.8:
+        words = mangled(rng, words)
+    return words, texts
+
+
+def keep(tested):
+    """Keeps the files of the first wrong run where a folder is named for them."""
+    if tested.asked.keep and tested.wrong == 0:
+        shutil.rmtree(tested.asked.keep, ignore_errors=True)
+        shutil.copytree(tested.folder, tested.asked.keep)
+
+
+def work(tested):
+    rng = tested.random
+    corpus = [Netlist(tested, name) for name in SMALL]
+    while True:
+        words, texts = made_up(rng, corpus)
+        for name, text in texts.items():
+            tested.write(name, text)
+        tested.remove(*WRITTEN)
+        try:
+            done = tested.run_bytes(*words, seconds=LONGEST)
+        except running.Hangs:
+            keep(tested)
+            raise
+        fault = fault_of(tested, words, done, texts)
+        if fault is not None:
+            keep(tested)
+            tested.fault(f"{fault}: {words}: {done}"[:1000])
+        name = words[0] if words and words[0] in STATUSES else "other words"
+        tested.case(f"{name}: status {done.status}", f"all: status {done.status}", name)
+
+
+def shares(tested, _cut):
+    for name in STATUSES:
+        tested.require(f"{name}: status 0", 0.15, of=name)
+    tested.require("worst: status 3", 0.01, of="worst")
+    tested.require("check: status 4", 0.005, of="check")
+    tested.require("join: status 4", 0.05, of="join")
+    tested.require("all: status 1", 0.1)
+    tested.require("all: status 2", 0.05)
 
 
 if __name__ == "__main__":
-    sys.exit(main())
+    keeping = {"--keep": {"metavar": "DIR", "help": "where the files of the first wrong run are kept"}}
+    sys.exit(check.main(work, __doc__, CASES, shares, keeping))

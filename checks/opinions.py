@@ -1,26 +1,26 @@
 #!/usr/bin/env python3
-"""opinions.py PROGRAM --seconds N --seed S [--keep DIR]: compares PROGRAM's `check`, `sim` and `bound` with checks/second_opinion.py.
+"""Compares `check`, `sim`, `path` and `bound` with tools/second_opinion.py, a second checker that was written from the documents alone.
 
-Makes random circuits and for each of them questions, certificates and pairs of vectors: certificates that `PROGRAM worst` writes, trees of its
-own for all four versions (right ones, by the bounds of second_opinion.py, and wrong ones), and both with bytes and lines mutated. Compared are the
-exit status, standard output, and of faults the kind, and the line of those of certificates. Prints counts at the end, and with status 1 the
-first difference, whose files are left in DIR (/tmp/opinions where left out). Uses one processor.
+Makes random circuits and for each of them questions, certificates and pairs of vectors: certificates that `worst` writes, trees of its own for
+all four versions (right ones, by the bounds of second_opinion.py, and wrong ones), and both with bytes and lines mutated. Compared are the
+exit status, standard output, and of faults the kind, and the line of those of certificates. A case is one answer that both give. The files of
+the first difference are kept in DIR, where `--keep DIR` names one.
 """
 
-import argparse
 import itertools
 import os
 import random
 import re
-import subprocess
+import shutil
 import sys
-import time
-from collections import Counter
 
-import second_netlist
+from lib import check
+from lib.netlists import KINDS
+
 import second_opinion as opinion
 from second_opinion import X
 
+CASES = 6000
 SYMBOLS = {"first": "01.", "second": "01.", "hold": ".=", "from": "01", "to": "01"}
 
 
@@ -57,7 +57,7 @@ def gate_lines(rng, inputs, outputs, largest):
     constants = rng.choice([0, 0, 0.15])
     nets, lines = list(inputs), []
     while made:
-        kind = rng.choice(second_netlist.KINDS)
+        kind = rng.choice(KINDS)
         single = kind in ("buf", "not")
         drives = [made.pop() for _ in range(min(len(made), rng.choice([1, 1, 1, 2]) if single else 1))]
         pool = nets[-rng.choice([3, 8, 99]) :]
@@ -285,14 +285,48 @@ def by_bytes(rng, text):
 # ---- Comparing ----
 
 
-def program(words):
-    """What the program says: standard output, standard error and the exit status."""
-    done = subprocess.run(words, stdin=subprocess.DEVNULL, capture_output=True)
-    return done.stdout.decode("latin-1"), done.stderr.decode("latin-1"), done.returncode
+class Setup:
+    """A circuit's text with its files and default delays, and the check that compares what is said of it."""
+
+    def __init__(self, tested, rng, text):
+        self.tested, self.rng, self.netlist = tested, rng, text
+        tested.write("t.v", text)
+        self.steps = opinion.Delays(rng.randint(1, 4), rng.randint(1, 4)) if rng.random() < 0.4 else opinion.Delays(1, 1)
+        self.defaults = [f"--default-rise={self.steps.rise}", f"--default-fall={self.steps.fall}"] if max(self.steps) > 1 else []
+        self.circuit = self.read_or_none()
+
+    def read(self):
+        return opinion.read_circuit(self.netlist, self.steps)
+
+    def read_or_none(self):
+        try:
+            return self.read()
+        except opinion.Refusal:
+            return None
+
+    def program(self, *words):
+        """What the program says: standard output, standard error and the exit status."""
+        done = self.tested.run_bytes(*words, *self.defaults)
+        return done.out.decode("latin-1"), done.err.decode("latin-1"), done.status
+
+    def compare(self, words, ours, kinds_of):
+        """A case: what both say to these words. The kinds are those of what the program says."""
+        theirs = self.program(*words)
+        if comparable(theirs) != comparable(ours):
+            keep(self.tested)
+            self.tested.fault(f"{words} {self.defaults}: {theirs}, and the second opinion {ours}\n{self.netlist.decode('latin-1')}")
+        self.tested.case(*kinds_of(*theirs))
+
+
+def keep(tested):
+    """Keeps the files of a difference where a folder is named for them."""
+    if tested.asked.keep and tested.wrong == 0:
+        shutil.rmtree(tested.asked.keep, ignore_errors=True)
+        shutil.copytree(tested.folder, tested.asked.keep)
 
 
 def comparable(answer):
-    """An answer without what second_opinion.py tells in its own words."""
+    """An answer without what second_opinion.py reports in its own words."""
     out, fault, status = answer
     for kind in ("tdelay: netlist fault", "tdelay: circuit fault 1 Loop"):
         if fault.startswith(kind):
@@ -300,71 +334,63 @@ def comparable(answer):
     return out, fault, status
 
 
-def compare(words, theirs, ours):
-    if comparable(theirs) != comparable(ours):
-        raise Differs(" ".join(map(str, words)), theirs, ours)
-
-
-def write(name, text):
-    with open(name, "wb") as file:
-        file.write(text)
-    return name
-
-
-def compare_check(setup, netlist, circuit, certificate, counts, origin):
+def compare_check(setup, certificate, origin):
     """Compares `check` of a certificate, and counts its version and what is said of it."""
-    words = [setup.program, "check", setup.netlist, write(setup.certificate, certificate), *setup.defaults]
-    theirs = program(words)
-    ours = opinion.told(lambda: opinion.check(circuit or opinion.read_circuit(netlist, setup.steps), certificate))
-    compare(words, theirs, ours)
-    head = certificate.split(b"\n", 1)[0]
-    version = head[-1:].decode() if head in (b"tdelay-cert 1", b"tdelay-cert 2", b"tdelay-cert 3", b"tdelay-cert 4") else "none"
-    said = theirs[0].split("\n")[0].split(" ")[:3] if theirs[0] else theirs[1].split(" ")[1:5]
-    verdict = "accepted" if said[0] == "accepted" else said[2] if theirs[0] else " ".join(said)
-    counts[f"check, version {version}", verdict.split(" at ")[0].strip()] += 1
-    counts["certificates", origin] += 1
+    setup.tested.write("c", certificate)
+    version = re.match(rb"tdelay-cert ([1-4])\n", certificate)
+
+    def kinds_of(_, __, status):
+        verdict = {0: "accepted", 4: "refused"}.get(status, "a fault of the text")
+        return [f"check: {verdict}", f"check: version {version[1].decode() if version else 'none'}", f"check: {origin}"]
+
+    setup.compare(["check", "t.v", "c"], opinion.told(lambda: opinion.check(setup.circuit or setup.read(), certificate)), kinds_of)
 
 
-def compare_sim(setup, netlist, circuit, rng, counts):
-    """Compares `sim` of a random pair, with a moment for each input or without, and now and then with words that give nothing."""
-    inputs = circuit.inputs if circuit else rng.randint(0, 3)
-    letters = rng.choice(["01", "01", "01x", "01x", "01x2"] if rng.random() < 0.2 else ["01", "01x"])
-    first, second = ("".join(rng.choice(letters) for _ in range(max(0, inputs + rng.choice([0] * 30 + [1, -1])))) or "none" for _ in range(2))
+def random_moments(rng, inputs):
+    """A word for `--at`, which now and then gives nothing; None for no word."""
     moments = [str(rng.choice([0, 0, 1, 2, 5, rng.randint(0, 30), 1_000_000_000])) for _ in range(inputs)]
     if rng.random() < 0.05:
         moments.append(rng.choice(["1", "", "1000000001", "007", "+1", "x"]))
         rng.shuffle(moments)
     if rng.random() < 0.05:
         moments = moments[1:]
-    at = rng.choice([None, ",".join(moments) or "none", ",".join(moments) or "none"])
-    words = [setup.program, "sim", setup.netlist, first, second, *setup.defaults] + ([f"--at={at}"] if at is not None else [])
-    theirs = program(words)
-    ours = opinion.told(lambda: opinion.sim(opinion.read_circuit(netlist, setup.steps), first, second, at))
-    compare(words, theirs, ours)
-    counts["sim", "run" if theirs[2] == 0 else theirs[1].split(" at ")[0].strip()[:22]] += 1
+    return rng.choice([None, ",".join(moments) or "none", ",".join(moments) or "none"])
 
 
-def compare_bounds(setup, circuit, question, counts):
-    """Compares the bounds of the pins with those that `bound` tells by three of the letters."""
+def random_vector(rng, inputs):
+    """A word for a vector, now and then one that gives nothing."""
+    letters = rng.choice(["01", "01", "01x", "01x", "01x2"] if rng.random() < 0.2 else ["01", "01x"])
+    return "".join(rng.choice(letters) for _ in range(max(0, inputs + rng.choice([0] * 30 + [1, -1])))) or "none"
+
+
+def compare_runs(setup):
+    """Compares `sim` and `path` of a random pair, with a moment for each input or without."""
+    rng, circuit = setup.rng, setup.circuit
+    inputs = circuit.inputs if circuit else rng.randint(0, 3)
+    first, second, at = random_vector(rng, inputs), random_vector(rng, inputs), random_moments(rng, inputs)
+    moments = [f"--at={at}"] if at is not None else []
+
+    def run_kinds(command):
+        return lambda out, _, status: [f"{command}: {'a run' if status == 0 else 'refused'}"] + [f"{command}: changes"] * ("\nchange" in out)
+
+    setup.compare(["sim", "t.v", first, second, *moments], opinion.told(lambda: opinion.sim(setup.read(), first, second, at)), run_kinds("sim"))
+    outputs = [circuit.nets[net] for net in circuit.outputs] if circuit else []
+    name = rng.choice([None, None, *outputs, "nothing"])
+    ours = opinion.told(lambda: opinion.path(setup.read(), first, second, at, name))
+    setup.compare(["path", "t.v", first, second, *moments, *([f"--output={name}"] if name else [])], ours, run_kinds("path"))
+
+
+def compare_bounds(setup, question):
+    """Compares the bounds of the pins with those that `bound --edges` reports."""
+    circuit = setup.circuit
     if circuit.inputs == 0:
         return
     pins = [f"--{name}={symbols_of(question.pins[side::2])}" for side, name in enumerate(("first", "second"))]
-    words = [setup.program, "bound", setup.netlist, *pins, "--at=" + ",".join(map(str, question.moments)), *setup.defaults]
-    theirs = program(words)
-    bounds = [(letter, opinion.bound(letter, circuit, question.pins, question.moments)) for letter in "atm"]
+    bounds = [(letter, opinion.bound(letter, circuit, question.pins, question.moments)) for letter in "atmen"]
     lines = [f"{letter} {'none' if bound is None else bound}" for letter, bound in bounds]
-    compare(words, theirs, (opinion.report([f"unit {circuit.unit}", f"defaulted {circuit.defaulted}", *lines]), "", 0))
-    counts["bound", "compared"] += 1
-
-
-class Setup:
-    """Where a circuit's files stand, and its default delays."""
-
-    def __init__(self, program, folder, rng):
-        self.program, self.netlist, self.certificate = program, os.path.join(folder, "netlist.v"), os.path.join(folder, "certificate")
-        self.written = os.path.join(folder, "written")
-        self.steps = opinion.Delays(rng.randint(1, 4), rng.randint(1, 4)) if rng.random() < 0.4 else opinion.Delays(1, 1)
-        self.defaults = [f"--default-rise={self.steps.rise}", f"--default-fall={self.steps.fall}"] if max(self.steps) > 1 else []
+    ours = opinion.report([f"unit {circuit.unit}", f"defaulted {circuit.defaulted}", *lines]), "", 0
+    words = ["bound", "t.v", *pins, "--at=" + ",".join(map(str, question.moments)), "--edges"]
+    setup.compare(words, ours, lambda out, _, __: ["bound: none" if "none" in out else "bound: all five"])
 
 
 def worst(setup, words, budget):
@@ -372,75 +398,61 @@ def worst(setup, words, budget):
     options = [f"--{name}={value}" for name, value in words.items() if value not in (None, "") and name != "at"]
     if words["at"]:
         options.append("--at=" + ",".join(map(str, words["at"])))
-    if os.path.exists(setup.written):
-        os.remove(setup.written)
-    program([setup.program, "worst", setup.netlist, *options, "--budget", str(budget), "--cert", setup.written, *setup.defaults])
-    return open(setup.written, "rb").read() if os.path.exists(setup.written) else None
+    setup.tested.remove("written")
+    strategy = setup.rng.choice(["least", "lead"])
+    setup.program("worst", "t.v", *options, "--budget", str(budget), "--strategy", strategy, "--cert", "written")
+    return setup.tested.read("written")
 
 
-def compare_mutated(setup, netlist, circuit, rng, certificate, counts, origin, times):
+def compare_mutated(setup, certificate, origin, times):
     """Compares `check` of a certificate and of some mutated ones."""
-    compare_check(setup, netlist, circuit, certificate, counts, origin)
+    compare_check(setup, certificate, origin)
     for _ in range(times):
         lines = certificate.decode("latin-1").rstrip("\n").split("\n")
-        mutated = by_bytes(rng, certificate) if rng.random() < 0.3 else ("\n".join(by_lines(rng, lines)) + "\n").encode("latin-1")
-        compare_check(setup, netlist, circuit, mutated, counts, origin + ", mutated")
+        by_line = ("\n".join(by_lines(setup.rng, lines)) + "\n").encode("latin-1")
+        compare_check(setup, by_bytes(setup.rng, certificate) if setup.rng.random() < 0.3 else by_line, origin + ", mutated")
 
 
-def circuit_or_none(netlist, steps):
-    try:
-        return opinion.read_circuit(netlist, steps)
-    except opinion.Refusal:
-        return None
-
-
-def compare_circuit(setup, rng, counts):
+def compare_circuit(tested, rng):
     """Makes a circuit and compares what is said of it."""
     kind = rng.random()
     text = rippling_circuit(rng) if kind < 0.01 else random_circuit(rng)
-    text = broken(rng, text) if kind > 0.93 else text
-    netlist = text.encode("latin-1")
-    write(setup.netlist, netlist)
-    circuit = circuit_or_none(netlist, setup.steps)
-    counts["circuits", "taken" if circuit else "refused"] += 1
-    for _ in range(5):
-        compare_sim(setup, netlist, circuit, rng, counts)
-    if circuit is None:
-        return compare_check(setup, netlist, circuit, b"tdelay-cert 1\n", counts, "own")
+    setup = Setup(tested, rng, (broken(rng, text) if kind > 0.93 else text).encode("latin-1"))
     for _ in range(3):
-        words = random_question(rng, circuit.inputs)
+        compare_runs(setup)
+    if setup.circuit is None:
+        return compare_check(setup, b"tdelay-cert 1\n", "own")
+    for _ in range(3):
+        words = random_question(rng, setup.circuit.inputs)
         written = worst(setup, words, rng.choice([1, 50, 300, 1000]))
         if written:
-            compare_mutated(setup, netlist, circuit, rng, written, counts, "worst", 2)
-        question = question_of(words, circuit.inputs)
-        compare_bounds(setup, circuit, question, counts)
+            compare_mutated(setup, written, "of a search", 2)
+        question = question_of(words, setup.circuit.inputs)
+        compare_bounds(setup, question)
         for times in (0, 0, 3):
-            own = own_certificate(rng, circuit, question)
+            own = own_certificate(rng, setup.circuit, question)
             if own:
-                compare_mutated(setup, netlist, circuit, rng, ("\n".join(own) + "\n").encode(), counts, "own", times)
+                compare_mutated(setup, ("\n".join(own) + "\n").encode(), "own", times)
+    return None
 
 
-def main():
-    parser = argparse.ArgumentParser(description=__doc__.split("\n", 1)[0])
-    parser.add_argument("PROGRAM")
-    parser.add_argument("--seconds", type=float, default=60)
-    parser.add_argument("--seed", type=int, default=0)
-    parser.add_argument("--keep", default="/tmp/opinions")
-    asked = parser.parse_args()
-    os.makedirs(asked.keep, exist_ok=True)
-    counts, end, which, status = Counter(), time.monotonic() + asked.seconds, 0, 0
-    while time.monotonic() < end and status == 0:
-        rng = random.Random(f"{asked.seed} {which}")
-        try:
-            compare_circuit(Setup(asked.PROGRAM, asked.keep, rng), rng, counts)
-        except Differs as difference:
-            print(f"circuit {which} of seed {asked.seed}:", *difference.args, sep="\n  ")
-            status = 1
-        which += 1
-    for (what, said), count in sorted(counts.items()):
-        print(f"{what}: {said} {count}")
-    return status
+def work(tested):
+    for which in itertools.count():
+        compare_circuit(tested, random.Random(f"{tested.seed} {which}"))
 
+
+def shares(tested, _cut):
+    """Of 100 cases at least so many have answers of each kind."""
+    for kind, share in SHARES.items():
+        tested.require(kind, share)
+
+
+SHARES = {
+    "sim: a run": 0.05, "path: changes": 0.02, "bound: all five": 0.002, "bound: none": 0.02, "check: accepted": 0.1, "check: refused": 0.1,
+    "check: a fault of the text": 0.02, "check: of a search": 0.03, "check: version 1": 0.02, "check: version 2": 0.02, "check: version 3": 0.02,
+    "check: version 4": 0.1,
+}
 
 if __name__ == "__main__":
-    sys.exit(main())
+    options = {"--keep": {"metavar": "DIR", "help": "where the files of the first difference are kept"}}
+    sys.exit(check.main(work, __doc__, CASES, shares, options))

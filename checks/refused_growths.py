@@ -1,208 +1,188 @@
 #!/usr/bin/env python3
-"""Runs each command of `tdelay` with its first, second, .. growth of memory refused, once alone and once with all growths behind
-it, and compares each run with one that has memory enough.
+"""Runs each command with a growth of memory refused, alone or with all that come after it, and compares each run with one that has memory enough.
 
-A run may answer the same; or end with status 5, `tdelay: out of memory` and nothing but a beginning of its output; or, a search,
-answer `between` with `cause memory` and two figures around the right one, or `exact` with the right time and a certificate that
-`check` accepts. Prints a line for each command, and ends with status 1
-where a run did anything else. Needs a C compiler, and the program built by `./tdelay`.
+A run may answer the same; or end with status 5, `tdelay: out of memory` and nothing but a beginning of its output; or, a search, answer
+`between` with `cause memory` and two figures around the right one, or `exact` with the right time and a certificate that `check` accepts.
+Where the root of a search is measured and bounded, and its report isn't begun, a growth refused alone may not end it as out of memory: it
+has to answer. That is so after as many growths as the same search takes with a budget of 0, and until the last ones, which are the report's.
+Searches are those of a lost pulse, of two ways that meet, and of a slow arm, by 1, 2 and 4 workers. `check` gives its verdict or is out of
+memory, and never another verdict.
 
-usage: checks/refused_growths.py [PROGRAM]
+Each case is a refused growth, or all from one on. All of them are some 32,000, of which those after roots are tried, and a random choice of the
+others. Of 100 cases 10 at least are searches of which the root was known, and 30 out of memory. It needs a C compiler, `cc`.
 """
+
 import os
 import subprocess
 import sys
-import tempfile
+from collections import Counter, namedtuple
 
-TOP = os.path.dirname(os.path.dirname(os.path.abspath(__file__)))
+from lib import check, netlists, places, reports, running
 
-# Between the program and the C library: counts the growths, and refuses those that the environment names.
-SHIM = r"""
-#include <errno.h>
-#include <stddef.h>
-#include <stdio.h>
-#include <stdlib.h>
-#include <sys/syscall.h>
-#include <unistd.h>
-extern void *__libc_malloc(size_t);
-extern void *__libc_calloc(size_t, size_t);
-extern void *__libc_realloc(void *, size_t);
-extern void *__libc_memalign(size_t, size_t);
-static long met, first, last;
-__attribute__((constructor)) static void begin(void) {
-  const char *from = getenv("REFUSE_FROM"), *to = getenv("REFUSE_TO");
-  met = 0;
-  first = from ? atol(from) : 0;
-  last = to ? atol(to) : -1;
+CASES = 9000
+# The most growths that a report takes.
+OF_REPORT = 16
+# After the last growth.
+NEVER = 10**9
+NETLISTS = {"inverter.v": netlists.INVERTER, "lost.v": netlists.LOST, "met.v": netlists.MET, "slow.v": netlists.SLOW}
+CERTIFICATES = {
+    "lost.cert": ["lost.v"], "met.cert": ["met.v"], "slow.cert": ["slow.v"], "few.cert": ["met.v", "--flips", "1", "--at", "0,2"],
+    "zero.cert": ["met.v", "--first", "0."], "one.cert": ["met.v", "--first", "1."],
 }
-static void tell(void) {
-  const char *name = getenv("GROWTHS");
-  FILE *file;
-  long count = met;
-  first = 0;
-  last = -1;
-  if (name && (file = fopen(name, "w"))) {
-    fprintf(file, "%ld", count);
-    fclose(file);
-  }
-}
-__attribute__((destructor)) static void end(void) { tell(); }
-/* A program with threads ends by this, past all destructors. */
-void _exit(int status) {
-  tell();
-  syscall(SYS_exit_group, status);
-  __builtin_unreachable();
-}
-static int refused(void) {
-  long now = __atomic_add_fetch(&met, 1, __ATOMIC_SEQ_CST);
-  if (now < first || last < now) return 0;
-  errno = ENOMEM;
-  return 1;
-}
-void *malloc(size_t size) { return refused() ? NULL : __libc_malloc(size); }
-void *calloc(size_t count, size_t size) { return refused() ? NULL : __libc_calloc(count, size); }
-void *realloc(void *old, size_t size) { return refused() ? NULL : __libc_realloc(old, size); }
-void *aligned_alloc(size_t align, size_t size) { return refused() ? NULL : __libc_memalign(align, size); }
-int posix_memalign(void **out, size_t align, size_t size) {
-  if (refused()) return 12;
-  *out = __libc_memalign(align, size);
-  return *out ? 0 : 12;
-}
-"""
+ROOTED = [
+    ["worst", netlist, "--workers", workers, "--budget", "10000"]
+    for netlist in ("lost.v", "met.v", "slow.v") for workers in ("1", "2", "4")
+] + [["worst", "met.v", "--strategy", "lead", "--budget", "10000"], ["worst", "met.v", "--flips", "1", "--budget", "10000"]]
+OTHERS = [
+    ["sim", "inverter.v", "0", "1"],
+    ["sim", "c17.v", "01010", "01110", "--vcd", "out.vcd"],
+    ["sim", "met.v", "01", "10", "--at", "0,2"],
+    ["path", "c17.v", "01010", "01110"],
+    ["bound", "c17.v", "--first", "0.0..", "--second", ".1...", "--edges"],
+    ["bound", "met.v", "--first", "0.", "--at", "0,2"],
+    ["worst", "c17.v"],
+    ["worst", "met.v", "--cert", "out.cert"],
+    ["worst", "met.v", "--budget", "2"],
+    ["worst", "met.v", "--flips", "1", "--cert", "out.cert"],
+    ["worst", "met.v", "--first", "0.", "--hold", ".=", "--at", "3,0", "--cert", "out.cert"],
+    ["worst", "met.v", "--flips", "1", "--budget", "2"],
+    ["worst", "met.v", "--workers", "2", "--cert", "out.cert"],
+    ["check", "lost.v", "lost.cert"],
+    ["check", "met.v", "met.cert"],
+    ["check", "slow.v", "slow.cert"],
+    ["check", "met.v", "few.cert"],
+    ["parts", "met.v", "--parts", "5"],
+    ["parts", "met.v", "--parts", "5", "--strategy", "lead"],
+    ["join", "met.v", "zero.cert", "one.cert", "--cert", "out.cert"],
+    ["join", "met.v", "zero.cert", "one.cert", "--check"],
+    ["info", "c17.v"],
+]
 
-INVERTER = "module t(a, y);\ninput a;\noutput y;\nnot #(2,3) g(y,a);\nendmodule\n"
-# Two paths of other delays to one gate: the search has to split.
-APART = """module t(a, b, y);
-input a, b;
-output y;
-wire p, q;
-buf #1 p1(p,b);
-buf #1 p2(q,b);
-xor #3 g(y,a,p,q);
-endmodule
-"""
+# How a run ended, and what it wrote. The growths are how many it asked for.
+Outcome = namedtuple("Outcome", "status out err written")
+# A command with how it ends where memory suffices, its worst delay, its growths, and after which of them and until which it has to answer.
+Command = namedtuple("Command", "words ample worst growths rooted")
 
 
-def run(program, shim, folder, words, first, last):
-    """The status, standard output, standard error and certificate of a run whose growths `first` to `last` are refused."""
-    kept = os.path.join(folder, "out.cert")
-    if os.path.exists(kept):
-        os.remove(kept)
-    environment = {
-        "LD_PRELOAD": shim,
-        "REFUSE_FROM": str(first),
-        "REFUSE_TO": str(last),
-        "GROWTHS": os.path.join(folder, "growths"),
-    }
-    done = subprocess.run([program, *words], cwd=folder, env=environment, stdin=subprocess.DEVNULL, capture_output=True, timeout=60)
-    certificate = None
-    if os.path.exists(kept):
-        with open(kept, "rb") as file:
-            certificate = file.read()
-    return done.returncode, done.stdout.decode(), done.stderr.decode(), certificate
+class Refuser:
+    """Runs of the program with refused growths."""
+
+    def __init__(self, tested):
+        self.tested = tested
+        source = os.path.join(places.CHECKS, "lib", "refusing.c")
+        self.shim = os.path.join(tested.folder, "refusing.so")
+        subprocess.run(["cc", "-shared", "-fPIC", "-O1", "-o", self.shim, source], check=True)
+
+    def run(self, words, first=0, last=-1):
+        """How a run ends whose growths `first` to `last` are refused, and how many it asked for."""
+        self.tested.remove("out.cert", "out.vcd", "growths")
+        refusing = {"REFUSE_FROM": str(first), "REFUSE_TO": str(last), "GROWTHS": os.path.join(self.tested.folder, "growths")}
+        done = self.tested.run(*words, env={"LD_PRELOAD": self.shim, **refusing})
+        growths = self.tested.read("growths")
+        written = tuple(self.tested.read(name) for name in ("out.cert", "out.vcd"))
+        return Outcome(*done, written), int(growths) if growths else 0
 
 
-def without_budget(words):
-    """The words of a search without its budget."""
-    if "--budget" not in words:
-        return words
-    at = words.index("--budget")
-    return words[:at] + words[at + 2 :]
+def with_budget(words, budget):
+    """The words of a search with another budget, none for None."""
+    at = words.index("--budget") if "--budget" in words else len(words)
+    return words[:at] + (["--budget", budget] if budget else []) + words[at + 2 :]
 
 
-def lines_of(text):
-    """The value behind the first word of each line."""
-    return {line.split(" ", 1)[0]: line.split(" ", 1)[-1] for line in text.splitlines()}
+def make_files(tested):
+    for name, text in NETLISTS.items():
+        tested.write(name, text)
+    with open(places.example("c17.v"), "rb") as file:
+        tested.write("c17.v", file.read())
+    for name, words in CERTIFICATES.items():
+        done = tested.run("worst", *words, "--cert", name)
+        if done.status != 0 or tested.read(name) is None:
+            raise RuntimeError(f"worst {words}: {done}, no certificate")
 
 
-def is_accepted(program, folder, words, certificate, worst):
-    """Whether `check` accepts a certificate with this time, where one was asked for."""
-    if "--cert" not in words:
-        return certificate is None
-    done = subprocess.run([program, "check", words[1], "out.cert"], cwd=folder, capture_output=True, timeout=60)
-    return certificate is not None and done.stdout.decode().splitlines()[:1] == [f"accepted {worst}"]
+def command_of(refuser, words, is_rooted):
+    """A command with what is known of it where memory suffices."""
+    ample, growths = refuser.run(words)
+    if ample.status not in (0, 3) or not ample.out or growths == 0:
+        raise RuntimeError(f"{' '.join(words)}: {ample}, {growths} growths")
+    worst = None
+    if words[0] == "worst":
+        worst = reports.figures_of(refuser.run(with_budget(words, None))[0].out).low
+    rooted = range(0)
+    if is_rooted:
+        before = max(refuser.run(with_budget(words, "00000"))[1] for _ in range(5))
+        rooted = range(before + 1, growths - OF_REPORT + 1)
+        if not rooted:
+            raise RuntimeError(f"{' '.join(words)}: {growths} growths, {before} of them with a budget of 0: none after the root")
+    return Command(words, ample, worst, growths, rooted)
 
 
-def is_right(ample, got, worst, accepted):
-    """By what a run with refused growths ended, None where it told anything wrong. The worst delay is that of what a search asks."""
-    status, out, err, certificate = got
+def is_accepted(tested, command, got):
+    """Whether `check` accepts the certificate of a run with the worst delay, where one was asked for."""
+    if "--cert" not in command.words:
+        return got.written[0] is None
+    return got.written[0] is not None and reports.accepted_time(tested.run("check", command.words[1], "out.cert").out) == command.worst
+
+
+def how_it_ended(tested, command, got):
+    """By what a run with refused growths ended, None where it reported anything wrong."""
+    ample = command.ample
     if got == ample:
         return "the same"
-    if status == 5 and err in ("tdelay: out of memory\n", "") and ample[1].startswith(out):
-        whole = certificate in (None, b"") or (ample[3] or b"").startswith(certificate)
+    if got.status == 5 and got.err in ("tdelay: out of memory\n", "") and ample.out.startswith(got.out):
+        whole = all(text in (None, wanted) for text, wanted in zip(got.written, ample.written))
         return "out of memory" if whole else None
-    told = lines_of(out)
-    if status == 3 and told.get("cause") == "memory" and err == "" and certificate is None and worst is not None:
-        low, high = map(int, told["between"].split())
-        return "between" if low <= worst <= high else None
-    if status == 0 and err == "" and worst is not None and told.get("exact") == str(worst) and accepted():
+    figures = reports.figures_of(got.out)
+    if got.err or figures is None or command.worst is None:
+        return None
+    if got.status == 3 and "\ncause memory\n" in got.out and got.written == (None, None):
+        return "between" if figures.low <= command.worst <= figures.high else None
+    if got.status == 0 and figures == (command.worst, command.worst) and is_accepted(tested, command, got):
         return "exact in another way"
     return None
 
 
-def main():
-    program = os.path.abspath(sys.argv[1]) if len(sys.argv) > 1 else os.path.join(TOP, "crates/tdelay/out/tdelay")
-    wrong = 0
-    with tempfile.TemporaryDirectory() as folder:
-        shim = os.path.join(folder, "shim.so")
-        subprocess.run(["cc", "-shared", "-fPIC", "-O1", "-x", "c", "-o", shim, "-"], input=SHIM.encode(), check=True)
-        for name, text in (("inverter.v", INVERTER), ("apart.v", APART)):
-            with open(os.path.join(folder, name), "w") as file:
-                file.write(text)
-        with open(os.path.join(TOP, "examples/c17.v"), "rb") as file, open(os.path.join(folder, "c17.v"), "wb") as copy:
-            copy.write(file.read())
-        made = run(program, shim, folder, ["worst", "apart.v", "--cert", "out.cert"], 0, -1)
-        with open(os.path.join(folder, "apart.cert"), "wb") as file:
-            file.write(made[3])
-        made = run(program, shim, folder, ["worst", "apart.v", "--flips", "1", "--at", "0,2", "--cert", "out.cert"], 0, -1)
-        with open(os.path.join(folder, "few.cert"), "wb") as file:
-            file.write(made[3])
-        for name, first in (("zero.cert", "0."), ("one.cert", "1.")):
-            made = run(program, shim, folder, ["worst", "apart.v", "--first", first, "--cert", "out.cert"], 0, -1)
-            with open(os.path.join(folder, name), "wb") as file:
-                file.write(made[3])
-        commands = [
-            ["sim", "inverter.v", "0", "1"],
-            ["sim", "c17.v", "01010", "01110"],
-            ["bound", "c17.v", "--first", "0.0..", "--second", ".1..."],
-            ["worst", "c17.v"],
-            ["worst", "apart.v", "--cert", "out.cert"],
-            ["worst", "apart.v", "--budget", "2"],
-            ["check", "apart.v", "apart.cert"],
-            ["sim", "apart.v", "01", "10", "--at", "0,2"],
-            ["bound", "apart.v", "--first", "0.", "--at", "0,2"],
-            ["worst", "apart.v", "--flips", "1", "--cert", "out.cert"],
-            ["worst", "apart.v", "--first", "0.", "--hold", ".=", "--at", "3,0", "--cert", "out.cert"],
-            ["worst", "apart.v", "--flips", "1", "--budget", "2"],
-            ["check", "apart.v", "few.cert"],
-            ["worst", "apart.v", "--workers", "2", "--cert", "out.cert"],
-            ["parts", "apart.v", "--parts", "5"],
-            ["parts", "apart.v", "--parts", "5", "--strategy", "lead"],
-            ["join", "apart.v", "zero.cert", "one.cert", "--cert", "out.cert"],
-        ]
-        for words in commands:
-            ample = run(program, shim, folder, words, 0, -1)
-            worst = None
-            if words[0] == "worst":
-                whole = run(program, shim, folder, without_budget(words), 0, -1)
-                worst = int(lines_of(whole[1])["exact"])
-                ample = run(program, shim, folder, words, 0, -1)
-            with open(os.path.join(folder, "growths")) as file:
-                growths = int(file.read())
-            ends = {}
-            for first in range(1, growths + 1):
-                for last in (first, 10**9):
-                    got = run(program, shim, folder, words, first, last)
-                    how = is_right(ample, got, worst, lambda: is_accepted(program, folder, words, got[3], worst))
-                    if how is None:
-                        wrong += 1
-                        print("wrong:", " ".join(words), first, last, got)
-                    ends[how] = ends.get(how, 0) + 1
-            told = ", ".join(f"{count} {how}" for how, count in sorted(ends.items(), key=str))
-            print(f"{' '.join(words)}: status {ample[0]}, {growths} growths; refused: {told}")
-            wrong += growths == 0
-    return 1 if wrong else 0
+def try_growth(tested, refuser, command, first, last):
+    """A case: the growths from `first` to `last` are refused. Gives how it ended."""
+    got, growths = refuser.run(command.words, first, last)
+    how = how_it_ended(tested, command, got)
+    has_to_answer = first == last and first in command.rooted
+    if how is None or has_to_answer and how == "out of memory":
+        tested.fault(f"{' '.join(command.words)}, growths {first} to {last} of {command.growths} refused: {got}")
+    kinds = [how or "wrong"] + ["growth refused"] * (first <= growths)
+    tested.case(*kinds, *["root known, answered"] * (has_to_answer and first <= growths and how not in (None, "out of memory")))
+    return how
+
+
+def chosen(tested, commands):
+    """The growths that are tried, by commands: those after roots first, then a random choice of the others, all where so many are asked for."""
+    every = [(place, first, last) for place, command in enumerate(commands) for first in range(1, command.growths + 1) for last in (first, NEVER)]
+    tested.random.shuffle(every)
+    every.sort(key=lambda it: not (it[1] == it[2] and it[1] in commands[it[0]].rooted))
+    return sorted(every[: tested.most])
+
+
+def work(tested):
+    make_files(tested)
+    refuser = Refuser(tested)
+    commands = [command_of(refuser, words, words in ROOTED) for words in ROOTED + OTHERS]
+    ends = Counter()
+    try:
+        for place, first, last in chosen(tested, commands):
+            ends[place, try_growth(tested, refuser, commands[place], first, last)] += 1
+    finally:
+        for place, command in enumerate(commands):
+            counts = ", ".join(f"{count} {how}" for (which, how), count in sorted(ends.items(), key=str) if which == place)
+            after = f", {len(command.rooted)} of them after the root" if command.rooted else ""
+            print(f"{' '.join(command.words)}: {command.growths} growths{after}: {counts}")
+
+
+def shares(tested, _cut):
+    tested.require("growth refused", 0.95)
+    tested.require("out of memory", 0.3)
+    tested.require("root known, answered", 0.1)
+    tested.require("between", 0.01)
 
 
 if __name__ == "__main__":
-    sys.exit(main())
+    sys.exit(check.main(work, __doc__, CASES, shares, needs=["cc"]))

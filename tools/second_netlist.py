@@ -61,7 +61,8 @@ SCALES = ("s", "ms", "us", "ns", "ps", "fs")
 Gate = namedtuple("Gate", "kind rise fall output inputs")
 Delays = namedtuple("Delays", "rise fall")
 # Here nets have numbers: the inputs, the levels 0 and 1, then the outputs of the gates, each of which comes behind those that it reads.
-Circuit = namedtuple("Circuit", "unit defaulted inputs gates outputs names")
+# `nets` are the names of all nets as reports print them, by their numbers.
+Circuit = namedtuple("Circuit", "unit defaulted inputs gates outputs nets")
 # What a text declares: its ports in order, a name's direction, a name's range (empty without one), and which names are wires.
 Declared = namedtuple("Declared", "ports directions ranges wires")
 
@@ -212,4 +213,5 @@ def read_circuit(text, defaults=Delays(1, 1)):
     gates = in_order(gates)
     numbers = {net: number for number, net in enumerate([*inputs, 0, 1, *(gate.output for gate in gates)])}
     gates = [gate._replace(inputs=[numbers[net] for net in gate.inputs]) for gate in gates]
-    return Circuit(unit, defaulted, len(inputs), gates, [numbers[net] for net in outputs], [printed(net) for net in outputs])
+    names = [f"1'b{net}" if net in (0, 1) else printed(net) for net in numbers]
+    return Circuit(unit, defaulted, len(inputs), gates, [numbers[net] for net in outputs], names)

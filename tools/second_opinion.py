@@ -1,12 +1,13 @@
 #!/usr/bin/env python3
-"""A second opinion on certificates of `tdelay worst` (versions 1 to 4), and on the runs of `tdelay sim`.
+"""A second opinion on certificates of `tdelay worst` (versions 1 to 4), and on the runs of `tdelay sim` and `tdelay path`.
 
     second_opinion.py check FILE CERT [--default-rise N] [--default-fall N]
     second_opinion.py sim FILE FROM TO [--at M,M,..] [--default-rise N] [--default-fall N]
+    second_opinion.py path FILE FROM TO [--at M,M,..] [--output NAME] [--default-rise N] [--default-fall N]
 
-prints what `tdelay check` and `tdelay sim` print, and ends with their exit statuses. Written from docs/CERTIFICATE.md, docs/MODEL.md,
-docs/MODEL-DOMAINS.md and docs/MODEL-PROGRAM.md alone, in Python's standard library: it shares nothing with the project, no code, no
-proof and no toolchain. What differs: a fault of the netlist is told without its number and line, a loop without a net on it, and a bad
+prints what `tdelay` prints for these words, and ends with its exit statuses. Written from docs/CERTIFICATE.md, docs/MODEL.md,
+docs/MODEL-DOMAINS.md, docs/MODEL-PROGRAM.md and docs/COMMANDS.md alone, in Python's standard library: it shares nothing with the project, no
+code, no proof and no toolchain. What differs: a fault of the netlist is told without its number and line, a loop without a net on it, and a bad
 command line in argparse's words. It is slow, since each leaf is bounded from nothing.
 """
 
@@ -439,8 +440,49 @@ def sim(circuit, first, second, at):
     """`sim` of the words of a command line."""
     pair = woven(vector_of("FROM", first, circuit.inputs), vector_of("TO", second, circuit.inputs))
     moments = lasts(RUN, circuit, pair, moments_of(at, circuit.inputs))
-    lines = [f"last {name} {'never' if last is None else last}" for name, last in zip(circuit.names, moments)]
+    names = [circuit.nets[net] for net in circuit.outputs]
+    lines = [f"last {name} {'never' if last is None else last}" for name, last in zip(names, moments)]
     return report([f"unit {circuit.unit}", f"defaulted {circuit.defaulted}", *lines, f"time {latest_of(moments)}"]), "", 0
+
+
+def change_line(circuit, net, moment, levels, cause):
+    return " ".join(["change", str(moment), circuit.nets[net], *("01x"[level] for level in levels), cause])
+
+
+def chain(circuit, waves, net):
+    """The lines of the changes that lead to the last change of a net, the first of them first."""
+    lines = []
+    place = len(waves[net][1]) - 1
+    first_gate = circuit.inputs + 2
+    while True:
+        start, changes = waves[net]
+        moment, level = changes[place]
+        levels = [changes[place - 1][1] if place else start, level]
+        if net < circuit.inputs:
+            lines.append(change_line(circuit, net, moment, levels, "input"))
+            return lines[::-1]
+        gate = circuit.gates[net - first_gate]
+        delay = quickest_to(level, gate.rise, gate.fall)
+        lines.append(change_line(circuit, net, moment, levels, f"{gate.kind} {delay}"))
+        moments = [[at for at, _ in waves[terminal][1]] for terminal in gate.inputs]
+        which = next(which for which, at in enumerate(moments) if moment - delay in at)
+        net, place = gate.inputs[which], moments[which].index(moment - delay)
+
+
+def path(circuit, first, second, at, output=None):
+    """`path` of the words of a command line: of the output of a name, else of the first one that changes last."""
+    pair = woven(vector_of("FROM", first, circuit.inputs), vector_of("TO", second, circuit.inputs))
+    moments = moments_of(at, circuit.inputs)
+    named = [net for net in circuit.outputs if output in (None, circuit.nets[net])]
+    if output is not None and not named:
+        raise Refusal("no output of this name", 2)
+    waves = signals(RUN, circuit, pair, moments)
+    changing = [net for net in named if waves[net][1]]
+    if changing:
+        lines = chain(circuit, waves, max(changing, key=lambda net: RUN.last(waves[net])))
+    else:
+        lines = ["time 0" if output is None else f"last {output} never"]
+    return report([f"unit {circuit.unit}", f"defaulted {circuit.defaulted}", *lines]), "", 0
 
 
 def delay_in(word):
@@ -452,13 +494,15 @@ def delay_in(word):
 def command_line():
     parser = argparse.ArgumentParser(description=__doc__.split("\n", 1)[0])
     commands = parser.add_subparsers(dest="command", required=True)
-    for command, words in {"check": ("FILE", "CERT"), "sim": ("FILE", "FROM", "TO")}.items():
+    for command, words in {"check": ("FILE", "CERT"), "sim": ("FILE", "FROM", "TO"), "path": ("FILE", "FROM", "TO")}.items():
         sub = commands.add_parser(command)
         for word in words:
             sub.add_argument(word)
         for change in ("rise", "fall"):
             sub.add_argument(f"--default-{change}", type=delay_in, default=1, metavar="N")
-    commands.choices["sim"].add_argument("--at", metavar="M,M,..")
+    for command in ("sim", "path"):
+        commands.choices[command].add_argument("--at", metavar="M,M,..")
+    commands.choices["path"].add_argument("--output", metavar="NAME")
     return parser
 
 
@@ -476,6 +520,8 @@ def answer(asked):
     netlist, defaults = bytes_of(asked.FILE), Delays(asked.default_rise, asked.default_fall)
     if asked.command == "sim":
         return sim(read_circuit(netlist, defaults), asked.FROM, asked.TO, asked.at)
+    if asked.command == "path":
+        return path(read_circuit(netlist, defaults), asked.FROM, asked.TO, asked.at, asked.output)
     certificate = bytes_of(asked.CERT)
     return check(read_circuit(netlist, defaults), certificate)
 
