@@ -1,28 +1,28 @@
 #!/usr/bin/env python3
-"""collisions.py [PROGRAM] [--sizes MIB ..]: how much longer `tdelay` takes for names that collide in a hash table of a fixed seed.
+"""Looks that names which collide in a hash table of a fixed seed take no longer than others.
 
 Each colliding name is made of eighteen blocks, and each block is one of two, which lead the hasher of the tables (indexmap's default one, which
-takes a name byte by byte) from one state of 64 bits to one state. So all 2^18 names have one hash, whatever stands behind a name. Of
-each size it makes a text of gates and wires with such names and one with as many random names of that length, and times `sim` on both. Prints
-the processor's seconds and their ratio, and ends with status 1 where a ratio is above ten, or where a run doesn't end as it should.
+takes a name byte by byte) from one state of 64 bits to one state. So all 2^18 names have one hash, whatever stands after a name. Each case is
+a size of text, 1, 4, 16 and 64 MiB, of which two are tried where nothing is said: a text of gates and wires with such names, and one with as
+many random names of that length, `sim` of both. The colliding names may take ten times the processor's seconds of the others at most; under
+a fixed seed they take more than twenty times.
 """
 
-import argparse
 import os
-import random
 import resource
-import signal
-import subprocess
 import sys
-import tempfile
 
-TOP = os.path.dirname(os.path.dirname(os.path.abspath(__file__)))
+from lib import check, running
+
+CASES = 2
+SIZES = [1, 4, 16, 64]
 MAX_BYTES = 67_108_864
 MAX_GATES = 200_000
 # The ratio above which the names take too long.
 TOO_LONG = 10
-# The most seconds of the processor that other names may take.
-LONGEST = 60
+# The most seconds that other names may take.
+LONGEST = 45
+REPORT = b"unit 1 ns\ndefaulted 0\nlast y 1\ntime 1\n"
 # Of each pair, both blocks lead to one state of the hasher: found by a search for collisions with distinguished points, some 2^32 steps a pair.
 BLOCKS = """
 BOzJL94H9NC jlND7_n$2xC t0wh1xnS9BP bJeJffBbc2H vnpxiIsqQnA sg0gGcycZgO FG9B_ZBbBOL PXCNfMPYSII YZcycILBNhJ YJXA0s2ZbSA q9zNYZHSZPF
@@ -57,7 +57,7 @@ def colliding(number):
 def write_netlist(path, names):
     """A netlist in which these names, as many as may be, are outputs of gates, and the others wires."""
     driven, wires = names[:MAX_GATES - 1], names[MAX_GATES - 1 :]
-    with open(path, "w") as file:
+    with open(path, "w", encoding="ascii") as file:
         file.write("module t(a,y);\ninput a;\noutput y;\n")
         if wires:
             file.write("wire " + ",".join(f"\\{name} " for name in wires) + ";\n")
@@ -71,47 +71,43 @@ def seconds_so_far():
     return used.ru_utime + used.ru_stime
 
 
-def seconds_of(program, path, longest):
-    """The processor's seconds of a run, None where it takes longer than the whole seconds given."""
+def seconds_of(tested, longest):
+    """The processor's seconds of a run, None where it takes longer than the seconds given."""
     start = seconds_so_far()
-    limit = lambda: resource.setrlimit(resource.RLIMIT_CPU, (longest, longest))
-    done = subprocess.run([program, "sim", path, "0", "1"], preexec_fn=limit, stdin=subprocess.DEVNULL, capture_output=True, text=True)
-    took = seconds_so_far() - start
-    if done.returncode == -signal.SIGKILL and took > longest - 1:
+    try:
+        done = tested.run_bytes("sim", "t.v", "0", "1", seconds=longest)
+    except running.Hangs:
+        if longest == LONGEST:
+            raise
         return None
-    if done.returncode != 0 or done.stdout != "unit 1 ns\ndefaulted 0\nlast y 1\ntime 1\n":
-        sys.exit(f"wrong: status {done.returncode}: {done.stdout}{done.stderr}")
-    return took
+    if tuple(done) != (0, REPORT, b""):
+        tested.fault(f"{done}")
+    return seconds_so_far() - start
 
 
-def main():
-    parser = argparse.ArgumentParser()
-    parser.add_argument("program", nargs="?", default=os.path.join(TOP, "crates/tdelay/out/tdelay"))
-    parser.add_argument("--sizes", type=int, nargs="+", default=[1, 4, 16, 64])
-    parser.add_argument("--seed", type=int, default=1)
-    given = parser.parse_args()
-    program, rng = os.path.abspath(given.program), random.Random(given.seed)
-    letters = "".join(BLOCKS)
-    too_long = 0
-    assert len({hash_of(colliding(rng.randrange(2**18))) for _ in range(100)}) == 1
-    with tempfile.TemporaryDirectory() as folder:
-        path = os.path.join(folder, "t.v")
-        for size in given.sizes:
-            count = min(2 ** len(PAIRS), (size * 2**20 - 100) // (LENGTH + 7))
-            write_netlist(path, ["".join(rng.choices(letters, k=LENGTH)) for _ in range(count)])
-            others = [seconds_of(program, path, LONGEST) for _ in range(3)]
-            if None in others:
-                sys.exit(f"wrong: {size} MiB of other names take more than {LONGEST} s")
-            other = min(others)
-            write_netlist(path, [colliding(number) for number in range(count)])
-            longest = int(2 * TOO_LONG * other) + 1
-            took = seconds_of(program, path, longest)
-            ratio = (took or longest) / other
-            too_long += ratio > TOO_LONG
-            told = f"{took:.2f} s, {ratio:.1f} times" if took else f"more than {longest} s, more than {longest / other:.0f} times"
-            print(f"{size} MiB, {count} names of {LENGTH} bytes: other names {other:.2f} s, colliding ones {told}", flush=True)
-    return 1 if too_long else 0
+def compared(tested, size):
+    """A case: how long texts of so many MiB take."""
+    rng, letters, path = tested.random, "".join(BLOCKS), os.path.join(tested.folder, "t.v")
+    count = min(2 ** len(PAIRS), (size * 2**20 - 100) // (LENGTH + 7))
+    write_netlist(path, ["".join(rng.choices(letters, k=LENGTH)) for _ in range(count)])
+    other = max(0.01, min(seconds_of(tested, LONGEST) for _ in range(3)))
+    write_netlist(path, [colliding(number) for number in range(count)])
+    # By the clock a run takes longer than by the processor where others are at work.
+    longest = 4 * TOO_LONG * other + 10
+    took = seconds_of(tested, longest)
+    print(f"{size} MiB, {count} names of {LENGTH} bytes: other names {other:.2f} s, colliding ones {took and round(took, 2)} s")
+    if took is None or took > TOO_LONG * other:
+        tested.fault(f"{size} MiB of colliding names take {took or 'more than'} {longest} s, where other names take {other:.2f} s")
+    tested.case()
+
+
+def work(tested):
+    names = [colliding(tested.random.randrange(2 ** len(PAIRS))) for _ in range(100)]
+    if len({hash_of(name) for name in names}) != 1:
+        tested.fault("the names don't collide")
+    for size in SIZES:
+        compared(tested, size)
 
 
 if __name__ == "__main__":
-    sys.exit(main())
+    sys.exit(check.main(work, __doc__, CASES))

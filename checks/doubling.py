@@ -1,28 +1,31 @@
 #!/usr/bin/env python3
-"""doubling.py [PROGRAM] [--levels N ..] [--seconds S]: runs `tdelay` on netlists whose changes double from level to level.
+"""Runs the program on netlists whose changes double from level to level.
 
 Each level is an xor of the level before and a delayed copy of it, whose delays halve from level to level, so that no two changes meet and no
 pulse is lost: level k changes 2^k times once the input does. For up to 12 levels that is counted by the simulation of second_opinion.py.
-Each command runs with 200 MB and with 1 GB of address space. It must give the right figures; end with status 5 and
-`tdelay: out of memory`; or, a search, say `between` with figures that hold. A run that takes longer than S seconds (120 where left
-out) is told, and stopped. Prints a line for each run, and ends with status 1 where one crashed or told anything else.
+Each case is a command with 200 MB or 1 GB of address space. It must give the right figures; end with status 5 and `tdelay: out of memory`; or,
+a search, answer `between` with figures that hold. A run that takes longer than 120 s, which more than 22 levels may, is counted as such, and
+stopped. Where nothing is said the levels are 12, 20 and 22: then each run ends. Of 100 cases 20 at least are right, and 5 out of memory.
 """
 
-import argparse
 import os
 import re
-import resource
-import subprocess
 import sys
-import tempfile
-import time
+
+from lib import check, running
 
 import second_opinion
 
-TOP = os.path.dirname(os.path.dirname(os.path.abspath(__file__)))
+CASES = 30
 BILLION = 1_000_000_000
+# The levels, of which the first three are tried where nothing is said.
+LEVELS = (12, 20, 22, 24, 28, 40)
 # The limits of memory, in megabytes.
 SIZES = (200, 1000)
+# The longest that a run may take, in seconds: of few levels, of more.
+SOON, LONGEST = 50, 120
+COMMANDS = [["sim", "t.v", "0", "1"], ["sim", "t.v", "0", "1", "--vcd", "out.vcd"], ["path", "t.v", "0", "1"], ["bound", "t.v", "--edges"]]
+COMMANDS += [["worst", "t.v", "--budget", "10"]]
 
 
 def netlist_of(levels):
@@ -41,77 +44,69 @@ def netlist_of(levels):
     return "module t(a,y);\ninput a;\noutput y;\n" + "\n".join(lines) + "\nendmodule\n", last
 
 
-def count_changes(levels):
-    """Ends the program unless the changes double, by another simulation than the program's."""
+def count_changes(tested, levels):
+    """Looks that the changes double, by another simulation than the program's."""
     circuit = second_opinion.read_circuit(netlist_of(levels)[0].encode())
     waves = second_opinion.signals(second_opinion.RUN, circuit, [0, 1], [0])
     counts = [len(wave[1]) for wave, gate in zip(waves[3:], circuit.gates) if gate[0] == "xor"]
-    assert counts == [2 ** (place + 1) for place in range(levels)], counts
-
-
-def run(program, folder, words, megabytes, seconds):
-    """The status, standard output and standard error of a run; the status is None where it took too long."""
-
-    def limit():
-        resource.setrlimit(resource.RLIMIT_CORE, (0, 0))
-        resource.setrlimit(resource.RLIMIT_AS, (megabytes * 10**6, megabytes * 10**6))
-
-    try:
-        done = subprocess.run([program, *words], cwd=folder, preexec_fn=limit, stdin=subprocess.DEVNULL, capture_output=True, text=True, timeout=seconds)
-    except subprocess.TimeoutExpired:
-        return None, "", ""
-    return done.returncode, done.stdout, done.stderr
+    if counts != [2 ** (place + 1) for place in range(levels)]:
+        tested.fault(f"{levels} levels change {counts} times")
 
 
 def is_right(words, out, last):
     """Whether the figures of an output are those of the netlist."""
-    found = re.findall(r"(?m)^(?:last y|time|a|exact) (\d+)$", out)
+    found = re.findall(r"(?m)^(?:last y|time|a|e|exact) (\d+)$", out)
     if words[0] == "path":
         found = re.findall(r"(?m)^change (\d+) ", out)[-1:]
-    bounds = [int(number) for number in re.findall(r"(?m)^[tm] (\d+)$", out)]
+    bounds = [int(number) for number in re.findall(r"(?m)^[tmn] (\d+)$", out)]
     return bool(found) and all(int(number) == last for number in found) and all(last <= bound for bound in bounds)
 
 
-def how_it_ended(words, last, folder, got):
+def how_it_ended(words, last, done, has_waves):
     """By what a run ended, None where it did anything wrong."""
-    status, out, err = got
-    if status is None:
-        return "not within the time"
-    if status == 5 and err == "tdelay: out of memory\n" and not os.path.exists(os.path.join(folder, "out.vcd")):
+    if done.status == 5 and done.err == "tdelay: out of memory\n" and not has_waves:
         return "out of memory"
-    if status == 0 and err == "" and is_right(words, out, last):
+    if done.status == 0 and done.err == "" and is_right(words, done.out, last):
         return "right"
-    between = re.search(r"(?m)^between (\d+) (\d+)$", out)
-    if status == 3 and err == "" and between and int(between[1]) <= last <= int(between[2]):
-        return f"between {between[1]} {between[2]}, {'memory' if 'cause memory' in out else 'budget'}"
+    between = re.search(r"(?m)^between (\d+) (\d+)$", done.out)
+    if done.status == 3 and done.err == "" and between and int(between[1]) <= last <= int(between[2]):
+        return "between, memory" if "cause memory" in done.out else "between, budget"
     return None
 
 
-def main():
-    parser = argparse.ArgumentParser()
-    parser.add_argument("program", nargs="?", default=os.path.join(TOP, "crates/tdelay/out/tdelay"))
-    parser.add_argument("--levels", type=int, nargs="+", default=[20, 24, 28, 40])
-    parser.add_argument("--seconds", type=float, default=120)
-    given = parser.parse_args()
-    program, wrong = os.path.abspath(given.program), 0
+def one_run(tested, levels, words, megabytes, last):
+    """A case: how a run ends."""
+    tested.remove("out.vcd")
+    seconds = SOON if levels <= 22 else LONGEST
+    try:
+        done = tested.run(*words, megabytes=megabytes, seconds=seconds)
+        how = how_it_ended(words, last, done, os.path.exists(os.path.join(tested.folder, "out.vcd")))
+    except running.Hangs:
+        if levels <= 22:
+            raise
+        done, how = None, "not within the time"
+    if how is None:
+        tested.fault(f"{levels} levels, {megabytes} MB: {' '.join(words)}: {str(done)[:400]}")
+    print(f"{levels} levels, {megabytes} MB: {' '.join(words)}: {how}", flush=True)
+    tested.case(how or "wrong")
+
+
+def work(tested):
     for levels in range(1, 13):
-        count_changes(levels)
-    commands = [["sim", "t.v", "0", "1"], ["sim", "t.v", "0", "1", "--vcd", "out.vcd"], ["path", "t.v", "0", "1"], ["bound", "t.v"]]
-    commands += [["worst", "t.v", "--budget", "10"]]
-    for levels in given.levels:
+        count_changes(tested, levels)
+    for levels in LEVELS:
         text, last = netlist_of(levels)
-        for words in commands:
-            for size in SIZES:
-                with tempfile.TemporaryDirectory() as folder:
-                    with open(os.path.join(folder, "t.v"), "w") as file:
-                        file.write(text)
-                    start = time.monotonic()
-                    how = how_it_ended(words, last, folder, got := run(program, folder, words, size, given.seconds))
-                wrong += how is None
-                told = how or f"wrong: {got[0]} {got[1][:200]} {got[2][:200]}"
-                print(f"{levels} levels, {size} MB: {' '.join(words)}: {time.monotonic() - start:.1f} s, {told}", flush=True)
-    return 1 if wrong else 0
+        tested.write("t.v", text)
+        for words in COMMANDS:
+            for megabytes in SIZES:
+                one_run(tested, levels, words, megabytes, last)
+
+
+def shares(tested, cut):
+    tested.require("right", 0.2)
+    if not cut or tested.cases >= CASES:
+        tested.require("out of memory", 0.05)
 
 
 if __name__ == "__main__":
-    sys.exit(main())
+    sys.exit(check.main(work, __doc__, CASES, shares))

@@ -1,24 +1,47 @@
 #!/usr/bin/env python3
-"""readme.py PROGRAM: looks that README.md, docs/COMMANDS.md and docs/CONTRACTS.md tell the truth where a script can see it.
+"""Looks that the pages say what is so, where a script can see it.
 
-Each contract that they quote stands in the sources, word for word, and each command that they or examples/README.md show prints with PROGRAM
-(a built `tdelay`) what they show. Run it at the top of the repository. Exit status 1 where anything differs.
+README.md, docs/COMMANDS.md and examples/README.md are read from top to bottom, one after the other, and their commands run in one folder. A
+block that begins as a module is a netlist, of the last name that ends in `.v` before it. Each line of a block `sh` that calls `./tdelay`, and
+each `command FILE.v ..` in backquotes, is run, and ends well. A block without a language is what the last command prints, whole or without
+the head. A text in backquotes that is a line of a report or a message is a line that some command of the pages prints, or one of OTHERS, of
+which they tell in words.
+
+Besides, each contract that README.md and docs/CONTRACTS.md quote stands in the sources, word for word; the numbers of docs/MODEL.md are those
+of tools/model.py, and the picture of the crates is that of tools/picture.py. Each command, block, text and line of a contract is a case.
 """
 
 import glob
 import os
 import re
-import subprocess
 import sys
-import tempfile
 
-PAGES = ["README.md", "docs/COMMANDS.md", "docs/CONTRACTS.md"]
-SHOWN = "\n".join(open(page).read() for page in PAGES)
+from lib import check, places, running
+from lib.netlists import INVERTER, LOST
 
-INVERTER = "module t(a, y);\ninput a;\noutput y;\nnot #(2,3) g(y,a);\nendmodule\n"
-LOST = "module t(a, y);\ninput a;\noutput y;\n%s\nendmodule\n"
-LOST_GATES = "not #1 n(b,a); and #2 g(y,a,b);"
-SKEW = "module t(a, b, y);\ninput a, b;\noutput y;\nand #2 g(y,a,b);\nendmodule\n"
+COMMANDS = "sim|path|bound|worst|parts|join|info|check"
+# The pages with commands, and how many each has at least.
+PAGES = {"README.md": 10, "docs/COMMANDS.md": 7, "examples/README.md": 7}
+# The page that quotes contracts, and how many lines it quotes at least.
+CONTRACTS, QUOTED = "docs/CONTRACTS.md", 120
+# Commands that a page tells of in words, with files that it tells of in words.
+OTHERS = {
+    "README.md": ["worst lost.v --budget 1", "bound inverter.v"],
+    "docs/COMMANDS.md": [
+        "sim skew.v 01 10", "worst skew.v", "check skew.v skew.cert", "worst inverter.v --first 0 --second 1 --hold =",
+        "check inverter.v other_pair.cert", "check inverter.v other_leaf.cert", "check inverter.v other_bound.cert",
+    ],
+    "examples/README.md": [],
+}
+# Files that a page tells of in words: netlists, and a certificate of the page with one text in place of another.
+FILES = {"inverter.v": INVERTER, "lost.v": LOST}
+CHANGED = {
+    "other_pair.cert": ("still.cert", b"to 0", b"to 1"), "other_leaf.cert": ("still.cert", b"b a 0", b"none"),
+    "other_bound.cert": ("inverter.cert", b"b a 3", b"b a 2"),
+}
+LINE = re.compile(
+    r"(?:exact|accepted|time|nodes|[atmen]) \d+|t none|between \d+ \d+|last (?!NAME)\w+ (?:\d+|never)|refused \d \w+(?: line \d+)?|at [\d ]+|tdelay: [a-z ]+"
+)
 
 
 def plain(text):
@@ -27,133 +50,129 @@ def plain(text):
     return text.replace("( ", "(").replace(", )", ",)").replace(",)", ")")
 
 
-def quoted():
-    """The lines of contracts that the pages quote."""
-    for block in re.findall(r"```\n(pub fn.*?)```", SHOWN, flags=re.S):
-        yield from re.split(r"\n(?=pub fn|    ensures|    requires)", block.strip())
-
-
 def sources():
     """All code, without comments."""
-    texts = (open(path).read() for path in sorted(glob.glob("crates/*/src/*.rt")))
+    paths = sorted(glob.glob(os.path.join(places.TOP, "crates/*/src/*.rt")))
+    texts = (places.text_of(path) for path in paths)
     return plain(" ".join(re.sub(r"^\s*//.*$", "", text, flags=re.M) for text in texts))
 
 
-def unstated():
-    code = sources()
-    lines = list(quoted())
-    missing = [line for line in lines if plain(line) not in code]
-    print(f"{len(lines)} lines of contracts, {len(missing)} not in the sources")
-    for line in missing:
-        print("  " + plain(line))
-    return len(missing)
+def contracts(tested):
+    """Cases: each line of a contract that the pages quote stands in the sources."""
+    code, count = sources(), 0
+    for page in ("README.md", CONTRACTS):
+        for block in re.findall(r"```\n(pub fn.*?)```", places.text_of(page), flags=re.S):
+            for line in re.split(r"\n(?=pub fn|    ensures|    requires)", block.strip()):
+                count += 1
+                tested.expect(f"{page} quotes {plain(line)}", True, plain(line) in code)
+    if count < QUOTED:
+        tested.fault(f"{count} lines of contracts in the pages, where there have to be {QUOTED}")
 
 
-def shown(folder):
-    """Commands with what the pages show of them: words, texts that one of them has to have, what is printed, exit status, what is told."""
-    with open(os.path.join(folder, "inverter.v"), "w") as file:
-        file.write(INVERTER)
-    with open(os.path.join(folder, "lost.v"), "w") as file:
-        file.write(LOST % LOST_GATES)
-    with open(os.path.join(folder, "skew.v"), "w") as file:
-        file.write(SKEW)
-    exact = "unit 1 ns\ndefaulted 0\nexact 3\nfrom 0\nto 1\nnodes 1\n"
-    short = "between 0 3\ncause budget\nfrom 0\nto 1\nnodes 1\n"
-    run = "unit 1 ns\ndefaulted 6\nlast N22 3\nlast N23 3\ntime 3\n"
-    bounds = "unit 1 ns\ndefaulted 0\na 3\nt none\nm 3\n"
-    head = "unit 1 ns\ndefaulted 0\n"
-    still = "exact 0\nfrom 0\nto 0\nnodes 7\n"
-    named = "accepted 0\nfirst .\nsecond .\nhold .\nflips 0\n"
-    none = ["--first", "0", "--second", "1", "--hold", "="]
-    apart = ["--at", "0,2"]
-    c17 = os.path.abspath("examples/c17.v")
-    yield ["sim", c17, "01010", "01110"], ["./tdelay sim examples/c17.v 01010 01110", run], run, 0, ""
-    changes = "change 0 N3 0 1 input\nchange 1 N11 1 0 nand 1\nchange 2 N16 0 1 nand 1\nchange 3 N22 1 0 nand 1\n"
-    path = "unit 1 ns\ndefaulted 6\n" + changes
-    yield ["path", c17, "01010", "01110"], ["./tdelay path examples/c17.v 01010 01110", path], path, 0, ""
-    other = "tdelay: no output of this name"
-    yield ["path", c17, "01010", "01110", "--output", "N3"], [], "", 2, other + "\n"
-    yield ["bound", c17, "--first", "0.0..", "--second", ".1..."], ["./tdelay bound examples/c17.v --first 0.0.. --second .1..."], None, 0, ""
-    yield ["bound", "inverter.v"], [INVERTER, "`a 3`, `t none`, `m 3`"], bounds, 0, ""
-    yield ["worst", "inverter.v", "--cert", "inverter.cert"], ["./tdelay worst inverter.v --cert inverter.cert", exact], exact, 0, ""
-    yield ["worst", "lost.v", "--budget", "1"], [LOST_GATES, short], head + short, 3, ""
-    yield ["check", "inverter.v", "inverter.cert"], ["./tdelay check inverter.v inverter.cert", "`accepted 3`"], "accepted 3\n", 0, ""
-    inside = "module t\nunit 1 ns\ninputs 1\noutputs 1\ngates 1\ndefaulted 0\ndepth 1\ndelay 2 3\ninput 0 a\noutput 0 y\n"
-    yield ["info", "inverter.v"], ["./tdelay info inverter.v", inside], inside, 0, ""
-    cut = "--first 0 --second .\n--first 1 --second .\n"
-    yield ["parts", "inverter.v", "--parts", "2"], ["./tdelay parts inverter.v --parts 2", cut], cut, 0, ""
-    for first, name in ("0", "low.cert"), ("1", "high.cert"):
-        yield ["worst", "inverter.v", "--first", first, "--second", ".", "--cert", name], [], None, 0, ""
-    whole = exact.replace("nodes 1", "nodes 5")
-    words = ["join", "inverter.v", "low.cert", "high.cert", "--cert", "whole.cert"]
-    yield words, ["./tdelay " + " ".join(words), whole], whole, 0, ""
-    yield ["check", "inverter.v", "whole.cert"], [], None, 0, ""
-    shown_words = ["./tdelay worst inverter.v --flips 0 --cert still.cert", still]
-    yield ["worst", "inverter.v", "--flips", "0", "--cert", "still.cert"], shown_words, head + still, 0, ""
-    yield ["check", "inverter.v", "still.cert"], ["./tdelay check inverter.v still.cert", named], named, 0, ""
-    exchange(folder, "still.cert", "b a 0", "none")
-    empty = "refused 9 LeafNotEmpty line 12"
-    yield ["check", "inverter.v", "changed.cert"], [empty], empty + "\n", 4, ""
-    exchange(folder, "still.cert", "to 0", "to 1")
-    other = "refused 8 PairNotAdmitted"
-    yield ["check", "inverter.v", "changed.cert"], [other], other + "\n", 4, ""
-    refused = "tdelay: no admitted pair"
-    yield ["worst", "inverter.v"] + none, [" ".join(none), refused], "", 1, refused + "\n"
-    yield ["sim", "skew.v", "01", "10"], [SKEW, "`last y never` and `time 0`"], head + "last y never\ntime 0\n", 0, ""
-    shown_words = ["./tdelay sim skew.v 01 10 --at 0,2", "`last y 4` and `time 4`"]
-    yield ["sim", "skew.v", "01", "10"] + apart, shown_words, head + "last y 4\ntime 4\n", 0, ""
-    yield ["worst", "skew.v"], ["in place of 2 where both change at once"], head + "exact 2\nfrom 00\nto 11\nnodes 1\n", 0, ""
-    shown_words = ["./tdelay worst skew.v --at 0,2 --cert skew.cert", "`exact 4` from 00 to 11"]
-    yield ["worst", "skew.v"] + apart + ["--cert", "skew.cert"], shown_words, head + "exact 4\nfrom 00\nto 11\nnodes 1\n", 0, ""
-    repeated = "accepted 4\nfirst ..\nsecond ..\nhold ..\nflips 2\nat 0 2\n"
-    yield ["check", "skew.v", "skew.cert"], ["`at 0 2`"], repeated, 0, ""
+def tools(tested):
+    """Cases: the numbers of the model, and the picture of the crates."""
+    for tool in ("model.py", "picture.py"):
+        done = running.run([sys.executable, os.path.join(places.TOOLS, tool), "--check"], places.TOP)
+        tested.expect(f"{tool}: {done.out}{done.err}", 0, done.status)
 
 
-def exchange(folder, name, old, new):
-    """Writes `changed.cert`, a certificate with one text in place of another where it first stands."""
-    with open(os.path.join(folder, name)) as file:
-        text = file.read()
-    with open(os.path.join(folder, "changed.cert"), "w") as file:
-        file.write(text.replace(old, new, 1))
+def pieces(text):
+    """The pieces of a page in order: prose with None, and blocks with their language."""
+    for number, piece in enumerate(re.split(r"^```", text, flags=re.M)):
+        if number % 2 == 0:
+            yield None, piece
+        else:
+            language, _, body = piece.partition("\n")
+            yield language.strip(), body
 
 
-def misprinted(program):
-    wrong = 0
-    with tempfile.TemporaryDirectory() as folder:
-        for words, texts, printed, status, told in shown(folder):
-            ran = subprocess.run([program] + words, cwd=folder, capture_output=True, text=True)
-            faults = [f"no page has {text!r}" for text in texts if text not in SHOWN]
-            if printed is not None and ran.stdout != printed:
-                faults.append(f"printed {ran.stdout!r}")
-            if ran.stderr != told or ran.returncode != status:
-                faults.append(f"status {ran.returncode}, told {ran.stderr!r}")
-            print(" ".join(words[:1] + [os.path.basename(words[1])] + words[2:]) + ": " + ("; ".join(faults) or "as shown"))
-            wrong += bool(faults)
-    return wrong
+def spans_of(prose):
+    """The texts in backquotes, each on one line."""
+    return [" ".join(span.split()) for span in re.findall(r"(?<!`)`([^`]+)`(?!`)", prose)]
 
 
-def taught():
-    """Each command of examples/README.md, with the block behind it."""
-    text = open("examples/README.md").read()
-    return re.findall(r"```sh\n\./tdelay ([^\n]*)\n```\n\n```\n(.*?)```", text, flags=re.S)
+class Pages:
+    """The pages as they are read, with the folder in which their commands run, and what they printed so far."""
+
+    def __init__(self, tested, folder):
+        self.tested, self.folder, self.name = tested, folder, None
+        self.commands, self.lines, self.spans = 0, set(), []
+        self.last = ""
+        os.symlink(places.EXAMPLES, os.path.join(folder, "examples"))
+        os.symlink(tested.program, os.path.join(folder, "tdelay"))
+
+    def run(self, line, statuses=(0,)):
+        """A case: a command of the page ends well."""
+        done = running.run(["bash", "-c", f"set -o pipefail; {line}"], self.folder)
+        self.commands += 1
+        self.last = done.out
+        self.lines.update((done.out + done.err).splitlines())
+        self.tested.expect(f"{self.name}: {line}: {done.out}{done.err}: the status", True, done.status in statuses)
+
+    def read(self, name, least):
+        """The commands of a page, of which there have to be so many, and those that it tells of in words."""
+        self.name, self.commands, netlist = name, 0, None
+        for language, body in pieces(places.text_of(name)):
+            if language is None:
+                netlist = self.read_prose(body) or netlist
+            elif language == "sh":
+                for line in re.findall(r"^\./tdelay .*$", body, flags=re.M):
+                    self.run(line)
+            elif language == "" and re.match(r"module \w+ ?\(", body):
+                running.write(self.folder, netlist, body)
+            elif language == "" and not re.match(r" +\d+  ", body):
+                self.compare(body)
+        if self.commands < least:
+            self.tested.fault(f"{name}: {self.commands} commands, where there have to be {least}")
+        self.others(OTHERS[name])
+
+    def read_prose(self, prose):
+        """Runs the commands in backquotes, and keeps the other texts. Gives the last name of a netlist."""
+        names = []
+        for span in spans_of(prose):
+            self.spans.append((self.name, span))
+            names += re.findall(r"^\w+\.v$", span)
+            command = re.fullmatch(rf"(?:\./tdelay )?((?:{COMMANDS}) \w+\.v( .*)?)", span)
+            if command and os.path.exists(os.path.join(self.folder, command[1].split()[1])):
+                self.run(f"./tdelay {command[1]}")
+        return names[-1] if names else None
+
+    def compare(self, block):
+        """A case: a block is what the last command prints, or one that the page tells of in words."""
+        shown = block.splitlines()
+        if shown[0].startswith("between "):
+            self.others([command for command in OTHERS[self.name] if "--budget" in command])
+        prints = self.last.splitlines()
+        body = prints[2:] if prints[:1] and prints[0].startswith("unit ") else prints
+        self.tested.expect(f"{self.name}: {shown} is what is printed, {prints}", True, shown in (prints, body))
+
+    def others(self, commands):
+        """Runs commands that the page tells of in words."""
+        for name, text in FILES.items():
+            running.write(self.folder, name, text)
+        for name, (old, one, other) in CHANGED.items():
+            text = running.read(self.folder, old)
+            if text is not None:
+                running.write(self.folder, name, text.replace(one, other, 1))
+        for command in commands:
+            self.run(f"./tdelay {command}", (0, 1, 3, 4))
+
+    def compare_spans(self):
+        """Cases: each text in backquotes that is a line of a report is one that was printed."""
+        for name, span in self.spans:
+            if LINE.fullmatch(span):
+                self.tested.expect(f"{name}: some command prints `{span}`", True, span in self.lines)
 
 
-def mistaught(program):
-    wrong = 0
-    for line, printed in taught():
-        ran = subprocess.run([program] + line.split(), capture_output=True, text=True)
-        differs = ran.stdout != printed or ran.stderr != "" or ran.returncode != 0
-        print(line + ": " + ("differs" if differs else "as shown"))
-        wrong += differs
-    return wrong
-
-
-def main():
-    if len(sys.argv) != 2:
-        sys.exit(__doc__)
-    program = os.path.abspath(sys.argv[1])
-    sys.exit(1 if unstated() + misprinted(program) + mistaught(program) else 0)
+def work(tested):
+    contracts(tested)
+    tools(tested)
+    with running.folder() as folder:
+        pages = Pages(tested, folder)
+        for name, least in PAGES.items():
+            pages.read(name, least)
+        pages.compare_spans()
 
 
 if __name__ == "__main__":
-    main()
+    sys.exit(check.main(work, __doc__))

@@ -16,7 +16,9 @@ import os
 import re
 import sys
 
-from crates import lower_first, uses_of
+TOP = os.path.dirname(os.path.dirname(os.path.abspath(__file__)))
+sys.path.append(os.path.join(TOP, "build"))
+from crates import lower_first, uses_of  # noqa: E402
 
 # The figures that docs/MODEL.md gives: what it calls them, and what they are of.
 FIGURES = {

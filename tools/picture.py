@@ -9,13 +9,15 @@ Without a word it prints the picture. `--write` puts it into docs/ARCHITECTURE.m
 """
 
 import os
+import re
 import sys
 
 sys.path.insert(0, os.path.join(os.path.dirname(os.path.dirname(os.path.abspath(__file__))), "build"))
 from crates import lower_first, uses_of  # noqa: E402
 
 PAGE = "docs/ARCHITECTURE.md"
-START = "<!-- The picture from here to the next comment is written by checks/picture.py. -->\n"
+START = re.compile(r"<!-- The picture from here to the next comment is written by \w+/picture\.py\. -->
+")
 END = "<!-- The picture ends. -->\n"
 WIDTH = 100
 
@@ -80,16 +82,16 @@ def main():
         sys.exit(__doc__)
     with open(PAGE) as file:
         text = file.read()
-    before, start, rest = text.partition(START)
-    shown, end, behind = rest.partition(END)
-    if not start or not end:
+    start = START.search(text)
+    shown, end, behind = text[start.end() :].partition(END) if start else ("", "", "")
+    if not end:
         sys.exit(f"picture.py: {PAGE} lacks the marker comments")
     same = shown == picture()
     if words == ["--check"]:
         print(f"the picture of the crates in {PAGE}: " + ("as crates.txt says" if same else "another one"))
         sys.exit(0 if same else 1)
     with open(PAGE, "w") as file:
-        file.write(before + start + picture() + end + behind)
+        file.write(text[: start.end()] + picture() + end + behind)
 
 
 if __name__ == "__main__":
