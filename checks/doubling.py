@@ -1,11 +1,14 @@
 #!/usr/bin/env python3
 """Runs the program on netlists whose changes double from level to level.
 
-Each level is an xor of the level before and a delayed copy of it, whose delays halve from level to level, so that no two changes meet and no
-pulse is lost: level k changes 2^k times once the input does. For up to 12 levels that is counted by the simulation of second_opinion.py.
-Each case is a command with 200 MB or 1 GB of address space. It must give the right figures; end with status 5 and `tdelay: out of memory`; or,
-a search, answer `between` with figures that hold. A run that takes longer than 120 s, which more than 22 levels may, is counted as such, and
-stopped. Where nothing is said the levels are 12, 20 and 22: then each run ends. Of 100 cases 20 at least are right, and 5 out of memory.
+Each level is an xor of the level before and a delayed copy of it, whose delays halve from level to
+level, so that no two changes meet and no pulse is lost: level k changes 2^k times once the input
+does. For up to 12 levels that is counted by the simulation of second_opinion.py. Each case is a
+command with 200 MB or 1 GB of address space. It must give the right figures; end with status 5 and
+`tdelay: out of memory`; or, a search, answer `between` with figures that hold. A run that takes
+longer than 120 s, which more than 22 levels may, is counted as such, and stopped. Where nothing is
+said the levels are 12, 20 and 22: then each run ends. Of 100 cases 20 at least are right, and 5 out
+of memory.
 """
 
 import os
@@ -23,8 +26,13 @@ LEVELS = (12, 20, 22, 24, 28, 40)
 # The limits of memory, in megabytes.
 SIZES = (200, 1000)
 # The longest that a run may take, in seconds: of few levels, of more.
-SOON, LONGEST = 50, 120
-COMMANDS = [["sim", "t.v", "0", "1"], ["sim", "t.v", "0", "1", "--vcd", "out.vcd"], ["path", "t.v", "0", "1"], ["bound", "t.v", "--edges"]]
+SOON, LONGEST = 40, 120
+COMMANDS = [
+    ["sim", "t.v", "0", "1"],
+    ["sim", "t.v", "0", "1", "--vcd", "out.vcd"],
+    ["path", "t.v", "0", "1"],
+    ["bound", "t.v", "--edges"],
+]
 COMMANDS += [["worst", "t.v", "--budget", "10"]]
 
 
@@ -59,7 +67,11 @@ def is_right(words, out, last):
     if words[0] == "path":
         found = re.findall(r"(?m)^change (\d+) ", out)[-1:]
     bounds = [int(number) for number in re.findall(r"(?m)^[tmn] (\d+)$", out)]
-    return bool(found) and all(int(number) == last for number in found) and all(last <= bound for bound in bounds)
+    return (
+        bool(found)
+        and all(int(number) == last for number in found)
+        and all(last <= bound for bound in bounds)
+    )
 
 
 def how_it_ended(words, last, done, has_waves):
@@ -69,7 +81,12 @@ def how_it_ended(words, last, done, has_waves):
     if done.status == 0 and done.err == "" and is_right(words, done.out, last):
         return "right"
     between = re.search(r"(?m)^between (\d+) (\d+)$", done.out)
-    if done.status == 3 and done.err == "" and between and int(between[1]) <= last <= int(between[2]):
+    if (
+        done.status == 3
+        and done.err == ""
+        and between
+        and int(between[1]) <= last <= int(between[2])
+    ):
         return "between, memory" if "cause memory" in done.out else "between, budget"
     return None
 
@@ -80,7 +97,9 @@ def one_run(tested, levels, words, megabytes, last):
     seconds = SOON if levels <= 22 else LONGEST
     try:
         done = tested.run(*words, megabytes=megabytes, seconds=seconds)
-        how = how_it_ended(words, last, done, os.path.exists(os.path.join(tested.folder, "out.vcd")))
+        how = how_it_ended(
+            words, last, done, os.path.exists(os.path.join(tested.folder, "out.vcd"))
+        )
     except running.Hangs:
         if levels <= 22:
             raise

@@ -221,7 +221,7 @@ def check_full_disk(check, top, room, environment):
 
 
 def check_all(check, program):
-    ran = subprocess.run([program, *WORDS], cwd=TOP, capture_output=True, text=True, timeout=60)
+    ran = subprocess.run([program, *WORDS], cwd=TOP, capture_output=True, text=True, timeout=30)
     check.that(ran.returncode == 0 and "time 3" in ran.stdout, "the program answers", ran.stderr)
     if check.failed:
         return

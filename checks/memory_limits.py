@@ -1,11 +1,12 @@
 #!/usr/bin/env python3
 """Runs each command with many sizes of memory, from too little to enough.
 
-The circuits are examples/mult_8.v and a netlist of 200,000 gates, made here. Each case is a run with a limit on its address space (as
-`ulimit -v` sets it). It may answer what a run without a limit answers; or end with status 5, `tdelay: out of memory` and a beginning of that
-output; or, a search, answer `between` with `cause memory` and figures that the other answer's don't contradict. What is written to a file
-is whole, or not there. The sizes of a command lie evenly between that with which `--help` runs and one that suffices. Of 100 cases 15 at
-least are out of memory, and 20 the same.
+The circuits are examples/mult_8.v and a netlist of 200,000 gates, made here. Each case is a run
+with a limit on its address space (as `ulimit -v` sets it). It may answer what a run without a limit
+answers; or end with status 5, `tdelay: out of memory` and a beginning of that output; or, a search,
+answer `between` with `cause memory` and figures that the other answer's don't contradict. What is
+written to a file is whole, or not there. The sizes of a command lie evenly between that with which
+`--help` runs and one that suffices. Of 100 cases 15 at least are out of memory, and 20 the same.
 """
 
 import sys
@@ -16,7 +17,7 @@ from lib.netlists import layered
 # Six sizes of each command.
 CASES = 108
 # The longest that a run may take, in seconds, and the sizes in megabytes that are tried.
-LONGEST = 50
+LONGEST = 40
 LEAST, STEP, MOST = 1, 0.25, 4096
 INPUTS = 64
 ZEROS, ONES, FREE = "0" * INPUTS, "1" * INPUTS, "." * INPUTS
@@ -60,10 +61,21 @@ def how_it_ended(ample, got):
     (done, written), (ample_done, ample_written) = got, ample
     if any(text not in (None, ample_written[name]) for name, text in written.items()):
         return None
-    if done.status == 5 and done.err in ("tdelay: out of memory\n", "") and ample_done.out.startswith(done.out):
+    if (
+        done.status == 5
+        and done.err in ("tdelay: out of memory\n", "")
+        and ample_done.out.startswith(done.out)
+    ):
         return "out of memory"
     figures, wanted = reports.figures_of(done.out), reports.figures_of(ample_done.out)
-    if done.status == 3 and done.err == "" and "\ncause memory\n" in done.out and figures and wanted and reports.agree(figures, wanted):
+    if (
+        done.status == 3
+        and done.err == ""
+        and "\ncause memory\n" in done.out
+        and figures
+        and wanted
+        and reports.agree(figures, wanted)
+    ):
         return "between"
     return None
 
@@ -81,7 +93,12 @@ def make_files(tested):
         tested.write("mult_8.v", file.read())
     search(tested, "mult_8.v", MULT, "mult_8.cert")
     for bit in "01":
-        search(tested, "mult_8.v", ["--first", "0" * 16, "--second", "1" * 12 + f"{bit}..."], f"mult_8_{bit}.cert")
+        search(
+            tested,
+            "mult_8.v",
+            ["--first", "0" * 16, "--second", "1" * 12 + f"{bit}..."],
+            f"mult_8_{bit}.cert",
+        )
     tested.write("great.v", layered(200_000, INPUTS, 2000))
     search(tested, "great.v", GREAT, "great.cert")
 
@@ -108,7 +125,11 @@ def enough(tested, words, ample, least):
 
 def fault_without_limit(done):
     """What is wrong with a run that has all memory, None where nothing is."""
-    return f"without a limit: {done}" if done.status not in (0, 3) or not done.out or done.err else None
+    return (
+        f"without a limit: {done}"
+        if done.status not in (0, 3) or not done.out or done.err
+        else None
+    )
 
 
 def runs(tested, words, least, sizes):
@@ -128,7 +149,11 @@ def runs(tested, words, least, sizes):
         ends[how] = ends.get(how, 0) + 1
         tested.case(how or "wrong")
     counts = ", ".join(f"{count} {how}" for how, count in sorted(ends.items(), key=str))
-    print(f"{' '.join(words)[:60]}: status {ample[0].status}, {least:.2f} to {most:.2f} megabytes: {counts}", flush=True)
+    print(
+        f"{' '.join(words)[:60]}: status {ample[0].status}, "
+        f"{least:.2f} to {most:.2f} megabytes: {counts}",
+        flush=True,
+    )
     return None
 
 

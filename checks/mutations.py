@@ -1,13 +1,16 @@
 #!/usr/bin/env python3
 """Gives all commands mutated netlists, certificates and command lines.
 
-The corpus is made from examples/: its small netlists, and certificates of every version that `worst` writes of them, of whole questions and of
-the parts of some. Each case takes one command, mutates some of its netlist, certificate and words, and runs it. A run must not crash; must
-end within 10 seconds, with a status that docs/OUTPUT.md has; has one line on standard error, `tdelay: ..`, where the status is 1, 2 or 5, or
-4 of `join` (or what the library of command lines says, with status 2), and none elsewhere but lines of progress; an `exact` answer has a
-certificate that `check` accepts with its time; and where tools/second_opinion.py reads the same netlist, its verdict on the certificate is
-that of `check`. The files of the first run that did anything else are kept in DIR, where `--keep DIR` names one. Of each command a
-fair share of the runs has to end well, and a fair share of all with each status.
+The corpus is made from examples/: its small netlists, and certificates of every version that
+`worst` writes of them, of whole questions and of the parts of some. Each case takes one command,
+mutates some of its netlist, certificate and words, and runs it. A run must not crash; must end
+within 10 seconds, with a status that docs/OUTPUT.md has; has one line on standard error, `tdelay:
+..`, where the status is 1, 2 or 5, or 4 of `join` (or what the library of command lines says, with
+status 2), and none elsewhere but lines of progress; an `exact` answer has a certificate that
+`check` accepts with its time; and where tools/second_opinion.py reads the same netlist, its verdict
+on the certificate is that of `check`. The files of the first run that did anything else are kept in
+DIR, where `--keep DIR` names one. Of each command a fair share of the runs has to end well, and a
+fair share of all with each status.
 """
 
 import re
@@ -23,17 +26,86 @@ CASES = 4000
 LONGEST = 10
 SMALL = ["c17.v", "hazard.v", "inverter.v", "late_fall.v", "lost_pulse.v", "passed_pulse.v"]
 STATUSES = {
-    "sim": {0, 1, 2, 5}, "path": {0, 1, 2, 5}, "bound": {0, 1, 2, 5}, "worst": {0, 1, 2, 3, 5}, "parts": {0, 1, 2, 5}, "join": {0, 1, 2, 4, 5},
-    "info": {0, 1, 2, 5}, "check": {0, 1, 2, 4, 5},
+    "sim": {0, 1, 2, 5},
+    "path": {0, 1, 2, 5},
+    "bound": {0, 1, 2, 5},
+    "worst": {0, 1, 2, 3, 5},
+    "parts": {0, 1, 2, 5},
+    "join": {0, 1, 2, 4, 5},
+    "info": {0, 1, 2, 5},
+    "check": {0, 1, 2, 4, 5},
 }
 WRITTEN = ("out.cert", "out.vcd")
 TOKENS = [
-    b"module", b"endmodule", b"input", b"output", b"wire", b"and", b"nand", b"or", b"nor", b"xor", b"xnor", b"not", b"buf", b"inout", b"reg",
-    b"assign", b"(", b")", b"[", b"]", b",", b";", b":", b"#", b"#(1,2)", b"#(1,2,3)", b"1'b0", b"1'b1", b"1'bx", b"4096", b"1000000001",
-    b"(*", b"*)", b"//", b"/*", b"*/", b"\\", b"`timescale 1ns/1ps", b"`celldefine", b"`define", b"\n", b"\r", b"\0", b"\xff", b"\"", b"1.5", b"1e3",
+    b"module",
+    b"endmodule",
+    b"input",
+    b"output",
+    b"wire",
+    b"and",
+    b"nand",
+    b"or",
+    b"nor",
+    b"xor",
+    b"xnor",
+    b"not",
+    b"buf",
+    b"inout",
+    b"reg",
+    b"assign",
+    b"(",
+    b")",
+    b"[",
+    b"]",
+    b",",
+    b";",
+    b":",
+    b"#",
+    b"#(1,2)",
+    b"#(1,2,3)",
+    b"1'b0",
+    b"1'b1",
+    b"1'bx",
+    b"4096",
+    b"1000000001",
+    b"(*",
+    b"*)",
+    b"//",
+    b"/*",
+    b"*/",
+    b"\\",
+    b"`timescale 1ns/1ps",
+    b"`celldefine",
+    b"`define",
+    b"\n",
+    b"\r",
+    b"\0",
+    b"\xff",
+    b'"',
+    b"1.5",
+    b"1e3",
 ]
-LINES = [b"tdelay-cert 1", b"tdelay-cert 2", b"tdelay-cert 3", b"tdelay-cert 4", b"s 0", b"s 1", b"b a 0", b"b t 3", b"b m 1000000000000000000",
-         b"b e 3", b"b n 2", b"p 3", b"none", b"time 99", b"flips 1", b"hold .", b"at 7", b"", b"s 99999999999999999999"]
+LINES = [
+    b"tdelay-cert 1",
+    b"tdelay-cert 2",
+    b"tdelay-cert 3",
+    b"tdelay-cert 4",
+    b"s 0",
+    b"s 1",
+    b"b a 0",
+    b"b t 3",
+    b"b m 1000000000000000000",
+    b"b e 3",
+    b"b n 2",
+    b"p 3",
+    b"none",
+    b"time 99",
+    b"flips 1",
+    b"hold .",
+    b"at 7",
+    b"",
+    b"s 99999999999999999999",
+]
 
 
 def mutated(rng, text, pieces, corpus):
@@ -56,7 +128,19 @@ def mutated(rng, text, pieces, corpus):
             start = rng.randint(0, len(other))
             text[at:end] = other[start : start + rng.randint(0, 60)]
         elif kind == 5:
-            number = rng.choice([b"0", b"1", b"2", b"7", b"4096", b"1000000000", b"1000000001", b"99999999999999999999", b"00"])
+            number = rng.choice(
+                [
+                    b"0",
+                    b"1",
+                    b"2",
+                    b"7",
+                    b"4096",
+                    b"1000000000",
+                    b"1000000001",
+                    b"99999999999999999999",
+                    b"00",
+                ]
+            )
             found = list(re.finditer(rb"[0-9]+", text))
             if found:
                 one = rng.choice(found)
@@ -83,7 +167,11 @@ def pins(rng, inputs, chance=0.2):
 
 
 def moments(rng, inputs, chance=0.3):
-    return ["--at", ",".join(str(rng.choice([0, 1, 2, 7, 10**9])) for _ in range(inputs))] if rng.random() < chance else []
+    return (
+        ["--at", ",".join(str(rng.choice([0, 1, 2, 7, 10**9])) for _ in range(inputs))]
+        if rng.random() < chance
+        else []
+    )
 
 
 def question(rng, inputs):
@@ -98,7 +186,12 @@ def question(rng, inputs):
 
 def flags(rng, *names):
     """Some of these options: a flag, or an option with one of its values."""
-    return [word for name, *values in names if rng.random() < 0.3 for word in [name, *([rng.choice(values)] if values else [])]]
+    return [
+        word
+        for name, *values in names
+        if rng.random() < 0.3
+        for word in [name, *([rng.choice(values)] if values else [])]
+    ]
 
 
 def pair_words(rng, inputs):
@@ -118,24 +211,56 @@ def bound_words(rng, inputs):
 
 
 def worst_words(rng, inputs):
-    words = ["t.v", "--budget", str(rng.choice([0, 1, 10, 300, 3000])), *question(rng, inputs), "--cert", "out.cert"]
-    more = ("--workers", "1", "2", "4"), ("--strategy", "least", "lead", "lead"), ("--path",), ("--progress",), ("--vcd", "out.vcd")
+    words = [
+        "t.v",
+        "--budget",
+        str(rng.choice([0, 1, 10, 300, 3000])),
+        *question(rng, inputs),
+        "--cert",
+        "out.cert",
+    ]
+    more = (
+        ("--workers", "1", "2", "4"),
+        ("--strategy", "least", "lead", "lead"),
+        ("--path",),
+        ("--progress",),
+        ("--vcd", "out.vcd"),
+    )
     return words + flags(rng, *more)
 
 
 def parts_words(rng, inputs):
     count = str(rng.choice([1, 2, 3, 7, 40, 0, 65537]))
-    return ["t.v", "--parts", count, *question(rng, inputs), *flags(rng, ("--strategy", "least", "lead"))]
+    return [
+        "t.v",
+        "--parts",
+        count,
+        *question(rng, inputs),
+        *flags(rng, ("--strategy", "least", "lead")),
+    ]
 
 
 def join_words(rng, inputs):
-    names = rng.choice([["p0", "p1"], ["p0", "p1"], ["p1", "p0"], ["p0"], ["p0", "p1", "c"], ["c", "p1"]])
-    return ["t.v", *names, *pins(rng, inputs, 0.1), *flags(rng, ("--check",), ("--cert", "out.cert"))]
+    names = rng.choice(
+        [["p0", "p1"], ["p0", "p1"], ["p1", "p0"], ["p0"], ["p0", "p1", "c"], ["c", "p1"]]
+    )
+    return [
+        "t.v",
+        *names,
+        *pins(rng, inputs, 0.1),
+        *flags(rng, ("--check",), ("--cert", "out.cert")),
+    ]
 
 
 WORDS = {
-    "sim": sim_words, "path": path_words, "bound": bound_words, "worst": worst_words, "parts": parts_words, "join": join_words,
-    "info": lambda rng, inputs: ["t.v"], "check": lambda rng, inputs: ["t.v", "c"],
+    "sim": sim_words,
+    "path": path_words,
+    "bound": bound_words,
+    "worst": worst_words,
+    "parts": parts_words,
+    "join": join_words,
+    "info": lambda rng, inputs: ["t.v"],
+    "check": lambda rng, inputs: ["t.v", "c"],
 }
 
 
@@ -160,7 +285,24 @@ def mangled(rng, words):
     elif kind == 2:
         words[place] = "".join(rng.choice("01x.=-, \u00e9/abc") for _ in range(rng.randint(0, 9)))
     else:
-        words.insert(place, rng.choice(["--budget", "--cert", "--at", "-h", "--", "-", "--workers=0", "--flips=-1", "--parts=0", "stdin", ""]))
+        words.insert(
+            place,
+            rng.choice(
+                [
+                    "--budget",
+                    "--cert",
+                    "--at",
+                    "-h",
+                    "--",
+                    "-",
+                    "--workers=0",
+                    "--flips=-1",
+                    "--parts=0",
+                    "stdin",
+                    "",
+                ]
+            ),
+        )
     return words
 
 
@@ -173,17 +315,24 @@ def inputs_of(text):
 
 
 class Netlist:
-    """A small netlist with certificates of every version, and those of two parts of its question."""
+    """A small netlist with certificates of every version, and those of two of its parts."""
 
     def __init__(self, tested, name):
         with open(places.example(name), "rb") as file:
             self.text = file.read()
         tested.write("t.v", self.text)
         self.inputs = inputs_of(self.text)
-        whole = [[], ["--flips", "1"], ["--at", ",".join(["3"] * self.inputs)], ["--strategy", "lead"]]
+        whole = [
+            [],
+            ["--flips", "1"],
+            ["--at", ",".join(["3"] * self.inputs)],
+            ["--strategy", "lead"],
+        ]
         self.certificates = [certificate_of(tested, words) for words in whole]
         free = "." * (self.inputs - 1)
-        self.parts = [certificate_of(tested, ["--first", bit + free, "--second", "." + free]) for bit in "01"]
+        self.parts = [
+            certificate_of(tested, ["--first", bit + free, "--second", "." + free]) for bit in "01"
+        ]
 
 
 def certificate_of(tested, words):
@@ -192,22 +341,38 @@ def certificate_of(tested, words):
     done = tested.run("worst", "t.v", "--cert", "out.cert", *words)
     certificate = tested.read("out.cert")
     if done.status != 0 or certificate is None:
-        raise RuntimeError(f"worst {words}: status {done.status}, {done.out}{done.err}, no certificate")
+        raise RuntimeError(
+            f"worst {words}: status {done.status}, {done.out}{done.err}, no certificate"
+        )
     return certificate
 
 
 def fault_of_exact(tested, words, out):
     """What is wrong with the certificate of an exact answer, None where nothing is."""
     time = reports.figures_of(out.decode()).low
-    defaults = [word for at, word in enumerate(words) if word.startswith("--default") or at and words[at - 1].startswith("--default")]
+    defaults = [
+        word
+        for at, word in enumerate(words)
+        if word.startswith("--default") or at and words[at - 1].startswith("--default")
+    ]
     checked = tested.run("check", "t.v", "out.cert", *defaults, seconds=LONGEST)
-    return None if reports.accepted_time(checked.out) == time else f"its certificate is not accepted: {checked.out}{checked.err}"
+    return (
+        None
+        if reports.accepted_time(checked.out) == time
+        else f"its certificate is not accepted: {checked.out}{checked.err}"
+    )
 
 
 def fault_of_check(texts, done):
     """What is wrong with a verdict, by the second opinion, None where nothing is."""
-    out, fault, status = second_opinion.told(lambda: second_opinion.check(second_opinion.read_circuit(texts["t.v"]), texts["c"]))
-    return None if (done.status, done.out.decode()) == (status, out) else f"the second opinion says {status}: {out}{fault}"
+    out, fault, status = second_opinion.told(
+        lambda: second_opinion.check(second_opinion.read_circuit(texts["t.v"]), texts["c"])
+    )
+    return (
+        None
+        if (done.status, done.out.decode()) == (status, out)
+        else f"the second opinion says {status}: {out}{fault}"
+    )
 
 
 def fault_of_error(words, done):
@@ -225,13 +390,19 @@ def fault_of(tested, words, done, texts):
     """What is wrong with a run, None where nothing is."""
     if done.status not in STATUSES.get(words[0] if words else "", {0, 2}) | {0, 2}:
         return f"status {done.status}"
-    if done.status in (1, 2, 5) and done.out and not (done.status == 5 and b"cannot write" in done.err):
+    if (
+        done.status in (1, 2, 5)
+        and done.out
+        and not (done.status == 5 and b"cannot write" in done.err)
+    ):
         return "standard output"
     if done.status in (0, 3, 4) and not done.out and not (done.status == 4 and words[0] == "join"):
         return "nothing on standard output"
     fault = fault_of_error(words, done)
     if fault is None and done.status == 0 and words[0] == "worst" and b"\nexact " in done.out:
-        return fault_of_exact(tested, words, done.out) if tested.read("out.cert") is not None else None
+        return (
+            fault_of_exact(tested, words, done.out) if tested.read("out.cert") is not None else None
+        )
     if fault is None and words == ["check", "t.v", "c"]:
         return fault_of_check(texts, done)
     return fault
@@ -240,14 +411,21 @@ def fault_of(tested, words, done, texts):
 def made_up(rng, corpus):
     """The words of a command, and the texts of its files, some of them mutated."""
     one = rng.choice(corpus)
-    texts = {"t.v": one.text, "c": rng.choice(one.certificates), "p0": one.parts[0], "p1": one.parts[1]}
+    texts = {
+        "t.v": one.text,
+        "c": rng.choice(one.certificates),
+        "p0": one.parts[0],
+        "p1": one.parts[1],
+    }
     words = command(rng, one.inputs)
     what = rng.random()
     if what < 0.35:
         texts["t.v"] = mutated(rng, one.text, TOKENS, [it.text for it in corpus])
     elif what < 0.7 and words[0] in ("check", "join"):
         name = "c" if words[0] == "check" else rng.choice(["p0", "p1"])
-        texts[name] = mutated(rng, texts[name], LINES, [text for it in corpus for text in it.certificates])
+        texts[name] = mutated(
+            rng, texts[name], LINES, [text for it in corpus for text in it.certificates]
+        )
     elif what < 0.8:
         words = mangled(rng, words)
     return words, texts
@@ -292,5 +470,7 @@ def shares(tested, _cut):
 
 
 if __name__ == "__main__":
-    keeping = {"--keep": {"metavar": "DIR", "help": "where the files of the first wrong run are kept"}}
+    keeping = {
+        "--keep": {"metavar": "DIR", "help": "where the files of the first wrong run are kept"}
+    }
     sys.exit(check.main(work, __doc__, CASES, shares, keeping))

@@ -1,10 +1,13 @@
 #!/usr/bin/env python3
-"""Compares `check`, `sim`, `path` and `bound` with tools/second_opinion.py, a second checker that was written from the documents alone.
+"""Compares `check`, `sim`, `path` and `bound` with tools/second_opinion.py, a second checker that
+was written from the documents alone.
 
-Makes random circuits and for each of them questions, certificates and pairs of vectors: certificates that `worst` writes, trees of its own for
-all four versions (right ones, by the bounds of second_opinion.py, and wrong ones), and both with bytes and lines mutated. Compared are the
-exit status, standard output, and of faults the kind, and the line of those of certificates. A case is one answer that both give. The files of
-the first difference are kept in DIR, where `--keep DIR` names one.
+Makes random circuits and for each of them questions, certificates and pairs of vectors:
+certificates that `worst` writes, trees of its own for all four versions (right ones, by the bounds
+of second_opinion.py, and wrong ones), and both with bytes and lines mutated. Compared are the exit
+status, standard output, and of faults the kind, and the line of those of certificates. A case is
+one answer that both give. The files of the first difference are kept in DIR, where `--keep DIR`
+names one.
 """
 
 import itertools
@@ -34,7 +37,16 @@ class Differs(Exception):
 def delay_text(rng, largest):
     """A delay as a text, perhaps none."""
     rise, fall = rng.randint(1, largest), rng.randint(1, largest)
-    return rng.choice(["", f"#{rise}", f"#({fall})", f"#({rise},{fall})", f"#({rise},{fall})", f"# (\t{rise} , {fall}_ )"])
+    return rng.choice(
+        [
+            "",
+            f"#{rise}",
+            f"#({fall})",
+            f"#({rise},{fall})",
+            f"#({rise},{fall})",
+            f"# (\t{rise} , {fall}_ )",
+        ]
+    )
 
 
 def names_of(rng, count, letter):
@@ -59,9 +71,14 @@ def gate_lines(rng, inputs, outputs, largest):
     while made:
         kind = rng.choice(KINDS)
         single = kind in ("buf", "not")
-        drives = [made.pop() for _ in range(min(len(made), rng.choice([1, 1, 1, 2]) if single else 1))]
+        drives = [
+            made.pop() for _ in range(min(len(made), rng.choice([1, 1, 1, 2]) if single else 1))
+        ]
         pool = nets[-rng.choice([3, 8, 99]) :]
-        reads = [rng.choice(pool) if pool and rng.random() >= constants else rng.choice(["1'b0", "1'b1"]) for _ in range(1 if single else rng.choice([1, 2, 2, 2, 3, 4]))]
+        reads = [
+            rng.choice(pool) if pool and rng.random() >= constants else rng.choice(["1'b0", "1'b1"])
+            for _ in range(1 if single else rng.choice([1, 2, 2, 2, 3, 4]))
+        ]
         name = rng.choice(["", f"g{len(lines)} "])
         lines.append(f"{kind} {delay_text(rng, largest)} {name}({','.join(drives + reads)});")
         nets += drives
@@ -73,11 +90,27 @@ def random_circuit(rng):
     """The text of a random circuit."""
     names, inputs, input_nets = names_of(rng, rng.choice([0, 1, 1, 2, 2, 2, 3, 3, 3, 4, 5, 7]), "i")
     ports, outputs, output_nets = names_of(rng, rng.choice([0, 1, 1, 1, 1, 2, 3]), "y")
-    lines = gate_lines(rng, input_nets, output_nets, rng.choice([1, 2, 3, 3, 6, 6, 20, 1_000_000_000]))
-    head = rng.choice(["", "", "", "`timescale 1 ns/1ns\n", "`timescale 10ns / 1 ps // a step\n", "/* */ (* keep *) `celldefine\n"])
+    lines = gate_lines(
+        rng, input_nets, output_nets, rng.choice([1, 2, 3, 3, 6, 6, 20, 1_000_000_000])
+    )
+    head = rng.choice(
+        [
+            "",
+            "",
+            "",
+            "`timescale 1 ns/1ns\n",
+            "`timescale 10ns / 1 ps // a step\n",
+            "/* */ (* keep *) `celldefine\n",
+        ]
+    )
     items = [f"input {inputs};"] * bool(names) + [f"output {outputs};"] * bool(ports) + lines
     if "ps" in head:
-        items = [line.replace("#", "#0.0") if "#(" not in line and "# (" not in line and "00000" not in line else line for line in items]
+        items = [
+            line.replace("#", "#0.0")
+            if "#(" not in line and "# (" not in line and "00000" not in line
+            else line
+            for line in items
+        ]
     return head + "\n".join([f"module t ({','.join(names + ports)});", *items, "endmodule\n"])
 
 
@@ -89,8 +122,14 @@ def rippling_circuit(rng):
     taps = ",".join(f"d{delay}" for delay in delays)
     rise, fall = rng.choice([(1, 1), (2, 2), (1, 2), (2, 1)])
     kind, last = rng.choice(["xor", "xnor"]), rng.choice(["xor", "or", "and", "nand", "buf"])
-    gates = [f"{kind} #({rise},{fall}) (w,{taps});", f"buf #{rng.randint(1, 1100)} (l,b);", f"{last} (y,{'w' if last == 'buf' else 'w,l'});"]
-    return "\n".join(["module t (a,b,y,w);", "input a,b;", "output y,w;", *delayed, *gates, "endmodule\n"])
+    gates = [
+        f"{kind} #({rise},{fall}) (w,{taps});",
+        f"buf #{rng.randint(1, 1100)} (l,b);",
+        f"{last} (y,{'w' if last == 'buf' else 'w,l'});",
+    ]
+    return "\n".join(
+        ["module t (a,b,y,w);", "input a,b;", "output y,w;", *delayed, *gates, "endmodule\n"]
+    )
 
 
 def broken(rng, text):
@@ -101,9 +140,17 @@ def broken(rng, text):
         words[one], words[other] = words[other], words[one]
         return " ".join(words)
     if rng.random() < 0.3:
-        return re.sub(r"\bn[0-9]\b", lambda found: f"n{rng.randint(0, 9)}" if rng.random() < 0.1 else found[0], text)
+        return re.sub(
+            r"\bn[0-9]\b",
+            lambda found: f"n{rng.randint(0, 9)}" if rng.random() < 0.1 else found[0],
+            text,
+        )
     place = rng.randrange(len(text))
-    return text[:place] + rng.choice(["", ",", "n0", "y", "i0", "1'b1", "#1", ";", "1", "["]) + text[place + rng.choice([0, 1]) :]
+    return (
+        text[:place]
+        + rng.choice(["", ",", "n0", "y", "i0", "1'b1", "#1", ";", "1", "["])
+        + text[place + rng.choice([0, 1]) :]
+    )
 
 
 # ---- Questions and trees ----
@@ -114,7 +161,7 @@ def trits(rng, count, free):
 
 
 def random_question(rng, count):
-    """The words of a question, None for an option that is left out: first, second, hold, flips, at."""
+    """The words of a question (first, second, hold, flips, at), None for one that is left out."""
     free = rng.choice([0.4, 0.8, 1])
     words = {name: None for name in ("first", "second", "hold", "flips", "at")}
     if rng.random() < 0.6:
@@ -123,7 +170,9 @@ def random_question(rng, count):
         words["hold"] = rng.choice([None, None, "".join(rng.choice("...=") for _ in range(count))])
         words["flips"] = rng.choice([None, None, rng.randint(0, count + 1)])
     if rng.random() < 0.4:
-        words["at"] = [rng.choice([0, 0, 1, 2, 3, 7, rng.randint(0, 40), 1_000_000_000]) for _ in range(count)]
+        words["at"] = [
+            rng.choice([0, 0, 1, 2, 3, 7, rng.randint(0, 40), 1_000_000_000]) for _ in range(count)
+        ]
     return words
 
 
@@ -131,13 +180,22 @@ def question_of(words, count):
     first, second = words["first"] or "." * count, words["second"] or "." * count
     flips = count if words["flips"] is None else min(count, words["flips"])
     held = [symbol == "=" for symbol in words["hold"] or "." * count]
-    return opinion.Question(opinion.woven(opinion.levels_of(first), opinion.levels_of(second)), held, flips, words["at"] or [0] * count)
+    return opinion.Question(
+        opinion.woven(opinion.levels_of(first), opinion.levels_of(second)),
+        held,
+        flips,
+        words["at"] or [0] * count,
+    )
 
 
 def version_of(question):
     if any(question.moments):
         return 3
-    free = set(question.pins) <= {X} and not any(question.held) and question.flips == len(question.held)
+    free = (
+        set(question.pins) <= {X}
+        and not any(question.held)
+        and question.flips == len(question.held)
+    )
     return 1 if free else 2
 
 
@@ -156,7 +214,9 @@ def timed(circuit, question, pair):
 
 
 def tree_lines(rng, circuit, question, time, letters, with_none, most):
-    """A tree that shows that no admitted pair has a delay greater than the time, or which ends where too many lines stand."""
+    """A tree that shows that no admitted pair has a delay greater than the time, or which ends
+    where too many lines stand.
+    """
     cubes, lines = [question.pins], []
     while cubes and len(lines) < most:
         cube = cubes.pop()
@@ -179,7 +239,9 @@ def tree_lines(rng, circuit, question, time, letters, with_none, most):
 
 
 def one_leaf(rng, circuit, question, letter):
-    """A tree of one leaf with the least number that its bound lets pass, or one less; the greatest one where there is no bound."""
+    """A tree of one leaf with the least number that its bound lets pass, or one less; the greatest
+    one where there is no bound.
+    """
     bound = opinion.bound(letter, circuit, question.pins, question.moments)
     return [f"b {letter} {opinion.LARGEST if bound is None else max(0, bound - rng.randint(0, 1))}"]
 
@@ -189,13 +251,17 @@ def symbols_of(levels):
 
 
 def own_certificate(rng, circuit, question):
-    """The lines of a certificate with a tree of its own, of version 4 or of the version of its question; a list, or None without a pair."""
+    """The lines of a certificate with a tree of its own, of version 4 or of the version of its
+    question; a list, or None without a pair.
+    """
     pairs = admitted_pairs(rng, question)
     if not pairs:
         return None
     pair = max(pairs, key=lambda pair: timed(circuit, question, pair))
     time, version = timed(circuit, question, pair), rng.choice([version_of(question), 4, 4])
-    letters = rng.choice(["a", "t", "m", "atm"]) if version < 4 else rng.choice(["e", "n", "en", "atmen"])
+    letters = (
+        rng.choice(["a", "t", "m", "atm"]) if version < 4 else rng.choice(["e", "n", "en", "atmen"])
+    )
     if rng.random() < 0.6:
         tree = tree_lines(rng, circuit, question, time, letters, version > 1, 400)
     else:
@@ -203,11 +269,21 @@ def own_certificate(rng, circuit, question):
     count = circuit.inputs
     lines = [f"tdelay-cert {version}", f"circuit {count} {len(circuit.gates)}"]
     if version > 1:
-        lines += [f"first {symbols_of(question.pins[::2])}", f"second {symbols_of(question.pins[1::2])}"]
-        lines += ["hold " + ("".join(".="[held] for held in question.held) or "none"), f"flips {question.flips}"]
+        lines += [
+            f"first {symbols_of(question.pins[::2])}",
+            f"second {symbols_of(question.pins[1::2])}",
+        ]
+        lines += [
+            "hold " + ("".join(".="[held] for held in question.held) or "none"),
+            f"flips {question.flips}",
+        ]
     if version > 2:
         lines.append("at " + (" ".join(map(str, question.moments)) or "none"))
-    return lines + [f"time {time}", f"from {symbols_of(pair[::2])}", f"to {symbols_of(pair[1::2])}"] + tree
+    return (
+        lines
+        + [f"time {time}", f"from {symbols_of(pair[::2])}", f"to {symbols_of(pair[1::2])}"]
+        + tree
+    )
 
 
 # ---- Mutations ----
@@ -231,13 +307,26 @@ def changed_line(rng, line):
         return f"b {rng.choice('atmenx')} {words[2]}"
     if words[0] in ("b", "p", "none") and rng.random() < 0.4:
         number = words[-1] if words[1:] else str(rng.randint(0, 9))
-        return rng.choice(["none", "none", f"p {number}", f"b {rng.choice('atmen')} {number}", f"s {rng.randint(0, 9)}", "b a", "n", ""])
+        return rng.choice(
+            [
+                "none",
+                "none",
+                f"p {number}",
+                f"b {rng.choice('atmen')} {number}",
+                f"s {rng.randint(0, 9)}",
+                "b a",
+                "n",
+                "",
+            ]
+        )
     if words[0] in SYMBOLS and words[1:] and words[1]:
         place = rng.randrange(len(words[1]))
         symbol = rng.choice(SYMBOLS[words[0]] if rng.random() < 0.9 else "01.=x ")
         return f"{words[0]} {words[1][:place]}{symbol}{words[1][place + 1:]}"
     if words[0] == "at" and words[1:]:
-        words[rng.randrange(1, len(words))] = rng.choice(["0", "1", "00", "1000000000", "1000000001", "none", "5"])
+        words[rng.randrange(1, len(words))] = rng.choice(
+            ["0", "1", "00", "1000000000", "1000000001", "none", "5"]
+        )
         return " ".join(words)
     return changed_number(rng, line)
 
@@ -266,7 +355,11 @@ def by_lines(rng, lines):
 
 def by_bytes(rng, text):
     """The bytes with one of them changed, taken away or put in, or cut off."""
-    place = rng.randrange(len(text) + 1) if rng.random() < 0.5 else rng.randrange(min(len(text), 120) + 1)
+    place = (
+        rng.randrange(len(text) + 1)
+        if rng.random() < 0.5
+        else rng.randrange(min(len(text), 120) + 1)
+    )
     byte = rng.choice([*b"0123456789", *b" \n\r\tatmenpbs.=x-+", 0, 255, rng.randrange(256)])
     run = bytes(rng.choice(b"0123456789") for _ in range(rng.choice([1, 9, 18, 30])))
     return rng.choice(
@@ -286,13 +379,23 @@ def by_bytes(rng, text):
 
 
 class Setup:
-    """A circuit's text with its files and default delays, and the check that compares what is said of it."""
+    """A circuit's text with its files and default delays, and the check that compares what is said
+    of it.
+    """
 
     def __init__(self, tested, rng, text):
         self.tested, self.rng, self.netlist = tested, rng, text
         tested.write("t.v", text)
-        self.steps = opinion.Delays(rng.randint(1, 4), rng.randint(1, 4)) if rng.random() < 0.4 else opinion.Delays(1, 1)
-        self.defaults = [f"--default-rise={self.steps.rise}", f"--default-fall={self.steps.fall}"] if max(self.steps) > 1 else []
+        self.steps = (
+            opinion.Delays(rng.randint(1, 4), rng.randint(1, 4))
+            if rng.random() < 0.4
+            else opinion.Delays(1, 1)
+        )
+        self.defaults = (
+            [f"--default-rise={self.steps.rise}", f"--default-fall={self.steps.fall}"]
+            if max(self.steps) > 1
+            else []
+        )
         self.circuit = self.read_or_none()
 
     def read(self):
@@ -314,7 +417,10 @@ class Setup:
         theirs = self.program(*words)
         if comparable(theirs) != comparable(ours):
             keep(self.tested)
-            self.tested.fault(f"{words} {self.defaults}: {theirs}, and the second opinion {ours}\n{self.netlist.decode('latin-1')}")
+            self.tested.fault(
+                f"{words} {self.defaults}: {theirs}, and the second opinion {ours}\n"
+                f"{self.netlist.decode('latin-1')}"
+            )
         self.tested.case(*kinds_of(*theirs))
 
 
@@ -341,14 +447,24 @@ def compare_check(setup, certificate, origin):
 
     def kinds_of(_, __, status):
         verdict = {0: "accepted", 4: "refused"}.get(status, "a fault of the text")
-        return [f"check: {verdict}", f"check: version {version[1].decode() if version else 'none'}", f"check: {origin}"]
+        return [
+            f"check: {verdict}",
+            f"check: version {version[1].decode() if version else 'none'}",
+            f"check: {origin}",
+        ]
 
-    setup.compare(["check", "t.v", "c"], opinion.told(lambda: opinion.check(setup.circuit or setup.read(), certificate)), kinds_of)
+    setup.compare(
+        ["check", "t.v", "c"],
+        opinion.told(lambda: opinion.check(setup.circuit or setup.read(), certificate)),
+        kinds_of,
+    )
 
 
 def random_moments(rng, inputs):
     """A word for `--at`, which now and then gives nothing; None for no word."""
-    moments = [str(rng.choice([0, 0, 1, 2, 5, rng.randint(0, 30), 1_000_000_000])) for _ in range(inputs)]
+    moments = [
+        str(rng.choice([0, 0, 1, 2, 5, rng.randint(0, 30), 1_000_000_000])) for _ in range(inputs)
+    ]
     if rng.random() < 0.05:
         moments.append(rng.choice(["1", "", "1000000001", "007", "+1", "x"]))
         rng.shuffle(moments)
@@ -359,25 +475,44 @@ def random_moments(rng, inputs):
 
 def random_vector(rng, inputs):
     """A word for a vector, now and then one that gives nothing."""
-    letters = rng.choice(["01", "01", "01x", "01x", "01x2"] if rng.random() < 0.2 else ["01", "01x"])
-    return "".join(rng.choice(letters) for _ in range(max(0, inputs + rng.choice([0] * 30 + [1, -1])))) or "none"
+    letters = rng.choice(
+        ["01", "01", "01x", "01x", "01x2"] if rng.random() < 0.2 else ["01", "01x"]
+    )
+    return (
+        "".join(rng.choice(letters) for _ in range(max(0, inputs + rng.choice([0] * 30 + [1, -1]))))
+        or "none"
+    )
 
 
 def compare_runs(setup):
     """Compares `sim` and `path` of a random pair, with a moment for each input or without."""
     rng, circuit = setup.rng, setup.circuit
     inputs = circuit.inputs if circuit else rng.randint(0, 3)
-    first, second, at = random_vector(rng, inputs), random_vector(rng, inputs), random_moments(rng, inputs)
+    first, second, at = (
+        random_vector(rng, inputs),
+        random_vector(rng, inputs),
+        random_moments(rng, inputs),
+    )
     moments = [f"--at={at}"] if at is not None else []
 
     def run_kinds(command):
-        return lambda out, _, status: [f"{command}: {'a run' if status == 0 else 'refused'}"] + [f"{command}: changes"] * ("\nchange" in out)
+        return lambda out, _, status: [f"{command}: {'a run' if status == 0 else 'refused'}"] + [
+            f"{command}: changes"
+        ] * ("\nchange" in out)
 
-    setup.compare(["sim", "t.v", first, second, *moments], opinion.told(lambda: opinion.sim(setup.read(), first, second, at)), run_kinds("sim"))
+    setup.compare(
+        ["sim", "t.v", first, second, *moments],
+        opinion.told(lambda: opinion.sim(setup.read(), first, second, at)),
+        run_kinds("sim"),
+    )
     outputs = [circuit.nets[net] for net in circuit.outputs] if circuit else []
     name = rng.choice([None, None, *outputs, "nothing"])
     ours = opinion.told(lambda: opinion.path(setup.read(), first, second, at, name))
-    setup.compare(["path", "t.v", first, second, *moments, *([f"--output={name}"] if name else [])], ours, run_kinds("path"))
+    setup.compare(
+        ["path", "t.v", first, second, *moments, *([f"--output={name}"] if name else [])],
+        ours,
+        run_kinds("path"),
+    )
 
 
 def compare_bounds(setup, question):
@@ -385,22 +520,44 @@ def compare_bounds(setup, question):
     circuit = setup.circuit
     if circuit.inputs == 0:
         return
-    pins = [f"--{name}={symbols_of(question.pins[side::2])}" for side, name in enumerate(("first", "second"))]
-    bounds = [(letter, opinion.bound(letter, circuit, question.pins, question.moments)) for letter in "atmen"]
+    pins = [
+        f"--{name}={symbols_of(question.pins[side::2])}"
+        for side, name in enumerate(("first", "second"))
+    ]
+    bounds = [
+        (letter, opinion.bound(letter, circuit, question.pins, question.moments))
+        for letter in "atmen"
+    ]
     lines = [f"{letter} {'none' if bound is None else bound}" for letter, bound in bounds]
     ours = opinion.report([f"unit {circuit.unit}", f"defaulted {circuit.defaulted}", *lines]), "", 0
     words = ["bound", "t.v", *pins, "--at=" + ",".join(map(str, question.moments)), "--edges"]
-    setup.compare(words, ours, lambda out, _, __: ["bound: none" if "none" in out else "bound: all five"])
+    setup.compare(
+        words, ours, lambda out, _, __: ["bound: none" if "none" in out else "bound: all five"]
+    )
 
 
 def worst(setup, words, budget):
     """The certificate that `worst` writes, or None where it has no exact answer."""
-    options = [f"--{name}={value}" for name, value in words.items() if value not in (None, "") and name != "at"]
+    options = [
+        f"--{name}={value}"
+        for name, value in words.items()
+        if value not in (None, "") and name != "at"
+    ]
     if words["at"]:
         options.append("--at=" + ",".join(map(str, words["at"])))
     setup.tested.remove("written")
     strategy = setup.rng.choice(["least", "lead"])
-    setup.program("worst", "t.v", *options, "--budget", str(budget), "--strategy", strategy, "--cert", "written")
+    setup.program(
+        "worst",
+        "t.v",
+        *options,
+        "--budget",
+        str(budget),
+        "--strategy",
+        strategy,
+        "--cert",
+        "written",
+    )
     return setup.tested.read("written")
 
 
@@ -410,7 +567,11 @@ def compare_mutated(setup, certificate, origin, times):
     for _ in range(times):
         lines = certificate.decode("latin-1").rstrip("\n").split("\n")
         by_line = ("\n".join(by_lines(setup.rng, lines)) + "\n").encode("latin-1")
-        compare_check(setup, by_bytes(setup.rng, certificate) if setup.rng.random() < 0.3 else by_line, origin + ", mutated")
+        compare_check(
+            setup,
+            by_bytes(setup.rng, certificate) if setup.rng.random() < 0.3 else by_line,
+            origin + ", mutated",
+        )
 
 
 def compare_circuit(tested, rng):
@@ -448,11 +609,22 @@ def shares(tested, _cut):
 
 
 SHARES = {
-    "sim: a run": 0.05, "path: changes": 0.02, "bound: all five": 0.002, "bound: none": 0.02, "check: accepted": 0.1, "check: refused": 0.1,
-    "check: a fault of the text": 0.02, "check: of a search": 0.03, "check: version 1": 0.02, "check: version 2": 0.02, "check: version 3": 0.02,
+    "sim: a run": 0.05,
+    "path: changes": 0.02,
+    "bound: all five": 0.002,
+    "bound: none": 0.02,
+    "check: accepted": 0.1,
+    "check: refused": 0.1,
+    "check: a fault of the text": 0.02,
+    "check: of a search": 0.03,
+    "check: version 1": 0.02,
+    "check: version 2": 0.02,
+    "check: version 3": 0.02,
     "check: version 4": 0.1,
 }
 
 if __name__ == "__main__":
-    options = {"--keep": {"metavar": "DIR", "help": "where the files of the first difference are kept"}}
+    options = {
+        "--keep": {"metavar": "DIR", "help": "where the files of the first difference are kept"}
+    }
     sys.exit(check.main(work, __doc__, CASES, shares, options))

@@ -1,14 +1,16 @@
 #!/usr/bin/env python3
 """Looks that the pages say what is so, where a script can see it.
 
-README.md, docs/COMMANDS.md and examples/README.md are read from top to bottom, one after the other, and their commands run in one folder. A
-block that begins as a module is a netlist, of the last name that ends in `.v` before it. Each line of a block `sh` that calls `./tdelay`, and
-each `command FILE.v ..` in backquotes, is run, and ends well. A block without a language is what the last command prints, whole or without
-the head. A text in backquotes that is a line of a report or a message is a line that some command of the pages prints, or one of OTHERS, of
-which they tell in words.
+README.md, docs/COMMANDS.md and examples/README.md are read from top to bottom, one after the other,
+and their commands run in one folder. A block that begins as a module is a netlist, of the last name
+that ends in `.v` before it. Each line of a block `sh` that calls `./tdelay`, and each `command
+FILE.v ..` in backquotes, is run, and ends well. A block without a language is what the last command
+prints, whole or without the head. A text in backquotes that is a line of a report or a message is a
+line that some command of the pages prints, or one of OTHERS, of which they tell in words.
 
-Besides, each contract that README.md and docs/CONTRACTS.md quote stands in the sources, word for word; the numbers of docs/MODEL.md are those
-of tools/model.py, and the picture of the crates is that of tools/picture.py. Each command, block, text and line of a contract is a case.
+Besides, each contract that README.md and docs/CONTRACTS.md quote stands in the sources, word for
+word; the numbers of docs/MODEL.md are those of tools/model.py, and the picture of the crates is
+that of tools/picture.py. Each command, block, text and line of a contract is a case.
 """
 
 import glob
@@ -21,27 +23,44 @@ from lib.netlists import INVERTER, LOST
 
 COMMANDS = "sim|path|bound|worst|parts|join|info|check"
 # The pages with commands, and how many each has at least.
-PAGES = {"README.md": 10, "docs/COMMANDS.md": 7, "examples/README.md": 7}
+PAGES = {"README.md": 5, "docs/COMMANDS.md": 7, "examples/README.md": 7}
 # The page that quotes contracts, and how many lines it quotes at least.
 CONTRACTS, QUOTED = "docs/CONTRACTS.md", 120
-# Commands that a page tells of in words, with files that it tells of in words.
+# Commands that a page tells of in words.
 OTHERS = {
-    "README.md": ["worst lost.v --budget 1", "bound inverter.v"],
+    "README.md": ["worst lost.v --budget 1"],
     "docs/COMMANDS.md": [
-        "sim skew.v 01 10", "worst skew.v", "check skew.v skew.cert", "worst inverter.v --first 0 --second 1 --hold =",
-        "check inverter.v other_pair.cert", "check inverter.v other_leaf.cert", "check inverter.v other_bound.cert",
+        "bound inverter.v",
+        "sim skew.v 01 10",
+        "worst skew.v",
+        "check skew.v skew.cert",
+        "worst inverter.v --first 0 --second 1 --hold =",
+        "worst inverter.v --cert inverter.cert",
+        "check inverter.v other_pair.cert",
+        "check inverter.v other_leaf.cert",
+        "check inverter.v other_bound.cert",
     ],
     "examples/README.md": [],
 }
-# Files that a page tells of in words: netlists, and a certificate of the page with one text in place of another.
+# Files that a page tells of in words: netlists, and certificates of a page's commands with one text
+# in place of another.
 FILES = {"inverter.v": INVERTER, "lost.v": LOST}
 CHANGED = {
-    "other_pair.cert": ("still.cert", b"to 0", b"to 1"), "other_leaf.cert": ("still.cert", b"b a 0", b"none"),
+    "other_pair.cert": ("still.cert", b"to 0", b"to 1"),
+    "other_leaf.cert": ("still.cert", b"b a 0", b"none"),
     "other_bound.cert": ("inverter.cert", b"b a 3", b"b a 2"),
 }
-LINE = re.compile(
-    r"(?:exact|accepted|time|nodes|[atmen]) \d+|t none|between \d+ \d+|last (?!NAME)\w+ (?:\d+|never)|refused \d \w+(?: line \d+)?|at [\d ]+|tdelay: [a-z ]+"
-)
+# The lines of reports, and the messages, that are looked for in backquotes.
+LINES = [
+    r"(?:exact|accepted|time|nodes|[atmen]) \d+",
+    r"t none",
+    r"between \d+ \d+",
+    r"last (?!NAME)\w+ (?:\d+|never)",
+    r"refused \d \w+(?: line \d+)?",
+    r"at [\d ]+",
+    r"tdelay: [a-z ]+",
+]
+LINE = re.compile("|".join(LINES))
 
 
 def plain(text):
@@ -72,7 +91,9 @@ def contracts(tested):
 def tools(tested):
     """Cases: the numbers of the model, and the picture of the crates."""
     for tool in ("model.py", "picture.py"):
-        done = running.run([sys.executable, os.path.join(places.TOOLS, tool), "--check"], places.TOP)
+        done = running.run(
+            [sys.executable, os.path.join(places.TOOLS, tool), "--check"], places.TOP
+        )
         tested.expect(f"{tool}: {done.out}{done.err}", 0, done.status)
 
 
@@ -91,8 +112,15 @@ def spans_of(prose):
     return [" ".join(span.split()) for span in re.findall(r"(?<!`)`([^`]+)`(?!`)", prose)]
 
 
+def own_part(line):
+    """The commands of a line that call `./tdelay`, without those of viewers."""
+    return " && ".join(part for part in line.split(" && ") if part.startswith("./tdelay "))
+
+
 class Pages:
-    """The pages as they are read, with the folder in which their commands run, and what they printed so far."""
+    """The pages as they are read, with the folder in which their commands run, and what they
+    printed so far.
+    """
 
     def __init__(self, tested, folder):
         self.tested, self.folder, self.name = tested, folder, None
@@ -100,6 +128,8 @@ class Pages:
         self.last = ""
         os.symlink(places.EXAMPLES, os.path.join(folder, "examples"))
         os.symlink(tested.program, os.path.join(folder, "tdelay"))
+        for name, text in FILES.items():
+            running.write(folder, name, text)
 
     def run(self, line, statuses=(0,)):
         """A case: a command of the page ends well."""
@@ -107,17 +137,21 @@ class Pages:
         self.commands += 1
         self.last = done.out
         self.lines.update((done.out + done.err).splitlines())
-        self.tested.expect(f"{self.name}: {line}: {done.out}{done.err}: the status", True, done.status in statuses)
+        self.tested.expect(
+            f"{self.name}: {line}: {done.out}{done.err}: the status", True, done.status in statuses
+        )
 
     def read(self, name, least):
-        """The commands of a page, of which there have to be so many, and those that it tells of in words."""
+        """The commands of a page, of which there have to be so many, and those that it tells of in
+        words.
+        """
         self.name, self.commands, netlist = name, 0, None
         for language, body in pieces(places.text_of(name)):
             if language is None:
                 netlist = self.read_prose(body) or netlist
             elif language == "sh":
                 for line in re.findall(r"^\./tdelay .*$", body, flags=re.M):
-                    self.run(line)
+                    self.run(own_part(line))
             elif language == "" and re.match(r"module \w+ ?\(", body):
                 running.write(self.folder, netlist, body)
             elif language == "" and not re.match(r" +\d+  ", body):
@@ -127,7 +161,9 @@ class Pages:
         self.others(OTHERS[name])
 
     def read_prose(self, prose):
-        """Runs the commands in backquotes, and keeps the other texts. Gives the last name of a netlist."""
+        """Runs the commands in backquotes, and keeps the other texts. Gives the last name of a
+        netlist.
+        """
         names = []
         for span in spans_of(prose):
             self.spans.append((self.name, span))
@@ -138,30 +174,32 @@ class Pages:
         return names[-1] if names else None
 
     def compare(self, block):
-        """A case: a block is what the last command prints, or one that the page tells of in words."""
+        """A case: a block is what the last command prints, or one that the page puts in words."""
         shown = block.splitlines()
         if shown[0].startswith("between "):
             self.others([command for command in OTHERS[self.name] if "--budget" in command])
         prints = self.last.splitlines()
         body = prints[2:] if prints[:1] and prints[0].startswith("unit ") else prints
-        self.tested.expect(f"{self.name}: {shown} is what is printed, {prints}", True, shown in (prints, body))
+        self.tested.expect(
+            f"{self.name}: {shown} is what is printed, {prints}", True, shown in (prints, body)
+        )
 
     def others(self, commands):
         """Runs commands that the page tells of in words."""
-        for name, text in FILES.items():
-            running.write(self.folder, name, text)
-        for name, (old, one, other) in CHANGED.items():
-            text = running.read(self.folder, old)
-            if text is not None:
-                running.write(self.folder, name, text.replace(one, other, 1))
         for command in commands:
+            for name, (old, one, other) in CHANGED.items():
+                text = running.read(self.folder, old)
+                if name in command and text is not None:
+                    running.write(self.folder, name, text.replace(one, other, 1))
             self.run(f"./tdelay {command}", (0, 1, 3, 4))
 
     def compare_spans(self):
         """Cases: each text in backquotes that is a line of a report is one that was printed."""
         for name, span in self.spans:
             if LINE.fullmatch(span):
-                self.tested.expect(f"{name}: some command prints `{span}`", True, span in self.lines)
+                self.tested.expect(
+                    f"{name}: some command prints `{span}`", True, span in self.lines
+                )
 
 
 def work(tested):

@@ -1,13 +1,15 @@
 #!/usr/bin/env python3
 """Compares searches in parts with searches as a whole.
 
-Each case is a random circuit, some with pins, held inputs, few flips and moments of inputs, whose question is cut by `parts` into 2 to 40 parts
-with either strategy; each part is searched by `worst`, and the certificates are joined by `join` in a random order. Each admitted pair lies in
-the pins of exactly one part (by looking at all pairs, where they are few); each part has one; there are no more parts than were asked for;
-`join` reports the time of the whole search; `check` accepts what it writes, which is about the question that was asked. A part left out, one
-taken twice, one of another question and one with another time are refused, or reported by `check`. One more case is
-examples/many_machines.sh on examples/mult_8.v without GNU parallel, and one with it, where it is there. At least 60 of 100 cases are cut
-into two parts or more.
+Each case is a random circuit, some with pins, held inputs, few flips and moments of inputs, whose
+question is cut by `parts` into 2 to 40 parts with either strategy; each part is searched by
+`worst`, and the certificates are joined by `join` in a random order. Each admitted pair lies in the
+pins of exactly one part (by looking at all pairs, where they are few); each part has one; there are
+no more parts than were asked for; `join` reports the time of the whole search; `check` accepts what
+it writes, which is about the question that was asked. A part left out, one taken twice, one of
+another question and one with another time are refused, or reported by `check`. One more case is
+examples/many_machines.sh on examples/mult_8.v without GNU parallel, and one with it, where it is
+there. At least 60 of 100 cases are cut into two parts or more.
 """
 
 import os
@@ -29,7 +31,12 @@ class Question:
     def __init__(self, tested, inputs, words):
         self.tested, self.inputs, self.words = tested, inputs, words
         free = "." * inputs
-        self.pins = ["--first", word(words, "--first", free), "--second", word(words, "--second", free)]
+        self.pins = [
+            "--first",
+            word(words, "--first", free),
+            "--second",
+            word(words, "--second", free),
+        ]
 
     def run(self, *words):
         return self.tested.run(*words)
@@ -43,7 +50,11 @@ def wrong_cut(asked, lines, count):
     parts = [(word(line, "--first", free), word(line, "--second", free)) for line in lines]
     holding = [0] * len(parts)
     for before, after in admitted(asked.words, asked.inputs):
-        inside = [place for place, (first, second) in enumerate(parts) if fits(first, before) and fits(second, after)]
+        inside = [
+            place
+            for place, (first, second) in enumerate(parts)
+            if fits(first, before) and fits(second, after)
+        ]
         if len(inside) != 1:
             return f"{before} to {after} lies in {len(inside)} parts"
         holding[inside[0]] += 1
@@ -53,7 +64,15 @@ def wrong_cut(asked, lines, count):
 def search_parts(asked, lines):
     """Searches each part; gives what is wrong with a search."""
     for place, line in enumerate(lines):
-        done = asked.run("worst", "t.v", *line, "--cert", f"p{place}", "--strategy", asked.tested.random.choice(["least", "lead"]))
+        done = asked.run(
+            "worst",
+            "t.v",
+            *line,
+            "--cert",
+            f"p{place}",
+            "--strategy",
+            asked.tested.random.choice(["least", "lead"]),
+        )
         if done.status != 0:
             return f"part {place}: {done.status} {done.err}"
     return None
@@ -72,7 +91,9 @@ def wrong_join(asked, lines):
     asked.tested.random.shuffle(names)
     done = asked.run("join", "t.v", *names, *asked.pins, "--cert", "joined")
     if done.status != 0 or reports.values_of(done.out).get("exact") != time:
-        return f"join: {done.status} {done.out}{done.err}where the whole search reports\n{whole.out}"
+        return (
+            f"join: {done.status} {done.out}{done.err}where the whole search reports\n{whole.out}"
+        )
     checked, of_whole = asked.run("check", "t.v", "joined"), asked.run("check", "t.v", "whole")
     if checked.status != 0 or str(reports.accepted_time(checked.out)) != time:
         return f"check: {checked.out}{checked.err}"
@@ -115,26 +136,49 @@ def forged(asked, lines):
     names = [f"p{place}" for place in range(len(lines))]
     text = asked.tested.read(names[0]).decode().splitlines()
     place = next(place for place, line in enumerate(text) if line.startswith("time "))
-    text[place] = f"time {int(text[place].split()[1]) + 1_000_001 + asked.tested.random.randrange(3)}"
+    text[
+        place
+    ] = f"time {int(text[place].split()[1]) + 1_000_001 + asked.tested.random.randrange(3)}"
     asked.tested.write("forged", "\n".join(text) + "\n")
     done = asked.run("join", "t.v", "forged", *names[1:], *asked.pins, "--cert", "other")
-    if done.status not in (0, 4) or done.status == 0 and asked.run("check", "t.v", "other").status != 4:
+    if (
+        done.status not in (0, 4)
+        or done.status == 0
+        and asked.run("check", "t.v", "other").status != 4
+    ):
         return f"a forged time: {done.status} {done.out}{done.err}"
     return None
 
 
 def wrong(tested, text, inputs):
-    """What is wrong with one random question, if something is, and into how many parts it was cut."""
+    """What is wrong with a random question, if something is, and into how many parts it is cut."""
     asked = Question(tested, inputs, random_question(tested.random, inputs))
     count = tested.random.randint(2, 40)
-    cut = tested.run("parts", "t.v", "--parts", str(count), *asked.words, "--strategy", tested.random.choice(["least", "lead"]))
+    cut = tested.run(
+        "parts",
+        "t.v",
+        "--parts",
+        str(count),
+        *asked.words,
+        "--strategy",
+        tested.random.choice(["least", "lead"]),
+    )
     if (cut.status, cut.err) == (1, NO_PAIR):
         searched = tested.run("worst", "t.v", *asked.words)
-        return (None if (searched.status, searched.err) == (1, NO_PAIR) else "parts finds no pair, worst finds one"), 0
+        return (
+            None
+            if (searched.status, searched.err) == (1, NO_PAIR)
+            else "parts finds no pair, worst finds one"
+        ), 0
     if cut.status != 0:
         return f"parts: {cut.status} {cut.err}", 0
     lines = [line.split() for line in cut.out.splitlines()]
-    found = wrong_cut(asked, lines, count) or wrong_join(asked, lines) or mixed(asked, lines) or forged(asked, lines)
+    found = (
+        wrong_cut(asked, lines, count)
+        or wrong_join(asked, lines)
+        or mixed(asked, lines)
+        or forged(asked, lines)
+    )
     return found and f"{found}\n{asked.words}\n{text}", len(lines)
 
 
@@ -144,10 +188,16 @@ def wrong_script(tested, path):
     words = ["examples/mult_8.v", "24", out, "--strategy", "lead"]
     environment = {**os.environ, "TDELAY": tested.program, "PATH": path, "JOBS": "2"}
     done = running.run([SCRIPT, *words], places.TOP, seconds=300, env=environment)
-    whole = running.run([tested.program, "worst", "examples/mult_8.v", "--strategy", "lead"], places.TOP, seconds=300)
+    whole = running.run(
+        [tested.program, "worst", "examples/mult_8.v", "--strategy", "lead"],
+        places.TOP,
+        seconds=300,
+    )
     figures = reports.figures_of(whole.out)
     if figures is None or done.status not in (0, 3):
-        return f"script: {done.status} {done.out}{done.err}where the whole search reports\n{whole.out}"
+        return (
+            f"script: {done.status} {done.out}{done.err}where the whole search reports\n{whole.out}"
+        )
     reported = reports.figures_of(done.out)
     if reported is None or not reports.agree(reported, figures):
         return f"script: {done.out}where the whole search reports\n{whole.out}"

@@ -1,15 +1,19 @@
 #!/usr/bin/env python3
-"""Runs each command with a growth of memory refused, alone or with all that come after it, and compares each run with one that has memory enough.
+"""Runs each command with a growth of memory refused, alone or with all that come after it, and
+compares each run with one that has memory enough.
 
-A run may answer the same; or end with status 5, `tdelay: out of memory` and nothing but a beginning of its output; or, a search, answer
-`between` with `cause memory` and two figures around the right one, or `exact` with the right time and a certificate that `check` accepts.
-Where the root of a search is measured and bounded, and its report isn't begun, a growth refused alone may not end it as out of memory: it
-has to answer. That is so after as many growths as the same search takes with a budget of 0, and until the last ones, which are the report's.
-Searches are those of a lost pulse, of two ways that meet, and of a slow arm, by 1, 2 and 4 workers. `check` gives its verdict or is out of
+A run may answer the same; or end with status 5, `tdelay: out of memory` and nothing but a beginning
+of its output; or, a search, answer `between` with `cause memory` and two figures around the right
+one, or `exact` with the right time and a certificate that `check` accepts. Where the root of a
+search is measured and bounded, and its report isn't begun, a growth refused alone may not end it as
+out of memory: it has to answer. That is so after as many growths as the same search takes with a
+budget of 0, and until the last ones, which are the report's. Searches are those of a lost pulse, of
+two ways that meet, and of a slow arm, by 1, 2 and 4 workers. `check` gives its verdict or is out of
 memory, and never another verdict.
 
-Each case is a refused growth, or all from one on. All of them are some 32,000, of which those after roots are tried, and a random choice of the
-others. Of 100 cases 10 at least are searches of which the root was known, and 30 out of memory. It needs a C compiler, `cc`.
+Each case is a refused growth, or all from one on. All of them are some 32,000, of which those after
+roots are tried, and a random choice of the others. Of 100 cases 10 at least are searches of which
+the root was known, and 30 out of memory. It needs a C compiler, `cc`.
 """
 
 import os
@@ -24,15 +28,28 @@ CASES = 9000
 OF_REPORT = 16
 # After the last growth.
 NEVER = 10**9
-NETLISTS = {"inverter.v": netlists.INVERTER, "lost.v": netlists.LOST, "met.v": netlists.MET, "slow.v": netlists.SLOW}
+NETLISTS = {
+    "inverter.v": netlists.INVERTER,
+    "lost.v": netlists.LOST,
+    "met.v": netlists.MET,
+    "slow.v": netlists.SLOW,
+}
 CERTIFICATES = {
-    "lost.cert": ["lost.v"], "met.cert": ["met.v"], "slow.cert": ["slow.v"], "few.cert": ["met.v", "--flips", "1", "--at", "0,2"],
-    "zero.cert": ["met.v", "--first", "0."], "one.cert": ["met.v", "--first", "1."],
+    "lost.cert": ["lost.v"],
+    "met.cert": ["met.v"],
+    "slow.cert": ["slow.v"],
+    "few.cert": ["met.v", "--flips", "1", "--at", "0,2"],
+    "zero.cert": ["met.v", "--first", "0."],
+    "one.cert": ["met.v", "--first", "1."],
 }
 ROOTED = [
     ["worst", netlist, "--workers", workers, "--budget", "10000"]
-    for netlist in ("lost.v", "met.v", "slow.v") for workers in ("1", "2", "4")
-] + [["worst", "met.v", "--strategy", "lead", "--budget", "10000"], ["worst", "met.v", "--flips", "1", "--budget", "10000"]]
+    for netlist in ("lost.v", "met.v", "slow.v")
+    for workers in ("1", "2", "4")
+] + [
+    ["worst", "met.v", "--strategy", "lead", "--budget", "10000"],
+    ["worst", "met.v", "--flips", "1", "--budget", "10000"],
+]
 OTHERS = [
     ["sim", "inverter.v", "0", "1"],
     ["sim", "c17.v", "01010", "01110", "--vcd", "out.vcd"],
@@ -60,7 +77,8 @@ OTHERS = [
 
 # How a run ended, and what it wrote. The growths are how many it asked for.
 Outcome = namedtuple("Outcome", "status out err written")
-# A command with how it ends where memory suffices, its worst delay, its growths, and after which of them and until which it has to answer.
+# A command with how it ends where memory suffices, its worst delay, its growths, and after which of
+# them and until which it has to answer.
 Command = namedtuple("Command", "words ample worst growths rooted")
 
 
@@ -76,7 +94,11 @@ class Refuser:
     def run(self, words, first=0, last=-1):
         """How a run ends whose growths `first` to `last` are refused, and how many it asked for."""
         self.tested.remove("out.cert", "out.vcd", "growths")
-        refusing = {"REFUSE_FROM": str(first), "REFUSE_TO": str(last), "GROWTHS": os.path.join(self.tested.folder, "growths")}
+        refusing = {
+            "REFUSE_FROM": str(first),
+            "REFUSE_TO": str(last),
+            "GROWTHS": os.path.join(self.tested.folder, "growths"),
+        }
         done = self.tested.run(*words, env={"LD_PRELOAD": self.shim, **refusing})
         growths = self.tested.read("growths")
         written = tuple(self.tested.read(name) for name in ("out.cert", "out.vcd"))
@@ -113,15 +135,24 @@ def command_of(refuser, words, is_rooted):
         before = max(refuser.run(with_budget(words, "00000"))[1] for _ in range(5))
         rooted = range(before + 1, growths - OF_REPORT + 1)
         if not rooted:
-            raise RuntimeError(f"{' '.join(words)}: {growths} growths, {before} of them with a budget of 0: none after the root")
+            raise RuntimeError(
+                f"{' '.join(words)}: {growths} growths, {before} of them with a budget of 0: "
+                "none after the root"
+            )
     return Command(words, ample, worst, growths, rooted)
 
 
 def is_accepted(tested, command, got):
-    """Whether `check` accepts the certificate of a run with the worst delay, where one was asked for."""
+    """Whether `check` accepts the certificate of a run with the worst delay, where one was asked
+    for.
+    """
     if "--cert" not in command.words:
         return got.written[0] is None
-    return got.written[0] is not None and reports.accepted_time(tested.run("check", command.words[1], "out.cert").out) == command.worst
+    return (
+        got.written[0] is not None
+        and reports.accepted_time(tested.run("check", command.words[1], "out.cert").out)
+        == command.worst
+    )
 
 
 def how_it_ended(tested, command, got):
@@ -129,7 +160,11 @@ def how_it_ended(tested, command, got):
     ample = command.ample
     if got == ample:
         return "the same"
-    if got.status == 5 and got.err in ("tdelay: out of memory\n", "") and ample.out.startswith(got.out):
+    if (
+        got.status == 5
+        and got.err in ("tdelay: out of memory\n", "")
+        and ample.out.startswith(got.out)
+    ):
         whole = all(text in (None, wanted) for text, wanted in zip(got.written, ample.written))
         return "out of memory" if whole else None
     figures = reports.figures_of(got.out)
@@ -137,7 +172,11 @@ def how_it_ended(tested, command, got):
         return None
     if got.status == 3 and "\ncause memory\n" in got.out and got.written == (None, None):
         return "between" if figures.low <= command.worst <= figures.high else None
-    if got.status == 0 and figures == (command.worst, command.worst) and is_accepted(tested, command, got):
+    if (
+        got.status == 0
+        and figures == (command.worst, command.worst)
+        and is_accepted(tested, command, got)
+    ):
         return "exact in another way"
     return None
 
@@ -148,15 +187,29 @@ def try_growth(tested, refuser, command, first, last):
     how = how_it_ended(tested, command, got)
     has_to_answer = first == last and first in command.rooted
     if how is None or has_to_answer and how == "out of memory":
-        tested.fault(f"{' '.join(command.words)}, growths {first} to {last} of {command.growths} refused: {got}")
+        tested.fault(
+            f"{' '.join(command.words)}, growths {first} to {last} of {command.growths} refused: "
+            f"{got}"
+        )
     kinds = [how or "wrong"] + ["growth refused"] * (first <= growths)
-    tested.case(*kinds, *["root known, answered"] * (has_to_answer and first <= growths and how not in (None, "out of memory")))
+    tested.case(
+        *kinds,
+        *["root known, answered"]
+        * (has_to_answer and first <= growths and how not in (None, "out of memory")),
+    )
     return how
 
 
 def chosen(tested, commands):
-    """The growths that are tried, by commands: those after roots first, then a random choice of the others, all where so many are asked for."""
-    every = [(place, first, last) for place, command in enumerate(commands) for first in range(1, command.growths + 1) for last in (first, NEVER)]
+    """The growths that are tried, by commands: those after roots first, then a random choice of the
+    others, all where so many are asked for.
+    """
+    every = [
+        (place, first, last)
+        for place, command in enumerate(commands)
+        for first in range(1, command.growths + 1)
+        for last in (first, NEVER)
+    ]
     tested.random.shuffle(every)
     every.sort(key=lambda it: not (it[1] == it[2] and it[1] in commands[it[0]].rooted))
     return sorted(every[: tested.most])
@@ -172,7 +225,11 @@ def work(tested):
             ends[place, try_growth(tested, refuser, commands[place], first, last)] += 1
     finally:
         for place, command in enumerate(commands):
-            counts = ", ".join(f"{count} {how}" for (which, how), count in sorted(ends.items(), key=str) if which == place)
+            counts = ", ".join(
+                f"{count} {how}"
+                for (which, how), count in sorted(ends.items(), key=str)
+                if which == place
+            )
             after = f", {len(command.rooted)} of them after the root" if command.rooted else ""
             print(f"{' '.join(command.words)}: {command.growths} growths{after}: {counts}")
 

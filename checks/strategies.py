@@ -1,10 +1,12 @@
 #!/usr/bin/env python3
 """Compares both strategies with the greatest delay of all admitted pairs.
 
-Each case is a search of a random circuit of at most four inputs, some with pins, held inputs, few flips and moments of inputs. Its worst
-delay is found by running every admitted pair in tools/second_opinion.py, which shares no code with the program. `worst` has to answer exactly
-this with each strategy, and with `lead` also by two workers, by an admitted pair that has the delay, and its certificate has to be accepted
-by `check`, and by the second opinion too. Where no pair is admitted the program says so.
+Each case is a search of a random circuit of at most four inputs, some with pins, held inputs, few
+flips and moments of inputs. Its worst delay is found by running every admitted pair in
+tools/second_opinion.py, which shares no code with the program. `worst` has to answer exactly this
+with each strategy, and with `lead` also by two workers, by an admitted pair that has the delay, and
+its certificate has to be accepted by `check`, and by the second opinion too. Where no pair is
+admitted the program says so.
 """
 
 import sys
@@ -29,23 +31,36 @@ def fault_in(tested, circuit, words, way, wanted):
     done = tested.run("worst", "t.v", "--cert", "c", *words, *way)
     if wanted is None:
         no_pair = (done.status, done.out, done.err) == (1, "", "tdelay: no admitted pair\n")
-        return None if no_pair else f"status {done.status}: {done.out}{done.err}where no pair is admitted"
+        return (
+            None
+            if no_pair
+            else f"status {done.status}: {done.out}{done.err}where no pair is admitted"
+        )
     values = reports.values_of(done.out)
     if done.status != 0 or done.err or values.get("exact") != str(wanted):
         return f"status {done.status}: {done.out}{done.err}where the worst delay is {wanted}"
     pair = values["from"], values["to"]
-    if pair not in questions.admitted(words, circuit.inputs) or delay_of(circuit, pair, questions.moments_of(words, circuit.inputs)) != wanted:
+    if (
+        pair not in questions.admitted(words, circuit.inputs)
+        or delay_of(circuit, pair, questions.moments_of(words, circuit.inputs)) != wanted
+    ):
         return f"the pair {pair}"
     checked = tested.run("check", "t.v", "c")
     if reports.accepted_time(checked.out) != wanted:
         return f"the certificate: {checked.out}{checked.err}"
     judged = second_opinion.verdict(circuit, second_opinion.read_certificate(tested.read("c")))
-    return None if judged == (second_opinion.Verdict.Accepted, None) else f"the certificate, by the second opinion: {judged}"
+    return (
+        None
+        if judged == (second_opinion.Verdict.Accepted, None)
+        else f"the certificate, by the second opinion: {judged}"
+    )
 
 
 def work(tested):
     ways = [["--strategy", "least"], ["--strategy", "lead"]]
-    ways += [["--strategy", "lead", "--workers", count] for count in tested.asked.workers.split(",")]
+    ways += [
+        ["--strategy", "lead", "--workers", count] for count in tested.asked.workers.split(",")
+    ]
     while True:
         text, inputs, _ = random_netlist(tested.random)
         tested.write("t.v", text)
@@ -66,5 +81,11 @@ def shares(tested, _cut):
 
 
 if __name__ == "__main__":
-    options = {"--workers": {"default": "2", "metavar": "N,N,..", "help": "by how many workers `lead` searches (2 where left out)"}}
+    options = {
+        "--workers": {
+            "default": "2",
+            "metavar": "N,N,..",
+            "help": "by how many workers `lead` searches (2 where left out)",
+        }
+    }
     sys.exit(check.main(work, __doc__, CASES, shares, options))

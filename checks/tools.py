@@ -1,10 +1,13 @@
 #!/usr/bin/env python3
-"""Tests of the tools that stand beside the program: tools/second_opinion.py with its reader of netlists, and tools/drawing.py.
+"""Tests of the tools that stand beside the program: tools/second_opinion.py with its reader of
+netlists, and tools/drawing.py.
 
-By its command line the second opinion has to print what the program prints, with its exit status: of the netlists in examples/ and random
-pairs `sim` and `path`, of certificates that `worst` writes, whole and changed, `check`, and of netlists and words that are refused the status
-and the kind. The pictures in examples/ are what drawing.py makes of the waves that the program writes for a command of the same section of
-examples/README.md. A picture is well-formed, and a text that is no dump is refused.
+By its command line the second opinion has to print what the program prints, with its exit status:
+of the netlists in examples/ and random pairs `sim` and `path`, of certificates that `worst` writes,
+whole and changed, `check`, and of netlists and words that are refused the status and the kind. The
+pictures in examples/ are what drawing.py makes of the waves that the program writes for a command
+of the same section of examples/README.md. A picture is well-formed, and a text that is no dump is
+refused.
 """
 
 import os
@@ -16,12 +19,26 @@ from lib import check, places, running
 
 CASES = 100
 SECOND, DRAWING = (os.path.join(places.TOOLS, name) for name in ("second_opinion.py", "drawing.py"))
-SMALL = ["c17.v", "hazard.v", "inverter.v", "late_fall.v", "lost_pulse.v", "passed_pulse.v", "adder_8.v"]
+SMALL = [
+    "c17.v",
+    "hazard.v",
+    "inverter.v",
+    "late_fall.v",
+    "lost_pulse.v",
+    "passed_pulse.v",
+    "adder_8.v",
+]
 # Netlists that are refused, with what standard error begins with.
 REFUSED = [
     ("module t(a, y); input a; output y; nand #0 g(y,a); endmodule", "tdelay: netlist fault"),
-    ("module t(a, y); input a; output y; buf #1 g(y,a); not #1 h(y,a); endmodule", "tdelay: netlist fault"),
-    ("module t(a, q); input a; output q; nand #1 g(q,a,q); endmodule", "tdelay: circuit fault 1 Loop"),
+    (
+        "module t(a, y); input a; output y; buf #1 g(y,a); not #1 h(y,a); endmodule",
+        "tdelay: netlist fault",
+    ),
+    (
+        "module t(a, q); input a; output q; nand #1 g(q,a,q); endmodule",
+        "tdelay: circuit fault 1 Loop",
+    ),
     ("module t(a, y); input a; output y; buf #1 g(y,a);", "tdelay: netlist fault"),
     ("module t(a, y); input a; output y; buf #1 g(y,b); endmodule", "tdelay: netlist fault"),
 ]
@@ -39,7 +56,12 @@ def draw(tested, name):
 def agrees(tested, *words):
     """A case: both print the same to these words, and end with one status."""
     ours, theirs = second(tested, *words), tested.run(*words)
-    tested.expect(f"{' '.join(words)}, by the second opinion", tuple(theirs), tuple(ours), f"both say status {theirs.status}")
+    tested.expect(
+        f"{' '.join(words)}, by the second opinion",
+        tuple(theirs),
+        tuple(ours),
+        f"both say status {theirs.status}",
+    )
 
 
 def drawn_of(tested, command):
@@ -53,7 +75,10 @@ def pictures(tested):
     """Cases: the pictures of examples/ are what is drawn of the waves of a command beside them."""
     count = 0
     for section in re.split(r"(?m)^## ", places.text_of("examples", "README.md")):
-        commands = [re.sub("^path ", "sim ", it) for it in re.findall(r"(?m)^\./tdelay ((?:sim|path|worst) .*)$", section)]
+        commands = [
+            re.sub("^path ", "sim ", it)
+            for it in re.findall(r"(?m)^\./tdelay ((?:sim|path|worst) .*)$", section)
+        ]
         for name in re.findall(r"!\[.*?\]\((\w+\.svg)\)", section):
             count += 1
             wanted = places.text_of("examples", name)
@@ -70,7 +95,9 @@ def bad_dumps(tested):
     for name, text in (("empty", ""), ("text", "no dump\n"), ("cut", "$var wire 1 ! a $end\n")):
         tested.write(name, text)
         done = draw(tested, name)
-        tested.expect(f"a picture of {name}", (True, "", True), (done.status != 0, done.out, bool(done.err)))
+        tested.expect(
+            f"a picture of {name}", (True, "", True), (done.status != 0, done.out, bool(done.err))
+        )
     done = draw(tested, "absent")
     tested.expect("a picture of no file", (True, ""), (done.status != 0, done.out))
 
@@ -95,11 +122,23 @@ def refusals(tested):
 
 def certificates(tested):
     """Cases: certificates of searches, whole and changed."""
-    for words in (["--flips", "2"], ["--at", "0,1,2,3,4"], ["--strategy", "lead"], ["--first", "0...."], []):
+    for words in (
+        ["--flips", "2"],
+        ["--at", "0,1,2,3,4"],
+        ["--strategy", "lead"],
+        ["--first", "0...."],
+        [],
+    ):
         tested.run("worst", "t.v", *words, "--cert", "c")
         agrees(tested, "check", "t.v", "c")
     text = tested.read("c") or b""
-    for old, new in ((b"time 3", b"time 2"), (b"b a 3", b"b a 2"), (b"b a 3", b"s 10\nb a 3\nb a 3"), (b"circuit 5 6", b"circuit 5 7"), (b"cert 1", b"cert 9")):
+    for old, new in (
+        (b"time 3", b"time 2"),
+        (b"b a 3", b"b a 2"),
+        (b"b a 3", b"s 10\nb a 3\nb a 3"),
+        (b"circuit 5 6", b"circuit 5 7"),
+        (b"cert 1", b"cert 9"),
+    ):
         tested.write("c", text.replace(old, new))
         agrees(tested, "check", "t.v", "c")
     tested.write("c", text + b"b a 3\n")
@@ -114,7 +153,9 @@ def random_pairs(tested):
         tested.write("t.v", places.text_of("examples", name))
         inputs = int(re.search(r"(?m)^inputs (\d+)$", tested.run("info", "t.v").out)[1])
         vectors = ["".join(rng.choice("0101x") for _ in range(inputs)) for _ in range(2)]
-        moments = ["--at", ",".join(str(rng.choice([0, 0, 1, 5])) for _ in range(inputs))] * (rng.random() < 0.5)
+        moments = ["--at", ",".join(str(rng.choice([0, 0, 1, 5])) for _ in range(inputs))] * (
+            rng.random() < 0.5
+        )
         agrees(tested, rng.choice(["sim", "path"]), "t.v", *vectors, *moments)
 
 

@@ -1,10 +1,13 @@
 #!/usr/bin/env python3
-"""Runs the transcripts that stand in checks/transcripts, or those that `--file` names, and says which lines differ.
+"""Runs the transcripts that stand in checks/transcripts, or those that `--file` names, and says
+which lines differ.
 
-A transcript is text as cram (https://bitheap.org/cram/) reads it: a line that begins with two spaces and `$ ` is a command, one with two
-spaces and `> ` goes on with it, and the lines with two spaces after it are what it prints, standard error after standard output, then its
-exit status in brackets where that isn't 0. Every other line is a comment. Each file runs in an empty folder of its own, in which `tdelay` is
-the program and NETLISTS names the folder examples/. Each command is a case, and there are 400 at least, half of which print something.
+A transcript is text as cram (https://bitheap.org/cram/) reads it: a line that begins with two
+spaces and `$ ` is a command, one with two spaces and `> ` goes on with it, and the lines with two
+spaces after it are what it prints, standard error after standard output, then its exit status in
+brackets where that isn't 0. Every other line is a comment. Each file runs in an empty folder of its
+own, in which `tdelay` is the program and NETLISTS names the folder examples/. Each command is a
+case, and there are 400 at least, half of which print something.
 """
 
 import glob
@@ -14,7 +17,7 @@ import sys
 from lib import check, places, running
 
 # The longest that a command may take, in seconds.
-LONGEST = 50
+LONGEST = 40
 
 
 def cases(text):
@@ -47,17 +50,26 @@ def try_transcript(tested, path):
         binaries = os.path.join(folder, ".bin")
         os.mkdir(binaries)
         os.symlink(tested.program, os.path.join(binaries, "tdelay"))
-        environment = {**os.environ, "PATH": f"{binaries}:{os.environ['PATH']}", "NETLISTS": places.EXAMPLES, "LC_ALL": "C"}
+        environment = {
+            **os.environ,
+            "PATH": f"{binaries}:{os.environ['PATH']}",
+            "NETLISTS": places.EXAMPLES,
+            "LC_ALL": "C",
+        }
         for number, command, expected in found:
             lines = printed(command, folder, environment)
             if lines != expected:
                 differing = [f"  - {it}" for it in expected] + [f"  + {it}" for it in lines]
-                tested.fault("\n".join([f"{os.path.basename(path)}:{number}: {command}", *differing]))
+                tested.fault(
+                    "\n".join([f"{os.path.basename(path)}:{number}: {command}", *differing])
+                )
             tested.case(*["with an output"] * bool(lines))
 
 
 def work(tested):
-    for path in tested.asked.file or sorted(glob.glob(os.path.join(places.CHECKS, "transcripts", "*.t"))):
+    for path in tested.asked.file or sorted(
+        glob.glob(os.path.join(places.CHECKS, "transcripts", "*.t"))
+    ):
         try_transcript(tested, path)
 
 
@@ -68,5 +80,11 @@ def shares(tested, cut):
 
 
 if __name__ == "__main__":
-    option = {"--file": {"nargs": "+", "metavar": "FILE", "help": "transcripts in place of those of checks/transcripts"}}
+    option = {
+        "--file": {
+            "nargs": "+",
+            "metavar": "FILE",
+            "help": "transcripts in place of those of checks/transcripts",
+        }
+    }
     sys.exit(check.main(work, __doc__, shares=shares, options=option))

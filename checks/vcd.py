@@ -1,10 +1,12 @@
 #!/usr/bin/env python3
 """Compares the waves that `sim --vcd` and `worst --vcd` write with those of Icarus Verilog.
 
-Each case is a random circuit with a pair of vectors, for `sim` a random one, for `worst` the one that it finds. A test bench for `iverilog`
-sets the first vector, waits until the circuit is settled, sets the second and dumps all nets of the circuit by `$dumpvars`. Each net has to
-have the same levels at the same moments in both, where time 0 of the pair is the moment of the second vector there. In at least half of the
-cases something changes. It needs `iverilog` and `vvp`, or what IVERILOG and VVP say in their place.
+Each case is a random circuit with a pair of vectors, for `sim` a random one, for `worst` the one
+that it finds. A test bench for `iverilog` sets the first vector, waits until the circuit is
+settled, sets the second and dumps all nets of the circuit by `$dumpvars`. Each net has to have the
+same levels at the same moments in both, where time 0 of the pair is the moment of the second vector
+there. In at least half of the cases something changes. It needs `iverilog` and `vvp`, or what
+IVERILOG and VVP say in their place.
 """
 
 import os
@@ -45,7 +47,7 @@ endmodule
 
 
 def read_dump(text, offset):
-    """Of each net in a dump the level before the offset, and the levels written later by moments."""
+    """Of each net in a dump the level before the offset, and the later ones by their moments."""
     names, levels, changes, time = {}, {}, {}, 0
     for line in text.splitlines():
         words = line.split()
@@ -81,7 +83,9 @@ def compared(tested, words, vectors, sizes):
     done = tested.run(*words)
     dump = tested.read("our.vcd")
     if done.status not in (0, 3) or dump is None:
-        tested.fault(f"{words}: status {done.status}, {'no dump' if dump is None else 'a dump'}: {done.err}")
+        tested.fault(
+            f"{words}: status {done.status}, {'no dump' if dump is None else 'a dump'}: {done.err}"
+        )
         return tested.case()
     if words[0] == "worst":
         values = reports.values_of(done.out)
@@ -91,7 +95,9 @@ def compared(tested, words, vectors, sizes):
         running.run(command, tested.folder)
     ours, theirs = waves(dump.decode(), 1), waves(tested.read("icarus.vcd").decode(), SETTLED)
     if ours != theirs:
-        tested.fault(f"{words} {vectors}\nours   {ours}\ntheirs {theirs}\n{tested.read('t.v').decode()}")
+        tested.fault(
+            f"{words} {vectors}\nours   {ours}\ntheirs {theirs}\n{tested.read('t.v').decode()}"
+        )
     return tested.case(*["with changes"] * any(changes for _, changes in ours.values()))
 
 
@@ -102,7 +108,12 @@ def work(tested):
         tested.write("t.v", text)
         vectors = ["".join(rng.choice("0011x") for _ in range(inputs)) for _ in range(2)]
         compared(tested, ["sim", "t.v", *vectors, "--vcd", "our.vcd"], vectors, (inputs, outputs))
-        compared(tested, ["worst", "t.v", "--budget", "50", "--vcd", "our.vcd"], vectors, (inputs, outputs))
+        compared(
+            tested,
+            ["worst", "t.v", "--budget", "50", "--vcd", "our.vcd"],
+            vectors,
+            (inputs, outputs),
+        )
 
 
 def shares(tested, _cut):

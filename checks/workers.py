@@ -1,10 +1,11 @@
 #!/usr/bin/env python3
 """Compares searches by several workers with searches by one.
 
-Each case is a search of a random circuit, some with pins, held inputs, few flips, moments of inputs and a small budget, by 1, 4 or 64
-workers. Where both answer exactly the times are equal; where one answers between two figures they hold the other's; and the certificate of
-each exact answer is accepted by `check`. An answer has to be there, or, from each number of workers, that there is no admitted pair. At
-least 60 of 100 searches are exact, and 2 of 100 are cut short.
+Each case is a search of a random circuit, some with pins, held inputs, few flips, moments of inputs
+and a small budget, by 1, 4 or 64 workers. Where both answer exactly the times are equal; where one
+answers between two figures they hold the other's; and the certificate of each exact answer is
+accepted by `check`. An answer has to be there, or, from each number of workers, that there is no
+admitted pair. At least 60 of 100 searches are exact, and 2 of 100 are cut short.
 """
 
 import sys
@@ -22,12 +23,25 @@ def fault_of(tested, done, name):
     if done.status == 1 and done.err == NO_PAIR and not done.out:
         return None
     found = reports.figures_of(done.out)
-    if done.err or done.status not in (0, 3) or found is None or reports.is_exact(done.out) != (done.status == 0):
+    if (
+        done.err
+        or done.status not in (0, 3)
+        or found is None
+        or reports.is_exact(done.out) != (done.status == 0)
+    ):
         return f"status {done.status}: {done.out}{done.err}"
     if done.status == 3:
-        return "a certificate of a search that was cut short" if tested.read(name) is not None else None
+        return (
+            "a certificate of a search that was cut short"
+            if tested.read(name) is not None
+            else None
+        )
     checked = tested.run("check", "t.v", name)
-    return None if reports.accepted_time(checked.out) == found.low else f"{done.out}its certificate: {checked.out}{checked.err}"
+    return (
+        None
+        if reports.accepted_time(checked.out) == found.low
+        else f"{done.out}its certificate: {checked.out}{checked.err}"
+    )
 
 
 def search(tested, words, workers):
@@ -53,7 +67,9 @@ def one_circuit(tested, counts):
     text, inputs, _ = random_netlist(rng)
     tested.write("t.v", text)
     words = random_question(rng, inputs)
-    words += ["--budget", str(rng.choice([0, 1, 10, rng.randint(0, 200)]))] if rng.random() < 0.3 else []
+    words += (
+        ["--budget", str(rng.choice([0, 1, 10, rng.randint(0, 200)]))] if rng.random() < 0.3 else []
+    )
     one = None
     for workers in [1, *counts]:
         done, fault = search(tested, words, workers)
@@ -77,5 +93,11 @@ def shares(tested, _cut):
 
 
 if __name__ == "__main__":
-    options = {"--workers": {"default": "4,64", "metavar": "N,N,..", "help": "how many workers beside one (4,64 where left out)"}}
+    options = {
+        "--workers": {
+            "default": "4,64",
+            "metavar": "N,N,..",
+            "help": "how many workers beside one (4,64 where left out)",
+        }
+    }
     sys.exit(check.main(work, __doc__, CASES, shares, options))

@@ -1,9 +1,12 @@
 #!/usr/bin/env python3
-"""figures.py PROGRAM [PART ..]: measures searches of `tdelay` and prints the tables of docs/FIGURES.md.
+"""figures.py PROGRAM [PART ..]: measures searches of `tdelay` and prints the tables of
+docs/FIGURES.md.
 
-The parts are `least` (nodes a second of searches in one thread), `workers` (searches with 1, 2 and 4 workers) and `lead` (the netlists of
-a folder that is given as `lead=FOLDER`, with the strategy lead); `least` and `workers` where none is given. Each figure is the median of
-three runs, with the seconds that the clock says and those of the processor. Nothing else should be at work on the machine.
+The parts are `least` (nodes a second of searches in one thread), `workers` (searches with 1, 2 and
+4 workers) and `lead` (the netlists of a folder that is given as `lead=FOLDER`, with the strategy
+lead); `least` and `workers` where none is given. Each figure is the median of three runs, with the
+seconds that the clock says and those of the processor. Nothing else should be at work on the
+machine.
 """
 
 import os
@@ -27,7 +30,15 @@ class Gates:
         self.lines = []
 
     def gate(self, kind, *inputs):
-        delays = {"xor": "4,4", "and": "3,2", "or": "2,3", "buf": "1,1", "nand": "2,1", "nor": "1,2", "not": "1,1"}[kind]
+        delays = {
+            "xor": "4,4",
+            "and": "3,2",
+            "or": "2,3",
+            "buf": "1,1",
+            "nand": "2,1",
+            "nor": "1,2",
+            "not": "1,1",
+        }[kind]
         net = f"w{len(self.lines) + 1}"
         self.lines.append(f"{kind} #({delays}) ({net}, {', '.join(inputs)});")
         return net
@@ -45,7 +56,9 @@ class Gates:
         """The text, where each output is driven by a buffer."""
         ports = ", ".join([*inputs, *outputs])
         buffers = [f"buf #(1,1) ({output}, {net});" for output, net in outputs.items()]
-        head = f"module {name} ({ports});\ninput {', '.join(inputs)};\noutput {', '.join(outputs)};\n"
+        head = (
+            f"module {name} ({ports});\ninput {', '.join(inputs)};\noutput {', '.join(outputs)};\n"
+        )
         return head + "\n".join([*self.lines, *buffers]) + "\nendmodule\n"
 
 
@@ -61,7 +74,9 @@ def adder(bits):
 def multiplier(bits):
     """An array multiplier, built as examples/mult_8.v is."""
     gates = Gates()
-    rows = [[gates.gate("and", f"a{place}", f"b{row}") for place in range(bits)] for row in range(bits)]
+    rows = [
+        [gates.gate("and", f"a{place}", f"b{row}") for place in range(bits)] for row in range(bits)
+    ]
     products, left = {"p0": rows[0][0]}, rows[0][1:]
     for number, row in enumerate(rows[1:], 1):
         sums, carry = [], None
@@ -71,21 +86,29 @@ def multiplier(bits):
             sums.append(total)
         products[f"p{number}"], left = sums[0], [*sums[1:], carry]
     products.update({f"p{bits + place}": net for place, net in enumerate(left)})
-    return gates.module(f"mult{bits}", [f"{letter}{place}" for letter in "ab" for place in range(bits)], products)
+    return gates.module(
+        f"mult{bits}", [f"{letter}{place}" for letter in "ab" for place in range(bits)], products
+    )
 
 
 def random_netlist(count, inputs, seed):
-    """Gates of two or three inputs, each among the 200 nets before it; the last 50 nets are outputs."""
+    """Gates of two or three inputs, each among the 200 nets before it; the last 50 nets are
+    outputs.
+    """
     draw, gates = random.Random(seed), Gates()
     nets = [f"i{place}" for place in range(inputs)]
     for _ in range(count):
         kind = draw.choice(("and", "or", "nand", "nor", "xor"))
         nets.append(gates.gate(kind, *draw.sample(nets[-200:], draw.choice((2, 2, 3)))))
-    return gates.module("t", nets[:inputs], {f"o{place}": net for place, net in enumerate(nets[-50:])})
+    return gates.module(
+        "t", nets[:inputs], {f"o{place}": net for place, net in enumerate(nets[-50:])}
+    )
 
 
 def run(program, words):
-    """The output of a run, its seconds by the clock and by the processor, and its greatest resident memory in megabytes."""
+    """The output of a run, its seconds by the clock and by the processor, and its greatest resident
+    memory in megabytes.
+    """
     before, begin = resource.getrusage(resource.RUSAGE_CHILDREN), time.monotonic()
     done = subprocess.run([program, *words], capture_output=True, text=True)
     seconds, after = time.monotonic() - begin, resource.getrusage(resource.RUSAGE_CHILDREN)
@@ -104,13 +127,23 @@ def median(program, words):
 
 def answer(out):
     """The first line of the answer, and the number of nodes."""
-    return re.search(r"(?m)^(exact|between) .*$", out)[0], int(re.search(r"(?m)^nodes (\d+)$", out)[1])
+    return re.search(r"(?m)^(exact|between) .*$", out)[0], int(
+        re.search(r"(?m)^nodes (\d+)$", out)[1]
+    )
 
 
 def least(program, folder):
     print("| Netlist | Answer | Nodes | Time | Nodes a second |\n| --- | --- | --- | --- | --- |")
-    cases = [("c17", None, "20000"), ("adder_4", adder(4), "1000000"), ("mult_4", multiplier(4), "1000000"), ("adder_8", None, "20000")]
-    cases += [("mult_8", None, "20000"), ("random, 20,000 gates", random_netlist(20_000, 100, 7), "300")]
+    cases = [
+        ("c17", None, "20000"),
+        ("adder_4", adder(4), "1000000"),
+        ("mult_4", multiplier(4), "1000000"),
+        ("adder_8", None, "20000"),
+    ]
+    cases += [
+        ("mult_8", None, "20000"),
+        ("random, 20,000 gates", random_netlist(20_000, 100, 7), "300"),
+    ]
     for name, text, budget in cases:
         path = os.path.join(TOP, "examples", f"{name}.v")
         if text is not None:
@@ -119,20 +152,39 @@ def least(program, folder):
                 file.write(text)
         out, seconds, _, _ = median(program, ["worst", path, "--budget", budget])
         line, nodes = answer(out)
-        print(f"| {name} | `{line}` | {nodes:,} | {seconds:.2f} s | {nodes / seconds:,.0f} |", flush=True)
+        print(
+            f"| {name} | `{line}` | {nodes:,} | {seconds:.2f} s | {nodes / seconds:,.0f} |",
+            flush=True,
+        )
 
 
 def workers(program, _):
-    print("| Netlist | Workers | Time | Seconds of the processor | Memory |\n| --- | --- | --- | --- | --- |")
+    print(
+        "| Netlist | Workers | Time | Seconds of the processor | Memory |\n"
+        "| --- | --- | --- | --- | --- |"
+    )
     for name in ("adder_8", "mult_8"):
         for count in ("1", "2", "4"):
-            words = ["worst", os.path.join(TOP, "examples", f"{name}.v"), "--budget", "1000000", "--workers", count]
+            words = [
+                "worst",
+                os.path.join(TOP, "examples", f"{name}.v"),
+                "--budget",
+                "1000000",
+                "--workers",
+                count,
+            ]
             _, seconds, used, memory = median(program, words)
-            print(f"| `{name}` | {count} | {seconds:.1f} s | {used:.1f} s | {memory:.0f} MB |", flush=True)
+            print(
+                f"| `{name}` | {count} | {seconds:.1f} s | {used:.1f} s | {memory:.0f} MB |",
+                flush=True,
+            )
 
 
 def lead(program, folder, netlists):
-    print("| Netlist | Answer | Nodes | Time | Microseconds a node | `least` |\n| --- | --- | --- | --- | --- | --- |")
+    print(
+        "| Netlist | Answer | Nodes | Time | Microseconds a node | `least` |\n"
+        "| --- | --- | --- | --- | --- | --- |"
+    )
     for name in sorted(os.listdir(netlists)):
         path = os.path.join(netlists, name)
         certificate = os.path.join(folder, "certificate")
@@ -142,7 +194,11 @@ def lead(program, folder, netlists):
         if line.startswith("exact"):
             run(program, ["check", path, certificate])
         other, others = answer(run(program, words)[0])
-        print(f"| `{name}` | `{line}` | {nodes:,} | {seconds:.2f} s | {1e6 * seconds / nodes:.0f} | `{other}`, {others:,} nodes |", flush=True)
+        print(
+            f"| `{name}` | `{line}` | {nodes:,} | {seconds:.2f} s | {1e6 * seconds / nodes:.0f} | "
+            f"`{other}`, {others:,} nodes |",
+            flush=True,
+        )
 
 
 def main(program, *parts):

@@ -1,8 +1,9 @@
 #!/usr/bin/env python3
-"""drawing.py DUMP: draws the waves of a value change dump that `tdelay --vcd` wrote as an SVG picture, on standard output.
+"""drawing.py DUMP: draws the waves of a value change dump that `tdelay --vcd` wrote as an SVG
+picture, on standard output.
 
-A line for each net, in the dump's order: high for 1, low for 0, half high for x. The moments below are steps; left of moment 0 the
-circuit is settled under the first vector.
+A line for each net, in the dump's order: high for 1, low for 0, half high for x. The moments below
+are steps; left of moment 0 the circuit is settled under the first vector.
 """
 
 import re
@@ -14,7 +15,9 @@ HEIGHTS = {"1": 0, "0": HIGH, "x": HIGH // 2}
 
 
 def waves_of(text):
-    """The nets with their changes (moment, level), the settled level at moment -1, and the last moment that is told."""
+    """The nets with their changes (moment, level), the settled level at moment -1, and the last
+    moment that is told.
+    """
     names = dict(re.findall(r"\$var wire 1 (\S+) (.+?) \$end", text))
     waves = {name: [] for name in names.values()}
     moment = -1
@@ -44,7 +47,9 @@ def line_of(changes, end, top):
 
 def drawn(waves, last):
     width, depth = abscissa(last + 2) + 10, ROW * len(waves) + 30
-    yield f'<svg xmlns="http://www.w3.org/2000/svg" width="{width}" height="{depth}" font-family="monospace" font-size="13">'
+    font = 'font-family="monospace" font-size="13"'
+    size = f'width="{width}" height="{depth}"'
+    yield f'<svg xmlns="http://www.w3.org/2000/svg" {size} {font}>'
     yield f'<rect width="{width}" height="{depth}" fill="white"/>'
     for moment in range(last + 2):
         x = abscissa(moment)
@@ -53,7 +58,8 @@ def drawn(waves, last):
     for place, (name, changes) in enumerate(waves.items()):
         top = ROW * place + 8
         yield f'<text x="{LEFT - 10}" y="{top + HIGH - 4}" text-anchor="end">{escape(name)}</text>'
-        yield f'<polyline points="{line_of(changes, last, top)}" fill="none" stroke="black" stroke-width="2"/>'
+        points = line_of(changes, last, top)
+        yield f'<polyline points="{points}" fill="none" stroke="black" stroke-width="2"/>'
     yield "</svg>"
 
 

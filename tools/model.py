@@ -1,13 +1,15 @@
 #!/usr/bin/env python3
 """model.py [ROOT ..] [--without NAME ..] [--count]: the model behind a contract, as one text.
 
-A ROOT is a public function, as `td_search::alone`, whose clauses are taken, or a definition of a file of specs/, as
-`td_netlist::Means::Means` (crate, file, name). The definitions that it cites, and those that they cite, are printed in reading order, lower
-first, each under the name of its file, without imports. `--without Means` leaves a definition out, and what it alone reaches.
-`--count` prints the number of lines alone: definitions and their comments, without blank lines and the names of files.
+A ROOT is a public function, as `td_search::alone`, whose clauses are taken, or a definition of a
+file of specs/, as `td_netlist::Means::Means` (crate, file, name). The definitions that it cites,
+and those that they cite, are printed in reading order, lower first, each under the name of its
+file, without imports. `--without Means` leaves a definition out, and what it alone reaches.
+`--count` prints the number of lines alone: definitions and their comments, without blank lines and
+the names of files.
 
-`model.py --check` compares the numbers of docs/MODEL.md with the sources (exit status 1 where one differs). Run it at the top of the
-repository.
+`model.py --check` compares the numbers of docs/MODEL.md with the sources (exit status 1 where one
+differs). Run it at the top of the repository.
 """
 
 import functools
@@ -35,7 +37,9 @@ SPEC = re.compile(r"^use (Rattle\.\S+?)(?:\.\{(.*)\}|( as (\S+)))?$")
 
 
 class Definition:
-    """A definition with its comment: where it stands, its lines, the names that it makes and those that it cites."""
+    """A definition with its comment: where it stands, its lines, the names that it makes and those
+    that it cites.
+    """
 
     def __init__(self, path, line, lines, names, header=()):
         self.path = path
@@ -50,7 +54,9 @@ class Definition:
 
 
 def imports_of(lines, mark="use "):
-    """The names that a file takes from others: what each stands for, as a path, and the aliases of whole files."""
+    """The names that a file takes from others: what each stands for, as a path, and the aliases of
+    whole files.
+    """
     names, aliases = {}, {}
     for line in lines:
         line = line.strip().removesuffix(";").removeprefix("ghost ")
@@ -72,7 +78,9 @@ def imports_of(lines, mark="use "):
     return names, aliases
 
 
-HEAD = re.compile(r"^(?:(?:abbrev|unfoldable|opaque) )*(?:pub )?(?:(record|data) )?(\S+)(?= *[:({]| )")
+HEAD = re.compile(
+    r"^(?:(?:abbrev|unfoldable|opaque) )*(?:pub )?(?:(record|data) )?(\S+)(?= *[:({]| )"
+)
 
 
 def definitions_of(path):
@@ -91,7 +99,13 @@ def definitions_of(path):
         if line.startswith("module _"):
             header, inside, comment, current = (line,), True, [], None
             continue
-        if inside and line.startswith("    ") and not found_in(found, header) and current is None and not body.startswith("--"):
+        if (
+            inside
+            and line.startswith("    ")
+            and not found_in(found, header)
+            and current is None
+            and not body.startswith("--")
+        ):
             header = header + (line,)  # the head of a module goes on
             continue
         if inside and not line.startswith("  "):
@@ -108,7 +122,9 @@ def definitions_of(path):
             current.lines += comment
             comment = []
         is_head = depth == indent and (
-            re.match(r"(abbrev|unfoldable|opaque|pub|record|data) ", body) or re.match(r"[^\s=]+ : ", body))
+            re.match(r"(abbrev|unfoldable|opaque|pub|record|data) ", body)
+            or re.match(r"[^\s=]+ : ", body)
+        )
         if is_head and not (current and re.match(r"pub \S+ :", body) and depth > indent):
             name = HEAD.match(body)
             name = name[2] if name else body.split()[0]
@@ -130,7 +146,9 @@ RUST = re.compile(r"^pub (?:enum|struct|trait) (\w+)")
 
 
 def rust_types(path):
-    """The types that a file of src/ declares, each with its comment, without derives, and how contracts see it."""
+    """The types that a file of src/ declares, each with its comment, without derives, and how
+    contracts see it.
+    """
     found, lines = [], open(path).read().split("\n")
     for at, line in enumerate(lines):
         head = RUST.match(line)
@@ -143,12 +161,12 @@ def rust_types(path):
         if not line.rstrip().endswith((";", "}")):
             while last + 1 < len(lines) and lines[last] != "}":
                 last += 1
-        body = [row for row in lines[first:last + 1] if not row.strip().startswith("#[")]
+        body = [row for row in lines[first : last + 1] if not row.strip().startswith("#[")]
         found.append(Definition(path, first + 1, body, {head[1]}))
         for place, row in enumerate(lines):
             if re.match(r"impl(?:<.*>)? Model for %s\b" % head[1], row):
                 end = next(i for i in range(place, len(lines)) if lines[i] == "}")
-                model = [row for row in lines[place:end + 1]]
+                model = [row for row in lines[place : end + 1]]
                 found[-1].model = model
     return found
 
@@ -189,7 +207,9 @@ class Model:
             for cut in range(len(rest), 0, -1):
                 file = f"crates/{crate}/src/" + "/".join(rest[:cut]) + ".rt"
                 if os.path.exists(file):
-                    return [one for name in rest[cut:] for one in [self.types_of(file).get(name)] if one]
+                    return [
+                        one for name in rest[cut:] for one in [self.types_of(file).get(name)] if one
+                    ]
             return []
         file = f"crates/{crate}/specs/{rest[0]}.antt"
         return [self.by_name[file, name] for name in rest[1:2] if (file, name) in self.by_name]
@@ -217,13 +237,21 @@ class Model:
             yield from self.cited(definition.path, definition.text())
             return
         source = open(definition.path).read()
-        for word in set(re.findall(r"\b[A-Z]\w+", "\n".join(row for row in definition.lines if "///" not in row))):
+        for word in set(
+            re.findall(
+                r"\b[A-Z]\w+", "\n".join(row for row in definition.lines if "///" not in row)
+            )
+        ):
             if word in definition.names:
                 continue
             if word in self.types_of(definition.path):
                 yield self.types_of(definition.path)[word]
                 continue
-            used = re.search(r"^use (crate|\w+)::(?:(\w+)::)?(?:\{[^}]*\b%s\b[^}]*\}|%s);" % (word, word), source, flags=re.M)
+            used = re.search(
+                r"^use (crate|\w+)::(?:(\w+)::)?(?:\{[^}]*\b%s\b[^}]*\}|%s);" % (word, word),
+                source,
+                flags=re.M,
+            )
             if used:
                 crate = definition.path.split("/")[1] if used[1] == "crate" else used[1]
                 for file in sorted(glob.glob(f"crates/{crate}/src/**/*.rt", recursive=True)):
@@ -231,7 +259,11 @@ class Model:
                         yield self.types_of(file)[word]
         model = getattr(definition, "model", [])
         if model:
-            yield from self.cited(definition.path, "\n".join(row for row in model if "ghost use" not in row), imports_of(model))
+            yield from self.cited(
+                definition.path,
+                "\n".join(row for row in model if "ghost use" not in row),
+                imports_of(model),
+            )
 
     def root(self, name):
         """The definitions that a root cites."""
@@ -305,7 +337,10 @@ def check():
         count = printed(model.closure(roots, without))[1]
         stated = re.search(r"\| %s \|.*?\| (\d[\d,]*) \|" % re.escape(what), text)
         right = stated is not None and int(stated[1].replace(",", "")) == count
-        print(f"{what}: {count} lines" + ("" if right else f", docs/MODEL.md says {stated[1] if stated else 'nothing'}"))
+        print(
+            f"{what}: {count} lines"
+            + ("" if right else f", docs/MODEL.md says {stated[1] if stated else 'nothing'}")
+        )
         wrong += not right
     return wrong
 

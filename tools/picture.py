@@ -1,23 +1,29 @@
 #!/usr/bin/env python3
-"""picture.py [--write | --check]: the picture of the crates in docs/ARCHITECTURE.md, made from crates.txt.
+"""picture.py [--write | --check]: the picture of the crates in docs/ARCHITECTURE.md, made from
+crates.txt.
 
-A crate stands in the lowest layer above all crates that it uses. Each layer is a line, the highest first, and the crates of tests, whose
-names end in `_rows`, stand apart below. Behind `on` stand the crates that a crate uses, without those that another one of them stands on.
+A crate stands in the lowest layer above all crates that it uses. Each layer is a line, the highest
+first, and the crates of tests, whose names end in `_rows`, stand apart below. Behind `on` stand the
+crates that a crate uses, without those that another one of them stands on.
 
-Without a word it prints the picture. `--write` puts it into docs/ARCHITECTURE.md between two marker comments, `--check` looks whether it is there
-(exit status 1 where that page has another one). Run it at the top of the repository.
+Without a word it prints the picture. `--write` puts it into docs/ARCHITECTURE.md between two marker
+comments, `--check` looks whether it is there (exit status 1 where that page has another one). Run
+it at the top of the repository.
 """
 
 import os
 import re
 import sys
 
-sys.path.insert(0, os.path.join(os.path.dirname(os.path.dirname(os.path.abspath(__file__))), "build"))
+sys.path.insert(
+    0, os.path.join(os.path.dirname(os.path.dirname(os.path.abspath(__file__))), "build")
+)
 from crates import lower_first, uses_of  # noqa: E402
 
 PAGE = "docs/ARCHITECTURE.md"
-START = re.compile(r"<!-- The picture from here to the next comment is written by \w+/picture\.py\. -->
-")
+START = re.compile(
+    r"<!-- The picture from here to the next comment is written by \w+/picture\.py\. -->\n"
+)
 END = "<!-- The picture ends. -->\n"
 WIDTH = 100
 
@@ -38,11 +44,17 @@ def layers_of(uses):
 
 def nearest(uses, crate):
     """The crates that a crate uses, without those that another one of them stands on."""
-    return [low for low in uses[crate] if not any(low in lower_first(uses, uses[other]) for other in uses[crate])]
+    return [
+        low
+        for low in uses[crate]
+        if not any(low in lower_first(uses, uses[other]) for other in uses[crate])
+    ]
 
 
 def entries(uses, crates):
-    """A text for these crates with what they stand on; those that stand on the same are told together."""
+    """A text for these crates with what they stand on; those that stand on the same are told
+    together.
+    """
     groups = {}
     for crate in crates:
         groups.setdefault(tuple(nearest(uses, crate)), []).append(crate)
@@ -88,7 +100,10 @@ def main():
         sys.exit(f"picture.py: {PAGE} lacks the marker comments")
     same = shown == picture()
     if words == ["--check"]:
-        print(f"the picture of the crates in {PAGE}: " + ("as crates.txt says" if same else "another one"))
+        print(
+            f"the picture of the crates in {PAGE}: "
+            + ("as crates.txt says" if same else "another one")
+        )
         sys.exit(0 if same else 1)
     with open(PAGE, "w") as file:
         file.write(text[: start.end()] + picture() + end + behind)

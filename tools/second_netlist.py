@@ -1,5 +1,6 @@
-"""The reader of netlists of second_opinion.py, written from docs/MODEL.md alone, "Tokens of a text" to "Netlist": it shares nothing with the
-project. `read_circuit` gives the circuit that a text means, with each gate behind those that it reads; a fault is a `Refusal`.
+"""The reader of netlists of second_opinion.py, written from docs/MODEL.md alone, "Tokens of a text"
+to "Netlist": it shares nothing with the project. `read_circuit` gives the circuit that a text
+means, with each gate behind those that it reads; a fault is a `Refusal`.
 """
 
 import re
@@ -16,13 +17,18 @@ class Refusal(Exception):
 
 KINDS = ("and", "nand", "or", "nor", "xor", "xnor", "buf", "not")
 GRAMMAR = KINDS + ("module", "endmodule", "input", "output", "wire")
-RESERVED = set("""always assign automatic begin bufif0 bufif1 case casex casez cell cmos config deassign default defparam design disable
-    edge else end endcase endconfig endfunction endgenerate endprimitive endspecify endtable endtask event for force forever fork function
-    generate genvar highz0 highz1 if ifnone incdir include initial inout instance integer join large liblist library localparam
-    macromodule medium negedge nmos noshowcancelled notif0 notif1 parameter pmos posedge primitive pull0 pull1 pulldown pullup
-    pulsestyle_ondetect pulsestyle_onevent rcmos real realtime reg release repeat rnmos rpmos rtran rtranif0 rtranif1 scalared
-    showcancelled signed small specify specparam strong0 strong1 supply0 supply1 table task time tran tranif0 tranif1 tri tri0 tri1 triand
-    trior trireg unsigned use uwire vectored wait wand weak0 weak1 while wor""".split())
+RESERVED = set(
+    """always assign automatic begin bufif0 bufif1 case casex casez cell cmos config deassign default
+    defparam design disable     edge else end endcase endconfig endfunction endgenerate
+    endprimitive endspecify endtable endtask event for force forever fork function     generate
+    genvar highz0 highz1 if ifnone incdir include initial inout instance integer join large
+    liblist library localparam     macromodule medium negedge nmos noshowcancelled notif0 notif1
+    parameter pmos posedge primitive pull0 pull1 pulldown pullup     pulsestyle_ondetect
+    pulsestyle_onevent rcmos real realtime reg release repeat rnmos rpmos rtran rtranif0 rtranif1
+    scalared     showcancelled signed small specify specparam strong0 strong1 supply0 supply1
+    table task time tran tranif0 tranif1 tri tri0 tri1 triand     trior trireg unsigned use uwire
+    vectored wait wand weak0 weak1 while wor""".split()
+)
 # What stands at the front of a text.
 BLANK = r"[ \t\n\f\r]"
 SPACE = rf"(?:{BLANK}|//[^\n]*|/\*(?:[^*]|\*(?!/))*\*/)"
@@ -40,7 +46,8 @@ PIECE = re.compile(
     |(?P<wrong>.)""",
     re.ASCII | re.DOTALL | re.VERBOSE,
 )
-# The grammar, over tokens with a space behind each: names are $ and their letters, attributes @, directives `, timescales ~.
+# The grammar, over tokens with a space behind each: names are $ and their letters, attributes @,
+# directives `, timescales ~.
 NAME, NUMBER, WHOLE = r"\$[!-~]+ ", r"[0-9.]+ ", r"[0-9]+ "
 RANGE = rf"\[ {WHOLE}: {WHOLE}\] "
 TERMINAL = r"(?:1'b([01]) |\$([!-~]+) (?:\[ ([0-9]+) \] )?)"
@@ -48,7 +55,8 @@ INSTANCE = rf"(?:{NAME})?\( ({TERMINAL}(?:, {TERMINAL})+)\) "
 DIRECTION = rf"(?:@ )*(?:input|output) (?:wire )?(?:{RANGE})?"
 PORTS = rf"(?:{NAME}(?:, {NAME})*|{DIRECTION}{NAME}(?:, (?:{DIRECTION})?{NAME})*)"
 HEAD = re.compile(rf"(?:@ |` |~ )*module {NAME}(?:\( (?P<ports>{PORTS})?\) )?; ")
-DECLARATION = rf"(?P<what>input|output|wire) (?:(?<!wire )wire )?(?P<range>{RANGE})?(?P<names>{NAME}(?:, {NAME})*); "
+WHAT = rf"(?P<what>input|output|wire) (?:(?<!wire )wire )?(?P<range>{RANGE})?"
+DECLARATION = rf"{WHAT}(?P<names>{NAME}(?:, {NAME})*); "
 DELAY = rf"# (?P<delay>{NUMBER}|\( {NUMBER}(?:, {NUMBER})?\) )"
 GATES = rf"(?P<kind>{'|'.join(KINDS)}) (?:{DELAY})?(?P<instances>{INSTANCE}(?:, {INSTANCE})*); "
 ITEM = re.compile(rf"(?:@ )*(?:{DECLARATION}|{GATES})")
@@ -60,10 +68,12 @@ SCALES = ("s", "ms", "us", "ns", "ps", "fs")
 # A net is a name and a bit, which is None of a scalar; a terminal is a net, or a level.
 Gate = namedtuple("Gate", "kind rise fall output inputs")
 Delays = namedtuple("Delays", "rise fall")
-# Here nets have numbers: the inputs, the levels 0 and 1, then the outputs of the gates, each of which comes behind those that it reads.
-# `nets` are the names of all nets as reports print them, by their numbers.
+# Here nets have numbers: the inputs, the levels 0 and 1, then the outputs of the gates, each of
+# which comes behind those that it reads. `nets` are the names of all nets as reports print them, by
+# their numbers.
 Circuit = namedtuple("Circuit", "unit defaulted inputs gates outputs nets")
-# What a text declares: its ports in order, a name's direction, a name's range (empty without one), and which names are wires.
+# What a text declares: its ports in order, a name's direction, a name's range (empty without one),
+# and which names are wires.
 Declared = namedtuple("Declared", "ports directions ranges wires")
 
 
@@ -73,7 +83,9 @@ def require(holds, why):
 
 
 def tokens_of(text):
-    """The tokens with a space behind each, and the last timescale before the module, one of steps of 1 ns where there is none."""
+    """The tokens with a space behind each, and the last timescale before the module, one of steps
+    of 1 ns where there is none.
+    """
     tokens, timescale = [], "`timescale 1ns/1ns"
     for found in PIECE.finditer(text):
         form, word = found.lastgroup, found[found.lastgroup]
@@ -98,11 +110,16 @@ def scale_of(timescale):
 
 
 def declare(declared, what, name, text):
-    """Adds a declaration by `input`, `output` or `wire`, with the range that stands in the text, if any."""
+    """Adds a declaration by `input`, `output` or `wire`, with the range that stands in the text, if
+    any.
+    """
     bits = tuple(int(number) for number in re.findall("[0-9]+", text or ""))
     require(max(bits, default=0) <= BILLION, "the numbers of a range")
     known = declared.wires if what == "wire" else declared.directions
-    require(name not in known and declared.ranges.setdefault(name, bits) == bits, f"{name} is declared again")
+    require(
+        name not in known and declared.ranges.setdefault(name, bits) == bits,
+        f"{name} is declared again",
+    )
     known[name] = what
 
 
@@ -165,16 +182,26 @@ def gates_of(declared, statements, scale, defaults):
         for instance in re.finditer(INSTANCE, statement["instances"]):
             nets = [net_of(declared, *terminal) for terminal in re.findall(TERMINAL, instance[1])]
             require(len(nets) <= 1024, "too many terminals")
-            outputs, inputs = (nets[:-1], nets[-1:]) if statement["kind"] in ("buf", "not") else (nets[:1], nets[1:])
-            gates += [Gate(statement["kind"], int(steps[0]), int(steps[-1]), output, inputs) for output in outputs]
+            outputs, inputs = (
+                (nets[:-1], nets[-1:])
+                if statement["kind"] in ("buf", "not")
+                else (nets[:1], nets[1:])
+            )
+            gates += [
+                Gate(statement["kind"], int(steps[0]), int(steps[-1]), output, inputs)
+                for output in outputs
+            ]
             defaulted += 0 if numbers else len(outputs)
     return gates, defaulted
 
 
 def require_well_formed(declared, inputs, outputs, gates):
-    """Each net that is read or is an output has one driver, inputs none, and the limits are kept."""
+    """Each net that is read or an output has one driver, inputs none, and the limits are kept."""
     driven = {gate.output for gate in gates}
-    require(len(driven) == len(gates) and not driven & {0, 1, *inputs}, "two drivers, or a level as an output")
+    require(
+        len(driven) == len(gates) and not driven & {0, 1, *inputs},
+        "two drivers, or a level as an output",
+    )
     read = {net for gate in gates for net in gate.inputs} - {0, 1}
     require(read.union(outputs) <= driven.union(inputs), "a net without a driver")
     names = set(declared.ranges) | {name for name, _ in read | driven}
@@ -193,10 +220,20 @@ def in_order(gates):
 
 
 def printed(net):
-    """A net's name as reports print it: an escaped name keeps its backslash, and the space behind it where a bit follows."""
+    """A net's name as reports print it: an escaped name keeps its backslash, and the space behind
+    it where a bit follows.
+    """
     name, bit = net
-    simple = re.fullmatch(r"[A-Za-z_][\w$]*", name, re.ASCII) and name not in RESERVED and name not in GRAMMAR
-    return ("" if simple else "\\") + name + ("" if bit is None else f"[{bit}]" if simple else f" [{bit}]")
+    simple = (
+        re.fullmatch(r"[A-Za-z_][\w$]*", name, re.ASCII)
+        and name not in RESERVED
+        and name not in GRAMMAR
+    )
+    return (
+        ("" if simple else "\\")
+        + name
+        + ("" if bit is None else f"[{bit}]" if simple else f" [{bit}]")
+    )
 
 
 def read_circuit(text, defaults=Delays(1, 1)):
@@ -204,14 +241,25 @@ def read_circuit(text, defaults=Delays(1, 1)):
     require(len(text) <= 67_108_864, "too many bytes")
     tokens, timescale = tokens_of(text.decode("latin-1"))
     declared, statements = parse(tokens)
-    require(set(declared.ports) == set(declared.directions), "a port without a direction, or a direction without a port")
+    require(
+        set(declared.ports) == set(declared.directions),
+        "a port without a direction, or a direction without a port",
+    )
     unit, scale = scale_of(timescale)
     gates, defaulted = gates_of(declared, statements, scale, defaults)
-    ports = [(declared.directions[name], net) for name in declared.ports for net in nets_of(declared, name)]
-    inputs, outputs = ([net for direction, net in ports if direction == which] for which in ("input", "output"))
+    ports = [
+        (declared.directions[name], net)
+        for name in declared.ports
+        for net in nets_of(declared, name)
+    ]
+    inputs, outputs = (
+        [net for direction, net in ports if direction == which] for which in ("input", "output")
+    )
     require_well_formed(declared, inputs, outputs, gates)
     gates = in_order(gates)
-    numbers = {net: number for number, net in enumerate([*inputs, 0, 1, *(gate.output for gate in gates)])}
+    numbers = {
+        net: number for number, net in enumerate([*inputs, 0, 1, *(gate.output for gate in gates)])
+    }
     gates = [gate._replace(inputs=[numbers[net] for net in gate.inputs]) for gate in gates]
     names = [f"1'b{net}" if net in (0, 1) else printed(net) for net in numbers]
     return Circuit(unit, defaulted, len(inputs), gates, [numbers[net] for net in outputs], names)

@@ -1,14 +1,17 @@
 #!/usr/bin/env python3
-"""A second opinion on certificates of `tdelay worst` (versions 1 to 4), and on the runs of `tdelay sim` and `tdelay path`.
+"""A second opinion on certificates of `tdelay worst` (versions 1 to 4), and on the runs of `tdelay
+sim` and `tdelay path`.
 
     second_opinion.py check FILE CERT [--default-rise N] [--default-fall N]
     second_opinion.py sim FILE FROM TO [--at M,M,..] [--default-rise N] [--default-fall N]
-    second_opinion.py path FILE FROM TO [--at M,M,..] [--output NAME] [--default-rise N] [--default-fall N]
+    second_opinion.py path FILE FROM TO [--output NAME] [--at M,M,..] [--default-rise N] [..]
 
-prints what `tdelay` prints for these words, and ends with its exit statuses. Written from docs/CERTIFICATE.md, docs/MODEL.md,
-docs/MODEL-DOMAINS.md, docs/MODEL-PROGRAM.md and docs/COMMANDS.md alone, in Python's standard library: it shares nothing with the project, no
-code, no proof and no toolchain. What differs: a fault of the netlist is told without its number and line, a loop without a net on it, and a bad
-command line in argparse's words. It is slow, since each leaf is bounded from nothing.
+prints what `tdelay` prints for these words, and ends with its exit statuses. Written from
+docs/CERTIFICATE.md, docs/MODEL.md, docs/MODEL-DOMAINS.md, docs/MODEL-PROGRAM.md and
+docs/COMMANDS.md alone, in Python's standard library: it shares nothing with the project, no code,
+no proof and no toolchain. What differs: a fault of the netlist is told without its number and line,
+a loop without a net on it, and a bad command line in argparse's words. It is slow, since each leaf
+is bounded from nothing.
 """
 
 import argparse
@@ -33,8 +36,8 @@ NEGATES = ("nand", "nor", "xnor", "not")
 CONTROLLING = {"and": 0, "nand": 0, "or": 1, "nor": 1}
 NEGATED = (1, 0, X)
 
-# What gives each net a signal: functions of an input's two levels and moment, and of a gate's kind, delays and inputs' signals; and that of
-# a signal's last moment, None where it has none.
+# What gives each net a signal: functions of an input's two levels and moment, and of a gate's kind,
+# delays and inputs' signals; and that of a signal's last moment, None where it has none.
 Domain = namedtuple("Domain", "of_input of_gate last")
 
 
@@ -59,7 +62,11 @@ def wave_of_input(first, second, moment):
 def over_time(function, waves):
     """The wave of the function of the waves' levels."""
     levels = [start for start, _ in waves]
-    changes = sorted((moment, which, level) for which, (_, changes) in enumerate(waves) for moment, level in changes)
+    changes = sorted(
+        (moment, which, level)
+        for which, (_, changes) in enumerate(waves)
+        for moment, level in changes
+    )
     start = at = function(levels)
     found = []
     for moment, together in groupby(changes, lambda change: change[0]):
@@ -72,7 +79,9 @@ def over_time(function, waves):
 
 
 def run_of_gate(kind, rise, fall, waves):
-    """The wave of a gate's output, by the scheduling rule. Where the target doesn't change the rule does nothing."""
+    """The wave of a gate's output, by the scheduling rule. Where the target doesn't change the rule
+    does nothing.
+    """
     start, changes = over_time(partial(table, kind), waves)
     level, event, found = start, None, []
     for moment, wanted in changes:
@@ -87,10 +96,18 @@ def run_of_gate(kind, rise, fall, waves):
 
 
 def signals(domain, circuit, cube, moments):
-    """The signals of the nets, by number. A cube has two levels for each input; a constant is as an input that keeps its level."""
-    found = [*map(domain.of_input, cube[::2], cube[1::2], moments), domain.of_input(0, 0, 0), domain.of_input(1, 1, 0)]
+    """The signals of the nets, by number. A cube has two levels for each input; a constant is as an
+    input that keeps its level.
+    """
+    found = [
+        *map(domain.of_input, cube[::2], cube[1::2], moments),
+        domain.of_input(0, 0, 0),
+        domain.of_input(1, 1, 0),
+    ]
     for gate in circuit.gates:
-        found.append(domain.of_gate(gate.kind, gate.rise, gate.fall, [found[net] for net in gate.inputs]))
+        found.append(
+            domain.of_gate(gate.kind, gate.rise, gate.fall, [found[net] for net in gate.inputs])
+        )
     return found
 
 
@@ -117,7 +134,8 @@ def delay_of_pair(circuit, pair, moments):
 
 CAP = 512
 
-# The span is a pair of moments, None for never. The ends are those of 0, of 1 and of an unknown level, all of them 0 for never.
+# The span is a pair of moments, None for never. The ends are those of 0, of 1 and of an unknown
+# level, all of them 0 for never.
 Arrival = namedtuple("Arrival", "start finish span")
 Edges = namedtuple("Edges", "start finish earliest ends")
 
@@ -133,16 +151,26 @@ def arrival_of_gate(kind, rise, fall, inputs):
     finishing = [signal.span for signal in inputs if signal.finish == controlling]
     if not spans or None in finishing:
         return never
-    earliest = max([min(spans)[0]] + [signal.span[0] for signal in inputs if signal.start == controlling and signal.span])
+    earliest = max(
+        [min(spans)[0]]
+        + [signal.span[0] for signal in inputs if signal.start == controlling and signal.span]
+    )
     latest = min([max(end for _, end in spans)] + [end for _, end in finishing])
     lost = start == finish != X and latest - earliest < quickest_to(NEGATED[start], rise, fall)
     if earliest > latest or lost:
         return never
-    return never._replace(span=(earliest + quickest_to(NEGATED[start], rise, fall), latest + (fall, rise, max(rise, fall))[finish]))
+    return never._replace(
+        span=(
+            earliest + quickest_to(NEGATED[start], rise, fall),
+            latest + (fall, rise, max(rise, fall))[finish],
+        )
+    )
 
 
 def possible_of_gate(kind, rise, fall, inputs):
-    """A signal is a wave in which X is the set of both levels. Whether a level is possible is a buffer of whether it is in the target."""
+    """A signal is a wave in which X is the set of both levels. Whether a level is possible is a
+    buffer of whether it is in the target.
+    """
     target = over_time(partial(table, kind), inputs)
     zero = run_of_gate("buf", fall, rise, [over_time(lambda levels: int(levels[0] != 1), [target])])
     one = run_of_gate("buf", rise, fall, [over_time(lambda levels: int(levels[0] != 0), [target])])
@@ -196,19 +224,32 @@ def edges_of_gate(kind, rise, fall, inputs):
     if not ends[finish] or not ends[NEGATED[start]]:
         return Edges(start, finish, 0, [0, 0, 0])
     late = [end + delay if end else 0 for end, delay in zip(ends, (fall, rise))]
-    return Edges(start, finish, earliest + quickest_to(NEGATED[start], rise, fall), [*late, max(late)])
+    return Edges(
+        start, finish, earliest + quickest_to(NEGATED[start], rise, fall), [*late, max(late)]
+    )
 
 
-ARRIVAL = Domain(arrival_of_input, arrival_of_gate, lambda signal: signal.span[1] if signal.span else 0)
+ARRIVAL = Domain(
+    arrival_of_input, arrival_of_gate, lambda signal: signal.span[1] if signal.span else 0
+)
 POSSIBLE = Domain(wave_of_input, possible_of_gate, last_of_possible)
 EDGES = Domain(edges_of_input, edges_of_gate, lambda signal: max(0, signal.ends[X] - 1))
-DOMAINS = {"a": [ARRIVAL], "t": [POSSIBLE], "m": [ARRIVAL, POSSIBLE], "e": [EDGES], "n": [EDGES, POSSIBLE]}
+DOMAINS = {
+    "a": [ARRIVAL],
+    "t": [POSSIBLE],
+    "m": [ARRIVAL, POSSIBLE],
+    "e": [EDGES],
+    "n": [EDGES, POSSIBLE],
+}
 
 
 def bound(letter, circuit, cube, moments):
     """The bound of the cube, None where there is none. A cube is a list of 0, 1 and X for free."""
     of_outputs = zip(*(lasts(domain, circuit, cube, moments) for domain in DOMAINS[letter]))
-    least = [min((last for last in of_output if last is not None), default=None) for of_output in of_outputs]
+    least = [
+        min((last for last in of_output if last is not None), default=None)
+        for of_output in of_outputs
+    ]
     return None if None in least else latest_of(least)
 
 
@@ -235,7 +276,9 @@ def woven(first, second):
 
 
 class Text:
-    """A text and how much of it is read. Each method reads what has to stand there, and tells the first byte that can't be read on."""
+    """A text and how much of it is read. Each method reads what has to stand there, and tells the
+    first byte that can't be read on.
+    """
 
     def __init__(self, text):
         self.text, self.place = text, 0
@@ -259,7 +302,9 @@ class Text:
             self.one_of(letter)
 
     def number(self, front, end, limit=LARGEST, beyond=Fault.NumberTooLarge, least=0):
-        """A number between these letters, of a first digit of at least `least`. `beyond` is the fault of one above the limit."""
+        """A number between these letters, of a first digit of at least `least`. `beyond` is the
+        fault of one above the limit.
+        """
         self.word(front)
         value, letter = 0, self.one_of(DIGITS[least:])
         while letter != end:
@@ -295,7 +340,9 @@ def moments_in(text, version, inputs):
     moments = []
     for which in range(1, inputs + 1):
         least = version == 3 and which == inputs and not any(moments)
-        moments.append(text.number("", "\n" if which == inputs else " ", BILLION, Fault.Syntax, least))
+        moments.append(
+            text.number("", "\n" if which == inputs else " ", BILLION, Fault.Syntax, least)
+        )
     return moments
 
 
@@ -303,11 +350,19 @@ def question_in(text, version, inputs):
     """The question, which has no lines in version 1, and no moments in version 2."""
     if version == 1:
         return Question([X] * (2 * inputs), [False] * inputs, inputs, [0] * inputs)
-    first, second, hold = (text.symbols(*line, inputs) for line in (("first ", "01."), ("second ", "01."), ("hold ", "=.")))
+    first, second, hold = (
+        text.symbols(*line, inputs)
+        for line in (("first ", "01."), ("second ", "01."), ("hold ", "=."))
+    )
     restricted = set(first + second + hold) - {"."}
     flips = text.number("flips ", "\n", inputs - (version == 2 and not restricted), Fault.Syntax)
     moments = moments_in(text, version, inputs) if version > 2 else [0] * inputs
-    return Question(woven(levels_of(first), levels_of(second)), [symbol == "=" for symbol in hold], flips, moments)
+    return Question(
+        woven(levels_of(first), levels_of(second)),
+        [symbol == "=" for symbol in hold],
+        flips,
+        moments,
+    )
 
 
 def tree_in(text, version):
@@ -317,7 +372,11 @@ def tree_in(text, version):
         last = to_come == 1 and not by_edges
         letter = text.one_of("sb" if last else "sbp" if version == 1 else "sbpn")
         text.word("one\n" if letter == "n" else " ")
-        domain = text.one_of("en" if last else "atm" if version < 4 else "atmen") if letter == "b" else None
+        domain = (
+            text.one_of("en" if last else "atm" if version < 4 else "atmen")
+            if letter == "b"
+            else None
+        )
         number = None if letter == "n" else text.number(" " if domain else "", "\n")
         lines.append(Line(letter, domain, number))
         by_edges = by_edges or domain in ("e", "n")
@@ -346,14 +405,22 @@ def read_certificate(text):
 
 # ---- The verdict (docs/CERTIFICATE.md, "What is checked") ----
 
-Verdict = Enum("Verdict", "Accepted PairTime LeafBound LeafAboveTime BadPosition NotAPoint OtherCircuit PairNotAdmitted LeafNotEmpty")
+Verdict = Enum(
+    "Verdict",
+    "Accepted PairTime LeafBound LeafAboveTime BadPosition NotAPoint OtherCircuit "
+    "PairNotAdmitted LeafNotEmpty",
+)
 BITS = ({0}, {1}, {0, 1})
 
 
 def has_admitted(question, cube):
     """Whether an admitted pair lies in the cube."""
     allowed = [BITS[pin] & BITS[level] for pin, level in zip(question.pins, cube)]
-    flips = [held for first, second, held in zip(allowed[::2], allowed[1::2], question.held) if not first & second]
+    flips = [
+        held
+        for first, second, held in zip(allowed[::2], allowed[1::2], question.held)
+        if not first & second
+    ]
     return all(allowed) and not any(flips) and len(flips) <= question.flips
 
 
@@ -394,7 +461,8 @@ def verdict(circuit, certificate):
     return Verdict.Accepted, None
 
 
-# ---- The commands (docs/MODEL-PROGRAM.md): each answers standard output, standard error and the exit status ----
+# ---- The commands (docs/MODEL-PROGRAM.md) ----
+# Each answers standard output, standard error and the exit status.
 
 
 def report(lines):
@@ -416,7 +484,11 @@ def check(circuit, text):
     found, line = verdict(circuit, certificate)
     if found == Verdict.Accepted:
         return report([f"accepted {certificate.time}"]) + certificate.asked, "", 0
-    return report([f"refused {found.value} {found.name}" + (f" line {line}" if line else "")]), "", 4
+    return (
+        report([f"refused {found.value} {found.name}" + (f" line {line}" if line else "")]),
+        "",
+        4,
+    )
 
 
 def vector_of(name, word, count):
@@ -431,7 +503,9 @@ def moments_of(word, count):
     if word is None:
         return [0] * count
     numbers = word.split(",") if count or word != "none" else []
-    if len(numbers) != count or not all(re.fullmatch("0*[0-9]{1,10}", number) and int(number) <= BILLION for number in numbers):
+    if len(numbers) != count or not all(
+        re.fullmatch("0*[0-9]{1,10}", number) and int(number) <= BILLION for number in numbers
+    ):
         raise Refusal("bad vector at", 2)
     return [int(number) for number in numbers]
 
@@ -441,12 +515,27 @@ def sim(circuit, first, second, at):
     pair = woven(vector_of("FROM", first, circuit.inputs), vector_of("TO", second, circuit.inputs))
     moments = lasts(RUN, circuit, pair, moments_of(at, circuit.inputs))
     names = [circuit.nets[net] for net in circuit.outputs]
-    lines = [f"last {name} {'never' if last is None else last}" for name, last in zip(names, moments)]
-    return report([f"unit {circuit.unit}", f"defaulted {circuit.defaulted}", *lines, f"time {latest_of(moments)}"]), "", 0
+    lines = [
+        f"last {name} {'never' if last is None else last}" for name, last in zip(names, moments)
+    ]
+    return (
+        report(
+            [
+                f"unit {circuit.unit}",
+                f"defaulted {circuit.defaulted}",
+                *lines,
+                f"time {latest_of(moments)}",
+            ]
+        ),
+        "",
+        0,
+    )
 
 
 def change_line(circuit, net, moment, levels, cause):
-    return " ".join(["change", str(moment), circuit.nets[net], *("01x"[level] for level in levels), cause])
+    return " ".join(
+        ["change", str(moment), circuit.nets[net], *("01x"[level] for level in levels), cause]
+    )
 
 
 def chain(circuit, waves, net):
@@ -470,7 +559,9 @@ def chain(circuit, waves, net):
 
 
 def path(circuit, first, second, at, output=None):
-    """`path` of the words of a command line: of the output of a name, else of the first one that changes last."""
+    """`path` of the words of a command line: of the output of a name, else of the first one that
+    changes last.
+    """
     pair = woven(vector_of("FROM", first, circuit.inputs), vector_of("TO", second, circuit.inputs))
     moments = moments_of(at, circuit.inputs)
     named = [net for net in circuit.outputs if output in (None, circuit.nets[net])]
@@ -494,7 +585,11 @@ def delay_in(word):
 def command_line():
     parser = argparse.ArgumentParser(description=__doc__.split("\n", 1)[0])
     commands = parser.add_subparsers(dest="command", required=True)
-    for command, words in {"check": ("FILE", "CERT"), "sim": ("FILE", "FROM", "TO"), "path": ("FILE", "FROM", "TO")}.items():
+    for command, words in {
+        "check": ("FILE", "CERT"),
+        "sim": ("FILE", "FROM", "TO"),
+        "path": ("FILE", "FROM", "TO"),
+    }.items():
         sub = commands.add_parser(command)
         for word in words:
             sub.add_argument(word)

@@ -1,19 +1,23 @@
 """How a check is called, what it counts, and how it ends.
 
-A check is called as `CHECK [PROGRAM] [--seed S] [--cases N]`. PROGRAM is a built `tdelay`, that of `./tdelay` where it is left out. The seed is
-that of all random choices, and N the most cases that are tried: a check whose cases are made up has a number of its own, one whose cases
-stand in a list tries them all.
+A check is called as `CHECK [PROGRAM] [--seed S] [--cases N]`. PROGRAM is a built `tdelay`, that of
+`./tdelay` where it is left out. The seed is that of all random choices, and N the most cases that
+are tried: a check whose cases are made up has a number of its own, one whose cases stand in a list
+tries them all.
 
-A check counts its cases, and for each case of what kinds it was: an exact answer, a refused growth, a written file. Its last line is
-`N cases, N wrong`, with the kinds behind. Its exit status is 0 where no case was wrong, where there was one at least, and where of each kind
-that the check is about there was the share that it states: a program that answers nothing passes no check. A run that takes too long ends
-the check, and fails it. Where a check needs another program that isn't there, it says so and ends with status 77.
+A check counts its cases, and for each case of what kinds it was: an exact answer, a refused growth,
+a written file. Its last line is `N cases, N wrong`, with the kinds behind. Its exit status is 0
+where no case was wrong, where there was one at least, and where of each kind that the check is
+about there was the share that it states: a program that answers nothing passes no check. A run that
+takes too long ends the check, and fails it. Where a check needs another program that isn't there,
+it says so and ends with status 77.
 """
 
 import argparse
 import os
 import random
 import shutil
+import signal
 import sys
 import traceback
 from collections import Counter
@@ -27,11 +31,13 @@ MOST_WRONG = 20
 
 
 class Enough(Exception):
-    """As many cases were tried as were asked for, or so many were wrong that more say nothing new."""
+    """So many cases were tried as were asked for, or so many wrong that more say nothing new."""
 
 
 class Check:
-    """A check at work: the program, a source of random choices, a folder of its own, and what was counted so far."""
+    """A check at work: the program, a source of random choices, a folder of its own, and what was
+    counted so far.
+    """
 
     def __init__(self, program, seed, cases, folder):
         self.program, self.seed, self.most, self.folder = program, seed, cases, folder
@@ -78,10 +84,12 @@ class Check:
         running.remove(self.folder, *names)
 
     def require(self, kind, share, of=None):
-        """Wants that at least this share of the cases, or of those of another kind, were of a kind."""
+        """Wants that this share of the cases at least, or of another kind's, were of a kind."""
         all_of, whose = (self.cases, "cases") if of is None else (self.kinds[of], of)
         if not self.kinds[kind] or self.kinds[kind] < share * all_of:
-            self.fault(f"{kind}: {self.kinds[kind]} of {all_of} {whose}, which is less than {share:.1%}")
+            self.fault(
+                f"{kind}: {self.kinds[kind]} of {all_of} {whose}, which is less than {share:.1%}"
+            )
 
 
 def last_line(check):
@@ -112,10 +120,22 @@ def tried(check, work, shares):
 
 def call(doc, cases, options):
     """What is asked by the words of the command line."""
-    parser = argparse.ArgumentParser(description=doc, formatter_class=argparse.RawDescriptionHelpFormatter)
-    parser.add_argument("program", nargs="?", default=places.PROGRAM, metavar="PROGRAM", help="a built tdelay")
-    parser.add_argument("--seed", type=int, default=1, metavar="S", help="of all random choices (1 where left out)")
-    parser.add_argument("--cases", type=int, default=cases, metavar="N", help=f"the most cases that are tried ({cases or 'all'} where left out)")
+    parser = argparse.ArgumentParser(
+        description=doc, formatter_class=argparse.RawDescriptionHelpFormatter
+    )
+    parser.add_argument(
+        "program", nargs="?", default=places.PROGRAM, metavar="PROGRAM", help="a built tdelay"
+    )
+    parser.add_argument(
+        "--seed", type=int, default=1, metavar="S", help="of all random choices (1 where left out)"
+    )
+    parser.add_argument(
+        "--cases",
+        type=int,
+        default=cases,
+        metavar="N",
+        help=f"the most cases that are tried ({cases or 'all'} where left out)",
+    )
     for name, how in options.items():
         parser.add_argument(name, **how)
     asked = parser.parse_args()
@@ -131,14 +151,16 @@ def nothing_more(check, cut):
 def main(work, doc, cases=None, shares=nothing_more, options=None, needs=()):
     """Runs a check and gives its exit status.
 
-    `work` tries the cases of a `Check`, `cases` at most where the command line says nothing; `shares` gets the check, and whether it was cut
-    short by its number of cases, and wants its kinds; `options` are words of this check alone; `needs` are programs that it runs besides.
+    `work` tries the cases of a `Check`, `cases` at most where the command line says nothing;
+    `shares` gets the check, and whether it was cut short by its number of cases, and wants its
+    kinds; `options` are words of this check alone; `needs` are programs that it runs besides.
     """
     asked = call(doc, cases, options or {})
     program = os.path.abspath(asked.program)
     if not os.access(program, os.X_OK) or os.path.isdir(program):
         print(f"wrong: {program} is no program; ./tdelay builds one")
         return 1
+    signal.signal(signal.SIGTERM, lambda *_: sys.exit(1))
     lacking = [name for name in needs if not shutil.which(name)]
     if lacking:
         print(f"skipped: {' and '.join(lacking)} must be there for this check")

@@ -1,4 +1,6 @@
-"""Where things stand: the top of the repository, its examples, and the program that `./tdelay` builds."""
+"""Where things stand: the top of the repository, its examples, and the program that `./tdelay`
+builds.
+"""
 
 import os
 import sys

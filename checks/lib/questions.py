@@ -45,6 +45,8 @@ def admitted(words, inputs):
 
 def keeps(words, before, after):
     """Whether a pair differs at no held input, and at no more than the flips."""
-    hold, flips = word(words, "--hold", "." * len(before)), int(word(words, "--flips", str(len(before))))
+    hold, flips = word(words, "--hold", "." * len(before)), int(
+        word(words, "--flips", str(len(before)))
+    )
     differ = [one != other for one, other in zip(before, after)]
     return sum(differ) <= flips and not any(it and held == "=" for it, held in zip(differ, hold))

@@ -33,4 +33,8 @@ def agree(one, other):
 def accepted_time(report):
     """The time that `check` accepts, None where it accepts none."""
     words = report.splitlines()[:1] and report.splitlines()[0].split(" ")
-    return int(words[1]) if words and words[0] == "accepted" and len(words) == 2 and words[1].isdigit() else None
+    return (
+        int(words[1])
+        if words and words[0] == "accepted" and len(words) == 2 and words[1].isdigit()
+        else None
+    )

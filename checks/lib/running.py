@@ -1,4 +1,6 @@
-"""Runs of a program within a time and a memory. A run that takes too long is ended with all that it started."""
+"""Runs of a program within a time and a memory. A run that takes too long is ended with all that it
+started.
+"""
 
 import os
 import resource
@@ -7,7 +9,8 @@ import subprocess
 import tempfile
 from collections import namedtuple
 
-# The seconds that a run may take where nothing else is said. A check is over, and failed, when one takes longer.
+# The seconds that a run may take where nothing else is said. A check is over, and failed, when one
+# takes longer.
 LONGEST = 30
 # Neither a check nor what it runs leaves a core file.
 resource.setrlimit(resource.RLIMIT_CORE, (0, 0))
@@ -24,7 +27,9 @@ class Hangs(Exception):
 
 
 def beginning(megabytes, before):
-    """What a process does before it begins: it limits its address space, and does what `before` says. None where there is neither."""
+    """What a process does before it begins: it limits its address space, and does what `before`
+    says. None where there is neither.
+    """
     if megabytes is None:
         return before
 
@@ -47,13 +52,17 @@ def end_all(process):
 
 
 def run_bytes(words, folder=None, seconds=LONGEST, megabytes=None, before=None, **how):
-    """Runs these words in a folder, with nothing on standard input, and gives how it ended, in bytes.
+    """Runs these words in a folder, with nothing on standard input, and gives how it ended, in
+    bytes.
 
-    `before` is called in the process before it begins; other words go to `Popen`. Where `how` sends an output elsewhere it is empty here.
+    `before` is called in the process before it begins; other words go to `Popen`. Where `how` sends
+    an output elsewhere it is empty here.
     """
     how = {"stdin": subprocess.DEVNULL, "stdout": subprocess.PIPE, "stderr": subprocess.PIPE, **how}
     begin = beginning(megabytes, before)
-    with subprocess.Popen(words, cwd=folder, start_new_session=True, preexec_fn=begin, **how) as process:
+    with subprocess.Popen(
+        words, cwd=folder, start_new_session=True, preexec_fn=begin, **how
+    ) as process:
         try:
             out, err = process.communicate(timeout=seconds)
         except subprocess.TimeoutExpired:
@@ -68,7 +77,11 @@ def run_bytes(words, folder=None, seconds=LONGEST, megabytes=None, before=None, 
 def run(words, folder=None, **how):
     """As `run_bytes`, with the outputs as texts."""
     ended = run_bytes(words, folder, **how)
-    return Ended(ended.status, ended.out.decode(errors="backslashreplace"), ended.err.decode(errors="backslashreplace"))
+    return Ended(
+        ended.status,
+        ended.out.decode(errors="backslashreplace"),
+        ended.err.decode(errors="backslashreplace"),
+    )
 
 
 def folder():
