@@ -18,16 +18,17 @@ class Refusal(Exception):
 KINDS = ("and", "nand", "or", "nor", "xor", "xnor", "buf", "not")
 GRAMMAR = KINDS + ("module", "endmodule", "input", "output", "wire")
 RESERVED = set(
-    """always assign automatic begin bufif0 bufif1 case casex casez cell cmos config deassign default
-    defparam design disable     edge else end endcase endconfig endfunction endgenerate
-    endprimitive endspecify endtable endtask event for force forever fork function     generate
-    genvar highz0 highz1 if ifnone incdir include initial inout instance integer join large
-    liblist library localparam     macromodule medium negedge nmos noshowcancelled notif0 notif1
-    parameter pmos posedge primitive pull0 pull1 pulldown pullup     pulsestyle_ondetect
-    pulsestyle_onevent rcmos real realtime reg release repeat rnmos rpmos rtran rtranif0 rtranif1
-    scalared     showcancelled signed small specify specparam strong0 strong1 supply0 supply1
-    table task time tran tranif0 tranif1 tri tri0 tri1 triand     trior trireg unsigned use uwire
-    vectored wait wand weak0 weak1 while wor""".split()
+    """
+always assign automatic begin bufif0 bufif1 case casex casez cell cmos config deassign default
+defparam design disable edge else end endcase endconfig endfunction endgenerate endprimitive
+endspecify endtable endtask event for force forever fork function generate genvar highz0 highz1 if
+ifnone incdir include initial inout instance integer join large liblist library localparam
+macromodule medium negedge nmos noshowcancelled notif0 notif1 parameter pmos posedge primitive pull0
+pull1 pulldown pullup pulsestyle_ondetect pulsestyle_onevent rcmos real realtime reg release repeat
+rnmos rpmos rtran rtranif0 rtranif1 scalared showcancelled signed small specify specparam strong0
+strong1 supply0 supply1 table task time tran tranif0 tranif1 tri tri0 tri1 triand trior trireg
+unsigned use uwire vectored wait wand weak0 weak1 while wor
+""".split()
 )
 # What stands at the front of a text.
 BLANK = r"[ \t\n\f\r]"
