@@ -9,8 +9,9 @@ prints, whole or without the head. A text in backquotes that is a line of a repo
 line that some command of the pages prints, or one of OTHERS, of which they tell in words.
 
 Besides, each contract that README.md and docs/CONTRACTS.md quote stands in the sources, word for
-word; the numbers of docs/MODEL.md are those of tools/model.py, and the picture of the crates is
-that of tools/picture.py. Each command, block, text and line of a contract is a case.
+word; as many wrong bodies are there as the pages say; the numbers of docs/MODEL.md are those of
+tools/model.py, and the picture of the crates is that of tools/picture.py. Each command, block, text
+and line of a contract is a case.
 """
 
 import glob
@@ -95,6 +96,20 @@ def tools(tested):
             [sys.executable, os.path.join(places.TOOLS, tool), "--check"], places.TOP
         )
         tested.expect(f"{tool}: {done.out}{done.err}", 0, done.status)
+
+
+def counted(tested):
+    """Cases: how many wrong bodies there are, where a page says so."""
+    counts = {
+        r"`rt ci` tries (\d+) wrong bodies": "crates/*/must-fail/*.edit",
+        r"[Oo]ther (\d+) are tried by `checks/wrong_bodies.py`": "checks/wrong_bodies/*/*.edit",
+    }
+    pages = sorted(glob.glob(os.path.join(places.TOP, "docs", "*.md")))
+    texts = [" ".join(places.text_of(page).split()) for page in ["README.md", *pages]]
+    for pattern, edits in counts.items():
+        count = len(glob.glob(os.path.join(places.TOP, edits)))
+        found = [int(number) for text in texts for number in re.findall(pattern, text)]
+        tested.expect(f"the pages count {edits}", (True, {count}), (bool(found), set(found)))
 
 
 def pieces(text):
@@ -205,6 +220,7 @@ class Pages:
 def work(tested):
     contracts(tested)
     tools(tested)
+    counted(tested)
     with running.folder() as folder:
         pages = Pages(tested, folder)
         for name, least in PAGES.items():
