@@ -141,3 +141,15 @@ the known one, and two free bits are 0.
   from 001 to 000
   from 100 to 111
   from 100 to 110
+
+No budget, where the root's bound is the delay of its pair; and a time in steps of a picosecond.
+
+  $ bash netlist 'not #(2,3) (y,a);' a y; bash search --budget 0
+  between 3 3 cause budget from 0 to 1 nodes 0
+  $ sed -i '1i `timescale 1ns/1ps' t.v && sed -i 's/#(2,3)/#1.5/' t.v; tdelay worst t.v
+  unit 1 ps
+  defaulted 0
+  exact 1500
+  from 0
+  to 1
+  nodes 1

@@ -238,3 +238,12 @@ All this goes to standard error, and nothing to standard output.
 
   $ tdelay sim both.v 0 2 2> told
   [2]
+
+Gates without a delay take the default ones.
+
+  $ tdelay sim "$NETLISTS"/c17.v 01010 01110 --default-rise 2 --default-fall 2
+  unit 1 ns
+  defaulted 6
+  last N22 6
+  last N23 6
+  time 6

@@ -166,3 +166,16 @@ A refused one has one line, on standard output too.
   $ printf '%b' 'tdelay-cert 3\ncircuit 1 2\nfirst .\nsecond 1\nhold .\nflips 1\nat 6\ntime 9\nfrom 0\nto 1\nb a 9\n' > c; tdelay check equal.v c 2>&-
   refused 2 PairTime
   [4]
+
+Trees as a search by plain arrival windows alone makes them, of a pulse that is lost and of a slow arm: the other bounds are never
+above its own.
+
+  $ bash rows lost.v 'tdelay-cert 1/circuit 1 2/time 0/from 0/to 1/' <<'END'
+  > accepted 0|s 0/s 1/b a 0/p 0/s 1/p 0/b a 0/
+  > END
+  1 rows
+  $ echo 'module t(a, b, y); input a, b; output y; buf #4 s(t,a); or #1 g(y,b,t); endmodule' > slow.v
+  $ bash rows slow.v 'tdelay-cert 1/circuit 2 2/time 5/from 00/to 10/' <<'END'
+  > accepted 5|s 0/s 1/b a 1/s 2/s 3/b a 5/b a 5/b a 5/b a 5/
+  > END
+  1 rows

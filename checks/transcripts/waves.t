@@ -98,3 +98,10 @@ Names of each kind, and another unit.
   0#
   0$
   $end
+
+A pulse of one moment where the input changes at 7, by the two commands that write waves.
+
+  $ tdelay sim pulse.v 0 1 --at 7 --vcd - | sed '1,/enddefinitions/d' | paste -sd' '
+  #0 $dumpvars 0! 1" 0# $end #8 1! #9 0" 1# #10 0#
+  $ tdelay worst pulse.v --at 7 --vcd - | sed '1,/enddefinitions/d' | paste -sd' '
+  #0 $dumpvars 0! 1" 0# $end #8 1! #9 0" 1# #10 0#

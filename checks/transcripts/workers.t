@@ -137,3 +137,25 @@ A watch changes nothing of what one worker answers with `lead`, and is told noth
   0
   0
   0
+
+A pulse that is as long as a delay, one that falls late, one that two inputs share, and c17.
+
+  $ netlist() { printf 'module t (%s, y);\ninput %s;\noutput y;\n%s\nendmodule\n' "$1" "$1" "$2"; }
+  > netlist a 'not #1 n(b,a); and #1 g(y,a,b);' > equal.v
+  > netlist a 'not #1 n(b,a); and #(1,3) g(y,a,b);' > late.v
+  > netlist 'a, c' 'buf #1 g1(d,a); or #1 g2(m,c,d); not #3 g3(k,a); and #2 g4(y,m,k);' > hidden.v
+  > cp "$NETLISTS"/c17.v .
+  > for netlist in equal late hidden c17; do bash times.sh $netlist.v; done
+  accepted 2 exact 2
+  accepted 4 exact 4
+  accepted 5 exact 5
+  accepted 3 exact 3
+
+The wide one by 64 workers, with a pair that has the delay, and its certificate.
+
+  $ tdelay worst wide.v --workers 64 --cert wide.cert | grep -E '^(exact|nodes)' | paste -sd' '
+  > tdelay check wide.v wide.cert
+  > tdelay sim wide.v $(sed -n 's/^from //p; s/^to //p' wide.cert) | grep time
+  exact 3 nodes 2047
+  accepted 3
+  time 3
