@@ -6,8 +6,8 @@ By its command line the second opinion has to print what the program prints, wit
 of the netlists in examples/ and random pairs `sim` and `path`, of certificates that `worst` writes,
 whole and changed, `check`, and of netlists and words that are refused the status and the kind. The
 pictures in examples/ are what drawing.py makes of the waves that the program writes for a command
-of the same section of examples/README.md. A picture is well-formed, and a text that is no dump is
-refused.
+of the same section of examples/README.md. A picture is well-formed, as wide as is asked for and of
+the nets that are, and a text that is no dump is refused.
 """
 
 import os
@@ -49,8 +49,8 @@ def second(tested, *words):
     return running.run([sys.executable, SECOND, *words], tested.folder)
 
 
-def draw(tested, name):
-    return running.run([sys.executable, DRAWING, name], tested.folder)
+def draw(tested, *words):
+    return running.run([sys.executable, DRAWING, *words], tested.folder)
 
 
 def agrees(tested, *words):
@@ -88,6 +88,40 @@ def pictures(tested):
             tested.expect(f"lines of {name}", True, "polyline" in elements)
     if count < 4:
         tested.fault(f"examples/README.md shows {count} pictures, where there have to be 4")
+
+
+def parts_of(picture):
+    """The width of a picture, the names of its nets in order, and how many lines it has of them."""
+    root = ElementTree.fromstring(picture or "<none/>")
+    tags = [(it.tag.rpartition("}")[2], it) for it in root.iter()]
+    names = [it.text for tag, it in tags if tag == "text" and it.get("text-anchor") == "end"]
+    return root.get("width"), names, sum(tag == "polyline" for tag, _ in tags)
+
+
+def choices(tested):
+    """Cases: pictures of a width, of chosen nets, and of the nets of a path."""
+    tested.write("t.v", places.text_of("examples", "hazard.v"))
+    tested.run("sim", "t.v", "111", "011", "--vcd", "out.vcd")
+    tested.write("path", tested.run("path", "t.v", "111", "011").out)
+    every = parts_of(draw(tested, "out.vcd").out)[1]
+    for words, width, names in (
+        ([], None, ["s", "a", "b", "n", "p", "q", "y"]),
+        (["--width", "900"], 900, every),
+        (["--nets", "y,s"], None, ["y", "s"]),
+        (["--path", "path"], None, ["s", "n", "q", "y"]),
+        (["--path", "path", "--width", "300"], 300, ["s", "n", "q", "y"]),
+    ):
+        done = draw(tested, "out.vcd", *words)
+        got_width, *got = parts_of(done.out)
+        near = width is None or abs(float(got_width or 0) - width) < 1
+        tested.expect(
+            f"a picture by {words}", (0, True, [names, len(names)]), (done.status, near, got)
+        )
+    for words in (["--nets", "other"], ["--width", "10"], ["--width", "x"], ["--path", "t.v"]):
+        done = draw(tested, "out.vcd", *words)
+        tested.expect(
+            f"no picture by {words}", (True, "", True), (done.status != 0, done.out, bool(done.err))
+        )
 
 
 def bad_dumps(tested):
@@ -161,6 +195,7 @@ def random_pairs(tested):
 
 def work(tested):
     pictures(tested)
+    choices(tested)
     bad_dumps(tested)
     refusals(tested)
     certificates(tested)
