@@ -10,7 +10,8 @@ are run. What takes longer than it is worth each time is run where there are min
 where it is named (LATER); `wrong_bodies.py` tries proofs, and no program.
 
 `--self-test` runs every check on programs that can't be right: `/bin/true`, `/bin/false` and one
-that hangs. Each has to fail within a minute, and to say why.
+that hangs. Each has to fail within a minute, and to say why. Then, where PROGRAM is there, each
+check runs on programs that lie in one thing alone (lib/lies.py), and has to fail these, too.
 
 A line says of each check whether it passes, how long it took, and its own last line; of one that
 fails what it printed stands before that. One that lacks a program beside `tdelay` is skipped, which
@@ -29,7 +30,7 @@ import time
 from collections import Counter
 from concurrent.futures import ThreadPoolExecutor
 
-from lib import places, running
+from lib import lies, places, running
 from lib.check import SKIPPED
 
 # The minutes of the quick part.
@@ -42,6 +43,8 @@ LATER = {"first_command": 20}
 LONGEST_FIRST = ["first_command", "memory_limits", "limits", "refused_growths", "opinions", "parts"]
 # The seconds within which a program that can't be right has to fail a check.
 MINUTE = 60
+# The seconds that a check may take to find a lie.
+LONG = 300
 # The lines that are shown of a check that fails.
 SHOWN = 60
 
@@ -139,21 +142,30 @@ def test_program(asked, names, pool):
     return results.end()
 
 
-def test_checks(names, pool):
-    """Runs the checks of programs that can't be right."""
+def test_checks(asked, names, pool):
+    """Runs the checks of programs that can't be right, and of programs that lie."""
     results = Results()
     with running.folder() as folder:
         hanging = running.write(folder, "hangs", "#!/bin/sh\nexec sleep 1000\n")
         os.chmod(hanging, 0o755)
+        cases = [
+            (name, program, MINUTE, os.path.basename(program))
+            for program in (hanging, "/bin/true", "/bin/false")
+            for name in names
+        ]
+        right = os.path.abspath(asked.program)
+        if os.access(right, os.X_OK):
+            for number, (name, what, lie) in enumerate(lies.all_of(names)):
+                cases.append((name, lies.make(folder, right, number, lie), LONG, what))
+        else:
+            print(f"{right} isn't there, so that no program can be made of it that lies")
 
         def test(case):
-            program, name = case
-            ran = run_check(name, [program], MINUTE)
-            what = f"{name} has to fail {os.path.basename(program)}"
-            results.add(ran, verdict_of_failing(ran), what)
+            name, program, seconds, what = case
+            ran = run_check(name, [program, *cases_of(name, QUICK // 2)], seconds)
+            results.add(ran, verdict_of_failing(ran), f"{name} has to fail: {what}")
 
-        programs = (hanging, "/bin/true", "/bin/false")
-        list(pool.map(test, [(program, name) for program in programs for name in names]))
+        list(pool.map(test, cases))
     return results.end()
 
 
@@ -180,7 +192,7 @@ def main():
     # A check of a program that hangs waits most of its time.
     with ThreadPoolExecutor(asked.jobs * (3 if asked.self_test else 1)) as pool:
         if asked.self_test:
-            return test_checks(names, pool)
+            return test_checks(asked, names, pool)
         if not asked.only:
             names = [name for name in names if asked.minutes >= LATER.get(name, 0)]
         return test_program(asked, names, pool)

@@ -1,0 +1,85 @@
+"""Programs that lie in one thing each, made of one that is right. A check that is about this thing
+has to fail them.
+"""
+
+import os
+import subprocess
+
+from . import places, running
+
+# `$R` is the program that is right. What a lie changes is its output, its status or its files.
+FIVE = '$R "$@"; status=$?; [ $status = 5 ] && exit'
+MORE = """$R "$@" | awk '$1 == "{key}" && $2 > 0 {{ $2 += {by} }} 1'; exit ${{PIPESTATUS[0]}}"""
+
+
+def where(words, lie):
+    """A lie where the words have these among them."""
+    return f'if [[ "$*" == *"{words}"* ]]; then {lie}; else exec $R "$@"; fi'
+
+
+def edited(script):
+    """The output after an edit by `sed`."""
+    return f"""$R "$@" | sed '{script}'; exit ${{PIPESTATUS[0]}}"""
+
+
+ACCEPTS = """$R "$@"; status=$?; [ $status = 4 ] && echo accepted 3 && exit 0; exit $status"""
+NEVER = (
+    r"""printf 'unit 1 ns\ndefaulted 0\nbetween 0 1000\ncause budget\nfrom 0\nto 0\nnodes 1\n'"""
+)
+SLOW = """[ "$(grep -Ec 'BOzJL94H9NC|jlND7_n.2xC' t.v)" -gt 5000 ] && timeout 8 sh -c 'while :; do :; done'
+exec $R "$@" """
+
+# Of each check the lies that it has to find, by what they are: a script, or the number of a lie of
+# lying.c.
+LIES = {
+    "collisions": {"colliding names take long": SLOW},
+    "devices": {"a device that fails is a bad text": FIVE + " 1; exit $status"},
+    "doubling": {"the time is one more": MORE.format(key="time", by=1)},
+    "failing_files": {"a file is left where one fails": 2},
+    "limits": {"too many is bad syntax": '$R "$@" 2> >(sed s/TooMany/Syntax/ >&2); exit $?'},
+    "memory_limits": {"out of memory is well": FIVE + " 0; exit $status"},
+    "mutations": {
+        "another status": '$R "$@"; status=$?; [ $status = 4 ] && exit 7; exit $status',
+        "a word on standard error": '[ "$1" = info ] && echo hello >&2; exec $R "$@"',
+        "refused certificates are accepted, too": where("check t.v c", ACCEPTS),
+    },
+    "opinions": {
+        "a change at another moment": where("path", edited("0,/ input$/s/change 0/change 1/")),
+        "a bound by edges that is one more": where("--edges", MORE.format(key="e", by=1)),
+        "refused certificates are accepted, too": where("check", ACCEPTS),
+    },
+    "pages": {"the time is one more": MORE.format(key="time", by=1)},
+    "parts": {
+        "a part is left out": where("parts", edited("$d")),
+        "a part comes twice": where("parts", edited("$p")),
+    },
+    "refused_growths": {"a search after its root is out of memory": 1},
+    "strategies": {"a time that is one less": where("lead", MORE.format(key="exact", by=-1))},
+    "tools": {"the time is one more": MORE.format(key="time", by=1)},
+    "transcripts": {"a change at another moment": where("path", edited("s/change 0/change 1/"))},
+    "vcd": {"a change at another moment": '$R "$@"; s=$?; sed -i "s/^#5$/#6/" our.vcd; exit $s'},
+    "workers": {
+        "four workers find one more": where("--workers 4", MORE.format(key="exact", by=1)),
+        "no certificate": where("--workers 64", '$R "$@"; status=$?; rm -f c; exit $status'),
+        "nothing is exact": where("worst", f"rm -f c; {NEVER}; exit 3"),
+    },
+}
+
+
+def make(folder, right, number, lie):
+    """Makes a program that lies in a folder, of one that is right. Gives its path."""
+    if isinstance(lie, int):
+        path = os.path.join(folder, f"lies{number}")
+        source = os.path.join(places.CHECKS, "lib", "lying.c")
+        macros = [f'-DREAL="{right}"', f"-DLIE={lie}"]
+        subprocess.run(["cc", "-O1", *macros, "-o", path, source], check=True)
+    else:
+        text = f"#!/bin/bash\nR='{right}'\n{lie}\n"
+        path = running.write(folder, f"lies{number}", text)
+        os.chmod(path, 0o755)
+    return path
+
+
+def all_of(names):
+    """The lies of these checks: the check, what the lie is, and the lie."""
+    return [(name, what, lie) for name in names for what, lie in LIES.get(name, {}).items()]
