@@ -356,11 +356,9 @@ def fault_of_exact(tested, words, out):
         if word.startswith("--default") or at and words[at - 1].startswith("--default")
     ]
     checked = tested.run("check", "t.v", "out.cert", *defaults, seconds=LONGEST)
-    return (
-        None
-        if reports.accepted_time(checked.out) == time
-        else f"its certificate is not accepted: {checked.out}{checked.err}"
-    )
+    if reports.accepted_time(checked.out) != time:
+        return f"its certificate is not accepted: {checked.out}{checked.err}"
+    return None
 
 
 def fault_of_check(texts, done):
@@ -368,11 +366,9 @@ def fault_of_check(texts, done):
     out, fault, status = second_opinion.told(
         lambda: second_opinion.check(second_opinion.read_circuit(texts["t.v"]), texts["c"])
     )
-    return (
-        None
-        if (done.status, done.out.decode()) == (status, out)
-        else f"the second opinion says {status}: {out}{fault}"
-    )
+    if (done.status, done.out.decode()) != (status, out):
+        return f"the second opinion says {status}: {out}{fault}"
+    return None
 
 
 def fault_of_error(words, done):

@@ -22,7 +22,6 @@ from lib.questions import admitted, fits, random_question, word
 
 CASES = 120
 SCRIPT = os.path.join(places.EXAMPLES, "many_machines.sh")
-NO_PAIR = "tdelay: no admitted pair\n"
 
 
 class Question:
@@ -154,22 +153,12 @@ def wrong(tested, text, inputs):
     """What is wrong with a random question, if something is, and into how many parts it is cut."""
     asked = Question(tested, inputs, random_question(tested.random, inputs))
     count = tested.random.randint(2, 40)
-    cut = tested.run(
-        "parts",
-        "t.v",
-        "--parts",
-        str(count),
-        *asked.words,
-        "--strategy",
-        tested.random.choice(["least", "lead"]),
-    )
-    if (cut.status, cut.err) == (1, NO_PAIR):
+    strategy = ["--strategy", tested.random.choice(["least", "lead"])]
+    cut = tested.run("parts", "t.v", "--parts", str(count), *asked.words, *strategy)
+    if reports.finds_no_pair(cut):
         searched = tested.run("worst", "t.v", *asked.words)
-        return (
-            None
-            if (searched.status, searched.err) == (1, NO_PAIR)
-            else "parts finds no pair, worst finds one"
-        ), 0
+        is_so = reports.finds_no_pair(searched)
+        return None if is_so else "parts finds no pair, worst finds one", 0
     if cut.status != 0:
         return f"parts: {cut.status} {cut.err}", 0
     lines = [line.split() for line in cut.out.splitlines()]

@@ -29,31 +29,23 @@ def fault_in(tested, circuit, words, way, wanted):
     """What is wrong with one search, None where nothing is."""
     tested.remove("c")
     done = tested.run("worst", "t.v", "--cert", "c", *words, *way)
+    ended = f"status {done.status}: {done.out}{done.err}"
     if wanted is None:
-        no_pair = (done.status, done.out, done.err) == (1, "", "tdelay: no admitted pair\n")
-        return (
-            None
-            if no_pair
-            else f"status {done.status}: {done.out}{done.err}where no pair is admitted"
-        )
+        return None if reports.finds_no_pair(done) else f"{ended}where no pair is admitted"
     values = reports.values_of(done.out)
     if done.status != 0 or done.err or values.get("exact") != str(wanted):
-        return f"status {done.status}: {done.out}{done.err}where the worst delay is {wanted}"
-    pair = values["from"], values["to"]
-    if (
-        pair not in questions.admitted(words, circuit.inputs)
-        or delay_of(circuit, pair, questions.moments_of(words, circuit.inputs)) != wanted
-    ):
+        return f"{ended}where the worst delay is {wanted}"
+    pair, moments = (values["from"], values["to"]), questions.moments_of(words, circuit.inputs)
+    is_admitted = pair in questions.admitted(words, circuit.inputs)
+    if not is_admitted or delay_of(circuit, pair, moments) != wanted:
         return f"the pair {pair}"
     checked = tested.run("check", "t.v", "c")
     if reports.accepted_time(checked.out) != wanted:
         return f"the certificate: {checked.out}{checked.err}"
     judged = second_opinion.verdict(circuit, second_opinion.read_certificate(tested.read("c")))
-    return (
-        None
-        if judged == (second_opinion.Verdict.Accepted, None)
-        else f"the certificate, by the second opinion: {judged}"
-    )
+    if judged != (second_opinion.Verdict.Accepted, None):
+        return f"the certificate, by the second opinion: {judged}"
+    return None
 
 
 def work(tested):

@@ -15,33 +15,22 @@ from lib.netlists import random_netlist
 from lib.questions import random_question
 
 CASES = 1500
-NO_PAIR = "tdelay: no admitted pair\n"
 
 
 def fault_of(tested, done, name):
     """What is wrong with a search by itself."""
-    if done.status == 1 and done.err == NO_PAIR and not done.out:
+    if reports.finds_no_pair(done):
         return None
-    found = reports.figures_of(done.out)
-    if (
-        done.err
-        or done.status not in (0, 3)
-        or found is None
-        or reports.is_exact(done.out) != (done.status == 0)
-    ):
+    found, is_exact = reports.figures_of(done.out), reports.is_exact(done.out)
+    if done.err or done.status != (0 if is_exact else 3) or found is None:
         return f"status {done.status}: {done.out}{done.err}"
-    if done.status == 3:
-        return (
-            "a certificate of a search that was cut short"
-            if tested.read(name) is not None
-            else None
-        )
+    if not is_exact:
+        is_there = tested.read(name) is not None
+        return "a certificate of a search that was cut short" if is_there else None
     checked = tested.run("check", "t.v", name)
-    return (
-        None
-        if reports.accepted_time(checked.out) == found.low
-        else f"{done.out}its certificate: {checked.out}{checked.err}"
-    )
+    if reports.accepted_time(checked.out) != found.low:
+        return f"{done.out}its certificate: {checked.out}{checked.err}"
+    return None
 
 
 def search(tested, words, workers):

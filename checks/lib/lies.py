@@ -26,7 +26,8 @@ ACCEPTS = """$R "$@"; status=$?; [ $status = 4 ] && echo accepted 3 && exit 0; e
 NEVER = (
     r"""printf 'unit 1 ns\ndefaulted 0\nbetween 0 1000\ncause budget\nfrom 0\nto 0\nnodes 1\n'"""
 )
-SLOW = """[ "$(grep -Ec 'BOzJL94H9NC|jlND7_n.2xC' t.v)" -gt 5000 ] && timeout 8 sh -c 'while :; do :; done'
+SLOW = """count=$(grep -Ec 'BOzJL94H9NC|jlND7_n.2xC' t.v)
+[ "$count" -gt 5000 ] && timeout 8 sh -c 'while :; do :; done'
 exec $R "$@" """
 
 # Of each check the lies that it has to find, by what they are: a script, or the number of a lie of

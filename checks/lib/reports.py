@@ -25,6 +25,11 @@ def is_exact(report):
     return "exact" in values_of(report)
 
 
+def finds_no_pair(done):
+    """Whether a run ended since no pair is admitted."""
+    return tuple(done) == (1, "", "tdelay: no admitted pair\n")
+
+
 def agree(one, other):
     """Whether the figures of two searches of one question can both be right."""
     return one.low <= other.high and other.low <= one.high
