@@ -5,6 +5,7 @@ wrong and each kind of case had the share that the check states, 1 where not, an
 """
 
 import argparse
+import json
 import os
 import random
 import shutil
