@@ -1,6 +1,7 @@
 """Functions of cells as tables, and the levels of gate primitives that compute them.
 
-A level is 0 or 1. A table has the output's level for each vector of the pins, in counting order with the first pin as the highest bit.
+A level is 0 or 1. A table has the output's level for each vector of the pins, in counting order
+with the first pin as the highest bit.
 """
 
 import itertools
@@ -54,9 +55,15 @@ class Function:
         return Function.of(free, lambda *levels: self.level({**known, **dict(zip(free, levels))}))
 
     def sense(self, pin: Pin) -> int:
-        """1 where the output can only rise when the pin does, -1 where it can only fall, 0 where both happen."""
+        """1 where the output can only rise when the pin does, -1 where it can only fall, 0 where
+        both happen.
+        """
         bit = 1 << (len(self.pins) - 1 - self.pins.index(pin))
-        rises = {self.table[number | bit] - self.table[number] for number in range(len(self.table)) if not number & bit}
+        rises = {
+            self.table[number | bit] - self.table[number]
+            for number in range(len(self.table))
+            if not number & bit
+        }
         return 1 if -1 not in rises else -1 if 1 not in rises else 0
 
 
@@ -92,11 +99,12 @@ Product = Tuple[Literal, ...]
 
 
 def prime_products(table: Tuple[int, ...]) -> Dict[Product, frozenset]:
-    """The products that imply the function and from which no literal can be left out, each with the numbers of its vectors.
+    """The products that imply the function and from which no literal can be left out, each with the
+    numbers of its vectors.
 
-    By the method of Quine and McCluskey: two cubes that differ at one known bit alone are one of twice the size, and a cube is prime where
-    it is part of none. A cube is the least number in it, and the bits that are free in it.
-    """
+    By the method of Quine and McCluskey: two cubes that differ at one known bit alone are one of
+    twice the size, and a cube is prime where it is part of none. A cube is the least number in it,
+    and the bits that are free in it."""
     count = len(table).bit_length() - 1
     bits = [1 << (count - 1 - place) for place in range(count)]
     cubes, primes = {(number, 0) for number, level in enumerate(table) if level}, []
@@ -109,12 +117,16 @@ def prime_products(table: Tuple[int, ...]) -> Dict[Product, frozenset]:
                     doubled.add((least, free | bit))
         primes += sorted(cubes - halves)
         cubes = doubled
-    return {product_of(least, free, bits): frozenset(numbers_in(least, free)) for least, free in primes}
+    return {
+        product_of(least, free, bits): frozenset(numbers_in(least, free)) for least, free in primes
+    }
 
 
 def product_of(least: int, free: int, bits) -> Product:
     """The product that is 1 in this cube."""
-    return tuple(Literal(place, int(bool(least & bit))) for place, bit in enumerate(bits) if not free & bit)
+    return tuple(
+        Literal(place, int(bool(least & bit))) for place, bit in enumerate(bits) if not free & bit
+    )
 
 
 def numbers_in(least: int, free: int):
@@ -128,7 +140,10 @@ def numbers_in(least: int, free: int):
 
 
 def products_of(table: Tuple[int, ...], every: bool) -> Tuple[Product, ...]:
-    """Products whose sum is the function: all prime ones, so that the sum has no hazard of its own, or few of them, chosen greedily."""
+    """Products whose sum is the function:
+
+    all prime ones, so that the sum has no hazard of its own, or few of them, chosen greedily.
+    """
     primes = prime_products(table)
     if every:
         return tuple(primes)
@@ -148,10 +163,11 @@ class Term(NamedTuple):
 
 @dataclass(frozen=True)
 class Levels:
-    """A function as levels of gates, in which every way from a pin to the output goes through equally many.
+    """A function as levels of gates, in which every way from a pin to the output goes through
+    equally many.
 
-    `literals` are the buf and not gates after the pins, and `terms` the gates after these; each is empty where there is no such level.
-    """
+    `literals` are the buf and not gates after the pins, and `terms` the gates after these; each is
+    empty where there is no such level."""
 
     literals: Product
     terms: Tuple[Term, ...]
@@ -172,9 +188,9 @@ class Levels:
 def levels_of(table: Tuple[int, ...], gate_at_each_pin: bool, one_direction: bool) -> Levels:
     """Levels for a function that depends on all its pins.
 
-    `gate_at_each_pin` asks for the level of literals, at which a pin can be made later than the others. `one_direction` asks that each
-    literal makes the output change in one direction alone, as no pin of an xor does.
-    """
+    `gate_at_each_pin` asks for the level of literals, at which a pin can be made later than the
+    others. `one_direction` asks that each literal makes the output change in one direction alone,
+    as no pin of an xor does."""
     kind = primitive_of(table)
     if kind and not (one_direction and kind in ("xor", "xnor")):
         pins = tuple(Literal(place, 1) for place in range(len(table).bit_length() - 1))
@@ -182,15 +198,29 @@ def levels_of(table: Tuple[int, ...], gate_at_each_pin: bool, one_direction: boo
     last, products = shortest_sum(table, every=one_direction)
     if len(products) == 1:
         return Levels(products[0], (), {"or": "and", "nor": "nand"}[last])
-    if not gate_at_each_pin and all(len({literal.level for literal in product}) == 1 for product in products):
+    if not gate_at_each_pin and all(
+        len({literal.level for literal in product}) == 1 for product in products
+    ):
         kinds = {(1, True): "buf", (0, True): "not", (1, False): "and", (0, False): "nor"}
-        return Levels((), tuple(Term(kinds[product[0].level, len(product) == 1], product) for product in products), last)
+        return Levels(
+            (),
+            tuple(
+                Term(kinds[product[0].level, len(product) == 1], product) for product in products
+            ),
+            last,
+        )
     literals = tuple(sorted({literal for product in products for literal in product}))
-    return Levels(literals, tuple(Term("buf" if len(product) == 1 else "and", product) for product in products), last)
+    return Levels(
+        literals,
+        tuple(Term("buf" if len(product) == 1 else "and", product) for product in products),
+        last,
+    )
 
 
 def shortest_sum(table: Tuple[int, ...], every: bool) -> Tuple[str, Tuple[Product, ...]]:
-    """The last gate and the products of a sum for the function, or of one for its complement where that has fewer literals."""
+    """The last gate and the products of a sum for the function, or of one for its complement where
+    that has fewer literals.
+    """
     complement = tuple(1 - level for level in table)
     sums = [("or", products_of(table, every)), ("nor", products_of(complement, every))]
     return min(sums, key=lambda it: sum(map(len, it[1])))

@@ -1,8 +1,9 @@
+# shellcheck shell=sh
 # What the shell scripts of this folder share. Sourced by them, with `script` set to their name.
 
 # refuse NAME WRONG REMEDY: ends the script, with what is wrong and what to do.
 refuse() {
-    printf '%s: %s: %s\n  what to do: %s\n' "$script" "$1" "$2" "$3" >&2
+    printf '%s: %s: %s\n  what to do: %s\n' "${script:?}" "$1" "$2" "$3" >&2
     exit 1
 }
 

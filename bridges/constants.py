@@ -1,4 +1,7 @@
-"""Nets that have one level whatever the inputs are. A timing tool gives no delays to what makes them."""
+"""Nets that have one level whatever the inputs are.
+
+A timing tool gives no delays to what makes them.
+"""
 
 from collections import defaultdict
 from typing import Dict, Iterable
@@ -9,7 +12,9 @@ from yosys_json import CONSTANTS, Bit, Cell
 
 
 class Constants:
-    """The constant nets of combinational cells, and the functions of cells at whose pins they stand."""
+    """The constant nets of combinational cells, and the functions of cells at whose pins they
+    stand.
+    """
 
     def __init__(self, library: Library, cells: Iterable[Cell]):
         self.library = library
@@ -33,7 +38,11 @@ class Constants:
     def function(self, cell: Cell, output: str) -> Function:
         """The function of a cell's output, of the pins at which no constant stands."""
         whole = self.library.function(cell, output)
-        known = tuple((pin, self.levels[cell.inputs[pin]]) for pin in whole.pins if cell.inputs.get(pin) in self.levels)
+        known = tuple(
+            (pin, self.levels[cell.inputs[pin]])
+            for pin in whole.pins
+            if cell.inputs.get(pin) in self.levels
+        )
         if not known:
             return whole
         if (whole, known) not in self.reduced:

@@ -2,11 +2,10 @@
 
 import re
 from collections import Counter
-from typing import Dict, Iterator, List, Set
+from typing import Iterator, List, Optional
 
-from cells import Function
 from constants import Constants
-from delays import DefaultDelays, Output, SdfDelays
+from delays import DefaultDelays, Delay, Output, SdfDelays
 from gates import GateWriter
 from library import STATE, Library
 from netlist import MOST_GATES, MOST_INPUTS, Names, Netlist, Port, spelled, terminals
@@ -14,19 +13,31 @@ from refusal import Refusal
 from registers import Register, in_words, shell_lines
 from yosys_json import CONSTANTS, Bit, Cell, Design, Vector
 
+CONNECT = "connect it; `setundef -zero` of yosys makes undriven nets 0"
+
 
 class Conversion:
-    """Writes one module. After `run`, `netlist` has its gates, `registers` what was cut out, and `notes` what a reader has to know."""
+    """Writes one module.
+
+    After `run`, `netlist` has its gates, `registers` what was cut out, and `notes` what a reader
+    has to know.
+    """
 
     def __init__(self, design: Design, top: str, delays: DefaultDelays, each_pin: bool):
         if top not in design:
-            raise Refusal("NoModule", f"there is no module {top}", "name one of the design, as its source has it")
+            raise Refusal(
+                "NoModule",
+                f"there is no module {top}",
+                "name one of the design, as its source has it",
+            )
         self.module, self.library, self.delays = design[top], Library(design), delays
         cells = sorted(self.module.cells, key=lambda cell: cell.name)
         self.combinational = [cell for cell in cells if not self.library.stores(cell.kind)]
         self.storing = [cell for cell in cells if self.library.stores(cell.kind)]
         self.constants = Constants(self.library, self.combinational)
-        self.names = Names(self.module, {terminal for terminal in self.port_bits() if self.wire_to(terminal)})
+        self.names = Names(
+            self.module, {terminal for terminal in self.port_bits() if self.wire_to(terminal)}
+        )
         self.writer = GateWriter(self.names, each_pin)
         self.netlist = Netlist(top)
         self.registers: List[Register] = []
@@ -48,31 +59,55 @@ class Conversion:
 
     def refuse_like_instances(self):
         """Two instances whose names an SDF file can't tell apart."""
-        for name, count in Counter(cell.name.replace("/", ".") for cell in self.module.cells).items():
+        for name, count in Counter(
+            cell.name.replace("/", ".") for cell in self.module.cells
+        ).items():
             if count > 1:
-                raise Refusal("LikeInstances", f"two instances are called {name} but for . and /", "rename one of them")
+                raise Refusal(
+                    "LikeInstances",
+                    f"two instances are called {name} but for . and /",
+                    "rename one of them",
+                )
 
     def refuse_undriven(self):
         """A net that nothing drives, or that two do."""
         drivers = Counter(bit for port in self.module.inputs for bit in port.bits)
         drivers.update(bit for cell in self.module.cells for bit in cell.outputs.values())
-        reads = {bit: f"{pin} of {cell.name}, a {cell.kind}" for cell in self.module.cells for pin, bit in cell.inputs.items()}
-        reads.update((bit, f"the output {port.name}") for port in self.module.outputs for bit in port.bits)
+        reads = {
+            bit: f"{pin} of {cell.name}, a {cell.kind}"
+            for cell in self.module.cells
+            for pin, bit in cell.inputs.items()
+        }
+        reads.update(
+            (bit, f"the output {port.name}") for port in self.module.outputs for bit in port.bits
+        )
         for bit, reader in reads.items():
             if bit not in drivers and bit not in CONSTANTS:
-                raise Refusal("NoDriver", f"nothing drives {reader}", "connect it; `setundef -zero` of yosys makes undriven nets 0")
+                raise Refusal("NoDriver", f"nothing drives {reader}", CONNECT)
         for bit, count in drivers.items():
             if count > 1:
-                raise Refusal("TwoDrivers", f"{count} cells drive {self.terminal(bit)}", "gates drive a net each: leave tristate buses out")
+                raise Refusal(
+                    "TwoDrivers",
+                    f"{count} cells drive {self.terminal(bit)}",
+                    "gates drive a net each: leave tristate buses out",
+                )
 
     def refuse_too_large(self):
         """More than tdelay reads."""
         if len(self.netlist.gates) > MOST_GATES:
             remedy = "take --pins worst, fewer --outputs, or a part of the design"
-            raise Refusal("TooManyGates", f"{len(self.netlist.gates):,} gates, and the limit is {MOST_GATES:,}", remedy)
+            raise Refusal(
+                "TooManyGates",
+                f"{len(self.netlist.gates):,} gates, and the limit is {MOST_GATES:,}",
+                remedy,
+            )
         inputs = sum(len(terminals(port)) for port in self.netlist.inputs)
         if inputs > MOST_INPUTS:
-            raise Refusal("TooManyInputs", f"{inputs:,} inputs and registers, and the limit is {MOST_INPUTS:,}", "take a part of the design")
+            raise Refusal(
+                "TooManyInputs",
+                f"{inputs:,} inputs and registers, and the limit is {MOST_INPUTS:,}",
+                "take a part of the design",
+            )
 
     # Cells.
 
@@ -92,27 +127,51 @@ class Conversion:
             if bit in self.constants.levels:
                 continue
             function = self.constants.function(cell, pin)
-            reads = {pin: self.terminal(cell.inputs[pin]) for pin in function.pins}
-            self.writer.write(output, function, self.delays.of(output, function), reads, self.terminal(bit))
+            for read in function.pins:
+                if read not in cell.inputs:
+                    raise Refusal(
+                        "NoDriver",
+                        f"{read} of {cell.name}, a {cell.kind}, is connected to nothing",
+                        CONNECT,
+                    )
+            reads = {read: self.terminal(cell.inputs[read]) for read in function.pins}
+            self.writer.write(
+                output, function, self.delays.of(output, function), reads, self.terminal(bit)
+            )
 
     # Registers.
 
     def register_name(self, cell: Cell) -> str:
         """That of the net which has its state, else of the instance."""
         state = self.library.state_output(cell.kind)
-        return bare_terminal(self.terminal(cell.outputs[state])) if state in cell.outputs else cell.name
+        return (
+            bare_terminal(self.terminal(cell.outputs[state]))
+            if state in cell.outputs
+            else cell.name
+        )
 
     def register(self, cell: Cell, name: str):
         port = self.names.new(f"{name}.q")
         self.netlist.inputs.append(Port(port))
         own = {port.name for port in self.module.inputs + self.module.outputs}
-        is_port = re.sub(r"\[\d+\]$", "", name) in own or self.library.state_output(cell.kind) not in cell.outputs
-        register = Register(cell, name, port, self.library.state_output(cell.kind), port if is_port else name)
+        is_port = (
+            re.sub(r"\[\d+\]$", "", name) in own
+            or self.library.state_output(cell.kind) not in cell.outputs
+        )
+        register = Register(
+            cell, name, port, self.library.state_output(cell.kind), port if is_port else name
+        )
         when = self.library.when_pins(cell)
         for pin, bit in cell.outputs.items():
             output, function = Output(cell.name, cell.kind, pin), self.library.function(cell, pin)
             delay = self.delays.of_register(output, when)
-            self.writer.write(output, function, delay and {STATE.pins[0]: delay}, {STATE.pins[0]: spelled(port)}, self.terminal(bit))
+            self.writer.write(
+                output,
+                function,
+                delay and {STATE.pins[0]: delay},
+                {STATE.pins[0]: spelled(port)},
+                self.terminal(bit),
+            )
         inputs = {bit for port in self.module.inputs for bit in port.bits}
         for pin, bit in cell.inputs.items():
             if pin in when and bit in inputs:
@@ -127,17 +186,29 @@ class Conversion:
     # Ports.
 
     def port_bits(self) -> Iterator[str]:
+        """All bits of the outputs, as terminals."""
         for port in self.module.outputs:
             yield from terminals(Port(port.name, port.bounds))
 
-    def wire_to(self, terminal: str):
+    def wire_to(self, terminal: str) -> Optional[Delay]:
+        """The delays of the wire to a bit of an output, where it has any."""
         return self.delays.of_port(bare_terminal(terminal))
 
     def ports(self):
         """The module's own ports: before those of registers, without clocks that no gate reads."""
-        clocks = {bit for register in self.registers for pin, bit in register.cell.inputs.items() if pin in register.clocks}
+        clocks = {
+            bit
+            for register in self.registers
+            for pin, bit in register.cell.inputs.items()
+            if pin in register.clocks
+        }
         read = {bit for cell in self.combinational for bit in cell.inputs.values()}
-        read |= {bit for register in self.registers for pin, bit in register.cell.inputs.items() if pin in register.takes}
+        read |= {
+            bit
+            for register in self.registers
+            for pin, bit in register.cell.inputs.items()
+            if pin in register.takes
+        }
         read |= {bit for port in self.module.outputs for bit in port.bits}
         inputs = []
         for port in self.module.inputs:
@@ -151,10 +222,14 @@ class Conversion:
         self.netlist.inputs = inputs + self.netlist.inputs
         self.netlist.outputs = outputs + self.netlist.outputs
         known = {port.name for port in self.netlist.inputs + self.netlist.outputs}
-        self.netlist.wires = [Port(name, bounds) for name, bounds in self.names.vectors.items() if name not in known]
+        self.netlist.wires = [
+            Port(name, bounds) for name, bounds in self.names.vectors.items() if name not in known
+        ]
 
     def output_bits(self, vector: Vector):
-        """A gate for each bit of an output that is an input, a constant, another output's net, or the end of a wire with a delay."""
+        """A gate for each bit of an output that is an input, a constant, another output's net, or
+        the end of a wire with a delay.
+        """
         port = Port(vector.name, vector.bounds)
         for place, bit in enumerate(vector.bits):
             target, source = port.terminal(vector.number(place)), self.terminal(bit)
@@ -162,7 +237,8 @@ class Conversion:
             if wire:
                 self.writer.copy(target, source, wire)
             elif source != target:
-                self.notes.append(f"the output {bare_terminal(target)} is {bare_terminal(source)}: it comes by a buf, one step later")
+                names = f"the output {bare_terminal(target)} is {bare_terminal(source)}"
+                self.notes.append(f"{names}: it comes by a buf, one step later")
                 self.writer.copy(target, source)
 
     def shell(self) -> Iterator[str]:

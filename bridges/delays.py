@@ -1,4 +1,7 @@
-"""Where the delays of gates come from: an SDF file, a table of kinds of cells, or nowhere, which means the default of `tdelay`."""
+"""Where the delays of gates come from:
+
+an SDF file, a table of kinds of cells, or nowhere, which means the default of `tdelay`.
+"""
 
 from dataclasses import dataclass
 from decimal import ROUND_HALF_UP, Decimal
@@ -40,7 +43,11 @@ class Output(NamedTuple):
 
 @dataclass(frozen=True)
 class Timing:
-    """The delays of an output: of the gate that computes it, and what each pin takes beside that until the output rises or falls."""
+    """The delays of an output:
+
+    of the gate that computes it, and what each pin takes beside that until the output rises or
+    falls.
+    """
 
     gate: Delay
     beside: Dict[Pin, Delay]
@@ -52,7 +59,10 @@ class Timing:
         if not each:
             return Timing(Delay(max(rises), max(falls)), {})
         gate = Delay(min(rises), min(falls))
-        beside = {pin: Delay(delay.rise - gate.rise, delay.fall - gate.fall) for pin, delay in pins.items()}
+        beside = {
+            pin: Delay(delay.rise - gate.rise, delay.fall - gate.fall)
+            for pin, delay in pins.items()
+        }
         return Timing(gate, {} if all(extra == NOTHING for extra in beside.values()) else beside)
 
 
@@ -70,7 +80,10 @@ class DefaultDelays:
 
 
 class TableDelays(DefaultDelays):
-    """A rise and a fall delay for each kind of cell, from lines `KIND RISE FALL`, in steps. `#` begins a comment."""
+    """A rise and a fall delay for each kind of cell, from lines `KIND RISE FALL`, in steps.
+
+    `#` begins a comment.
+    """
 
     def __init__(self, text: str):
         self.table = {}
@@ -79,7 +92,11 @@ class TableDelays(DefaultDelays):
             if not words:
                 continue
             if len(words) != 3 or not all(word.isdigit() and int(word) > 0 for word in words[1:]):
-                raise Refusal("BadTable", f"line {number} of the table of delays: {line.strip()}", "write KIND RISE FALL, in steps of 1 or more")
+                raise Refusal(
+                    "BadTable",
+                    f"line {number} of the table of delays: {line.strip()}",
+                    "write KIND RISE FALL, in steps of 1 or more",
+                )
             self.table[words[0]] = Delay(int(words[1]), int(words[2]))
 
     def of(self, output, function):
@@ -90,7 +107,11 @@ class TableDelays(DefaultDelays):
 
     def delay(self, output):
         if output.kind not in self.table:
-            raise Refusal("NoDelay", f"{output} isn't in the table of delays", f"add a line `{output.kind} RISE FALL`")
+            raise Refusal(
+                "NoDelay",
+                f"{output} isn't in the table of delays",
+                f"add a line `{output.kind} RISE FALL`",
+            )
         return self.table[output.kind]
 
 
@@ -101,13 +122,16 @@ class SdfDelays(DefaultDelays):
         self.annotation = annotation
 
     def refuse_strangers(self, output: Output, pins: Iterable[Pin]):
-        """Refuses an arc from a pin on which the cell's function doesn't depend, as that of a tristate cell from its enable."""
+        """Refuses an arc from a pin on which the cell's function doesn't depend, as that of a
+        tristate cell from its enable.
+        """
         for arc in self.arcs(output):
             if arc.pin not in pins:
                 raise Refusal(
                     "StrangeArc",
-                    f"the SDF file has an arc from {arc.pin} to {output}, whose function doesn't depend on {arc.pin}",
-                    "tristate cells aren't gates, and yosys leaves out their enable: take another cell",
+                    f"the SDF file has an arc from {arc.pin} to {output}, whose function doesn't "
+                    f"depend on {arc.pin}",
+                    "take another cell: tristate cells aren't gates, and yosys reads them as such",
                 )
 
     def of(self, output, function):
@@ -115,7 +139,12 @@ class SdfDelays(DefaultDelays):
 
     def of_register(self, output, clocks):
         arcs = [arc for arc in self.arcs(output) if arc.pin in clocks]
-        return Delay(*(self.greatest(output, "its clock", edge, [getattr(arc, edge) for arc in arcs]) for edge in Delay._fields))
+        return Delay(
+            *(
+                self.greatest(output, "its clock", edge, [getattr(arc, edge) for arc in arcs])
+                for edge in Delay._fields
+            )
+        )
 
     def of_port(self, bit):
         wire = self.annotation.wires.get(place_of(bit), NO_WIRE)
@@ -123,7 +152,11 @@ class SdfDelays(DefaultDelays):
         if delay == NOTHING:
             return None
         if min(delay) < 1:
-            raise Refusal("DelayTooShort", f"the wire to {bit} has delays of {delay.rise} and {delay.fall} steps", "take a smaller --step")
+            raise Refusal(
+                "DelayTooShort",
+                f"the wire to {bit} has delays of {delay.rise} and {delay.fall} steps",
+                "take a smaller --step",
+            )
         return delay
 
     def arcs(self, output: Output) -> List[Arc]:
@@ -134,22 +167,30 @@ class SdfDelays(DefaultDelays):
         wire = self.annotation.wires.get(f"{place_of(output.instance)}.{pin}", NO_WIRE)
         before = {1: wire, -1: Wire(wire.fall, wire.rise), 0: Wire(max(wire), max(wire))}[sense]
         arcs = [arc for arc in self.arcs(output) if arc.pin == pin]
-        edges = ((edge, getattr(before, edge), [getattr(arc, edge) for arc in arcs]) for edge in Delay._fields)
-        return Delay(*(self.greatest(output, pin, edge, sides, more) for edge, more, sides in edges))
+        edges = (
+            (edge, getattr(before, edge), [getattr(arc, edge) for arc in arcs])
+            for edge in Delay._fields
+        )
+        return Delay(
+            *(self.greatest(output, pin, edge, sides, more) for edge, more, sides in edges)
+        )
 
     @staticmethod
-    def greatest(output: Output, pin: Pin, edge: str, sides: List[Optional[Decimal]], more=Decimal(0)) -> int:
+    def greatest(
+        output: Output, pin: Pin, edge: str, sides: List[Optional[Decimal]], more=Decimal(0)
+    ) -> int:
         known = [side for side in sides if side is not None]
         if not known:
             raise Refusal(
                 "NoDelay",
                 f"the SDF file gives no {edge} delay from {pin} to {output}",
-                "look whether the file is of this netlist, and whether the timing tool leaves the arc out (set_disable_timing, set_case_analysis)",
+                "look whether the file is of this netlist, and whether the timing tool leaves the "
+                "arc out (set_disable_timing, set_case_analysis)",
             )
         if min(known) <= 0:
             raise Refusal(
                 "DisabledArc",
                 f"the SDF file gives a {edge} delay of {min(known)} from {pin} to {output}",
-                "a timing tool writes 0 for an arc that it disables, as in a loop: cut the loop, or don't disable the arc",
+                "cut the loop, or enable the arc: timing tools write 0 for what they leave out",
             )
         return whole(max(known) + more)

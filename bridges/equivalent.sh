@@ -7,16 +7,18 @@
 # netlist whose registers have other names than the RTL's, compare that netlist. --cec proves it by
 # ABC's `cec`, for large combinational designs, as multipliers. DESIGN.v and LIBERTY may be several
 # files, as one word with spaces.
+# shellcheck disable=SC2086 # words that are several files
 set -eu
 script=equivalent.sh
 here=$(dirname "$0")
+# shellcheck source=bridges/common.sh
 . "$here/common.sh"
 usage 4 "$@"
-cec=
+cec=""
 [ "$1" != --cec ] || { cec=1; shift; }
 usage 4 "$@"
 design=$1 top=$2 liberty=$3 out=$4
-[ "$liberty" != - ] || liberty=
+[ "$liberty" != - ] || liberty=""
 need yosys yosys
 cells="$(libraries "read_liberty -ignore_miss_func" $liberty)"
 gold="$cells
@@ -45,4 +47,6 @@ yosys -p "
     equiv_make gold gate equiv; hierarchy -top equiv; opt -full
     equiv_simple -undef; equiv_induct -undef; equiv_status -assert" > "$log" 2>&1 ||
     refuse NotEquivalent "$(grep -v '^Warning' "$log" | tail -n 3)" "look at $log; compare the mapped netlist, where names of registers differ"
-echo "equivalent: $(sed -n 's/^Found \([0-9]*\) $equiv cells.*/\1 outputs and bits of registers are proved/p' "$log" | tail -n 1)"
+proved=$(sed -n 's/^Found \([0-9]*\) .equiv cells in equiv:.*/\1/p' "$log" | tail -n 1)
+[ "${proved:-0}" -gt 0 ] || refuse NotEquivalent "no net has one name in both" "look at $log"
+echo "equivalent: $proved outputs and registers are proved, bit by bit"

@@ -6,14 +6,16 @@
 # DESIGN is RTL, which yosys and ABC synthesise onto gates of one and two inputs, or a netlist of
 # BLIF (a name that ends in .blif), which is mapped in the same way; with --keep each `.names`
 # of it stays a gate as it is, and has to be a primitive.
+# shellcheck disable=SC2086 # words that are several files
 set -eu
 script=from_gates.sh
 here=$(dirname "$0")
+# shellcheck source=bridges/common.sh
 . "$here/common.sh"
 usage 3 "$@"
 design=$1 top=$2 out=$3
 shift 3
-keep= shell="--shell $out.shell.v" rest=$#
+keep="" shell="--shell $out.shell.v" rest=$#
 while [ "$rest" -gt 0 ]; do
     word=$1
     shift
@@ -21,7 +23,7 @@ while [ "$rest" -gt 0 ]; do
     case $word in
     --keep) keep=1 ;;
     *)
-        [ "$word" = --outputs ] && shell=
+        [ "$word" = --outputs ] && shell=""
         set -- "$@" "$word"
         ;;
     esac
@@ -35,6 +37,5 @@ case $design,$keep in
 *) steps="read_verilog -sv $design; synth -top $top; $map" ;;
 esac
 logged "$out.yosys.log" "mend the source" yosys -p "$steps; write_json $out.json"
-# shellcheck disable=SC2086 # no shell, or two words
 python3 "$here/primitives.py" "$out.json" "$top" $shell "$@" > "$out.part"
 mv "$out.part" "$out.v"

@@ -8,14 +8,16 @@
 # outputs with a load of C, in units of the library, or for the constraints of an SDC file; or those
 # of an SDF file that another timing tool wrote. PORT is the clock of a sequential design. MAPPED.v
 # and LIBERTY may be several files, as one word with spaces.
+# shellcheck disable=SC2086 # words that are several files
 set -eu
 script=from_liberty.sh
 here=$(dirname "$0")
+# shellcheck source=bridges/common.sh
 . "$here/common.sh"
 usage 4 "$@"
 mapped=$1 top=$2 liberty=$3 out=$4
 shift 4
-clock= slew=0.1 load=0.05 sdc= sdf= shell="--shell $out.shell.v" rest=$#
+clock="" slew=0.1 load=0.05 sdc="" sdf="" shell="--shell $out.shell.v" rest=$#
 while [ "$rest" -gt 0 ]; do
     word=$1
     shift
@@ -27,7 +29,7 @@ while [ "$rest" -gt 0 ]; do
         rest=$((rest - 2))
         ;;
     *)
-        [ "$word" = --outputs ] && shell=
+        [ "$word" = --outputs ] && shell=""
         set -- "$@" "$word"
         rest=$((rest - 1))
         ;;
@@ -62,6 +64,5 @@ if [ -z "$sdf" ]; then
     ! grep '^Error' "$out.sta.log" > "$out.error" || refuse ToolFailed "sta: $(head -n 3 "$out.error")" "$remedy"
     rm -f "$out.error"
 fi
-# shellcheck disable=SC2086 # no shell, or two words
 python3 "$here/primitives.py" "$out.json" "$top" --sdf "$sdf" $shell "$@" > "$out.part"
 mv "$out.part" "$out.v"

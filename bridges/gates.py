@@ -1,13 +1,15 @@
 """Writes the output of a cell as gate primitives.
 
-A cell whose function is that of a primitive becomes this primitive. Any other becomes up to two levels of gates of one step, and a last gate
-that has the cell's delays less one step for each level. A gate of one step only shifts by one step, and every way to the last gate is equally
-long, so the output is exactly that of one gate with the cell's function and delays, with one difference: a pulse may pass that is
-shorter than the delay by a step for each level.
+A cell whose function is that of a primitive becomes this primitive. Any other becomes up to two
+levels of gates of one step, and a last gate that has the cell's delays less one step for each
+level. A gate of one step only shifts by one step, and every way to the last gate is equally long,
+so the output is exactly that of one gate with the cell's function and delays, with one difference:
+a pulse may pass that is shorter than the delay by a step for each level.
 
-Where pins of a cell have delays of their own, the last gate has the least of them, and a buf or not after each pin takes the rest. An xor or a
-multiplexer whose pin is late by another time for an output that rises than for one that falls becomes the sum of all its prime products, in
-which each literal moves the output in one direction.
+Where pins of a cell have delays of their own, the last gate has the least of them, and a buf or not
+after each pin takes the rest. An xor or a multiplexer whose pin is late by another time for an
+output that rises than for one that falls becomes the sum of all its prime products, in which each
+literal moves the output in one direction.
 """
 
 from typing import Dict, List, Optional
@@ -26,25 +28,44 @@ class GateWriter:
         self.gates: List[Gate] = []
         self.deepest = 0
 
-    def write(self, output: Output, function: Function, delays: Optional[Dict[Pin, Delay]], reads: Dict[Pin, str], target: str):
-        """The gates of one output, which is the net `target`, from the nets that its pins read. Without delays it has to be a primitive."""
+    def write(
+        self,
+        output: Output,
+        function: Function,
+        delays: Optional[Dict[Pin, Delay]],
+        reads: Dict[Pin, str],
+        target: str,
+    ):
+        """The gates of one output, which is the net `target`, from the nets that its pins read.
+
+        Without delays it has to be a primitive.
+        """
         timing = Timing.of(delays, self.each_pin) if delays else None
         beside = timing.beside if timing else {}
-        one_direction = any(extra.rise != extra.fall and not function.sense(pin) for pin, extra in beside.items())
+        one_direction = any(
+            extra.rise != extra.fall and not function.sense(pin) for pin, extra in beside.items()
+        )
         levels = levels_of(function.table, bool(beside), one_direction)
         self.deepest = max(self.deepest, levels.depth)
         delay = None
         if timing:
             delay = Delay(timing.gate.rise - levels.depth, timing.gate.fall - levels.depth)
             if min(delay) < 1:
-                wrong = f"{output} has a delay of {min(timing.gate)} steps, and its gates need {levels.depth + 1}"
+                shortest, least = min(timing.gate), levels.depth + 1
+                wrong = f"{output} has a delay of {shortest} steps, and needs {least}"
                 raise Refusal("DelayTooShort", wrong, "take a smaller --step")
         elif levels.depth:
-            remedy = "give delays (--sdf or --delays), or map to and, nand, or, nor, xor, xnor, not alone"
-            raise Refusal("NoPrimitive", f"{output} is no gate primitive, and no delay is known of which its levels could take a part", remedy)
-        self.gates.append(Gate(levels.last, delay, target, tuple(self.before_last(function, levels, beside, reads))))
+            raise Refusal(
+                "NoPrimitive",
+                f"{output} is no gate primitive, and no delays are known",
+                "give delays (--sdf or --delays), or map to and, nand, or, nor, xor, xnor and not",
+            )
+        inputs = self.before_last(function, levels, beside, reads)
+        self.gates.append(Gate(levels.last, delay, target, tuple(inputs)))
 
-    def before_last(self, function: Function, levels: Levels, beside: Dict[Pin, Delay], reads: Dict[Pin, str]) -> List[str]:
+    def before_last(
+        self, function: Function, levels: Levels, beside: Dict[Pin, Delay], reads: Dict[Pin, str]
+    ) -> List[str]:
         """The gates of the levels before the last gate, and the nets that the last one reads."""
         nets = {}
         for place, pin in enumerate(function.pins):
@@ -54,9 +75,16 @@ class GateWriter:
             extra = beside.get(pin, NOTHING)
             if levels.inverts:
                 extra = Delay(extra.fall, extra.rise)
-            nets[literal] = self.add("buf" if literal.level else "not", Delay(1 + extra.rise, 1 + extra.fall), [reads[pin]])
+            nets[literal] = self.add(
+                "buf" if literal.level else "not",
+                Delay(1 + extra.rise, 1 + extra.fall),
+                [reads[pin]],
+            )
         if levels.terms:
-            return [self.add(term.kind, ONE_STEP, [nets[literal] for literal in term.literals]) for term in levels.terms]
+            return [
+                self.add(term.kind, ONE_STEP, [nets[literal] for literal in term.literals])
+                for term in levels.terms
+            ]
         if levels.literals:
             return [nets[literal] for literal in levels.literals]
         return [reads[pin] for pin in function.pins]

@@ -1,4 +1,7 @@
-"""What cells compute and which of them store: yosys' own gates, and cells of a Liberty library, which are modules of these."""
+"""What cells compute and which of them store:
+
+yosys' own gates, and cells of a Liberty library, which are modules of these.
+"""
 
 import re
 from functools import lru_cache
@@ -27,7 +30,9 @@ GATES = {
     "$_AOI4_": ("ABCD", lambda a, b, c, d: 1 - (a & b | c & d)),
     "$_OAI4_": ("ABCD", lambda a, b, c, d: 1 - ((a | b) & (c | d))),
 }
-STORES = re.compile(r"\$_(DFF|DFFE|SDFF|SDFFE|SDFFCE|ALDFF|ALDFFE|DFFSR|DFFSRE|DLATCH|DLATCHSR|SR|FF)_(?:[NP01]+_)?")
+STORES = re.compile(
+    r"\$_(DFF|DFFE|SDFF|SDFFE|SDFFCE|ALDFF|ALDFFE|DFFSR|DFFSRE|DLATCH|DLATCHSR|SR|FF)_(?:[NP01]+_)?"
+)
 MOST_PINS = 12
 STATE = Function(("q",), (0, 1))
 
@@ -43,7 +48,11 @@ class Library:
 
     def module(self, kind: str) -> Module:
         if kind not in self.design:
-            raise Refusal("UnknownCell", f"no function is known of {kind}", "read the Liberty file that has it, by read_liberty -setattr keep_hierarchy")
+            raise Refusal(
+                "UnknownCell",
+                f"no function is known of {kind}",
+                "read the Liberty file that has it, by read_liberty -setattr keep_hierarchy",
+            )
         return self.design[kind]
 
     def stores(self, kind: str) -> bool:
@@ -53,18 +62,29 @@ class Library:
         return any(self.stores(cell.kind) for cell in self.module(kind).cells)
 
     def function(self, cell: Cell, output: str) -> Function:
-        """The function of a cell's output. Of a storing cell it is one of its state, a pin that is called q."""
+        """The function of a cell's output.
+
+        Of a storing cell it is one of its state, a pin that is called q.
+        """
         kind = cell.kind
         if kind in GATES:
             return gate_function(kind)
         if kind == "$lut":
             if len(cell.inputs) > MOST_PINS:
-                raise Refusal("WideCell", f"{cell.name} has {len(cell.inputs)} pins", f"map it to gates of at most {MOST_PINS} pins")
+                raise Refusal(
+                    "WideCell",
+                    f"{cell.name} has {len(cell.inputs)} pins",
+                    f"map it to gates of at most {MOST_PINS} pins",
+                )
             return lut_function(len(cell.inputs), cell.parameters["LUT"])
         if kind.startswith("$"):
             if self.stores(kind):
                 return STATE
-            raise Refusal("NoGate", f"{cell.name} is a {kind}, which is no gate", "map the design first, as by `synth` or `simplemap; abc`")
+            raise Refusal(
+                "NoGate",
+                f"{cell.name} is a {kind}, which is no gate",
+                "map the design first, as by `synth` or `simplemap; abc`",
+            )
         return self.library_function(kind, output)
 
     def state_output(self, kind: str) -> str:
@@ -74,11 +94,19 @@ class Library:
         for port in self.module(kind).outputs:
             if self.library_function(kind, port.name) == STATE:
                 return port.name
-        raise Refusal("NoState", f"no output of {kind} is its state", "take a flip-flop or a latch that has one")
+        raise Refusal(
+            "NoState",
+            f"no output of {kind} is its state",
+            "take a flip-flop or a latch that has one",
+        )
 
     def drivers(self, kind: str) -> Dict[Bit, Tuple[Cell, str]]:
         """The inner gate that drives each net of a library cell."""
-        return {bit: (cell, pin) for cell in self.module(kind).cells for pin, bit in cell.outputs.items()}
+        return {
+            bit: (cell, pin)
+            for cell in self.module(kind).cells
+            for pin, bit in cell.outputs.items()
+        }
 
     def library_function(self, kind: str, output: str) -> Function:
         module, drivers = self.module(kind), self.drivers(kind)
@@ -88,7 +116,11 @@ class Library:
             pins = {port.bits[0]: port.name for port in module.inputs}
         order = tuple(dict.fromkeys(pins.values()))
         if len(order) > MOST_PINS:
-            raise Refusal("WideCell", f"{kind} has {len(order)} pins", f"take cells of at most {MOST_PINS} pins")
+            raise Refusal(
+                "WideCell",
+                f"{kind} has {len(order)} pins",
+                f"take cells of at most {MOST_PINS} pins",
+            )
         bit = next(port.bits[0] for port in module.outputs if port.name == output)
 
         def level(bit: Bit, levels: Dict[str, int]) -> int:
@@ -98,18 +130,27 @@ class Library:
                 return levels[pins[bit]]
             inner = drivers.get(bit, (None,))[0]
             if inner is None or inner.kind not in GATES:
-                raise Refusal("UnknownCell", f"{output} of {kind} has no function in the Liberty file", "take another cell")
+                raise Refusal(
+                    "UnknownCell",
+                    f"{output} of {kind} has no function in the Liberty file",
+                    "take another cell",
+                )
             names, compute = GATES[inner.kind]
             return compute(*(level(inner.inputs[name], levels) for name in names))
 
         return Function.of(order, lambda *levels: level(bit, dict(zip(order, levels))))
 
     def when_pins(self, cell: Cell) -> Set[Pin]:
-        """The inputs of a storing cell that say when it takes its level: clocks, and enables of latches."""
+        """The inputs of a storing cell that say when it takes its level:
+
+        clocks, and enables of latches.
+        """
         if cell.kind.startswith("$"):
             return {when_pin(cell)} & set(cell.inputs)
         inner = [it for it in self.module(cell.kind).cells if self.stores(it.kind)]
-        return self.pins_before(cell.kind, [it.inputs[when_pin(it)] for it in inner if when_pin(it) in it.inputs])
+        return self.pins_before(
+            cell.kind, [it.inputs[when_pin(it)] for it in inner if when_pin(it) in it.inputs]
+        )
 
     def pins_before(self, kind: str, bits: List[Bit]) -> Set[Pin]:
         """The inputs of a library cell on which nets in it depend through gates."""
@@ -140,5 +181,10 @@ def gate_function(kind: str) -> Function:
 
 @lru_cache(maxsize=None)
 def lut_function(width: int, table: str) -> Function:
-    """The function of a table of yosys, whose last digit is the level for all inputs 0, and whose input 0 is the lowest bit."""
-    return Function.of(tuple(range(width)), lambda *levels: int(table[-1 - sum(level << place for place, level in enumerate(levels))]))
+    """The function of a table of yosys, whose last digit is the level for all inputs 0, and whose
+    input 0 is the lowest bit.
+    """
+    return Function.of(
+        tuple(range(width)),
+        lambda *levels: int(table[-1 - sum(level << place for place, level in enumerate(levels))]),
+    )

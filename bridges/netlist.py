@@ -8,14 +8,16 @@ from delays import Delay
 from yosys_json import Bit, Module
 
 RESERVED = set(
-    """always and assign automatic begin buf bufif0 bufif1 case casex casez cell cmos config deassign default defparam design disable
-    edge else end endcase endconfig endfunction endgenerate endmodule endprimitive endspecify endtable endtask event for force forever
-    fork function generate genvar highz0 highz1 if ifnone incdir include initial inout input instance integer join large liblist
-    library localparam macromodule medium module nand negedge nmos nor noshowcancelled not notif0 notif1 or output parameter pmos
-    posedge primitive pull0 pull1 pulldown pullup pulsestyle_ondetect pulsestyle_onevent rcmos real realtime reg release repeat rnmos
-    rpmos rtran rtranif0 rtranif1 scalared showcancelled signed small specify specparam strong0 strong1 supply0 supply1 table task
-    time tran tranif0 tranif1 tri tri0 tri1 triand trior trireg unsigned use uwire vectored wait wand weak0 weak1 while wire wor
-    xnor xor""".split()
+    """always and assign automatic begin buf bufif0 bufif1 case casex casez cell cmos config
+    deassign default defparam design disable edge else end endcase endconfig endfunction endgenerate
+    endmodule endprimitive endspecify endtable endtask event for force forever fork function
+    generate genvar highz0 highz1 if ifnone incdir include initial inout input instance integer join
+    large liblist library localparam macromodule medium module nand negedge nmos nor noshowcancelled
+    not notif0 notif1 or output parameter pmos posedge primitive pull0 pull1 pulldown pullup
+    pulsestyle_ondetect pulsestyle_onevent rcmos real realtime reg release repeat rnmos rpmos rtran
+    rtranif0 rtranif1 scalared showcancelled signed small specify specparam strong0 strong1 supply0
+    supply1 table task time tran tranif0 tranif1 tri tri0 tri1 triand trior trireg unsigned use
+    uwire vectored wait wand weak0 weak1 while wire wor xnor xor""".split()
 )
 
 # The limits of tdelay.
@@ -26,7 +28,10 @@ Bounds = Optional[Tuple[int, int]]
 
 
 def spelled(name: str) -> str:
-    """A name as Verilog writes it: escaped, with a space after it, where it has to be (IEEE 1364-2005, clause 3.7)."""
+    """A name as Verilog writes it:
+
+    escaped, with a space after it, where it has to be (IEEE 1364-2005, clause 3.7).
+    """
     plain = re.fullmatch(r"[A-Za-z_][A-Za-z0-9_$]*", name, re.ASCII) and name not in RESERVED
     return name if plain else f"\\{name} "
 
@@ -69,11 +74,13 @@ class Netlist:
     wires: List[Port] = field(default_factory=list)
     gates: List[Gate] = field(default_factory=list)
 
-    def lines(self, comments: List[str], step: str) -> Iterator[str]:
-        """Its text. A step of time is the unit too."""
+    def lines(self, comments: List[str], step: Optional[str] = None) -> Iterator[str]:
+        """Its text. A step of time, where there is one, is the unit too."""
         yield from (f"// {comment}" for comment in comments)
-        yield f"`timescale {step}/{step}"
-        yield f"module {spelled(self.name)} ({', '.join(spelled(port.name) for port in self.inputs + self.outputs)});"
+        if step:
+            yield f"`timescale {step}/{step}"
+        ports = ", ".join(spelled(port.name) for port in self.inputs + self.outputs)
+        yield f"module {spelled(self.name)} ({ports});"
         for way, ports in (("input", self.inputs), ("output", self.outputs), ("wire", self.wires)):
             yield from (port.declared(way) for port in ports)
         yield from map(str, self.gates)
@@ -104,10 +111,11 @@ def terminals(port: Port) -> List[str]:
 
 
 class Names:
-    """A name for each net of a module: that of a port before others, then the shortest that a person gave.
+    """A name for each net of a module: that of a port before others, then the shortest that a
+    person gave.
 
-    `apart` has the bits of output ports, as terminals, that no net may be called by, since a gate stands before them.
-    """
+    `apart` has the bits of output ports, as terminals, that no net may be called by, since a gate
+    stands before them."""
 
     def __init__(self, module: Module, apart: Set[str]):
         self.taken: Set[str] = set()
@@ -117,10 +125,23 @@ class Names:
         ports = [{port.name for port in ports} for ports in (module.inputs, module.outputs)]
         everyone = {net.name for net in module.nets}
         self.taken |= everyone
-        for net in sorted(module.nets, key=lambda it: (it.name not in ports[0], it.name not in ports[1], it.hidden, len(it.name), it.name)):
+        for net in sorted(
+            module.nets,
+            key=lambda it: (
+                it.name not in ports[0],
+                it.name not in ports[1],
+                it.hidden,
+                len(it.name),
+                it.name,
+            ),
+        ):
             shown = net.name
             if net.hidden and net.bounds is None:
-                shown = next(name for name in (f"_{net.bits[0]}_", f"_net{net.bits[0]}_", net.name) if name not in everyone)
+                shown = next(
+                    name
+                    for name in (f"_{net.bits[0]}_", f"_net{net.bits[0]}_", net.name)
+                    if name not in everyone
+                )
             port = Port(shown, net.bounds)
             used = False
             for place, bit in enumerate(net.bits):

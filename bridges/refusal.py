@@ -1,4 +1,7 @@
-"""What the bridges say in place of an answer: a refusal has a name, what is wrong, and what to do about it."""
+"""What the bridges say in place of an answer:
+
+a refusal has a name, what is wrong, and what to do about it.
+"""
 
 import sys
 from dataclasses import dataclass
@@ -17,7 +20,11 @@ class Refusal(Exception):
 
 
 def ending_by_name(script, main):
-    """Runs `main`. A refusal, or a file that can't be read or written, ends the script with status 1 and is told on standard error."""
+    """Runs `main`.
+
+    A refusal, or a file that can't be read or written, ends the script with status 1 and is told on
+    standard error.
+    """
     try:
         main()
     except Refusal as refusal:

@@ -4,14 +4,16 @@
 #
 # RTL.v and LIBERTY may be several files, as one word with spaces. Modules are mapped one by one and
 # flattened at the end, so that nothing is optimised across the border of a module.
+# shellcheck disable=SC2086 # words that are several files
 set -eu
 script=synth.sh
 here=$(dirname "$0")
+# shellcheck source=bridges/common.sh
 . "$here/common.sh"
 usage 4 "$@"
 rtl=$1 top=$2 liberty=$3 out=$4
 need yosys yosys
-cells=
+cells=""
 for file in $liberty; do cells="$cells -liberty $file"; done
 set -- $liberty
 [ $# -eq 1 ] && flops="dfflibmap -liberty $1" || flops=$(for file; do echo "dfflibmap -liberty $file;"; done)

@@ -1,8 +1,10 @@
 #!/usr/bin/env python3
-"""view.py DUMP.vcd REPORT.txt > VIEW.gtkw: a save file for GTKWave that shows why an output changes as late as it does.
+"""view.py DUMP.vcd REPORT.txt > VIEW.gtkw: a save file for GTKWave that shows why an output changes
+as late as it does.
 
-DUMP.vcd is what `tdelay .. --vcd` wrote, and REPORT.txt what `tdelay path` or `worst --path` printed for the same pair. Shown are the inputs
-that change, the nets of the path in its order, without those inside a cell, and the outputs that change, zoomed to the time in which they do. Open
+DUMP.vcd is what `tdelay .. --vcd` wrote, and REPORT.txt what `tdelay path` or `worst --path`
+printed for the same pair. Shown are the inputs that change, the nets of the path in its order,
+without those inside a cell, and the outputs that change, zoomed to the time in which they do. Open
 it by `gtkwave -a VIEW.gtkw DUMP.vcd`.
 """
 
@@ -27,7 +29,11 @@ class Dump(NamedTuple):
 def read_dump(text: str) -> Dump:
     scope = re.search(r"\$scope module (\S+) \$end", text)
     if not scope or "$enddefinitions $end" not in text:
-        raise Refusal("BadDump", "the first file is no value change dump", "write it by `tdelay sim`, `path` or `worst` with --vcd")
+        raise Refusal(
+            "BadDump",
+            "the first file is no value change dump",
+            "write it by `tdelay sim`, `path` or `worst` with --vcd",
+        )
     names = dict(re.findall(r"\$var wire 1 (\S+) (.+?) \$end", text))
     changes, moment = {name: [] for name in names.values()}, -1
     for line in text.split("$enddefinitions $end", 1)[1].splitlines():
@@ -42,7 +48,11 @@ def path_of(report: str) -> List[str]:
     """The nets of a report's path."""
     nets = re.findall(r"^change \d+ (.+?) [01x] [01x] (?:input|\w+ \d+)$", report, re.M)
     if not nets and not re.search(r"^time 0$", report, re.M):
-        raise Refusal("NoPath", "the second file has no path", "print it by `tdelay path`, or by `worst --path`")
+        raise Refusal(
+            "NoPath",
+            "the second file has no path",
+            "print it by `tdelay path`, or by `worst --path`",
+        )
     return [net for net in nets if not INNER.fullmatch(net.strip())]
 
 
@@ -51,7 +61,11 @@ def view(dump: Dump, path: List[str], file: str):
     shown = lambda name: f"{dump.scope}.{name.replace(' [', '[')}"
     inputs = [name for name, moments in dump.changes.items() if moments == [0]]
     last = max((moments[-1] for moments in dump.changes.values()), default=0)
-    groups = [("inputs that change", inputs), ("path of the last change", path[1:]), ("last changes", late(dump, last))]
+    groups = [
+        ("inputs that change", inputs),
+        ("path of the last change", path[1:]),
+        ("last changes", late(dump, last)),
+    ]
     yield f'[dumpfile] "{os.path.abspath(file)}"'
     yield "[timestart] 0"
     yield "[size] 1200 700"
@@ -66,7 +80,11 @@ def view(dump: Dump, path: List[str], file: str):
 
 def late(dump: Dump, last: int) -> List[str]:
     """What changes at the last moment."""
-    return [name for name, moments in dump.changes.items() if moments[-1] == last and not INNER.fullmatch(name.strip())]
+    return [
+        name
+        for name, moments in dump.changes.items()
+        if moments[-1] == last and not INNER.fullmatch(name.strip())
+    ]
 
 
 def main():

@@ -1,14 +1,19 @@
 #!/usr/bin/env python3
-"""Looks that the scripts of bridges/ write netlists of library cells as gates that mean the same, and refuse by name what they can't.
+"""Looks that the scripts of bridges/ write netlists of library cells as gates that mean the same,
+and refuse by name what they can't.
 
-Made up are netlists of all cells of bridges/tiny.lib: constants at pins, escaped names, ranges, an output that is an input, registers. Each is
-written by from_liberty.sh with both `--pins` and some step. yosys proves by its `sat` that the gates compute what the cells do (where there
-are registers, by equivalent.sh). 40 pairs of vectors are run on Icarus Verilog with the delays that are written, and have to change last when
-`PROGRAM sim` says; 40 more with `--pins worst` in steps of 1 fs, where each cell is one assignment with a delay in place of its gates. In trees
-of cells each change of one input has to reach the outputs when the arcs of the SDF file add up to it.
+Made up are netlists of all cells of bridges/tiny.lib: constants at pins, escaped names, ranges, an
+output that is an input, registers. Each is written by from_liberty.sh with both `--pins` and some
+step. yosys proves by its `sat` that the gates compute what the cells do (where there are registers,
+by equivalent.sh). 40 pairs of vectors are run on Icarus Verilog with the delays that are written,
+and have to change last when `PROGRAM sim` says; 40 more with `--pins worst` in steps of 1 fs, where
+each cell is one assignment with a delay in place of its gates. In trees of cells each change of one
+input has to reach the outputs when the arcs of the SDF file add up to it.
 
-30 planted faults have to be caught: a gate exchanged, rise and fall swapped, an arc dropped. Each refusal has to come by its name. RTL with
-registers is synthesised and proved. It needs `yosys`, `sta` (OpenSTA), `iverilog` and `vvp`.
+30 planted faults have to be caught: a gate exchanged, rise and fall swapped, an arc dropped. Each
+refusal has to come by its name. RTL with registers is synthesised and proved, .bench and BLIF are
+read, a multiplier of 32 by 32 bits is written within 10 seconds of a processor, and
+examples/from_rtl/ comes out as it is kept. It needs `yosys`, `sta` (OpenSTA), `iverilog` and `vvp`.
 """
 
 import os
@@ -18,18 +23,27 @@ from collections import namedtuple
 from itertools import product
 
 from bridging import harness as check
-from bridging import icarus, refusals
+from bridging import designs, icarus, refusals
 from bridging.cells import CELLS, STEPS, Sdf, depends, unescaped, whole
 from bridging.harness import run
 from bridging.made import paths, tree, web
 
 BRIDGES = os.path.join(check.TOP, "bridges")
 LIBRARY = os.path.join(BRIDGES, "tiny.lib")
-CASES = 100
+CASES = 130
 PAIRS = 40
 PLANTS = 30
 # What a gate is exchanged for. (An or of products that exclude each other may be an xor as well.)
-OTHERS = {"and": ["nand", "or"], "nand": ["and", "nor"], "or": ["nor", "and"], "nor": ["or", "nand"], "xor": ["xnor"], "xnor": ["xor"], "buf": ["not"], "not": ["buf"]}
+OTHERS = {
+    "and": ["nand", "or"],
+    "nand": ["and", "nor"],
+    "or": ["nor", "and"],
+    "nor": ["or", "nand"],
+    "xor": ["xnor"],
+    "xnor": ["xor"],
+    "buf": ["not"],
+    "not": ["buf"],
+}
 
 # Gates as they were written, from which SDF file, with which options.
 Written = namedtuple("Written", "gates sdf pins step")
@@ -40,7 +54,19 @@ def converted(tested, made, step):
     with open(os.path.join(tested.folder, "t.v"), "w", encoding="utf-8") as file:
         file.write(made.text())
     clock = ["--clock", "clk"] if made.registers else []
-    ended = run([os.path.join(BRIDGES, "from_liberty.sh"), "t.v", "t", LIBRARY, "each", "--step", step, *clock], tested.folder)
+    ended = run(
+        [
+            os.path.join(BRIDGES, "from_liberty.sh"),
+            "t.v",
+            "t",
+            LIBRARY,
+            "each",
+            "--step",
+            step,
+            *clock,
+        ],
+        tested.folder,
+    )
     if ended.status:
         tested.fault(f"from_liberty.sh: {ended.err}\n{made.text()}")
         return None
@@ -49,7 +75,9 @@ def converted(tested, made, step):
 
 
 def gates_of(tested, name, *words):
-    """What primitives.py writes of the netlist that was read last, also as a file, or None where it refuses."""
+    """What primitives.py writes of the netlist that was read last, also as a file, or None where it
+    refuses.
+    """
     ended = run([os.path.join(BRIDGES, "primitives.py"), "each.json", "t", *words], tested.folder)
     if ended.status:
         tested.fault(f"primitives.py {' '.join(words)}: {ended.err}")
@@ -65,12 +93,18 @@ def saved(tested, name, text):
 
 def equivalent(tested, *names):
     """Whether yosys proves by its `sat` that modules of gates compute what the cells of t.v do."""
-    steps = [f"read_liberty {LIBRARY}; read_verilog t.v; hierarchy -top t; flatten; rename t gold; design -stash gold"]
+    steps = f"read_liberty {LIBRARY}; read_verilog t.v; hierarchy -top t; flatten; {stash('gold')}"
     for name in names:
-        steps.append(f"read_verilog {name}; hierarchy -top t; proc; rename t gate; design -stash gate")
-        steps.append("design -copy-from gold -as gold gold; design -copy-from gate -as gate gate")
-        steps.append("miter -equiv -flatten -make_assert gold gate m; hierarchy -top m; sat -verify -prove-asserts -set-def-inputs m; design -reset")
-    return run(["yosys", "-q", "-p", "; ".join(steps)], tested.folder)
+        steps += f"read_verilog {name}; hierarchy -top t; proc; {stash('gate')}"
+        steps += "design -copy-from gold -as gold gold; design -copy-from gate -as gate gate; "
+        steps += "miter -equiv -flatten -make_assert gold gate m; hierarchy -top m; "
+        steps += "sat -verify -prove-asserts -set-def-inputs m; design -reset; "
+    return run(["yosys", "-q", "-p", steps], tested.folder)
+
+
+def stash(name):
+    """Puts the design of yosys aside under a name."""
+    return f"rename t {name}; design -stash {name}; "
 
 
 def random_pairs(tested, text, count):
@@ -80,20 +114,26 @@ def random_pairs(tested, text, count):
 
 
 def as_simulated(tested, name, text):
-    """A case: the program's last changes are those of Icarus Verilog, with the delays as they are written."""
+    """A case: the program's last changes are those of Icarus Verilog, with the written delays."""
     pairs, changes = random_pairs(tested, text, PAIRS), 0
     for (first, second), theirs in zip(pairs, icarus.last_changes(tested.folder, text, pairs)):
         ended = tested.run("sim", name, first, second)
-        ours = [-1 if word == "never" else int(word) for word in re.findall(r"^last .* (\S+)$", ended.out, re.M)]
+        ours = [
+            -1 if word == "never" else int(word)
+            for word in re.findall(r"^last .* (\S+)$", ended.out, re.M)
+        ]
         if ended.status or ours != theirs:
-            tested.fault(f"{first} to {second}: sim says {ours} ({ended.status}, {ended.err.strip()}), Icarus Verilog {theirs}, of\n{text}")
+            told = f"sim says {ours} ({ended.status}, {ended.err.strip()})"
+            tested.fault(f"{first} to {second}: {told}, Icarus Verilog {theirs}, of\n{text}")
         changes += max(theirs, default=-1) >= 0
     tested.has_kind(*["pair"] * PAIRS, *["pair that changes an output"] * changes)
     tested.case("simulated")
 
 
 def ideal(made, sdf, text):
-    """The netlist with each cell as one assignment that has its slowest pin's delays; declared as the gates are."""
+    """The netlist with each cell as one assignment that has its slowest pin's delays; declared as
+    the gates are.
+    """
     head = text[: text.index("endmodule")].splitlines()
     lines = [line for line in head if re.match(r"`timescale|module|input|output", line)]
     known, wires, body = {"1'b0": 0, "1'b1": 1}, [], []
@@ -102,14 +142,20 @@ def ideal(made, sdf, text):
         for pin, net in cell.outputs.items():
             free = depends(cell.kind, pin, constant)
             number = len(wires)
-            table = "".join(str(int(bool(CELLS[cell.kind][1][pin](*levels)))) for levels in product((1, 0), repeat=len(cell.inputs)))
-            wires.append(f"wire {net}; wire [{len(table) - 1}:0] table{number} = {len(table)}'b{table};")
+            table = "".join(
+                str(int(bool(CELLS[cell.kind][1][pin](*levels))))
+                for levels in product((1, 0), repeat=len(cell.inputs))
+            )
+            wires.append(
+                f"wire {net}; wire [{len(table) - 1}:0] table{number} = {len(table)}'b{table};"
+            )
             if not free:
                 known[net] = level_of(cell, pin, known)
                 body.append(f"assign {net} = 1'b{known[net]};")
                 continue
             rise, fall = sdf.greatest(cell.name, free, pin)
-            body.append(f"assign #({rise},{fall}) {net} = table{number}[{{{', '.join(cell.inputs.values())}}}];")
+            place = f"{{{', '.join(cell.inputs.values())}}}"
+            body.append(f"assign #({rise},{fall}) {net} = table{number}[{place}];")
     body += [f"assign {end} = {net};" for end, net in made.ends().items()]
     return "\n".join(lines + wires + body + ["endmodule", ""])
 
@@ -120,13 +166,20 @@ def level_of(cell, pin, known):
 
 
 def as_one_gate_each(tested, made, sdf):
-    """A case: in steps of 1 fs the gates change outputs last when assignments do, one for each cell."""
+    """A case:
+
+    in steps of 1 fs the gates change outputs last when assignments do, one for each cell.
+    """
     text = gates_of(tested, "fine.v", "--sdf", "each.sdf", "--pins", "worst", "--step", "1fs")
     if text is None:
         return
     pairs = random_pairs(tested, text, PAIRS)
     alike = ideal(made, Sdf(sdf, "1fs"), text)
-    for pair, ours, theirs in zip(pairs, icarus.last_changes(tested.folder, text, pairs), icarus.last_changes(tested.folder, alike, pairs)):
+    for pair, ours, theirs in zip(
+        pairs,
+        icarus.last_changes(tested.folder, text, pairs),
+        icarus.last_changes(tested.folder, alike, pairs),
+    ):
         # An output that is an input, or has the net of another one, is a step later.
         if any(abs(our - their) > 1 for our, their in zip(ours, theirs)):
             tested.fault(f"{pair}: gates {ours}, assignments {theirs}, of\n{made.text()}\n{text}")
@@ -143,9 +196,13 @@ def random_netlists(tested):
             continue
         tested.has_kind(*(f"cell {cell.kind}" for cell in made.cells + made.registers))
         texts = {"each.v": gates_of(tested, "each.v", "--sdf", "each.sdf", "--step", step)}
-        texts["worst.v"] = gates_of(tested, "worst.v", "--sdf", "each.sdf", "--step", step, "--pins", "worst")
+        texts["worst.v"] = gates_of(
+            tested, "worst.v", "--sdf", "each.sdf", "--step", step, "--pins", "worst"
+        )
         if made.registers:
-            proved = run([os.path.join(BRIDGES, "equivalent.sh"), "t.v", "t", LIBRARY, "each"], tested.folder)
+            proved = run(
+                [os.path.join(BRIDGES, "equivalent.sh"), "t.v", "t", LIBRARY, "each"], tested.folder
+            )
         else:
             proved = equivalent(tested, *texts)
         if proved.status:
@@ -159,16 +216,38 @@ def random_netlists(tested):
 
 
 def with_wires(rng, made, sdf):
-    """The file with delays of some wires. Where an output rises and falls with one edge, a wire has one delay."""
+    """The file with delays of some wires.
+
+    Where an output rises and falls with one edge, a wire has one delay.
+    """
     lines = []
     for cell in made.cells:
         for pin in cell.inputs:
             rise, fall = (f"{rng.randint(1, 9999) / 100000:.5f}" for _ in range(2))
             second = rise if cell.kind in ("XOR2", "MUX2", "HA", "FA") else fall
             if rng.random() < 0.5:
-                lines.append(f"    (INTERCONNECT x {in_sdf(cell.name)}/{pin} ({rise}::{rise}) ({second}::{second}))")
-    lines += [f"    (INTERCONNECT x {end} (0.01230::0.01230) (0.00450::0.00450))" for end in made.ends() if rng.random() < 0.3]
-    cell = "\n".join(["(CELL", '  (CELLTYPE "t")', "  (INSTANCE)", "  (DELAY", "   (ABSOLUTE", *lines, "   )", "  )", " )", ")", ""])
+                values = f"({rise}::{rise}) ({second}::{second})"
+                lines.append(f"    (INTERCONNECT x {in_sdf(cell.name)}/{pin} {values})")
+    lines += [
+        f"    (INTERCONNECT x {end} (0.01230::0.01230) (0.00450::0.00450))"
+        for end in made.ends()
+        if rng.random() < 0.3
+    ]
+    cell = "\n".join(
+        [
+            "(CELL",
+            '  (CELLTYPE "t")',
+            "  (INSTANCE)",
+            "  (DELAY",
+            "   (ABSOLUTE",
+            *lines,
+            "   )",
+            "  )",
+            " )",
+            ")",
+            "",
+        ]
+    )
     return sdf.rstrip()[:-1] + cell if lines else sdf
 
 
@@ -178,8 +257,13 @@ def in_sdf(name):
 
 
 def expected(made, sdf, module, pins):
-    """For each change of one input of a tree its pair, and when each output bit of `y` and `z` changes."""
-    names = [unescaped(name) + ("" if number is None else f"[{number}]") for name, number in icarus.bits_of(module.inputs)]
+    """For each change of one input of a tree its pair, and when each output bit of `y` and `z`
+    changes.
+    """
+    names = [
+        unescaped(name) + ("" if number is None else f"[{number}]")
+        for name, number in icarus.bits_of(module.inputs)
+    ]
     moment, ends = paths(made, sdf, pins == "worst"), made.ends()
     for bits in product((0, 1), repeat=len(names)):
         before = made.levels(dict(zip(names, bits)))
@@ -187,7 +271,10 @@ def expected(made, sdf, module, pins):
             flipped = bits[:place] + (1 - bits[place],) + bits[place + 1 :]
             after = made.levels(dict(zip(names, flipped)))
             pair = "".join(map(str, bits)), "".join(map(str, flipped))
-            yield pair, {end: late(moment(net, before, after), end, net, made, sdf, after) for end, net in ends.items()}
+            yield pair, {
+                end: late(moment(net, before, after), end, net, made, sdf, after)
+                for end, net in ends.items()
+            }
 
 
 def late(moment, end, net, made, sdf, after):
@@ -204,8 +291,13 @@ def untrue(tested, made, sdf, written):
     """What is wrong with the gates of a tree, or None."""
     module = icarus.Module(written.gates)
     wanted = list(expected(made, sdf, module, written.pins))
-    names = [unescaped(name) + ("" if number is None else f"[{number}]") for name, number in icarus.bits_of(module.outputs)]
-    for (pair, moments), got in zip(wanted, icarus.last_changes(tested.folder, written.gates, [pair for pair, _ in wanted])):
+    names = [
+        unescaped(name) + ("" if number is None else f"[{number}]")
+        for name, number in icarus.bits_of(module.outputs)
+    ]
+    for (pair, moments), got in zip(
+        wanted, icarus.last_changes(tested.folder, written.gates, [pair for pair, _ in wanted])
+    ):
         told = {name: moment for name, moment in zip(names, got) if name in moments}
         if told != moments:
             return f"{pair}: {told} in place of {moments} with --pins {written.pins}"
@@ -237,8 +329,14 @@ def trees(tested):
 
 
 def changed_gate(rng, text, change):
-    """The text with another gate in place of one that `change` says is fit to be changed, or None where none is."""
-    gates = [match for match in re.finditer(r"^(\w+) #\((\d+),(\d+)\) (\(.*\);)$", text, re.M) if change(*match.groups())]
+    """The text with another gate in place of one that `change` says is fit to be changed, or None
+    where none is.
+    """
+    gates = [
+        match
+        for match in re.finditer(r"^(\w+) #\((\d+),(\d+)\) (\(.*\);)$", text, re.M)
+        if change(*match.groups())
+    ]
     if not gates:
         return None
     match = rng.choice(gates)
@@ -266,26 +364,48 @@ def evened(kind, rise, fall, rest):
 
 
 def plants(tested):
-    """Planted faults: each has to be caught, by the proof, by the arcs that don't add up, or by a refusal."""
+    """Planted faults:
+
+    each has to be caught, by the proof, by the arcs that don't add up, or by a refusal.
+    """
     planted = 0
     while planted < PLANTS:
         found = grown(tested, "each")
         if not found or found[0].registers:
             continue
         made, sdf, written = found
-        for kind, change in (("exchanged", exchanged(tested.random)), ("swapped", swapped), ("dropped", evened)):
+        for kind, change in (
+            ("exchanged", exchanged(tested.random)),
+            ("swapped", swapped),
+            ("dropped", evened),
+        ):
             text = changed_gate(tested.random, written.gates, change)
             if text is None:
                 continue
             saved(tested, "planted.v", text)
-            caught = equivalent(tested, "planted.v").status if kind == "exchanged" else untrue(tested, made, sdf, written._replace(gates=text))
+            caught = (
+                equivalent(tested, "planted.v").status
+                if kind == "exchanged"
+                else untrue(tested, made, sdf, written._replace(gates=text))
+            )
             if not caught:
                 tested.fault(f"a gate {kind} isn't caught\n{written.gates}\n{text}")
             planted += 1
             tested.case(f"plant {kind}")
         arc = tested.random.choice(re.findall(r"\(IOPATH [^\n]*\n", written.sdf))
         saved(tested, "less.sdf", written.sdf.replace(arc, "\n", 1))
-        ended = run([os.path.join(BRIDGES, "primitives.py"), "each.json", "t", "--sdf", "less.sdf", "--step", written.step], tested.folder)
+        ended = run(
+            [
+                os.path.join(BRIDGES, "primitives.py"),
+                "each.json",
+                "t",
+                "--sdf",
+                "less.sdf",
+                "--step",
+                written.step,
+            ],
+            tested.folder,
+        )
         if ended.status != 1 or "NoDelay" not in ended.err:
             tested.fault(f"{arc} left out isn't caught: {ended.status} {ended.err}")
         planted += 1
@@ -294,6 +414,7 @@ def plants(tested):
 
 def work(tested):
     refusals.work(tested, BRIDGES, LIBRARY)
+    designs.work(tested, BRIDGES, LIBRARY)
     plants(tested)
     random_netlists(tested)
 
@@ -303,8 +424,17 @@ def shares(tested, cut):
     if tested.most is not None and tested.most < CASES:
         return
     tested.require("pair that changes an output", 0.5, of="pair")
-    for kind in ("proved", "simulated", "one gate each", "tree", "refused", "plant exchanged", "plant swapped", "plant dropped"):
+    for kind in ("proved", "simulated", "one gate each", "tree"):
         tested.require(kind, 0.02)
+    for kind in (
+        "refused",
+        "registers",
+        "format",
+        "plant exchanged",
+        "plant swapped",
+        "plant dropped",
+    ):
+        tested.require(kind, 0)
     if tested.most is None or tested.most >= 3 * CASES:
         for kind in CELLS:
             tested.require(f"cell {kind}", 0)

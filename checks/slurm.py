@@ -1,18 +1,21 @@
 #!/usr/bin/env python3
 """Runs examples/slurm/ on a Slurm of its own, and the Kubernetes recipe as far as it can be.
 
-It starts `munged`, `slurmctld` and `slurmd` in a temporary folder, on the loopback, and ends them when it is done. 16 parts of
-examples/mult_8.v are searched as a job array, with a budget that cuts one of them short: the job that joins them runs nevertheless and says which
-part lacks a certificate. The second call submits that part alone, without the budget, and the whole is joined and accepted by `PROGRAM check`,
-with the worst delay of the search in one piece. A third call submits no part. Then the same with an array of at most 6 tasks, as where there
-are more parts than a site's MaxArraySize.
+It starts `munged`, `slurmctld` and `slurmd` in a temporary folder, on the loopback, and ends them
+when it is done. 16 parts of examples/mult_8.v are searched as a job array, with a budget that cuts
+one of them short: the job that joins them runs nevertheless and says which part lacks a
+certificate. The second call submits that part alone, without the budget, and the whole is joined
+and accepted by `PROGRAM check`, with the worst delay of the search in one piece. A third call
+submits no part. Then the same with an array of at most 6 tasks, as where there are more parts than
+a site's MaxArraySize.
 
-The YAML of docs/MANY-MACHINES.md has to parse, and the command in it has to search its part under `sh`. Where Slurm, munge or a reader of YAML
-isn't installed, it says so.
+The YAML of docs/MANY-MACHINES.md has to parse, and the command in it has to search its part under
+`sh`. Where Slurm, munge or a reader of YAML isn't installed, it says so.
 """
 
 import contextlib
 import getpass
+import json
 import os
 import re
 import shutil
@@ -83,7 +86,13 @@ class Slurm:
             os.chmod(os.path.join(folder, name), 0o755)
         processors = min(2, os.cpu_count() or 1)
         memory = os.sysconf("SC_PHYS_PAGES") * os.sysconf("SC_PAGE_SIZE") * 9 // 10 >> 20
-        words = {"folder": folder, "memory": memory, "host": self.host, "user": getpass.getuser(), "ports": free_ports(2)}
+        words = {
+            "folder": folder,
+            "memory": memory,
+            "host": self.host,
+            "user": getpass.getuser(),
+            "ports": free_ports(2),
+        }
         with open(os.path.join(folder, "slurm.conf"), "w", encoding="ascii") as file:
             file.write(CONFIGURATION.format(largest=largest, processors=processors, **words))
         self.environment = {**os.environ, "SLURM_CONF": os.path.join(folder, "slurm.conf")}
@@ -91,13 +100,19 @@ class Slurm:
     def __enter__(self):
         place = lambda name: os.path.join(self.folder, name)
         run(["mungekey", "--create", f"--keyfile={place('munge.key')}"], self.folder)
-        files = [f"--{what}-file={place('munge.' + what)}" for what in ("key", "log", "pid", "seed")]
+        files = [
+            f"--{what}-file={place('munge.' + what)}" for what in ("key", "log", "pid", "seed")
+        ]
         try:
-            self.start("munged", "--foreground", "--force", f"--socket={place('munge.socket')}", *files)
+            self.start(
+                "munged", "--foreground", "--force", f"--socket={place('munge.socket')}", *files
+            )
             self.wait("munge", lambda: os.path.exists(place("munge.socket")))
             self.start("slurmctld", "-D")
             self.start("slurmd", "-D", "-N", self.host)
-            self.wait("an idle node", lambda: "idle" in self.client("sinfo", "-h", "-o", "%T").out.split())
+            self.wait(
+                "an idle node", lambda: "idle" in self.client("sinfo", "-h", "-o", "%T").out.split()
+            )
         except BaseException:
             self.stop()
             raise
@@ -108,8 +123,15 @@ class Slurm:
 
     def start(self, *words):
         with open(os.path.join(self.folder, f"{words[0]}.out"), "w", encoding="utf-8") as out:
-            how = {"stdin": subprocess.DEVNULL, "stdout": out, "stderr": out, "start_new_session": True}
-            self.daemons.append(subprocess.Popen(words, env=self.environment, **how))  # pylint: disable=consider-using-with
+            how = {
+                "stdin": subprocess.DEVNULL,
+                "stdout": out,
+                "stderr": out,
+                "start_new_session": True,
+            }
+            self.daemons.append(
+                subprocess.Popen(words, env=self.environment, **how)
+            )  # pylint: disable=consider-using-with
 
     def stop(self):
         """Ends the daemons, the last one first."""
@@ -131,7 +153,9 @@ class Slurm:
         while not there():
             dead = [daemon.args[0] for daemon in self.daemons if daemon.poll() is not None]
             if dead or time.monotonic() > end:
-                told = "".join(self.log(name) for name in ("munged.out", "slurmctld.log", "slurmd.log"))
+                told = "".join(
+                    self.log(name) for name in ("munged.out", "slurmctld.log", "slurmd.log")
+                )
                 raise RuntimeError(f"no {what}; {dead or 'nothing'} ended\n{told}")
             time.sleep(0.2)
 
@@ -146,7 +170,9 @@ class Slurm:
 
 def budget_for_all_but_one(tested):
     """The part that needs most nodes, and a budget that suffices for the others."""
-    lines = tested.run("parts", NETLIST, "--parts", str(PARTS), "--strategy", "lead").out.splitlines()
+    lines = tested.run(
+        "parts", NETLIST, "--parts", str(PARTS), "--strategy", "lead"
+    ).out.splitlines()
     nodes = {}
     for number, line in enumerate(lines, 1):
         ended = tested.run("worst", NETLIST, *line.split(), "--strategy", "lead")
@@ -185,28 +211,58 @@ def expect(tested, what, right, folder):
 
 def arrays(tested, largest, short, budget):
     """One part cut short and taken again, on a Slurm whose arrays have numbers below `largest`."""
-    whole = re.search(r"^exact (\d+)$", tested.run("worst", NETLIST, "--strategy", "lead").out, re.M)[1]
+    whole = re.search(
+        r"^exact (\d+)$", tested.run("worst", NETLIST, "--strategy", "lead").out, re.M
+    )[1]
     work = os.path.join(tested.folder, f"work-{largest}")
     os.mkdir(work)
     with Slurm(os.path.join(tested.folder, f"slurm-{largest}"), largest) as slurm:
         submitted(tested, slurm, work, budget)
-        expect(tested, f"one part, {short}, is cut short", f"parts without a certificate: {short}\n" in read(work, "join.log"), work)
-        expect(tested, "join.log says between", re.search(r"^between \d+ \d+$", read(work, "join.log"), re.M), work)
-        before = {name: os.stat(os.path.join(work, name)).st_mtime_ns for name in os.listdir(work) if name.endswith(".cert")}
+        expect(
+            tested,
+            f"one part, {short}, is cut short",
+            f"parts without a certificate: {short}\n" in read(work, "join.log"),
+            work,
+        )
+        expect(
+            tested,
+            "join.log says between",
+            re.search(r"^between \d+ \d+$", read(work, "join.log"), re.M),
+            work,
+        )
+        before = {
+            name: os.stat(os.path.join(work, name)).st_mtime_ns
+            for name in os.listdir(work)
+            if name.endswith(".cert")
+        }
         expect(tested, "all others have certificates", len(before) == PARTS - 1, work)
         submitted(tested, slurm, work, None)
         after = {name: os.stat(os.path.join(work, name)).st_mtime_ns for name in before}
         expect(tested, "the others aren't searched again", before == after, work)
-        expect(tested, "join.log has the worst delay", f"exact {whole}\n" in read(work, "join.log"), work)
-        expect(tested, "join.log says accepted", f"accepted {whole}\n" in read(work, "join.log"), work)
+        expect(
+            tested,
+            "join.log has the worst delay",
+            f"exact {whole}\n" in read(work, "join.log"),
+            work,
+        )
+        expect(
+            tested, "join.log says accepted", f"accepted {whole}\n" in read(work, "join.log"), work
+        )
         checked = tested.run("check", NETLIST, os.path.join(work, "whole.cert"))
         expect(tested, "the whole is accepted", checked.out.startswith(f"accepted {whole}\n"), work)
         logs = [name for name in os.listdir(work) if re.fullmatch(r"part-(\d+\+)?\d+\.log", name)]
         expect(tested, "a log for each part", len(logs) == PARTS, work)
         ended = submitted(tested, slurm, work, None)
-        expect(tested, "nothing is left to search", "every part has a certificate" in ended.err, work)
+        expect(
+            tested, "nothing is left to search", "every part has a certificate" in ended.err, work
+        )
         other = slurm.client(SUBMIT, NETLIST, "3", folder=work, TDELAY=tested.program)
-        expect(tested, "another question is refused", other.status == 1 and "another question" in other.err, work)
+        expect(
+            tested,
+            "another question is refused",
+            other.status == 1 and "another question" in other.err,
+            work,
+        )
 
 
 def manifest(tested):
@@ -220,7 +276,7 @@ def manifest(tested):
             with open(path, "w", encoding="utf-8") as file:
                 file.write(text)
             with open(path, encoding="utf-8") as file:
-                return check.json.loads(run([python, "-c", reader], stdin=file).out or "null") or {}
+                return json.loads(run([python, "-c", reader], stdin=file).out or "null") or {}
     return None
 
 
@@ -228,10 +284,14 @@ def kubernetes(tested):
     """The command of the recipe, for each index, in a folder in place of /work."""
     job = manifest(tested)
     if job is None:
-        print("skipped: the YAML of docs/MANY-MACHINES.md, since PyYAML (python3-yaml) isn't installed")
+        print("skipped: the YAML of docs/MANY-MACHINES.md, for want of PyYAML (python3-yaml)")
         return
     container = job["spec"]["template"]["spec"]["containers"][0]
-    if job["kind"] != "Job" or job["spec"]["completionMode"] != "Indexed" or container["command"] != ["sh", "-c"]:
+    if (
+        job["kind"] != "Job"
+        or job["spec"]["completionMode"] != "Indexed"
+        or container["command"] != ["sh", "-c"]
+    ):
         tested.fault(f"the YAML isn't an indexed job of a shell: {job}")
     work = os.path.join(tested.folder, "pod")
     os.mkdir(work)
@@ -241,13 +301,23 @@ def kubernetes(tested):
         file.write(tested.run("parts", NETLIST, "--parts", "3", "--strategy", "lead").out)
     command = container["args"][0].replace("/work/", f"{work}/")
     for index in range(4):
-        environment = {**os.environ, "PATH": f"{work}:{os.environ['PATH']}", "JOB_COMPLETION_INDEX": str(index)}
+        environment = {
+            **os.environ,
+            "PATH": f"{work}:{os.environ['PATH']}",
+            "JOB_COMPLETION_INDEX": str(index),
+        }
         ended = run([*container["command"], command], work, env=environment)
         made = os.path.exists(os.path.join(work, f"part-{index}.cert"))
         if ended.status or made != (index < 3):
             tested.fault(f"index {index}: status {ended.status}, certificate {made}, {ended.err}")
         tested.case("pod")
-    joined = tested.run("join", NETLIST, *(os.path.join(work, f"part-{index}.cert") for index in range(3)), "--cert", "pod.cert")
+    joined = tested.run(
+        "join",
+        NETLIST,
+        *(os.path.join(work, f"part-{index}.cert") for index in range(3)),
+        "--cert",
+        "pod.cert",
+    )
     if joined.status:
         tested.fault(f"the parts of the pods don't join: {joined.err}")
     tested.case("pod")
@@ -257,7 +327,7 @@ def work(tested):
     kubernetes(tested)
     lacking = [name for name in NEEDS if not shutil.which(name)]
     if lacking:
-        print(f"skipped: the job arrays, since {' and '.join(lacking)} must be there (slurm-wlm, munge)")
+        print(f"skipped: the job arrays, for want of {' and '.join(lacking)} (slurm-wlm, munge)")
         return
     short, budget = budget_for_all_but_one(tested)
     for largest in (1001, 7):

@@ -1,10 +1,12 @@
 #!/usr/bin/env python3
-"""drawing.py DUMP [--width PIXELS] [--nets NAME,..] [--path REPORT]: draws the waves of a value change dump that `tdelay --vcd` wrote as an SVG
-picture, on standard output.
+"""drawing.py DUMP [--width PIXELS] [--nets NAME,..] [--path REPORT]: draws the waves of a value
+change dump that `tdelay --vcd` wrote as an SVG picture, on standard output.
 
-A line for each net, in the dump's order: high for 1, low for 0, half high for x. The moments below are steps; left of moment 0 the
-circuit is settled under the first vector. A step is 40 pixels wide; --width makes the whole picture so wide, for waves of many steps. --nets draws these
-nets alone, in this order. --path draws those of the path that `tdelay path` or `worst --path` printed to a file, without the nets inside a cell.
+A line for each net, in the dump's order: high for 1, low for 0, half high for x. The moments below
+are steps; left of moment 0 the circuit is settled under the first vector. A step is 40 pixels wide;
+--width makes the whole picture so wide, for waves of many steps. --nets draws these nets alone, in
+this order. --path draws those of the path that `tdelay path` or `worst --path` printed to a file,
+without the nets inside a cell.
 """
 
 import argparse
@@ -19,7 +21,9 @@ HEIGHTS = {"1": 0, "0": HIGH, "x": HIGH // 2}
 
 
 def waves_of(text):
-    """The nets with their changes (moment, level), the settled level at moment -1, and the last moment that is told."""
+    """The nets with their changes (moment, level), the settled level at moment -1, and the last
+    moment that is told.
+    """
     names = dict(re.findall(r"\$var wire 1 (\S+) (.+?) \$end", text))
     waves = {name: [] for name in names.values()}
     moment = -1
@@ -36,7 +40,9 @@ class Scale:
 
     def __init__(self, names, last, width):
         self.last = last
-        self.left = LEFT if width is None else max([LEFT] + [CHARACTER * len(name) + 20 for name in names])
+        self.left = (
+            LEFT if width is None else max([LEFT] + [CHARACTER * len(name) + 20 for name in names])
+        )
         self.step = STEP if width is None else (width - self.left - 10) / (last + 3)
         self.width = self.abscissa(last + 2) + 10
 
@@ -70,16 +76,20 @@ def line_of(changes, scale, top):
 
 def drawn(waves, last, width=None):
     scale, depth = Scale(waves, last, width), ROW * len(waves) + 30
-    yield f'<svg xmlns="http://www.w3.org/2000/svg" width="{scale.width}" height="{depth}" font-family="monospace" font-size="13">'
+    size = f'width="{scale.width}" height="{depth}"'
+    font = 'font-family="monospace" font-size="13"'
+    yield f'<svg xmlns="http://www.w3.org/2000/svg" {size} {font}>'
     yield f'<rect width="{scale.width}" height="{depth}" fill="white"/>'
     for moment in scale.moments():
         x = scale.abscissa(moment)
         yield f'<line x1="{x}" y1="4" x2="{x}" y2="{depth - 20}" stroke="#ddd"/>'
         yield f'<text x="{x}" y="{depth - 6}" text-anchor="middle">{moment}</text>'
-    for place, (name, changes) in enumerate(waves.items()):
-        top = ROW * place + 8
-        yield f'<text x="{scale.left - 10}" y="{top + HIGH - 4}" text-anchor="end">{escape(name)}</text>'
-        yield f'<polyline points="{line_of(changes, scale, top)}" fill="none" stroke="black" stroke-width="2"/>'
+    for row, (name, changes) in enumerate(waves.items()):
+        top = ROW * row + 8
+        place = f'x="{scale.left - 10}" y="{top + HIGH - 4}"'
+        yield f'<text {place} text-anchor="end">{escape(name)}</text>'
+        points = line_of(changes, scale, top)
+        yield f'<polyline points="{points}" fill="none" stroke="black" stroke-width="2"/>'
     yield "</svg>"
 
 
@@ -98,7 +108,9 @@ def path_of(report):
 
 
 def main():
-    words = argparse.ArgumentParser(description=__doc__, formatter_class=argparse.RawDescriptionHelpFormatter)
+    words = argparse.ArgumentParser(
+        description=__doc__, formatter_class=argparse.RawDescriptionHelpFormatter
+    )
     words.add_argument("dump", metavar="DUMP")
     words.add_argument("--width", type=int, metavar="PIXELS", help="of the whole picture")
     words.add_argument("--nets", metavar="NAME,..", help="draw these alone, in this order")

@@ -1,4 +1,6 @@
-"""What the cells of bridges/tiny.lib do, and what an SDF file says of their delays, written apart from bridges/."""
+"""What the cells of bridges/tiny.lib do, and what an SDF file says of their delays, written apart
+from bridges/.
+"""
 
 import itertools
 import re
@@ -16,10 +18,17 @@ CELLS = {
     "XOR2": ("AB", {"Y": lambda a, b: a != b}),
     "MUX2": ("ABS", {"Y": lambda a, b, s: b if s else a}),
     "HA": ("AB", {"S": lambda a, b: a != b, "C": lambda a, b: a and b}),
-    "FA": (("A", "B", "CI"), {"S": lambda a, b, c: (a + b + c) % 2, "CO": lambda a, b, c: a + b + c > 1}),
+    "FA": (
+        ("A", "B", "CI"),
+        {"S": lambda a, b, c: (a + b + c) % 2, "CO": lambda a, b, c: a + b + c > 1},
+    ),
 }
 # The storing cells: the outputs, of which QN is the inverse of Q, and the inputs besides CK or G.
-REGISTERS = {"DFF": (("Q", "QN"), "CK", ("D",)), "DFFR": (("Q", "QN"), "CK", ("D", "RN")), "DLAT": (("Q",), "G", ("D",))}
+REGISTERS = {
+    "DFF": (("Q", "QN"), "CK", ("D",)),
+    "DFFR": (("Q", "QN"), "CK", ("D", "RN")),
+    "DLAT": (("Q",), "G", ("D",)),
+}
 STEPS = {"1ps": 1000, "100fs": 100, "10fs": 10, "1fs": 1}
 
 
@@ -36,36 +45,49 @@ def depends(kind, pin, known):
     for name in free:
         for levels in itertools.product((0, 1), repeat=len(free)):
             given = {**known, **dict(zip(free, levels))}
-            if level(kind, pin, [given[it] for it in names]) != level(kind, pin, [{**given, name: 1 - given[name]}[it] for it in names]):
+            if level(kind, pin, [given[it] for it in names]) != level(
+                kind, pin, [{**given, name: 1 - given[name]}[it] for it in names]
+            ):
                 found.append(name)
                 break
     return found
 
 
 class Sdf:
-    """The delays of an SDF file of OpenSTA in steps: of arcs by instance, pins and the output's edge (1 where it rises), and of wires by their end."""
+    """The delays of an SDF file of OpenSTA in steps:
+
+    of arcs by instance, pins and the output's edge (1 where it rises), and of wires by their end.
+    """
 
     def __init__(self, text, step):
         self.arcs, self.wires = {}, {}
         value = lambda found: Decimal(found.split(":")[-1]) * 1_000_000 / STEPS[step]
         for cell in text.split("(CELL\n")[1:]:
             instance = unescaped(re.search(r"\(INSTANCE ?([^\n]*)\)\n", cell)[1])
-            for pin, output, rise, fall in re.findall(r"\(IOPATH (\S+) (\S+) \(([^)]*)\)(?: \(([^)]*)\))?\)", cell):
+            for pin, output, rise, fall in re.findall(
+                r"\(IOPATH (\S+) (\S+) \(([^)]*)\)(?: \(([^)]*)\))?\)", cell
+            ):
                 if rise:
                     self.arcs[instance, pin, output] = (value(fall or rise), value(rise))
-            for end, rise, fall in re.findall(r"\(INTERCONNECT \S+ (\S+) \(([^)]*)\)(?: \(([^)]*)\))?\)", cell):
+            for end, rise, fall in re.findall(
+                r"\(INTERCONNECT \S+ (\S+) \(([^)]*)\)(?: \(([^)]*)\))?\)", cell
+            ):
                 if value(rise) or value(fall or rise):
                     self.wires[unescaped(end)] = (value(fall or rise), value(rise))
 
     def delay(self, instance, pin, output, edges):
-        """Of an arc with the wire before it, where the input has the one edge and the output the other, in whole steps."""
+        """Of an arc with the wire before it, where the input has the one edge and the output the
+        other, in whole steps.
+        """
         before, after = edges
         wire = self.wires.get(f"{unescaped(instance)}/{pin}", (0, 0))
         return whole(self.arcs[unescaped(instance), pin, output][after] + wire[before])
 
     def greatest(self, instance, pins, output):
         """The rise and the fall delay of the slowest pin, in whole steps."""
-        sides = ([self.delay(instance, pin, output, (edge, edge)) for pin in pins] for edge in (1, 0))
+        sides = (
+            [self.delay(instance, pin, output, (edge, edge)) for pin in pins] for edge in (1, 0)
+        )
         return tuple(map(max, sides))
 
 

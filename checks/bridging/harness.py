@@ -1,11 +1,11 @@
 """How a check is called, what it counts, and how it ends; and runs within a time.
 
-A check is called as `CHECK [PROGRAM] [--seed S] [--cases N]`, and its last line is `N cases, N wrong`. Its exit status is 0 where no case was
-wrong and each kind of case had the share that the check states, 1 where not, and 77 where a program isn't there that it needs.
+A check is called as `CHECK [PROGRAM] [--seed S] [--cases N]`, and its last line is `N cases, N
+wrong`. Its exit status is 0 where no case was wrong and each kind of case had the share that the
+check states, 1 where not, and 77 where a program isn't there that it needs.
 """
 
 import argparse
-import json
 import os
 import random
 import shutil
@@ -32,21 +32,37 @@ class Hangs(Exception):
 
 
 def run(words, folder=None, seconds=60, **how):
-    """How a run in a folder ended, in texts. One that takes too long is ended with all that it started."""
-    how = {"stdin": subprocess.DEVNULL, "stdout": subprocess.PIPE, "stderr": subprocess.PIPE, "errors": "backslashreplace", **how}
-    with subprocess.Popen([str(word) for word in words], cwd=folder, start_new_session=True, **how) as process:
+    """How a run in a folder ended, in texts.
+
+    One that takes too long is ended with all that it started.
+    """
+    how = {
+        "stdin": subprocess.DEVNULL,
+        "stdout": subprocess.PIPE,
+        "stderr": subprocess.PIPE,
+        "errors": "backslashreplace",
+        **how,
+    }
+    with subprocess.Popen(
+        [str(word) for word in words], cwd=folder, start_new_session=True, **how
+    ) as process:
         try:
             out, err = process.communicate(timeout=seconds)
         except BaseException as why:
             os.killpg(process.pid, signal.SIGKILL)
             if isinstance(why, subprocess.TimeoutExpired):
-                raise Hangs(f"{' '.join(map(str, words))[:300]}: still running after {seconds} s") from None
+                raise Hangs(
+                    f"{' '.join(map(str, words))[:300]}: still running after {seconds} s"
+                ) from None
             raise
     return Ended(process.returncode, out or "", err or "")
 
 
 class Check:
-    """A check at work: the program, a source of random choices, a folder of its own, and what was counted so far."""
+    """A check at work:
+
+    the program, a source of random choices, a folder of its own, and what was counted so far.
+    """
 
     def __init__(self, program, seed, cases, folder):
         self.program, self.seed, self.most, self.folder = program, seed, cases, folder
@@ -79,10 +95,12 @@ class Check:
         return run([self.program, *words], **{"folder": self.folder, **how})
 
     def require(self, kind, share, of=None):
-        """Wants that at least this share of the cases, or of those of another kind, were of a kind."""
+        """Wants that at least this share of the cases, or of another kind, were of a kind."""
         all_of, whose = (self.cases, "cases") if of is None else (self.kinds[of], of)
         if not self.kinds[kind] or self.kinds[kind] < share * all_of:
-            self.fault(f"{kind}: {self.kinds[kind]} of {all_of} {whose}, which is less than {share:.1%}")
+            self.fault(
+                f"{kind}: {self.kinds[kind]} of {all_of} {whose}, which is less than {share:.1%}"
+            )
 
 
 def tried(check, work, shares):
@@ -111,10 +129,22 @@ def tried(check, work, shares):
 
 def main(work, doc, cases=None, shares=lambda check, cut: None, needs=()):
     """Runs a check and gives its exit status."""
-    parser = argparse.ArgumentParser(description=doc, formatter_class=argparse.RawDescriptionHelpFormatter)
-    parser.add_argument("program", nargs="?", default=PROGRAM, metavar="PROGRAM", help="a built tdelay")
-    parser.add_argument("--seed", type=int, default=1, metavar="S", help="of all random choices (1 where left out)")
-    parser.add_argument("--cases", type=int, default=cases, metavar="N", help=f"the most cases that are tried ({cases or 'all'} where left out)")
+    parser = argparse.ArgumentParser(
+        description=doc, formatter_class=argparse.RawDescriptionHelpFormatter
+    )
+    parser.add_argument(
+        "program", nargs="?", default=PROGRAM, metavar="PROGRAM", help="a built tdelay"
+    )
+    parser.add_argument(
+        "--seed", type=int, default=1, metavar="S", help="of all random choices (1 where left out)"
+    )
+    parser.add_argument(
+        "--cases",
+        type=int,
+        default=cases,
+        metavar="N",
+        help=f"the most cases that are tried ({cases or 'all'} where left out)",
+    )
     asked = parser.parse_args()
     program = os.path.abspath(asked.program)
     if not os.access(program, os.X_OK) or os.path.isdir(program):

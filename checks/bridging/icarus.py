@@ -28,7 +28,9 @@ def ports_of(text, way):
             yield f"{name} ", [None]
         else:
             left, right = int(left), int(right)
-            yield f"{name} ", list(range(left, right - 1, -1) if left >= right else range(left, right + 1))
+            yield f"{name} ", list(
+                range(left, right - 1, -1) if left >= right else range(left, right + 1)
+            )
 
 
 def bits_of(ports):
@@ -36,21 +38,29 @@ def bits_of(ports):
 
 
 def bench(module, pairs):
-    """A test bench that writes for each pair when each output changes last after the second vector, -1 where it never does."""
+    """A test bench that writes for each pair when each output changes last after the second vector,
+    -1 where it never does.
+    """
     inputs, outputs = bits_of(module.inputs), bits_of(module.outputs)
     places = {bit: f"v[{len(inputs) - 1 - place}]" for place, bit in enumerate(inputs)}
     places.update({bit: f"o[{place}]" for place, bit in enumerate(outputs)})
-    ports = [(name, [places[name, number] for number in numbers]) for name, numbers in module.inputs + module.outputs]
+    ports = [
+        f".{name}({{{', '.join(places[name, number] for number in numbers)}}})"
+        for name, numbers in module.inputs + module.outputs
+    ]
     count = len(outputs)
+    each = f"for (k = 0; k < {count}; k = k + 1)"
     yield f"`timescale {module.step}/{module.step}"
-    yield f"module bench; reg [{len(inputs) - 1}:0] v; wire [{count - 1}:0] o; time start; time last [0:{count - 1}]; integer k;"
-    yield f"{module.name} dut ({', '.join(f'.{name}({{{bits}}})' for name, bits in ((name, ', '.join(nets)) for name, nets in ports))});"
+    yield f"module bench; reg [{len(inputs) - 1}:0] v; wire [{count - 1}:0] o;"
+    yield f"time start; time last [0:{count - 1}]; integer k;"
+    yield f"{module.name} dut ({', '.join(ports)});"
     yield from (f"always @(o[{place}]) last[{place}] = $time;" for place in range(count))
     yield "initial begin #1;"
     for first, second in pairs:
-        yield f"v = {len(inputs)}'b{first}; #{SETTLED}; for (k = 0; k < {count}; k = k + 1) last[k] = 0;"
+        yield f"v = {len(inputs)}'b{first}; #{SETTLED}; {each} last[k] = 0;"
         yield f"#1 v = {len(inputs)}'b{second}; start = $time; #{SETTLED};"
-        yield f'for (k = 0; k < {count}; k = k + 1) $write("%0d ", last[k] == 0 ? -1 : $signed(last[k] - start)); $write("\\n");'
+        yield f'{each} $write("%0d ", last[k] == 0 ? -1 : $signed(last[k] - start));'
+        yield '$write("\\n");'
     yield "$finish; end endmodule"
 
 
@@ -62,7 +72,11 @@ def last_changes(folder, text, pairs):
             file.write(lines)
     made = run([*IVERILOG, "-g2005", "-s", "bench", "-o", "bench.vvp", "dut.v", "bench.v"], folder)
     ran = run([*VVP, "bench.vvp"], folder) if not made.status else made
-    found = [[int(word) for word in line.split()] for line in ran.out.splitlines() if re.fullmatch(r"[-\d ]+", line)]
+    found = [
+        [int(word) for word in line.split()]
+        for line in ran.out.splitlines()
+        if re.fullmatch(r"[-\d ]+", line)
+    ]
     if ran.status or len(found) != len(pairs):
         raise RuntimeError(f"Icarus Verilog says {(ran.err or ran.out)[-500:]}")
     return found

@@ -1,4 +1,7 @@
-"""Netlists of library cells that are made up: random ones, and trees, in which each net is read once."""
+"""Netlists of library cells that are made up:
+
+random ones, and trees, in which each net is read once.
+"""
 
 from dataclasses import dataclass, field
 from typing import Dict, List
@@ -25,7 +28,9 @@ class Instance:
 
 @dataclass
 class Made:
-    """A netlist `t` with inputs `a`, `\\in.x`, `and_` and `\\buf`, `clk` where there are registers, and outputs `y` and `z`."""
+    """A netlist `t` with inputs `a`, `\\in.x`, `and_` and `\\buf`, `clk` where there are registers,
+    and outputs `y` and `z`.
+    """
 
     rng: object
     span: str = ""
@@ -37,9 +42,13 @@ class Made:
 
     def __post_init__(self):
         width = self.rng.randint(2, 4)
-        left, right = self.rng.choice([(width - 1, 0), (0, width - 1), (width + 2, 3), (3, width + 2)])
+        left, right = self.rng.choice(
+            [(width - 1, 0), (0, width - 1), (width + 2, 3), (3, width + 2)]
+        )
         self.span = f"[{left}:{right}]"
-        self.inputs = [f"a[{number}]" for number in range(min(left, right), max(left, right) + 1)] + ["\\in.x ", "and_", "\\buf "]
+        self.inputs = [
+            f"a[{number}]" for number in range(min(left, right), max(left, right) + 1)
+        ] + ["\\in.x ", "and_", "\\buf "]
 
     def net(self, name=None):
         """A new net."""
@@ -55,7 +64,10 @@ class Made:
         return list(nets.values())
 
     def add_register(self, data):
-        """A flip-flop or a latch whose inputs but the clock are chosen from these nets. Answers the nets at its outputs."""
+        """A flip-flop or a latch whose inputs but the clock are chosen from these nets.
+
+        Answers the nets at its outputs.
+        """
         kind = self.rng.choice(sorted(REGISTERS))
         outputs, clock, takes = REGISTERS[kind]
         number = len(self.registers)
@@ -68,23 +80,34 @@ class Made:
         """The netlist in Verilog. The last output is `z`."""
         bits, last = self.outputs[:-1], self.outputs[-1]
         clock = ["clk"] if self.registers else []
-        lines = [f"module t ({', '.join(clock + ['a', *self.inputs[-3:], 'y', 'z'])});", *(f"input {net};" for net in clock + self.inputs[-3:])]
+        lines = [
+            f"module t ({', '.join(clock + ['a', *self.inputs[-3:], 'y', 'z'])});",
+            *(f"input {net};" for net in clock + self.inputs[-3:]),
+        ]
         lines += [f"input {self.span} a;", f"output [{len(bits) + 1}:2] y;", "output z;"]
         lines += [f"wire {net};" for net in self.wires]
         lines += [instance.text() for instance in self.cells + self.registers]
-        lines += [f"assign y[{number}] = {net};" for number, net in enumerate(bits, 2)] + [f"assign z = {last};", "endmodule", ""]
+        lines += [f"assign y[{number}] = {net};" for number, net in enumerate(bits, 2)] + [
+            f"assign z = {last};",
+            "endmodule",
+            "",
+        ]
         return "\n".join(lines)
 
     def ends(self):
         """The net of each output bit, by its name."""
-        return {f"y[{number}]": net for number, net in enumerate(self.outputs[:-1], 2)} | {"z": self.outputs[-1]}
+        return {f"y[{number}]": net for number, net in enumerate(self.outputs[:-1], 2)} | {
+            "z": self.outputs[-1]
+        }
 
     def levels(self, given):
-        """The level of each net, where the inputs and the states of registers (`NET.q`) have these."""
+        """The level of each net, where the inputs and the states (`NET.q`) have these."""
         known = {"1'b0": 0, "1'b1": 1, **{net: given[unescaped(net)] for net in self.inputs}}
         for register in self.registers:
             state = given[f"{register.outputs['Q']}.q"]
-            known.update((net, state if pin == "Q" else 1 - state) for pin, net in register.outputs.items())
+            known.update(
+                (net, state if pin == "Q" else 1 - state) for pin, net in register.outputs.items()
+            )
         for cell in self.cells:
             read = [known[net] for net in cell.inputs.values()]
             known.update((net, level(cell.kind, pin, read)) for pin, net in cell.outputs.items())
@@ -100,7 +123,10 @@ def web(rng, with_registers):
     new = []
     for _ in range(rng.randint(4, 30)):
         kind = rng.choice(sorted(CELLS))
-        reads = [rng.choice(["1'b0", "1'b1"]) if rng.random() < 0.04 else rng.choice(nets[-14:]) for _ in CELLS[kind][0]]
+        reads = [
+            rng.choice(["1'b0", "1'b1"]) if rng.random() < 0.04 else rng.choice(nets[-14:])
+            for _ in CELLS[kind][0]
+        ]
         found = made.add(kind, reads)
         nets += found
         new += found
@@ -109,7 +135,9 @@ def web(rng, with_registers):
 
 
 def tree(rng):
-    """A netlist in which each net is read once, so that a change of one input reaches each cell by one pin alone."""
+    """A netlist in which each net is read once, so that a change of one input reaches each cell by
+    one pin alone.
+    """
     made = Made(rng)
     pool = list(made.inputs)
     for _ in range(rng.choice([0, 0, 1])):
@@ -127,11 +155,16 @@ def tree(rng):
 
 
 def paths(made, sdf, slowest):
-    """A function that answers when an output changes after one input has, from the levels before and after, by adding up arcs.
+    """A function that answers when an output changes after one input has, from the levels before
+    and after, by adding up arcs.
 
     With `slowest` a cell takes its slowest pin's delays, whichever pin changes.
     """
-    drivers = {net: (cell, pin) for cell in made.cells + made.registers for pin, net in cell.outputs.items()}
+    drivers = {
+        net: (cell, pin)
+        for cell in made.cells + made.registers
+        for pin, net in cell.outputs.items()
+    }
 
     def moment(net, before, after):
         """When a net changes that does."""
@@ -147,4 +180,6 @@ def paths(made, sdf, slowest):
             return earlier + sdf.greatest(cell.name, cell.inputs, output)[1 - after[net]]
         return earlier + sdf.delay(cell.name, pin, output, (after[cell.inputs[pin]], after[net]))
 
-    return lambda net, before, after: moment(net, before, after) if before[net] != after[net] else -1
+    return (
+        lambda net, before, after: moment(net, before, after) if before[net] != after[net] else -1
+    )
