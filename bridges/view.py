@@ -8,6 +8,7 @@ without those inside a cell, and the outputs that change, zoomed to the time in 
 it by `gtkwave -a VIEW.gtkw DUMP.vcd`.
 """
 
+import math
 import os
 import re
 import sys
@@ -70,12 +71,19 @@ def view(dump: Dump, path: List[str], file: str):
     yield "[timestart] 0"
     yield "[size] 1200 700"
     yield "[pos] -1 -1"
-    yield f"*{-max(1, (last + 2).bit_length() - 9)}.0 {last + 1} -1 -1"
+    yield f"*{-zoom_for(last)}.0 {last + 1} -1 -1"
     yield "[signals_width] 220"
     yield "[sst_expanded] 0"
     for title, names in groups:
         yield f"@200\n-{title}\n@28"
         yield from (shown(name) for name in dict.fromkeys(names))
+
+
+def zoom_for(last: int) -> int:
+    """How far to zoom out so that all changes are in sight: at 0, 200 pixels of the window's 900 are
+    one step, at 1 they are two, at 2 four.
+    """
+    return math.ceil(math.log2((last + 2) / 4)) if last > 2 else 0
 
 
 def late(dump: Dump, last: int) -> List[str]:
