@@ -5,12 +5,13 @@ from collections import Counter
 from typing import Iterator, List, Optional
 
 from constants import Constants
-from delays import DefaultDelays, Delay, Output, SdfDelays
+from delays import DefaultDelays, Delay, Output
 from gates import GateWriter
 from library import STATE, Library
 from netlist import MOST_GATES, MOST_INPUTS, Names, Netlist, Port, spelled, terminals
 from refusal import Refusal
 from registers import Register, in_words, shell_lines
+from sdf import place_of
 from yosys_json import CONSTANTS, Bit, Cell, Design, Vector
 
 CONNECT = "connect it; `setundef -zero` of yosys makes undriven nets 0"
@@ -40,6 +41,8 @@ class Conversion:
         )
         self.writer = GateWriter(self.names, each_pin)
         self.netlist = Netlist(top)
+        self.port_names = {port.name for port in self.module.inputs + self.module.outputs}
+        self.input_bits = {bit for port in self.module.inputs for bit in port.bits}
         self.registers: List[Register] = []
         self.notes: List[str] = []
 
@@ -59,9 +62,9 @@ class Conversion:
 
     def refuse_like_instances(self):
         """Two instances whose names an SDF file can't tell apart."""
-        for name, count in Counter(
-            cell.name.replace("/", ".") for cell in self.module.cells
-        ).items():
+        if not self.delays.by_instance:
+            return
+        for name, count in Counter(place_of(cell.name) for cell in self.module.cells).items():
             if count > 1:
                 raise Refusal(
                     "LikeInstances",
@@ -122,8 +125,7 @@ class Conversion:
     def combinational_cell(self, cell: Cell):
         for pin, bit in cell.outputs.items():
             output = Output(cell.name, cell.kind, pin)
-            if isinstance(self.delays, SdfDelays):
-                self.delays.refuse_strangers(output, self.library.function(cell, pin).pins)
+            self.delays.refuse_strangers(output, self.library.function(cell, pin).pins)
             if bit in self.constants.levels:
                 continue
             function = self.constants.function(cell, pin)
@@ -144,37 +146,27 @@ class Conversion:
     def register_name(self, cell: Cell) -> str:
         """That of the net which has its state, else of the instance."""
         state = self.library.state_output(cell.kind)
-        return (
-            bare_terminal(self.terminal(cell.outputs[state]))
-            if state in cell.outputs
-            else cell.name
-        )
+        if state not in cell.outputs:
+            return cell.name
+        return bare_terminal(self.terminal(cell.outputs[state]))
 
     def register(self, cell: Cell, name: str):
+        """Cuts out a flip-flop or a latch: an input, its outputs' gates, and outputs."""
         port = self.names.new(f"{name}.q")
         self.netlist.inputs.append(Port(port))
-        own = {port.name for port in self.module.inputs + self.module.outputs}
-        is_port = (
-            re.sub(r"\[\d+\]$", "", name) in own
-            or self.library.state_output(cell.kind) not in cell.outputs
-        )
-        register = Register(
-            cell, name, port, self.library.state_output(cell.kind), port if is_port else name
-        )
-        when = self.library.when_pins(cell)
+        state_pin = self.library.state_output(cell.kind)
+        is_port = re.sub(r"\[\d+\]$", "", name) in self.port_names
+        in_shell = port if is_port or state_pin not in cell.outputs else name
+        register = Register(cell, name, port, state_pin, in_shell)
+        when, (state,) = self.library.when_pins(cell), STATE.pins
         for pin, bit in cell.outputs.items():
             output, function = Output(cell.name, cell.kind, pin), self.library.function(cell, pin)
             delay = self.delays.of_register(output, when)
-            self.writer.write(
-                output,
-                function,
-                delay and {STATE.pins[0]: delay},
-                {STATE.pins[0]: spelled(port)},
-                self.terminal(bit),
-            )
-        inputs = {bit for port in self.module.inputs for bit in port.bits}
+            delays = {state: delay} if delay else None
+            target = self.terminal(bit)
+            self.writer.write(output, function, delays, {state: spelled(port)}, target)
         for pin, bit in cell.inputs.items():
-            if pin in when and bit in inputs:
+            if pin in when and bit in self.input_bits:
                 register.clocks[pin] = self.terminal(bit)
                 continue
             taken = self.names.new(f"{name}.{pin.lower()}")

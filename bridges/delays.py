@@ -69,6 +69,14 @@ class Timing:
 class DefaultDelays:
     """No delays are known: a gate takes the default."""
 
+    # Whether delays are found by the names of instances.
+    by_instance = False
+
+    def refuse_strangers(self, output: Output, pins: Iterable[Pin]):
+        """Refuses an arc from a pin on which the cell's function doesn't depend, as that of a
+        tristate cell from its enable.
+        """
+
     def of(self, output: Output, function: Function) -> Optional[Dict[Pin, Delay]]:
         """The delays from each pin of a function to the output."""
 
@@ -118,13 +126,12 @@ class TableDelays(DefaultDelays):
 class SdfDelays(DefaultDelays):
     """What an SDF file says of each instance."""
 
+    by_instance = True
+
     def __init__(self, annotation: Annotation):
         self.annotation = annotation
 
-    def refuse_strangers(self, output: Output, pins: Iterable[Pin]):
-        """Refuses an arc from a pin on which the cell's function doesn't depend, as that of a
-        tristate cell from its enable.
-        """
+    def refuse_strangers(self, output, pins):
         for arc in self.arcs(output):
             if arc.pin not in pins:
                 raise Refusal(

@@ -19,6 +19,7 @@ import json
 import os
 import re
 import shutil
+import signal
 import socket
 import subprocess
 import sys
@@ -265,27 +266,32 @@ def arrays(tested, largest, short, budget):
         )
 
 
-def manifest(tested):
-    """The YAML of the page, as a reader of YAML reads it, or None where there is none."""
-    with open(PAGE, encoding="utf-8") as file:
-        text = re.search(r"```yaml\n(.*?)```", file.read(), re.S)[1]
-    reader = "import sys, json, yaml; print(json.dumps(yaml.safe_load(sys.stdin)))"
+def yaml_reader():
+    """A Python that has PyYAML, or None where there is none."""
     for python in (sys.executable, "/usr/bin/python3"):
         if os.path.exists(python) and not run([python, "-c", "import yaml"]).status:
-            path = os.path.join(tested.folder, "job.yaml")
-            with open(path, "w", encoding="utf-8") as file:
-                file.write(text)
-            with open(path, encoding="utf-8") as file:
-                return json.loads(run([python, "-c", reader], stdin=file).out or "null") or {}
+            return python
     return None
+
+
+def manifest(python):
+    """The YAML of the page, as PyYAML reads it."""
+    with open(PAGE, encoding="utf-8") as file:
+        text = re.search(r"```yaml\n(.*?)```", file.read(), re.S)[1]
+    reader = "import sys, json, yaml; print(json.dumps(yaml.safe_load(sys.argv[1])))"
+    ended = run([python, "-c", reader, text])
+    if ended.status:
+        raise RuntimeError(f"the YAML doesn't parse: {ended.err}")
+    return json.loads(ended.out)
 
 
 def kubernetes(tested):
     """The command of the recipe, for each index, in a folder in place of /work."""
-    job = manifest(tested)
-    if job is None:
+    python = yaml_reader()
+    if python is None:
         print("skipped: the YAML of docs/MANY-MACHINES.md, for want of PyYAML (python3-yaml)")
         return
+    job = manifest(python)
     container = job["spec"]["template"]["spec"]["containers"][0]
     if (
         job["kind"] != "Job"
@@ -324,6 +330,7 @@ def kubernetes(tested):
 
 
 def work(tested):
+    """Both recipes, as far as they can be run here."""
     kubernetes(tested)
     lacking = [name for name in NEEDS if not shutil.which(name)]
     if lacking:
@@ -336,10 +343,14 @@ def work(tested):
 
 def shares(tested, cut):
     """What can be run was run."""
-    if not cut:
-        if all(map(shutil.which, NEEDS)):
-            tested.require("job array", 0.5)
+    if not cut and all(map(shutil.which, NEEDS)):
+        tested.require("job array", 0.5)
 
 
 if __name__ == "__main__":
+    # So that the daemons end with the check, however it ends.
+    signal.signal(signal.SIGTERM, lambda *_: sys.exit(1))
+    if not yaml_reader() and not all(map(shutil.which, NEEDS)):
+        print("skipped: neither Slurm and munge (slurm-wlm, munge) nor PyYAML is there")
+        sys.exit(check.SKIPPED)
     sys.exit(check.main(work, __doc__, CASES, shares))

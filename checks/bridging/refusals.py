@@ -145,6 +145,8 @@ class Refusals:
         self.netlist(
             "input a; output y; INV \\x/g (.A(a), .Y(n)); INV \\x.g (.A(n), .Y(y));",
             "LikeInstances",
+            "--sdf",
+            "strange.sdf",
         )
         self.netlist("input [4096:0] a; output y; INV g (.A(a[0]), .Y(y));", "TooManyInputs")
         self.netlist("input a, b, s; output y; assign y = s ? b : a;", "NoGate", ports="a, b, s, y")
