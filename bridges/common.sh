@@ -10,9 +10,19 @@ refuse() {
 # usage COUNT WORD..: shows the comment at the head of the script where fewer than COUNT words are given.
 usage() {
     if [ $# -le "$1" ] || [ "$2" = --help ] || [ "$2" = -h ]; then
-        sed -n '2,/^[^#]/s/^# \{0,1\}//p' "$0" >&2
+        sed -n '2,/^[^#]/s/^# \{0,1\}//p' "$0" | grep -v shellcheck >&2
         exit 2
     fi
+}
+
+# fresh OUT FILE..: removes the file OUT of an earlier run, which mustn't be one of the files.
+fresh() {
+    made=$1
+    shift
+    for file in "$@"; do
+        [ "$file" != "$made" ] || refuse SameFile "$made would be written over itself" "take another OUT"
+    done
+    rm -f "$made"
 }
 
 # need PROGRAM PACKAGE: refuses where a program isn't installed.

@@ -8,7 +8,8 @@ from constants import Constants
 from delays import DefaultDelays, Delay, Output
 from gates import GateWriter
 from library import STATE, Library
-from netlist import MOST_GATES, MOST_INPUTS, Names, Netlist, Port, spelled, terminals
+from names import Names
+from netlist import MOST_GATES, MOST_INPUTS, Netlist, Port, spelled, terminals
 from refusal import Refusal
 from registers import Register, in_words, shell_lines
 from sdf import place_of

@@ -29,6 +29,7 @@ while [ "$rest" -gt 0 ]; do
     esac
 done
 need yosys yosys
+fresh "$out.v" $design
 map="dffunmap; abc -g AND,NAND,OR,NOR,XOR,XNOR; flatten; opt_clean -purge"
 case $design,$keep in
 *.blif,1) steps="read_blif $design; hierarchy -check -top $top; flatten; opt_clean" ;;
@@ -37,5 +38,8 @@ case $design,$keep in
 *) steps="read_verilog -sv $design; synth -top $top; $map" ;;
 esac
 logged "$out.yosys.log" "mend the source" yosys -p "$steps; write_json $out.json"
-python3 "$here/primitives.py" "$out.json" "$top" $shell "$@" > "$out.part"
+python3 "$here/primitives.py" "$out.json" "$top" $shell "$@" > "$out.part" || {
+    rm -f "$out.part"
+    exit 1
+}
 mv "$out.part" "$out.v"

@@ -36,6 +36,7 @@ while [ "$rest" -gt 0 ]; do
     esac
 done
 need yosys yosys
+fresh "$out.v" $mapped
 logged "$out.yosys.log" "give the library that has all cells of the netlist" yosys -p "
     $(libraries "read_liberty -ignore_miss_func -setattr keep_hierarchy" $liberty)
     read_verilog $mapped; hierarchy -check -top $top; flatten; opt_clean; write_json $out.json"
@@ -64,5 +65,8 @@ if [ -z "$sdf" ]; then
     ! grep '^Error' "$out.sta.log" > "$out.error" || refuse ToolFailed "sta: $(head -n 3 "$out.error")" "$remedy"
     rm -f "$out.error"
 fi
-python3 "$here/primitives.py" "$out.json" "$top" --sdf "$sdf" $shell "$@" > "$out.part"
+python3 "$here/primitives.py" "$out.json" "$top" --sdf "$sdf" $shell "$@" > "$out.part" || {
+    rm -f "$out.part"
+    exit 1
+}
 mv "$out.part" "$out.v"

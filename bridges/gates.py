@@ -16,7 +16,8 @@ from typing import Dict, List, Optional
 
 from cells import Function, Levels, Literal, Pin, levels_of
 from delays import NOTHING, ONE_STEP, Delay, Output, Timing
-from netlist import Gate, Names
+from names import Names
+from netlist import Gate
 from refusal import Refusal
 
 

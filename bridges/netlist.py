@@ -2,10 +2,9 @@
 
 import re
 from dataclasses import dataclass, field
-from typing import Dict, Iterator, List, NamedTuple, Optional, Set, Tuple
+from typing import Iterator, List, NamedTuple, Optional, Set, Tuple
 
 from delays import Delay
-from yosys_json import Bit, Module
 
 RESERVED = set(
     """always and assign automatic begin buf bufif0 bufif1 case casex casez cell cmos config
@@ -108,61 +107,3 @@ def terminals(port: Port) -> List[str]:
         return [port.terminal(0)]
     low, high = sorted(port.bounds)
     return [port.terminal(number) for number in range(low, high + 1)]
-
-
-class Names:
-    """A name for each net of a module: that of a port before others, then the shortest that a
-    person gave.
-
-    `apart` has the bits of output ports, as terminals, that no net may be called by, since a gate
-    stands before them."""
-
-    def __init__(self, module: Module, apart: Set[str]):
-        self.taken: Set[str] = set()
-        self.terminals: Dict[Bit, str] = {}
-        self.vectors: Dict[str, Tuple[int, int]] = {}
-        self.fresh = 0
-        ports = [{port.name for port in ports} for ports in (module.inputs, module.outputs)]
-        everyone = {net.name for net in module.nets}
-        self.taken |= everyone
-        for net in sorted(
-            module.nets,
-            key=lambda it: (
-                it.name not in ports[0],
-                it.name not in ports[1],
-                it.hidden,
-                len(it.name),
-                it.name,
-            ),
-        ):
-            shown = net.name
-            if net.hidden and net.bounds is None:
-                shown = next(
-                    name
-                    for name in (f"_{net.bits[0]}_", f"_net{net.bits[0]}_", net.name)
-                    if name not in everyone
-                )
-            port = Port(shown, net.bounds)
-            used = False
-            for place, bit in enumerate(net.bits):
-                terminal = port.terminal(net.number(place))
-                if isinstance(bit, int) and bit not in self.terminals and terminal not in apart:
-                    self.terminals[bit] = terminal
-                    self.taken.add(shown)
-                    used = True
-            if net.bounds and (used or net.name in ports[0] or net.name in ports[1]):
-                self.vectors[net.name] = net.bounds
-
-    def new_net(self) -> str:
-        """The name of a net that no one has named."""
-        self.fresh += 1
-        return self.new(f"t{self.fresh}_")
-
-    def new(self, wanted: str) -> str:
-        """A name that isn't taken yet, as near to the wanted one as can be."""
-        name, number = wanted, 1
-        while name in self.taken:
-            number += 1
-            name = f"{wanted}_{number}"
-        self.taken.add(name)
-        return name

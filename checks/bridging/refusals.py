@@ -188,13 +188,14 @@ class Refusals:
     def scripts(self):
         """What the other scripts refuse."""
         self.write("dark.v", "module t (input a, output y); DARK g (.A(a), .Y(y)); endmodule\n")
-        self.refused("ToolFailed", "from_liberty.sh", "dark.v", "t", "strange.lib", "dark")
+        self.refused("ToolFailed", "from_liberty.sh", "dark.v", "t", "strange.lib", "gates")
         self.refused(
             "NoWord", "from_liberty.sh", "base_cells.v", "t", self.library, "dark", "--clock"
         )
         self.write(
             "latch.v", "module t (input e, d, output reg q); always @* if (e) q = d; endmodule\n"
         )
+        self.refused("SameFile", "from_liberty.sh", "dark.v", "t", self.library, "dark")
         self.refused("UnmappedCells", "synth.sh", "latch.v", "t", self.library, "latch")
         self.refused("ToolFailed", "synth.sh", "latch.v", "none", self.library, "latch")
         with open(os.path.join(self.tested.folder, "base.v"), encoding="utf-8") as file:
