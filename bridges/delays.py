@@ -9,9 +9,7 @@ from typing import Dict, Iterable, List, NamedTuple, Optional
 
 from cells import Function, Pin
 from refusal import Refusal
-from sdf import Annotation, Arc, Wire, place_of
-
-NO_WIRE = Wire(Decimal(0), Decimal(0))
+from sdf import NO_WIRE, ZERO, Annotation, Arc, Wire, place_of
 
 
 class Delay(NamedTuple):
@@ -184,7 +182,7 @@ class SdfDelays(DefaultDelays):
 
     @staticmethod
     def greatest(
-        output: Output, pin: Pin, edge: str, sides: List[Optional[Decimal]], more=Decimal(0)
+        output: Output, pin: Pin, edge: str, sides: List[Optional[Decimal]], more=ZERO
     ) -> int:
         known = [side for side in sides if side is not None]
         if not known:

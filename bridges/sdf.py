@@ -8,7 +8,7 @@ gates. Timing checks are passed over, and anything else that would change a dela
 
 import re
 from dataclasses import dataclass, field
-from decimal import Decimal, InvalidOperation
+from decimal import Decimal
 from typing import Dict, List, NamedTuple, Optional, Tuple
 
 from refusal import Refusal
@@ -16,11 +16,18 @@ from refusal import Refusal
 # A unit of time in femtoseconds.
 UNITS = {"s": 10**15, "ms": 10**12, "us": 10**9, "ns": 10**6, "ps": 10**3, "fs": 1}
 CORNERS = ("min", "typ", "max")
+# The entries that are read, with how many names each has.
+NAMES = {"IOPATH": 2, "INTERCONNECT": 2, "PORT": 1}
+NUMBER = re.compile(r"[+-]?[0-9]+(\.[0-9]*)?([eE][+-]?[0-9]+)?")
+ESCAPED = re.compile(r"\\(.)")
+NEWLINE = "\n"
+ZERO = Decimal(0)
 TOKEN = re.compile(
-    r"(?P<skip>\s+|//[^\n]*|/\*.*?\*/)"
-    r'|(?P<token>"[^"]*"|[()]|(?:\\.|[^\s()"\\/]|/(?![/*]))+)'
-    r"|(?P<wrong>.)",
-    re.S,
+    r"""\s*(?: (?P<mark>[()])
+        | (?P<word>"[^"]*" | (?:[^\s()"\\/] | \\. | /(?![/*]))+)
+        | (?P<skip>//[^\n]* | /\*.*?\*/ | $)
+        | (?P<wrong>.))""",
+    re.S | re.X,
 )
 
 
@@ -54,11 +61,13 @@ class Wire(NamedTuple):
     fall: Decimal
 
 
+NO_WIRE = Wire(ZERO, ZERO)
+
+
 @dataclass
 class Annotation:
-    """What a file says:
-
-    the arcs of an instance and its output, and the wires to pins (`INSTANCE.PIN`) and to ports.
+    """What a file says: arcs by instance and output, and wires by the pin (`INSTANCE.PIN`) or the
+    port to which they lead.
     """
 
     arcs: Dict[Tuple[str, str], List[Arc]] = field(default_factory=dict)
@@ -68,9 +77,17 @@ class Annotation:
 class Tree(list):
     """What stands in a pair of parentheses, and where it begins."""
 
-    def __init__(self, at):
-        super().__init__()
-        self.at = at
+    at = 0
+
+    @property
+    def keyword(self) -> str:
+        """The first word, in capitals, as keywords are spelled either way."""
+        return self[0].upper() if self and isinstance(self[0], str) else ""
+
+    @property
+    def trees(self) -> List["Tree"]:
+        """The parts in parentheses of their own."""
+        return [part for part in self if isinstance(part, Tree)]
 
 
 class Reader:
@@ -82,139 +99,116 @@ class Reader:
         self.found = Annotation()
         self.values = {}
 
-    def refuse(self, at, name, wrong, remedy):
-        raise Refusal(
-            name, f"line {self.text.count(chr(10), 0, at) + 1} of the SDF file: {wrong}", remedy
-        )
-
     def tree(self) -> Tree:
         """The whole file as a tree."""
-        top = Tree(0)
-        open_trees = [top]
+        inner = top = Tree()
+        around = []
         for match in TOKEN.finditer(self.text):
-            if match["skip"]:
-                continue
-            token = match["token"]
-            if token is None:
-                self.bad_syntax(match.start())
-            if token == "(":
-                inner = Tree(match.start())
-                open_trees[-1].append(inner)
-                open_trees.append(inner)
-            elif token == ")":
-                open_trees.pop()
-                if not open_trees:
-                    self.bad_syntax(match.start())
-            else:
-                open_trees[-1].append(token)
-        if len(open_trees) > 1 or len(top) != 1 or top[0][:1] != ["DELAYFILE"]:
-            self.bad_syntax(open_trees[-1].at)
+            what = match.lastgroup
+            if what == "word":
+                inner.append(match["word"])
+            elif what == "mark" and match["mark"] == "(":
+                around.append(inner)
+                inner = Tree()
+                inner.at = match.start("mark")
+                around[-1].append(inner)
+            elif what == "mark" and around:
+                inner = around.pop()
+            elif what != "skip":
+                inner.at = match.start(what)
+                self.bad(inner, "this doesn't belong here")
+        if around or len(top) != 1 or getattr(top[0], "keyword", "") != "DELAYFILE":
+            self.bad(inner, "this isn't (DELAYFILE ..) with its parentheses in pairs")
         return top[0]
 
-    def bad_syntax(self, at):
-        self.refuse(
-            at,
-            "SdfSyntax",
-            "this isn't (DELAYFILE ..) with its parentheses in pairs",
-            "write the file anew by the timing tool",
-        )
-
     def read(self) -> Annotation:
+        """What the file says."""
         whole = self.tree()
-        entries = [item for item in whole[1:] if isinstance(item, Tree) and item]
-        for item in entries:
-            if item[0] == "TIMESCALE":
-                self.unit = span_of("".join(item[1:]))
+        for item in whole.trees:
+            if item.keyword == "TIMESCALE":
+                self.unit = span_of("".join(map(str, item[1:])))
                 if self.unit is None:
-                    self.refuse(
-                        item.at,
-                        "SdfSyntax",
-                        "no time scale of 1, 10 or 100 of s ms us ns ps fs",
-                        "write the file anew",
-                    )
-        for item in entries:
-            if item[0] == "CELL":
+                    self.bad(item, "no time scale of 1, 10 or 100 of s ms us ns ps fs")
+        for item in whole.trees:
+            if item.keyword == "CELL":
                 self.cell(item)
         return self.found
 
     def cell(self, item: Tree):
         """One CELL entry."""
-        parts = [part for part in item[1:] if isinstance(part, Tree) and part]
-        instance = next(
-            (self.name(part[1]) for part in parts if part[0] == "INSTANCE" and len(part) > 1), ""
-        )
-        for part in parts:
-            if part[0] != "DELAY":
-                continue
-            for kind in part[1:]:
-                if kind[:1] != ["ABSOLUTE"]:
-                    self.not_read(kind)
-                for entry in kind[1:]:
-                    self.entry(entry, instance)
-
-    def not_read(self, item):
-        remedy = (
-            "write absolute delays of arcs and wires alone, without pulse limits and retain times"
-        )
-        self.refuse(item.at, "SdfConstruct", f"{item[0] if item else '()'} isn't read", remedy)
+        instance = ""
+        for part in item.trees:
+            if part.keyword == "INSTANCE" and len(part) > 1:
+                instance = self.name(part[1], part)
+            elif part.keyword == "DELAY":
+                for kind in part.trees:
+                    if kind.keyword != "ABSOLUTE" or len(kind.trees) < len(kind) - 1:
+                        self.not_read(kind)
+                    for entry in kind.trees:
+                        self.entry(entry, instance)
 
     def entry(self, item: Tree, instance: str):
-        """One delay."""
-        while item[:1] in (["COND"], ["CONDELSE"]) and isinstance(item[-1], Tree):
-            item = item[-1]
-        kind = item[0] if item and isinstance(item[0], str) else ""
-        first = {"IOPATH": 3, "INTERCONNECT": 3, "PORT": 2}.get(kind, len(item))
-        if (
-            len(item) <= first
-            or not all(isinstance(value, Tree) for value in item[first:])
-            or "RETAIN" in item[first][:1]
-        ):
+        """One delay: of an arc, or of a wire."""
+        while item.keyword in ("COND", "CONDELSE") and item.trees:
+            item = item.trees[-1]
+        count = NAMES.get(item.keyword, len(item))
+        names, values = item[1 : count + 1], item[count + 1 :]
+        if not values or len(values) > len(item.trees) or "RETAIN" in item.trees[-len(values)][:1]:
             self.not_read(item)
-        rise = self.steps(item[first])
-        fall = self.steps(item[first + 1]) if len(item) > first + 1 else rise
-        if kind == "IOPATH":
-            pin = item[1][-1] if isinstance(item[1], Tree) else item[1]
-            self.found.arcs.setdefault((instance, self.name(item[2])), []).append(
-                Arc(self.name(pin), rise, fall)
-            )
+        rise = self.steps(values[0])
+        fall = self.steps(values[1]) if len(values) > 1 else rise
+        names = [self.name(name, item) for name in names]
+        if item.keyword == "IOPATH":
+            self.found.arcs.setdefault((instance, names[1]), []).append(Arc(names[0], rise, fall))
             return
-        end = self.name(item[first - 1])
-        end = f"{instance}.{end}" if kind == "PORT" and instance else end
-        known = self.found.wires.get(end, Wire(Decimal(0), Decimal(0)))
-        self.found.wires[end] = Wire(
-            max(known.rise, rise or Decimal(0)), max(known.fall, fall or Decimal(0))
-        )
+        end = names[-1]
+        if item.keyword == "PORT" and instance:
+            end = f"{instance}.{end}"
+        known = self.found.wires.get(end, NO_WIRE)
+        self.found.wires[end] = Wire(max(known.rise, rise or ZERO), max(known.fall, fall or ZERO))
 
-    @staticmethod
-    def name(token: str) -> str:
-        return place_of(re.sub(r"\\(.)", r"\1", token))
+    def name(self, given, item: Tree) -> str:
+        """A name without what escapes it; of a pin with an edge, as (posedge CK), that of the pin."""
+        if isinstance(given, Tree) and len(given) == 2:
+            given = given[1]
+        if not isinstance(given, str):
+            self.bad(item, "a name is missing")
+        return place_of(ESCAPED.sub(r"\1", given) if "\\" in given else given)
 
     def steps(self, value: Tree) -> Optional[Decimal]:
         """The number of a value, which is one or those of three corners, or None where it is left
         empty.
         """
-        spelled = "".join(value)
+        spelled = "".join(map(str, value))
         if spelled not in self.values:
-            numbers = spelled.split(":")
-            number = numbers[self.corner] if len(numbers) == 3 else spelled
-            if not number and len(numbers) == 3:
-                given = " and ".join(name for name, it in zip(CORNERS, numbers) if it)
-                self.refuse(
-                    value.at,
-                    "NoCorner",
-                    f"no {CORNERS[self.corner]} value in ({spelled})",
-                    f"take --corner {given}",
-                )
-            try:
-                self.values[spelled] = Decimal(number) * self.unit / self.step if number else None
-            except InvalidOperation:
-                self.refuse(
-                    value.at,
-                    "SdfSyntax",
-                    f"({spelled}) is no delay",
-                    "write the file anew by the timing tool",
-                )
+            self.values[spelled] = self.number(spelled, value)
         return self.values[spelled]
+
+    def number(self, spelled: str, value: Tree) -> Optional[Decimal]:
+        """A value's number at the corner."""
+        numbers = spelled.split(":")
+        number = numbers[self.corner] if len(numbers) == 3 else spelled
+        if not number and len(numbers) == 3:
+            wrong = f"no {CORNERS[self.corner]} value in ({spelled})"
+            given = " or ".join(name for name, it in zip(CORNERS, numbers) if it)
+            raise Refusal("NoCorner", f"{self.line(value.at)}: {wrong}", f"take --corner {given}")
+        if number and not NUMBER.fullmatch(number):
+            self.bad(value, f"({spelled}) is no delay")
+        return Decimal(number) * self.unit / self.step if number else None
+
+    # What is refused.
+
+    def line(self, at: int) -> str:
+        return f"line {self.text.count(NEWLINE, 0, at) + 1} of the SDF file"
+
+    def bad(self, item: Tree, wrong: str):
+        remedy = "write the file anew by the timing tool"
+        raise Refusal("SdfSyntax", f"{self.line(item.at)}: {wrong}", remedy)
+
+    def not_read(self, item: Tree):
+        remedy = "write absolute delays of arcs and wires, without pulse limits and retain times"
+        wrong = f"{item[0] if item else '()'} isn't read here"
+        raise Refusal("SdfConstruct", f"{self.line(item.at)}: {wrong}", remedy)
 
 
 def read_sdf(text: str, corner: str, step: int) -> Annotation:

@@ -186,6 +186,19 @@ def as_one_gate_each(tested, made, sdf):
     tested.case("one gate each")
 
 
+def some_outputs(tested, text, step):
+    """A case: with one output alone, its bits change as they do with all."""
+    few = gates_of(tested, "few.v", "--sdf", "each.sdf", "--step", step, "--outputs", "y")
+    if few is None or text is None:
+        return
+    pairs = random_pairs(tested, text, PAIRS)
+    count = len(icarus.bits_of(icarus.Module(few).outputs))
+    alone, whole = (icarus.last_changes(tested.folder, it, pairs) for it in (few, text))
+    if alone != [moments[:count] for moments in whole] or "output z;" in few:
+        tested.fault(f"--outputs y changes otherwise\n{text}\n{few}")
+    tested.case("some outputs")
+
+
 def random_netlists(tested):
     """Conversions of random netlists, until there are enough cases."""
     while tested.goes_on():
@@ -210,6 +223,7 @@ def random_netlists(tested):
         tested.case("proved")
         for name, text in texts.items():
             as_simulated(tested, name, text)
+        some_outputs(tested, texts["each.v"], step)
         if not made.registers:
             as_one_gate_each(tested, made, sdf)
         trees(tested)
@@ -424,10 +438,11 @@ def shares(tested, cut):
     if tested.most is not None and tested.most < CASES:
         return
     tested.require("pair that changes an output", 0.5, of="pair")
-    for kind in ("proved", "simulated", "one gate each", "tree"):
+    for kind in ("proved", "simulated", "one gate each", "some outputs", "tree"):
         tested.require(kind, 0.02)
     for kind in (
         "refused",
+        "by hand",
         "registers",
         "format",
         "plant exchanged",

@@ -35,6 +35,32 @@ N19 = NAND(N11, N7)
 N22 = NAND(N10, N16)
 N23 = NAND(N16, N19)
 """
+# Two cells, and delays of every kind that is read: corners, conditions, edges, a wire, comments.
+BY_HAND = """module t (a, b, y);
+input a, b; output y; wire n;
+INV \\top/g1 (.A(a), .Y(n));
+NAND2 g2 (.A(n), .B(b), .Y(y));
+endmodule
+"""
+BY_HAND_SDF = """(DELAYFILE (SDFVERSION "3.0") (DIVIDER .) // a comment (with a parenthesis
+ (TIMESCALE 10 ps) /* and ) another */
+ (CELL (CELLTYPE "INV") (INSTANCE top.g1) (DELAY (ABSOLUTE
+  (COND b == 1'b1 (IOPATH A Y (1.0:2.0:3.0) (1.1:2.1:3.1)))
+  (CONDELSE (IOPATH A Y (0.5:4.0:0.6))))))
+ (cell (celltype "NAND2") (instance g2)
+  (delay (absolute (iopath A Y (10) (20)) (IOPATH (posedge B) Y (10) (20)) (PORT B (0.3) (0.4))))
+  (TIMINGCHECK (WIDTH (posedge B) (1)))))
+"""
+# The gates of it, by the options.
+BY_HAND_GATES = {
+    ("--corner", "min"): "not #(10,11) (n, a)",
+    ("--corner", "typ"): "not #(40,40) (n, a)",
+    ("--corner", "max"): "not #(30,31) (n, a)",
+    ("--pins", "worst"): "nand #(104,203) (y, n, b)",
+    ("--pins", "each"): "nand #(99,199) (y, t1_, t2_)",
+    ("--pins", "each", "--step", "10fs"): "nand #(9999,19999) (y, t1_, t2_)",
+    ("--corner", "typ", "--pins", "each"): "buf #(4,5) (t2_, b)",
+}
 # The seconds of a processor that the multiplier may take from cells to gates.
 LONGEST = 10
 # With these the kept examples were made.
@@ -88,6 +114,22 @@ class Designs:
                 if self.exact(f"{name}.v") is None:
                     self.tested.fault(f"no exact figure of {name}.v")
                 self.tested.case("registers")
+
+    def delays(self):
+        """Delays that were worked out by hand."""
+        self.write("hand.v", BY_HAND)
+        self.write("hand.sdf", BY_HAND_SDF)
+        base = ("from_liberty.sh", "hand.v", "t", self.library, "by_hand", "--sdf", "hand.sdf")
+        for words, gate in BY_HAND_GATES.items():
+            self.script(*base, *words)
+            if f"{gate};\n" not in self.read("by_hand.v"):
+                self.tested.fault(f"{words}: no {gate} in\n{self.read('by_hand.v')}")
+            self.tested.case("by hand")
+        self.write("table.txt", "INV 7 9 # a comment\n\nNAND2 11 13\n")
+        told = self.script("primitives.py", "by_hand.json", "t", "--delays", "table.txt").out
+        if not all(f"\n{it};\n" in told for it in ("not #(7,9) (n, a)", "nand #(11,13) (y, n, b)")):
+            self.tested.fault(f"a table of delays:\n{told}")
+        self.tested.case("by hand")
 
     def formats(self):
         """A netlist of nand gates by .bench, and by BLIF as it is and mapped:
@@ -159,6 +201,7 @@ class Designs:
 def work(tested, bridges, library):
     """All of them."""
     cases = Designs(tested, bridges, library)
+    cases.delays()
     cases.registers()
     cases.formats()
     cases.examples()
