@@ -140,9 +140,8 @@ def numbers_in(least: int, free: int):
 
 
 def products_of(table: Tuple[int, ...], every: bool) -> Tuple[Product, ...]:
-    """Products whose sum is the function:
-
-    all prime ones, so that the sum has no hazard of its own, or few of them, chosen greedily.
+    """Products whose sum is the function: all prime ones, so that the sum has no hazard of its own,
+    or few of them, chosen greedily.
     """
     primes = prime_products(table)
     if every:

@@ -1,6 +1,5 @@
-"""Where the delays of gates come from:
-
-an SDF file, a table of kinds of cells, or nowhere, which means the default of `tdelay`.
+"""Where the delays of gates come from: an SDF file, a table of kinds of cells, or nowhere, which
+means the default of `tdelay`.
 """
 
 from dataclasses import dataclass
@@ -41,10 +40,8 @@ class Output(NamedTuple):
 
 @dataclass(frozen=True)
 class Timing:
-    """The delays of an output:
-
-    of the gate that computes it, and what each pin takes beside that until the output rises or
-    falls.
+    """The delays of an output: of the gate that computes it, and what each pin takes beside that
+    until the output rises or falls.
     """
 
     gate: Delay

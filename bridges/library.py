@@ -1,6 +1,5 @@
-"""What cells compute and which of them store:
-
-yosys' own gates, and cells of a Liberty library, which are modules of these.
+"""What cells compute and which of them store: yosys' own gates, and cells of a Liberty library,
+which are modules of these.
 """
 
 import re
@@ -35,6 +34,7 @@ STORES = re.compile(
 )
 MOST_PINS = 12
 STATE = Function(("q",), (0, 1))
+ONE_STATE = "take a flip-flop or a latch with one state, and an output that is this state"
 
 
 class Library:
@@ -94,11 +94,7 @@ class Library:
         for port in self.module(kind).outputs:
             if self.library_function(kind, port.name) == STATE:
                 return port.name
-        raise Refusal(
-            "NoState",
-            f"no output of {kind} is its state",
-            "take a flip-flop or a latch that has one",
-        )
+        raise Refusal("NoState", f"no output of {kind} is its state", ONE_STATE)
 
     def drivers(self, kind: str) -> Dict[Bit, Tuple[Cell, str]]:
         """The inner gate that drives each net of a library cell."""
@@ -109,9 +105,13 @@ class Library:
         }
 
     def library_function(self, kind: str, output: str) -> Function:
+        """The function of a library cell's output, of its pins, or of its state."""
         module, drivers = self.module(kind), self.drivers(kind)
         if self.stores(kind):
-            pins = {bit: "q" for bit, (cell, _) in drivers.items() if self.stores(cell.kind)}
+            states = [bit for bit, (cell, _) in drivers.items() if self.stores(cell.kind)]
+            if len(states) > 1:
+                raise Refusal("NoState", f"{kind} has {len(states)} states", ONE_STATE)
+            pins = {states[0]: STATE.pins[0]}
         else:
             pins = {port.bits[0]: port.name for port in module.inputs}
         order = tuple(dict.fromkeys(pins.values()))
@@ -129,6 +129,8 @@ class Library:
             if bit in pins:
                 return levels[pins[bit]]
             inner = drivers.get(bit, (None,))[0]
+            if inner is None and self.stores(kind):
+                raise Refusal("NoState", f"{output} of {kind} isn't its state alone", ONE_STATE)
             if inner is None or inner.kind not in GATES:
                 raise Refusal(
                     "UnknownCell",
@@ -141,9 +143,8 @@ class Library:
         return Function.of(order, lambda *levels: level(bit, dict(zip(order, levels))))
 
     def when_pins(self, cell: Cell) -> Set[Pin]:
-        """The inputs of a storing cell that say when it takes its level:
-
-        clocks, and enables of latches.
+        """The inputs of a storing cell that say when it takes its level: clocks, and enables of
+        latches.
         """
         if cell.kind.startswith("$"):
             return {when_pin(cell)} & set(cell.inputs)

@@ -27,9 +27,8 @@ Bounds = Optional[Tuple[int, int]]
 
 
 def spelled(name: str) -> str:
-    """A name as Verilog writes it:
-
-    escaped, with a space after it, where it has to be (IEEE 1364-2005, clause 3.7).
+    """A name as Verilog writes it: escaped, with a space after it, where it has to be (IEEE
+    1364-2005, clause 3.7).
     """
     plain = re.fullmatch(r"[A-Za-z_][A-Za-z0-9_$]*", name, re.ASCII) and name not in RESERVED
     return name if plain else f"\\{name} "

@@ -1,6 +1,5 @@
-"""What the bridges say in place of an answer:
-
-a refusal has a name, what is wrong, and what to do about it.
+"""What the bridges say in place of an answer: a refusal has a name, what is wrong, and what to do
+about it.
 """
 
 import sys

@@ -66,9 +66,8 @@ class Module:
 
 
 def bare(name: str) -> str:
-    """A name as it was given:
-
-    yosys leaves a backslash before one that begins with a digit, `$` or a backslash.
+    """A name as it was given: yosys leaves a backslash before one that begins with a digit, `$` or
+    a backslash.
     """
     return name[1:] if name.startswith("\\") else name
 

@@ -30,7 +30,7 @@ from bridging.made import paths, tree, web
 
 BRIDGES = os.path.join(check.TOP, "bridges")
 LIBRARY = os.path.join(BRIDGES, "tiny.lib")
-CASES = 130
+CASES = 140
 PAIRS = 40
 PLANTS = 30
 # What a gate is exchanged for. (An or of products that exclude each other may be an xor as well.)
@@ -166,9 +166,8 @@ def level_of(cell, pin, known):
 
 
 def as_one_gate_each(tested, made, sdf):
-    """A case:
-
-    in steps of 1 fs the gates change outputs last when assignments do, one for each cell.
+    """A case: in steps of 1 fs the gates change outputs last when assignments do, one for each
+    cell.
     """
     text = gates_of(tested, "fine.v", "--sdf", "each.sdf", "--pins", "worst", "--step", "1fs")
     if text is None:
@@ -378,9 +377,8 @@ def evened(kind, rise, fall, rest):
 
 
 def plants(tested):
-    """Planted faults:
-
-    each has to be caught, by the proof, by the arcs that don't add up, or by a refusal.
+    """Planted faults: each has to be caught, by the proof, by the arcs that don't add up, or by a
+    refusal.
     """
     planted = 0
     while planted < PLANTS:

@@ -54,9 +54,8 @@ def depends(kind, pin, known):
 
 
 class Sdf:
-    """The delays of an SDF file of OpenSTA in steps:
-
-    of arcs by instance, pins and the output's edge (1 where it rises), and of wires by their end.
+    """The delays of an SDF file of OpenSTA in steps: of arcs by instance, pins and the output's
+    edge (1 where it rises), and of wires by their end.
     """
 
     def __init__(self, text, step):

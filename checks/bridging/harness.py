@@ -59,9 +59,8 @@ def run(words, folder=None, seconds=60, **how):
 
 
 class Check:
-    """A check at work:
-
-    the program, a source of random choices, a folder of its own, and what was counted so far.
+    """A check at work: the program, a source of random choices, a folder of its own, and what was
+    counted so far.
     """
 
     def __init__(self, program, seed, cases, folder):

@@ -1,6 +1,5 @@
-"""Netlists of library cells that are made up:
-
-random ones, and trees, in which each net is read once.
+"""Netlists of library cells that are made up: random ones, and trees, in which each net is read
+once.
 """
 
 from dataclasses import dataclass, field

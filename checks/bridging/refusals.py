@@ -21,6 +21,9 @@ STRANGE = """library (strange) { time_unit : "1ns"; capacitive_load_unit (1, pf)
   cell (DFFN) { ff (IQ, IQN) { next_state : "D"; clocked_on : "CK"; }
     pin (D) { direction : input; } pin (CK) { direction : input; }
     pin (QN) { direction : output; function : "IQN"; } }
+  cell (GATE) { latch (IQ, IQN) { data_in : "E"; enable : "!CK"; }
+    pin (E) { direction : input; } pin (CK) { direction : input; }
+    pin (GCK) { direction : output; function : "IQ & CK"; } }
   cell (DARK) { pin (A) { direction : input; } pin (Y) { direction : output; } } }
 """
 STRANGE_SDF = """(DELAYFILE (SDFVERSION "3.0") (TIMESCALE 1ns)
@@ -128,6 +131,12 @@ class Refusals:
         )
         self.netlist(
             "input a, c; output y; DFFN g (.D(a), .CK(c), .QN(y));",
+            "NoState",
+            ports="a, c, y",
+            library="strange.lib",
+        )
+        self.netlist(
+            "input a, c; output y; GATE g (.E(a), .CK(c), .GCK(y));",
             "NoState",
             ports="a, c, y",
             library="strange.lib",
