@@ -7,7 +7,7 @@ refuse() {
     exit 1
 }
 
-# usage COUNT WORD..: shows the comment at the head of the script where fewer than COUNT words are given.
+# usage COUNT WORD..: shows the comment at the head of the script where there are fewer words.
 usage() {
     if [ $# -le "$1" ] || [ "$2" = --help ] || [ "$2" = -h ]; then
         sed -n '2,/^[^#]/s/^# \{0,1\}//p' "$0" | grep -v shellcheck >&2
@@ -20,21 +20,24 @@ fresh() {
     made=$1
     shift
     for file in "$@"; do
-        [ "$file" != "$made" ] || refuse SameFile "$made would be written over itself" "take another OUT"
+        [ "$file" != "$made" ] || refuse SameFile "$made is an input too" "take another OUT"
     done
     rm -f "$made"
 }
 
 # need PROGRAM PACKAGE: refuses where a program isn't installed.
 need() {
-    command -v "$1" > /dev/null || refuse NoTool "$1 isn't installed" "install it, as by \`apt-get install $2\`"
+    command -v "$1" > /dev/null ||
+        refuse NoTool "$1 isn't installed" "install it, as by \`apt-get install $2\`"
 }
 
-# logged LOG REMEDY COMMAND..: runs a tool with what it says in a file. Where it fails, the end of that is told.
+# logged LOG REMEDY COMMAND..: runs a tool with what it says in a file, of which the end is shown
+# where it fails.
 logged() {
     log=$1 remedy=$2
     shift 2
-    "$@" > "$log" 2>&1 || refuse ToolFailed "$1: $(grep -v '^Warning' "$log" | tail -n 3)" "$remedy (all of it: $log)"
+    "$@" > "$log" 2>&1 ||
+        refuse ToolFailed "$1: $(grep -v '^Warning' "$log" | tail -n 3)" "$remedy (see $log)"
 }
 
 # libraries COMMAND FILE..: a command of yosys or OpenSTA for each Liberty file.

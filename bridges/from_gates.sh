@@ -33,7 +33,7 @@ fresh "$out.v" $design
 map="dffunmap; abc -g AND,NAND,OR,NOR,XOR,XNOR; flatten; opt_clean -purge"
 case $design,$keep in
 *.blif,1) steps="read_blif $design; hierarchy -check -top $top; flatten; opt_clean" ;;
-*.blif,) steps="read_blif $design; hierarchy -check -top $top; flatten; techmap; opt; simplemap; $map" ;;
+*.blif,) steps="read_blif $design; hierarchy -check -top $top; flatten; techmap; opt; $map" ;;
 *,1) refuse BadWord "--keep is about BLIF" "leave it out" ;;
 *) steps="read_verilog -sv $design; synth -top $top; $map" ;;
 esac

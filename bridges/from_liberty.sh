@@ -1,6 +1,6 @@
 #!/bin/sh
-# from_liberty.sh MAPPED.v TOP LIBERTY OUT [--clock PORT] [--slew T] [--load C] [--sdc FILE] [--sdf FILE]
-#     [options of primitives.py]
+# from_liberty.sh MAPPED.v TOP LIBERTY OUT [--clock PORT] [--slew T] [--load C] [--sdc FILE]
+#     [--sdf FILE] [options of primitives.py]
 # Writes a netlist of library cells as gate primitives: OUT.v, and OUT.shell.v, which has the
 # flip-flops around them.
 #
@@ -62,7 +62,8 @@ if [ -z "$sdf" ]; then
     } > "$out.tcl"
     remedy="mend the constraints or the library"
     logged "$out.sta.log" "$remedy" sta -no_splash -exit "$out.tcl"
-    ! grep '^Error' "$out.sta.log" > "$out.error" || refuse ToolFailed "sta: $(head -n 3 "$out.error")" "$remedy"
+    ! grep '^Error' "$out.sta.log" > "$out.error" ||
+        refuse ToolFailed "sta: $(head -n 3 "$out.error")" "$remedy"
     rm -f "$out.error"
 fi
 python3 "$here/primitives.py" "$out.json" "$top" --sdf "$sdf" $shell "$@" > "$out.part" || {

@@ -168,7 +168,7 @@ class Reader:
         self.found.wires[end] = Wire(max(known.rise, rise or ZERO), max(known.fall, fall or ZERO))
 
     def name(self, given, item: Tree) -> str:
-        """A name without what escapes it; of a pin with an edge, as (posedge CK), that of the pin."""
+        """A name without what escapes it; of a pin with an edge, as (posedge CK), the pin's."""
         if isinstance(given, Tree) and len(given) == 2:
             given = given[1]
         if not isinstance(given, str):

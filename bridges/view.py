@@ -80,8 +80,9 @@ def view(dump: Dump, path: List[str], file: str):
 
 
 def zoom_for(last: int) -> int:
-    """How far to zoom out so that all changes are in sight: at 0, 200 pixels of the window's 900 are
-    one step, at 1 they are two, at 2 four.
+    """How far to zoom out so that all changes are in sight.
+
+    At 0, 200 of the window's some 900 pixels are one step, at 1 they are two, at 2 four.
     """
     return math.ceil(math.log2((last + 2) / 4)) if last > 2 else 0
 

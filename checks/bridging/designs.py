@@ -132,7 +132,7 @@ class Designs:
         self.tested.case("by hand")
 
     def formats(self):
-        """A netlist of nand gates by .bench, and by BLIF as it is and mapped: the same worst delay."""
+        """Six nand gates by .bench, and by BLIF as it is and mapped: the same worst delay."""
         wanted = self.exact(os.path.join(TOP, "examples", "c17.v"))
         self.write("c17.bench", C17)
         self.write("bench.v", self.script("bench.py", "c17.bench").out)

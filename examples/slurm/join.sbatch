@@ -7,7 +7,9 @@
 # between which figures the worst delay lies, when each part has come to some.
 rm -f whole.cert
 total=$(wc -l < parts.txt)
-lacking=$(for part in $(seq "$total"); do [ -f "part-$part.cert" ] || echo "$part"; done | paste -sd' ')
+lacking=$(for part in $(seq "$total"); do
+    [ -f "part-$part.cert" ] || echo "$part"
+done | paste -sd' ')
 if [ -n "$lacking" ]; then
     echo "parts without a certificate: $lacking"
     awk '$1 == "exact" { low = $2; high = $2 } $1 == "between" { low = $2; high = $3 }

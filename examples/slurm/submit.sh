@@ -1,8 +1,8 @@
 #!/bin/sh
 # submit.sh NETLIST PARTS [OPTION VALUE]..
-# Searches a netlist as a job array of Slurm: cuts the question into PARTS parts (parts.txt), submits
-# a task for each, and a job that joins their certificates into whole.cert when all have ended
-# (join.log). The options are those of `worst`; --cert and --vcd aren't needed.
+# Searches a netlist as a job array of Slurm: cuts the question into PARTS parts (parts.txt),
+# submits a task for each, and a job that joins their certificates into whole.cert when all have
+# ended (join.log). The options are those of `worst`; --cert and --vcd aren't needed.
 #
 # Run it in a folder that all nodes see. Run again with the same words, it submits those parts
 # alone that have no certificate; give a greater BUDGET where some were cut short. TDELAY is the
