@@ -1,0 +1,45 @@
+#!/bin/sh
+# from_gates.sh DESIGN TOP OUT [--keep] [options of primitives.py]
+# Writes a design as gate primitives without a library: OUT.v, and OUT.shell.v, which has the
+# flip-flops around them. Each gate takes tdelay's default delay, or what --delays says of its kind.
+#
+# DESIGN is RTL, which yosys and ABC synthesise onto gates of one and two inputs, or a netlist of
+# BLIF (a name that ends in .blif), which is mapped in the same way; with --keep each `.names`
+# of it stays a gate as it is, and has to be a primitive.
+# shellcheck disable=SC2086 # words that are several files
+set -eu
+script=from_gates.sh
+here=$(dirname "$0")
+# shellcheck source=bridges/common.sh
+. "$here/common.sh"
+usage 3 "$@"
+design=$1 top=$2 out=$3
+shift 3
+keep="" shell="--shell $out.shell.v" rest=$#
+while [ "$rest" -gt 0 ]; do
+    word=$1
+    shift
+    rest=$((rest - 1))
+    case $word in
+    --keep) keep=1 ;;
+    *)
+        [ "$word" = --outputs ] && shell=""
+        set -- "$@" "$word"
+        ;;
+    esac
+done
+need yosys yosys
+fresh "$out.v" $design
+map="dffunmap; abc -g AND,NAND,OR,NOR,XOR,XNOR; flatten; opt_clean -purge"
+case $design,$keep in
+*.blif,1) steps="read_blif $design; hierarchy -check -top $top; flatten; opt_clean" ;;
+*.blif,) steps="read_blif $design; hierarchy -check -top $top; flatten; techmap; opt; $map" ;;
+*,1) refuse BadWord "--keep is about BLIF" "leave it out" ;;
+*) steps="read_verilog -sv $design; synth -top $top; $map" ;;
+esac
+logged "$out.yosys.log" "mend the source" yosys -p "$steps; write_json $out.json"
+python3 "$here/primitives.py" "$out.json" "$top" $shell "$@" > "$out.part" || {
+    rm -f "$out.part"
+    exit 1
+}
+mv "$out.part" "$out.v"

@@ -1,0 +1,205 @@
+"""RTL, .bench and BLIF on the way to gates, and what is kept in examples/from_rtl/."""
+
+import os
+import re
+import resource
+
+from .harness import TOP, run
+
+COUNTER = """module t (input clk, input rst_n, input up, output reg [3:0] q);
+  always @(posedge clk or negedge rst_n) if (!rst_n) q <= 0; else q <= up ? q + 1 : q - 1;
+endmodule
+"""
+PIPELINE = """module t (input clk, input rst, input en, input [2:0] a, input [2:0] b,
+    output reg [5:0] p);
+  reg [2:0] ra, rb;
+  always @(posedge clk) if (rst) begin ra <= 0; rb <= 0; p <= 0; end
+    else if (en) begin ra <= a; rb <= b; p <= ra * rb; end
+endmodule
+"""
+MULTIPLIER = (
+    "module t (input [31:0] a, input [31:0] b, output [63:0] p); assign p = a * b; endmodule\n"
+)
+C17 = """# c17
+INPUT(N1)
+INPUT(N2)
+INPUT(N3)
+INPUT(N6)
+INPUT(N7)
+OUTPUT(N22)
+OUTPUT(N23)
+N10 = NAND(N1, N3)
+N11 = NAND(N3, N6)
+N16 = NAND(N2, N11)
+N19 = NAND(N11, N7)
+N22 = NAND(N10, N16)
+N23 = NAND(N16, N19)
+"""
+# Two cells, and delays of every kind that is read: corners, conditions, edges, a wire, comments.
+BY_HAND = """module t (a, b, y);
+input a, b; output y; wire n;
+INV \\top/g1 (.A(a), .Y(n));
+NAND2 g2 (.A(n), .B(b), .Y(y));
+endmodule
+"""
+BY_HAND_SDF = """(DELAYFILE (SDFVERSION "3.0") (DIVIDER .) // a comment (with a parenthesis
+ (TIMESCALE 10 ps) /* and ) another */
+ (CELL (CELLTYPE "INV") (INSTANCE top.g1) (DELAY (ABSOLUTE
+  (COND b == 1'b1 (IOPATH A Y (1.0:2.0:3.0) (1.1:2.1:3.1)))
+  (CONDELSE (IOPATH A Y (0.5:4.0:0.6))))))
+ (cell (celltype "NAND2") (instance g2)
+  (delay (absolute (iopath A Y (10) (20)) (IOPATH (posedge B) Y (10) (20)) (PORT B (0.3) (0.4))))
+  (TIMINGCHECK (WIDTH (posedge B) (1)))))
+"""
+# The gates of it, by the options.
+BY_HAND_GATES = {
+    ("--corner", "min"): "not #(10,11) (n, a)",
+    ("--corner", "typ"): "not #(40,40) (n, a)",
+    ("--corner", "max"): "not #(30,31) (n, a)",
+    ("--pins", "worst"): "nand #(104,203) (y, n, b)",
+    ("--pins", "each"): "nand #(99,199) (y, t1_, t2_)",
+    ("--pins", "each", "--step", "10fs"): "nand #(9999,19999) (y, t1_, t2_)",
+    ("--corner", "typ", "--pins", "each"): "buf #(4,5) (t2_, b)",
+}
+# The seconds of a processor that the multiplier may take from cells to gates.
+LONGEST = 10
+# With these the kept examples were made.
+VERSIONS = ("0.23", "2.0.17")
+KEPT = os.path.join(TOP, "examples", "from_rtl")
+
+
+class Designs:
+    """The cases, in the folder of the check."""
+
+    def __init__(self, tested, bridges, library):
+        self.tested, self.bridges, self.library = tested, bridges, library
+
+    def write(self, name, text):
+        with open(os.path.join(self.tested.folder, name), "w", encoding="utf-8") as file:
+            file.write(text)
+
+    def read(self, name):
+        with open(os.path.join(self.tested.folder, name), encoding="utf-8") as file:
+            return file.read()
+
+    def script(self, name, *words):
+        """Runs a script, which has to succeed."""
+        ended = run([os.path.join(self.bridges, name), *words], self.tested.folder)
+        if ended.status:
+            self.tested.fault(f"{name} {' '.join(words)}: {ended.status} {ended.out} {ended.err}")
+        return ended
+
+    def exact(self, name, *words):
+        """The worst delay of a netlist."""
+        ended = self.tested.run("worst", name, "--strategy", "lead", *words)
+        found = re.search(r"^exact (\d+)$", ended.out, re.M)
+        return int(found[1]) if found else None
+
+    def registers(self):
+        """RTL with registers is what its gates and flip-flops do, with a library and without."""
+        for text, states in ((COUNTER, 4), (PIPELINE, 12)):
+            self.write("rtl.v", text)
+            self.script("synth.sh", "rtl.v", "t", self.library, "mapped")
+            self.script(
+                "from_liberty.sh", "mapped.mapped.v", "t", self.library, "cells", "--clock", "clk"
+            )
+            self.script("from_gates.sh", "rtl.v", "t", "unit")
+            for liberty, name in ((self.library, "cells"), ("-", "unit")):
+                self.script("equivalent.sh", "rtl.v", "t", liberty, name)
+                gates = self.read(f"{name}.v")
+                if len(re.findall(r"^input \\.*\.q ;$", gates, re.M)) != states or re.search(
+                    r"^input clk;$", gates, re.M
+                ):
+                    self.tested.fault(f"{states} states and no clock, of\n{gates}")
+                if self.exact(f"{name}.v") is None:
+                    self.tested.fault(f"no exact figure of {name}.v")
+                self.tested.case("registers")
+
+    def delays(self):
+        """Delays that were worked out by hand."""
+        self.write("hand.v", BY_HAND)
+        self.write("hand.sdf", BY_HAND_SDF)
+        base = ("from_liberty.sh", "hand.v", "t", self.library, "by_hand", "--sdf", "hand.sdf")
+        for words, gate in BY_HAND_GATES.items():
+            self.script(*base, *words)
+            if f"{gate};\n" not in self.read("by_hand.v"):
+                self.tested.fault(f"{words}: no {gate} in\n{self.read('by_hand.v')}")
+            self.tested.case("by hand")
+        self.write("table.txt", "INV 7 9 # a comment\n\nNAND2 11 13\n")
+        told = self.script("primitives.py", "by_hand.json", "t", "--delays", "table.txt").out
+        if not all(f"\n{it};\n" in told for it in ("not #(7,9) (n, a)", "nand #(11,13) (y, n, b)")):
+            self.tested.fault(f"a table of delays:\n{told}")
+        self.tested.case("by hand")
+
+    def formats(self):
+        """Six nand gates by .bench, and by BLIF as it is and mapped: the same worst delay."""
+        wanted = self.exact(os.path.join(TOP, "examples", "c17.v"))
+        self.write("c17.bench", C17)
+        self.write("bench.v", self.script("bench.py", "c17.bench").out)
+        gates = re.findall(r"(N\d+) = NAND\((N\d+), (N\d+)\)", C17)
+        names = "".join(f".names {a} {b} {y}\n0- 1\n-0 1\n" for y, a, b in gates)
+        self.write(
+            "c17.blif", f".model c17\n.inputs N1 N2 N3 N6 N7\n.outputs N22 N23\n{names}.end\n"
+        )
+        self.script("from_gates.sh", "c17.blif", "c17", "kept", "--keep")
+        self.script("from_gates.sh", "c17.blif", "c17", "mapped")
+        for name in ("bench", "kept"):
+            found = self.exact(f"{name}.v")
+            if found != wanted:
+                self.tested.fault(f"{found} in place of {wanted}, of\n{self.read(f'{name}.v')}")
+            self.tested.case("format")
+        self.script("equivalent.sh", "--cec", "kept.v", "c17", "-", "mapped")
+        self.script("equivalent.sh", "--cec", "bench.v", "c17", "-", "kept")
+        self.tested.case("format")
+
+    def multiplier(self):
+        """A multiplier of 32 by 32 bits is written in time."""
+        self.write("rtl.v", MULTIPLIER)
+        self.script("synth.sh", "rtl.v", "t", self.library, "wide")
+        before = resource.getrusage(resource.RUSAGE_CHILDREN).ru_utime
+        ended = self.script("from_liberty.sh", "wide.mapped.v", "t", self.library, "wide")
+        took = resource.getrusage(resource.RUSAGE_CHILDREN).ru_utime - before
+        if took > LONGEST or not re.search(
+            r"primitives.py: [\d,]+ gates, [\d.]+ % of the 200,000", ended.err
+        ):
+            self.tested.fault(f"a multiplier of 32 by 32 bits took {took:.1f} s: {ended.err}")
+        self.tested.case("multiplier")
+
+    def examples(self):
+        """The examples come out as they are kept, where yosys and OpenSTA are those with which they
+        were made.
+        """
+        out = os.path.join(self.tested.folder, "examples")
+        ended = run(
+            [os.path.join(KEPT, "run.sh"), out],
+            self.tested.folder,
+            env={**os.environ, "TDELAY": self.tested.program},
+        )
+        exact = re.findall(r"^(\w+): exact (\d+) ps, accepted (\d+)$", ended.out, re.M)
+        if ended.status or len(exact) != 5 or any(time != accepted for _, time, accepted in exact):
+            self.tested.fault(f"examples/from_rtl/run.sh: {ended.status} {ended.out} {ended.err}")
+        versions = run(["yosys", "-V"]).out.split()[1:2] + run(["sta", "-version"]).out.split()[:1]
+        if tuple(versions) != VERSIONS:
+            print(f"skipped: the kept examples, which {VERSIONS} of yosys and OpenSTA made")
+            print(f"  here are {' and '.join(versions)}")
+            return
+        for name in sorted(os.listdir(KEPT)):
+            made = name.replace(".gates.v", ".v")
+            if not name.endswith((".gates.v", ".svg")):
+                continue
+            with open(os.path.join(KEPT, name), encoding="utf-8") as kept, open(
+                os.path.join(out, made), encoding="utf-8"
+            ) as new:
+                if kept.read() != new.read():
+                    self.tested.fault(f"examples/from_rtl/{name} isn't what run.sh makes")
+            self.tested.case("example")
+
+
+def work(tested, bridges, library):
+    """All of them."""
+    cases = Designs(tested, bridges, library)
+    cases.delays()
+    cases.registers()
+    cases.formats()
+    cases.examples()
+    cases.multiplier()

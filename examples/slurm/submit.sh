@@ -1,0 +1,65 @@
+#!/bin/sh
+# submit.sh NETLIST PARTS [OPTION VALUE]..
+# Searches a netlist as a job array of Slurm: cuts the question into PARTS parts (parts.txt),
+# submits a task for each, and a job that joins their certificates into whole.cert when all have
+# ended (join.log). The options are those of `worst`; --cert and --vcd aren't needed.
+#
+# Run it in a folder that all nodes see. Run again with the same words, it submits those parts
+# alone that have no certificate; give a greater BUDGET where some were cut short. TDELAY is the
+# program, ./tdelay where it isn't set, and MOST the most tasks at a time. A partition, an account
+# and such go by Slurm's own variables, as SBATCH_PARTITION.
+set -eu
+[ $# -ge 2 ] || { sed -n '2,/^[^#]/s/^# \{0,1\}//p' "$0" >&2; exit 2; }
+here=$(cd "$(dirname "$0")" && pwd)
+words="$*" NETLIST=$1 count=$2
+shift 2
+TDELAY=${TDELAY:-./tdelay} BUDGET=${BUDGET:-} most=${MOST:-64}
+
+# What is asked, how it is searched, and what `join` and `check` need of both.
+ASKED="" HOW="" PINS="" DEFAULTS=""
+while [ $# -gt 0 ]; do
+    [ $# -ge 2 ] || { echo "submit.sh: $1 has no value" >&2; exit 2; }
+    case $1 in
+    --first | --second) ASKED="$ASKED $1 $2" PINS="$PINS $1 $2" ;;
+    --hold | --flips | --at) ASKED="$ASKED $1 $2" ;;
+    --default-rise | --default-fall) ASKED="$ASKED $1 $2" DEFAULTS="$DEFAULTS $1 $2" ;;
+    --strategy) ASKED="$ASKED $1 $2" HOW="$HOW $1 $2" ;;
+    --budget) BUDGET=$2 ;;
+    *) HOW="$HOW $1 $2" ;;
+    esac
+    shift 2
+done
+export NETLIST TDELAY HOW PINS DEFAULTS BUDGET
+
+if [ ! -f parts.txt ]; then
+    # shellcheck disable=SC2086 # words of the command line
+    "$TDELAY" parts "$NETLIST" --parts "$count" $ASKED > parts.part
+    echo "$words" > question.txt
+    mv parts.part parts.txt
+elif [ "$words" != "$(cat question.txt)" ]; then
+    echo "submit.sh: parts.txt here is of another question: $(cat question.txt)" >&2
+    echo "  what to do: give the same words, or work in another folder" >&2
+    exit 1
+fi
+
+# An array's numbers are below MaxArraySize, so more parts make more arrays.
+block=$(scontrol show config | sed -n 's/^MaxArraySize *= *//p')
+block=$((${block:-1001} - 1))
+total=$(wc -l < parts.txt)
+arrays="" OFFSET=0
+while [ "$OFFSET" -lt "$total" ]; do
+    export OFFSET
+    left=$(for place in $(seq "$block"); do
+        part=$((OFFSET + place))
+        [ "$part" -gt "$total" ] || [ -f "part-$part.cert" ] || echo "$place"
+    done | paste -sd,)
+    if [ -n "$left" ]; then
+        log="part-%a.log"
+        [ "$OFFSET" -eq 0 ] || log="part-$OFFSET+%a.log"
+        job=$(sbatch --parsable --array="$left%$most" --output="$log" "$here/part.sbatch")
+        arrays=$arrays:${job%%;*}
+    fi
+    OFFSET=$((OFFSET + block))
+done
+[ -n "$arrays" ] || echo "submit.sh: every part has a certificate" >&2
+sbatch ${arrays:+--dependency=afterany$arrays} "$here/join.sbatch"
