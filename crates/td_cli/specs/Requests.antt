@@ -41,6 +41,9 @@ use Rattle.td_files.specs.Files.{FileStep, FileText}
 use Rattle.td_delivery.specs.Disks.{Disk, Reads, IsUnreadable, HoldsOnFile}
 use Rattle.td_report.specs.Ends.{Product, IsReportOnly, Streams, Tells, Ends, EndsBehind}
 use Rattle.td_cli.specs.Progress.{TellsSearch}
+use Rattle.td_delivery.specs.Beside.{IsBeside, certificate_files}
+use Rattle.td_delivery.specs.Overwriting.{KeepsFiles, Overwrites}
+use Rattle.td_delivery.specs.Shown.{TellsText, IsOutOfMemory}
 
 -- ---- the commands, on bytes that were read
 
