@@ -22,15 +22,15 @@ import sys
 from collections import namedtuple
 from itertools import product
 
-from bridging import harness as check
 from bridging import designs, icarus, refusals
+from bridging import harness as check
 from bridging.cells import CELLS, STEPS, Sdf, depends, unescaped, whole
-from bridging.harness import run
 from bridging.made import paths, tree, web
+from bridging.tools import LIBRARY, read, script, write, yosys
 
-BRIDGES = os.path.join(check.TOP, "bridges")
-LIBRARY = os.path.join(BRIDGES, "tiny.lib")
 CASES = 140
+# So many random netlists come before all else.
+FIRST = 2
 PAIRS = 40
 PLANTS = 30
 # What a gate is exchanged for. (An or of products that exclude each other may be an xor as well.)
@@ -51,44 +51,24 @@ Written = namedtuple("Written", "gates sdf pins step")
 
 def converted(tested, made, step):
     """A netlist of cells, written as gates with both `--pins`, or None where that failed."""
-    with open(os.path.join(tested.folder, "t.v"), "w", encoding="utf-8") as file:
-        file.write(made.text())
-    clock = ["--clock", "clk"] if made.registers else []
-    ended = run(
-        [
-            os.path.join(BRIDGES, "from_liberty.sh"),
-            "t.v",
-            "t",
-            LIBRARY,
-            "each",
-            "--step",
-            step,
-            *clock,
-        ],
-        tested.folder,
-    )
+    write(tested.folder, "t.v", made.text())
+    words = ["--step", step] + (["--clock", "clk"] if made.registers else [])
+    ended = script(tested.folder, "from_liberty.sh", "t.v", "t", LIBRARY, "each", *words)
     if ended.status:
         tested.fault(f"from_liberty.sh: {ended.err}\n{made.text()}")
         return None
-    with open(os.path.join(tested.folder, "each.sdf"), encoding="utf-8") as file:
-        return file.read()
+    return read(tested.folder, "each.sdf")
 
 
 def gates_of(tested, name, *words):
     """What primitives.py writes of the netlist that was read last, also as a file, or None where it
     refuses.
     """
-    ended = run([os.path.join(BRIDGES, "primitives.py"), "each.json", "t", *words], tested.folder)
+    ended = script(tested.folder, "primitives.py", "each.json", "t", *words)
     if ended.status:
         tested.fault(f"primitives.py {' '.join(words)}: {ended.err}")
         return None
-    return saved(tested, name, ended.out)
-
-
-def saved(tested, name, text):
-    with open(os.path.join(tested.folder, name), "w", encoding="utf-8") as file:
-        file.write(text)
-    return text
+    return write(tested.folder, name, ended.out)
 
 
 def equivalent(tested, *names):
@@ -99,7 +79,7 @@ def equivalent(tested, *names):
         steps += "design -copy-from gold -as gold gold; design -copy-from gate -as gate gate; "
         steps += "miter -equiv -flatten -make_assert gold gate m; hierarchy -top m; "
         steps += "sat -verify -prove-asserts -set-def-inputs m; design -reset; "
-    return run(["yosys", "-q", "-p", steps], tested.folder)
+    return yosys(tested.folder, steps)
 
 
 def stash(name):
@@ -198,34 +178,30 @@ def some_outputs(tested, text, step):
     tested.case("some outputs")
 
 
-def random_netlists(tested):
-    """Conversions of random netlists, until there are enough cases."""
-    while tested.goes_on():
-        made = web(tested.random, with_registers=tested.random.random() < 0.3)
-        step = tested.random.choice(sorted(STEPS))
-        sdf = converted(tested, made, step)
-        if sdf is None:
-            continue
-        tested.has_kind(*(f"cell {cell.kind}" for cell in made.cells + made.registers))
-        texts = {"each.v": gates_of(tested, "each.v", "--sdf", "each.sdf", "--step", step)}
-        texts["worst.v"] = gates_of(
-            tested, "worst.v", "--sdf", "each.sdf", "--step", step, "--pins", "worst"
-        )
-        if made.registers:
-            proved = run(
-                [os.path.join(BRIDGES, "equivalent.sh"), "t.v", "t", LIBRARY, "each"], tested.folder
-            )
-        else:
-            proved = equivalent(tested, *texts)
-        if proved.status:
-            tested.fault(f"not equivalent: {(proved.err or proved.out)[-500:]}\n{made.text()}")
-        tested.case("proved")
-        for name, text in texts.items():
-            as_simulated(tested, name, text)
-        some_outputs(tested, texts["each.v"], step)
-        if not made.registers:
-            as_one_gate_each(tested, made, sdf)
-        trees(tested)
+def random_netlist(tested):
+    """Cases of a random netlist."""
+    made = web(tested.random, with_registers=tested.random.random() < 0.3)
+    step = tested.random.choice(sorted(STEPS))
+    sdf = converted(tested, made, step)
+    if sdf is None:
+        return
+    tested.has_kind(*(f"cell {cell.kind}" for cell in made.cells + made.registers))
+    base = ("--sdf", "each.sdf", "--step", step)
+    texts = {"each.v": gates_of(tested, "each.v", *base)}
+    texts["worst.v"] = gates_of(tested, "worst.v", *base, "--pins", "worst")
+    if made.registers:
+        proved = script(tested.folder, "equivalent.sh", "t.v", "t", LIBRARY, "each")
+    else:
+        proved = equivalent(tested, *texts)
+    if proved.status:
+        tested.fault(f"not equivalent: {(proved.err or proved.out)[-500:]}\n{made.text()}")
+    tested.case("proved")
+    for name, text in texts.items():
+        as_simulated(tested, name, text)
+    some_outputs(tested, texts["each.v"], step)
+    if not made.registers:
+        as_one_gate_each(tested, made, sdf)
+    trees(tested)
 
 
 def with_wires(rng, made, sdf):
@@ -325,7 +301,7 @@ def grown(tested, pins):
         return None
     if pins == "each":
         text = with_wires(tested.random, made, text)
-        saved(tested, "each.sdf", text)
+        write(tested.folder, "each.sdf", text)
     gates = gates_of(tested, "tree.v", "--sdf", "each.sdf", "--step", step, "--pins", pins)
     return gates and (made, Sdf(text, step), Written(gates, text, pins, step))
 
@@ -394,7 +370,7 @@ def plants(tested):
             text = changed_gate(tested.random, written.gates, change)
             if text is None:
                 continue
-            saved(tested, "planted.v", text)
+            write(tested.folder, "planted.v", text)
             caught = (
                 equivalent(tested, "planted.v").status
                 if kind == "exchanged"
@@ -405,19 +381,9 @@ def plants(tested):
             planted += 1
             tested.case(f"plant {kind}")
         arc = tested.random.choice(re.findall(r"\(IOPATH [^\n]*\n", written.sdf))
-        saved(tested, "less.sdf", written.sdf.replace(arc, "\n", 1))
-        ended = run(
-            [
-                os.path.join(BRIDGES, "primitives.py"),
-                "each.json",
-                "t",
-                "--sdf",
-                "less.sdf",
-                "--step",
-                written.step,
-            ],
-            tested.folder,
-        )
+        write(tested.folder, "less.sdf", written.sdf.replace(arc, "\n", 1))
+        words = ("--sdf", "less.sdf", "--step", written.step)
+        ended = script(tested.folder, "primitives.py", "each.json", "t", *words)
         if ended.status != 1 or "NoDelay" not in ended.err:
             tested.fault(f"{arc} left out isn't caught: {ended.status} {ended.err}")
         planted += 1
@@ -425,10 +391,19 @@ def plants(tested):
 
 
 def work(tested):
-    refusals.work(tested, BRIDGES, LIBRARY)
-    designs.work(tested, BRIDGES, LIBRARY)
+    """A program that can't be right fails at once; then come some random netlists, so that few
+    cases have of each kind, then what stands in lists, and random netlists until the end.
+    """
+    if designs.exact(tested, os.path.join(check.TOP, "examples", "c17.v")) != 3:
+        tested.fault("the worst delay of examples/c17.v isn't 3")
+        return
+    for _ in range(FIRST):
+        random_netlist(tested)
+    refusals.work(tested)
+    designs.work(tested)
     plants(tested)
-    random_netlists(tested)
+    while tested.goes_on():
+        random_netlist(tested)
 
 
 def shares(tested, cut):

@@ -26,12 +26,13 @@ import sys
 import time
 
 from bridging import harness as check
+from bridging.designs import exact
 from bridging.harness import run
 
 NETLIST = os.path.join(check.TOP, "examples", "mult_8.v")
 SUBMIT = os.path.join(check.TOP, "examples", "slurm", "submit.sh")
 PAGE = os.path.join(check.TOP, "docs", "MANY-MACHINES.md")
-PARTS, CASES = 16, 100
+PARTS = 16
 # The daemons and the client commands stand here too.
 os.environ["PATH"] += ":/usr/sbin:/sbin"
 NEEDS = ("munged", "mungekey", "slurmctld", "slurmd", "sbatch", "squeue", "scontrol")
@@ -330,7 +331,10 @@ def kubernetes(tested):
 
 
 def work(tested):
-    """Both recipes, as far as they can be run here."""
+    """Both recipes, as far as they can be run here. A program that can't be right fails at once."""
+    if exact(tested, os.path.join(check.TOP, "examples", "c17.v")) != 3:
+        tested.fault("the worst delay of examples/c17.v isn't 3")
+        return
     kubernetes(tested)
     lacking = [name for name in NEEDS if not shutil.which(name)]
     if lacking:
@@ -353,4 +357,4 @@ if __name__ == "__main__":
     if not yaml_reader() and not all(map(shutil.which, NEEDS)):
         print("skipped: neither Slurm and munge (slurm-wlm, munge) nor PyYAML is there")
         sys.exit(check.SKIPPED)
-    sys.exit(check.main(work, __doc__, CASES, shares))
+    sys.exit(check.main(work, __doc__, shares=shares))

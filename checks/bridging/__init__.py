@@ -1,3 +1,7 @@
-"""What `bridges.py` has of its own: netlists of library cells that are made up (`made`), what the
-cells of bridges/tiny.lib do and what an SDF file says of them, written apart from bridges/
-(`cells`), runs of Icarus Verilog (`icarus`), and how a check runs things (`harness`)."""
+"""What `bridges.py` and `slurm.py` have of their own.
+
+Netlists of library cells that are made up (`made`), what the cells of bridges/tiny.lib do and what
+an SDF file says of them, written apart from bridges/ (`cells`), inputs that are refused
+(`refusals`), RTL and other formats (`designs`), runs of Icarus Verilog (`icarus`) and of other
+tools (`tools`), and how a check is called and ends (`harness`).
+"""

@@ -4,7 +4,8 @@ import os
 import re
 import resource
 
-from .harness import TOP, run
+from .harness import TOP
+from .tools import LIBRARY, read, script, tool, write
 
 COUNTER = """module t (input clk, input rst_n, input up, output reg [3:0] q);
   always @(posedge clk or negedge rst_n) if (!rst_n) q <= 0; else q <= up ? q + 1 : q - 1;
@@ -68,50 +69,49 @@ VERSIONS = ("0.23", "2.0.17")
 KEPT = os.path.join(TOP, "examples", "from_rtl")
 
 
+def exact(tested, netlist):
+    """The worst delay of a netlist, or None where the program says none."""
+    ended = tested.run("worst", netlist, "--strategy", "lead")
+    found = re.search(r"^exact (\d+)$", ended.out, re.M)
+    return int(found[1]) if found and not ended.status else None
+
+
 class Designs:
     """The cases, in the folder of the check."""
 
-    def __init__(self, tested, bridges, library):
-        self.tested, self.bridges, self.library = tested, bridges, library
+    def __init__(self, tested):
+        self.tested = tested
 
     def write(self, name, text):
-        with open(os.path.join(self.tested.folder, name), "w", encoding="utf-8") as file:
-            file.write(text)
+        write(self.tested.folder, name, text)
 
     def read(self, name):
-        with open(os.path.join(self.tested.folder, name), encoding="utf-8") as file:
-            return file.read()
+        return read(self.tested.folder, name)
 
     def script(self, name, *words):
         """Runs a script, which has to succeed."""
-        ended = run([os.path.join(self.bridges, name), *words], self.tested.folder)
+        ended = script(self.tested.folder, name, *words)
         if ended.status:
             self.tested.fault(f"{name} {' '.join(words)}: {ended.status} {ended.out} {ended.err}")
         return ended
-
-    def exact(self, name, *words):
-        """The worst delay of a netlist."""
-        ended = self.tested.run("worst", name, "--strategy", "lead", *words)
-        found = re.search(r"^exact (\d+)$", ended.out, re.M)
-        return int(found[1]) if found else None
 
     def registers(self):
         """RTL with registers is what its gates and flip-flops do, with a library and without."""
         for text, states in ((COUNTER, 4), (PIPELINE, 12)):
             self.write("rtl.v", text)
-            self.script("synth.sh", "rtl.v", "t", self.library, "mapped")
+            self.script("synth.sh", "rtl.v", "t", LIBRARY, "mapped")
             self.script(
-                "from_liberty.sh", "mapped.mapped.v", "t", self.library, "cells", "--clock", "clk"
+                "from_liberty.sh", "mapped.mapped.v", "t", LIBRARY, "cells", "--clock", "clk"
             )
             self.script("from_gates.sh", "rtl.v", "t", "unit")
-            for liberty, name in ((self.library, "cells"), ("-", "unit")):
+            for liberty, name in ((LIBRARY, "cells"), ("-", "unit")):
                 self.script("equivalent.sh", "rtl.v", "t", liberty, name)
                 gates = self.read(f"{name}.v")
                 if len(re.findall(r"^input \\.*\.q ;$", gates, re.M)) != states or re.search(
                     r"^input clk;$", gates, re.M
                 ):
                     self.tested.fault(f"{states} states and no clock, of\n{gates}")
-                if self.exact(f"{name}.v") is None:
+                if exact(self.tested, f"{name}.v") is None:
                     self.tested.fault(f"no exact figure of {name}.v")
                 self.tested.case("registers")
 
@@ -119,7 +119,7 @@ class Designs:
         """Delays that were worked out by hand."""
         self.write("hand.v", BY_HAND)
         self.write("hand.sdf", BY_HAND_SDF)
-        base = ("from_liberty.sh", "hand.v", "t", self.library, "by_hand", "--sdf", "hand.sdf")
+        base = ("from_liberty.sh", "hand.v", "t", LIBRARY, "by_hand", "--sdf", "hand.sdf")
         for words, gate in BY_HAND_GATES.items():
             self.script(*base, *words)
             if f"{gate};\n" not in self.read("by_hand.v"):
@@ -133,7 +133,7 @@ class Designs:
 
     def formats(self):
         """Six nand gates by .bench, and by BLIF as it is and mapped: the same worst delay."""
-        wanted = self.exact(os.path.join(TOP, "examples", "c17.v"))
+        wanted = exact(self.tested, os.path.join(TOP, "examples", "c17.v"))
         self.write("c17.bench", C17)
         self.write("bench.v", self.script("bench.py", "c17.bench").out)
         gates = re.findall(r"(N\d+) = NAND\((N\d+), (N\d+)\)", C17)
@@ -144,7 +144,7 @@ class Designs:
         self.script("from_gates.sh", "c17.blif", "c17", "kept", "--keep")
         self.script("from_gates.sh", "c17.blif", "c17", "mapped")
         for name in ("bench", "kept"):
-            found = self.exact(f"{name}.v")
+            found = exact(self.tested, f"{name}.v")
             if found != wanted:
                 self.tested.fault(f"{found} in place of {wanted}, of\n{self.read(f'{name}.v')}")
             self.tested.case("format")
@@ -155,9 +155,9 @@ class Designs:
     def multiplier(self):
         """A multiplier of 32 by 32 bits is written in time."""
         self.write("rtl.v", MULTIPLIER)
-        self.script("synth.sh", "rtl.v", "t", self.library, "wide")
+        self.script("synth.sh", "rtl.v", "t", LIBRARY, "wide")
         before = resource.getrusage(resource.RUSAGE_CHILDREN).ru_utime
-        ended = self.script("from_liberty.sh", "wide.mapped.v", "t", self.library, "wide")
+        ended = self.script("from_liberty.sh", "wide.mapped.v", "t", LIBRARY, "wide")
         took = resource.getrusage(resource.RUSAGE_CHILDREN).ru_utime - before
         if took > LONGEST or not re.search(
             r"primitives.py: [\d,]+ gates, [\d.]+ % of the 200,000", ended.err
@@ -170,15 +170,17 @@ class Designs:
         were made.
         """
         out = os.path.join(self.tested.folder, "examples")
-        ended = run(
-            [os.path.join(KEPT, "run.sh"), out],
-            self.tested.folder,
-            env={**os.environ, "TDELAY": self.tested.program},
-        )
-        exact = re.findall(r"^(\w+): exact (\d+) ps, accepted (\d+)$", ended.out, re.M)
-        if ended.status or len(exact) != 5 or any(time != accepted for _, time, accepted in exact):
+        environment = {**os.environ, "TDELAY": self.tested.program}
+        ended = tool([os.path.join(KEPT, "run.sh"), out], self.tested.folder, env=environment)
+        figures = re.findall(r"^(\w+): exact (\d+) ps, accepted (\d+)$", ended.out, re.M)
+        if (
+            ended.status
+            or len(figures) != 5
+            or any(time != accepted for _, time, accepted in figures)
+        ):
             self.tested.fault(f"examples/from_rtl/run.sh: {ended.status} {ended.out} {ended.err}")
-        versions = run(["yosys", "-V"]).out.split()[1:2] + run(["sta", "-version"]).out.split()[:1]
+        versions = tool(["yosys", "-V"], None).out.split()[1:2]
+        versions += tool(["sta", "-version"], None).out.split()[:1]
         if tuple(versions) != VERSIONS:
             print(f"skipped: the kept examples, which {VERSIONS} of yosys and OpenSTA made")
             print(f"  here are {' and '.join(versions)}")
@@ -195,9 +197,9 @@ class Designs:
             self.tested.case("example")
 
 
-def work(tested, bridges, library):
+def work(tested):
     """All of them."""
-    cases = Designs(tested, bridges, library)
+    cases = Designs(tested)
     cases.delays()
     cases.registers()
     cases.formats()

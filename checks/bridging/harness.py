@@ -31,7 +31,7 @@ class Hangs(Exception):
     """A run took too long."""
 
 
-def run(words, folder=None, seconds=60, **how):
+def run(words, folder=None, seconds=30, **how):
     """How a run in a folder ended, in texts.
 
     One that takes too long is ended with all that it started.

@@ -3,7 +3,7 @@
 import os
 import re
 
-from .harness import run
+from .tools import tool, write
 
 # The words by which Icarus Verilog is called.
 IVERILOG = os.environ.get("IVERILOG", "iverilog").split()
@@ -68,10 +68,9 @@ def last_changes(folder, text, pairs):
     """For each pair when each output bit of a module changes last, -1 where it never does."""
     module = Module(text)
     for name, lines in (("dut.v", text), ("bench.v", "\n".join(bench(module, pairs)) + "\n")):
-        with open(os.path.join(folder, name), "w", encoding="utf-8") as file:
-            file.write(lines)
-    made = run([*IVERILOG, "-g2005", "-s", "bench", "-o", "bench.vvp", "dut.v", "bench.v"], folder)
-    ran = run([*VVP, "bench.vvp"], folder) if not made.status else made
+        write(folder, name, lines)
+    made = tool([*IVERILOG, "-g2005", "-s", "bench", "-o", "bench.vvp", "dut.v", "bench.v"], folder)
+    ran = tool([*VVP, "bench.vvp"], folder) if not made.status else made
     found = [
         [int(word) for word in line.split()]
         for line in ran.out.splitlines()

@@ -1,10 +1,9 @@
 """Inputs that the scripts of bridges/ refuse, each by its name."""
 
 import json
-import os
 import re
 
-from .harness import run
+from .tools import LIBRARY, read, script, write, yosys
 
 BASE = """module t (a, b, y);
 input a, b; output y; wire n;
@@ -35,21 +34,20 @@ STRANGE_SDF = """(DELAYFILE (SDFVERSION "3.0") (TIMESCALE 1ns)
 class Refusals:
     """The cases, in a folder in which `base.json` and `base.sdf` are of the netlist above."""
 
-    def __init__(self, tested, bridges, library):
-        self.tested, self.bridges, self.library = tested, bridges, library
+    def __init__(self, tested):
+        self.tested = tested
         self.write("base_cells.v", BASE)
         self.write("strange.lib", STRANGE)
         self.write("strange.sdf", STRANGE_SDF)
-        ended = self.script("from_liberty.sh", "base_cells.v", "t", library, "base")
+        ended = self.script("from_liberty.sh", "base_cells.v", "t", LIBRARY, "base")
         if ended.status:
             tested.fault(f"from_liberty.sh: {ended.err}")
 
     def write(self, name, text):
-        with open(os.path.join(self.tested.folder, name), "w", encoding="utf-8") as file:
-            file.write(text)
+        write(self.tested.folder, name, text)
 
     def script(self, name, *words):
-        return run([os.path.join(self.bridges, name), *words], self.tested.folder)
+        return script(self.tested.folder, name, *words)
 
     def refused(self, name, script, *words):
         """A case: a script ends with status 1, and says the refusal's name and nothing else."""
@@ -62,23 +60,20 @@ class Refusals:
 
     def read(self, steps):
         """A netlist as yosys writes it after these steps."""
-        ended = run(["yosys", "-q", "-p", f"{steps}; write_json other.json"], self.tested.folder)
+        ended = yosys(self.tested.folder, f"{steps}; write_json other.json")
         if ended.status:
             self.tested.fault(f"yosys: {ended.err or ended.out}")
 
     def netlist(self, body, name, *words, ports="a, y", library=None):
         """A netlist of cells with these statements, and what the conversion refuses of it."""
         self.write("other.v", f"module t ({ports});\n{body}\nendmodule\n")
-        liberty = (
-            f"read_liberty -ignore_miss_func -setattr keep_hierarchy {library or self.library}"
-        )
+        liberty = f"read_liberty -ignore_miss_func -setattr keep_hierarchy {library or LIBRARY}"
         self.read(f"{liberty}; read_verilog other.v; hierarchy -top t; flatten")
         self.refused(name, "primitives.py", "other.json", "t", *words)
 
     def sdf(self):
         """Faults of an SDF file."""
-        with open(os.path.join(self.tested.folder, "base.sdf"), encoding="utf-8") as file:
-            text = file.read()
+        text = read(self.tested.folder, "base.sdf")
         arc = re.search(r"\(IOPATH A Y (\([^)]*\)) (\([^)]*\))\)", text)
         for name, other in (
             ("NoDelay", text.replace("(INSTANCE g1)", "(INSTANCE g9)")),
@@ -198,21 +193,17 @@ class Refusals:
         """What the other scripts refuse."""
         self.write("dark.v", "module t (input a, output y); DARK g (.A(a), .Y(y)); endmodule\n")
         self.refused("ToolFailed", "from_liberty.sh", "dark.v", "t", "strange.lib", "gates")
-        self.refused(
-            "NoWord", "from_liberty.sh", "base_cells.v", "t", self.library, "dark", "--clock"
-        )
+        self.refused("NoWord", "from_liberty.sh", "base_cells.v", "t", LIBRARY, "dark", "--clock")
         self.write(
             "latch.v", "module t (input e, d, output reg q); always @* if (e) q = d; endmodule\n"
         )
-        self.refused("SameFile", "from_liberty.sh", "dark.v", "t", self.library, "dark")
-        self.refused("UnmappedCells", "synth.sh", "latch.v", "t", self.library, "latch")
-        self.refused("ToolFailed", "synth.sh", "latch.v", "none", self.library, "latch")
-        with open(os.path.join(self.tested.folder, "base.v"), encoding="utf-8") as file:
-            text = file.read()
+        self.refused("SameFile", "from_liberty.sh", "dark.v", "t", LIBRARY, "dark")
+        self.refused("UnmappedCells", "synth.sh", "latch.v", "t", LIBRARY, "latch")
+        self.refused("ToolFailed", "synth.sh", "latch.v", "none", LIBRARY, "latch")
+        text = read(self.tested.folder, "base.v")
         self.write("wrong.v", re.sub(r"^nand ", "and ", text, flags=re.M))
-        with open(os.path.join(self.tested.folder, "base.shell.v"), encoding="utf-8") as file:
-            self.write("wrong.shell.v", file.read())
-        self.refused("NotEquivalent", "equivalent.sh", "base_cells.v", "t", self.library, "wrong")
+        self.write("wrong.shell.v", read(self.tested.folder, "base.shell.v"))
+        self.refused("NotEquivalent", "equivalent.sh", "base_cells.v", "t", LIBRARY, "wrong")
         for name, text in (
             ("BenchSyntax", "INPUT a\n"),
             ("BenchKind", "INPUT(a)\nOUTPUT(y)\ny = MUX(a, a, a)\n"),
@@ -225,9 +216,9 @@ class Refusals:
         self.refused("NoPath", "view.py", "base.vcd", "base.v")
 
 
-def work(tested, bridges, library):
+def work(tested):
     """All of them."""
-    cases = Refusals(tested, bridges, library)
+    cases = Refusals(tested)
     cases.sdf()
     cases.words()
     cases.cells()
