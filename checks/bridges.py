@@ -6,9 +6,9 @@ Made up are netlists of all cells of bridges/tiny.lib: constants at pins, escape
 output that is an input, registers. Each is written by from_liberty.sh with both `--pins` and some
 step. yosys proves by its `sat` that the gates compute what the cells do (where there are registers,
 by equivalent.sh). 40 pairs of vectors are run on Icarus Verilog with the delays that are written,
-and have to change last when `PROGRAM sim` says; 40 more with `--pins worst` in steps of 1 fs, where
-each cell is one assignment with a delay in place of its gates. In trees of cells each change of one
-input has to reach the outputs when the arcs of the SDF file add up to it.
+and have to change last when `PROGRAM sim` says; with `--pins worst` and steps of 1 fs it has to say
+of 40 more what one gate for each output of a cell does. In trees of cells each change of one input
+has to reach the outputs when the arcs of the SDF file add up to it.
 
 30 planted faults have to be caught: a gate exchanged, rise and fall swapped, an arc dropped. Each
 refusal has to come by its name. RTL with registers is synthesised and proved, .bench and BLIF are
@@ -22,9 +22,9 @@ import sys
 from collections import namedtuple
 from itertools import product
 
-from bridging import designs, icarus, refusals
+from bridging import designs, icarus, ideal, refusals
 from bridging import harness as check
-from bridging.cells import CELLS, STEPS, Sdf, depends, unescaped, whole
+from bridging.cells import CELLS, STEPS, Sdf, unescaped, whole
 from bridging.made import paths, tree, web
 from bridging.tools import LIBRARY, read, script, write, yosys
 
@@ -97,72 +97,45 @@ def as_simulated(tested, name, text):
     """A case: the program's last changes are those of Icarus Verilog, with the written delays."""
     pairs, changes = random_pairs(tested, text, PAIRS), 0
     for (first, second), theirs in zip(pairs, icarus.last_changes(tested.folder, text, pairs)):
-        ended = tested.run("sim", name, first, second)
-        ours = [
-            -1 if word == "never" else int(word)
-            for word in re.findall(r"^last .* (\S+)$", ended.out, re.M)
-        ]
-        if ended.status or ours != theirs:
-            told = f"sim says {ours} ({ended.status}, {ended.err.strip()})"
-            tested.fault(f"{first} to {second}: {told}, Icarus Verilog {theirs}, of\n{text}")
+        ours = simulated(tested, name, first, second)
+        if ours != theirs:
+            told = f"sim says {ours}, Icarus Verilog {theirs}"
+            tested.fault(f"{first} to {second}: {told}, of\n{text}")
         changes += max(theirs, default=-1) >= 0
     tested.has_kind(*["pair"] * PAIRS, *["pair that changes an output"] * changes)
     tested.case("simulated")
 
 
-def ideal(made, sdf, text):
-    """The netlist with each cell as one assignment that has its slowest pin's delays; declared as
-    the gates are.
-    """
-    head = text[: text.index("endmodule")].splitlines()
-    lines = [line for line in head if re.match(r"`timescale|module|input|output", line)]
-    known, wires, body = {"1'b0": 0, "1'b1": 1}, [], []
-    for cell in made.cells:
-        constant = {pin: known[net] for pin, net in cell.inputs.items() if net in known}
-        for pin, net in cell.outputs.items():
-            free = depends(cell.kind, pin, constant)
-            number = len(wires)
-            table = "".join(
-                str(int(bool(CELLS[cell.kind][1][pin](*levels))))
-                for levels in product((1, 0), repeat=len(cell.inputs))
-            )
-            wires.append(
-                f"wire {net}; wire [{len(table) - 1}:0] table{number} = {len(table)}'b{table};"
-            )
-            if not free:
-                known[net] = level_of(cell, pin, known)
-                body.append(f"assign {net} = 1'b{known[net]};")
-                continue
-            rise, fall = sdf.greatest(cell.name, free, pin)
-            place = f"{{{', '.join(cell.inputs.values())}}}"
-            body.append(f"assign #({rise},{fall}) {net} = table{number}[{place}];")
-    body += [f"assign {end} = {net};" for end, net in made.ends().items()]
-    return "\n".join(lines + wires + body + ["endmodule", ""])
-
-
-def level_of(cell, pin, known):
-    """The level of an output that doesn't depend on the inputs that aren't known."""
-    return int(bool(CELLS[cell.kind][1][pin](*(known.get(net, 0) for net in cell.inputs.values()))))
-
-
 def as_one_gate_each(tested, made, sdf):
-    """A case: in steps of 1 fs the gates change outputs last when assignments do, one for each
-    cell.
-    """
+    """A case: in steps of 1 fs outputs change last as those of one gate for each cell."""
     text = gates_of(tested, "fine.v", "--sdf", "each.sdf", "--pins", "worst", "--step", "1fs")
     if text is None:
         return
-    pairs = random_pairs(tested, text, PAIRS)
-    alike = ideal(made, Sdf(sdf, "1fs"), text)
-    for pair, ours, theirs in zip(
-        pairs,
-        icarus.last_changes(tested.folder, text, pairs),
-        icarus.last_changes(tested.folder, alike, pairs),
-    ):
+    module, ends = icarus.Module(text), made.ends()
+    gates, names = ideal.gates_of(made, Sdf(sdf, "1fs")), names_of(module.inputs)
+    for pair in random_pairs(tested, text, PAIRS):
+        last = ideal.last_changes(made, gates, names, pair)
+        theirs = [last.get(ends[end], -1) for end in names_of(module.outputs)]
+        ours = simulated(tested, "fine.v", *pair)
         # An output that is an input, or has the net of another one, is a step later.
-        if any(abs(our - their) > 1 for our, their in zip(ours, theirs)):
-            tested.fault(f"{pair}: gates {ours}, assignments {theirs}, of\n{made.text()}\n{text}")
+        if len(ours) != len(theirs) or any(abs(a - b) > 1 for a, b in zip(ours, theirs)):
+            tested.fault(f"{pair}: sim {ours}, cells {theirs}, of\n{made.text()}\n{text}")
     tested.case("one gate each")
+
+
+def simulated(tested, name, first, second):
+    """When each output changes last, as the program says."""
+    ended = tested.run("sim", name, first, second)
+    if ended.status:
+        tested.fault(f"sim {name} {first} {second}: {ended}")
+    words = re.findall(r"^last .* (\S+)$", ended.out, re.M)
+    return [-1 if word == "never" else int(word) for word in words]
+
+
+def names_of(ports):
+    """The bits of ports, without what escapes their names."""
+    bits = icarus.bits_of(ports)
+    return [unescaped(name) + ("" if number is None else f"[{number}]") for name, number in bits]
 
 
 def some_outputs(tested, text, step):
@@ -249,10 +222,7 @@ def expected(made, sdf, module, pins):
     """For each change of one input of a tree its pair, and when each output bit of `y` and `z`
     changes.
     """
-    names = [
-        unescaped(name) + ("" if number is None else f"[{number}]")
-        for name, number in icarus.bits_of(module.inputs)
-    ]
+    names = names_of(module.inputs)
     moment, ends = paths(made, sdf, pins == "worst"), made.ends()
     for bits in product((0, 1), repeat=len(names)):
         before = made.levels(dict(zip(names, bits)))
@@ -280,10 +250,7 @@ def untrue(tested, made, sdf, written):
     """What is wrong with the gates of a tree, or None."""
     module = icarus.Module(written.gates)
     wanted = list(expected(made, sdf, module, written.pins))
-    names = [
-        unescaped(name) + ("" if number is None else f"[{number}]")
-        for name, number in icarus.bits_of(module.outputs)
-    ]
+    names = names_of(module.outputs)
     for (pair, moments), got in zip(
         wanted, icarus.last_changes(tested.folder, written.gates, [pair for pair, _ in wanted])
     ):
