@@ -16,17 +16,16 @@ read, a multiplier of 32 by 32 bits is written within 10 seconds of a processor,
 examples/from_rtl/ comes out as it is kept. It needs `yosys`, `sta` (OpenSTA), `iverilog` and `vvp`.
 """
 
-import os
 import re
 import sys
 from collections import namedtuple
 from itertools import product
 
 from bridging import designs, icarus, ideal, refusals
-from bridging import harness as check
 from bridging.cells import CELLS, STEPS, Sdf, unescaped, whole
 from bridging.made import paths, tree, web
 from bridging.tools import LIBRARY, read, script, write, yosys
+from lib import check, places
 
 CASES = 140
 # So many random netlists come before all else.
@@ -361,7 +360,7 @@ def work(tested):
     """A program that can't be right fails at once; then come some random netlists, so that few
     cases have of each kind, then what stands in lists, and random netlists until the end.
     """
-    if designs.exact(tested, os.path.join(check.TOP, "examples", "c17.v")) != 3:
+    if designs.exact(tested, places.example("c17.v")) != 3:
         tested.fault("the worst delay of examples/c17.v isn't 3")
         return
     for _ in range(FIRST):

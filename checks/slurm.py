@@ -19,19 +19,18 @@ import json
 import os
 import re
 import shutil
-import signal
 import socket
 import subprocess
 import sys
 import time
 
-from bridging import harness as check
 from bridging.designs import exact
-from bridging.harness import run
+from lib import check, places
+from lib.running import run
 
-NETLIST = os.path.join(check.TOP, "examples", "mult_8.v")
-SUBMIT = os.path.join(check.TOP, "examples", "slurm", "submit.sh")
-PAGE = os.path.join(check.TOP, "docs", "MANY-MACHINES.md")
+NETLIST = os.path.join(places.TOP, "examples", "mult_8.v")
+SUBMIT = os.path.join(places.TOP, "examples", "slurm", "submit.sh")
+PAGE = os.path.join(places.TOP, "docs", "MANY-MACHINES.md")
 PARTS = 16
 # The daemons and the client commands stand here too.
 os.environ["PATH"] += ":/usr/sbin:/sbin"
@@ -332,7 +331,7 @@ def kubernetes(tested):
 
 def work(tested):
     """Both recipes, as far as they can be run here. A program that can't be right fails at once."""
-    if exact(tested, os.path.join(check.TOP, "examples", "c17.v")) != 3:
+    if exact(tested, places.example("c17.v")) != 3:
         tested.fault("the worst delay of examples/c17.v isn't 3")
         return
     kubernetes(tested)
@@ -352,8 +351,6 @@ def shares(tested, cut):
 
 
 if __name__ == "__main__":
-    # So that the daemons end with the check, however it ends.
-    signal.signal(signal.SIGTERM, lambda *_: sys.exit(1))
     if not yaml_reader() and not all(map(shutil.which, NEEDS)):
         print("skipped: neither Slurm and munge (slurm-wlm, munge) nor PyYAML is there")
         sys.exit(check.SKIPPED)

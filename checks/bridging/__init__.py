@@ -2,7 +2,6 @@
 
 Netlists of library cells that are made up (`made`), what the cells of bridges/tiny.lib do and what
 an SDF file says of them, written apart from bridges/ (`cells`), runs of one gate for each output of
-a cell (`ideal`), inputs that are refused
-(`refusals`), RTL and other formats (`designs`), runs of Icarus Verilog (`icarus`) and of other
-tools (`tools`), and how a check is called and ends (`harness`).
+a cell (`ideal`), inputs that are refused (`refusals`), RTL and other formats (`designs`), and runs
+of Icarus Verilog (`icarus`) and of other tools (`tools`).
 """

@@ -4,7 +4,8 @@ import os
 import re
 import resource
 
-from .harness import TOP
+from lib.places import TOP
+
 from .tools import LIBRARY, read, script, tool, write
 
 COUNTER = """module t (input clk, input rst_n, input up, output reg [3:0] q);

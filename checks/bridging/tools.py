@@ -2,7 +2,8 @@
 
 import os
 
-from .harness import TOP, run
+from lib.places import TOP
+from lib.running import run
 
 BRIDGES = os.path.join(TOP, "bridges")
 LIBRARY = os.path.join(BRIDGES, "tiny.lib")
