@@ -22,13 +22,13 @@ import sys
 from collections import namedtuple
 from itertools import product
 
-from bridging import harness as check
 from bridging import designs, icarus, refusals
 from bridging.cells import CELLS, STEPS, Sdf, depends, unescaped, whole
-from bridging.harness import run
 from bridging.made import paths, tree, web
+from bridging.runs import run
+from lib import check, places
 
-BRIDGES = os.path.join(check.TOP, "bridges")
+BRIDGES = os.path.join(places.TOP, "bridges")
 LIBRARY = os.path.join(BRIDGES, "tiny.lib")
 CASES = 140
 PAIRS = 40

@@ -25,12 +25,12 @@ import subprocess
 import sys
 import time
 
-from bridging import harness as check
-from bridging.harness import run
+from bridging.runs import run
+from lib import check, places
 
-NETLIST = os.path.join(check.TOP, "examples", "mult_8.v")
-SUBMIT = os.path.join(check.TOP, "examples", "slurm", "submit.sh")
-PAGE = os.path.join(check.TOP, "docs", "MANY-MACHINES.md")
+NETLIST = os.path.join(places.TOP, "examples", "mult_8.v")
+SUBMIT = os.path.join(places.TOP, "examples", "slurm", "submit.sh")
+PAGE = os.path.join(places.TOP, "docs", "MANY-MACHINES.md")
 PARTS, CASES = 16, 100
 # The daemons and the client commands stand here too.
 os.environ["PATH"] += ":/usr/sbin:/sbin"

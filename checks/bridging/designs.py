@@ -4,7 +4,9 @@ import os
 import re
 import resource
 
-from .harness import TOP, run
+from lib.places import TOP
+
+from .runs import run
 
 COUNTER = """module t (input clk, input rst_n, input up, output reg [3:0] q);
   always @(posedge clk or negedge rst_n) if (!rst_n) q <= 0; else q <= up ? q + 1 : q - 1;

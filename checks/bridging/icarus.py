@@ -3,7 +3,7 @@
 import os
 import re
 
-from .harness import run
+from .runs import run
 
 # The words by which Icarus Verilog is called.
 IVERILOG = os.environ.get("IVERILOG", "iverilog").split()

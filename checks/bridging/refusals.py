@@ -4,7 +4,7 @@ import json
 import os
 import re
 
-from .harness import run
+from .runs import run
 
 BASE = """module t (a, b, y);
 input a, b; output y; wire n;

@@ -51,6 +51,10 @@ class Check:
         if self.most is not None and self.cases >= self.most or self.wrong >= MOST_WRONG:
             raise Enough
 
+    def goes_on(self):
+        """Whether more cases are to be tried."""
+        return self.most is None or self.cases < self.most
+
     def has_kind(self, *kinds):
         """Counts something without a case of its own."""
         self.kinds.update(kinds)
