@@ -191,7 +191,7 @@ def main():
     asked = call()
     names = asked.only or all_names()
     # A check of a program that hangs waits most of its time.
-    with ThreadPoolExecutor(asked.jobs * (3 if asked.self_test else 1)) as pool:
+    with ThreadPoolExecutor(asked.jobs * (2 if asked.self_test else 1)) as pool:
         if asked.self_test:
             return test_checks(asked, names, pool)
         if not asked.only:

@@ -26,7 +26,7 @@ from bridging import designs, icarus, refusals
 from bridging.cells import CELLS, STEPS, Sdf, depends, unescaped, whole
 from bridging.made import paths, tree, web
 from bridging.runs import run
-from lib import check, places
+from lib import check, netlists, places
 
 BRIDGES = os.path.join(places.TOP, "bridges")
 LIBRARY = os.path.join(BRIDGES, "tiny.lib")
@@ -425,6 +425,11 @@ def plants(tested):
 
 
 def work(tested):
+    # A program that is wrong about a plain circuit isn't asked about what is written.
+    tested.write("plain.v", netlists.MET)
+    as_simulated(tested, "plain.v", netlists.MET)
+    if tested.wrong:
+        return
     refusals.work(tested, BRIDGES, LIBRARY)
     designs.work(tested, BRIDGES, LIBRARY)
     plants(tested)
