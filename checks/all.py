@@ -40,7 +40,8 @@ NO_CHECKS = {"all", "wrong_bodies"}
 # Checks that are run where there are so many minutes.
 LATER = {"first_command": 20}
 # What takes longest begins first.
-LONGEST_FIRST = ["first_command", "memory_limits", "limits", "refused_growths", "opinions", "parts"]
+LONGEST_FIRST = ["first_command", "memory_limits", "bridges", "limits", "opinions", "slurm"]
+LONGEST_FIRST += ["refused_growths", "parts", "mutations", "transcripts"]
 # The seconds within which a program that can't be right has to fail a check.
 MINUTE = 60
 # The seconds that a check may take to find a lie.
@@ -190,7 +191,7 @@ def main():
     asked = call()
     names = asked.only or all_names()
     # A check of a program that hangs waits most of its time.
-    with ThreadPoolExecutor(asked.jobs * (3 if asked.self_test else 1)) as pool:
+    with ThreadPoolExecutor(asked.jobs * (2 if asked.self_test else 1)) as pool:
         if asked.self_test:
             return test_checks(asked, names, pool)
         if not asked.only:

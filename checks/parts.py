@@ -8,8 +8,10 @@ pins of exactly one part (by looking at all pairs, where they are few); each par
 no more parts than were asked for; `join` reports the time of the whole search; `check` accepts what
 it writes, which is about the question that was asked. A part left out, one taken twice, one of
 another question and one with another time are refused, or reported by `check`. One more case is
-examples/many_machines.sh on examples/mult_8.v without GNU parallel, and one with it, where it is
-there. At least 60 of 100 cases are cut into two parts or more.
+examples/many_machines.sh without GNU parallel, and one with it, where it is there: on
+examples/mult_8.v, and on examples/adder_8.v with a budget that cuts parts short, where the worst
+delay has to lie between the two figures that it gives. At least 60 of 100 cases are cut into two
+parts or more.
 """
 
 import os
@@ -21,6 +23,9 @@ from lib.netlists import random_netlist
 from lib.questions import admitted, fits, random_question, word
 
 CASES = 120
+LEAD = ["--strategy", "lead"]
+# What cuts the parts of the adder short.
+SHORT = ["--strategy", "least", "--budget", "50"]
 SCRIPT = os.path.join(places.EXAMPLES, "many_machines.sh")
 
 
@@ -171,27 +176,23 @@ def wrong(tested, text, inputs):
     return found and f"{found}\n{asked.words}\n{text}", len(lines)
 
 
-def wrong_script(tested, path):
-    """What is wrong with the example's script, with this search path."""
-    out = os.path.join(tested.folder, "out")
-    words = ["examples/mult_8.v", "24", out, "--strategy", "lead"]
+def wrong_script(tested, path, name, words, status):
+    """What is wrong with the example's script on a circuit, with this search path."""
+    netlist, out = f"examples/{name}.v", os.path.join(tested.folder, "out")
     environment = {**os.environ, "TDELAY": tested.program, "PATH": path, "JOBS": "2"}
-    done = running.run([SCRIPT, *words], places.TOP, seconds=300, env=environment)
-    whole = running.run(
-        [tested.program, "worst", "examples/mult_8.v", "--strategy", "lead"],
-        places.TOP,
-        seconds=300,
+    asked = [SCRIPT, netlist, "24", out, *words]
+    done = running.run(asked, places.TOP, seconds=300, env=environment)
+    whole = running.run([tested.program, "worst", netlist, *LEAD], places.TOP, seconds=300)
+    ended = (
+        f"{words}: {done.status} {done.out}{done.err}where the whole search reports\n{whole.out}"
     )
-    figures = reports.figures_of(whole.out)
-    if figures is None or done.status not in (0, 3):
-        return (
-            f"script: {done.status} {done.out}{done.err}where the whole search reports\n{whole.out}"
-        )
-    reported = reports.figures_of(done.out)
-    if reported is None or not reports.agree(reported, figures):
-        return f"script: {done.out}where the whole search reports\n{whole.out}"
-    if done.status == 0 and f"accepted {reported.low}" not in done.out.splitlines():
-        return f"script: {done.out}, nothing accepted"
+    figures, reported = (reports.figures_of(report.out) for report in (whole, done))
+    if done.status != status or None in (figures, reported):
+        return ended
+    if not reported.low <= figures.low <= figures.high <= reported.high:
+        return ended
+    if status == 0 and f"accepted {reported.low}" not in done.out.splitlines():
+        return f"{ended}, nothing accepted"
     return None
 
 
@@ -210,7 +211,8 @@ def scripts(tested):
     os.mkdir(without)
     link_all_but(without, "parallel")
     for path in [without] + [os.environ["PATH"]] * (shutil.which("parallel") is not None):
-        found = wrong_script(tested, path)
+        found = wrong_script(tested, path, "mult_8", LEAD, 0)
+        found = found or wrong_script(tested, path, "adder_8", SHORT, 3)
         if found:
             tested.fault(found)
         tested.case("script without parallel" if path == without else "script with parallel")

@@ -12,7 +12,7 @@ two ways that meet, and of a slow arm, by 1, 2 and 4 workers. `check` gives its 
 memory, and never another verdict.
 
 Each case is a refused growth, or all from one on. All of them are some 32,000, of which those after
-roots are tried, and a random choice of the others. Of 100 cases 10 at least are searches of which
+roots are tried, and a random choice of the others. Of 100 cases 5 at least are searches of which
 the root was known, and 30 out of memory. It needs a C compiler, `cc`.
 """
 
@@ -23,7 +23,7 @@ from collections import Counter, namedtuple
 
 from lib import check, netlists, places, reports, running
 
-CASES = 9000
+CASES = 8000
 # The most growths that a report takes.
 OF_REPORT = 16
 # After the last growth.
@@ -122,6 +122,23 @@ def make_files(tested):
             raise RuntimeError(f"worst {words}: {done}, no certificate")
 
 
+def rooted_of(refuser, words):
+    """The growths that come after the root of a search is known, and before its report is begun.
+
+    By several workers not all runs of a search take as many, so that of those that some runs have
+    the first half is taken.
+    """
+    before = max(refuser.run(with_budget(words, "00000"))[1] for _ in range(5))
+    until = min(refuser.run(words)[1] for _ in range(5)) - OF_REPORT
+    if until <= before:
+        raise RuntimeError(
+            f"{' '.join(words)}: {until} growths, {before} of them with a budget of 0: "
+            "none after the root"
+        )
+    several = "--workers" in words and words[words.index("--workers") + 1] != "1"
+    return range(before + 1, (before + until) // 2 if several else until + 1)
+
+
 def command_of(refuser, words, is_rooted):
     """A command with what is known of it where memory suffices."""
     ample, growths = refuser.run(words)
@@ -130,15 +147,7 @@ def command_of(refuser, words, is_rooted):
     worst = None
     if words[0] == "worst":
         worst = reports.figures_of(refuser.run(with_budget(words, None))[0].out).low
-    rooted = range(0)
-    if is_rooted:
-        before = max(refuser.run(with_budget(words, "00000"))[1] for _ in range(5))
-        rooted = range(before + 1, growths - OF_REPORT + 1)
-        if not rooted:
-            raise RuntimeError(
-                f"{' '.join(words)}: {growths} growths, {before} of them with a budget of 0: "
-                "none after the root"
-            )
+    rooted = rooted_of(refuser, words) if is_rooted else range(0)
     return Command(words, ample, worst, growths, rooted)
 
 
@@ -201,8 +210,8 @@ def try_growth(tested, refuser, command, first, last):
 
 
 def chosen(tested, commands):
-    """The growths that are tried, by commands: those after roots first, then a random choice of the
-    others, all where so many are asked for.
+    """The growths that are tried, by commands: those after roots, to a half of all, and a random
+    choice of the others; all where so many are asked for.
     """
     every = [
         (place, first, last)
@@ -211,8 +220,10 @@ def chosen(tested, commands):
         for last in (first, NEVER)
     ]
     tested.random.shuffle(every)
-    every.sort(key=lambda it: not (it[1] == it[2] and it[1] in commands[it[0]].rooted))
-    return sorted(every[: tested.most])
+    rooted = [it for it in every if it[1] == it[2] and it[1] in commands[it[0]].rooted]
+    rooted = set(rooted[: tested.most // 2])
+    others = [it for it in every if it not in rooted]
+    return sorted([*rooted, *others[: tested.most - len(rooted)]])
 
 
 def work(tested):
@@ -237,7 +248,7 @@ def work(tested):
 def shares(tested, _cut):
     tested.require("growth refused", 0.95)
     tested.require("out of memory", 0.3)
-    tested.require("root known, answered", 0.1)
+    tested.require("root known, answered", 0.05)
     tested.require("between", 0.01)
 
 

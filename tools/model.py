@@ -49,7 +49,7 @@ class Definition:
         self.header = header  # the head of the module around it
 
     def text(self):
-        """The definition without comments and without field names behind a point."""
+        """The definition without comments and without field names after a point."""
         return "\n".join(re.sub(r"--.*", "", line) for line in self.lines + list(self.header))
 
 
@@ -86,7 +86,7 @@ HEAD = re.compile(
 def definitions_of(path):
     """The definitions of a file of specs/."""
     found, comment, current = [], [], None
-    broken = None  # the definition that a comment stands in, or behind
+    broken = None  # the definition that a comment stands in, or before
     header, inside = (), False
     for number, line in enumerate(open(path).read().split("\n"), 1):
         body = line.strip()
@@ -118,7 +118,7 @@ def definitions_of(path):
             comment, current = comment + [line], None
             continue
         if current is None and broken is not None and body.split()[0] in broken.names:
-            current = broken  # a clause behind a comment
+            current = broken  # a clause after a comment
             current.lines += comment
             comment = []
         is_head = depth == indent and (

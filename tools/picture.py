@@ -63,7 +63,7 @@ def entries(uses, crates):
 
 
 def folded(head, texts):
-    """Lines no longer than WIDTH, of these texts behind a head."""
+    """Lines no longer than WIDTH, of these texts after a head."""
     rows = []
     for text in texts:
         if rows and len(rows[-1] + " | " + text) <= WIDTH:

@@ -1,6 +1,6 @@
 """The reader of netlists of second_opinion.py, written from docs/MODEL.md alone, "Tokens of a text"
 to "Netlist": it shares nothing with the project. `read_circuit` gives the circuit that a text
-means, with each gate behind those that it reads; a fault is a `Refusal`.
+means, with each gate after those that it reads; a fault is a `Refusal`.
 """
 
 import re
@@ -47,7 +47,7 @@ PIECE = re.compile(
     |(?P<wrong>.)""",
     re.ASCII | re.DOTALL | re.VERBOSE,
 )
-# The grammar, over tokens with a space behind each: names are $ and their letters, attributes @,
+# The grammar, over tokens with a space after each: names are $ and their letters, attributes @,
 # directives `, timescales ~.
 NAME, NUMBER, WHOLE = r"\$[!-~]+ ", r"[0-9.]+ ", r"[0-9]+ "
 RANGE = rf"\[ {WHOLE}: {WHOLE}\] "
@@ -70,7 +70,7 @@ SCALES = ("s", "ms", "us", "ns", "ps", "fs")
 Gate = namedtuple("Gate", "kind rise fall output inputs")
 Delays = namedtuple("Delays", "rise fall")
 # Here nets have numbers: the inputs, the levels 0 and 1, then the outputs of the gates, each of
-# which comes behind those that it reads. `nets` are the names of all nets as reports print them, by
+# which comes after those that it reads. `nets` are the names of all nets as reports print them, by
 # their numbers.
 Circuit = namedtuple("Circuit", "unit defaulted inputs gates outputs nets")
 # What a text declares: its ports in order, a name's direction, a name's range (empty without one),
@@ -84,7 +84,7 @@ def require(holds, why):
 
 
 def tokens_of(text):
-    """The tokens with a space behind each, and the last timescale before the module, one of steps
+    """The tokens with a space after each, and the last timescale before the module, one of steps
     of 1 ns where there is none.
     """
     tokens, timescale = [], "`timescale 1ns/1ns"
@@ -125,7 +125,7 @@ def declare(declared, what, name, text):
 
 
 def declare_ports(declared, text):
-    """Adds the port list. A bare name behind a declared port is as the port before it."""
+    """Adds the port list. A bare name after a declared port is as the port before it."""
     before = None
     for port in PORT.finditer(text):
         before, name = port["direction"] or before, port["name"][1:-1]
@@ -211,7 +211,7 @@ def require_well_formed(declared, inputs, outputs, gates):
 
 
 def in_order(gates):
-    """The gates, each behind those that it reads."""
+    """The gates, each after those that it reads."""
     drivers = {gate.output: gate for gate in gates}
     try:
         order = list(TopologicalSorter({gate.output: gate.inputs for gate in gates}).static_order())
@@ -221,7 +221,7 @@ def in_order(gates):
 
 
 def printed(net):
-    """A net's name as reports print it: an escaped name keeps its backslash, and the space behind
+    """A net's name as reports print it: an escaped name keeps its backslash, and the space after
     it where a bit follows.
     """
     name, bit = net

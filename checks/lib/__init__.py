@@ -1,4 +1,5 @@
 """What the checks have in common: how one is called and how it ends (`check`), how a program is run
-(`running`), netlists and questions that are made (`netlists`, `questions`), and how a report is
-read (`reports`).
+(`running`), where things stand (`places`), netlists and questions that are made (`netlists`,
+`questions`), how a report is read (`reports`), and programs that lie, on which the checks are
+tested (`lies`). The files in C stand between the program and the C library.
 """

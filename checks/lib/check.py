@@ -1,12 +1,12 @@
 """How a check is called, what it counts, and how it ends.
 
 A check is called as `CHECK [PROGRAM] [--seed S] [--cases N]`. PROGRAM is a built `tdelay`, that of
-`./tdelay` where it is left out. The seed is that of all random choices, and N the most cases that
-are tried: a check whose cases are made up has a number of its own, one whose cases stand in a list
+`rt ci` where it is left out. The seed is that of all random choices, and N the most cases that are
+tried: a check whose cases are made up has a number of its own, one whose cases stand in a list
 tries them all.
 
 A check counts its cases, and for each case of what kinds it was: an exact answer, a refused growth,
-a written file. Its last line is `N cases, N wrong`, with the kinds behind. Its exit status is 0
+a written file. Its last line is `N cases, N wrong`, and after it the kinds. Its exit status is 0
 where no case was wrong, where there was one at least, and where of each kind that the check is
 about there was the share that it states: a program that answers nothing passes no check. A run that
 takes too long ends the check, and fails it. Where a check needs another program that isn't there,
@@ -50,6 +50,10 @@ class Check:
         self.kinds.update(kinds)
         if self.most is not None and self.cases >= self.most or self.wrong >= MOST_WRONG:
             raise Enough
+
+    def goes_on(self):
+        """Whether more cases are to be tried."""
+        return self.most is None or self.cases < self.most
 
     def has_kind(self, *kinds):
         """Counts something without a case of its own."""
@@ -158,7 +162,7 @@ def main(work, doc, cases=None, shares=nothing_more, options=None, needs=()):
     asked = call(doc, cases, options or {})
     program = os.path.abspath(asked.program)
     if not os.access(program, os.X_OK) or os.path.isdir(program):
-        print(f"wrong: {program} is no program; ./tdelay builds one")
+        print(f"wrong: {program} is no program; `rt ci` builds one, ./prove another one")
         return 1
     signal.signal(signal.SIGTERM, lambda *_: sys.exit(1))
     lacking = [name for name in needs if not shutil.which(name)]

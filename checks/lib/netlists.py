@@ -33,7 +33,7 @@ def buffers(count):
 
 
 def chain(count):
-    """So many buffers one behind the other, each with a delay of 1."""
+    """So many buffers one after the other, each with a delay of 1."""
     return module(
         "w0", f"w{count}", *(f"buf #1 (w{number + 1},w{number})" for number in range(count))
     )

@@ -1,6 +1,4 @@
-"""Where things stand: the top of the repository, its examples, and the program that `./tdelay`
-builds.
-"""
+"""Where things stand: the top of the repository, its examples, and the program of `rt ci`."""
 
 import os
 import sys

@@ -19,7 +19,7 @@ def random_question(rng, inputs, with_second=True):
 
 
 def word(words, name, default):
-    """The word behind an option, or what stands for it where it is left out."""
+    """The word after an option, or what stands for it where it is left out."""
     return words[words.index(name) + 1] if name in words else default
 
 

@@ -7,7 +7,7 @@ Figures = namedtuple("Figures", "low high")
 
 
 def values_of(report):
-    """What stands behind the first word of each line; of lines that begin alike the last one."""
+    """What stands after the first word of each line; of lines that begin alike the last one."""
     return {line.split(" ", 1)[0]: line.partition(" ")[2] for line in report.splitlines()}
 
 

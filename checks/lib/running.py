@@ -58,6 +58,7 @@ def run_bytes(words, folder=None, seconds=LONGEST, megabytes=None, before=None, 
     `before` is called in the process before it begins; other words go to `Popen`. Where `how` sends
     an output elsewhere it is empty here.
     """
+    words = [word if isinstance(word, bytes) else str(word) for word in words]
     how = {"stdin": subprocess.DEVNULL, "stdout": subprocess.PIPE, "stderr": subprocess.PIPE, **how}
     begin = beginning(megabytes, before)
     with subprocess.Popen(
