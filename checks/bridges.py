@@ -28,8 +28,8 @@ from bridging.tools import LIBRARY, read, script, write, yosys
 from lib import check, places
 
 CASES = 140
-# So many random netlists come before all else.
-FIRST = 2
+# Random netlists that come before all else: whether they have registers.
+FIRST = (False, True)
 PAIRS = 40
 PLANTS = 30
 # What a gate is exchanged for. (An or of products that exclude each other may be an xor as well.)
@@ -150,9 +150,9 @@ def some_outputs(tested, text, step):
     tested.case("some outputs")
 
 
-def random_netlist(tested):
+def random_netlist(tested, with_registers):
     """Cases of a random netlist."""
-    made = web(tested.random, with_registers=tested.random.random() < 0.3)
+    made = web(tested.random, with_registers)
     step = tested.random.choice(sorted(STEPS))
     sdf = converted(tested, made, step)
     if sdf is None:
@@ -363,13 +363,13 @@ def work(tested):
     if designs.exact(tested, places.example("c17.v")) != 3:
         tested.fault("the worst delay of examples/c17.v isn't 3")
         return
-    for _ in range(FIRST):
-        random_netlist(tested)
+    for with_registers in FIRST:
+        random_netlist(tested, with_registers)
     refusals.work(tested)
     designs.work(tested)
     plants(tested)
     while tested.goes_on():
-        random_netlist(tested)
+        random_netlist(tested, tested.random.random() < 0.3)
 
 
 def shares(tested, cut):
@@ -377,8 +377,9 @@ def shares(tested, cut):
     if tested.most is not None and tested.most < CASES:
         return
     tested.require("pair that changes an output", 0.5, of="pair")
-    for kind in ("proved", "simulated", "one gate each", "some outputs", "tree"):
-        tested.require(kind, 0.02)
+    tested.require("proved", 0.02)
+    for kind in ("simulated", "one gate each", "some outputs", "tree"):
+        tested.require(kind, 0.1, of="proved")
     for kind in (
         "refused",
         "by hand",
