@@ -24,7 +24,12 @@ from lib.netlists import INVERTER, LOST
 
 COMMANDS = "sim|path|bound|worst|parts|join|info|check"
 # The pages with commands, and how many each has at least.
-PAGES = {"README.md": 5, "docs/COMMANDS.md": 7, "examples/README.md": 7}
+PAGES = {
+    "README.md": 5,
+    "docs/COMMANDS.md": 7,
+    "examples/README.md": 7,
+    "examples/from_rtl/README.md": 7,
+}
 # The page that quotes contracts, and how many lines it quotes at least.
 CONTRACTS, QUOTED = "docs/CONTRACTS.md", 120
 # Commands that a page tells of in words.
@@ -42,6 +47,7 @@ OTHERS = {
         "check inverter.v other_bound.cert",
     ],
     "examples/README.md": [],
+    "examples/from_rtl/README.md": [],
 }
 # Files that a page tells of in words: netlists, and certificates of a page's commands with one text
 # in place of another.

@@ -33,6 +33,12 @@ exec $R "$@" """
 # Of each check the lies that it has to find, by what they are: a script, or the number of a lie of
 # lying.c.
 LIES = {
+    "bridges": {
+        "a last change at another moment": where(
+            "sim", edited(r"s/^last \(.*\) \([0-9]*\)$/last \1 1\2/")
+        ),
+    },
+    "slurm": {"a joined time that is one more": where("join", MORE.format(key="exact", by=1))},
     "collisions": {"colliding names take long": SLOW},
     "devices": {"a device that fails is a bad text": FIVE + " 1; exit $status"},
     "doubling": {"the time is one more": MORE.format(key="time", by=1)},
