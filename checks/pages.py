@@ -9,9 +9,9 @@ prints, whole or without the head. A text in backquotes that is a line of a repo
 line that some command of the pages prints, or one of OTHERS, of which they tell in words.
 
 Besides, each contract that README.md and docs/CONTRACTS.md quote stands in the sources, word for
-word; as many wrong bodies are there as the pages say; the numbers of docs/MODEL.md are those of
-tools/model.py, and the picture of the crates is that of tools/picture.py. Each command, block, text
-and line of a contract is a case.
+word; as many wrong bodies are there as the pages say; the numbers and names of docs/model are those
+of tools/model.py, and the picture of the crates is that of tools/picture.py. Each command, block,
+text and line of a contract is a case.
 """
 
 import glob
