@@ -1,8 +1,9 @@
 -- The moments of lists that are made of others rise.
-use Rattle.std.proofs.Common.{◌≡◌, ℕ, zero, suc, ◌+◌, ◌-◌, ◌<◌, ◌≤◌, ◌⊎◌, max, Bool, true, false, List, [], ◌∷◌, length, refl, arith, ap, sym, ◌∙◌, inl, inr}
+use Rattle.std.proofs.Common.{◌≡◌, ℕ, zero, suc, ◌+◌, ◌-◌, ◌^◌, ◌<◌, ◌≤◌, ◌⊎◌, max, Bool, true, false, List, [], ◌∷◌, length, refl, arith, ap, sym, ◌∙◌, inl, inr}
 use Rattle.std.specs.Prelude.{nat_lt, ◌==◌, if◌then◌else◌}
 use Rattle.std.specs.List.{All, AllByRecursion}
 use Rattle.std.proofs.lemmas.Bool.{cases_lt, lt-ltb, le-ltb}
+use Rattle.std.proofs.lemmas.List.Elements.{All-from_recursion}
 use Rattle.td_gates.specs.declared.primitives.Kind.{Kind}
 use Rattle.td_gates.specs.declared.timing.Delay.{Delay}
 use Rattle.td_moments.specs.declared.directions.Directions.{Directions}
@@ -124,3 +125,11 @@ pub delayed_within : (most more : ℕ) (delay : Delay) (target : List Possible) 
 delayed_within most more delay target low within =
     merge_within more (put_off false delay.fall target) (put_off true delay.rise target)
     (put_off_within most more false delay.fall target (omega arith) within) (put_off_within most more true delay.rise target (omega arith) within)
+
+-- moments that are put off fit into a word
+pub fits : (most : ℕ) (list : List Possible) → most + 10 ^ 9 < 2 ^ 64 → IsWithin most list → All (λ possible. possible.moment + 10 ^ 9 < 2 ^ 64) list
+fits most list low within = All-from_recursion (λ possible. possible.moment + 10 ^ 9 < 2 ^ 64) list (each list within)
+  where
+    each : (list : List Possible) → IsWithin most list → AllByRecursion (λ possible. possible.moment + 10 ^ 9 < 2 ^ 64) list
+    each [] within = tt
+    each (p ∷ list) within = (let first = within.0 in omega arith, each list within.1)

@@ -1,11 +1,12 @@
 -- Places: where a moment stands in a list whose moments rise.
-use Rattle.std.proofs.Common.{◌≡◌, ◌≢◌, ℕ, zero, suc, ◌+◌, ◌-◌, ◌<◌, ◌≤◌, Bool, true, false, List, [], ◌∷◌, length, get_or, refl, arith, ap, sym, ◌∙◌, inl, inr}
+use Rattle.std.proofs.Common.{◌≡◌, ◌≢◌, ℕ, zero, suc, ◌+◌, ◌-◌, ◌<◌, ◌≤◌, Bool, true, false, List, [], ◌∷◌, length, get_or, set, refl, arith, ap, sym, ◌∙◌, inl, inr}
 use Rattle.std.specs.Prelude.{nat_lt, ◌==◌, ◌||◌, if◌then◌else◌}
 use Rattle.std.proofs.lemmas.Bool.{cases_lt, cases_eq, cases_Bool, lt-ltb, le-ltb, eq-eqb, ne_eqb}
 use Rattle.td_moments.specs.declared.directions.Directions.{Directions}
 use Rattle.td_moments.specs.declared.finding.Possible.{Possible}
 use Rattle.td_moments.specs.Directions.{no_change, is_gone, either}
-use Rattle.td_moments.specs.Moments.{IsInOrderFrom, IsInOrder, count_before, found, nowhere, latest}
+use Rattle.td_moments.specs.Directions.{without}
+use Rattle.td_moments.specs.Moments.{IsInOrderFrom, IsInOrder, count_before, found, nowhere, latest, taken}
 
 pub order_at : (list : List Possible) (n m : ℕ) (d : Possible) → IsInOrderFrom n list → m < length list → n ≤ (get_or list m d).moment
 order_at [] n m d order low = absurd (omega arith)
@@ -118,3 +119,65 @@ found_elsewhere list t count here order is low at other =
 
 pub found_nowhere : (list : List Possible) (t count : ℕ) → IsInOrder list → count ≡ count_before list t → length list ≤ count → no_change ≡ found list t
 found_nowhere list t count order is past = sym (found_past list 0 t order (omega (arith, is, past)))
+
+taken_above : (list : List Possible) (n t : ℕ) (v : Bool) → IsInOrderFrom n list → t < n → taken list t v ≡ list
+taken_above [] n t v order low = refl
+taken_above (p ∷ list) n t v order low =
+    rw (ne_eqb p.moment t (λ same. omega (arith, order.0, same))) (ap (λ rest. p ∷ rest) (taken_above list (suc p.moment) t v order.1 (omega (arith, order.0))))
+
+taken_here : (list : List Possible) (n t : ℕ) (v : Bool) (d : Possible) → IsInOrderFrom n list → count_before list t < length list
+    → (get_or list (count_before list t) d).moment ≡ t
+    → taken list t v ≡ set list (count_before list t) (record { moment = (get_or list (count_before list t) d).moment; to = without (get_or list (count_before list t) d).to v })
+taken_here [] n t v d order low is = absurd (omega arith)
+taken_here (p ∷ list) n t v d order low is = elim (cases_lt p.moment t) [
+  | inl first ↦
+      let count = lt-ltb p.moment t first in
+      rw (count, ne_eqb p.moment t (λ same. omega (arith, same, first))) (ap (λ rest. p ∷ rest) (taken_here list (suc p.moment) t v d order.1
+      (let l = rw count at low in omega arith) (rw count at is)))
+  | inr on ↦
+      let count = le-ltb p.moment t on in
+      let same : p.moment ≡ t = rw count at is in
+      rw (count, eq-eqb p.moment t same) refl
+]
+
+taken_other : (list : List Possible) (n t : ℕ) (v : Bool) (d : Possible) → IsInOrderFrom n list → count_before list t < length list
+    → (get_or list (count_before list t) d).moment ≢ t → taken list t v ≡ list
+taken_other [] n t v d order low is = refl
+taken_other (p ∷ list) n t v d order low is = elim (cases_lt p.moment t) [
+  | inl first ↦
+      let count = lt-ltb p.moment t first in
+      rw (ne_eqb p.moment t (λ same. omega (arith, same, first))) (ap (λ rest. p ∷ rest) (taken_other list (suc p.moment) t v d order.1
+      (let l = rw count at low in omega arith) (rw count at is)))
+  | inr on ↦
+      let count = le-ltb p.moment t on in
+      let other : p.moment ≢ t = rw count at is in
+      let less : t < p.moment = omega (arith, other, on) in
+      rw (ne_eqb p.moment t other) (ap (λ rest. p ∷ rest) (taken_above list (suc p.moment) t v order.1 (omega arith)))
+]
+
+taken_past : (list : List Possible) (n t : ℕ) (v : Bool) → IsInOrderFrom n list → length list ≤ count_before list t → taken list t v ≡ list
+taken_past [] n t v order past = refl
+taken_past (p ∷ list) n t v order past = elim (cases_lt p.moment t) [
+  | inl first ↦
+      let count = lt-ltb p.moment t first in
+      rw (ne_eqb p.moment t (λ same. omega (arith, same, first))) (ap (λ rest. p ∷ rest) (taken_past list (suc p.moment) t v order.1 (let l = rw count at past in omega arith)))
+  | inr on ↦ (let l = rw (le-ltb p.moment t on) at past in absurd (omega arith))
+]
+
+pub taken_where : (list : List Possible) (t count : ℕ) (v : Bool) (here : Possible) → IsInOrder list → count ≡ count_before list t → count < length list
+    → here ≡ get_or list count here → here.moment ≡ t → set list count (record { moment = t; to = without here.to v }) ≡ taken list t v
+taken_where list t count v here order is low at same =
+    let it : get_or list (count_before list t) here ≡ here = rw is at (sym at) in
+    sym (taken_here list 0 t v here order (omega (arith, is, low)) (rw it same)
+    ∙ ap (λ p. set list (count_before list t) (record { moment = p.moment; to = without p.to v })) it
+    ∙ ap (λ m. set list (count_before list t) (record { moment = m; to = without here.to v })) same
+    ∙ ap (λ k. set list k (record { moment = t; to = without here.to v })) (sym is))
+
+pub taken_elsewhere : (list : List Possible) (t count : ℕ) (v : Bool) (here : Possible) → IsInOrder list → count ≡ count_before list t → count < length list
+    → here ≡ get_or list count here → here.moment ≢ t → list ≡ taken list t v
+taken_elsewhere list t count v here order is low at other =
+    let it : get_or list (count_before list t) here ≡ here = rw is at (sym at) in
+    sym (taken_other list 0 t v here order (omega (arith, is, low)) (rw it other))
+
+pub taken_nowhere : (list : List Possible) (t count : ℕ) (v : Bool) → IsInOrder list → count ≡ count_before list t → length list ≤ count → list ≡ taken list t v
+taken_nowhere list t count v order is past = sym (taken_past list 0 t v order (omega (arith, is, past)))

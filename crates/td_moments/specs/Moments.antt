@@ -65,3 +65,7 @@ taken (possible ∷ list) t level =
 -- no moment is greater
 abbrev pub IsWithin : ℕ → List Possible → Type 0
 IsWithin most list = AllByRecursion (λ possible. possible.moment ≤ most) list
+
+-- changes at one moment alone
+abbrev pub once : ℕ → Directions → List Possible
+once moment to = if is_gone to then [] else record { moment = moment; to = to } ∷ []

@@ -1,7 +1,7 @@
 //! Finding a moment among those of a wire.
 
 ghost use Rattle.std.specs.Prelude.{◌≡◌, ◌≤◌, length};
-ghost use Rattle.td_moments.specs.Moments.{IsInOrder, count_before, found, latest, number_at, greatest};
+ghost use Rattle.td_moments.specs.Moments.{IsInOrder, count_before, found, latest, number_at, greatest, taken};
 
 use crate::directions::Directions;
 
@@ -85,4 +85,21 @@ pub fn greatest(list: &[Possible]) -> u64
         }
     }
     most
+}
+
+/// Takes out the change to a level at a moment.
+pub fn take(list: &mut Vec<Possible>, moment: u64, level: bool)
+    requires { IsInOrder list.old.items }
+    ensures { list.new.items ≡ taken list.old.items moment level }
+{
+    let place = count_before(list, moment);
+    if place < list.len() {
+        let possible = list[place];
+        if possible.moment == moment {
+            list[place] = Possible {
+                moment,
+                to: possible.to.without(level),
+            };
+        }
+    }
 }
