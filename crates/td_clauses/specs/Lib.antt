@@ -1,0 +1,5 @@
+pub mod Wires
+pub mod Nets
+pub mod Names
+pub mod First
+pub mod Narrowing
