@@ -1,0 +1,4 @@
+pub mod Reading
+pub mod Lookups
+pub mod Naming
+pub mod Lemmas

@@ -1,0 +1,12 @@
+//! Refutations: steps that show that no admitted pair of a cube changes an output later than a moment.
+#![tactic(auto)]
+
+mod flaw;
+mod kind;
+mod lemma;
+mod lookup;
+mod naming;
+mod reading;
+
+pub use flaw::{Flaw, StepError};
+pub use kind::StepKind;
