@@ -25,6 +25,7 @@ use Rattle.td_propagation.specs.Literals.{signed, literal_true, clause_true, IsT
 use Rattle.td_clauses.specs.declared.nets.NetSets.{NetSets}
 use Rattle.td_clauses.specs.Wires.{WireSet, literal_at, moment_literals, between_from, between, any_from, any_between}
 use Rattle.td_clauses.specs.Nets.{net_at, level_literal, target_literal}
+use Rattle.td_clauses.specs.Holding.{WireHolds, NetsHold}
 use Rattle.td_clauses.specs.Names.{input_literals, table_literals, window_literals, hold_literals, order_literals}
 
 
@@ -76,12 +77,6 @@ signed_denied true true fails = refl
 signed_denied true false fails = cc
 signed_denied false true fails = cc
 signed_denied false false fails = refl
-
--- The set covers the wire's levels, and its variables say them: before all moments, and behind each.
-pub record WireHolds (valuation levels : ℕ → Bool) (wire : WireSet) : Type 0 where
-  pub order : IsInOrder wire.list
-  pub covers : Covers wire.list levels
-  pub says : (j : ℕ) → j ≤ length wire.list → valuation (wire.start + j) ≡ levels (place_of wire.list j)
 
 module _ (valuation levels : ℕ → Bool) (wire : WireSet) (holds : WireHolds valuation levels wire) where
   -- a literal of the wire speaks of its level at its place
@@ -194,17 +189,8 @@ module _ (valuation levels : ℕ → Bool) (wire : WireSet) (holds : WireHolds v
       other_bit false true differ = refl
       other_bit false false differ = absurd (differ refl)
 
--- the sets of all nets cover their levels and targets
-abbrev pub NetsHold : (ℕ → Bool) → (ℕ → ℕ → Bool) → (ℕ → ℕ → Bool) → List NetSets → Type 0
-NetsHold valuation level target nets = (net : ℕ) (sets : NetSets) → slice_get nets net ≡ Some sets
-    → WireHolds valuation (level net) sets.level × WireHolds valuation (target net) sets.target
-
-not_twice : (b : Bool) → not (not b) ≡ b
-not_twice true = refl
-not_twice false = refl
-
 module _ (valuation : ℕ → Bool) (level target : ℕ → ℕ → Bool) (nets : List NetSets) (holds : NetsHold valuation level target nets) where
-  holds_at : (net : ℕ) → net < length nets → WireHolds valuation (level net) (net_at nets net).level × WireHolds valuation (target net) (net_at nets net).target
+  pub holds_at : (net : ℕ) → net < length nets → WireHolds valuation (level net) (net_at nets net).level × WireHolds valuation (target net) (net_at nets net).target
   holds_at net low = holds net (net_at nets net) (slice_get-get_or nets net _ low)
 
   -- Order.

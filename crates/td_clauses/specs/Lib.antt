@@ -3,3 +3,4 @@ pub mod Nets
 pub mod Names
 pub mod First
 pub mod Narrowing
+pub mod Holding

@@ -21,11 +21,7 @@ drop_two : (pairs : List ℕ) (i : ℕ) (d : ℕ) → 2 * i + 1 < length pairs
     → drop (2 * i) pairs ≡ get_or pairs (2 * i) d ∷ get_or pairs (2 * i + 1) d ∷ drop (2 * (i + 1)) pairs
 drop_two [] i d low = absurd (omega arith)
 drop_two (a ∷ []) i d low = absurd (omega arith)
-drop_two (a ∷ b ∷ pairs) zero d low =
-    let none : 2 * 0 ≡ 0 = omega arith in
-    let one : 2 * 0 + 1 ≡ suc 0 = omega arith in
-    let two : 2 * (0 + 1) ≡ suc (suc 0) = omega arith in
-    rw (two, one, none) refl
+drop_two (a ∷ b ∷ pairs) zero d low = refl
 drop_two (a ∷ b ∷ pairs) (suc i) d low =
     let first : 2 * suc i ≡ suc (suc (2 * i)) = omega arith in
     let second : 2 * suc i + 1 ≡ suc (suc (2 * i + 1)) = omega arith in

@@ -1,6 +1,7 @@
 //! Refutations: steps that show that no admitted pair of a cube changes an output later than a moment.
 #![tactic(auto)]
 
+mod first;
 mod flaw;
 mod kind;
 mod lemma;
