@@ -1,2 +1,4 @@
 pub mod Fronts
 pub mod Timed
+pub mod NamedTruth
+pub mod Firsts

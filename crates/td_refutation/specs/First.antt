@@ -1,14 +1,16 @@
 -- First: the first sets of a cube.
-use Rattle.std.specs.Prelude.{ℕ, ◌&&◌, Bool, true, false, not, List, [], ◌∷◌, if◌then◌else◌}
+use Rattle.std.specs.Prelude.{◌≡◌, ℕ, ◌*◌, ◌^◌, ◌≤◌, length, ◌&&◌, Bool, true, false, not, List, [], ◌∷◌, if◌then◌else◌}
 use Rattle.td_circuit.specs.Numbering.{NumberedGate, Numbered}
 use Rattle.td_domain.specs.declared.cubes.Trit.{Trit}
 use Rattle.td_domain.specs.declared.cubes.Trit.TheVariants.{Zero, One, Free}
 use Rattle.td_moments.specs.declared.directions.Directions.{Directions}
 use Rattle.td_moments.specs.declared.finding.Possible.{Possible}
-use Rattle.td_moments.specs.Moments.{once}
+use Rattle.std.specs.List.{AllByRecursion}
+use Rattle.td_moments.specs.Moments.{once, IsWithin}
 use Rattle.td_moments.specs.Merging.{target_of, delayed_of}
 use Rattle.td_clauses.specs.declared.nets.NetSets.{NetSets}
-use Rattle.td_clauses.specs.First.{levels_at, with_net}
+use Rattle.td_clauses.specs.declared.first.TheConstants.{LIMIT}
+use Rattle.td_clauses.specs.First.{levels_at, total, with_net}
 
 -- whether a trit allows a bit
 abbrev pub allows : Trit → Bool → Bool
@@ -47,3 +49,12 @@ constants = with_net (with_net [] [] []) [] []
 -- The first sets of a cube: the constants never change, an input at its moment as its trits allow, and each gate by its rule, in the circuit's order.
 abbrev pub first_sets : Numbered → List Bool → List Trit → List NetSets
 first_sets circuit held cube = gates_from (inputs_from constants held cube circuit.moments) circuit.gates
+
+-- so many variables, which aren't too many
+pub record IsCounted (count : ℕ) (sets : List NetSets) : Type 0 where
+  pub is : count ≡ total sets
+  pub few : count ≤ LIMIT
+
+-- no net changes later than 1,000,000,000 steps for each net
+abbrev pub AreLow : List NetSets → Type 0
+AreLow sets = AllByRecursion (λ net. IsWithin (length sets * 10 ^ 9) net.level.list) sets
