@@ -24,12 +24,6 @@ use Rattle.td_clauses.specs.First.{levels_at, total, numbered, with_net}
 use Rattle.td_clauses.proofs.Lists.{total-more}
 use Rattle.td_refutation.specs.First.{input_to, input_list, inputs_from, with_gate, gates_from, IsCounted, AreLow}
 
-pub none_of : {A : Type 0} {P : Type 0} {Q : A → Type 0} (o : Option A) → o ≡ None → MatchOption o P Q → P
-none_of {A} {P} {Q} o is match = subst (λ (o : Option A). MatchOption o P Q) is match
-
-pub some_of : {A : Type 0} {P : Type 0} {Q : A → Type 0} (o : Option A) (x : A) → o ≡ Some x → MatchOption o P Q → Q x
-some_of {A} {P} {Q} o x is match = subst (λ (o : Option A). MatchOption o P Q) is match
-
 pub grows : (sets : List NetSets) (level target : List Possible) → total sets ≤ total (with_net sets level target)
 grows sets level target = let more = total-more sets (numbered (total sets) level target) in omega arith
 
@@ -140,3 +134,39 @@ input_low sets false a b m low = go (is_gone (input_to a b))
     go : (gone : Bool) → IsWithin ((length sets + 1) * 10 ^ 9) (if gone then [] else record { moment = m; to = input_to a b } ∷ [])
     go true = tt
     go false = (omega arith, tt)
+
+pub gates_next : {G : Type 0} (view : G → NumberedGate) (sets new : List NetSets) (gates : List G) (i : ℕ) (gate : G) (level target : List Possible) (whole : List NetSets)
+    → i < length gates → gate ≡ get_or gates i gate
+    → level ≡ delayed_of (view gate).delay (target_of (view gate).kind (levels_at sets (view gate).inputs))
+    → target ≡ target_of (view gate).kind (levels_at sets (view gate).inputs)
+    → gates_from sets (map view (drop i gates)) ≡ whole → new ≡ with_net sets level target
+    → gates_from new (map view (drop (i + 1) gates)) ≡ whole
+gates_next view sets new gates i gate level target whole low at is is' rest new_is =
+    rw (new_is, is, is') (gates_step view sets gates i gate whole low at rest)
+
+pub gates_over : {G : Type 0} (view : G → NumberedGate) (sets : List NetSets) (gates : List G) (i : ℕ) (gate : G) (level target : List Possible) (whole : List NetSets)
+    → i < length gates → gate ≡ get_or gates i gate
+    → level ≡ delayed_of (view gate).delay (target_of (view gate).kind (levels_at sets (view gate).inputs))
+    → target ≡ target_of (view gate).kind (levels_at sets (view gate).inputs)
+    → gates_from sets (map view (drop i gates)) ≡ whole → LIMIT < total (with_net sets level target) → LIMIT < total whole
+gates_over view sets gates i gate level target whole low at is is' rest over =
+    let next = gates_next view sets (with_net sets level target) gates i gate level target whole low at is is' rest refl in
+    let more = gates_grow (with_net sets level target) (map view (drop (i + 1) gates)) in
+    let same = ap total next in omega arith
+
+pub inputs_over : (sets : List NetSets) (held : List Bool) (cube : List Trit) (moments : List ℕ) (i : ℕ) (h : Bool) (a b : Trit) (m : ℕ) (level : List Possible)
+    (whole : List NetSets) → i < length held → i < length moments → h ≡ get_or held i h → m ≡ get_or moments i m
+    → slice_get cube (2 * i) ≡ Some a → slice_get cube (2 * i + 1) ≡ Some b → level ≡ input_list h a b m
+    → inputs_from sets (drop i held) (drop (2 * i) cube) (drop i moments) ≡ whole → LIMIT < total (with_net sets level []) → LIMIT < total whole
+inputs_over sets held cube moments i h a b m level whole low low' at_h at_m at_a at_b is rest over =
+    let next = inputs_step sets (with_net sets level []) held cube moments i h a b m level whole low low' at_h at_m at_a at_b is rest in
+    let more = inputs_grow (with_net sets level []) (drop (i + 1) held) (drop (2 * (i + 1)) cube) (drop (i + 1) moments) in
+    let same = ap total next in omega arith
+
+pub counted_next : (new made : List NetSets) (count : ℕ) → new ≡ made → count ≡ total made → count ≤ LIMIT → IsCounted count new
+counted_next new made count is total_is few = record { is = total_is ∙ ap total (sym is); few = few }
+
+pub at_default : {A : Type 0} (xs : List A) (i : ℕ) (d e : A) → i < length xs → get_or xs i d ≡ get_or xs i e
+at_default [] i d e low = absurd (omega arith)
+at_default (x ∷ xs) zero d e low = refl
+at_default (x ∷ xs) (suc i) d e low = at_default xs i d e (omega arith)

@@ -5,3 +5,4 @@ pub mod Lemmas
 pub mod Timing
 pub mod Refuting
 pub mod First
+pub mod Steps

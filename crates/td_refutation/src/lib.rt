@@ -8,6 +8,7 @@ mod lemma;
 mod lookup;
 mod naming;
 mod reading;
+mod showing;
 
 pub use flaw::{Flaw, StepError};
 pub use kind::StepKind;

@@ -9,4 +9,4 @@ delayed-requires c =
 
 pub returns-clause-low : goal.returns-clause-low
 returns-clause-low c = rw (c.in_ok-level.ensures, c.in_ok-target.ensures, c.deref.ensures.value)
-    (output_low c.args.sets.now c.args.gate.now.kind c.args.gate.now.delay c.args.gate.now.inputs.items c.requires.low ?)
+    (output_low c.args.sets.now c.args.gate.now.kind c.args.gate.now.delay c.args.gate.now.inputs.items c.requires.low c.to-in_range.ensures.in_range)
