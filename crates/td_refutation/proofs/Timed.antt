@@ -107,7 +107,7 @@ module _ (circuit : Numbered) (numbering : IsNumbering circuit) (fit : AreMoment
   named i net at_i = get_or_from_slice_get (nets circuit) i net LowNet at_i
 
   -- a level as the run has it
-  level_is : (i : ℕ) (net : Net) → slice_get (nets circuit) i ≡ Some net → (n : ℕ) → level_from (level_bits circuit waves i n) ≡ before (waves net) n
+  pub level_is : (i : ℕ) (net : Net) → slice_get (nets circuit) i ≡ Some net → (n : ℕ) → level_from (level_bits circuit waves i n) ≡ before (waves net) n
   level_is i net at_i n =
       ap (λ (m : Net). level_from (level_eq One (before (waves m) n))) (named i net at_i) ∙ whole (before (waves net) n) (boolean i net at_i n)
 

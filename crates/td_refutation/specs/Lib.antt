@@ -6,3 +6,5 @@ pub mod Timing
 pub mod Refuting
 pub mod First
 pub mod Steps
+pub mod Done
+pub mod States

@@ -8,7 +8,9 @@ mod lemma;
 mod lookup;
 mod naming;
 mod reading;
+mod refutation;
 mod showing;
 
 pub use flaw::{Flaw, StepError};
 pub use kind::StepKind;
+pub use refutation::Refutation;
