@@ -168,11 +168,11 @@ module _ (circuit : Numbered) (numbering : IsNumbering circuit) (fit : AreMoment
     done_refutes Constant done = by_name Constant done
     done_refutes Lemma done = by_added (lemma_of circuit sets clauses variables numbers) done (λ pair waves admitted is_in runs literals is.
         lemma_holds pair waves admitted is_in runs sets clauses (old pair waves admitted is_in runs) variables numbers literals is)
-    done_refutes Cut done pair waves admitted is_in runs =
+    done_refutes Cut done = λ pair waves admitted is_in runs.
         subst (λ (s : List NetSets). IsTrueOf circuit waves s clauses') (sym done.sets_are)
         (subst (λ (cs : List (Vec Literal Global)). IsTrueOf circuit waves (cut sets done.it.0 done.it.1 done.it.2) cs) (sym done.clauses_are)
         (cut_is_true pair waves admitted is_in runs sets clauses (old pair waves admitted is_in runs) variables numbers done.it done.read_is))
-    done_refutes Again done pair waves admitted is_in runs =
+    done_refutes Again done = λ pair waves admitted is_in runs.
         subst (λ (s : List NetSets). IsTrueOf circuit waves s clauses') (sym done.sets_are)
         (subst (λ (cs : List (Vec Literal Global)). IsTrueOf circuit waves (again sets done.it.0 (the_gate circuit done.it.1).kind (the_gate circuit done.it.1).delay (the_gate circuit done.it.1).inputs) cs)
         (sym done.clauses_are)

@@ -9,8 +9,10 @@ mod lookup;
 mod naming;
 mod reading;
 mod refutation;
+mod whole;
 mod showing;
 
 pub use flaw::{Flaw, StepError};
 pub use kind::StepKind;
 pub use refutation::Refutation;
+pub use whole::{Refusal, Step, refuted};
