@@ -25,7 +25,14 @@ from crates import lower_first, uses_of  # noqa: E402
 
 # The pages that read the definitions aloud, the first with figures, and the index of their names.
 FIGURES_IN, NAMES = "docs/model/README.md", "docs/model/names.md"
-READ_ALOUD = ("netlists.md", "domains.md", "../CERTIFICATE.md", "search.md", "program.md")
+READ_ALOUD = (
+    "netlists.md",
+    "domains.md",
+    "refutations.md",
+    "../CERTIFICATE.md",
+    "search.md",
+    "program.md",
+)
 # The figures that the first page gives: what it calls them, and what they are of.
 FIGURES = {
     "the worst delay of admitted pairs": (["td_domain::Worst::IsWorst"], []),

@@ -1,0 +1,4 @@
+pub mod Directions
+pub mod Moments
+pub mod Merging
+pub mod Gates

@@ -1,0 +1,5 @@
+pub mod Literals
+pub mod Marks
+pub mod Propagating
+pub mod Following
+pub mod Lists

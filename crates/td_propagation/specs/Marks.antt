@@ -1,0 +1,29 @@
+-- Marks: which literals are taken to be false.
+use Rattle.std.specs.Prelude.{ℕ, Bool, true, false, List, [], ◌∷◌, get_or, set, if◌then◌else◌}
+use Rattle.td_propagation.specs.declared.literal.Literal.{Literal}
+use Rattle.td_propagation.specs.declared.denied.Mark.{Mark}
+
+abbrev pub no_mark : Mark
+no_mark = record { negative = false; positive = false }
+
+-- whether the literal with this sign is taken to be false
+abbrev pub mark_of : Mark → Bool → Bool
+mark_of mark positive = if positive then mark.positive else mark.negative
+
+-- with the literal of this sign too
+abbrev pub with_mark : Mark → Bool → Mark
+with_mark mark true = record { negative = mark.negative; positive = true }
+with_mark mark false = record { negative = true; positive = mark.positive }
+
+-- whether the literal is taken to be false
+abbrev pub is_denied : List Mark → Literal → Bool
+is_denied marks literal = mark_of (get_or marks literal.variable no_mark) literal.positive
+
+-- the marks with a literal taken to be false, where there is such a variable
+abbrev pub denied : List Mark → Literal → List Mark
+denied marks literal = set marks literal.variable (with_mark (get_or marks literal.variable no_mark) literal.positive)
+
+-- the marks with all literals of a clause taken to be false
+abbrev pub all_denied : List Mark → List Literal → List Mark
+all_denied marks [] = marks
+all_denied marks (literal ∷ clause) = all_denied (denied marks literal) clause

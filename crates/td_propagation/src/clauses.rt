@@ -1,0 +1,100 @@
+//! Clauses by number.
+
+ghost use Rattle.std.specs.Prelude.{◌≡◌, length, IfOk, MatchOption, None, Some};
+ghost use Rattle.td_propagation.specs.Following.{hinted, follow};
+
+use crate::denied::Denied;
+use crate::left::Left;
+use crate::literal::Literal;
+use std::alloc::{AllocError, Global};
+
+/// What hints lead to: a clause that is false, a hint that is no clause's, one that leaves several literals, or no clause that is false.
+#[derive(Clone, Copy, Debug, PartialEq, Eq, Drop)]
+pub enum Outcome {
+    Shown,
+    NoSuchHint,
+    HintOpen,
+    NotShown,
+}
+
+/// Clauses by number, from 0 on in the order in which they came, and room for showing others.
+#[derive(Drop)]
+pub struct Clauses {
+    clauses: Vec<Vec<Literal>>,
+    denied: Denied,
+}
+
+// The clause that a hint names: 1 is the last one, 2 the one before.
+fn hinted(clauses: &[Vec<Literal>], hint: u64) -> Option<&[Literal]>
+    ensures { MatchOption result (hinted clauses.now hint ≡ None) (λ clause. hinted clauses.now hint ≡ Some clause.now) }
+{
+    if hint == 0 || hint > clauses.len() as u64 {
+        return None;
+    }
+    let place = clauses.len() - hint as usize;
+    match clauses.get(place) {
+        Some(clause) => Some(clause),
+        None => None,
+    }
+}
+
+// Follows the hints. The error is out of memory.
+fn follow(
+    clauses: &[Vec<Literal>],
+    denied: &mut Denied,
+    hints: &[u64],
+) -> Result<Outcome, AllocError>
+    ensures outcome { IfOk result (λ outcome. outcome ≡ follow clauses.now denied.old.marks.items hints.now) }
+    ensures len { length denied.new.marks.items ≡ length denied.old.marks.items }
+{
+    for hint in hints {
+        let Some(clause) = hinted(clauses, *hint) else {
+            return Ok(Outcome::NoSuchHint);
+        };
+        match denied.left(clause) {
+            Left::Nothing => return Ok(Outcome::Shown),
+            Left::One(literal) => denied.deny(literal.negation())?,
+            Left::Several => return Ok(Outcome::HintOpen),
+        }
+    }
+    Ok(Outcome::NotShown)
+}
+
+impl Clauses {
+    ghost use Rattle.std.specs.Prelude.{◌≡◌, ◌++◌, ◌∷◌, [], ℕ, Bool, IfOk, OnOk, OnErr};
+    ghost use Rattle.td_propagation.specs.Literals.{IsTrueUnder};
+    ghost use Rattle.td_propagation.specs.Following.{shown_by, AreTrue};
+    ghost use Rattle.td_propagation.specs.Lists.{list_of, variables_of};
+
+    /// No clauses, over so many variables. The error is out of memory.
+    pub fn new(alloc: Global, variables: usize) -> Result<Clauses, AllocError>
+        ensures none { IfOk result (λ clauses. list_of clauses ≡ []) }
+        ensures variables { IfOk result (λ clauses. variables_of clauses ≡ variables) }
+    {
+        Ok(Clauses {
+            clauses: Vec::new(alloc),
+            denied: Denied::new(alloc, variables)?,
+        })
+    }
+
+    /// Where the hints lead when the literals are taken to be false. The error is out of memory.
+    pub fn show(&mut self, literals: &[Literal], hints: &[u64]) -> Result<Outcome, AllocError>
+        ensures outcome { IfOk result (λ outcome. outcome ≡ shown_by (list_of self.old) (variables_of self.old) literals.now hints.now) }
+        ensures list { list_of self.new ≡ list_of self.old }
+        ensures variables { variables_of self.new ≡ variables_of self.old }
+    {
+        self.denied.clear();
+        self.denied.deny_all(literals)?;
+        follow(&self.clauses, &mut self.denied, hints)
+    }
+
+    /// Adds a clause. The error is out of memory, and then all is as before.
+    pub fn add(&mut self, clause: Vec<Literal>) -> Result<(), AllocError>
+        ensures ok { OnOk result (list_of self.new ≡ list_of self.old ++ clause ∷ []) }
+        ensures err { OnErr result (list_of self.new ≡ list_of self.old) }
+        ensures variables { variables_of self.new ≡ variables_of self.old }
+    {
+        self.clauses.push(clause)?;
+        Ok(())
+    }
+}

@@ -1,0 +1,7 @@
+pub mod Fronts
+pub mod Timed
+pub mod NamedTruth
+pub mod Firsts
+pub mod Making
+pub mod Sound
+pub mod Latest
