@@ -8,7 +8,7 @@ sim` and `tdelay path`.
 
 prints what `tdelay` prints for these words, and ends with its exit statuses. Written from
 docs/CERTIFICATE.md, docs/MODEL.md, docs/MODEL-DOMAINS.md, docs/MODEL-PROGRAM.md and
-docs/COMMANDS.md alone, in Python's standard library: it shares nothing with the project, no code,
+docs/MANUAL.md alone, in Python's standard library: it shares nothing with the project, no code,
 no proof and no toolchain. What differs: a fault of the netlist is told without its number and line,
 a loop without a net on it, and a bad command line in argparse's words. It is slow, since each leaf
 is bounded from nothing.
