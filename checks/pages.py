@@ -69,6 +69,7 @@ NARROW = [
     "README.md",
     "docs/ARCHITECTURE.md",
     "docs/CONTRIBUTING.md",
+    "docs/FIGURES.md",
     "docs/FROM-RTL.md",
     "docs/GLOSSARY.md",
     "docs/MANUAL.md",
@@ -191,20 +192,24 @@ def widths(tested):
 
 def options(tested):
     """Cases: the manual's tables of options are those of `--help`, command by command."""
-    for section in re.split(r"^## ", places.text_of("docs/MANUAL.md"), flags=re.M):
-        command = re.match(rf"`({COMMANDS})`", section)
-        if command:
-            shown = set(re.findall(r"^\| `(--[a-z-]+)", section, flags=re.M))
-            helped = re.findall(r"^ +(?:-\w, )?(--[a-z-]+)", tested.run(command[1], "--help").out, re.M)
-            tested.expect(
-                f"docs/MANUAL.md: the options of {command[1]}", set(helped) - {"--help"}, shown
-            )
+    manual = places.text_of("docs/MANUAL.md")
+    for command in COMMANDS.split("|"):
+        section = re.search(rf"^## `{command}`.*?(?=^## )", manual, flags=re.M | re.S)
+        shown = re.findall(r"^\| `(--[a-z-]+)", section[0] if section else "", flags=re.M)
+        helped = re.findall(r"^ +(?:-\w, )?(--[a-z-]+)", tested.run(command, "--help").out, re.M)
+        tested.expect(
+            f"docs/MANUAL.md: the options of {command}",
+            sorted({*helped} - {"--help"}),
+            sorted(shown),
+        )
 
 
 def refusals(tested):
     """Cases: the example of each refusal of docs/NETLIST.md is refused with its number and name."""
     rows = re.findall(
-        r"^\| (\d+) \| (\w+) \| [^|]* \| `([^|]*)` \|", places.text_of("docs/NETLIST.md"), flags=re.M
+        r"^\| (\d+) \| (\w+) \| [^|]* \| `([^|]*)` \|",
+        places.text_of("docs/NETLIST.md"),
+        flags=re.M,
     )
     for number, name, text in rows:
         tested.write("t.v", FRAME.format(text))
