@@ -2,19 +2,19 @@
 """Looks that the pages say what is so, where a script can see it.
 
 The pages of PAGES are read from top to bottom, one after the other, and their commands run in one
-folder. A block that begins as a module is a netlist, of the last name
-that ends in `.v` before it. Each line of a block `sh` that calls `./tdelay`, and each `command
-FILE.v ..` in backquotes, is run, and ends well. A block without a language is what the last command
-prints, whole or without the head. A text in backquotes that is a line of a report or a message is a
-line that some command of the pages prints, or one of OTHERS, of which they tell in words.
+folder. A block that begins as a module is a netlist, of the last name that ends in `.v` before it.
+Each line of a block `sh` that calls `./tdelay`, and each `command FILE.v ..` in backquotes, is run,
+and ends well. A block without a language is what the last command prints, whole or without the
+head. A text in backquotes that is a line of a report or a message is a line that some command of
+the pages prints, or one of OTHERS, of which they tell in words.
 
 Besides, each contract that README.md and docs/CONTRACTS.md quote stands in the sources, word for
-word; as many wrong bodies are there as the pages say; the numbers of docs/MODEL.md are those of
-tools/model.py, and the picture of the crates is that of tools/picture.py. Each relative link of a
-page leads to a file that is there, and to a heading of it. The pages of NARROW have lines of at
-most 100 columns, but for tables and blocks. The options of docs/MANUAL.md are those of `--help`,
-command by command, and each refusal of docs/NETLIST.md is what its example gives. Each command,
-block, text, line of a contract, link, page and refusal is a case.
+word; as many wrong bodies are there as the pages say; the numbers and names of docs/model are those
+of tools/model.py, and the picture of the crates is that of tools/picture.py. Each relative link of
+a page leads to a file that is there, and to a heading of it. Lines have at most 100 columns, but
+for tables, blocks and what WIDE names. The options of docs/MANUAL.md are those of `--help`, command
+by command, and each refusal of docs/NETLIST.md is what its example gives. Each command, block,
+text, line of a contract, link, page and refusal is a case.
 """
 
 import glob
@@ -62,24 +62,16 @@ CHANGED = {
     "other_leaf.cert": ("still.cert", b"b a 0", b"none"),
     "other_bound.cert": ("inverter.cert", b"b a 3", b"b a 2"),
 }
-# The pages whose lines have at most 100 columns outside tables and blocks, and where the rest of a
-# page begins, of which that isn't so yet.
-NARROW = [
-    "CHANGELOG.md",
-    "README.md",
-    "docs/ARCHITECTURE.md",
-    "docs/CONTRIBUTING.md",
-    "docs/FIGURES.md",
-    "docs/FROM-RTL.md",
-    "docs/GLOSSARY.md",
-    "docs/MANUAL.md",
-    "docs/NETLIST.md",
-    "docs/OUTPUT.md",
-    "examples/from_rtl/README.md",
-]
-WIDE_FROM = {"docs/FIGURES.md": "\n## What the proofs cost\n"}
+# The pages that still have lines above 100 columns, each with the heading after which they stand.
+WIDE = {
+    "docs/CERTIFICATE.md": "# ",
+    "docs/CONTRACTS.md": "# ",
+    "docs/FIGURES.md": "## What the proofs cost",
+    "docs/MANY-MACHINES.md": "# ",
+    "docs/REFUTATION-API.md": "# ",
+}
 # How many relative links all pages have at least, and how many refusals docs/NETLIST.md has.
-LINKS, REFUSALS = 100, 16
+LINKS, REFUSALS = 200, 16
 # Where the examples of docs/NETLIST.md stand.
 FRAME = "module t(a, y);\ninput a;\noutput y;\n{}\nendmodule\n"
 # The lines of reports, and the messages, that are looked for in backquotes.
@@ -184,8 +176,8 @@ def links(tested):
 
 def widths(tested):
     """Cases: no line of a page outside tables and blocks has more than 100 columns."""
-    for page in NARROW:
-        lines = prose_of(page).partition(WIDE_FROM.get(page, "\0"))[0].splitlines()
+    for page in all_pages():
+        lines = prose_of(page).partition(WIDE.get(page, "\0"))[0].splitlines()
         wide = [line for line in lines if len(line) > 100 and not line.startswith("|")]
         tested.expect(f"{page}: the lines above 100 columns", [], wide)
 

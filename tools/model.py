@@ -8,8 +8,9 @@ file, without imports. `--without Means` leaves a definition out, and what it al
 `--count` prints the number of lines alone: definitions and their comments, without blank lines and
 the names of files.
 
-`model.py --check` compares the numbers of docs/MODEL.md with the sources (exit status 1 where one
-differs). Run it at the top of the repository.
+`model.py --check` compares the numbers of docs/model/README.md, and the index docs/model/names.md,
+with the sources (exit status 1 where one differs). `model.py --names` prints that index. Run it at
+the top of the repository.
 """
 
 import functools
@@ -22,7 +23,17 @@ TOP = os.path.dirname(os.path.dirname(os.path.abspath(__file__)))
 sys.path.append(os.path.join(TOP, "build"))
 from crates import lower_first, uses_of  # noqa: E402
 
-# The figures that docs/MODEL.md gives: what it calls them, and what they are of.
+# The pages that read the definitions aloud, the first with figures, and the index of their names.
+FIGURES_IN, NAMES = "docs/model/README.md", "docs/model/names.md"
+READ_ALOUD = (
+    "netlists.md",
+    "domains.md",
+    "refutations.md",
+    "../CERTIFICATE.md",
+    "search.md",
+    "program.md",
+)
+# The figures that the first page gives: what it calls them, and what they are of.
 FIGURES = {
     "the worst delay of admitted pairs": (["td_domain::Worst::IsWorst"], []),
     "an answer of a search, without the meaning of a text": (["td_search::alone"], ["Means"]),
@@ -330,19 +341,53 @@ def printed(closure):
     return "\n".join(rows), count
 
 
+def sections(page):
+    """The sections of a page of the model: titles, links, and the names in backquotes."""
+    for section in open(os.path.join("docs/model", page)).read().split("\n## ")[1:]:
+        title, _, body = section.partition("\n")
+        anchor = re.sub(r"[^\w\- ]", "", title.lower()).replace(" ", "-")
+        yield title, f"{page}#{anchor}", set(re.findall(r"(?<!`)`([A-Za-z]\w+)`(?!`)", body))
+
+
+def names(model):
+    """The index of the definitions that the pages name, a capital or a `_` in each name."""
+    files = {}
+    for path, name in model.by_name:
+        files.setdefault(name, set()).add(path.removeprefix("crates/").removesuffix(".antt"))
+    read = {}
+    for page in READ_ALOUD:
+        for title, link, words in sections(page):
+            for word in words & set(files):
+                if "_" in word or word[0].isupper():
+                    read.setdefault(word, []).append(f"[{title}]({link})")
+    rows = [
+        "# Names of the model\n",
+        "Made by `tools/model.py --names`: each definition that the pages name, the files of",
+        "`crates/*/specs` that have it, and the sections that read it aloud.\n",
+        "| Name | Defined in | Read aloud in |",
+        "| --- | --- | --- |",
+    ]
+    for word in sorted(read, key=lambda word: (word.lower(), word)):
+        places = ", ".join(f"`{path.replace('/specs/', '/')}`" for path in sorted(files[word]))
+        rows.append(f"| `{word}` | {places} | {', '.join(read[word])} |")
+    return "\n".join(rows) + "\n"
+
+
 def check():
     model, wrong = Model(), 0
-    text = open("docs/MODEL.md").read()
+    text = open(FIGURES_IN).read()
     for what, (roots, without) in FIGURES.items():
         count = printed(model.closure(roots, without))[1]
         stated = re.search(r"\| %s \|.*?\| (\d[\d,]*) \|" % re.escape(what), text)
         right = stated is not None and int(stated[1].replace(",", "")) == count
         print(
             f"{what}: {count} lines"
-            + ("" if right else f", docs/MODEL.md says {stated[1] if stated else 'nothing'}")
+            + ("" if right else f", {FIGURES_IN} says {stated[1] if stated else 'nothing'}")
         )
         wrong += not right
-    return wrong
+    right = open(NAMES).read() == names(model)
+    print(f"{NAMES}: {'as the sources' if right else 'make it again by tools/model.py --names'}")
+    return wrong + (not right)
 
 
 def main():
@@ -351,6 +396,8 @@ def main():
         sys.exit(__doc__)
     if words == ["--check"]:
         sys.exit(1 if check() else 0)
+    if words == ["--names"]:
+        return print(names(Model()), end="")
     only_count = "--count" in words
     words = [word for word in words if word != "--count"]
     while words:

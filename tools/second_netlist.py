@@ -1,6 +1,6 @@
-"""The reader of netlists of second_opinion.py, written from docs/MODEL.md alone, "Tokens of a text"
-to "Netlist": it shares nothing with the project. `read_circuit` gives the circuit that a text
-means, with each gate after those that it reads; a fault is a `Refusal`.
+"""The reader of netlists of second_opinion.py, written from docs/model/netlists.md alone,
+"Tokens of a text" to "Netlist": it shares nothing with the project. `read_circuit` gives the
+circuit that a text means, with each gate after those that it reads; a fault is a `Refusal`.
 """
 
 import re
