@@ -62,11 +62,10 @@ CHANGED = {
     "other_leaf.cert": ("still.cert", b"b a 0", b"none"),
     "other_bound.cert": ("inverter.cert", b"b a 3", b"b a 2"),
 }
-# The pages that still have lines above 100 columns, each with the heading after which they stand.
+# The pages that still have lines above 100 columns, each with the text after which they stand.
 WIDE = {
     "docs/CERTIFICATE.md": "# ",
     "docs/CONTRACTS.md": "# ",
-    "docs/FIGURES.md": "## What the proofs cost",
     "docs/MANY-MACHINES.md": "# ",
     "docs/REFUTATION-API.md": "# ",
 }
