@@ -1,5 +1,5 @@
 #!/usr/bin/env python3
-"""Runs all commands on devices that fail, and compares how they end with docs/OUTPUT.md.
+"""Runs all commands on devices that fail, and compares how they end with docs/MANUAL.md.
 
 Standard input and output closed, a full disk (/dev/full), a directory as FILE, a name that is no
 UTF-8, FIFOs, an output in a folder that isn't there or that is a directory, a file that may not be

@@ -5,7 +5,7 @@ the documents.
 Each front of a netlist's text and of certificates of every version, byte by byte; a certificate of
 100,000 nested splits; a chain of 100,000 gates through each command; 200,000 gates of two inputs in
 a hundred layers, searched, cut, joined and checked; and each limit of docs/model/netlists.md,
-docs/CERTIFICATE.md and docs/COMMANDS.md at its value and one beyond. Each case is how one run ends.
+docs/CERTIFICATE.md and docs/MANUAL.md at its value and one beyond. Each case is how one run ends.
 """
 
 import sys

@@ -4,7 +4,7 @@
 The corpus is made from examples/: its small netlists, and certificates of every version that
 `worst` writes of them, of whole questions and of the parts of some. Each case takes one command,
 mutates some of its netlist, certificate and words, and runs it. A run must not crash; must end
-within 10 seconds, with a status that docs/OUTPUT.md has; has one line on standard error, `tdelay:
+within 10 seconds, with a status that docs/MANUAL.md has; has one line on standard error, `tdelay:
 ..`, where the status is 1, 2 or 5, or 4 of `join` (or what the library of command lines says, with
 status 2), and none elsewhere but lines of progress; an `exact` answer has a certificate that
 `check` accepts with its time; and where tools/second_opinion.py reads the same netlist, its verdict

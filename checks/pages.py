@@ -1,17 +1,20 @@
 #!/usr/bin/env python3
 """Looks that the pages say what is so, where a script can see it.
 
-README.md, docs/COMMANDS.md and examples/README.md are read from top to bottom, one after the other,
-and their commands run in one folder. A block that begins as a module is a netlist, of the last name
-that ends in `.v` before it. Each line of a block `sh` that calls `./tdelay`, and each `command
-FILE.v ..` in backquotes, is run, and ends well. A block without a language is what the last command
-prints, whole or without the head. A text in backquotes that is a line of a report or a message is a
-line that some command of the pages prints, or one of OTHERS, of which they tell in words.
+The pages of PAGES are read from top to bottom, one after the other, and their commands run in one
+folder. A block that begins as a module is a netlist, of the last name that ends in `.v` before it.
+Each line of a block `sh` that calls `./tdelay`, and each `command FILE.v ..` in backquotes, is run,
+and ends well. A block without a language is what the last command prints, whole or without the
+head. A text in backquotes that is a line of a report or a message is a line that some command of
+the pages prints, or one of OTHERS, of which they tell in words.
 
 Besides, each contract that README.md and docs/CONTRACTS.md quote stands in the sources, word for
 word; as many wrong bodies are there as the pages say; the numbers and names of docs/model are those
-of tools/model.py, and the picture of the crates is that of tools/picture.py. Each command, block,
-text and line of a contract is a case.
+of tools/model.py, and the picture of the crates is that of tools/picture.py. Each relative link of
+a page leads to a file that is there, and to a heading of it. Lines have at most 100 columns, but
+for tables, blocks and what WIDE names. The options of docs/MANUAL.md are those of `--help`, command
+by command, and each refusal of docs/NETLIST.md is what its example gives. Each command, block,
+text, line of a contract, link, page and refusal is a case.
 """
 
 import glob
@@ -26,7 +29,8 @@ COMMANDS = "sim|path|bound|worst|parts|join|info|check"
 # The pages with commands, and how many each has at least.
 PAGES = {
     "README.md": 5,
-    "docs/COMMANDS.md": 7,
+    "docs/MANUAL.md": 15,
+    "docs/NETLIST.md": 1,
     "examples/README.md": 7,
     "examples/from_rtl/README.md": 7,
 }
@@ -35,7 +39,7 @@ CONTRACTS, QUOTED = "docs/CONTRACTS.md", 120
 # Commands that a page tells of in words.
 OTHERS = {
     "README.md": ["worst lost.v --budget 1"],
-    "docs/COMMANDS.md": [
+    "docs/MANUAL.md": [
         "bound inverter.v",
         "sim skew.v 01 10",
         "worst skew.v",
@@ -46,6 +50,7 @@ OTHERS = {
         "check inverter.v other_leaf.cert",
         "check inverter.v other_bound.cert",
     ],
+    "docs/NETLIST.md": [],
     "examples/README.md": [],
     "examples/from_rtl/README.md": [],
 }
@@ -57,6 +62,17 @@ CHANGED = {
     "other_leaf.cert": ("still.cert", b"b a 0", b"none"),
     "other_bound.cert": ("inverter.cert", b"b a 3", b"b a 2"),
 }
+# The pages that still have lines above 100 columns, each with the text after which they stand.
+WIDE = {
+    "docs/CERTIFICATE.md": "# ",
+    "docs/CONTRACTS.md": "# ",
+    "docs/MANY-MACHINES.md": "# ",
+    "docs/REFUTATION-API.md": "# ",
+}
+# How many relative links all pages have at least, and how many refusals docs/NETLIST.md has.
+LINKS, REFUSALS = 200, 16
+# Where the examples of docs/NETLIST.md stand.
+FRAME = "module t(a, y);\ninput a;\noutput y;\n{}\nendmodule\n"
 # The lines of reports, and the messages, that are looked for in backquotes.
 LINES = [
     r"(?:exact|accepted|time|nodes|[atmen]) \d+",
@@ -116,6 +132,83 @@ def counted(tested):
         count = len(glob.glob(os.path.join(places.TOP, edits)))
         found = [int(number) for text in texts for number in re.findall(pattern, text)]
         tested.expect(f"the pages count {edits}", (True, {count}), (bool(found), set(found)))
+
+
+def all_pages():
+    """The names of all pages of the repository."""
+    found = glob.glob(os.path.join(places.TOP, "**", "*.md"), recursive=True)
+    names = sorted(os.path.relpath(path, places.TOP) for path in found)
+    return [name for name in names if "out" not in name.split(os.sep)]
+
+
+def prose_of(name):
+    """The text of a page without its blocks."""
+    return "".join(piece for language, piece in pieces(places.text_of(name)) if language is None)
+
+
+def anchors_of(name):
+    """The names by which links lead to the headings of a page."""
+    headings = re.findall(r"^#+ (.*)$", prose_of(name), flags=re.M)
+    return {re.sub(r"[^\w\- ]", "", heading.lower()).replace(" ", "-") for heading in headings}
+
+
+def leads(page, link):
+    """Whether a relative link of a page leads to a file that is there, and to a heading of it."""
+    path, _, anchor = link.partition("#")
+    name = os.path.normpath(os.path.join(os.path.dirname(page), path)) if path else page
+    if not os.path.exists(os.path.join(places.TOP, name)):
+        return False
+    return not anchor or name.endswith(".md") and anchor in anchors_of(name)
+
+
+def links(tested):
+    """Cases: each relative link of all pages leads somewhere."""
+    count = 0
+    for page in all_pages():
+        for link in re.findall(r"\]\(([^)\s]+)\)", prose_of(page)):
+            if not re.match(r"\w+:", link):
+                count += 1
+                tested.expect(f"{page}: the link {link} leads somewhere", True, leads(page, link))
+    if count < LINKS:
+        tested.fault(f"{count} links in the pages, where there have to be {LINKS}")
+
+
+def widths(tested):
+    """Cases: no line of a page outside tables and blocks has more than 100 columns."""
+    for page in all_pages():
+        lines = prose_of(page).partition(WIDE.get(page, "\0"))[0].splitlines()
+        wide = [line for line in lines if len(line) > 100 and not line.startswith("|")]
+        tested.expect(f"{page}: the lines above 100 columns", [], wide)
+
+
+def options(tested):
+    """Cases: the manual's tables of options are those of `--help`, command by command."""
+    manual = places.text_of("docs/MANUAL.md")
+    for command in COMMANDS.split("|"):
+        section = re.search(rf"^## `{command}`.*?(?=^## )", manual, flags=re.M | re.S)
+        shown = re.findall(r"^\| `(--[a-z-]+)", section[0] if section else "", flags=re.M)
+        helped = re.findall(r"^ +(?:-\w, )?(--[a-z-]+)", tested.run(command, "--help").out, re.M)
+        tested.expect(
+            f"docs/MANUAL.md: the options of {command}",
+            sorted({*helped} - {"--help"}),
+            sorted(shown),
+        )
+
+
+def refusals(tested):
+    """Cases: the example of each refusal of docs/NETLIST.md is refused with its number and name."""
+    rows = re.findall(
+        r"^\| (\d+) \| (\w+) \| [^|]* \| `([^|]*)` \|",
+        places.text_of("docs/NETLIST.md"),
+        flags=re.M,
+    )
+    for number, name, text in rows:
+        tested.write("t.v", FRAME.format(text))
+        said = tested.run("info", "t.v").err
+        wanted = rf"tdelay: (netlist|circuit) fault {number} {name} (at line|on) "
+        tested.expect(f"docs/NETLIST.md: {text}: {said}", True, bool(re.match(wanted, said)))
+    if len(rows) < REFUSALS:
+        tested.fault(f"{len(rows)} refusals in docs/NETLIST.md, where there are {REFUSALS}")
 
 
 def pieces(text):
@@ -227,6 +320,10 @@ def work(tested):
     contracts(tested)
     tools(tested)
     counted(tested)
+    links(tested)
+    widths(tested)
+    options(tested)
+    refusals(tested)
     with running.folder() as folder:
         pages = Pages(tested, folder)
         for name, least in PAGES.items():

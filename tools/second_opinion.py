@@ -7,7 +7,7 @@ sim` and `tdelay path`.
     second_opinion.py path FILE FROM TO [--output NAME] [--at M,M,..] [--default-rise N] [..]
 
 prints what `tdelay` prints for these words, and ends with its exit statuses. Written from
-docs/CERTIFICATE.md, netlists.md, domains.md and program.md of docs/model, and docs/COMMANDS.md
+docs/CERTIFICATE.md, netlists.md, domains.md and program.md of docs/model, and docs/MANUAL.md
 alone, in Python's standard library: it shares nothing with the project, no code,
 no proof and no toolchain. What differs: a fault of the netlist is told without its number and line,
 a loop without a net on it, and a bad command line in argparse's words. It is slow, since each leaf

@@ -1,13 +1,13 @@
 -- Keeping: sets that lose changes which can't be still hold, and so do those of one net more.
-use Rattle.std.proofs.Common.{◌≡◌, ◌≢◌, ℕ, zero, suc, ◌+◌, ◌-◌, ◌<◌, ◌≤◌, ◌⊎◌, Bool, true, false, List, [], ◌∷◌, ◌++◌, length, map, get_or, refl, arith, ap, sym, ◌∙◌, subst, inl, inr, Some, append_assoc, append-nil}
-use Rattle.std.specs.Prelude.{slice_get, set, ◌==◌, if◌then◌else◌}
+use Rattle.std.proofs.Common.{◌≡◌, ◌≢◌, ℕ, zero, suc, ◌+◌, ◌<◌, ◌≤◌, ◌⊎◌, Bool, true, false, List, [], ◌∷◌, ◌++◌, length, map, get_or, refl, arith, ap, sym, ◌∙◌, subst, inl, inr, append_assoc, append-nil}
+use Rattle.std.specs.Prelude.{set, ◌==◌, if◌then◌else◌}
 use Rattle.std.specs.List.{AllByRecursion, AllZip}
 use Rattle.std.proofs.lemmas.Option.{slice_get-get_or}
 use Rattle.std.proofs.lemmas.List.{length-append, length-map}
 use Rattle.td_gates.specs.declared.primitives.Kind.{Kind}
 use Rattle.td_gates.specs.declared.timing.Delay.{Delay}
 use Rattle.td_gates.specs.Delays.{IsInRange}
-use Rattle.td_gates.proofs.Places.{some-same, slice_get-some, slice_get-set_cases, slice_get-push_cases, get_or-front, get_or-back}
+use Rattle.td_gates.proofs.Places.{slice_get-some, slice_get-set_cases, slice_get-push_cases, get_or-back}
 use Rattle.td_moments.specs.declared.directions.Directions.{Directions}
 use Rattle.td_moments.specs.declared.finding.Possible.{Possible}
 use Rattle.td_moments.specs.Directions.{without}
@@ -19,7 +19,7 @@ use Rattle.td_moments.proofs.CoverLaws.{Allows, kept_covers, taken_covers}
 use Rattle.td_moments.proofs.GateLaws.{Follows, target_allows, target_covers, output_allows, output_covers}
 use Rattle.td_clauses.specs.declared.nets.NetSets.{NetSets}
 use Rattle.td_clauses.specs.Wires.{WireSet}
-use Rattle.td_clauses.specs.Nets.{net_at, no_net}
+use Rattle.td_clauses.specs.Nets.{net_at}
 use Rattle.td_clauses.specs.First.{levels_at, total, numbered, with_net}
 use Rattle.td_clauses.specs.Narrowing.{cut_sets, cut, again_sets, again}
 use Rattle.td_clauses.specs.Holding.{WireHolds, NetsHold}

@@ -1,9 +1,9 @@
 -- Lists: totals, lengths and ranges.
-use Rattle.std.proofs.Common.{◌≡◌, ℕ, zero, suc, ◌+◌, ◌-◌, ◌<◌, ◌≤◌, Bool, true, false, List, [], ◌∷◌, ◌++◌, length, map, get_or, set, refl, arith, ap, sym, ◌∙◌, append_assoc}
+use Rattle.std.proofs.Common.{◌≡◌, ℕ, suc, ◌+◌, ◌-◌, ◌<◌, Bool, true, false, List, [], ◌∷◌, ◌++◌, length, get_or, refl, arith, ap, sym, ◌∙◌, append_assoc}
 use Rattle.std.specs.Prelude.{◌||◌, ◌==◌, if◌then◌else◌}
 use Rattle.td_moments.specs.declared.directions.Directions.{Directions}
 use Rattle.td_moments.specs.declared.finding.Possible.{Possible}
-use Rattle.td_moments.specs.Directions.{is_gone, may, without}
+use Rattle.td_moments.specs.Directions.{may, without}
 use Rattle.td_moments.specs.Moments.{nowhere, taken}
 use Rattle.td_moments.specs.Merging.{kept}
 use Rattle.td_propagation.specs.declared.literal.Literal.{Literal}

@@ -1,9 +1,9 @@
 -- Truth: the named clauses are true of each run that the sets cover.
-use Rattle.std.proofs.Common.{◌≡◌, ◌≢◌, ℕ, zero, suc, ◌+◌, ◌-◌, ◌<◌, ◌≤◌, ◌⊎◌, Bool, true, false, List, [], ◌∷◌, ◌++◌, length, map, get_or, refl, arith, ap, sym, ◌∙◌, subst, inl, inr, Some}
-use Rattle.std.specs.Prelude.{not, ◌||◌, slice_get, if◌then◌else◌}
+use Rattle.std.proofs.Common.{◌≡◌, ◌≢◌, ℕ, zero, suc, ◌+◌, ◌-◌, ◌<◌, ◌≤◌, ◌⊎◌, Bool, true, false, List, [], ◌∷◌, ◌++◌, length, map, get_or, refl, arith, ap, sym, ◌∙◌, inl, inr}
+use Rattle.std.specs.Prelude.{not, ◌||◌}
 use Rattle.std.specs.List.{AllByRecursion}
 use Rattle.std.proofs.lemmas.Option.{slice_get-get_or}
-use Rattle.std.proofs.lemmas.Bool.{cases_lt, cases_eq, cases_Bool, or_left, or_right, not-true}
+use Rattle.std.proofs.lemmas.Bool.{cases_eq, cases_Bool, or_left}
 use Rattle.td_gates.specs.declared.primitives.Level.{Level}
 use Rattle.td_gates.specs.declared.primitives.Level.TheVariants.{Zero, One, X}
 use Rattle.td_gates.specs.declared.primitives.Kind.{Kind}
@@ -14,7 +14,7 @@ use Rattle.td_gates.proofs.TableLaws.{AllAgree, table_known}
 use Rattle.td_moments.specs.declared.directions.Directions.{Directions}
 use Rattle.td_moments.specs.declared.finding.Possible.{Possible}
 use Rattle.td_moments.specs.Directions.{may, is_gone}
-use Rattle.td_moments.specs.Moments.{IsInOrder, Covers, found, nowhere, count_before, latest, number_at, place_of}
+use Rattle.td_moments.specs.Moments.{nowhere, count_before, latest, number_at, place_of}
 use Rattle.td_moments.specs.Gates.{steps_to}
 use Rattle.td_moments.proofs.Places.{count_above, count_below, count_within}
 use Rattle.td_moments.proofs.FindingLaws.{found_at, never_gone}
@@ -27,7 +27,6 @@ use Rattle.td_clauses.specs.Wires.{WireSet, literal_at, moment_literals, between
 use Rattle.td_clauses.specs.Nets.{net_at, level_literal, target_literal}
 use Rattle.td_clauses.specs.Holding.{WireHolds, NetsHold}
 use Rattle.td_clauses.specs.Names.{input_literals, table_literals, window_literals, hold_literals, order_literals}
-
 
 latest_within : (list : List Possible) (count : ℕ) → latest list count ≤ count
 latest_within list zero = omega arith
@@ -251,13 +250,15 @@ module _ (valuation : ℕ → Bool) (level target : ℕ → ℕ → Bool) (nets 
   inputs_agree [] (l ∷ levels) place same low fails = absurd (omega arith)
   inputs_agree (net ∷ inputs) [] place same low fails = absurd (omega arith)
   inputs_agree (net ∷ inputs) (Zero ∷ levels) place same low fails =
-      let parts = or_none _ _ fails in
-      ((λ known. ap level_from (literal_fails valuation (level net) (net_at nets net).level (holds_at net low.0).0 place true parts.0)),
-      inputs_agree inputs levels place (omega arith) low.1 parts.1)
+      let parts = or_none _ _ fails in (
+        (λ known. ap level_from (literal_fails valuation (level net) (net_at nets net).level (holds_at net low.0).0 place true parts.0)),
+        inputs_agree inputs levels place (omega arith) low.1 parts.1,
+      )
   inputs_agree (net ∷ inputs) (One ∷ levels) place same low fails =
-      let parts = or_none _ _ fails in
-      ((λ known. ap level_from (literal_fails valuation (level net) (net_at nets net).level (holds_at net low.0).0 place false parts.0)),
-      inputs_agree inputs levels place (omega arith) low.1 parts.1)
+      let parts = or_none _ _ fails in (
+        (λ known. ap level_from (literal_fails valuation (level net) (net_at nets net).level (holds_at net low.0).0 place false parts.0)),
+        inputs_agree inputs levels place (omega arith) low.1 parts.1,
+      )
   inputs_agree (net ∷ inputs) (X ∷ levels) place same low fails =
       ((λ known. absurd (known refl)), inputs_agree inputs levels place (omega arith) low.1 fails)
 

@@ -1,8 +1,7 @@
 -- First: how the sets of nets are made one after another.
-use Rattle.std.specs.Prelude.{ℕ, ◌+◌, Bool, List, [], ◌∷◌, ◌++◌, length, map}
+use Rattle.std.specs.Prelude.{ℕ, ◌+◌, List, [], ◌∷◌, ◌++◌, length, map}
 use Rattle.td_moments.specs.declared.finding.Possible.{Possible}
 use Rattle.td_clauses.specs.declared.nets.NetSets.{NetSets}
-use Rattle.td_clauses.specs.Wires.{WireSet}
 use Rattle.td_clauses.specs.Nets.{net_at}
 
 -- how these nets may change

@@ -6,7 +6,6 @@ use Rattle.td_moments.specs.declared.finding.Possible.{Possible}
 use Rattle.td_moments.specs.Moments.{taken}
 use Rattle.td_moments.specs.Merging.{caused, kept, delayed_found}
 use Rattle.td_clauses.specs.declared.nets.NetSets.{NetSets}
-use Rattle.td_clauses.specs.Wires.{WireSet}
 use Rattle.td_clauses.specs.Nets.{net_at}
 use Rattle.td_clauses.specs.First.{levels_at}
 

@@ -72,12 +72,7 @@ fn target_again(
 }
 
 /// What is left of an output by what its target may do. The error is out of memory.
-fn level_again(
-    alloc: Global,
-    level: &Wire,
-    delay: Delay,
-    target: &Wire,
-) -> Result<Wire, AllocError>
+fn level_again(alloc: Global, level: &Wire, delay: Delay, target: &Wire) -> Result<Wire, AllocError>
     ensures { IfOk result (λ left. left ≡ record { start = level.now.start; list = kept (delayed_found delay target.now.list) level.now.list }) }
 {
     let left = level.changes().kept_behind(alloc, delay, target.changes())?;

@@ -1,11 +1,10 @@
 -- Lists that cover levels: what a number says of them, and that lists made of others cover.
 use Rattle.std.proofs.Common.{◌≡◌, ◌≢◌, ℕ, zero, suc, ◌+◌, ◌-◌, ◌<◌, ◌≤◌, ◌⊎◌, Bool, true, false, List, [], ◌∷◌, length, get_or, refl, arith, ap, sym, ◌∙◌, inl, inr}
-use Rattle.std.specs.Prelude.{nat_lt, if◌then◌else◌}
 use Rattle.std.proofs.lemmas.Bool.{cases_lt, cases_eq, cases_Bool, lt-ltb, le-ltb}
 use Rattle.td_moments.specs.declared.directions.Directions.{Directions}
 use Rattle.td_moments.specs.declared.finding.Possible.{Possible}
 use Rattle.td_moments.specs.Directions.{may, is_gone}
-use Rattle.td_moments.specs.Moments.{IsInOrderFrom, IsInOrder, found, may_change, Covers, count_before, nowhere, latest, number_at, place_of, taken, greatest}
+use Rattle.td_moments.specs.Moments.{IsInOrderFrom, IsInOrder, Covers, count_before, nowhere, latest, number_at, place_of, taken, greatest}
 use Rattle.td_moments.specs.Merging.{kept}
 use Rattle.td_moments.proofs.Places.{order_at, count_above, count_within}
 use Rattle.td_moments.proofs.FindingLaws.{found_at, found_low, never_gone, kept_has, taken_has}

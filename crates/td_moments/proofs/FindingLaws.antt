@@ -1,14 +1,14 @@
 -- What is found in lists that are made of others.
-use Rattle.std.proofs.Common.{◌≡◌, ◌≢◌, ℕ, zero, suc, ◌+◌, ◌-◌, ◌<◌, ◌≤◌, max, Bool, true, false, List, [], ◌∷◌, length, get_or, map, refl, arith, ap, sym, ◌∙◌, inl, inr}
-use Rattle.std.specs.Prelude.{nat_lt, nat_le, ◌==◌, not, ◌||◌, ◌&&◌, if◌then◌else◌}
-use Rattle.std.proofs.lemmas.Bool.{cases_lt, cases_eq, cases_Bool, lt-ltb, le-ltb, le-leb, lt-leb, eq-eqb, ne_eqb, eqb-true, or_left, or_right}
+use Rattle.std.proofs.Common.{◌≡◌, ℕ, suc, ◌+◌, ◌-◌, ◌<◌, ◌≤◌, max, Bool, true, false, List, [], ◌∷◌, length, get_or, refl, arith, ap, sym, ◌∙◌, inl, inr}
+use Rattle.std.specs.Prelude.{◌==◌, not, ◌||◌, ◌&&◌, if◌then◌else◌}
+use Rattle.std.proofs.lemmas.Bool.{cases_lt, cases_eq, cases_Bool, lt-ltb, le-ltb, le-leb, eq-eqb, ne_eqb, eqb-true, or_left, or_right}
 use Rattle.td_gates.specs.declared.primitives.Kind.{Kind}
 use Rattle.td_gates.specs.declared.primitives.Kind.TheVariants.{And, Nand, Or, Nor, Xor, Xnor, Buf, Not}
 use Rattle.td_gates.specs.declared.timing.Delay.{Delay}
 use Rattle.td_moments.specs.declared.directions.Directions.{Directions}
 use Rattle.td_moments.specs.declared.finding.Possible.{Possible}
-use Rattle.td_moments.specs.Directions.{no_change, may, is_gone, either, common, turned, without, only_to, reversed, both_ways}
-use Rattle.td_moments.specs.Moments.{found, may_change, greatest, taken, nowhere}
+use Rattle.td_moments.specs.Directions.{no_change, may, is_gone, either, common, turned, without, only_to, reversed}
+use Rattle.td_moments.specs.Moments.{found, greatest, taken, nowhere}
 use Rattle.td_moments.specs.Merging.{merge_into, merge, turned_list, target_from, target_of, caused, put_off, delayed_of, delayed_found, kept}
 
 pub may_either : (one other : Directions) (v : Bool) → may (either one other) v ≡ (may one v || may other v)

@@ -1,22 +1,22 @@
 -- Gates: when a target and an output change, and what the window rule says of them.
-use Rattle.std.proofs.Common.{◌≡◌, ◌≢◌, ℕ, zero, suc, ◌+◌, ◌-◌, ◌<◌, ◌≤◌, ◌⊎◌, Bool, true, false, List, [], ◌∷◌, map, length, refl, arith, ap, sym, ◌∙◌, subst, inl, inr}
+use Rattle.std.proofs.Common.{◌≡◌, ◌≢◌, ℕ, suc, ◌+◌, ◌-◌, ◌<◌, ◌≤◌, Bool, true, false, List, [], ◌∷◌, map, refl, arith, ap, sym, ◌∙◌, inl, inr}
 use Rattle.std.specs.Prelude.{not, ◌&&◌, ◌||◌, if◌then◌else◌}
 use Rattle.std.specs.List.{AllZip, list_any, list_all}
-use Rattle.std.proofs.lemmas.Bool.{cases_Bool, or_left, or_right}
+use Rattle.std.proofs.lemmas.Bool.{or_left, or_right}
 use Rattle.td_gates.specs.declared.primitives.Level.{Level}
 use Rattle.td_gates.specs.declared.primitives.Level.TheVariants.{Zero, One, X}
 use Rattle.td_gates.specs.declared.primitives.Kind.{Kind}
 use Rattle.td_gates.specs.declared.primitives.Kind.TheVariants.{And, Nand, Or, Nor, Xor, Xnor, Buf, Not}
 use Rattle.td_gates.specs.declared.timing.Delay.{Delay}
 use Rattle.td_gates.specs.Delays.{IsInRange}
-use Rattle.td_gates.specs.Table.{table, level_eq, level_from, and_of, or_of, buf_of, inverse_of, delay_to}
+use Rattle.td_gates.specs.Table.{level_eq, level_from, and_of, or_of, buf_of, inverse_of, delay_to}
 use Rattle.td_gates.proofs.Windows.{Held}
 use Rattle.td_gates.proofs.Delays.{IsDelayed, taken_last}
 use Rattle.td_gates.proofs.Sources.{source}
 use Rattle.td_moments.specs.declared.directions.Directions.{Directions}
 use Rattle.td_moments.specs.declared.finding.Possible.{Possible}
-use Rattle.td_moments.specs.Directions.{may, either, turned, reversed, both_ways}
-use Rattle.td_moments.specs.Moments.{found, may_change, Covers}
+use Rattle.td_moments.specs.Directions.{may, turned, reversed, both_ways}
+use Rattle.td_moments.specs.Moments.{found, Covers}
 use Rattle.td_moments.specs.Merging.{caused, target_of, delayed_of, delayed_found}
 use Rattle.td_moments.specs.Gates.{target_bit, bits_at, target_levels, steps_to}
 use Rattle.td_moments.proofs.FindingLaws.{may_either, target_has, delayed_has, delayed_found_has}

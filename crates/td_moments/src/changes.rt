@@ -5,9 +5,8 @@ ghost use Rattle.td_moments.specs.Moments.{IsInOrder, IsWithin, count_before, fo
 ghost use Rattle.td_moments.specs.Merging.{merge, turned_list, delayed_of, kept, delayed_found};
 
 use crate::directions::Directions;
-use crate::finding;
 use crate::finding::Possible;
-use crate::merging;
+use crate::{finding, merging};
 use std::alloc::{AllocError, Global};
 use std::marker::Model;
 use td_gates::{Delay, Kind};

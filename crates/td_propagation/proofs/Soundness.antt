@@ -1,8 +1,7 @@
 -- Soundness: what hints show is true wherever their clauses are.
 use Rattle.std.proofs.Common.{◌≡◌, ℕ, zero, suc, Bool, true, false, List, [], ◌∷◌, ◌++◌, ◌≤◌, ◌⊎◌, arith, length, get_or, replicate, Option, Some, None, Vec, Global, refl, sym, ◌∙◌, ap, inl, inr, get_or-set_other, get_or-set_same}
 use Rattle.std.specs.Prelude.{not, ◌||◌, ◌==◌, nat_lt, slice_get, if◌then◌else◌, ◌-◌}
-use Rattle.std.specs.List.{All}
-use Rattle.std.proofs.lemmas.Bool.{cases_eq, cases_lt, cases_Bool, and_parts, eqb-true, not-true, or_left, or_right}
+use Rattle.std.proofs.lemmas.Bool.{cases_eq, cases_lt, cases_Bool, and_parts, eqb-true}
 use Rattle.std.proofs.lemmas.List.{get_or_past}
 use Rattle.std.proofs.lemmas.List.Elements.{All-push}
 use Rattle.std.proofs.lemmas.Option.{get_or_from_slice_get, slice_get_within}
@@ -11,8 +10,7 @@ use Rattle.td_propagation.specs.declared.literal.Literal.{Literal}
 use Rattle.td_propagation.specs.declared.left.Left.{Left}
 use Rattle.td_propagation.specs.declared.left.Left.TheVariants.{Nothing, One, Several}
 use Rattle.td_propagation.specs.declared.denied.Mark.{Mark}
-use Rattle.td_propagation.specs.declared.clauses.Outcome.{Outcome}
-use Rattle.td_propagation.specs.declared.clauses.Outcome.TheVariants.{Shown, NoSuchHint, HintOpen, NotShown}
+use Rattle.td_propagation.specs.declared.clauses.Outcome.TheVariants.{Shown}
 use Rattle.td_propagation.specs.Literals.{negation, signed, is_same, literal_true, clause_true, IsTrueUnder}
 use Rattle.td_propagation.specs.Marks.{no_mark, with_mark, mark_of, is_denied, denied, all_denied}
 use Rattle.td_propagation.specs.Propagating.{left_with, left_from, left_of}

@@ -1,5 +1,5 @@
 -- Following: when hints show a clause.
-use Rattle.std.specs.Prelude.{◌≡◌, ℕ, ◌-◌, ◌==◌, nat_lt, Bool, true, List, [], ◌∷◌, length, slice_get, replicate, Option, Some, None, Vec, if◌then◌else◌, ◌||◌}
+use Rattle.std.specs.Prelude.{ℕ, ◌-◌, ◌==◌, nat_lt, Bool, List, [], ◌∷◌, length, slice_get, replicate, Option, Some, None, Vec, if◌then◌else◌, ◌||◌}
 use Rattle.std.specs.Global.{Global}
 use Rattle.std.specs.List.{All}
 use Rattle.td_propagation.specs.declared.literal.Literal.{Literal}

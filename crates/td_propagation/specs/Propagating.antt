@@ -1,5 +1,5 @@
 -- Propagating: what is left of a clause without the literals that are taken to be false.
-use Rattle.std.specs.Prelude.{Bool, List, [], ◌∷◌, if◌then◌else◌}
+use Rattle.std.specs.Prelude.{List, [], ◌∷◌, if◌then◌else◌}
 use Rattle.td_propagation.specs.declared.literal.Literal.{Literal}
 use Rattle.td_propagation.specs.declared.left.Left.{Left}
 use Rattle.td_propagation.specs.declared.left.Left.TheVariants.{Nothing, One, Several}

@@ -40,7 +40,11 @@ impl Mark {
     fn of(self, positive: bool) -> bool
         ensures { result ≡ mark_of self positive }
     {
-        if positive { self.positive } else { self.negative }
+        if positive {
+            self.positive
+        } else {
+            self.negative
+        }
     }
 
     /// With the literal of this sign too.

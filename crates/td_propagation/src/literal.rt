@@ -25,6 +25,11 @@ impl Literal {
     pub fn is_same(self, other: Literal) -> bool
         ensures { result ≡ is_same self other }
     {
-        self.variable == other.variable && (if self.positive { other.positive } else { !other.positive })
+        self.variable == other.variable
+            && (if self.positive {
+                other.positive
+            } else {
+                !other.positive
+            })
     }
 }

@@ -1,25 +1,22 @@
 -- Firsts: the first sets, one net after another.
-use Rattle.std.proofs.Common.{◌≡◌, ℕ, zero, suc, ◌+◌, ◌-◌, ◌*◌, ◌^◌, ◌<◌, ◌≤◌, max, Bool, true, false, List, [], ◌∷◌, ◌++◌, length, map, get_or, drop, refl, arith, ap, sym, ◌∙◌, subst, inl, inr, Option, Some, None}
-use Rattle.std.specs.Prelude.{slice_get, MatchOption, if◌then◌else◌}
+use Rattle.std.proofs.Common.{◌≡◌, ℕ, zero, suc, ◌+◌, ◌*◌, ◌^◌, ◌<◌, ◌≤◌, Bool, true, false, List, [], ◌∷◌, ◌++◌, length, map, get_or, drop, refl, arith, ap, sym, ◌∙◌, Some}
+use Rattle.std.specs.Prelude.{slice_get, if◌then◌else◌}
 use Rattle.std.specs.List.{AllByRecursion}
-use Rattle.std.proofs.lemmas.Bool.{cases_lt}
-use Rattle.std.proofs.lemmas.List.{length-append, get_or_past}
+use Rattle.std.proofs.lemmas.List.{length-append}
 use Rattle.std.proofs.lemmas.Option.{get_or_from_slice_get}
 use Rattle.td_gates.specs.declared.primitives.Kind.{Kind}
 use Rattle.td_gates.specs.declared.timing.Delay.{Delay}
 use Rattle.td_gates.specs.Delays.{IsInRange}
 use Rattle.td_circuit.specs.Numbering.{NumberedGate}
 use Rattle.td_domain.specs.declared.cubes.Trit.{Trit}
-use Rattle.td_domain.specs.declared.cubes.Trit.TheVariants as trit
-use Rattle.td_moments.specs.declared.directions.Directions.{Directions}
 use Rattle.td_moments.specs.declared.finding.Possible.{Possible}
 use Rattle.td_moments.specs.Directions.{is_gone}
-use Rattle.td_moments.specs.Moments.{IsWithin, once}
+use Rattle.td_moments.specs.Moments.{IsWithin}
 use Rattle.td_moments.specs.Merging.{target_of, delayed_of}
 use Rattle.td_moments.proofs.OrderLaws.{target_within, delayed_within}
 use Rattle.td_clauses.specs.declared.nets.NetSets.{NetSets}
 use Rattle.td_clauses.specs.declared.first.TheConstants.{LIMIT}
-use Rattle.td_clauses.specs.Nets.{net_at, no_net}
+use Rattle.td_clauses.specs.Nets.{net_at}
 use Rattle.td_clauses.specs.First.{levels_at, total, numbered, with_net}
 use Rattle.td_clauses.proofs.Lists.{total-more}
 use Rattle.td_refutation.specs.First.{input_to, input_list, inputs_from, with_gate, gates_from, IsCounted, AreLow}

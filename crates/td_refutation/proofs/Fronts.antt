@@ -7,7 +7,7 @@ use Rattle.td_propagation.specs.declared.literal.Literal.{Literal}
 use Rattle.td_clauses.specs.declared.nets.NetSets.{NetSets}
 use Rattle.td_refutation.specs.declared.flaw.Flaw.{Flaw}
 use Rattle.td_refutation.specs.declared.flaw.StepError as error
-use Rattle.td_refutation.specs.Reading.{◌>>=◌, Gives, Fails}
+use Rattle.td_refutation.specs.Reading.{◌>>=◌, Fails}
 use Rattle.td_refutation.specs.Lemmas.{literal_of, literals_of}
 
 abbrev pub with_front : List Literal → Result (List Literal) Flaw → Result (List Literal) Flaw

@@ -1,24 +1,22 @@
 -- Latest: no output changes behind the greatest moment that is left.
-use Rattle.std.proofs.Common.{◌≡◌, ◌≢◌, ℕ, zero, suc, ◌+◌, ◌-◌, ◌*◌, ◌<◌, ◌≤◌, max, Bool, true, false, List, [], ◌∷◌, length, map, get_or, refl, arith, Option, Some, None, ap, ◌∙◌, sym, inl, inr, Vec, Global}
+use Rattle.std.proofs.Common.{◌≡◌, ℕ, zero, suc, ◌*◌, ◌<◌, ◌≤◌, max, List, [], ◌∷◌, length, map, refl, arith, Option, Some, None, ap, ◌∙◌, sym, inl, inr, Vec, Global}
 use Rattle.std.specs.Prelude.{slice_get, unwrap_or}
-use Rattle.std.specs.List.{All, AllByRecursion, Contains}
-use Rattle.std.proofs.lemmas.Option.{none-some, get_or_from_slice_get}
+use Rattle.std.specs.List.{AllByRecursion, Contains}
+use Rattle.std.proofs.lemmas.Option.{none-some}
 use Rattle.std.proofs.lemmas.Bool.{cases_lt, le-leb, lt-leb}
 use Rattle.std.proofs.lemmas.List.{length-map}
 use Rattle.std.proofs.lemmas.List.Elements.{recursion_from_All}
 use Rattle.td_gates.specs.declared.primitives.Level.{Level}
 use Rattle.td_gates.specs.declared.timing.Change.{Change}
 use Rattle.td_gates.specs.Table.{level_from}
-use Rattle.td_gates.specs.Wave.{Wave, at, before, level_after, last_of, last, IsRising, IsWave}
+use Rattle.td_gates.specs.Wave.{Wave, at, level_after, last_of, last, IsRising, IsWave}
 use Rattle.td_gates.proofs.Places.{slice_get-some, slice_get-within, slice_get-map_some, Contains-slice_get, All-from_contains}
-use Rattle.td_nets.specs.Netlist.{Name, Net, Named}
+use Rattle.td_nets.specs.Netlist.{Name, Named}
 use Rattle.td_circuit.specs.Settings.{AreMoments}
 use Rattle.td_circuit.specs.Numbering.{Numbered, nets, setting, IsNumbering}
-use Rattle.td_circuit.specs.Run.{Runs, latest_change, IsDelayOfBits}
+use Rattle.td_circuit.specs.Run.{latest_change}
 use Rattle.td_domain.specs.declared.cubes.Trit.{Trit}
-use Rattle.td_domain.specs.Pairs.{Pair}
-use Rattle.td_domain.specs.Cubes.{IsIn}
-use Rattle.td_domain.specs.Admits.{Admitted, IsAdmitted}
+use Rattle.td_domain.specs.Admits.{Admitted}
 use Rattle.td_domain.specs.Waves.{IsQuietAfter}
 use Rattle.td_moments.specs.Moments.{greatest}
 use Rattle.td_moments.proofs.CoverLaws.{quiet, unchanged}
@@ -28,7 +26,7 @@ use Rattle.td_clauses.specs.Nets.{net_at}
 use Rattle.td_clauses.proofs.Truth.{holds_at}
 use Rattle.td_refutation.specs.Done.{latest_of}
 use Rattle.td_refutation.specs.Timing.{level_bits, target_bits}
-use Rattle.td_refutation.specs.Refuting.{IsTrueOf, Refutes, IsUpperBoundOf}
+use Rattle.td_refutation.specs.Refuting.{Refutes, IsUpperBoundOf}
 use Rattle.td_refutation.proofs.Timed.{level_is}
 
 -- the last change of a wave that is quiet after a moment

@@ -1,22 +1,21 @@
 -- Making: the first sets cover each run.
-use Rattle.std.proofs.Common.{◌≡◌, ◌≢◌, ℕ, zero, suc, ◌+◌, ◌-◌, ◌*◌, ◌<◌, ◌≤◌, ◌⊎◌, Bool, true, false, List, [], ◌∷◌, ◌++◌, length, map, get_or, refl, arith, ap, sym, ◌∙◌, subst, inl, inr, Some}
-use Rattle.std.specs.Prelude.{slice_get, not, ◌&&◌, ◌==◌, if◌then◌else◌}
-use Rattle.std.specs.List.{AllByRecursion}
-use Rattle.std.proofs.lemmas.Bool.{cases_lt, cases_eq, cases_Bool, eq-eqb}
+use Rattle.std.proofs.Common.{◌≡◌, ◌≢◌, ℕ, zero, suc, ◌+◌, ◌*◌, ◌<◌, Bool, true, false, List, [], ◌∷◌, length, refl, arith, ap, sym, ◌∙◌, subst, inl, inr, Some}
+use Rattle.std.specs.Prelude.{slice_get, if◌then◌else◌}
+use Rattle.std.proofs.lemmas.Bool.{cases_lt, cases_eq, eq-eqb}
 use Rattle.std.proofs.lemmas.List.{length-append}
-use Rattle.td_circuit.specs.Numbering.{NumberedGate, Numbered, nets, first_output, IsNumbering}
+use Rattle.td_circuit.specs.Numbering.{NumberedGate, Numbered, first_output}
 use Rattle.td_domain.specs.declared.cubes.Trit.{Trit}
 use Rattle.td_domain.specs.declared.cubes.Trit.TheVariants as trit
 use Rattle.td_domain.specs.Cubes.{Allows}
 use Rattle.td_moments.specs.declared.finding.Possible.{Possible}
 use Rattle.td_moments.specs.declared.directions.Directions.{Directions}
-use Rattle.td_moments.specs.Directions.{may, is_gone, either, no_change}
-use Rattle.td_moments.specs.Moments.{IsInOrder, Covers, found, may_change, once}
+use Rattle.td_moments.specs.Directions.{may, is_gone}
+use Rattle.td_moments.specs.Moments.{IsInOrder, Covers, may_change, once}
 use Rattle.td_moments.specs.Merging.{target_of, delayed_of}
 use Rattle.td_moments.proofs.FindingLaws.{found_first, never_gone}
 use Rattle.td_clauses.specs.declared.nets.NetSets.{NetSets}
 use Rattle.td_clauses.specs.First.{levels_at, total, numbered, with_net}
-use Rattle.td_clauses.specs.Holding.{WireHolds, NetsHold}
+use Rattle.td_clauses.specs.Holding.{NetsHold}
 use Rattle.td_clauses.proofs.Keeping.{AreMade, none_made, made_holds, with_made, gate_covers}
 use Rattle.td_refutation.specs.First.{allows, input_to, input_list, inputs_from, with_gate, gates_from, constants, first_sets}
 use Rattle.td_refutation.proofs.Timed.{IsInput, IsGate, IsTimed}

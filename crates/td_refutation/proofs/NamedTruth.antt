@@ -1,7 +1,7 @@
 -- Naming: the clauses that steps name are true of each run that the sets cover.
-use Rattle.std.proofs.Common.{◌≡◌, ◌≢◌, ℕ, zero, suc, ◌+◌, ◌-◌, ◌*◌, ◌/◌, ◌%◌, ◌<◌, ◌≤◌, ◌⊎◌, Bool, true, false, List, [], ◌∷◌, length, map, get_or, refl, arith, ap, sym, ◌∙◌, subst, inl, inr, Option, Some, None}
-use Rattle.std.specs.Prelude.{slice_get, nat_lt, ◌==◌, not, ◌||◌, Result, Ok, Err, if◌then◌else◌}
-use Rattle.std.specs.List.{All, AllByRecursion, list_all}
+use Rattle.std.proofs.Common.{◌≡◌, ℕ, zero, suc, ◌+◌, ◌-◌, ◌*◌, ◌/◌, ◌%◌, ◌<◌, ◌≤◌, Bool, true, false, List, [], ◌∷◌, length, map, refl, arith, ap, sym, ◌∙◌, subst, inl, inr, Option, Some, None}
+use Rattle.std.specs.Prelude.{slice_get, ◌==◌, not, Result, Ok, Err, if◌then◌else◌}
+use Rattle.std.specs.List.{AllByRecursion, list_all}
 use Rattle.std.proofs.lemmas.Bool.{cases_lt, cases_eq, cases_Bool, lt-ltb, le-ltb, eq-eqb, ne_eqb}
 use Rattle.std.proofs.lemmas.List.{length-map}
 use Rattle.std.proofs.lemmas.Option.{get_or_from_slice_get, slice_get-get_or, slice_get_within}
@@ -9,7 +9,7 @@ use Rattle.td_gates.specs.declared.primitives.Level.{Level}
 use Rattle.td_gates.specs.declared.primitives.Level.TheVariants as level
 use Rattle.td_gates.specs.Table.{table, level_from}
 use Rattle.td_gates.proofs.Places.{slice_get-within}
-use Rattle.td_circuit.specs.Numbering.{NumberedGate, Numbered, nets, first_output, IsNumbering}
+use Rattle.td_circuit.specs.Numbering.{Numbered, nets, first_output, IsNumbering}
 use Rattle.td_circuit.proofs.Nets.{length-nets, numbers-below}
 use Rattle.td_domain.specs.declared.cubes.Trit.{Trit}
 use Rattle.td_domain.specs.declared.cubes.Trit.TheVariants as trit
@@ -19,12 +19,11 @@ use Rattle.td_propagation.specs.declared.literal.Literal.{Literal}
 use Rattle.td_propagation.specs.Literals.{IsTrueUnder}
 use Rattle.td_clauses.specs.declared.nets.NetSets.{NetSets}
 use Rattle.td_clauses.specs.Wires.{any_between}
-use Rattle.td_clauses.specs.Nets.{net_at, level_literal}
-use Rattle.td_clauses.specs.Names.{table_literals, window_literals, hold_literals, order_literals}
+use Rattle.td_clauses.specs.Nets.{net_at}
 use Rattle.td_clauses.specs.Holding.{NetsHold}
 use Rattle.td_clauses.proofs.Truth.{order_true, window_true, hold_true, table_true, unit_true}
 use Rattle.td_refutation.specs.declared.flaw.Flaw.{Flaw}
-use Rattle.td_refutation.specs.declared.flaw.Flaw.TheVariants.{WrongCount, NoSuchLevel, NoSuchClause, NoSuchGate, NoSuchNet}
+use Rattle.td_refutation.specs.declared.flaw.Flaw.TheVariants.{WrongCount, NoSuchLevel, NoSuchClause, NoSuchGate}
 use Rattle.td_refutation.specs.declared.kind.StepKind.{StepKind}
 use Rattle.td_refutation.specs.declared.kind.StepKind.TheVariants.{Table, Window, Hold, Order, Fixed, Constant, Lemma, Cut, Again}
 use Rattle.td_refutation.specs.Reading.{◌>>=◌, one, three, four, bit_of, moment_of}
@@ -160,9 +159,10 @@ module _ (circuit : Numbered) (numbering : IsNumbering circuit) (cube : List Tri
   pub gate_is : (gate : ℕ) (at : ℕ × ℕ) → gate_place circuit gate ≡ Ok at → (at.0 < length sets) × IsGate (the_gate circuit at.1) level at.0 (target at.0)
   gate_is gate at is =
       let place = gate_place_is circuit gate at is in
-      let there = slice_get-get_or circuit.gates at.1 no_gate place.1 in
-      (omega (arith, place.0, place.1, whole, length-nets circuit numbering),
-      subst (λ (n : ℕ). IsGate (the_gate circuit at.1) level n (target n)) (sym place.0) (timed.gates at.1 (the_gate circuit at.1) there))
+      let there = slice_get-get_or circuit.gates at.1 no_gate place.1 in (
+        omega (arith, place.0, place.1, whole, length-nets circuit numbering),
+        subst (λ (n : ℕ). IsGate (the_gate circuit at.1) level n (target n)) (sym place.0) (timed.gates at.1 (the_gate circuit at.1) there),
+      )
 
   table_is_true : (numbers : List ℕ) (clause : List Literal) → table_clause circuit sets numbers ≡ Ok clause → IsTrueUnder valuation clause
   unfolding table_clause

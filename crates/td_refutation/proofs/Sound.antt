@@ -1,15 +1,14 @@
 -- Sound: what is true of the runs of a cube stays true with each step.
-use Rattle.std.proofs.Common.{◌≡◌, ◌≢◌, ℕ, suc, ◌+◌, ◌*◌, ◌<◌, ◌≤◌, ◌⊎◌, Bool, true, false, List, [], ◌∷◌, ◌++◌, length, map, refl, arith, ap, sym, ◌∙◌, subst, Vec, Global}
-use Rattle.std.specs.Prelude.{not, set, Result, Ok, Err, OnOk, OnErr, if◌then◌else◌}
+use Rattle.std.proofs.Common.{◌≡◌, ℕ, ◌*◌, ◌<◌, ◌≤◌, Bool, List, [], ◌∷◌, ◌++◌, length, map, refl, arith, sym, ◌∙◌, subst, Vec, Global}
+use Rattle.std.specs.Prelude.{Result, Ok, Err, OnOk, OnErr}
 use Rattle.td_refutation.specs.declared.flaw.StepError as error
-use Rattle.std.specs.List.{All, AllByRecursion}
-use Rattle.std.proofs.lemmas.Bool.{cases_Bool}
+use Rattle.std.specs.List.{AllByRecursion}
 use Rattle.std.proofs.Math.ListN.{length-set}
 use Rattle.td_gates.specs.Table.{level_from}
 use Rattle.td_gates.specs.Wave.{Wave}
 use Rattle.td_nets.specs.Netlist.{Net}
 use Rattle.td_circuit.specs.Settings.{AreMoments}
-use Rattle.td_circuit.specs.Numbering.{NumberedGate, Numbered, nets, setting, first_output, IsNumbering}
+use Rattle.td_circuit.specs.Numbering.{Numbered, setting, IsNumbering}
 use Rattle.td_circuit.specs.Run.{Runs}
 use Rattle.td_circuit.proofs.Nets.{length-nets}
 use Rattle.td_domain.specs.declared.cubes.Trit.{Trit}
@@ -22,29 +21,27 @@ use Rattle.td_propagation.specs.declared.literal.Literal.{Literal}
 use Rattle.td_propagation.specs.declared.clauses.Outcome.{Outcome}
 use Rattle.td_propagation.specs.declared.clauses.Outcome.TheVariants as outcome
 use Rattle.td_propagation.specs.Literals.{IsTrueUnder}
-use Rattle.td_propagation.specs.Following.{AreTrue, shown_by}
+use Rattle.td_propagation.specs.Following.{shown_by}
 use Rattle.td_propagation.proofs.Soundness.{shown_true, one_more_true}
 use Rattle.td_clauses.specs.declared.nets.NetSets.{NetSets}
 use Rattle.td_clauses.specs.Nets.{net_at}
 use Rattle.td_clauses.specs.Narrowing.{cut_sets, cut, again_sets, again}
 use Rattle.td_clauses.specs.First.{levels_at}
-use Rattle.td_clauses.specs.Holding.{NetsHold}
 use Rattle.td_clauses.proofs.Truth.{cut_says}
 use Rattle.td_clauses.proofs.Keeping.{cut_holds, again_holds}
 use Rattle.td_refutation.specs.declared.flaw.Flaw.{Flaw}
-use Rattle.td_refutation.specs.declared.flaw.Flaw.TheVariants.{NoSuchChange}
 use Rattle.td_refutation.specs.declared.kind.StepKind.{StepKind}
 use Rattle.td_refutation.specs.declared.kind.StepKind.TheVariants.{Table, Window, Hold, Order, Fixed, Constant, Lemma, Cut, Again}
-use Rattle.td_refutation.specs.Reading.{◌>>=◌, one, bit_of, moment_of}
-use Rattle.td_refutation.specs.Lookups.{gate_place, the_gate, net_number}
+use Rattle.td_refutation.specs.Reading.{one, bit_of, moment_of}
+use Rattle.td_refutation.specs.Lookups.{the_gate, net_number}
 use Rattle.td_refutation.specs.Naming.{named_clause}
 use Rattle.td_refutation.specs.Lemmas.{lemma_parts, literals_of, cut_parts, shown_of}
 use Rattle.td_refutation.specs.Steps.{lemma_of, possible, cut_literals, cut_of, again_of}
-use Rattle.td_refutation.specs.Done.{IsAdded, IsCut, IsAgain, IsDone}
+use Rattle.td_refutation.specs.Done.{IsAdded, IsDone}
 use Rattle.td_refutation.specs.First.{first_sets}
 use Rattle.td_refutation.specs.Timing.{level_bits, target_bits}
 use Rattle.td_refutation.specs.Refuting.{IsTrueOf, Refutes}
-use Rattle.td_refutation.proofs.Timed.{IsGate, IsTimed, timed}
+use Rattle.td_refutation.proofs.Timed.{IsTimed, timed}
 use Rattle.td_refutation.proofs.NamedTruth.{bind_ok, ok_same, gate_is, net_low, named_is_true}
 use Rattle.td_refutation.proofs.Making.{first_made}
 

@@ -1,30 +1,29 @@
 -- Timed: what the levels of a run are, by number and place.
-use Rattle.std.proofs.Common.{◌≡◌, ◌≢◌, ℕ, zero, suc, ◌+◌, ◌-◌, ◌*◌, ◌<◌, ◌≤◌, ◌⊎◌, Bool, true, false, List, [], ◌∷◌, length, map, get_or, refl, arith, ap, sym, ◌∙◌, subst, inl, inr, Some}
+use Rattle.std.proofs.Common.{◌≡◌, ◌≢◌, ℕ, zero, suc, ◌+◌, ◌-◌, ◌*◌, ◌<◌, ◌≤◌, Bool, true, false, List, [], ◌∷◌, length, map, get_or, refl, arith, ap, sym, ◌∙◌, subst, Some}
 use Rattle.std.specs.Prelude.{slice_get, nat_lt, if◌then◌else◌}
-use Rattle.std.specs.List.{All, AllByRecursion, Contains}
+use Rattle.std.specs.List.{AllByRecursion}
 use Rattle.std.proofs.Math.Path.{fun_ext}
-use Rattle.std.proofs.lemmas.Bool.{cases_lt, lt-ltb, le-ltb}
+use Rattle.std.proofs.lemmas.Bool.{lt-ltb, le-ltb}
 use Rattle.std.proofs.lemmas.List.{length-map}
 use Rattle.std.proofs.lemmas.List.Elements.{recursion_from_All, All-contains}
-use Rattle.std.proofs.lemmas.Option.{get_or_from_slice_get, slice_get-get_or}
+use Rattle.std.proofs.lemmas.Option.{get_or_from_slice_get}
 use Rattle.td_gates.specs.declared.primitives.Level.{Level}
 use Rattle.td_gates.specs.declared.primitives.Level.TheVariants.{Zero, One, X}
-use Rattle.td_gates.specs.declared.primitives.Kind.{Kind}
 use Rattle.td_gates.specs.declared.timing.Delay.{Delay}
 use Rattle.td_gates.specs.Delays.{IsInRange}
-use Rattle.td_gates.specs.Table.{TakesInputs, table, level_eq, level_from}
+use Rattle.td_gates.specs.Table.{table, level_eq, level_from}
 use Rattle.td_gates.specs.Wave.{Wave, at, before}
 use Rattle.td_gates.specs.Schedule.{Obeys, target_before}
 use Rattle.td_gates.proofs.Places.{some-same, slice_get-some, slice_get-within, slice_get-map_some, maps_match, map-fuse}
 use Rattle.td_gates.proofs.Delays.{IsDelayed, delayed}
 use Rattle.td_gates.proofs.TableLaws.{Booleans, table-boolean}
-use Rattle.td_nets.specs.Netlist.{Name, Net, Named, Gate}
+use Rattle.td_nets.specs.Netlist.{Net, Named, Gate}
 use Rattle.td_nets.specs.Netlist.{Low as LowNet, High as HighNet}
 use Rattle.td_circuit.specs.Settings.{AreMoments}
 use Rattle.td_circuit.specs.Numbering.{NumberedGate, Numbered, setting, nets, first_output, IsNumbering, IsGateAt}
 use Rattle.td_circuit.specs.Run.{Runs}
 use Rattle.td_circuit.proofs.Looping.{input_number, output_number}
-use Rattle.td_circuit.proofs.Nets.{length-nets, gate_at, takes-at, range-at, lower-at}
+use Rattle.td_circuit.proofs.Nets.{gate_at, takes-at, range-at, lower-at}
 use Rattle.td_run.proofs.Named.{inputs_at-at}
 use Rattle.td_domain.specs.declared.cubes.Trit.{Trit}
 use Rattle.td_domain.specs.Pairs.{Pair}
@@ -33,7 +32,7 @@ use Rattle.td_domain.specs.Admits.{AreHeld}
 use Rattle.td_domain.specs.Waves.{IsBoolean}
 use Rattle.td_domain.specs.Functions.{Functions}
 use Rattle.td_domain.proofs.Soundness.{AllowsBits-at, covered}
-use Rattle.td_moments.specs.Gates.{target_bit, bits_at, target_levels}
+use Rattle.td_moments.specs.Gates.{target_bit, target_levels}
 use Rattle.td_moments.proofs.GateLaws.{Follows}
 use Rattle.td_refutation.specs.Lookups.{the_gate, no_gate}
 use Rattle.td_refutation.specs.Timing.{level_bits, target_bits}

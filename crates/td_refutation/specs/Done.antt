@@ -1,5 +1,5 @@
 -- Done: what a step that is good does, and which steps are.
-use Rattle.std.specs.Prelude.{◌≡◌, ℕ, max, Bool, List, [], ◌∷◌, ◌++◌, length, Vec, Result, Ok, Err}
+use Rattle.std.specs.Prelude.{◌≡◌, ℕ, max, Bool, List, [], ◌∷◌, ◌++◌, Vec, Result, Ok, Err}
 use Rattle.std.specs.Global.{Global}
 use Rattle.td_circuit.specs.Numbering.{Numbered}
 use Rattle.td_domain.specs.declared.cubes.Trit.{Trit}
@@ -11,7 +11,6 @@ use Rattle.td_clauses.specs.Narrowing.{cut, again}
 use Rattle.td_refutation.specs.declared.flaw.Flaw.{Flaw}
 use Rattle.td_refutation.specs.declared.kind.StepKind.{StepKind}
 use Rattle.td_refutation.specs.declared.kind.StepKind.TheVariants.{Table, Window, Hold, Order, Fixed, Constant, Lemma, Cut, Again}
-use Rattle.td_refutation.specs.Reading.{◌>>=◌}
 use Rattle.td_refutation.specs.Lookups.{the_gate}
 use Rattle.td_refutation.specs.Naming.{named_clause}
 use Rattle.td_refutation.specs.Steps.{lemma_of, cut_of, again_of}

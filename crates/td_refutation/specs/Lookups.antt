@@ -1,5 +1,5 @@
 -- Lookups: gates and nets by the numbers that steps name them by.
-use Rattle.std.specs.Prelude.{ℕ, ◌-◌, ◌||◌, nat_lt, List, [], length, get_or, slice_get, Option, Some, None, Result, Ok, Err, if◌then◌else◌}
+use Rattle.std.specs.Prelude.{ℕ, ◌-◌, nat_lt, [], length, get_or, slice_get, Option, Some, None, Result, Ok, Err, if◌then◌else◌}
 use Rattle.td_gates.specs.declared.primitives.Kind.TheVariants.{And}
 use Rattle.td_circuit.specs.Numbering.{NumberedGate, Numbered}
 use Rattle.td_refutation.specs.declared.flaw.Flaw.{Flaw}

@@ -1,22 +1,17 @@
 -- Steps: which steps are good, and what they do.
-use Rattle.std.specs.Prelude.{◌≡◌, ℕ, ◌+◌, Bool, true, not, List, [], ◌∷◌, ◌++◌, Vec, Result, Ok, Err, if◌then◌else◌}
+use Rattle.std.specs.Prelude.{ℕ, ◌+◌, Bool, not, List, [], ◌∷◌, Vec, Result, Ok, Err, if◌then◌else◌}
 use Rattle.std.specs.Global.{Global}
 use Rattle.td_circuit.specs.Numbering.{Numbered}
-use Rattle.td_domain.specs.declared.cubes.Trit.{Trit}
 use Rattle.td_moments.specs.Directions.{may}
 use Rattle.td_moments.specs.Moments.{found}
 use Rattle.td_propagation.specs.declared.literal.Literal.{Literal}
 use Rattle.td_propagation.specs.Following.{shown_by}
 use Rattle.td_clauses.specs.declared.nets.NetSets.{NetSets}
 use Rattle.td_clauses.specs.Nets.{net_at, level_literal}
-use Rattle.td_clauses.specs.Narrowing.{cut, again}
 use Rattle.td_refutation.specs.declared.flaw.Flaw.{Flaw}
 use Rattle.td_refutation.specs.declared.flaw.Flaw.TheVariants.{NoSuchChange}
-use Rattle.td_refutation.specs.declared.kind.StepKind.{StepKind}
-use Rattle.td_refutation.specs.declared.kind.StepKind.TheVariants.{Table, Window, Hold, Order, Fixed, Constant, Lemma, Cut, Again}
 use Rattle.td_refutation.specs.Reading.{◌>>=◌, one, bit_of, moment_of}
-use Rattle.td_refutation.specs.Lookups.{gate_place, the_gate, net_number}
-use Rattle.td_refutation.specs.Naming.{named_clause}
+use Rattle.td_refutation.specs.Lookups.{gate_place, net_number}
 use Rattle.td_refutation.specs.Lemmas.{lemma_parts, literals_of, cut_parts, shown_of}
 
 -- the literals and the hints of a lemma, where these show them

@@ -9,8 +9,8 @@ mod lookup;
 mod naming;
 mod reading;
 mod refutation;
-mod whole;
 mod showing;
+mod whole;
 
 pub use flaw::{Flaw, StepError};
 pub use kind::StepKind;

@@ -75,12 +75,7 @@ impl Refutation {
     }
 
     // Adds a lemma.
-    fn lemma(
-        &mut self,
-        alloc: Global,
-        circuit: &Circuit,
-        numbers: &[u64],
-    ) -> Result<(), StepError>
+    fn lemma(&mut self, alloc: Global, circuit: &Circuit, numbers: &[u64]) -> Result<(), StepError>
         ensures gives { Gives (λ unit. unit) result (judged (lemma_of circuit.now (sets_of self.old) (clauses_of self.old) (variables_of self.old) numbers.now)) }
         ensures added { OnOk result (IsAdded (lemma_of circuit.now (sets_of self.old) (clauses_of self.old) (variables_of self.old) numbers.now) (sets_of self.old) (sets_of self.new) (clauses_of self.old) (clauses_of self.new)) }
         ensures sets { OnErr result (sets_of self.new ≡ sets_of self.old) }
@@ -106,12 +101,7 @@ impl Refutation {
     }
 
     // Takes the sets of a gate again.
-    fn again(
-        &mut self,
-        alloc: Global,
-        circuit: &Circuit,
-        numbers: &[u64],
-    ) -> Result<(), StepError>
+    fn again(&mut self, alloc: Global, circuit: &Circuit, numbers: &[u64]) -> Result<(), StepError>
         ensures gives { Gives (λ unit. unit) result (judged (again_of circuit.now numbers.now)) }
         ensures done { OnOk result (IsAgain circuit.now (again_of circuit.now numbers.now) (sets_of self.old) (sets_of self.new) (clauses_of self.old) (clauses_of self.new)) }
         ensures sets { OnErr result (sets_of self.new ≡ sets_of self.old) }

@@ -1,7 +1,6 @@
-use Rattle.std.proofs.Common.{◌≡◌, refl, ◌<◌, ◌+◌, ℕ, List, length, arith, sym, ◌∙◌, ap, ◌++◌, ◌∷◌, []}
+use Rattle.std.proofs.Common.{◌≡◌, refl, ◌+◌, ℕ, List, length, arith, sym, ◌∙◌, ◌++◌, ◌∷◌, []}
 use Rattle.td_moments.specs.declared.finding.Possible.{Possible}
 use Rattle.td_clauses.specs.declared.nets.NetSets.{NetSets}
-use Rattle.td_clauses.specs.declared.first.TheConstants.{LIMIT}
 use Rattle.td_clauses.specs.Wires.{WireSet}
 use Rattle.td_clauses.specs.First.{total, with_net, numbered}
 use Rattle.td_clauses.proofs.Lists.{total-more}
@@ -25,7 +24,7 @@ returns-then-variables-gt-LIMIT c =
     let count = counted c.args.nets.now.items c.args.level c.args.target _ _ c.args.variables c.requires c.list-levels.ensures.list c.list-targets.ensures.list in
     record {
       more = elim c.then-variables-gt-LIMIT.branch [
-        then-variables-gt-LIMIT-via-then-variables-gt-LIMIT w ↦ omega (arith, count, w.if-variables-gt-LIMIT.true)
+        | then-variables-gt-LIMIT-via-then-variables-gt-LIMIT w ↦ omega (arith, count, w.if-variables-gt-LIMIT.true)
         | then-variables-gt-LIMIT-via-else-variables-gt-LIMIT+then-levels-gt-LIMIT w ↦ omega (arith, count, w.if-levels-gt-LIMIT.true)
         | then-variables-gt-LIMIT-via-else-variables-gt-LIMIT+else-levels-gt-LIMIT+then-targets-gt-LIMIT w ↦ omega (arith, count, w.if-targets-gt-LIMIT.true)
       ];

@@ -1,5 +1,4 @@
-use Rattle.std.proofs.Common.{◌+◌, ◌-◌, ◌/◌, ◌<◌, ◌≤◌, length, arith}
-use Rattle.td_moments.specs.Moments.{count_before}
+use Rattle.std.proofs.Common.{◌+◌, ◌-◌, ◌/◌, ◌<◌, length, arith}
 use Rattle.td_moments.proofs.Places.{count_above, count_below, count_within}
 use Rattle.td_moments.proofs.finding.count_before.Goals as goal
 

@@ -7,7 +7,7 @@ pub returns : goal.returns
 returns c =
     let end : (length c.args.these.now ≤ c.loop-this.this) ⊎ (length c.args.those.now ≤ c.loop-this.that) =
     elim c.loop-this-test.branch [
-      then-loop-this-test+else-that-those w ↦ inr (omega (arith, w.if-that-those))
+      | then-loop-this-test+else-that-those w ↦ inr (omega (arith, w.if-that-those))
       | else-loop-this-test w ↦ inl (omega (arith, w.loop-this-test))
     ] in
     ended c.loop-this.all.items _ _ c.args.these.now c.args.those.now _ c.loop-this.this c.loop-this.that end

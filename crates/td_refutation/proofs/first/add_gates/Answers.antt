@@ -1,4 +1,4 @@
-use Rattle.std.proofs.Common.{arith, sym, ap, ◌∙◌, length}
+use Rattle.std.proofs.Common.{arith}
 use Rattle.td_circuit.specs.Views.{gate_of}
 use Rattle.td_refutation.proofs.Firsts.{twice, gates_next, gates_over, counted_next, low_with}
 use Rattle.td_refutation.proofs.first.add_gates.Goals as goal

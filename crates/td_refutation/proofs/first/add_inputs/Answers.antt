@@ -1,4 +1,4 @@
-use Rattle.std.proofs.Common.{◌≡◌, ◌<◌, ◌+◌, ◌*◌, length, get_or, false, arith, sym, ap, ◌∙◌, [], refl}
+use Rattle.std.proofs.Common.{◌≡◌, ◌<◌, length, get_or, false, arith, ap, ◌∙◌, []}
 use Rattle.td_clauses.specs.First.{total, with_net}
 use Rattle.td_clauses.specs.declared.first.TheConstants.{LIMIT}
 use Rattle.td_refutation.specs.First.{input_list}

@@ -1,4 +1,4 @@
-use Rattle.std.proofs.Common.{◌≡◌, ◌*◌, ◌^◌, length, arith}
+use Rattle.std.proofs.Common.{◌*◌, ◌^◌, length, arith}
 use Rattle.td_refutation.proofs.Firsts.{weaker, target_low, output_low}
 use Rattle.td_refutation.proofs.first.gate_changes.Goals as goal
 

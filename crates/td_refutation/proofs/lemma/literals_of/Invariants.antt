@@ -1,4 +1,4 @@
-use Rattle.std.proofs.Common.{◌≡◌, ◌*◌, ◌≤◌, length, drop}
+use Rattle.std.proofs.Common.{◌≡◌, ◌*◌, drop}
 use Rattle.td_refutation.specs.Lemmas.{literals_of}
 use Rattle.td_refutation.proofs.Fronts.{with_front}
 use Rattle.td_refutation.proofs.lemma.literals_of.Given as goal

@@ -1,4 +1,3 @@
-use Rattle.std.proofs.Common.{arith}
 use Rattle.td_clauses.proofs.Lists.{length-taken}
 use Rattle.td_clauses.proofs.wire.Wire.take.Goals as goal
 
