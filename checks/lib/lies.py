@@ -39,6 +39,7 @@ LIES = {
         ),
     },
     "slurm": {"a joined time that is one more": where("join", MORE.format(key="exact", by=1))},
+    "budgets": {"a time that is one less": where("worst", MORE.format(key="exact", by=-1))},
     "collisions": {"colliding names take long": SLOW},
     "devices": {"a device that fails is a bad text": FIVE + " 1; exit $status"},
     "doubling": {"the time is one more": MORE.format(key="time", by=1)},

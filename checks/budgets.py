@@ -1,0 +1,82 @@
+#!/usr/bin/env python3
+"""Compares searches within small budgets with the greatest delay of all admitted pairs.
+
+Each case is a search of a random circuit of at most three inputs, some with pins, held inputs, few
+flips and moments of inputs, by a strategy and within a budget from 0 to 40 nodes. Its worst delay
+is found by running every admitted pair in tools/second_opinion.py. An exact answer has to be this
+delay, in no more nodes than the budget; `between` has to have figures around it, as many nodes as
+the budget, and the budget as its cause. The pair has to be admitted, and to have the lower figure.
+"""
+
+import sys
+
+from lib import check, questions, reports
+from lib.netlists import random_netlist
+
+import second_opinion
+
+CASES = 600
+MOST = 40
+
+
+def delay_of(circuit, pair, moments):
+    """The delay of a pair, two texts of bits."""
+    levels = [[int(bit) for bit in vector] for vector in pair]
+    return second_opinion.delay_of_pair(circuit, second_opinion.woven(*levels), moments)
+
+
+def answer_fits(done, budget, wanted):
+    """Whether the figures, the nodes and the cause of an answer are right."""
+    values, figures = reports.values_of(done.out), reports.figures_of(done.out)
+    if figures is None or done.err:
+        return False
+    nodes = int(values["nodes"])
+    if reports.is_exact(done.out):
+        return done.status == 0 and figures.low == wanted and nodes <= budget
+    is_cut_short = done.status == 3 and values.get("cause") == "budget" and nodes == budget
+    return is_cut_short and figures.low <= wanted <= figures.high
+
+
+def fault_in(tested, circuit, words, budget, wanted):
+    """What is wrong with one search, None where nothing is."""
+    done = tested.run("worst", "t.v", "--budget", str(budget), *words)
+    ended = f"status {done.status}: {done.out}{done.err}"
+    if wanted is None:
+        return None if reports.finds_no_pair(done) else f"{ended}where no pair is admitted"
+    if not answer_fits(done, budget, wanted):
+        return f"{ended}where the worst delay is {wanted}"
+    values = reports.values_of(done.out)
+    pair, moments = (values["from"], values["to"]), questions.moments_of(words, circuit.inputs)
+    if pair not in questions.admitted(words, circuit.inputs):
+        return f"the pair {pair} isn't admitted"
+    if delay_of(circuit, pair, moments) != reports.figures_of(done.out).low:
+        return f"the pair {pair} has another delay"
+    tested.has_kind("exact" if done.status == 0 else "cut short")
+    return None
+
+
+def work(tested):
+    while True:
+        text, inputs, _ = random_netlist(tested.random, most_inputs=3)
+        tested.write("t.v", text)
+        circuit = second_opinion.read_circuit(text.encode())
+        words = questions.random_question(tested.random, inputs)
+        moments = questions.moments_of(words, inputs)
+        delays = [delay_of(circuit, pair, moments) for pair in questions.admitted(words, inputs)]
+        wanted = max(delays, default=None)
+        for strategy in ("least", "lead"):
+            budget = tested.random.randint(0, MOST)
+            asked = [*words, "--strategy", strategy]
+            fault = fault_in(tested, circuit, asked, budget, wanted)
+            if fault is not None:
+                tested.fault(f"--budget {budget} {' '.join(asked)}: {fault}\n{text}")
+            tested.case("no pair" if wanted is None else "a worst delay")
+
+
+def shares(tested, _cut):
+    tested.require("exact", 0.3)
+    tested.require("cut short", 0.03)
+
+
+if __name__ == "__main__":
+    sys.exit(check.main(work, __doc__, CASES, shares))
