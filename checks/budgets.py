@@ -10,19 +10,10 @@ the budget, and the budget as its cause. The pair has to be admitted, and to hav
 
 import sys
 
-from lib import check, questions, reports
-from lib.netlists import random_netlist
-
-import second_opinion
+from lib import check, exhausted, questions, reports
 
 CASES = 600
 MOST = 40
-
-
-def delay_of(circuit, pair, moments):
-    """The delay of a pair, two texts of bits."""
-    levels = [[int(bit) for bit in vector] for vector in pair]
-    return second_opinion.delay_of_pair(circuit, second_opinion.woven(*levels), moments)
 
 
 def answer_fits(done, budget, wanted):
@@ -49,7 +40,7 @@ def fault_in(tested, circuit, words, budget, wanted):
     pair, moments = (values["from"], values["to"]), questions.moments_of(words, circuit.inputs)
     if pair not in questions.admitted(words, circuit.inputs):
         return f"the pair {pair} isn't admitted"
-    if delay_of(circuit, pair, moments) != reports.figures_of(done.out).low:
+    if exhausted.delay_of(circuit, pair, moments) != reports.figures_of(done.out).low:
         return f"the pair {pair} has another delay"
     tested.has_kind("exact" if done.status == 0 else "cut short")
     return None
@@ -57,13 +48,7 @@ def fault_in(tested, circuit, words, budget, wanted):
 
 def work(tested):
     while True:
-        text, inputs, _ = random_netlist(tested.random, most_inputs=3)
-        tested.write("t.v", text)
-        circuit = second_opinion.read_circuit(text.encode())
-        words = questions.random_question(tested.random, inputs)
-        moments = questions.moments_of(words, inputs)
-        delays = [delay_of(circuit, pair, moments) for pair in questions.admitted(words, inputs)]
-        wanted = max(delays, default=None)
+        text, circuit, words, wanted = exhausted.random_case(tested, most_inputs=3)
         for strategy in ("least", "lead"):
             budget = tested.random.randint(0, MOST)
             asked = [*words, "--strategy", strategy]

@@ -12,7 +12,7 @@ Besides, each contract that README.md and docs/CONTRACTS.md quote stands in the 
 word; as many wrong bodies are there as the pages say; the numbers and names of docs/model are those
 of tools/model.py, and the picture of the crates is that of tools/picture.py. Each relative link of
 a page leads to a file that is there, and to a heading of it. Lines have at most 100 columns, but
-for tables, blocks and what WIDE names. The options of docs/MANUAL.md are those of `--help`, command
+for tables and blocks. The options of docs/MANUAL.md are those of `--help`, command
 by command, and each refusal of docs/NETLIST.md is what its example gives. Each command, block,
 text, line of a contract, link, page and refusal is a case.
 """
@@ -61,13 +61,6 @@ CHANGED = {
     "other_pair.cert": ("still.cert", b"to 0", b"to 1"),
     "other_leaf.cert": ("still.cert", b"b a 0", b"none"),
     "other_bound.cert": ("inverter.cert", b"b a 3", b"b a 2"),
-}
-# The pages that still have lines above 100 columns, each with the text after which they stand.
-WIDE = {
-    "docs/CERTIFICATE.md": "# ",
-    "docs/CONTRACTS.md": "# ",
-    "docs/MANY-MACHINES.md": "# ",
-    "docs/REFUTATION-API.md": "# ",
 }
 # How many relative links all pages have at least, and how many refusals docs/NETLIST.md has.
 LINKS, REFUSALS = 200, 16
@@ -176,7 +169,7 @@ def links(tested):
 def widths(tested):
     """Cases: no line of a page outside tables and blocks has more than 100 columns."""
     for page in all_pages():
-        lines = prose_of(page).partition(WIDE.get(page, "\0"))[0].splitlines()
+        lines = prose_of(page).splitlines()
         wide = [line for line in lines if len(line) > 100 and not line.startswith("|")]
         tested.expect(f"{page}: the lines above 100 columns", [], wide)
 

@@ -11,18 +11,11 @@ admitted the program says so.
 
 import sys
 
-from lib import check, questions, reports
-from lib.netlists import random_netlist
+from lib import check, exhausted, questions, reports
 
 import second_opinion
 
 CASES = 600
-
-
-def delay_of(circuit, pair, moments):
-    """The delay of a pair, two texts of bits."""
-    levels = [[int(bit) for bit in vector] for vector in pair]
-    return second_opinion.delay_of_pair(circuit, second_opinion.woven(*levels), moments)
 
 
 def fault_in(tested, circuit, words, way, wanted):
@@ -37,7 +30,7 @@ def fault_in(tested, circuit, words, way, wanted):
         return f"{ended}where the worst delay is {wanted}"
     pair, moments = (values["from"], values["to"]), questions.moments_of(words, circuit.inputs)
     is_admitted = pair in questions.admitted(words, circuit.inputs)
-    if not is_admitted or delay_of(circuit, pair, moments) != wanted:
+    if not is_admitted or exhausted.delay_of(circuit, pair, moments) != wanted:
         return f"the pair {pair}"
     checked = tested.run("check", "t.v", "c")
     if reports.accepted_time(checked.out) != wanted:
@@ -54,13 +47,7 @@ def work(tested):
         ["--strategy", "lead", "--workers", count] for count in tested.asked.workers.split(",")
     ]
     while True:
-        text, inputs, _ = random_netlist(tested.random)
-        tested.write("t.v", text)
-        circuit = second_opinion.read_circuit(text.encode())
-        words = questions.random_question(tested.random, inputs)
-        moments = questions.moments_of(words, inputs)
-        delays = [delay_of(circuit, pair, moments) for pair in questions.admitted(words, inputs)]
-        wanted = max(delays, default=None)
+        text, circuit, words, wanted = exhausted.random_case(tested, most_inputs=4)
         for way in ways:
             fault = fault_in(tested, circuit, words, way, wanted)
             if fault is not None:
