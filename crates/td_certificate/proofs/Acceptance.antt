@@ -35,7 +35,8 @@ use Rattle.td_edges.specs.EdgeLaws as edges_laws
 use Rattle.td_certificate.specs.declared.tree.BoundedBy.{BoundedBy}
 use Rattle.td_certificate.specs.declared.tree.BoundedBy.TheVariants as by
 use Rattle.td_certificate.specs.declared.certificate.Certificate.{Certificate}
-use Rattle.td_certificate.specs.Trees.{Tree, Split, Bound, Point, Empty, lines_of}
+use Rattle.td_refutation.proofs.AllSteps.{refuted_is_bounded}
+use Rattle.td_certificate.specs.Trees.{Tree, Split, Bound, Point, Empty, RefutedLeaf, lines_of}
 use Rattle.td_certificate.specs.Walks.{lines_from}
 use Rattle.td_certificate.specs.Accepts.{IsBoundBy, IsGood, HasDelay, setting_of, Accepts, AcceptedIsWorst}
 use Rattle.td_certificate.proofs.TreeLaws.{trees_are_counted}
@@ -154,7 +155,8 @@ same_delay given acyclic fit first second others laters this that f_fits s_fits 
 
 module _ (circuit : Numbered) (numbering : IsNumbering circuit) (fit : AreMoments circuit.netlist circuit.moments) (acyclic : IsAcyclic circuit.netlist)
     (admit : Admitted) (most : ℕ) (pair : Pair) (admitted : IsAdmitted admit pair)
-    (delay : ℕ) (is : IsDelayOfBits (setting circuit) pair.first pair.second delay) where
+    (delay : ℕ) (is : IsDelayOfBits (setting circuit) pair.first pair.second delay)
+    (helds : length admit.held ≡ length circuit.netlist.inputs) where
   -- no bound is below the pair's delay
   below_bound : (domain : BoundedBy) (cube : List Trit) → length cube ≡ 2 * length circuit.netlist.inputs → IsIn pair cube
       → (bound : ℕ) → IsBoundBy domain (setting circuit) cube (Some bound) → delay ≤ bound
@@ -216,6 +218,9 @@ module _ (circuit : Numbered) (numbering : IsNumbering circuit) (fit : AreMoment
   below (Point time) cube count is_in good =
       omega (arith, at_point cube time count good.0.one_pair is_in good.0.of_cube, good.0.within)
   below Empty cube count is_in good = absurd (good.0.of_cube (pair, admitted, is_in))
+  below (RefutedLeaf refuted) cube count is_in good =
+      let under : delay ≤ refuted.bound = refuted_is_bounded (setting circuit) admit cube refuted.steps refuted.bound fit helds count good.0.of_cube pair delay admitted is_in is in
+      omega (arith, under, good.0.within)
 
 -- ---- all pairs
 
@@ -240,7 +245,7 @@ by_number circuit numbering fit acyclic c moments accepts =
       admitted = accepts.admitted;
       reached = reached;
       greatest = λ pair delay admitted is.
-          below circuit numbering fit acyclic admit c.time pair admitted delay is made.0 admit.pins (omega (arith, long.0, fits)) admitted.pinned good;
+          below circuit numbering fit acyclic admit c.time pair admitted delay is (sym accepts.size.inputs) made.0 admit.pins (omega (arith, long.0, fits)) admitted.pinned good;
     }
 
 pub accepted_is_worst : AcceptedIsWorst

@@ -6,8 +6,12 @@ use Rattle.std.proofs.lemmas.List.{append-nil, take_all, take_more, take-append-
 use Rattle.std.proofs.lemmas.List.Concat.{flat_map-append, flat_map-cons}
 use Rattle.std.proofs.lemmas.Option.{get_or_from_slice_get}
 use Rattle.td_domain.specs.declared.cubes.Trit.{Trit}
-use Rattle.td_gates.specs.Output.{Output, Sent, SentTo, SentFront, Failed}
-use Rattle.td_gates.proofs.Outputs.{SentTo-begins, SentTo-more, SentTo-front, Failed-longer}
+use Rattle.td_gates.specs.Output.{Output, one_more, Sent, SentTo, SentFront, Failed}
+use Rattle.td_gates.proofs.Outputs.{Sent-then, Sent-failed, SentTo-begins, SentTo-more, SentTo-front, SentTo-then, SentTo-failed, Failed-longer}
+use Rattle.td_certificate.specs.declared.fault.WriteFault.{WriteFault}
+use Rattle.td_certificate.specs.declared.fault.WriteFault.TheVariants as stopping
+use Rattle.td_certificate.specs.Steps.{Refuted, steps_text, refuted_line}
+use Rattle.td_certificate.specs.Sending.{StopsIn}
 use Rattle.td_certificate.specs.declared.tree.Node.{Node}
 use Rattle.td_certificate.specs.Text.{row, bits, node_line, trit, first_trits, second_trits, numbers}
 use Rattle.td_certificate.proofs.CertificateCode.{head_text}
@@ -55,14 +59,74 @@ pub so_far_front : (a b : Output) (c : Certificate) (i : ℕ) (batch : List ℕ)
 so_far_front a b c i batch p =
     subst (λ (t : List ℕ). SentFront a b t) (sym (up_to-rest c i)) (SentTo-front a b (up_to c i) batch (text_of (map node_line (drop i c.tree))) p)
 
-pub node_pushed : (a b : Output) (c : Certificate) (i : ℕ) (items : List Node) (d : Node) (batch batch' : List ℕ) → items ≡ c.tree → i < length items → SentTo a b (up_to c i) batch
-    → batch' ≡ batch ++ (node_line (get_or items i d) ++ 10 ∷ []) → SentTo a b (up_to c (i + 1)) batch'
-node_pushed a b c i items d batch batch' is lt p e =
-    let n : Node = get_or items i d in
-    let q = SentTo-more a b (up_to c i) batch (node_line n ++ 10 ∷ []) p in
+pub node_pushed : (a b e : Output) (c : Certificate) (i : ℕ) (items : List Node) (n : Node) (batch batch' : List ℕ) → items ≡ c.tree → i < length items → n ≡ get_or items i n
+    → SentTo a b (up_to c i) batch → SentTo b e (batch ++ ended (node_line n)) batch' → SentTo a e (up_to c (i + 1)) batch'
+node_pushed a b e c i items n batch batch' is lt at p more =
+    let q = SentTo-more a b (up_to c i) batch (ended (node_line n)) p in
     let below : i < length c.tree = omega (arith, ap length is) in
-    let grown : up_to c (i + 1) ≡ up_to c i ++ (node_line n ++ 10 ∷ []) = up_to-more c i n d below (ap (λ (ns : List Node). get_or ns i d) is) in
-    rw (grown, e) q
+    let grown : up_to c (i + 1) ≡ up_to c i ++ ended (node_line n) = up_to-more c i n n below (at ∙ ap (λ (ns : List Node). get_or ns i n) is) in
+    rw grown (SentTo-then a b e (up_to c i ++ ended (node_line n)) (batch ++ ended (node_line n)) batch' q more)
+
+-- a node's text stopped going out
+pub node_stopped : (a b e : Output) (c : Certificate) (i : ℕ) (items : List Node) (n : Node) (batch : List ℕ) (fault : WriteFault) → items ≡ c.tree → i < length items
+    → n ≡ get_or items i n → SentTo a b (up_to c i) batch → StopsIn fault b e (batch ++ ended (node_line n)) → StopsIn fault a e (up_to c (i + 1))
+node_stopped a b e c i items n batch fault is lt at p stopped =
+    let below : i < length c.tree = omega (arith, ap length is) in
+    let grown : up_to c (i + 1) ≡ up_to c i ++ ended (node_line n) = up_to-more c i n n below (at ∙ ap (λ (ns : List Node). get_or ns i n) is) in
+    let q = SentTo-more a b (up_to c i) batch (ended (node_line n)) p in
+    rw grown (through (up_to c i ++ ended (node_line n)) (batch ++ ended (node_line n)) fault q stopped)
+  where
+    through : (text rest : List ℕ) (fault : WriteFault) → SentTo a b text rest → StopsIn fault b e rest → StopsIn fault a e text
+    through text rest stopping.Device q stopped = SentTo-failed a b e text rest q stopped
+    through text rest stopping.OutOfMemory q stopped = (stopped.0, SentTo-then a b e text rest stopped.0 q stopped.1)
+
+pub stopped_front : (a b : Output) (c : Certificate) (i : ℕ) (fault : WriteFault) → StopsIn fault a b (up_to c i) → SentFront a b (spelling c)
+stopped_front a b c i stopping.Device stopped = part_front a b c i stopped
+stopped_front a b c i stopping.OutOfMemory stopped = so_far_front a b c i stopped.0 stopped.1
+
+pub stopped_device : (a b : Output) (text : List ℕ) (fault : WriteFault) → StopsIn fault a b text → fault ≡ stopping.Device → b.failures ≡ one_more a.failures
+stopped_device a b text stopping.Device stopped e = stopped.failures
+stopped_device a b text stopping.OutOfMemory stopped e = absurd (let f : stopping.OutOfMemory ≡ stopping.Device = e in cc)
+
+pub stopped_memory : (a b : Output) (text : List ℕ) (fault : WriteFault) → StopsIn fault a b text → fault ≡ stopping.OutOfMemory → b.failures ≡ a.failures
+stopped_memory a b text stopping.OutOfMemory stopped e = stopped.1.sent.failures
+stopped_memory a b text stopping.Device stopped e = absurd (let f : stopping.Device ≡ stopping.OutOfMemory = e in cc)
+
+-- ---- a leaf that is refuted
+
+group : (b r s q n : List ℕ) → b ++ ((r ++ (s ++ q)) ++ n) ≡ (b ++ r) ++ (s ++ (q ++ n))
+group b r s q n = simp append_assoc
+
+-- the line of its bound
+abbrev pub bound_line : Refuted → List ℕ
+bound_line refuted = ended (codes "q " ++ decimal refuted.bound)
+
+grouped : (batch : List ℕ) (refuted : Refuted) → batch ++ ended (refuted_line refuted) ≡ (batch ++ codes "r\n") ++ (steps_text refuted.steps ++ bound_line refuted)
+grouped batch refuted = group batch (codes "r\n") (steps_text refuted.steps) (codes "q " ++ decimal refuted.bound) (10 ∷ [])
+
+-- the writer failed in the lines before the steps
+pub refuted_failed : (a b : Output) (batch : List ℕ) (refuted : Refuted) → Failed a b (batch ++ codes "r\n") → Failed a b (batch ++ ended (refuted_line refuted))
+refuted_failed a b batch refuted f =
+    subst (Failed a b) (sym (grouped batch refuted)) (Failed-longer a b (batch ++ codes "r\n") (steps_text refuted.steps ++ bound_line refuted) f)
+
+-- it failed in the steps
+pub steps_failed : (a b e : Output) (batch : List ℕ) (refuted : Refuted) → Sent a b (batch ++ codes "r\n") → Failed b e (steps_text refuted.steps)
+    → Failed a e (batch ++ ended (refuted_line refuted))
+steps_failed a b e batch refuted p f =
+    let front : List ℕ = batch ++ codes "r\n" in
+    subst (Failed a e) (append_assoc front (steps_text refuted.steps) (bound_line refuted) ∙ sym (grouped batch refuted))
+    (Failed-longer a e (front ++ steps_text refuted.steps) (bound_line refuted) (Sent-failed a b e front (steps_text refuted.steps) p f))
+
+-- all but the line of the bound went out
+pub steps_sent : (a b e : Output) (batch : List ℕ) (refuted : Refuted) → Sent a b (batch ++ codes "r\n") → Sent b e (steps_text refuted.steps)
+    → SentTo a e (batch ++ ended (refuted_line refuted)) (bound_line refuted)
+steps_sent a b e batch refuted p q =
+    let front : List ℕ = batch ++ codes "r\n" in
+    record {
+      front = front ++ steps_text refuted.steps;
+      parts = grouped batch refuted ∙ sym (append_assoc front (steps_text refuted.steps) (bound_line refuted));
+      sent = Sent-then a b e front (steps_text refuted.steps) p q;
+    }
 
 -- ---- the head
 

@@ -7,11 +7,11 @@ use Rattle.std.proofs.lemmas.List.Concat.{flat_map-append, flat_map-cons}
 use Rattle.std.proofs.lemmas.Fmt.{decimal_digit}
 use Rattle.td_certificate.specs.declared.tree.Node.{Node}
 use Rattle.td_certificate.specs.declared.question.Version.{Version}
-use Rattle.td_certificate.specs.declared.question.Version.TheVariants.{First, Second, Third, Fourth}
+use Rattle.td_certificate.specs.declared.question.Version.TheVariants.{First, Second, Third, Fourth, Fifth}
 use Rattle.td_certificate.specs.declared.fields.Leaves.{Leaves}
 use Rattle.td_certificate.specs.declared.certificate.Certificate.{Certificate}
 use Rattle.td_certificate.specs.Questions.{Question, inputs_of, admits_all, is_at_once, version_of}
-use Rattle.td_certificate.specs.Trees.{names_edges, has_edges}
+use Rattle.td_certificate.specs.Trees.{names_edges, has_edges, is_refuted, has_refuted}
 use Rattle.td_certificate.specs.Spelling.{inputs, version_in, question_lines, question_text, version_line, circuit_line, time_line, from_line, to_line, head_lines, ended, text_of, greatest, spelling, IsNode, HasSpelling}
 use Rattle.td_certificate.specs.Text.{bits, node_line}
 use Rattle.td_certificate.specs.Reading.{Reading, ◌>>=◌, number_at, number_from, number_behind, bit_of, row_behind, version_at, has_inputs, question_at, leaves_in, nodes_at, with_fields, lines_at, certificate_at}
@@ -30,6 +30,7 @@ one_tree First = tt
 one_tree Second = tt
 one_tree Third = tt
 one_tree Fourth = omega arith
+one_tree Fifth = omega arith
 
 -- ---- from the last field to the first, where those before are known
 
@@ -227,19 +228,38 @@ may_stand : (v : Version) (nodes : List Node) → AllByRecursion (IsNode v) node
 may_stand v [] all plain = tt
 may_stand v (n ∷ nodes) all plain = (from_node v n all.0 plain.0, may_stand v nodes all.1 plain.1)
 
--- in the first three versions no leaf is bounded by edges
-abbrev NoEdges : Node → Type 0
-NoEdges n = names_edges n ≡ false
+-- in the first three versions no leaf is bounded by edges, and none is refuted before the fifth
+abbrev IsSimple : Node → Type 0
+IsSimple n = (names_edges n ≡ false) × (is_refuted n ≡ false)
 
-none_have : (nodes : List Node) → AllByRecursion NoEdges nodes → has_edges nodes ≡ false
+abbrev IsUnrefuted : Node → Type 0
+IsUnrefuted n = is_refuted n ≡ false
+
+simple_unrefuted : (nodes : List Node) → AllByRecursion IsSimple nodes → AllByRecursion IsUnrefuted nodes
+simple_unrefuted [] all = tt
+simple_unrefuted (n ∷ nodes) all = (all.0.1, simple_unrefuted nodes all.1)
+
+none_have : (nodes : List Node) → AllByRecursion IsSimple nodes → has_edges nodes ≡ false
 none_have [] all = refl
-none_have (n ∷ nodes) all = rw all.0 (none_have nodes all.1)
+none_have (n ∷ nodes) all = rw all.0.0 (none_have nodes all.1)
 
-have_none : (nodes : List Node) → has_edges nodes ≡ false → AllByRecursion NoEdges nodes
-have_none [] e = tt
-have_none (n ∷ nodes) e = cases (names_edges n) (λ h. absurd (let f : has_edges (n ∷ nodes) ≡ true = rw h refl in cc)) (λ h. (h, have_none nodes (rw h at e)))
+none_refuted : (nodes : List Node) → AllByRecursion IsUnrefuted nodes → has_refuted nodes ≡ false
+none_refuted [] all = refl
+none_refuted (n ∷ nodes) all = rw all.0 (none_refuted nodes all.1)
 
-any_plain : (nodes : List Node) → AllByRecursion (IsPlain Fourth) nodes
+have_none : (nodes : List Node) → has_edges nodes ≡ false → has_refuted nodes ≡ false → AllByRecursion IsSimple nodes
+have_none [] e f = tt
+have_none (n ∷ nodes) e f =
+    cases (names_edges n) (λ h. absurd (let g : has_edges (n ∷ nodes) ≡ true = rw h refl in cc))
+    (λ h. cases (is_refuted n) (λ k. absurd (let g : has_refuted (n ∷ nodes) ≡ true = rw k refl in cc))
+    (λ k. ((h, k), have_none nodes (rw h at e) (rw k at f))))
+
+all_unrefuted : (nodes : List Node) → has_refuted nodes ≡ false → AllByRecursion IsUnrefuted nodes
+all_unrefuted [] f = tt
+all_unrefuted (n ∷ nodes) f =
+    cases (is_refuted n) (λ k. absurd (let g : has_refuted (n ∷ nodes) ≡ true = rw k refl in cc)) (λ k. (k, all_unrefuted nodes (rw k at f)))
+
+any_plain : (nodes : List Node) → AllByRecursion (IsPlain Fifth) nodes
 any_plain [] = tt
 any_plain (n ∷ nodes) = (tt, any_plain nodes)
 
@@ -249,35 +269,63 @@ record IsBy (v : Version) (q : Question) (tree : List Node) : Type 0 where
   plain : AllByRecursion (IsPlain v) tree
   named : IsNamed (leaves_in v) tree
 
-to_by : (v : Version) (q : Question) (tree : List Node) → IsBy v q tree → (if has_edges tree then Fourth else version_of q) ≡ v
-to_by First q tree u = rw (none_have tree u.plain) u.told
-to_by Second q tree u = rw (none_have tree u.plain) u.told
-to_by Third q tree u = rw (none_have tree u.plain) u.told
-to_by Fourth q tree u = rw u.named refl
+-- the version, by whether a leaf is refuted and whether one is bounded by edges
+abbrev version_with : Bool → Bool → Question → Version
+version_with refuted edges q = if refuted then Fifth else (if edges then Fourth else version_of q)
+
+to_by : (v : Version) (q : Question) (tree : List Node) → IsBy v q tree → version_with (has_refuted tree) (has_edges tree) q ≡ v
+to_by First q tree u = rw (none_refuted tree (simple_unrefuted tree u.plain), none_have tree u.plain) u.told
+to_by Second q tree u = rw (none_refuted tree (simple_unrefuted tree u.plain), none_have tree u.plain) u.told
+to_by Third q tree u = rw (none_refuted tree (simple_unrefuted tree u.plain), none_have tree u.plain) u.told
+to_by Fourth q tree u = rw (none_refuted tree u.plain, u.named) refl
+to_by Fifth q tree u = rw u.named refl
+
+-- the version of a question is one of the first three
+data IsEarly (v : Version) : Type 0 where
+  early : v ≢ Fourth → v ≢ Fifth → IsEarly v
+
+question_early : (q : Question) → IsEarly (version_of q)
+question_early q = by_tests (is_at_once q.moments) (admits_all q.admit)
+  where
+    by_tests : (once all : Bool) → IsEarly (if once then (if all then First else Second) else Third)
+    by_tests true true = early (λ e. cc) (λ e. cc)
+    by_tests true false = early (λ e. cc) (λ e. cc)
+    by_tests false all = early (λ e. cc) (λ e. cc)
 
 not_fourth : (q : Question) → version_of q ≢ Fourth
-not_fourth q e = by_tests (is_at_once q.moments) (admits_all q.admit) e
-  where
-    by_tests : (once all : Bool) → (if once then (if all then First else Second) else Third) ≢ Fourth
-    by_tests true true e = cc
-    by_tests true false e = cc
-    by_tests false all e = cc
+not_fourth q e = elim (question_early q) as (λ _. ⊥) [ early four five ↦ four e ]
 
-from_by : (v : Version) (q : Question) (tree : List Node) → (if has_edges tree then Fourth else version_of q) ≡ v → IsBy v q tree
-from_by First q tree e =
-    cases (has_edges tree) (λ h. absurd (let f : Fourth ≡ First = rw h at e in cc)) (λ h. record { told = rw h at e; plain = have_none tree h; named = tt })
-from_by Second q tree e =
-    cases (has_edges tree) (λ h. absurd (let f : Fourth ≡ Second = rw h at e in cc)) (λ h. record { told = rw h at e; plain = have_none tree h; named = tt })
-from_by Third q tree e =
-    cases (has_edges tree) (λ h. absurd (let f : Fourth ≡ Third = rw h at e in cc)) (λ h. record { told = rw h at e; plain = have_none tree h; named = tt })
+not_fifth : (q : Question) → version_of q ≢ Fifth
+not_fifth q e = elim (question_early q) as (λ _. ⊥) [ early four five ↦ five e ]
+
+-- nothing is refuted and nothing bounded by edges in a version before the fourth
+record IsBefore (v : Version) (q : Question) (tree : List Node) : Type 0 where
+  told : version_of q ≡ v
+  simple : AllByRecursion IsSimple tree
+
+is_before : (v : Version) (q : Question) (tree : List Node) → v ≢ Fourth → v ≢ Fifth → version_with (has_refuted tree) (has_edges tree) q ≡ v → IsBefore v q tree
+is_before v q tree four five e =
+    cases (has_refuted tree) (λ k. absurd (five (sym (rw k at e))))
+    (λ k. cases (has_edges tree) (λ h. absurd (four (sym (rw (k, h) at e))))
+    (λ h. record { told = rw (k, h) at e; simple = have_none tree h k }))
+
+from_by : (v : Version) (q : Question) (tree : List Node) → version_with (has_refuted tree) (has_edges tree) q ≡ v → IsBy v q tree
+from_by First q tree e = let b = is_before First q tree (λ f. cc) (λ f. cc) e in record { told = b.told; plain = b.simple; named = tt }
+from_by Second q tree e = let b = is_before Second q tree (λ f. cc) (λ f. cc) e in record { told = b.told; plain = b.simple; named = tt }
+from_by Third q tree e = let b = is_before Third q tree (λ f. cc) (λ f. cc) e in record { told = b.told; plain = b.simple; named = tt }
 from_by Fourth q tree e =
-    cases (has_edges tree) (λ h. record { told = tt; plain = any_plain tree; named = h }) (λ h. absurd (not_fourth q (rw h at e)))
+    cases (has_refuted tree) (λ k. absurd (let f : Fifth ≡ Fourth = rw k at e in cc))
+    (λ k. cases (has_edges tree) (λ h. record { told = tt; plain = all_unrefuted tree k; named = h }) (λ h. absurd (not_fourth q (rw (k, h) at e))))
+from_by Fifth q tree e =
+    cases (has_refuted tree) (λ k. record { told = tt; plain = any_plain tree; named = k })
+    (λ k. cases (has_edges tree) (λ h. absurd (let f : Fourth ≡ Fifth = rw (k, h) at e in cc)) (λ h. absurd (not_fifth q (rw (k, h) at e))))
 
 among_is : (v : Version) → among (leaves_in v) ≡ leaves_of v
 among_is First = refl
 among_is Second = refl
 among_is Third = refl
 among_is Fourth = refl
+among_is Fifth = refl
 
 to_version : (v : Version) (c : Certificate) → IsFromInputs v c → IsOfVersion v c
 to_version v c u =
@@ -347,6 +395,7 @@ version_line_text First = ap (λ (t : List ℕ). ended (codes "tdelay-cert " ++ 
 version_line_text Second = ap (λ (t : List ℕ). ended (codes "tdelay-cert " ++ t)) (decimal_digit 2 (omega arith))
 version_line_text Third = ap (λ (t : List ℕ). ended (codes "tdelay-cert " ++ t)) (decimal_digit 3 (omega arith))
 version_line_text Fourth = ap (λ (t : List ℕ). ended (codes "tdelay-cert " ++ t)) (decimal_digit 4 (omega arith))
+version_line_text Fifth = ap (λ (t : List ℕ). ended (codes "tdelay-cert " ++ t)) (decimal_digit 5 (omega arith))
 
 pub spelling_is : (c : Certificate) → spelling c ≡ version_text (version_in c) ++ lines_text (version_in c) c
 unfolding spelling

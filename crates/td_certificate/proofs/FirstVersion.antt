@@ -8,9 +8,9 @@ use Rattle.td_domain.specs.declared.cubes.Trit.TheVariants.{Zero, One, Free}
 use Rattle.td_domain.specs.Cubes.{Allows, AllowsBits}
 use Rattle.td_domain.specs.Admits.{Admitted, flips_of, AreHeld, HasAdmitted}
 use Rattle.td_domain.proofs.Flips.{one_flip}
-use Rattle.td_certificate.specs.declared.question.Version.TheVariants.{First, Second, Third, Fourth}
+use Rattle.td_certificate.specs.declared.question.Version.TheVariants.{First, Second, Third, Fourth, Fifth}
 use Rattle.td_certificate.specs.declared.certificate.Certificate.{Certificate}
-use Rattle.td_certificate.specs.Trees.{has_edges}
+use Rattle.td_certificate.specs.Trees.{has_edges, has_refuted}
 use Rattle.td_certificate.specs.Spelling.{version_in}
 use Rattle.td_certificate.specs.Questions.{Question, inputs_of, is_free, holds_none, admits_all, is_at_once, version_of}
 
@@ -73,11 +73,12 @@ first_version moments admit e = at (is_at_once moments) (admits_all admit) e
 
 -- a certificate of the first version asks what the first version tells
 pub first_asked : (c : Certificate) → version_in c ≡ First → version_of c.question ≡ First
-first_asked c e = at (has_edges c.tree) e
+first_asked c e = at (has_refuted c.tree) (has_edges c.tree) e
   where
-    at : (edges : Bool) → (if edges then Fourth else version_of c.question) ≡ First → version_of c.question ≡ First
-    at true e = absurd cc
-    at false e = e
+    at : (refuted edges : Bool) → (if refuted then Fifth else (if edges then Fourth else version_of c.question)) ≡ First → version_of c.question ≡ First
+    at true edges e = absurd cc
+    at false true e = absurd cc
+    at false false e = e
 
 pub has_admitted : (question : Question) (cube : List Trit) → version_of question ≡ First → length question.admit.pins ≡ 2 * inputs_of question
     → length cube ≡ 2 * inputs_of question → HasAdmitted question.admit cube

@@ -9,7 +9,7 @@ use Rattle.td_certificate.specs.declared.tree.BoundedBy.TheVariants.{Arrival, Po
 use Rattle.td_certificate.specs.declared.tree.Node.{Node}
 use Rattle.td_certificate.specs.declared.tree.Node.TheVariants as node
 use Rattle.td_certificate.specs.declared.question.Version.{Version}
-use Rattle.td_certificate.specs.declared.question.Version.TheVariants.{First, Second, Third, Fourth}
+use Rattle.td_certificate.specs.declared.question.Version.TheVariants.{First, Second, Third, Fourth, Fifth}
 use Rattle.td_certificate.specs.declared.certificate.Certificate.{Certificate}
 use Rattle.td_certificate.specs.Questions.{Question, inputs_of}
 use Rattle.td_certificate.specs.Text.{bit, row, trit, first_trits, second_trits, hold, numbers}
@@ -39,6 +39,7 @@ node_length (node.Bound Edges bound) small = let here = line_length (codes "b e 
 node_length (node.Bound EdgesAndPossible bound) small = let here = line_length (codes "b n ") bound small in omega (arith, here)
 node_length (node.Point time) small = let here = line_length (codes "p ") time small in omega (arith, here)
 node_length node.Empty small = omega arith
+node_length (node.Refuted refuted) small = absurd small
 
 nodes_length : (nodes : List Node) → AllByRecursion IsShort nodes → length (nodes_text nodes) ≤ 20 * length nodes
 nodes_length [] small = omega arith
@@ -130,6 +131,7 @@ lines_length q First has = omega arith
 lines_length q Second has = omega (arith, admit_length q has)
 lines_length q Third has = dated_length q has
 lines_length q Fourth has = dated_length q has
+lines_length q Fifth has = dated_length q has
 
 -- ---- the whole
 
@@ -138,6 +140,7 @@ version_length First = omega arith
 version_length Second = omega arith
 version_length Third = omega arith
 version_length Fourth = omega arith
+version_length Fifth = omega arith
 
 head_length : (v : Version) (c : Certificate) → HasSpelling c → c.time < 10 ^ 15 → length (lines_text v c) ≤ 90000 + length (nodes_text c.tree)
 head_length v c has small =

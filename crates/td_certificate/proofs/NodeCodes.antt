@@ -1,18 +1,21 @@
 -- A node's line is a code, by the leaves that may stand there.
-use Rattle.std.proofs.Common.{◌≡◌, ℕ, ◌≤◌, true, false, List, [], ◌∷◌, ◌++◌, Ok, Some, refl, sym, ap, subst, ◌∙◌, arith}
-use Rattle.std.specs.Prelude.{codes}
+use Rattle.std.proofs.Common.{◌≡◌, ℕ, ◌≤◌, true, false, List, [], ◌∷◌, ◌++◌, Ok, Some, refl, sym, ap, subst, ◌∙◌, append_assoc, arith}
+use Rattle.std.specs.Prelude.{codes, decimal}
 use Rattle.td_certificate.specs.declared.tree.BoundedBy.{BoundedBy}
 use Rattle.td_certificate.specs.declared.tree.BoundedBy.TheVariants.{Arrival, Possible, Both, Edges, EdgesAndPossible}
 use Rattle.td_certificate.specs.declared.tree.Node.{Node}
 use Rattle.td_certificate.specs.declared.tree.Node.TheVariants as node
 use Rattle.td_certificate.specs.declared.question.Version.{Version}
-use Rattle.td_certificate.specs.declared.question.Version.TheVariants.{First, Second, Third, Fourth}
+use Rattle.td_certificate.specs.declared.question.Version.TheVariants.{First, Second, Third, Fourth, Fifth}
 use Rattle.td_certificate.specs.declared.fields.Leaves.{Leaves}
 use Rattle.td_certificate.specs.declared.fields.Leaves.TheVariants as leaves
-use Rattle.td_certificate.specs.Trees.{is_of_edges, names_edges, sides}
+use Rattle.td_certificate.specs.Trees.{is_of_edges, names_edges, is_refuted, sides}
+use Rattle.td_certificate.specs.Steps.{Refuted, steps_text, IsRefutedText}
+use Rattle.td_certificate.proofs.StepCodes.{refuted_tail, refuted_code}
 use Rattle.td_certificate.specs.Spelling.{ended, greatest, IsNode}
 use Rattle.td_certificate.specs.Text.{letter, node_line}
-use Rattle.td_certificate.specs.Reading.{◌>>=◌, literal, number_behind, written_as, domain_byte, domains, domain_of as domain_of_byte, letter_at, Tag, SplitTag, BoundTag, PointTag, EmptyTag, tag_byte, tags, tag_at, behind_tag, node_at}
+use Rattle.td_certificate.specs.Reading.{◌>>=◌, literal, number_behind, written_as, domain_byte, domains, domain_of as domain_of_byte, letter_at, Tag, SplitTag, BoundTag, PointTag, EmptyTag, RefutedTag, tag_byte, tags, tag_at, behind_tag, node_at}
+use Rattle.td_certificate.specs.StepReading.{refuted_at}
 use Rattle.td_certificate.proofs.Codes.{IsCode, IsCode-then, IsCode-done}
 use Rattle.td_certificate.proofs.FieldCodes.{IsLimit, AtMost, number_text}
 use Rattle.td_certificate.proofs.VectorCodes.{behind_word, number_behind_code, IsLetter, written_from, char_code, IsCode-as, mapped_code}
@@ -25,6 +28,8 @@ IsDomain leaves.First domain = is_of_edges domain ≡ false
 IsDomain leaves.Later domain = is_of_edges domain ≡ false
 IsDomain leaves.Any domain = Unit {0}
 IsDomain leaves.OfEdges domain = is_of_edges domain ≡ true
+IsDomain leaves.WithRefuted domain = Unit {0}
+IsDomain leaves.OfRefuted domain = Unit {0}
 
 domain_again : (here : Leaves) (x : BoundedBy) → IsDomain here x → domain_of_byte here (domain_byte x) ≡ Some x
 domain_again leaves.First Arrival v = refl
@@ -47,6 +52,16 @@ domain_again leaves.OfEdges Possible v = absurd (let f : false ≡ true = v in c
 domain_again leaves.OfEdges Both v = absurd (let f : false ≡ true = v in cc)
 domain_again leaves.OfEdges Edges v = refl
 domain_again leaves.OfEdges EdgesAndPossible v = refl
+domain_again leaves.WithRefuted Arrival v = refl
+domain_again leaves.WithRefuted Possible v = refl
+domain_again leaves.WithRefuted Both v = refl
+domain_again leaves.WithRefuted Edges v = refl
+domain_again leaves.WithRefuted EdgesAndPossible v = refl
+domain_again leaves.OfRefuted Arrival v = refl
+domain_again leaves.OfRefuted Possible v = refl
+domain_again leaves.OfRefuted Both v = refl
+domain_again leaves.OfRefuted Edges v = refl
+domain_again leaves.OfRefuted EdgesAndPossible v = refl
 
 domain_letter : (here : Leaves) → IsLetter (IsDomain here) (domain_of_byte here) domain_byte
 domain_letter leaves.First = record {
@@ -66,6 +81,18 @@ domain_letter leaves.Any = record {
   some_valid = tt;
   again = domain_again leaves.Any;
   from = λ b x e. written_from (IsDomain leaves.Any) domain_byte (domains leaves.Any) (tt, (tt, (tt, (tt, (tt, tt))))) b x e;
+}
+domain_letter leaves.WithRefuted = record {
+  some = Arrival;
+  some_valid = tt;
+  again = domain_again leaves.WithRefuted;
+  from = λ b x e. written_from (IsDomain leaves.WithRefuted) domain_byte (domains leaves.WithRefuted) (tt, (tt, (tt, (tt, (tt, tt))))) b x e;
+}
+domain_letter leaves.OfRefuted = record {
+  some = Arrival;
+  some_valid = tt;
+  again = domain_again leaves.OfRefuted;
+  from = λ b x e. written_from (IsDomain leaves.OfRefuted) domain_byte (domains leaves.OfRefuted) (tt, (tt, (tt, (tt, (tt, tt))))) b x e;
 }
 domain_letter leaves.OfEdges = record {
   some = Edges;
@@ -87,36 +114,66 @@ letter_code here =
     IsCode-as (IsDomain here) (IsDomain here) (λ x. domain_byte x ∷ []) letter (letter_at here) (λ x v. v) (λ x v. v) (λ x v. letter_text x)
     (char_code (IsDomain here) (domain_of_byte here) domain_byte (domain_letter here))
 
--- no leaf of the first version is empty, and the last one is a bound where it has to be
+-- no leaf of the first version is empty, none before the fifth is refuted, and the last one is a bound or refuted where it has to be
 abbrev pub IsTag : Leaves → Tag → Type 0
 IsTag leaves.First EmptyTag = ⊥
+IsTag leaves.First RefutedTag = ⊥
 IsTag leaves.First SplitTag = Unit {0}
 IsTag leaves.First BoundTag = Unit {0}
 IsTag leaves.First PointTag = Unit {0}
-IsTag leaves.Later tag = Unit {0}
-IsTag leaves.Any tag = Unit {0}
+IsTag leaves.Later SplitTag = Unit {0}
+IsTag leaves.Later BoundTag = Unit {0}
+IsTag leaves.Later PointTag = Unit {0}
+IsTag leaves.Later EmptyTag = Unit {0}
+IsTag leaves.Later RefutedTag = ⊥
+IsTag leaves.Any SplitTag = Unit {0}
+IsTag leaves.Any BoundTag = Unit {0}
+IsTag leaves.Any PointTag = Unit {0}
+IsTag leaves.Any EmptyTag = Unit {0}
+IsTag leaves.Any RefutedTag = ⊥
 IsTag leaves.OfEdges SplitTag = Unit {0}
 IsTag leaves.OfEdges BoundTag = Unit {0}
 IsTag leaves.OfEdges PointTag = ⊥
 IsTag leaves.OfEdges EmptyTag = ⊥
+IsTag leaves.OfEdges RefutedTag = ⊥
+IsTag leaves.WithRefuted tag = Unit {0}
+IsTag leaves.OfRefuted SplitTag = Unit {0}
+IsTag leaves.OfRefuted BoundTag = ⊥
+IsTag leaves.OfRefuted PointTag = ⊥
+IsTag leaves.OfRefuted EmptyTag = ⊥
+IsTag leaves.OfRefuted RefutedTag = Unit {0}
 
 tag_again : (here : Leaves) (x : Tag) → IsTag here x → written_as tag_byte (tags here) (tag_byte x) ≡ Some x
 tag_again leaves.First SplitTag v = refl
 tag_again leaves.First BoundTag v = refl
 tag_again leaves.First PointTag v = refl
 tag_again leaves.First EmptyTag v = absurd v
+tag_again leaves.First RefutedTag v = absurd v
 tag_again leaves.Later SplitTag v = refl
 tag_again leaves.Later BoundTag v = refl
 tag_again leaves.Later PointTag v = refl
 tag_again leaves.Later EmptyTag v = refl
+tag_again leaves.Later RefutedTag v = absurd v
 tag_again leaves.Any SplitTag v = refl
 tag_again leaves.Any BoundTag v = refl
 tag_again leaves.Any PointTag v = refl
 tag_again leaves.Any EmptyTag v = refl
+tag_again leaves.Any RefutedTag v = absurd v
 tag_again leaves.OfEdges SplitTag v = refl
 tag_again leaves.OfEdges BoundTag v = refl
 tag_again leaves.OfEdges PointTag v = absurd v
 tag_again leaves.OfEdges EmptyTag v = absurd v
+tag_again leaves.OfEdges RefutedTag v = absurd v
+tag_again leaves.WithRefuted SplitTag v = refl
+tag_again leaves.WithRefuted BoundTag v = refl
+tag_again leaves.WithRefuted PointTag v = refl
+tag_again leaves.WithRefuted EmptyTag v = refl
+tag_again leaves.WithRefuted RefutedTag v = refl
+tag_again leaves.OfRefuted SplitTag v = refl
+tag_again leaves.OfRefuted BoundTag v = absurd v
+tag_again leaves.OfRefuted PointTag v = absurd v
+tag_again leaves.OfRefuted EmptyTag v = absurd v
+tag_again leaves.OfRefuted RefutedTag v = refl
 
 tag_letter : (here : Leaves) → IsLetter (IsTag here) (λ b. written_as tag_byte (tags here) b) tag_byte
 tag_letter leaves.First = record {
@@ -136,6 +193,18 @@ tag_letter leaves.Any = record {
   some_valid = tt;
   again = tag_again leaves.Any;
   from = λ b x e. written_from (IsTag leaves.Any) tag_byte (tags leaves.Any) (tt, (tt, (tt, (tt, tt)))) b x e;
+}
+tag_letter leaves.WithRefuted = record {
+  some = SplitTag;
+  some_valid = tt;
+  again = tag_again leaves.WithRefuted;
+  from = λ b x e. written_from (IsTag leaves.WithRefuted) tag_byte (tags leaves.WithRefuted) (tt, (tt, (tt, (tt, (tt, tt))))) b x e;
+}
+tag_letter leaves.OfRefuted = record {
+  some = SplitTag;
+  some_valid = tt;
+  again = tag_again leaves.OfRefuted;
+  from = λ b x e. written_from (IsTag leaves.OfRefuted) tag_byte (tags leaves.OfRefuted) (tt, (tt, tt)) b x e;
 }
 tag_letter leaves.OfEdges = record {
   some = SplitTag;
@@ -161,24 +230,32 @@ tag_of (node.Split position) = SplitTag
 tag_of (node.Bound domain bound) = BoundTag
 tag_of (node.Point time) = PointTag
 tag_of node.Empty = EmptyTag
+tag_of (node.Refuted refuted) = RefutedTag
 
 abbrev value_of : Node → ℕ
 value_of (node.Split position) = position
 value_of (node.Bound domain bound) = bound
 value_of (node.Point time) = time
 value_of node.Empty = 0
+value_of (node.Refuted refuted) = 0
+
+abbrev refuted_of : Node → Refuted
+refuted_of (node.Refuted refuted) = refuted
+refuted_of n = record { steps = []; bound = 0 }
 
 abbrev domain_of : Node → BoundedBy
 domain_of (node.Split position) = Arrival
 domain_of (node.Bound domain bound) = domain
 domain_of (node.Point time) = Arrival
 domain_of node.Empty = Arrival
+domain_of (node.Refuted refuted) = Arrival
 
 abbrev tail_text : Node → List ℕ
 tail_text (node.Split position) = codes " " ++ number_text 10 position
 tail_text (node.Bound domain bound) = codes " " ++ (letter domain ++ (codes " " ++ number_text 10 bound))
 tail_text (node.Point time) = codes " " ++ number_text 10 time
 tail_text node.Empty = codes "one\n"
+tail_text (node.Refuted refuted) = codes "\n" ++ refuted_tail refuted
 
 -- the domain of a bound may stand there
 abbrev HasDomain : Leaves → Node → Type 0
@@ -186,39 +263,53 @@ HasDomain here (node.Split position) = Unit {0}
 HasDomain here (node.Bound domain bound) = IsDomain here domain
 HasDomain here (node.Point time) = Unit {0}
 HasDomain here node.Empty = Unit {0}
+HasDomain here (node.Refuted refuted) = Unit {0}
+
+-- the steps of a leaf that is refuted have a text
+abbrev HasSteps : Node → Type 0
+HasSteps (node.Split position) = Unit {0}
+HasSteps (node.Bound domain bound) = Unit {0}
+HasSteps (node.Point time) = Unit {0}
+HasSteps node.Empty = Unit {0}
+HasSteps (node.Refuted refuted) = IsRefutedText refuted
 
 -- the number is within its limit
 record HasTag (here : Leaves) (tag : Tag) (n : Node) : Type 0 where
   fits : value_of n ≤ greatest
   domain : HasDomain here n
+  steps : HasSteps n
   tag_is : tag_of n ≡ tag
 
 split_to : (here : Leaves) (n : Node) → (value_of n ≤ greatest) × (n ≡ node.Split (value_of n)) → HasTag here SplitTag n
-split_to here (node.Split position) v = record { fits = v.0; domain = tt; tag_is = refl }
+split_to here (node.Split position) v = record { fits = v.0; domain = tt; steps = tt; tag_is = refl }
 split_to here (node.Bound domain bound) v = absurd (let e : node.Bound domain bound ≡ node.Split bound = v.1 in cc)
 split_to here (node.Point time) v = absurd (let e : node.Point time ≡ node.Split time = v.1 in cc)
 split_to here node.Empty v = absurd (let e : node.Empty ≡ node.Split 0 = v.1 in cc)
+split_to here (node.Refuted refuted) v = absurd (let e : node.Refuted refuted ≡ node.Split 0 = v.1 in cc)
 
 split_from : (here : Leaves) (n : Node) → HasTag here SplitTag n → (value_of n ≤ greatest) × (n ≡ node.Split (value_of n))
 split_from here (node.Split position) v = (v.fits, refl)
 split_from here (node.Bound domain bound) v = absurd (let e : BoundTag ≡ SplitTag = v.tag_is in cc)
 split_from here (node.Point time) v = absurd (let e : PointTag ≡ SplitTag = v.tag_is in cc)
 split_from here node.Empty v = absurd (let e : EmptyTag ≡ SplitTag = v.tag_is in cc)
+split_from here (node.Refuted refuted) v = absurd (let e : RefutedTag ≡ SplitTag = v.tag_is in cc)
 
 split_text : (n : Node) → (value_of n ≤ greatest) × (n ≡ node.Split (value_of n)) → tail_text n ≡ codes " " ++ number_text 10 (value_of n)
 split_text n v = ap tail_text v.1
 
 point_to : (here : Leaves) (n : Node) → (value_of n ≤ greatest) × (n ≡ node.Point (value_of n)) → HasTag here PointTag n
-point_to here (node.Point time) v = record { fits = v.0; domain = tt; tag_is = refl }
+point_to here (node.Point time) v = record { fits = v.0; domain = tt; steps = tt; tag_is = refl }
 point_to here (node.Bound domain bound) v = absurd (let e : node.Bound domain bound ≡ node.Point bound = v.1 in cc)
 point_to here (node.Split position) v = absurd (let e : node.Split position ≡ node.Point position = v.1 in cc)
 point_to here node.Empty v = absurd (let e : node.Empty ≡ node.Point 0 = v.1 in cc)
+point_to here (node.Refuted refuted) v = absurd (let e : node.Refuted refuted ≡ node.Point 0 = v.1 in cc)
 
 point_from : (here : Leaves) (n : Node) → HasTag here PointTag n → (value_of n ≤ greatest) × (n ≡ node.Point (value_of n))
 point_from here (node.Point time) v = (v.fits, refl)
 point_from here (node.Bound domain bound) v = absurd (let e : BoundTag ≡ PointTag = v.tag_is in cc)
 point_from here (node.Split position) v = absurd (let e : SplitTag ≡ PointTag = v.tag_is in cc)
 point_from here node.Empty v = absurd (let e : EmptyTag ≡ PointTag = v.tag_is in cc)
+point_from here (node.Refuted refuted) v = absurd (let e : RefutedTag ≡ PointTag = v.tag_is in cc)
 
 point_text : (n : Node) → (value_of n ≤ greatest) × (n ≡ node.Point (value_of n)) → tail_text n ≡ codes " " ++ number_text 10 (value_of n)
 point_text n v = ap tail_text v.1
@@ -232,9 +323,10 @@ bound_from here (node.Bound domain bound) v = (v.domain, record { within = v.fit
 bound_from here (node.Split position) v = absurd (let e : SplitTag ≡ BoundTag = v.tag_is in cc)
 bound_from here (node.Point time) v = absurd (let e : PointTag ≡ BoundTag = v.tag_is in cc)
 bound_from here node.Empty v = absurd (let e : EmptyTag ≡ BoundTag = v.tag_is in cc)
+bound_from here (node.Refuted refuted) v = absurd (let e : RefutedTag ≡ BoundTag = v.tag_is in cc)
 
 bound_to : (here : Leaves) (domain : BoundedBy) (n : Node) → IsDomain here domain → IsBoundBy domain n → HasTag here BoundTag n
-bound_to here domain n u v = subst (λ (m : Node). HasTag here BoundTag m) (sym v.made) (record { fits = v.within; domain = u; tag_is = refl })
+bound_to here domain n u v = subst (λ (m : Node). HasTag here BoundTag m) (sym v.made) (record { fits = v.within; domain = u; steps = tt; tag_is = refl })
 
 abbrev bound_tail : Node → List ℕ
 bound_tail n = letter (domain_of n) ++ (codes " " ++ number_text 10 (value_of n))
@@ -258,15 +350,34 @@ bound_tail_is here (node.Bound domain bound) v = refl
 bound_tail_is here (node.Split position) v = absurd (let e : SplitTag ≡ BoundTag = v.tag_is in cc)
 bound_tail_is here (node.Point time) v = absurd (let e : PointTag ≡ BoundTag = v.tag_is in cc)
 bound_tail_is here node.Empty v = absurd (let e : EmptyTag ≡ BoundTag = v.tag_is in cc)
+bound_tail_is here (node.Refuted refuted) v = absurd (let e : RefutedTag ≡ BoundTag = v.tag_is in cc)
 
 empty_to : (here : Leaves) (n : Node) → n ≡ node.Empty → HasTag here EmptyTag n
-empty_to here n e = subst (λ (m : Node). HasTag here EmptyTag m) (sym e) (record { fits = omega arith; domain = tt; tag_is = refl })
+empty_to here n e = subst (λ (m : Node). HasTag here EmptyTag m) (sym e) (record { fits = omega arith; domain = tt; steps = tt; tag_is = refl })
 
 empty_from : (here : Leaves) (n : Node) → HasTag here EmptyTag n → n ≡ node.Empty
 empty_from here (node.Split position) v = absurd (let e : SplitTag ≡ EmptyTag = v.tag_is in cc)
 empty_from here (node.Bound domain bound) v = absurd (let e : BoundTag ≡ EmptyTag = v.tag_is in cc)
 empty_from here (node.Point time) v = absurd (let e : PointTag ≡ EmptyTag = v.tag_is in cc)
 empty_from here node.Empty v = refl
+empty_from here (node.Refuted refuted) v = absurd (let e : RefutedTag ≡ EmptyTag = v.tag_is in cc)
+
+refuted_to : (here : Leaves) (n : Node) → IsRefutedText (refuted_of n) × (n ≡ node.Refuted (refuted_of n)) → HasTag here RefutedTag n
+refuted_to here (node.Refuted refuted) v = record { fits = omega arith; domain = tt; steps = v.0; tag_is = refl }
+refuted_to here (node.Split position) v = absurd (let e : node.Split position ≡ node.Refuted (record { steps = []; bound = 0 }) = v.1 in cc)
+refuted_to here (node.Bound domain bound) v = absurd (let e : node.Bound domain bound ≡ node.Refuted (record { steps = []; bound = 0 }) = v.1 in cc)
+refuted_to here (node.Point time) v = absurd (let e : node.Point time ≡ node.Refuted (record { steps = []; bound = 0 }) = v.1 in cc)
+refuted_to here node.Empty v = absurd (let e : node.Empty ≡ node.Refuted (record { steps = []; bound = 0 }) = v.1 in cc)
+
+refuted_from : (here : Leaves) (n : Node) → HasTag here RefutedTag n → IsRefutedText (refuted_of n) × (n ≡ node.Refuted (refuted_of n))
+refuted_from here (node.Refuted refuted) v = (v.steps, refl)
+refuted_from here (node.Split position) v = absurd (let e : SplitTag ≡ RefutedTag = v.tag_is in cc)
+refuted_from here (node.Bound domain bound) v = absurd (let e : BoundTag ≡ RefutedTag = v.tag_is in cc)
+refuted_from here (node.Point time) v = absurd (let e : PointTag ≡ RefutedTag = v.tag_is in cc)
+refuted_from here node.Empty v = absurd (let e : EmptyTag ≡ RefutedTag = v.tag_is in cc)
+
+refuted_text : (n : Node) → IsRefutedText (refuted_of n) × (n ≡ node.Refuted (refuted_of n)) → tail_text n ≡ codes "\n" ++ refuted_tail (refuted_of n)
+refuted_text n v = ap tail_text v.1
 
 behind_tag_code : (here : Leaves) (tag : Tag) → IsCode (λ n. HasTag here tag n) tail_text (behind_tag here tag)
 unfolding behind_tag
@@ -287,6 +398,13 @@ behind_tag_code here EmptyTag =
     IsCode-as (λ n. n ≡ node.Empty) (λ n. HasTag here EmptyTag n) (λ n. codes "one\n" ++ []) tail_text (λ bytes. literal (codes "one\n") bytes >>= λ word. Ok (node.Empty, word.1))
     (empty_to here) (empty_from here) (λ n e. ap tail_text e)
     (behind_word (codes "one\n") (λ n. n ≡ node.Empty) (λ n. []) (λ bytes. Ok (node.Empty, bytes)) (IsCode-done node.Empty))
+behind_tag_code here RefutedTag =
+    IsCode-as (λ n. IsRefutedText (refuted_of n) × (n ≡ node.Refuted (refuted_of n))) (λ n. HasTag here RefutedTag n) (λ n. codes "\n" ++ refuted_tail (refuted_of n)) tail_text
+    (λ bytes. literal (codes "\n") bytes >>= λ newline. refuted_at newline.1 >>= λ refuted. Ok (node.Refuted refuted.0, refuted.1))
+    (refuted_to here) (refuted_from here) refuted_text
+    (behind_word (codes "\n") (λ n. IsRefutedText (refuted_of n) × (n ≡ node.Refuted (refuted_of n))) (λ n. refuted_tail (refuted_of n))
+    (λ bytes. refuted_at bytes >>= λ refuted. Ok (node.Refuted refuted.0, refuted.1))
+    (mapped_code (λ refuted. node.Refuted refuted) refuted_of IsRefutedText refuted_tail refuted_at (λ r. refl) refuted_code))
 
 abbrev pub node_text : Node → List ℕ
 node_text n = ended (node_line n)
@@ -300,12 +418,15 @@ node_parts (node.Bound Edges bound) = refl
 node_parts (node.Bound EdgesAndPossible bound) = refl
 node_parts (node.Point time) = refl
 node_parts node.Empty = refl
+node_parts (node.Refuted refuted) =
+    ap (λ (t : List ℕ). codes "r\n" ++ t) (append_assoc (steps_text refuted.steps) (codes "q " ++ decimal refuted.bound) (10 ∷ []))
 
 -- a node that may stand there has one of its tags and domains, and its number is within the limit
 pub record MayStand (here : Leaves) (n : Node) : Type 0 where
   pub tag : IsTag here (tag_of n)
   pub domain : HasDomain here n
   pub fits : value_of n ≤ greatest
+  pub steps : HasSteps n
 
 pub node_code : (here : Leaves) → IsCode (MayStand here) node_text (node_at here)
 unfolding node_at
@@ -313,19 +434,20 @@ node_code here =
     IsCode-then tag_of (IsTag here) (λ x. tag_byte x ∷ []) (tag_at here) (λ tag n. HasTag here tag n) (λ tag n. tail_text n) (behind_tag here) (MayStand here) node_text (tag_code here)
     (λ tag u. behind_tag_code here tag)
     (record {
-      down = λ n v. (v.tag, record { fits = v.fits; domain = v.domain; tag_is = refl }, node_parts n);
+      down = λ n v. (v.tag, record { fits = v.fits; domain = v.domain; steps = v.steps; tag_is = refl }, node_parts n);
       up = λ tag n u v.
-          (record { tag = subst (IsTag here) (sym v.tag_is) u; domain = v.domain; fits = v.fits }, node_parts n ∙ ap (λ (t : Tag). (tag_byte t ∷ []) ++ tail_text n) v.tag_is);
+          (record { tag = subst (IsTag here) (sym v.tag_is) u; domain = v.domain; fits = v.fits; steps = v.steps }, node_parts n ∙ ap (λ (t : Tag). (tag_byte t ∷ []) ++ tail_text n) v.tag_is);
     })
 
 -- ---- the nodes of a version
 
--- nothing is bounded by edges before the fourth version
+-- nothing is bounded by edges before the fourth version, and nothing refuted before the fifth
 abbrev pub IsPlain : Version → Node → Type 0
-IsPlain First n = names_edges n ≡ false
-IsPlain Second n = names_edges n ≡ false
-IsPlain Third n = names_edges n ≡ false
-IsPlain Fourth n = Unit {0}
+IsPlain First n = (names_edges n ≡ false) × (is_refuted n ≡ false)
+IsPlain Second n = (names_edges n ≡ false) × (is_refuted n ≡ false)
+IsPlain Third n = (names_edges n ≡ false) × (is_refuted n ≡ false)
+IsPlain Fourth n = is_refuted n ≡ false
+IsPlain Fifth n = Unit {0}
 
 -- those of its nodes
 abbrev pub leaves_of : Version → Leaves
@@ -333,42 +455,61 @@ leaves_of First = leaves.First
 leaves_of Second = leaves.Later
 leaves_of Third = leaves.Later
 leaves_of Fourth = leaves.Any
+leaves_of Fifth = leaves.WithRefuted
 
 pub to_node : (version : Version) (n : Node) → MayStand (leaves_of version) n → IsNode version n × IsPlain version n
-to_node First (node.Split position) v = (v.fits, refl)
-to_node Second (node.Split position) v = (v.fits, refl)
-to_node Third (node.Split position) v = (v.fits, refl)
-to_node Fourth (node.Split position) v = (v.fits, tt)
-to_node First (node.Bound domain bound) v = (v.fits, v.domain)
-to_node Second (node.Bound domain bound) v = (v.fits, v.domain)
-to_node Third (node.Bound domain bound) v = (v.fits, v.domain)
-to_node Fourth (node.Bound domain bound) v = (v.fits, tt)
-to_node First (node.Point time) v = (v.fits, refl)
-to_node Second (node.Point time) v = (v.fits, refl)
-to_node Third (node.Point time) v = (v.fits, refl)
-to_node Fourth (node.Point time) v = (v.fits, tt)
+to_node First (node.Split position) v = (v.fits, (refl, refl))
+to_node Second (node.Split position) v = (v.fits, (refl, refl))
+to_node Third (node.Split position) v = (v.fits, (refl, refl))
+to_node Fourth (node.Split position) v = (v.fits, refl)
+to_node Fifth (node.Split position) v = (v.fits, tt)
+to_node First (node.Bound domain bound) v = (v.fits, (v.domain, refl))
+to_node Second (node.Bound domain bound) v = (v.fits, (v.domain, refl))
+to_node Third (node.Bound domain bound) v = (v.fits, (v.domain, refl))
+to_node Fourth (node.Bound domain bound) v = (v.fits, refl)
+to_node Fifth (node.Bound domain bound) v = (v.fits, tt)
+to_node First (node.Point time) v = (v.fits, (refl, refl))
+to_node Second (node.Point time) v = (v.fits, (refl, refl))
+to_node Third (node.Point time) v = (v.fits, (refl, refl))
+to_node Fourth (node.Point time) v = (v.fits, refl)
+to_node Fifth (node.Point time) v = (v.fits, tt)
 to_node First node.Empty v = absurd v.tag
-to_node Second node.Empty v = (λ e. cc, refl)
-to_node Third node.Empty v = (λ e. cc, refl)
-to_node Fourth node.Empty v = (λ e. cc, tt)
+to_node Second node.Empty v = (λ e. cc, (refl, refl))
+to_node Third node.Empty v = (λ e. cc, (refl, refl))
+to_node Fourth node.Empty v = (λ e. cc, refl)
+to_node Fifth node.Empty v = (λ e. cc, tt)
+to_node First (node.Refuted refuted) v = absurd v.tag
+to_node Second (node.Refuted refuted) v = absurd v.tag
+to_node Third (node.Refuted refuted) v = absurd v.tag
+to_node Fourth (node.Refuted refuted) v = absurd v.tag
+to_node Fifth (node.Refuted refuted) v = (v.steps, tt)
 
 pub from_node : (version : Version) (n : Node) → IsNode version n → IsPlain version n → MayStand (leaves_of version) n
-from_node First (node.Split position) v p = record { tag = tt; domain = tt; fits = v }
-from_node Second (node.Split position) v p = record { tag = tt; domain = tt; fits = v }
-from_node Third (node.Split position) v p = record { tag = tt; domain = tt; fits = v }
-from_node Fourth (node.Split position) v p = record { tag = tt; domain = tt; fits = v }
-from_node First (node.Bound domain bound) v p = record { tag = tt; domain = p; fits = v }
-from_node Second (node.Bound domain bound) v p = record { tag = tt; domain = p; fits = v }
-from_node Third (node.Bound domain bound) v p = record { tag = tt; domain = p; fits = v }
-from_node Fourth (node.Bound domain bound) v p = record { tag = tt; domain = tt; fits = v }
-from_node First (node.Point time) v p = record { tag = tt; domain = tt; fits = v }
-from_node Second (node.Point time) v p = record { tag = tt; domain = tt; fits = v }
-from_node Third (node.Point time) v p = record { tag = tt; domain = tt; fits = v }
-from_node Fourth (node.Point time) v p = record { tag = tt; domain = tt; fits = v }
+from_node First (node.Split position) v p = record { tag = tt; domain = tt; fits = v; steps = tt }
+from_node Second (node.Split position) v p = record { tag = tt; domain = tt; fits = v; steps = tt }
+from_node Third (node.Split position) v p = record { tag = tt; domain = tt; fits = v; steps = tt }
+from_node Fourth (node.Split position) v p = record { tag = tt; domain = tt; fits = v; steps = tt }
+from_node Fifth (node.Split position) v p = record { tag = tt; domain = tt; fits = v; steps = tt }
+from_node First (node.Bound domain bound) v p = record { tag = tt; domain = p.0; fits = v; steps = tt }
+from_node Second (node.Bound domain bound) v p = record { tag = tt; domain = p.0; fits = v; steps = tt }
+from_node Third (node.Bound domain bound) v p = record { tag = tt; domain = p.0; fits = v; steps = tt }
+from_node Fourth (node.Bound domain bound) v p = record { tag = tt; domain = tt; fits = v; steps = tt }
+from_node Fifth (node.Bound domain bound) v p = record { tag = tt; domain = tt; fits = v; steps = tt }
+from_node First (node.Point time) v p = record { tag = tt; domain = tt; fits = v; steps = tt }
+from_node Second (node.Point time) v p = record { tag = tt; domain = tt; fits = v; steps = tt }
+from_node Third (node.Point time) v p = record { tag = tt; domain = tt; fits = v; steps = tt }
+from_node Fourth (node.Point time) v p = record { tag = tt; domain = tt; fits = v; steps = tt }
+from_node Fifth (node.Point time) v p = record { tag = tt; domain = tt; fits = v; steps = tt }
 from_node First node.Empty v p = absurd (v refl)
-from_node Second node.Empty v p = record { tag = tt; domain = tt; fits = omega arith }
-from_node Third node.Empty v p = record { tag = tt; domain = tt; fits = omega arith }
-from_node Fourth node.Empty v p = record { tag = tt; domain = tt; fits = omega arith }
+from_node Second node.Empty v p = record { tag = tt; domain = tt; fits = omega arith; steps = tt }
+from_node Third node.Empty v p = record { tag = tt; domain = tt; fits = omega arith; steps = tt }
+from_node Fourth node.Empty v p = record { tag = tt; domain = tt; fits = omega arith; steps = tt }
+from_node Fifth node.Empty v p = record { tag = tt; domain = tt; fits = omega arith; steps = tt }
+from_node First (node.Refuted refuted) v p = absurd (let f : true ≡ false = p.1 in cc)
+from_node Second (node.Refuted refuted) v p = absurd (let f : true ≡ false = p.1 in cc)
+from_node Third (node.Refuted refuted) v p = absurd (let f : true ≡ false = p.1 in cc)
+from_node Fourth (node.Refuted refuted) v p = absurd (let f : true ≡ false = p in cc)
+from_node Fifth (node.Refuted refuted) v p = record { tag = tt; domain = tt; fits = omega arith; steps = v }
 
 -- what may stand as the last one in the fourth version is a split, or is bounded by edges
 pub data IsLast (n : Node) : Type 0 where
@@ -380,19 +521,52 @@ is_last (node.Split position) v = splits refl
 is_last (node.Bound domain bound) v = names v.domain
 is_last (node.Point time) v = absurd v.tag
 is_last node.Empty v = absurd v.tag
+is_last (node.Refuted refuted) v = absurd v.tag
 
 pub from_last : (n : Node) → MayStand leaves.Any n → IsLast n → MayStand leaves.OfEdges n
-from_last (node.Split position) v last = record { tag = tt; domain = tt; fits = v.fits }
+from_last (node.Split position) v last = record { tag = tt; domain = tt; fits = v.fits; steps = tt }
 from_last (node.Bound domain bound) v (splits e) = absurd (let f : 0 ≡ 2 = e in cc)
-from_last (node.Bound domain bound) v (names e) = record { tag = tt; domain = e; fits = v.fits }
+from_last (node.Bound domain bound) v (names e) = record { tag = tt; domain = e; fits = v.fits; steps = tt }
 from_last (node.Point time) v (splits e) = absurd (let f : 0 ≡ 2 = e in cc)
 from_last (node.Point time) v (names e) = absurd (let f : false ≡ true = e in cc)
 from_last node.Empty v (splits e) = absurd (let f : 0 ≡ 2 = e in cc)
 from_last node.Empty v (names e) = absurd (let f : false ≡ true = e in cc)
+from_last (node.Refuted refuted) v last = absurd v.tag
 
 -- it may stand where any leaf may
 pub last_any : (n : Node) → MayStand leaves.OfEdges n → MayStand leaves.Any n
-last_any (node.Split position) v = record { tag = tt; domain = tt; fits = v.fits }
-last_any (node.Bound domain bound) v = record { tag = tt; domain = tt; fits = v.fits }
+last_any (node.Split position) v = record { tag = tt; domain = tt; fits = v.fits; steps = tt }
+last_any (node.Bound domain bound) v = record { tag = tt; domain = tt; fits = v.fits; steps = tt }
 last_any (node.Point time) v = absurd v.tag
 last_any node.Empty v = absurd v.tag
+last_any (node.Refuted refuted) v = absurd v.tag
+
+-- what may stand as the last one in the fifth version is a split, or is refuted
+pub data IsLastRefuted (n : Node) : Type 0 where
+  splits_on : sides n ≡ 2 → IsLastRefuted n
+  refutes : is_refuted n ≡ true → IsLastRefuted n
+
+pub is_last_refuted : (n : Node) → MayStand leaves.OfRefuted n → IsLastRefuted n
+is_last_refuted (node.Split position) v = splits_on refl
+is_last_refuted (node.Bound domain bound) v = absurd v.tag
+is_last_refuted (node.Point time) v = absurd v.tag
+is_last_refuted node.Empty v = absurd v.tag
+is_last_refuted (node.Refuted refuted) v = refutes refl
+
+pub from_last_refuted : (n : Node) → MayStand leaves.WithRefuted n → IsLastRefuted n → MayStand leaves.OfRefuted n
+from_last_refuted (node.Split position) v last = record { tag = tt; domain = tt; fits = v.fits; steps = tt }
+from_last_refuted (node.Bound domain bound) v (splits_on e) = absurd (let f : 0 ≡ 2 = e in cc)
+from_last_refuted (node.Bound domain bound) v (refutes e) = absurd (let f : false ≡ true = e in cc)
+from_last_refuted (node.Point time) v (splits_on e) = absurd (let f : 0 ≡ 2 = e in cc)
+from_last_refuted (node.Point time) v (refutes e) = absurd (let f : false ≡ true = e in cc)
+from_last_refuted node.Empty v (splits_on e) = absurd (let f : 0 ≡ 2 = e in cc)
+from_last_refuted node.Empty v (refutes e) = absurd (let f : false ≡ true = e in cc)
+from_last_refuted (node.Refuted refuted) v last = record { tag = tt; domain = tt; fits = omega arith; steps = v.steps }
+
+-- it may stand where any leaf of that version may
+pub last_with_refuted : (n : Node) → MayStand leaves.OfRefuted n → MayStand leaves.WithRefuted n
+last_with_refuted (node.Split position) v = record { tag = tt; domain = tt; fits = v.fits; steps = tt }
+last_with_refuted (node.Bound domain bound) v = absurd v.tag
+last_with_refuted (node.Point time) v = absurd v.tag
+last_with_refuted node.Empty v = absurd v.tag
+last_with_refuted (node.Refuted refuted) v = record { tag = tt; domain = tt; fits = omega arith; steps = v.steps }

@@ -4,7 +4,7 @@ use Rattle.std.specs.Prelude.{codes, replicate, ◌&&◌, ◌==◌}
 use Rattle.std.specs.Char.{is_ascii_digit}
 use Rattle.td_certificate.specs.declared.tree.Node.TheVariants as node
 use Rattle.td_certificate.specs.declared.question.Version.{Version}
-use Rattle.td_certificate.specs.declared.question.Version.TheVariants.{First, Second, Third, Fourth}
+use Rattle.td_certificate.specs.declared.question.Version.TheVariants.{First, Second, Third, Fourth, Fifth}
 use Rattle.td_certificate.specs.declared.fields.Leaves.{Leaves}
 use Rattle.td_certificate.specs.declared.certificate.Certificate.{Certificate}
 use Rattle.td_certificate.specs.declared.fields.Reason.TheVariants.{Syntax, NumberTooLarge}
@@ -13,7 +13,8 @@ use Rattle.td_certificate.specs.Trees.{sides}
 use Rattle.td_certificate.specs.Questions.{Question, all_at_once}
 use Rattle.td_certificate.specs.Text.{weave}
 use Rattle.td_certificate.specs.Spelling.{greatest, latest}
-use Rattle.td_certificate.specs.Reading.{Ends, Wrong, Reading, ◌>>=◌, literal, digits_at, number_at, begins_with_zero, number_from, taken, char_at, chars_at, trit_of, hold_of, bit_of, chars_behind, letter_at, number_behind, row_behind, because, has_inputs, most_flips, flips_at, with_pins, admit_at, close_of, moment_at, moments_at, at_line, asked, dated_at, question_at, Tag, SplitTag, BoundTag, PointTag, EmptyTag, tag_at, behind_tag, node_at, leaves_in, leaves_before, leaves_behind, nodes_within, nodes_at, with_fields, lines_at}
+use Rattle.td_certificate.specs.Reading.{Ends, Wrong, Reading, ◌>>=◌, literal, digits_at, number_at, begins_with_zero, number_from, taken, char_at, chars_at, trit_of, hold_of, bit_of, chars_behind, letter_at, number_behind, row_behind, because, has_inputs, most_flips, flips_at, with_pins, admit_at, close_of, moment_at, moments_at, at_line, asked, dated_at, question_at, Tag, SplitTag, BoundTag, PointTag, EmptyTag, RefutedTag, written_as, tag_at, behind_tag, node_at, leaves_in, leaves_before, leaves_behind, nodes_within, nodes_at, with_fields, lines_at}
+use Rattle.td_certificate.specs.StepReading.{ended_by, until_within, until_at, open_digits_at, open_number_at, numbers_at, closing_byte, numbers_after, spaced_at, LineTag, StepTag, BoundEndTag, line_byte, line_tags, StepLine, BoundLine, behind_line_tag, refuted_line_at, is_bound_line, bound_alone, step_before, refuted_at}
 use Rattle.td_certificate.proofs.Loops.{done}
 use Rattle.td_certificate.proofs.Codes.{bind_err}
 use Rattle.td_certificate.proofs.FieldCodes.{ends, wrong}
@@ -163,6 +164,80 @@ question_plain Second i bytes =
     plain_then (admit_at Second i bytes) (λ admit. Ok (asked admit.0 (replicate i 0), admit.1)) (admit_plain Second i bytes) (λ admit. plain_ok (asked admit.0 (replicate i 0), admit.1))
 question_plain Third i bytes = dated_plain Third true i bytes
 question_plain Fourth i bytes = dated_plain Fourth false i bytes
+question_plain Fifth i bytes = dated_plain Fifth false i bytes
+
+-- ---- steps
+
+ended_plain : {A B : Type 0} (single : A → B) (put : A → B → B) (last : Bool) (x : A) (rest : List ℕ) (others : Reading B) → Plain others → Plain (ended_by single put last x rest others)
+ended_plain single put true x rest others p = plain_ok (single x, rest)
+ended_plain single put false x rest others p = plain_then others (λ y. Ok (put x y.0, y.1)) p (λ y. plain_ok (put x y.0, y.1))
+
+until_within_plain : {A B : Type 0} (last : A → Bool) (single : A → B) (put : A → B → B) (read : List ℕ → Reading A) → ((bytes : List ℕ) → Plain (read bytes))
+    → (count : ℕ) (bytes : List ℕ) → Plain (until_within last single put read count bytes)
+unfolding until_within
+until_within_plain last single put read plain zero bytes = plain_ends
+until_within_plain last single put read plain (suc count) bytes =
+    plain_then (read bytes) (λ x. ended_by single put (last x.0) x.0 x.1 (until_within last single put read count x.1)) (plain bytes)
+    (λ x. ended_plain single put (last x.0) x.0 x.1 (until_within last single put read count x.1) (until_within_plain last single put read plain count x.1))
+
+until_plain : {A B : Type 0} (last : A → Bool) (single : A → B) (put : A → B → B) (read : List ℕ → Reading A) → ((bytes : List ℕ) → Plain (read bytes))
+    → (bytes : List ℕ) → Plain (until_at last single put read bytes)
+unfolding until_at
+until_plain last single put read plain bytes = until_within_plain last single put read plain _ bytes
+
+open_digits_plain : (number : ℕ) (bytes : List ℕ) → Plain (open_digits_at number bytes)
+unfolding open_digits_at
+open_digits_plain number [] = plain_ends
+open_digits_plain number (b ∷ rest) =
+    let next : ℕ = 10 * number + (b - 48) in
+    let syntax : Reading (ℕ × Bool) = wrong Syntax (b ∷ rest) in
+    let goes_on : Reading (ℕ × Bool) = cond (leb next greatest) (open_digits_at next rest) (wrong NumberTooLarge (b ∷ rest)) in
+    let digit : Reading (ℕ × Bool) = cond (is_ascii_digit b) (cond (ltb 0 number) goes_on syntax) syntax in
+    plain_if (eqb b 10) (done ((number, true), rest)) (cond (eqb b 32) (done ((number, false), rest)) digit) (plain_ok ((number, true), rest))
+    (plain_if (eqb b 32) (done ((number, false), rest)) digit (plain_ok ((number, false), rest))
+    (plain_if (is_ascii_digit b) (cond (ltb 0 number) goes_on syntax) syntax
+    (plain_if (ltb 0 number) goes_on syntax
+    (plain_if (leb next greatest) (open_digits_at next rest) (wrong NumberTooLarge (b ∷ rest)) (open_digits_plain next rest) (plain_large (b ∷ rest)))
+    (plain_syntax (b ∷ rest)))
+    (plain_syntax (b ∷ rest))))
+
+open_number_plain : (bytes : List ℕ) → Plain (open_number_at bytes)
+unfolding open_number_at
+open_number_plain [] = plain_ends
+open_number_plain (b ∷ rest) =
+    plain_if (is_ascii_digit b) (open_digits_at (b - 48) rest) (wrong Syntax (b ∷ rest)) (open_digits_plain (b - 48) rest) (plain_syntax (b ∷ rest))
+
+numbers_plain : (bytes : List ℕ) → Plain (numbers_at bytes)
+unfolding numbers_at
+numbers_plain bytes = until_plain (λ x. x.1) (λ x. x.0 ∷ []) (λ x others. x.0 ∷ others) open_number_at open_number_plain bytes
+
+numbers_after_plain : (last : Bool) (bytes : List ℕ) → Plain (numbers_after last bytes)
+numbers_after_plain true bytes = plain_ok ([], bytes)
+numbers_after_plain false bytes = numbers_plain bytes
+
+spaced_plain : (bytes : List ℕ) → Plain (spaced_at bytes)
+unfolding spaced_at
+spaced_plain bytes =
+    plain_then (char_at (λ b. written_as closing_byte (true ∷ false ∷ []) b) bytes) (λ close. numbers_after close.0 close.1) (char_plain _ bytes)
+    (λ close. numbers_after_plain close.0 close.1)
+
+line_tail_plain : (tag : LineTag) (bytes : List ℕ) → Plain (behind_line_tag tag bytes)
+unfolding behind_line_tag
+line_tail_plain (StepTag kind) bytes =
+    plain_then (spaced_at bytes) (λ numbers. Ok (StepLine (record { kind = kind; numbers = numbers.0 }), numbers.1)) (spaced_plain bytes)
+    (λ numbers. plain_ok (StepLine (record { kind = kind; numbers = numbers.0 }), numbers.1))
+line_tail_plain BoundEndTag bytes =
+    plain_then (number_behind (codes " ") greatest 10 bytes) (λ bound. Ok (BoundLine bound.0, bound.1)) (number_behind_plain (codes " ") greatest 10 bytes)
+    (λ bound. plain_ok (BoundLine bound.0, bound.1))
+
+line_plain : (bytes : List ℕ) → Plain (refuted_line_at bytes)
+unfolding refuted_line_at
+line_plain bytes =
+    plain_then (char_at (λ b. written_as line_byte line_tags b) bytes) (λ tag. behind_line_tag tag.0 tag.1) (char_plain _ bytes) (λ tag. line_tail_plain tag.0 tag.1)
+
+refuted_plain : (bytes : List ℕ) → Plain (refuted_at bytes)
+unfolding refuted_at
+refuted_plain bytes = until_plain is_bound_line bound_alone step_before refuted_line_at line_plain bytes
 
 -- ---- the tree
 
@@ -189,6 +264,9 @@ behind_tag_plain here PointTag bytes =
     plain_then (number_behind (codes " ") greatest 10 bytes) (λ time. Ok (node.Point time.0, time.1)) (last_plain bytes) (λ time. plain_ok (node.Point time.0, time.1))
 behind_tag_plain here EmptyTag bytes =
     plain_then (literal (codes "one\n") bytes) (λ word. Ok (node.Empty, word.1)) (literal_plain (codes "one\n") bytes) (λ word. plain_ok (node.Empty, word.1))
+behind_tag_plain here RefutedTag bytes =
+    plain_then (literal (codes "\n") bytes) (λ newline. refuted_at newline.1 >>= λ refuted. Ok (node.Refuted refuted.0, refuted.1)) (literal_plain (codes "\n") bytes)
+    (λ newline. plain_then (refuted_at newline.1) (λ refuted. Ok (node.Refuted refuted.0, refuted.1)) (refuted_plain newline.1) (λ refuted. plain_ok (node.Refuted refuted.0, refuted.1)))
 
 node_plain : (here : Leaves) (bytes : List ℕ) → Plain (node_at here bytes)
 unfolding node_at

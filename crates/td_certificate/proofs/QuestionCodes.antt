@@ -9,7 +9,7 @@ use Rattle.td_domain.specs.declared.cubes.Trit.{Trit}
 use Rattle.td_domain.specs.declared.cubes.Trit.TheVariants.{Zero, One, Free}
 use Rattle.td_domain.specs.Admits.{Admitted, all_pairs}
 use Rattle.td_certificate.specs.declared.question.Version.{Version}
-use Rattle.td_certificate.specs.declared.question.Version.TheVariants.{First, Second, Third, Fourth}
+use Rattle.td_certificate.specs.declared.question.Version.TheVariants.{First, Second, Third, Fourth, Fifth}
 use Rattle.td_certificate.specs.declared.fields.Reason.TheVariants.{Syntax}
 use Rattle.td_certificate.specs.Questions.{Question, inputs_of, is_free, holds_none, admits_all, is_at_once, version_of, all_at_once}
 use Rattle.td_certificate.specs.Text.{row, trit, first_trits, second_trits, weave, hold, numbers}
@@ -60,6 +60,7 @@ most_within : (version : Version) (pins : List Trit) (held : List Bool) → most
 most_within First pins held = omega arith
 most_within Third pins held = omega arith
 most_within Fourth pins held = omega arith
+most_within Fifth pins held = omega arith
 most_within Second pins held =
     elim (list_all is_free pins && holds_none held) as (λ t. cond t (length held - 1) (length held) ≤ length held) [ true ↦ omega arith | false ↦ omega arith ]
 
@@ -261,6 +262,7 @@ IsTold First q = version_of q ≡ First
 IsTold Second q = version_of q ≡ Second
 IsTold Third q = version_of q ≡ Third
 IsTold Fourth q = Unit {0}
+IsTold Fifth q = Unit {0}
 
 -- what can be asked in a text of this version, of a circuit with so many inputs
 pub record IsQuestion (v : Version) (i : ℕ) (q : Question) : Type 0 where
@@ -486,11 +488,35 @@ fourth_code i few =
     (to_fourth_question i) (from_fourth_question i) (λ q v. third_text q)
     (dated_code Fourth false i (λ e. absurd cc) few)
 
+to_fifth_question : (i : ℕ) (q : Question) → IsDated Fifth false i q → IsQuestion Fifth i q
+to_fifth_question i q v = record {
+  version = tt;
+  inputs = v.admit.held;
+  pins = v.admit.pins;
+  flips = omega (arith, v.admit.flips, v.admit.held);
+  count = v.moments.long;
+  moments = v.moments.within;
+}
+
+from_fifth_question : (i : ℕ) (q : Question) → IsQuestion Fifth i q → IsDated Fifth false i q
+from_fifth_question i q v = record {
+  admit = record { pins = v.pins; held = v.inputs; flips = omega (arith, v.flips, v.inputs) };
+  moments = record { long = v.count; within = v.moments; later = refl };
+}
+
+fifth_code : (i : ℕ) → i ≤ 4096 → IsCode (IsQuestion Fifth i) (question_text Fifth) (question_at Fifth i)
+unfolding question_at
+fifth_code i few =
+    IsCode-as (IsDated Fifth false i) (IsQuestion Fifth i) (λ q. admit_text q.admit ++ at_text q.moments) (question_text Fifth) (question_at Fifth i)
+    (to_fifth_question i) (from_fifth_question i) (λ q v. third_text q)
+    (dated_code Fifth false i (λ e. absurd cc) few)
+
 pub question_code : (v : Version) (i : ℕ) → (has_inputs v ≡ true → 0 < i) → i ≤ 4096 → IsCode (IsQuestion v i) (question_text v) (question_at v i)
 question_code First i some few = first_code i
 question_code Second i some few = second_code i (some refl) few
 question_code Third i some few = third_code i (some refl) few
 question_code Fourth i some few = fourth_code i few
+question_code Fifth i some few = fifth_code i few
 
 -- without inputs the version is the first
 none_first : (q : Question) → length q.admit.pins ≡ 2 * inputs_of q → q.admit.flips ≤ inputs_of q → length q.moments ≡ inputs_of q → inputs_of q ≡ 0 → version_of q ≡ First
@@ -511,6 +537,7 @@ no_version First q some told e = absurd cc
 no_version Second q some told e = absurd (let h : First ≡ Second = sym e ∙ told in cc)
 no_version Third q some told e = absurd (let h : First ≡ Third = sym e ∙ told in cc)
 no_version Fourth q some told e = absurd cc
+no_version Fifth q some told e = absurd cc
 
 pub some_inputs_of : (v : Version) (q : Question) → length q.admit.pins ≡ 2 * inputs_of q → q.admit.flips ≤ inputs_of q → length q.moments ≡ inputs_of q
     → IsTold v q → has_inputs v ≡ true → 0 < inputs_of q

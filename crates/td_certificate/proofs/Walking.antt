@@ -5,7 +5,7 @@ use Rattle.td_domain.specs.declared.cubes.Trit.{Trit}
 use Rattle.td_domain.specs.declared.cubes.Trit.TheVariants.{Zero, One}
 use Rattle.td_certificate.specs.declared.tree.Node.{Node}
 use Rattle.td_certificate.specs.declared.tree.Node.TheVariants as node
-use Rattle.td_certificate.specs.Trees.{Tree, Split, Bound, Point, Empty, nodes_of, lines_of, LinesAreWalked}
+use Rattle.td_certificate.specs.Trees.{Tree, Split, Bound, Point, Empty, RefutedLeaf, nodes_of, lines_of, LinesAreWalked}
 use Rattle.td_certificate.specs.Walks.{Line, lines_from}
 
 -- a walk goes over the first tree, and then on
@@ -27,6 +27,7 @@ walked (Split position zero_side one_side) cube cubes nodes =
 walked (Bound domain bound) cube cubes nodes = refl
 walked (Point time) cube cubes nodes = refl
 walked Empty cube cubes nodes = refl
+walked (RefutedLeaf refuted) cube cubes nodes = refl
 
 pub lines_are_walked : LinesAreWalked
 lines_are_walked tree cube =

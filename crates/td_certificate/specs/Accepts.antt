@@ -17,6 +17,7 @@ use Rattle.td_domain.specs.Worst.{IsWorst}
 use Rattle.td_arrival.specs.Arrivals.{arrival_functions}
 use Rattle.td_ternary.specs.Possibles.{possible_functions}
 use Rattle.td_edges.specs.EdgeSignals.{edge_functions}
+use Rattle.td_refutation.specs.Whole.{IsRefuted}
 use Rattle.td_certificate.specs.declared.tree.BoundedBy.{BoundedBy}
 use Rattle.td_certificate.specs.declared.tree.BoundedBy.TheVariants as by
 use Rattle.td_certificate.specs.declared.tree.Node.{Node}
@@ -59,17 +60,19 @@ pub record HasDelay (setting : Setting) (cube : List Trit) (delay : ℕ) : Type 
   pub is : IsDelayOfBits setting pair.first pair.second delay
 
 -- What a leaf says is true of the cube: its number is at least its domain's bound, or the delay of the pair, or no admitted
--- pair lies there.
+-- pair lies there, or its steps show its bound.
 abbrev pub IsOfCube : Setting → Admitted → List Trit → Node → Type 0
 IsOfCube setting admit cube (node.Split position) = Unit {0}
 IsOfCube setting admit cube (node.Bound domain bound) = IsBounded domain setting cube bound
 IsOfCube setting admit cube (node.Point time) = HasDelay setting cube time
 IsOfCube setting admit cube node.Empty = ¬ HasAdmitted admit cube
+IsOfCube setting admit cube (node.Refuted refuted) = IsRefuted setting admit cube refuted.steps refuted.bound
 
 -- the number of a leaf is at most the time
 abbrev pub IsWithin : ℕ → Node → Type 0
 IsWithin most (node.Bound domain bound) = bound ≤ most
 IsWithin most (node.Point time) = time ≤ most
+IsWithin most (node.Refuted refuted) = refuted.bound ≤ most
 IsWithin most _ = Unit {0}
 
 pub record IsGood (setting : Setting) (admit : Admitted) (most : ℕ) (line : Line) : Type 0 where

@@ -7,12 +7,13 @@ use Rattle.td_certificate.specs.declared.certificate.Certificate.{Certificate}
 use Rattle.td_certificate.specs.Spelling.{HasSpelling, spelling}
 use Rattle.td_certificate.specs.Faults.{IsWithinLimit}
 
--- the node's number is below 10 ^ 15
+-- the node has one line, and its number is below 10 ^ 15
 abbrev pub IsShort : Node → Type 0
 IsShort (node.Split position) = position < 10 ^ 15
 IsShort (node.Bound domain bound) = bound < 10 ^ 15
 IsShort (node.Point time) = time < 10 ^ 15
 IsShort node.Empty = Unit {0}
+IsShort (node.Refuted refuted) = ⊥
 
 -- A tree of at most 10,000,000 lines with numbers below 10 ^ 15, as a search gives, has a text within the limit.
 abbrev pub SearchedTextsFit : Type 0

@@ -1,4 +1,7 @@
 pub mod Cubes
+pub mod Steps
+pub mod Fields
+pub mod StepReading
 pub mod Trees
 pub mod Text
 pub mod Questions
@@ -6,7 +9,9 @@ pub mod Spelling
 pub mod Kinds
 pub mod Faults
 pub mod Reading
+pub mod Lines
 pub mod Accepts
 pub mod Lengths
+pub mod Sending
 pub mod Walks
 pub mod Tails

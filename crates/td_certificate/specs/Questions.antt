@@ -5,7 +5,7 @@ use Rattle.td_domain.specs.declared.cubes.Trit.{Trit}
 use Rattle.td_domain.specs.declared.cubes.Trit.TheVariants.{Free}
 use Rattle.td_domain.specs.Admits.{Admitted, all_pairs}
 use Rattle.td_certificate.specs.declared.question.Version.{Version}
-use Rattle.td_certificate.specs.declared.question.Version.TheVariants.{First, Second, Third, Fourth}
+use Rattle.td_certificate.specs.declared.question.Version.TheVariants.{First, Second, Third, Fourth, Fifth}
 
 -- which pairs are admitted, and for each input the moment at which it takes its second level
 pub record Question : Type 0 where
@@ -32,7 +32,7 @@ admits_all admit = list_all is_free admit.pins && (holds_none admit.held && (adm
 abbrev pub is_at_once : List ℕ → Bool
 is_at_once moments = list_all (λ moment. moment == 0) moments
 
--- The version in which a question is told where no leaf is bounded by edges: the first where all pairs are admitted and all inputs
+-- The version in which a question is told where no leaf is bounded by edges or refuted: the first where all pairs are admitted and all inputs
 -- change at moment 0, the second where pairs are restricted, the third where an input changes later.
 abbrev pub version_of : Question → Version
 version_of question = if is_at_once question.moments then (if admits_all question.admit then First else Second) else Third
@@ -47,3 +47,4 @@ version_number First = 1
 version_number Second = 2
 version_number Third = 3
 version_number Fourth = 4
+version_number Fifth = 5

@@ -1,5 +1,5 @@
 -- Reading a certificate from the front, up to the first byte that can't be read on.
-use Rattle.std.specs.Prelude.{◌≡◌, ℕ, zero, suc, ◌+◌, ◌-◌, ◌*◌, ◌<◌, ◌≤◌, Bool, true, false, List, [], ◌∷◌, length, replicate, codes, Option, Some, None, Result, Ok, Err, nat_lt, nat_le, ◌==◌, ◌||◌, ◌&&◌, not, if◌then◌else◌}
+use Rattle.std.specs.Prelude.{◌≡◌, ℕ, zero, suc, ◌+◌, ◌-◌, ◌*◌, ◌<◌, ◌≤◌, Bool, true, false, List, [], ◌∷◌, length, replicate, codes, Option, Some, None, Ok, Err, nat_le, ◌==◌, ◌||◌, ◌&&◌, not, if◌then◌else◌}
 use Rattle.std.specs.List.{list_all}
 use Rattle.std.specs.Char.{is_ascii_digit}
 use Rattle.td_domain.specs.declared.cubes.Trit.{Trit}
@@ -10,96 +10,22 @@ use Rattle.td_certificate.specs.declared.tree.BoundedBy.TheVariants.{Arrival, Po
 use Rattle.td_certificate.specs.declared.tree.Node.{Node}
 use Rattle.td_certificate.specs.declared.tree.Node.TheVariants as node
 use Rattle.td_certificate.specs.declared.question.Version.{Version}
-use Rattle.td_certificate.specs.declared.question.Version.TheVariants.{First, Second, Third, Fourth}
+use Rattle.td_certificate.specs.declared.question.Version.TheVariants.{First, Second, Third, Fourth, Fifth}
 use Rattle.td_certificate.specs.declared.fields.Reason.{Reason}
 use Rattle.td_certificate.specs.declared.fields.Reason.TheVariants.{Syntax, NumberTooLarge}
 use Rattle.td_certificate.specs.declared.fields.Reason.TheVariants as reason
 use Rattle.td_certificate.specs.declared.fields.Leaves.{Leaves}
 use Rattle.td_certificate.specs.declared.fields.Leaves.TheVariants as leaves
-use Rattle.td_certificate.specs.declared.fields.Stop as code_stop
-use Rattle.td_certificate.specs.declared.fields.Stop.TheVariants as code
-use Rattle.td_certificate.specs.Trees.{sides, names_edges}
+use Rattle.td_certificate.specs.Trees.{sides, names_edges, is_refuted}
 use Rattle.td_certificate.specs.declared.certificate.Certificate.{Certificate}
 use Rattle.td_certificate.specs.Questions.{Question, is_free, holds_none, all_at_once}
 use Rattle.td_certificate.specs.Text.{bit, trit, weave, hold}
 use Rattle.td_certificate.specs.Spelling.{greatest, latest}
-
--- why reading stops: the bytes end, or from here on they can't be read, for this reason
-pub data Stop : Type 0 where
-  Ends : Stop
-  Wrong : Reason → List ℕ → Stop
-
--- what was read, and the bytes after it
-abbrev pub Reading : Type 0 → Type 0
-Reading A = Result (A × List ℕ) Stop
-
-infixl 10 ◌>>=◌
-abbrev pub ◌>>=◌ : {A B : Type 0} → Result A Stop → (A → Result B Stop) → Result B Stop
-(Ok x) >>= f = f x
-(Err stop) >>= f = Err stop
-
--- What a function returned, seen by view, is what reading gives, unless memory ran out.
-abbrev pub Fails : {Y : Type 0} → code_stop.Stop → Result Y Stop → Type 0
-Fails code.OutOfMemory read = Unit {0}
-Fails code.Ends read = read ≡ Err Ends
-Fails (code.Wrong reason rest) read = read ≡ Err (Wrong reason rest.now)
-
-abbrev pub Gives : {X Y : Type 0} → (X → Y) → Result X code_stop.Stop → Result Y Stop → Type 0
-Gives view (Ok x) read = read ≡ Ok (view x)
-Gives view (Err stop) read = Fails stop read
-
--- the first byte
-abbrev pub byte_at : List ℕ → Reading ℕ
-byte_at [] = Err Ends
-byte_at (b ∷ rest) = Ok (b, rest)
-
--- this text
-unfoldable pub literal : List ℕ → List ℕ → Reading (Unit {0})
-literal [] bytes = Ok (tt, bytes)
-literal (c ∷ cs) [] = Err Ends
-literal (c ∷ cs) (b ∷ rest) = if b == c then literal cs rest else Err (Wrong Syntax (b ∷ rest))
-
--- the digits behind those of a number so far, up to the byte that closes it
-unfoldable pub digits_at : ℕ → ℕ → ℕ → List ℕ → Reading ℕ
-digits_at most close number [] = Err Ends
-digits_at most close number (b ∷ rest) =
-    if b == close then Ok (number, rest) else (
-    if is_ascii_digit b then (
-    if nat_lt 0 number then (
-    if nat_le (10 * number + (b - 48)) most then digits_at most close (10 * number + (b - 48)) rest
-    else Err (Wrong NumberTooLarge (b ∷ rest))) else Err (Wrong Syntax (b ∷ rest))) else Err (Wrong Syntax (b ∷ rest)))
-
--- a number up to the most, without leading zeros, and the byte that closes it
-unfoldable pub number_at : ℕ → ℕ → List ℕ → Reading ℕ
-number_at most close [] = Err Ends
-number_at most close (b ∷ rest) =
-    if is_ascii_digit b then (
-    if nat_le (b - 48) most then digits_at most close (b - 48) rest
-    else Err (Wrong NumberTooLarge (b ∷ rest))) else Err (Wrong Syntax (b ∷ rest))
-
-abbrev pub begins_with_zero : List ℕ → Bool
-begins_with_zero [] = false
-begins_with_zero (b ∷ rest) = b == 48
-
--- such a number, which isn't 0 where it must be positive
-unfoldable pub number_from : Bool → ℕ → ℕ → List ℕ → Reading ℕ
-number_from positive most close bytes = if positive && begins_with_zero bytes then Err (Wrong Syntax bytes) else number_at most close bytes
+use Rattle.td_certificate.specs.StepReading.{refuted_at}
+pub use Rattle.td_certificate.specs.Fields.{Stop, Ends, Wrong, Reading, ◌>>=◌, Fails, Gives, byte_at, begins_with_zero, written_as, taken, char_at}
+unfoldable pub use Rattle.td_certificate.specs.Fields.{literal, digits_at, number_at, number_from, number_behind}
 
 -- ---- characters
-
--- the first of these values that is written as this byte
-abbrev pub written_as : {A : Type 0} → (A → ℕ) → List A → ℕ → Option A
-written_as byte [] b = None
-written_as byte (x ∷ others) b = if b == byte x then Some x else written_as byte others b
-
-abbrev pub taken : {A : Type 0} → Option A → ℕ → List ℕ → Reading A
-taken (Some x) b rest = Ok (x, rest)
-taken None b rest = Err (Wrong Syntax (b ∷ rest))
-
--- a character, by what its byte stands for
-abbrev pub char_at : {A : Type 0} → (ℕ → Option A) → List ℕ → Reading A
-char_at value [] = Err Ends
-char_at value (b ∷ rest) = taken (value b) b rest
 
 -- so many characters
 unfoldable pub chars_at : {A : Type 0} → (ℕ → Option A) → ℕ → List ℕ → Reading (List A)
@@ -134,12 +60,6 @@ row_behind word value zero bytes = do
   Ok ([], none.1)
 row_behind word value (suc count) bytes = chars_behind word value (suc count) bytes
 
--- a word, a number and the byte that closes it
-unfoldable pub number_behind : List ℕ → ℕ → ℕ → List ℕ → Reading ℕ
-number_behind word most close bytes = do
-  behind ← literal word bytes
-  number_at most close behind.1
-
 -- ---- the first line
 
 -- a number's digits stand in front: one at least, and none behind a leading 0
@@ -160,7 +80,7 @@ IsUpTo most number None = most < number
 
 -- one of the versions has this number
 abbrev pub is_version : ℕ → Bool
-is_version number = number == 1 || (number == 2 || (number == 3 || number == 4))
+is_version number = number == 1 || (number == 2 || (number == 3 || (number == 4 || number == 5)))
 
 -- Why no version stands here: another number is another version, or passes the greatest; with no other it is the syntax.
 unfoldable pub version_reason : List ℕ → Reason
@@ -180,9 +100,10 @@ version_digit First = 49
 version_digit Second = 50
 version_digit Third = 51
 version_digit Fourth = 52
+version_digit Fifth = 53
 
 abbrev pub version_of_digit : ℕ → Option Version
-version_of_digit b = written_as version_digit (First ∷ Second ∷ Third ∷ Fourth ∷ []) b
+version_of_digit b = written_as version_digit (First ∷ Second ∷ Third ∷ Fourth ∷ Fifth ∷ []) b
 
 -- a version's digit and the newline
 unfoldable pub digit_at : List ℕ → Reading Version
@@ -205,6 +126,7 @@ has_inputs First = false
 has_inputs Second = true
 has_inputs Third = true
 has_inputs Fourth = false
+has_inputs Fifth = false
 
 -- the greatest number of flips: in the second version one less where nothing is pinned or held
 abbrev pub most_flips : Version → List Trit → List Bool → ℕ
@@ -272,6 +194,7 @@ question_at Second inputs bytes = do
   Ok (asked admit.0 (replicate inputs 0), admit.1)
 question_at Third inputs bytes = dated_at Third true inputs bytes
 question_at Fourth inputs bytes = dated_at Fourth false inputs bytes
+question_at Fifth inputs bytes = dated_at Fifth false inputs bytes
 
 -- ---- the tree
 
@@ -289,6 +212,8 @@ domains leaves.First = Arrival ∷ Possible ∷ Both ∷ []
 domains leaves.Later = Arrival ∷ Possible ∷ Both ∷ []
 domains leaves.Any = Arrival ∷ Possible ∷ Both ∷ Edges ∷ EdgesAndPossible ∷ []
 domains leaves.OfEdges = Edges ∷ EdgesAndPossible ∷ []
+domains leaves.WithRefuted = Arrival ∷ Possible ∷ Both ∷ Edges ∷ EdgesAndPossible ∷ []
+domains leaves.OfRefuted = Arrival ∷ Possible ∷ Both ∷ Edges ∷ EdgesAndPossible ∷ []
 
 abbrev pub domain_of : Leaves → ℕ → Option BoundedBy
 domain_of here b = written_as domain_byte (domains here) b
@@ -302,12 +227,14 @@ pub data Tag : Type 0 where
   BoundTag : Tag
   PointTag : Tag
   EmptyTag : Tag
+  RefutedTag : Tag
 
 abbrev pub tag_byte : Tag → ℕ
 tag_byte SplitTag = 115
 tag_byte BoundTag = 98
 tag_byte PointTag = 112
 tag_byte EmptyTag = 110
+tag_byte RefutedTag = 114
 
 -- in the first version each leaf has an admitted pair
 abbrev pub tags : Leaves → List Tag
@@ -315,6 +242,8 @@ tags leaves.First = SplitTag ∷ BoundTag ∷ PointTag ∷ []
 tags leaves.Later = SplitTag ∷ BoundTag ∷ PointTag ∷ EmptyTag ∷ []
 tags leaves.Any = SplitTag ∷ BoundTag ∷ PointTag ∷ EmptyTag ∷ []
 tags leaves.OfEdges = SplitTag ∷ BoundTag ∷ []
+tags leaves.WithRefuted = SplitTag ∷ BoundTag ∷ PointTag ∷ EmptyTag ∷ RefutedTag ∷ []
+tags leaves.OfRefuted = SplitTag ∷ RefutedTag ∷ []
 
 unfoldable pub tag_at : Leaves → List ℕ → Reading Tag
 tag_at here bytes = char_at (λ b. written_as tag_byte (tags here) b) bytes
@@ -335,27 +264,36 @@ behind_tag here PointTag bytes = do
 behind_tag here EmptyTag bytes = do
   word ← literal (codes "one\n") bytes
   Ok (node.Empty, word.1)
+behind_tag here RefutedTag bytes = do
+  newline ← literal (codes "\n") bytes
+  refuted ← refuted_at newline.1
+  Ok (node.Refuted refuted.0, refuted.1)
 
--- a node's line
+-- a node's line, or its lines
 unfoldable pub node_at : Leaves → List ℕ → Reading Node
 node_at here bytes = do
   tag ← tag_at here bytes
   behind_tag here tag.0 tag.1
 
--- the leaves of a tree, by the version: in the fourth one of them is bounded by edges
+-- the leaves of a tree, by the version: in the fourth one of them is bounded by edges, in the fifth one is refuted
 abbrev pub leaves_in : Version → Leaves
 leaves_in First = leaves.First
 leaves_in Second = leaves.Later
 leaves_in Third = leaves.Later
 leaves_in Fourth = leaves.OfEdges
+leaves_in Fifth = leaves.OfRefuted
 
--- the leaves that may stand before so many other subtrees: where one bounded by edges is still to come, the last one has to be it
+-- the leaves that may stand before so many other subtrees: where one bounded by edges, or a refuted one, is still to come, the last one has
+-- to be it
 abbrev pub leaves_before : Leaves → ℕ → Leaves
 leaves_before leaves.First others = leaves.First
 leaves_before leaves.Later others = leaves.Later
 leaves_before leaves.Any others = leaves.Any
 leaves_before leaves.OfEdges zero = leaves.OfEdges
 leaves_before leaves.OfEdges (suc others) = leaves.Any
+leaves_before leaves.WithRefuted others = leaves.WithRefuted
+leaves_before leaves.OfRefuted zero = leaves.OfRefuted
+leaves_before leaves.OfRefuted (suc others) = leaves.WithRefuted
 
 -- the leaves behind a node
 abbrev pub leaves_behind : Leaves → Node → Leaves
@@ -363,6 +301,8 @@ leaves_behind leaves.First n = leaves.First
 leaves_behind leaves.Later n = leaves.Later
 leaves_behind leaves.Any n = leaves.Any
 leaves_behind leaves.OfEdges n = if names_edges n then leaves.Any else leaves.OfEdges
+leaves_behind leaves.WithRefuted n = leaves.WithRefuted
+leaves_behind leaves.OfRefuted n = if is_refuted n then leaves.WithRefuted else leaves.OfRefuted
 
 -- the nodes of so many subtrees, no more of them than the first number
 unfoldable pub nodes_within : Leaves → ℕ → ℕ → List ℕ → Reading (List Node)

@@ -1,13 +1,15 @@
 -- Certificates and their one spelling: lines, each ended by a newline.
-use Rattle.std.specs.Prelude.{◌≡◌, ◌≢◌, ℕ, ◌*◌, ◌≤◌, ◌^◌, if◌then◌else◌, List, [], ◌∷◌, ◌++◌, length, map, codes, decimal}
+use Rattle.std.specs.Prelude.{◌≡◌, ◌≢◌, ℕ, ◌*◌, ◌≤◌, if◌then◌else◌, List, [], ◌∷◌, ◌++◌, length, map, codes, decimal}
 use Rattle.std.specs.List.{flat_map, AllByRecursion}
 use Rattle.td_certificate.specs.declared.tree.Node.{Node}
 use Rattle.td_certificate.specs.declared.tree.Node.TheVariants as node
 use Rattle.td_certificate.specs.declared.question.Version.{Version}
-use Rattle.td_certificate.specs.declared.question.Version.TheVariants.{First, Second, Third, Fourth}
+use Rattle.td_certificate.specs.declared.question.Version.TheVariants.{First, Second, Third, Fourth, Fifth}
 use Rattle.td_certificate.specs.declared.certificate.Certificate.{Certificate}
 use Rattle.td_certificate.specs.Questions.{Question, inputs_of, version_of, version_number}
-use Rattle.td_certificate.specs.Trees.{IsTree, has_edges}
+use Rattle.td_certificate.specs.Trees.{IsTree, has_edges, has_refuted}
+use Rattle.td_certificate.specs.Steps.{IsRefutedText}
+pub use Rattle.td_certificate.specs.Steps.{greatest}
 use Rattle.td_certificate.specs.Text.{row, bits, node_line, trit, first_trits, second_trits, hold, numbers}
 
 -- ---- the lines
@@ -16,9 +18,9 @@ use Rattle.td_certificate.specs.Text.{row, bits, node_line, trit, first_trits, s
 abbrev pub inputs : Certificate → ℕ
 inputs c = inputs_of c.question
 
--- the version of its text: the fourth where a leaf is bounded by edges, else that of the question
+-- the version of its text: the fifth where a leaf is refuted, the fourth where one is bounded by edges, else that of the question
 abbrev pub version_in : Certificate → Version
-version_in c = if has_edges c.tree then Fourth else version_of c.question
+version_in c = if has_refuted c.tree then Fifth else (if has_edges c.tree then Fourth else version_of c.question)
 
 -- what the lines of a question tell, each one of these
 pub data Field : Type 0 where
@@ -34,6 +36,7 @@ fields_of First = []
 fields_of Second = FirstField ∷ SecondField ∷ HoldField ∷ FlipsField ∷ []
 fields_of Third = FirstField ∷ SecondField ∷ HoldField ∷ FlipsField ∷ AtField ∷ []
 fields_of Fourth = FirstField ∷ SecondField ∷ HoldField ∷ FlipsField ∷ AtField ∷ []
+fields_of Fifth = FirstField ∷ SecondField ∷ HoldField ∷ FlipsField ∷ AtField ∷ []
 
 abbrev pub field_line : Question → Field → List ℕ
 field_line question FirstField = codes "first " ++ row trit (first_trits question.admit.pins)
@@ -82,10 +85,6 @@ spelling c = text_of (head_lines c ++ map node_line c.tree)
 
 -- ---- what has a spelling
 
--- the greatest number of a certificate
-abbrev pub greatest : ℕ
-greatest = 10 ^ 18
-
 -- the latest moment of an input
 abbrev pub latest : ℕ
 latest = 1000000000
@@ -96,6 +95,7 @@ IsNode version (node.Split position) = position ≤ greatest
 IsNode version (node.Bound domain bound) = bound ≤ greatest
 IsNode version (node.Point time) = time ≤ greatest
 IsNode version node.Empty = version ≢ First
+IsNode version (node.Refuted refuted) = IsRefutedText refuted
 
 -- its numbers are within their limits, there are two pins, a moment and a bit of each vector for each input, and its nodes are
 -- one tree's

@@ -42,7 +42,7 @@ fn most_flips(version: Version, pins: &Cube, held: &[bool]) -> u64
                 inputs
             }
         }
-        Version::First | Version::Third | Version::Fourth => inputs,
+        Version::First | Version::Third | Version::Fourth | Version::Fifth => inputs,
     }
 }
 
@@ -193,6 +193,6 @@ pub fn question(
         Version::First => unrestricted(alloc, inputs, text),
         Version::Second => restricted(alloc, inputs, text),
         Version::Third => dated(alloc, version, true, inputs, text),
-        Version::Fourth => dated(alloc, version, false, inputs, text),
+        Version::Fourth | Version::Fifth => dated(alloc, version, false, inputs, text),
     }
 }

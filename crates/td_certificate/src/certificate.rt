@@ -19,11 +19,14 @@ pub struct Certificate {
 }
 
 impl Certificate {
-    /// The version of its text: the fourth where a leaf is bounded by edges, else the first that can tell the question.
+    /// The version of its text: the fifth where a leaf is refuted, the fourth where one is bounded by edges, else the first that can tell
+    /// the question.
     pub fn version(&self) -> Version
         ensures { result ≡ version_in self.now }
     {
-        if self.tree.has_edges() {
+        if self.tree.has_refuted() {
+            Version::Fifth
+        } else if self.tree.has_edges() {
             Version::Fourth
         } else {
             self.question.version()

@@ -2,11 +2,12 @@
 
 ghost use Rattle.std.specs.Prelude.{◌≡◌, ◌≤◌, ◌<◌, ◌+◌, ◌^◌, ◌==◌, codes, IfOk};
 ghost use Rattle.td_certificate.specs.declared.fields.Stop.TheVariants.{OutOfMemory};
-ghost use Rattle.td_certificate.specs.Reading.{Gives, byte_at, literal, digits_at, number_at, number_from, begins_with_zero, domain_of, letter_at, number_behind, behind_tag, BoundTag, PointTag, EmptyTag, node_at, leaves_in, leaves_before, leaves_behind};
+ghost use Rattle.td_certificate.specs.Reading.{Gives, byte_at, literal, digits_at, number_at, number_from, begins_with_zero, domain_of, letter_at, number_behind, behind_tag, BoundTag, PointTag, EmptyTag, RefutedTag, node_at, leaves_in, leaves_before, leaves_behind};
 
 use crate::question::Version;
+use crate::refuting::refuted_lines;
 use crate::tree::{BoundedBy, Node};
-use std::alloc::{AllocError, AllocFailed};
+use std::alloc::{AllocError, AllocFailed, Global};
 
 /// The greatest number of a certificate.
 pub const GREATEST: u64 = 1_000_000_000_000_000_000;
@@ -54,6 +55,10 @@ pub enum Leaves {
     Any,
     /// Those of the fourth version before that: one bounded by edges is still to come.
     OfEdges,
+    /// All, in the fifth version behind a refuted leaf.
+    WithRefuted,
+    /// Those of the fifth version before that: a refuted one is still to come.
+    OfRefuted,
 }
 
 impl Leaves {
@@ -65,25 +70,28 @@ impl Leaves {
             Version::First => Leaves::First,
             Version::Second | Version::Third => Leaves::Later,
             Version::Fourth => Leaves::OfEdges,
+            Version::Fifth => Leaves::OfRefuted,
         }
     }
 
-    /// Those that may stand before so many other subtrees. The last leaf has to be bounded by edges where one is still to come.
+    /// Those that may stand before so many other subtrees. The last leaf has to be bounded by edges, or refuted, where one is still to come.
     pub fn before(self, others: u64) -> Leaves
         ensures { result ≡ leaves_before self others }
     {
         match self {
             Leaves::OfEdges if others > 0 => Leaves::Any,
+            Leaves::OfRefuted if others > 0 => Leaves::WithRefuted,
             leaves => leaves,
         }
     }
 
     /// Those behind a node.
-    pub fn behind(self, node: Node) -> Leaves
-        ensures { result ≡ leaves_behind self node }
+    pub fn behind(self, node: &Node) -> Leaves
+        ensures { result ≡ leaves_behind self node.now }
     {
         match self {
             Leaves::OfEdges if node.names_edges() => Leaves::Any,
+            Leaves::OfRefuted if node.is_refuted() => Leaves::WithRefuted,
             leaves => leaves,
         }
     }
@@ -115,7 +123,7 @@ pub fn literal<'a>(word: &[u8], text: &'a [u8]) -> Result<&'a [u8], Stop<'a>>
 }
 
 /// Takes a number without leading zeros, at most `most`, and the byte that closes it.
-#[tactic(auto, unfolding(crate::specs::Reading::number_at, crate::specs::Reading::digits_at))]
+#[tactic(auto, unfolding(crate::specs::Fields::number_at, crate::specs::Fields::digits_at))]
 pub fn number<'a>(most: u64, close: u8, text: &'a [u8]) -> Result<(u64, &'a [u8]), Stop<'a>>
     requires { most ≤ 10 ^ 18 }
     ensures read { Gives (λ x. (x.0, x.1.now)) result (number_at most close text.now) }
@@ -157,7 +165,7 @@ fn begins_with_zero(text: &[u8]) -> bool
 }
 
 /// Takes a number as `number` does. A 0 is refused where it must be of a positive count.
-#[tactic(auto, unfolding(crate::specs::Reading::number_from))]
+#[tactic(auto, unfolding(crate::specs::Fields::number_from))]
 pub fn number_from<'a>(
     positive: bool,
     most: u64,
@@ -185,7 +193,7 @@ fn domain(leaves: Leaves, letter: u8) -> Option<BoundedBy>
             b'm' => Some(BoundedBy::Both),
             _ => None,
         },
-        Leaves::Any => match letter {
+        Leaves::Any | Leaves::WithRefuted | Leaves::OfRefuted => match letter {
             b'a' => Some(BoundedBy::Arrival),
             b't' => Some(BoundedBy::Possible),
             b'm' => Some(BoundedBy::Both),
@@ -215,7 +223,7 @@ fn letter(leaves: Leaves, text: &[u8]) -> Result<(BoundedBy, &[u8]), Stop<'_>>
 }
 
 /// Takes a word, a number and the byte that closes it.
-#[tactic(auto, unfolding(crate::specs::Reading::number_behind))]
+#[tactic(auto, unfolding(crate::specs::Fields::number_behind))]
 pub fn number_behind<'a>(
     word: &[u8],
     most: u64,
@@ -231,7 +239,7 @@ pub fn number_behind<'a>(
 }
 
 /// Takes a space, a number and the newline.
-fn last_number(text: &[u8]) -> Result<(u64, &[u8]), Stop<'_>>
+pub fn last_number(text: &[u8]) -> Result<(u64, &[u8]), Stop<'_>>
     ensures { Gives (λ x. (x.0, x.1.now)) result (number_behind (codes " ") (10 ^ 18) 10 text.now) }
 {
     number_behind(b" ", GREATEST, b'\n', text)
@@ -265,9 +273,19 @@ fn empty(leaves: Leaves, text: &[u8]) -> Result<(Node, &[u8]), Stop<'_>>
     Ok((Node::Empty, rest))
 }
 
-/// Takes a node's line.
+/// Takes what follows the first byte of a leaf that is refuted.
+#[tactic(auto, unfolding(crate::specs::Reading::behind_tag))]
+fn refuted(alloc: Global, leaves: Leaves, text: &[u8]) -> Result<(Node, &[u8]), Stop<'_>>
+    ensures { Gives (λ x. (x.0, x.1.now)) result (behind_tag leaves RefutedTag text.now) }
+{
+    let rest = literal(b"\n", text)?;
+    let (refuted, rest) = refuted_lines(alloc, rest)?;
+    Ok((Node::Refuted(refuted), rest))
+}
+
+/// Takes a node's line, or its lines.
 #[tactic(auto, unfolding(crate::specs::Reading::node_at, crate::specs::Reading::tag_at, crate::specs::Reading::behind_tag))]
-pub fn node(leaves: Leaves, text: &[u8]) -> Result<(Node, &[u8]), Stop<'_>>
+pub fn node(alloc: Global, leaves: Leaves, text: &[u8]) -> Result<(Node, &[u8]), Stop<'_>>
     ensures { Gives (λ x. (x.0, x.1.now)) result (node_at leaves text.now) }
 {
     match text {
@@ -276,14 +294,29 @@ pub fn node(leaves: Leaves, text: &[u8]) -> Result<(Node, &[u8]), Stop<'_>>
             let (position, rest) = last_number(rest)?;
             Ok((Node::Split(position), rest))
         }
-        [b'b', rest @ ..] => bound(leaves, rest),
+        [b'b', rest @ ..] => match leaves {
+            Leaves::OfRefuted => Err(Stop::Wrong(Reason::Syntax, text)),
+            Leaves::First | Leaves::Later | Leaves::Any | Leaves::OfEdges | Leaves::WithRefuted => {
+                bound(leaves, rest)
+            }
+        },
         [b'p', rest @ ..] => match leaves {
-            Leaves::OfEdges => Err(Stop::Wrong(Reason::Syntax, text)),
-            Leaves::First | Leaves::Later | Leaves::Any => point(leaves, rest),
+            Leaves::OfEdges | Leaves::OfRefuted => Err(Stop::Wrong(Reason::Syntax, text)),
+            Leaves::First | Leaves::Later | Leaves::Any | Leaves::WithRefuted => {
+                point(leaves, rest)
+            }
         },
         [b'n', rest @ ..] => match leaves {
-            Leaves::First | Leaves::OfEdges => Err(Stop::Wrong(Reason::Syntax, text)),
-            Leaves::Later | Leaves::Any => empty(leaves, rest),
+            Leaves::First | Leaves::OfEdges | Leaves::OfRefuted => {
+                Err(Stop::Wrong(Reason::Syntax, text))
+            }
+            Leaves::Later | Leaves::Any | Leaves::WithRefuted => empty(leaves, rest),
+        },
+        [b'r', rest @ ..] => match leaves {
+            Leaves::First | Leaves::Later | Leaves::Any | Leaves::OfEdges => {
+                Err(Stop::Wrong(Reason::Syntax, text))
+            }
+            Leaves::WithRefuted | Leaves::OfRefuted => refuted(alloc, leaves, rest),
         },
         [_, ..] => Err(Stop::Wrong(Reason::Syntax, text)),
     }

@@ -9,6 +9,8 @@ mod fields;
 pub mod laws;
 mod question;
 mod reading;
+mod refuting;
+mod steps;
 mod tree;
 mod writing;
 
@@ -16,5 +18,6 @@ pub use certificate::Certificate;
 pub use fault::{CertFault, CertFaultKind, WriteFault};
 pub use question::{Question, Version};
 pub use reading::read;
+pub use refuting::{Refuted, Steps};
 pub use tree::{BoundedBy, Node, Tree};
 pub use writing::{push_question, write};

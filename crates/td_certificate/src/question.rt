@@ -8,13 +8,15 @@ use std::marker::Model;
 use td_domain::{Admit, Cube, Trit};
 
 /// The versions of a certificate's text. The first is about all pairs of vectors, with all inputs changing at moment 0; in
-/// the second pairs are restricted; in the third an input changes later. In the fourth a leaf is bounded by edges, whatever is asked.
+/// the second pairs are restricted; in the third an input changes later. In the fourth a leaf is bounded by edges, and in the fifth one
+/// is refuted, whatever is asked.
 #[derive(Clone, Copy, Debug, PartialEq, Eq, Drop)]
 pub enum Version {
     First,
     Second,
     Third,
     Fourth,
+    Fifth,
 }
 
 impl Version {
@@ -27,6 +29,7 @@ impl Version {
             Version::Second => 2,
             Version::Third => 3,
             Version::Fourth => 4,
+            Version::Fifth => 5,
         }
     }
 }
@@ -76,7 +79,7 @@ impl Question {
         self.admit.held().len()
     }
 
-    /// The version of a text that tells it, where no leaf is bounded by edges.
+    /// The version of a text that tells it, where no leaf is bounded by edges or refuted.
     pub fn version(&self) -> Version
         ensures { result ≡ version_of self.now }
     {

@@ -63,7 +63,7 @@ fn front_number(bytes: &[u8]) -> Option<u64>
 fn is_version(number: u64) -> bool
     ensures { result ≡ is_version number }
 {
-    number == 1 || number == 2 || number == 3 || number == 4
+    number == 1 || number == 2 || number == 3 || number == 4 || number == 5
 }
 
 /// What is wrong with a first line that isn't that of a version, from the byte behind its word and space on.
@@ -97,6 +97,7 @@ fn digit(text: &[u8]) -> Result<(Version, &[u8]), Stop<'_>>
         [b'2', rest @ ..] => (Version::Second, rest),
         [b'3', rest @ ..] => (Version::Third, rest),
         [b'4', rest @ ..] => (Version::Fourth, rest),
+        [b'5', rest @ ..] => (Version::Fifth, rest),
         [_, ..] => return Err(Stop::Wrong(Reason::Syntax, text)),
     };
     let rest = literal(b"\n", rest)?;
@@ -124,9 +125,9 @@ fn tree(alloc: Global, version: Version, text: &[u8]) -> Result<(Tree, &[u8]), S
     let mut leaves = Leaves::of(version);
     let mut rest = text;
     while pending > 0 {
-        let (first, after) = node(leaves.before(pending - 1), rest)?;
+        let (first, after) = node(alloc, leaves.before(pending - 1), rest)?;
         pending = pending - 1 + first.sides();
-        leaves = leaves.behind(first);
+        leaves = leaves.behind(&first);
         nodes.push(first)?;
         rest = after;
     }
@@ -138,7 +139,7 @@ fn has_inputs(version: Version) -> bool
     ensures { result ≡ has_inputs version }
 {
     match version {
-        Version::First | Version::Fourth => false,
+        Version::First | Version::Fourth | Version::Fifth => false,
         Version::Second | Version::Third => true,
     }
 }

@@ -1,9 +1,10 @@
 //! Trees of splits and leaves, kept as their nodes in pre-order.
 
 ghost use Rattle.std.specs.Prelude.{◌≡◌, Some};
-ghost use Rattle.td_certificate.specs.Trees.{IsTree, sides, is_of_edges, names_edges, has_edges};
-ghost use Rattle.td_certificate.specs.Text.{letter, node_line};
+ghost use Rattle.td_certificate.specs.Trees.{IsTree, sides, is_of_edges, names_edges, has_edges, is_refuted, has_refuted};
+ghost use Rattle.td_certificate.specs.Text.{letter};
 
+use crate::refuting::Refuted;
 use std::fmt;
 use std::marker::Model;
 
@@ -30,34 +31,42 @@ impl BoundedBy {
 }
 
 /// A node of a tree: a split at a position of its cube, a leaf with a domain's bound of its cube, a leaf of one pair with
-/// that pair's delay, or a leaf in whose cube no admitted pair lies. Bounds and delays are in steps.
-#[derive(Clone, Copy, Debug, PartialEq, Eq, Drop)]
+/// that pair's delay, a leaf in whose cube no admitted pair lies, or a leaf with a bound that steps show. Bounds and delays are in steps.
+#[derive(Debug, Drop)]
 pub enum Node {
     Split(u64),
     Bound(BoundedBy, u64),
     Point(u64),
     Empty,
+    Refuted(Refuted),
 }
 
 impl Node {
     /// How many subtrees come below the node.
-    pub fn sides(self) -> u64
-        ensures { result ≡ sides self }
+    pub fn sides(&self) -> u64
+        ensures { result ≡ sides self.now }
     {
         match self {
             Node::Split(_) => 2,
-            Node::Bound(_, _) | Node::Point(_) | Node::Empty => 0,
+            Node::Bound(_, _) | Node::Point(_) | Node::Empty | Node::Refuted(_) => 0,
         }
     }
 
     /// Whether the node is a leaf that is bounded by edges.
-    pub fn names_edges(self) -> bool
-        ensures { result ≡ names_edges self }
+    pub fn names_edges(&self) -> bool
+        ensures { result ≡ names_edges self.now }
     {
         match self {
             Node::Bound(domain, _) => domain.is_of_edges(),
-            Node::Split(_) | Node::Point(_) | Node::Empty => false,
+            Node::Split(_) | Node::Point(_) | Node::Empty | Node::Refuted(_) => false,
         }
+    }
+
+    /// Whether the node is a leaf with a bound that steps show.
+    pub fn is_refuted(&self) -> bool
+        ensures { result ≡ is_refuted self.now }
+    {
+        matches!(self, Node::Refuted(_))
     }
 }
 
@@ -71,20 +80,6 @@ impl fmt::Display for BoundedBy {
             BoundedBy::Both => write!(f, "m"),
             BoundedBy::Edges => write!(f, "e"),
             BoundedBy::EdgesAndPossible => write!(f, "n"),
-        }
-    }
-}
-
-/// The node's line in a certificate.
-impl fmt::Display for Node {
-    ghost output = { λ node. Some (node_line node) };
-
-    fn fmt<W: fmt::Write>(&self, f: &mut fmt::Formatter<W>) -> fmt::Result {
-        match self {
-            Node::Split(position) => write!(f, "s {position}"),
-            Node::Bound(domain, bound) => write!(f, "b {domain} {bound}"),
-            Node::Point(time) => write!(f, "p {time}"),
-            Node::Empty => write!(f, "none"),
         }
     }
 }
@@ -129,6 +124,13 @@ impl Tree {
         ensures { result ≡ has_edges self.now }
     {
         self.nodes.iter().any(|node| node.names_edges())
+    }
+
+    /// Whether some leaf is refuted.
+    pub fn has_refuted(&self) -> bool
+        ensures { result ≡ has_refuted self.now }
+    {
+        self.nodes.iter().any(|node| node.is_refuted())
     }
 
     /// The nodes, without a copy.

@@ -1,15 +1,20 @@
 //! Writing a certificate's text.
 
 ghost use Rattle.std.specs.Char.{encode_utf8};
-ghost use Rattle.std.specs.Prelude.{◌≡◌, ◌++◌, ◌∷◌, [], if◌then◌else◌, map, codes, OnOk, OnErr, IfOk, IfErr, string_bytes};
+ghost use Rattle.std.specs.Prelude.{◌≡◌, false, ◌++◌, ◌∷◌, [], if◌then◌else◌, map, codes, OnOk, OnErr, IfOk, IfErr, string_bytes};
 ghost use Rattle.td_gates.specs.Output.{Sent, SentTo, SentFront, Failed, one_more};
 ghost use Rattle.td_certificate.specs.declared.question.Version.TheVariants as of_version;
 ghost use Rattle.td_certificate.specs.Spelling.{fields_of, field_line, ended, question_text, head_lines, text_of, HasSpelling, spelling};
-ghost use Rattle.td_certificate.specs.Text.{row, bits, trit, first_trits, second_trits, hold, numbers};
+ghost use Rattle.td_certificate.specs.Steps.{refuted_line};
+ghost use Rattle.td_certificate.specs.Trees.{is_refuted};
+ghost use Rattle.td_certificate.specs.Sending.{StopsIn};
+ghost use Rattle.td_certificate.specs.Text.{row, bits, trit, first_trits, second_trits, hold, numbers, node_line};
 
 use crate::certificate::Certificate;
 use crate::fault::WriteFault;
 use crate::question::{Question, Version};
+use crate::refuting::Refuted;
+use crate::tree::Node;
 use std::alloc::{AllocError, Global};
 use td_domain::{Cube, Trit};
 use td_gates::{DeviceFault, Sink};
@@ -105,7 +110,7 @@ pub fn push_question(
     match version {
         Version::First => Ok(()),
         Version::Second => push_admit(text, question),
-        Version::Third | Version::Fourth => {
+        Version::Third | Version::Fourth | Version::Fifth => {
             push_admit(text, question)?;
             push_moments(text, question.moments())
         }
@@ -144,6 +149,20 @@ fn head(alloc: Global, certificate: &Certificate) -> Result<String, AllocError>
     Ok(text)
 }
 
+/// Puts the line of a node that isn't a refuted leaf at the end.
+fn push_line(text: &mut String, node: &Node) -> Result<(), AllocError>
+    requires { is_refuted node.now ≡ false }
+    ensures { OnOk result (string_bytes text.new ≡ string_bytes text.old ++ ended (node_line node.now)) }
+{
+    match node {
+        Node::Split(position) => writeln!(text, "s {position}"),
+        Node::Bound(domain, bound) => writeln!(text, "b {domain} {bound}"),
+        Node::Point(time) => writeln!(text, "p {time}"),
+        Node::Empty => writeln!(text, "none"),
+        Node::Refuted(_) => Ok(()),
+    }
+}
+
 /// Writes the batch if it is full.
 fn make_room<W: Sink>(out: &mut W, batch: &mut String) -> Result<(), DeviceFault>
     ensures ok { OnOk result (SentTo (W.output out.old) (W.output out.new) (string_bytes batch.old) (string_bytes batch.new)) }
@@ -154,6 +173,38 @@ fn make_room<W: Sink>(out: &mut W, batch: &mut String) -> Result<(), DeviceFault
         batch.clear();
     }
     Ok(())
+}
+
+/// Writes the batch and the lines of a leaf that is refuted, but for that of its bound, which is left in the batch.
+fn write_refuted<W: Sink>(
+    out: &mut W,
+    batch: &mut String,
+    refuted: &Refuted,
+) -> Result<(), WriteFault>
+    ensures ok { OnOk result (SentTo (W.output out.old) (W.output out.new) (string_bytes batch.old ++ ended (refuted_line refuted.now)) (string_bytes batch.new)) }
+    ensures err { IfErr result (λ fault. StopsIn fault (W.output out.old) (W.output out.new) (string_bytes batch.old ++ ended (refuted_line refuted.now))) }
+{
+    batch.push_str("r\n")?;
+    out.write_all(batch.as_bytes())?;
+    batch.clear();
+    out.write_all(refuted.lines())?;
+    let bound = refuted.bound();
+    writeln!(batch, "q {bound}")?;
+    Ok(())
+}
+
+/// Puts a node's line at the end of the batch. Of the lines of a leaf that is refuted all but the last are written.
+fn write_node<W: Sink>(out: &mut W, batch: &mut String, node: &Node) -> Result<(), WriteFault>
+    ensures ok { OnOk result (SentTo (W.output out.old) (W.output out.new) (string_bytes batch.old ++ ended (node_line node.now)) (string_bytes batch.new)) }
+    ensures err { IfErr result (λ fault. StopsIn fault (W.output out.old) (W.output out.new) (string_bytes batch.old ++ ended (node_line node.now))) }
+{
+    match node {
+        Node::Refuted(refuted) => write_refuted(out, batch, refuted),
+        Node::Split(_) | Node::Bound(_, _) | Node::Point(_) | Node::Empty => {
+            push_line(batch, node)?;
+            Ok(())
+        }
+    }
 }
 
 /// Appends the certificate's text to what went out.
@@ -176,7 +227,7 @@ pub fn write<W: Sink>(
     let mut batch = head(alloc, certificate)?;
     for node in certificate.tree.nodes() {
         make_room(out, &mut batch)?;
-        writeln!(batch, "{node}")?;
+        write_node(out, &mut batch, node)?;
     }
     out.write_all(batch.as_bytes())?;
     Ok(())

@@ -1,6 +1,7 @@
 pub mod OneVerdict
 pub mod Points
 pub mod Turning
+pub mod StepLaws
 pub mod Lines
 pub mod Told
 pub mod Texts

@@ -1,12 +1,11 @@
 -- A walk over the nodes of a certificate goes over the lines of its tree.
-use Rattle.std.proofs.Common.{◌≡◌, ◌+◌, ◌<◌, ◌≤◌, ℕ, zero, suc, List, [], ◌∷◌, length, take, drop, get_or, Option, Some, None, refl, sym, ap, subst, ◌∙◌, arith}
+use Rattle.std.proofs.Common.{◌≡◌, ◌+◌, ◌<◌, ◌≤◌, ℕ, zero, suc, List, [], ◌∷◌, length, take, drop, get_or, Some, refl, sym, ap, subst, ◌∙◌, arith}
 use Rattle.std.specs.Prelude.{slice_get}
 use Rattle.std.specs.List.{AllByRecursion}
 use Rattle.std.proofs.lemmas.List.{drop_all}
 use Rattle.std.proofs.lemmas.Option.{slice_get-get_or}
 use Rattle.td_circuit.specs.Settings.{Setting}
 use Rattle.td_domain.specs.declared.cubes.Trit.{Trit}
-use Rattle.td_domain.specs.Admits.{Admitted}
 use Rattle.td_certificate.specs.declared.tree.Node.{Node}
 use Rattle.td_certificate.specs.declared.tree.Node.TheVariants as node
 use Rattle.td_certificate.specs.declared.certificate.Certificate.{Certificate}
@@ -16,9 +15,8 @@ use Rattle.td_certificate.specs.Cubes.{cubes_past}
 use Rattle.td_certificate.specs.Walks.{position_of, Line, lines_from}
 use Rattle.td_certificate.proofs.VectorCodes.{none_not, some_is}
 use Rattle.td_checker.specs.Paths.{cubes_ahead, StandsAt, AreInside}
-use Rattle.td_checker.specs.declared.judging.Flaw as code_flaw
-use Rattle.td_checker.specs.Verdicts.{Flaw, HasFlaw}
-use Rattle.td_checker.specs.Judging.{flaw_of, with_cube, IsJudged, IsBadAt}
+use Rattle.td_checker.specs.Verdicts.{Flaw, line_count, line_total}
+use Rattle.td_checker.specs.Judging.{with_cube, IsFlawed, IsBadAt}
 
 -- ---- lists
 
@@ -85,12 +83,14 @@ first_line (next ∷ others) (node.Split position) rest cube path pending stands
 first_line (next ∷ others) (node.Bound domain bound) rest cube path pending stands = rw (stands.1, stands.0) refl
 first_line (next ∷ others) (node.Point time) rest cube path pending stands = rw (stands.1, stands.0) refl
 first_line (next ∷ others) node.Empty rest cube path pending stands = rw (stands.1, stands.0) refl
+first_line (next ∷ others) (node.Refuted refuted) rest cube path pending stands = rw (stands.1, stands.0) refl
 
 pub count_behind : (cube : List Trit) (n : Node) (cubes : List (List Trit)) → length (cubes_past cube (position_of n) cubes) ≡ sides n + length cubes
 count_behind cube (node.Split position) cubes = omega arith
 count_behind cube (node.Bound domain bound) cubes = omega arith
 count_behind cube (node.Point time) cubes = omega arith
 count_behind cube node.Empty cubes = omega arith
+count_behind cube (node.Refuted refuted) cubes = omega arith
 
 next_pending : (cubes : List (List Trit)) (n : Node) (rest : List Node) (cube : List Trit) (path : List ℕ)
     → pending_after (length cubes) (n ∷ rest) ≡ Some 0 → StandsAt cubes cube path
@@ -147,14 +147,43 @@ good_more given c place cube path n walk at good all =
     subst (λ (k : ℕ). AllByRecursion (IsGood given c.question.admit c.time) (take k (lines_in c))) one
     (all_more (IsGood given c.question.admit c.time) (lines_in c) place (with_cube cube n) all line.stands good)
 
-pub found_bad : (given : Setting) (c : Certificate) (place : ℕ) (cube : List Trit) (path : List ℕ) (n : Node) (flaw : Flaw)
-    → IsWalked c place cube path → slice_get c.tree place ≡ Some n → HasFlaw given c.question.admit c.time flaw (with_cube cube n)
-    → AllByRecursion (IsGood given c.question.admit c.time) (take place (lines_in c)) → IsBadAt given c.question.admit c.time (lines_in c) flaw place
-found_bad given c place cube path n flaw walk at has all = record {
+-- the lines of the text before a place, and those before the next one
+total_more : (lines : List Line) (place : ℕ) (line : Line) → slice_get lines place ≡ Some line → line_total (take (suc place) lines) ≡ line_total (take place lines) + line_count line.node
+total_more [] place line is = none_not line is
+total_more (first ∷ lines) zero line is = let same : first ≡ line = some_is first line is in omega (arith, ap (λ (l : Line). line_count l.node) same)
+total_more (first ∷ lines) (suc place) line is = omega (arith, total_more lines place line is)
+
+total_take : (lines : List Line) (place : ℕ) → line_total (take place lines) ≤ line_total lines
+total_take [] zero = omega arith
+total_take [] (suc place) = omega arith
+total_take (first ∷ lines) zero = omega arith
+total_take (first ∷ lines) (suc place) = omega (arith, total_take lines place)
+
+pub counted_more : (c : Certificate) (place before count : ℕ) (cube : List Trit) (path : List ℕ) (n : Node) → IsWalked c place cube path → slice_get c.tree place ≡ Some n
+    → before ≡ line_total (take place (lines_in c)) → count ≡ line_count n → before + count ≡ line_total (take (place + 1) (lines_in c))
+counted_more c place before count cube path n walk at so_far is =
+    let line = has_line c place cube path n walk at in
+    let one : suc place ≡ place + 1 = omega arith in
+    omega (arith, so_far, is, total_more (lines_in c) place (with_cube cube n) line.stands, ap (λ (k : ℕ). line_total (take k (lines_in c))) one)
+
+-- all lines up to this one are within the whole
+pub counted_within : (c : Certificate) (place before count : ℕ) (cube : List Trit) (path : List ℕ) (n : Node) → IsWalked c place cube path → slice_get c.tree place ≡ Some n
+    → before ≡ line_total (take place (lines_in c)) → count ≤ line_count n → before + count ≤ line_total (lines_in c)
+counted_within c place before count cube path n walk at so_far within =
+    let line = has_line c place cube path n walk at in
+    omega (arith, so_far, within, total_more (lines_in c) place (with_cube cube n) line.stands, total_take (lines_in c) (suc place))
+
+pub found_bad : (given : Setting) (c : Certificate) (place before at : ℕ) (cube : List Trit) (path : List ℕ) (n : Node) (flaw : Flaw)
+    → IsWalked c place cube path → slice_get c.tree place ≡ Some n → IsFlawed given c.question.admit c.time (with_cube cube n) flaw at
+    → before ≡ line_total (take place (lines_in c))
+    → AllByRecursion (IsGood given c.question.admit c.time) (take place (lines_in c)) → IsBadAt given c.question.admit c.time (lines_in c) flaw (before + at)
+found_bad given c place before at cube path n flaw walk stands has so_far all = record {
+  place = place;
   bad = with_cube cube n;
-  stands = (has_line c place cube path n walk at).stands;
+  stands = (has_line c place cube path n walk stands).stands;
   good_before = all;
-  has = has;
+  has = has.has;
+  before_is = omega (arith, so_far, has.at_is);
 }
 
 no_lines : (cubes : List (List Trit)) → lines_from cubes [] ≡ []
@@ -168,15 +197,6 @@ all_good given c place cube path walk over all =
     let end : drop place (lines_in c) ≡ [] = sym walk.walked ∙ ap (lines_from walk.cubes) none ∙ no_lines walk.cubes in
     subst (AllByRecursion (IsGood given c.question.admit c.time)) (take_whole (lines_in c) place end) all
 
-pub node_at : (nodes tree : List Node) (place : ℕ) (d : Node) → nodes ≡ tree → place < length nodes → slice_get tree place ≡ Some (get_or nodes place d)
-node_at nodes tree place d same below =
-    ap (λ (ns : List Node). slice_get ns place) (sym same) ∙ slice_get-get_or nodes place d below
-
--- what was found of a line
-pub has_flaw : (given : Setting) (admit : Admitted) (most : ℕ) (line : Line) (found : Option code_flaw.Flaw) (flaw : code_flaw.Flaw)
-    → IsJudged given admit most line found → found ≡ Some flaw → HasFlaw given admit most (flaw_of flaw) line
-has_flaw given admit most line found flaw judged is = subst (IsJudged given admit most line) is judged
-
-pub is_good : (given : Setting) (admit : Admitted) (most : ℕ) (line : Line) (found : Option code_flaw.Flaw)
-    → IsJudged given admit most line found → found ≡ None → IsGood given admit most line
-is_good given admit most line found judged is = subst (IsJudged given admit most line) is judged
+pub node_at : (nodes tree : List Node) (place : ℕ) (n : Node) → nodes ≡ tree → place < length nodes → n ≡ get_or nodes place n → slice_get tree place ≡ Some n
+node_at nodes tree place n same below is =
+    ap (λ (ns : List Node). slice_get ns place) (sym same) ∙ slice_get-get_or nodes place n below ∙ ap (λ (m : Node). Some m) (sym is)

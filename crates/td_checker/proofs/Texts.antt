@@ -1,9 +1,9 @@
 -- From what is said of two texts to what the checker answers.
 use Rattle.std.proofs.Common.{◌≡◌, ◌≢◌, ◌≤◌, ℕ, List, [], ◌∷◌, ◌++◌, length, map, length-append, refl, sym, ap, subst, ◌∙◌, arith}
-use Rattle.std.specs.Prelude.{Result, Ok, Err, IfOk, IfErr}
+use Rattle.std.specs.Prelude.{codes, decimal, Result, Ok, Err, IfOk, IfErr}
 use Rattle.std.specs.List.{flat_map}
-use Rattle.std.proofs.lemmas.List.{length-map, append-nil}
-use Rattle.std.proofs.lemmas.List.Concat.{flat_map-cons}
+use Rattle.std.proofs.lemmas.List.{append-nil}
+use Rattle.std.proofs.lemmas.List.Concat.{flat_map-append, flat_map-cons}
 use Rattle.std.proofs.lemmas.List.Elements.{All-from_recursion}
 use Rattle.td_gates.specs.declared.timing.Delay.{Delay}
 use Rattle.td_nets.specs.Netlist.{Netlist}
@@ -22,7 +22,14 @@ use Rattle.td_certificate.specs.declared.fault.CertFaultKind.{CertFaultKind}
 use Rattle.td_certificate.specs.declared.fault.CertFaultKind.TheVariants as kind
 use Rattle.td_certificate.specs.Text.{node_line}
 use Rattle.td_certificate.specs.Spelling.{head_lines, ended, spelling, HasSpelling, Spells}
-use Rattle.td_certificate.specs.Accepts.{IsOfSize, Accepts}
+use Rattle.td_domain.specs.declared.cubes.Trit.{Trit}
+use Rattle.td_refutation.specs.Whole.{Step}
+use Rattle.td_certificate.specs.declared.tree.Node.{Node}
+use Rattle.td_certificate.specs.declared.tree.Node.TheVariants as node
+use Rattle.td_certificate.specs.Steps.{step_text, steps_text}
+use Rattle.td_certificate.specs.Cubes.{cubes_past}
+use Rattle.td_certificate.specs.Walks.{position_of, lines_from}
+use Rattle.td_certificate.specs.Accepts.{lines_in, IsOfSize, Accepts}
 use Rattle.td_certificate.specs.Faults.{IsWithinLimit, IsFault}
 use Rattle.td_certificate.proofs.Acceptance.{accepted_is_worst}
 use Rattle.td_certificate.proofs.Exclusion.{spells-front, spells-more, spells-stops}
@@ -32,27 +39,53 @@ use Rattle.td_checker.specs.declared.verdict.Verdict.TheVariants as verdict
 use Rattle.td_checker.specs.declared.verdict.Checked.{Checked}
 use Rattle.td_checker.specs.declared.verdict.CheckFault.{CheckFault}
 use Rattle.td_checker.specs.declared.verdict.CheckFault.TheVariants as fault
-use Rattle.td_checker.specs.Verdicts.{IsVerdict}
-use Rattle.td_checker.specs.Checks.{HasCircuit, HaveVerdict, IsCheckFault, IsCertificateFault, IsToldAs, TellsWorst}
+use Rattle.td_checker.specs.Verdicts.{IsVerdict, line_count, line_total}
+use Rattle.td_checker.specs.Checks.{HasCircuit, HaveVerdict, IsCheckFault, IsCertificateFault, IsToldAs, TellsWorst, IsUnrefuted}
 use Rattle.td_checker.proofs.OneVerdict.{texts_have_one_verdict}
 
 -- ---- a text is at least as long as its lines are many
 
-lines_long : (lines : List (List ℕ)) → length lines ≤ length (flat_map ended lines)
-lines_long [] = omega arith
-lines_long (line ∷ lines) =
-    omega (arith, lines_long lines, ap length (flat_map-cons ended line lines), length-append (ended line) (flat_map ended lines), length-append line (10 ∷ []))
+steps_long : (steps : List Step) → length steps ≤ length (steps_text steps)
+steps_long [] = omega arith
+steps_long (step ∷ steps) =
+    omega (arith, steps_long steps, ap length (flat_map-cons step_text step steps), length-append (step_text step) (steps_text steps))
 
-pub few_nodes : (c : Certificate) (text : List ℕ) → Spells c text → IsWithinLimit text → length c.tree ≤ 268435456
+node_long : (n : Node) → line_count n ≤ length (ended (node_line n))
+node_long (node.Split position) = omega (arith, length-append (node_line (node.Split position)) (10 ∷ []))
+node_long (node.Bound domain bound) = omega (arith, length-append (node_line (node.Bound domain bound)) (10 ∷ []))
+node_long (node.Point time) = omega (arith, length-append (node_line (node.Point time)) (10 ∷ []))
+node_long node.Empty = omega (arith, length-append (node_line node.Empty) (10 ∷ []))
+node_long (node.Refuted refuted) =
+    omega (
+      arith,
+      steps_long refuted.steps,
+      length-append (node_line (node.Refuted refuted)) (10 ∷ []),
+      length-append (codes "r\n") (steps_text refuted.steps ++ (codes "q " ++ decimal refuted.bound)),
+      length-append (steps_text refuted.steps) (codes "q " ++ decimal refuted.bound),
+    )
+
+total_long : (cubes : List (List Trit)) (nodes : List Node) → line_total (lines_from cubes nodes) ≤ length (flat_map ended (map node_line nodes))
+total_long [] nodes = omega arith
+total_long (cube ∷ cubes) [] = omega arith
+total_long (cube ∷ cubes) (n ∷ nodes) =
+    omega (
+      arith,
+      node_long n,
+      total_long (cubes_past cube (position_of n) cubes) nodes,
+      ap length (flat_map-cons ended (node_line n) (map node_line nodes)),
+      length-append (ended (node_line n)) (flat_map ended (map node_line nodes)),
+    )
+
+pub few_lines : (c : Certificate) (text : List ℕ) → Spells c text → IsWithinLimit text → line_total (lines_in c) ≤ 268435456
 unfolding spelling
-few_nodes c text spells within =
+few_lines c text spells within =
     let parts : length text ≡ length (flat_map ended (head_lines c ++ map node_line c.tree)) = ap length spells.parts in
     omega (
       arith,
       parts,
-      lines_long (head_lines c ++ map node_line c.tree),
-      length-append (head_lines c) (map node_line c.tree),
-      length-map c.tree node_line,
+      ap length (flat_map-append ended (head_lines c) (map node_line c.tree)),
+      length-append (flat_map ended (head_lines c)) (flat_map ended (map node_line c.tree)),
+      total_long (c.question.admit.pins ∷ []) c.tree,
       within,
     )
 
@@ -92,9 +125,9 @@ fault_is_memory netlist_text default text (fault.Certificate told) v is have =
 
 pub told_only : (netlist_text : List ℕ) (default : Delay) (text : List ℕ) (result : Result Checked CheckFault)
     → IfOk result (λ told. HaveVerdict netlist_text default text told.verdict) → IfErr result (λ told. IsCheckFault netlist_text default text told)
-    → (v : Verdict) → HaveVerdict netlist_text default text v → IsToldAs v result
-told_only netlist_text default text (Ok told) found fails v have = texts_have_one_verdict netlist_text default text told.verdict v found have
-told_only netlist_text default text (Err told) found fails v have = fault_is_memory netlist_text default text told v fails have
+    → (v : Verdict) → IsUnrefuted text → HaveVerdict netlist_text default text v → IsToldAs v result
+told_only netlist_text default text (Ok told) found fails v plain have = texts_have_one_verdict netlist_text default text told.verdict v plain found have
+told_only netlist_text default text (Err told) found fails v plain have = fault_is_memory netlist_text default text told v fails have
 
 pub certificate_fault : (netlist_text : List ℕ) (default : Delay) (text : List ℕ) (netlist : Netlist) (told : CheckFault)
     → HasCircuit netlist_text default netlist → IsCertificateFault text told → IsCheckFault netlist_text default text told

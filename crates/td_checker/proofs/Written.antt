@@ -1,5 +1,5 @@
 -- A certificate that is accepted has a text within the limit.
-use Rattle.std.proofs.Common.{◌≡◌, ◌*◌, ◌<◌, ◌≤◌, ◌^◌, ℕ, Bool, List, [], ◌∷◌, length, map, Some, refl, ap, subst, ◌∙◌, arith}
+use Rattle.std.proofs.Common.{◌≡◌, ◌*◌, ◌<◌, ◌≤◌, ◌^◌, ℕ, Bool, true, false, List, [], ◌∷◌, length, map, Some, refl, ap, subst, ◌∙◌, arith}
 use Rattle.std.specs.Prelude.{unwrap_or}
 use Rattle.std.specs.List.{All, AllByRecursion}
 use Rattle.std.proofs.lemmas.List.{length-map, length-set}
@@ -22,7 +22,8 @@ use Rattle.td_domain.specs.declared.cubes.Trit.{Trit}
 use Rattle.td_domain.specs.declared.cubes.Trit.TheVariants.{Zero, One, Free}
 use Rattle.td_certificate.specs.declared.tree.Node.{Node}
 use Rattle.td_certificate.specs.Cubes.{cubes_past}
-use Rattle.td_certificate.specs.Trees.{pending_after}
+use Rattle.td_certificate.specs.Trees.{pending_after, is_refuted, has_refuted}
+use Rattle.td_certificate.proofs.VectorCodes.{cases}
 use Rattle.td_certificate.specs.Walks.{position_of, lines_from}
 use Rattle.td_certificate.specs.Spelling.{version_in, IsNode, HasSpelling, spelling}
 use Rattle.td_certificate.specs.Lengths.{IsShort}
@@ -86,11 +87,12 @@ small_delay given acyclic fit first second delay f s is =
 -- ---- numbers of a tree whose lines are good
 
 short_node : (given : Setting) (admit : Admitted) (most : ℕ) (cube : List Trit) (n : Node) → most < 10 ^ 15 → length cube ≤ 8192
-    → IsGood given admit most (record { cube = cube; node = n }) → IsShort n
-short_node given admit most cube (node.Split position) small few good = let inside = slice_get_within cube position Free good.splits in omega (arith, inside)
-short_node given admit most cube (node.Bound domain bound) small few good = omega (arith, good.within)
-short_node given admit most cube (node.Point time) small few good = omega (arith, good.within)
-short_node given admit most cube node.Empty small few good = tt
+    → is_refuted n ≡ false → IsGood given admit most (record { cube = cube; node = n }) → IsShort n
+short_node given admit most cube (node.Split position) small few plain good = let inside = slice_get_within cube position Free good.splits in omega (arith, inside)
+short_node given admit most cube (node.Bound domain bound) small few plain good = omega (arith, good.within)
+short_node given admit most cube (node.Point time) small few plain good = omega (arith, good.within)
+short_node given admit most cube node.Empty small few plain good = tt
+short_node given admit most cube (node.Refuted refuted) small few plain good = absurd (let e : true ≡ false = plain in cc)
 
 -- a leaf without an admitted pair doesn't stand where the first version tells what is asked
 written_node : (given : Setting) (question : Question) (version : Version) (most : ℕ) (cube : List Trit) (n : Node) → (version ≡ First → version_of question ≡ First) → length question.admit.pins ≡ 2 * inputs_of question
@@ -98,6 +100,7 @@ written_node : (given : Setting) (question : Question) (version : Version) (most
 written_node given question version most cube (node.Split position) asked pins same short good = omega (arith, short)
 written_node given question version most cube (node.Bound domain bound) asked pins same short good = omega (arith, short)
 written_node given question version most cube (node.Point time) asked pins same short good = omega (arith, short)
+written_node given question version most cube (node.Refuted refuted) asked pins same short good = absurd short
 written_node given question version most cube node.Empty asked pins same short good = λ first. good.of_cube (has_admitted question cube (asked first) pins (same ∙ pins))
 
 abbrev AllLong : ℕ → List (List Trit) → Type 0
@@ -108,21 +111,26 @@ long_past count cube (node.Split position) cubes long all = (length-set cube pos
 long_past count cube (node.Bound domain bound) cubes long all = all
 long_past count cube (node.Point time) cubes long all = all
 long_past count cube node.Empty cubes long all = all
+long_past count cube (node.Refuted refuted) cubes long all = all
 
 abbrev IsWritten : Version → Node → Type 0
 IsWritten version n = IsShort n × IsNode version n
 
+first_plain : (n : Node) (nodes : List Node) → has_refuted (n ∷ nodes) ≡ false → (is_refuted n ≡ false) × (has_refuted nodes ≡ false)
+first_plain n nodes none = cases (is_refuted n) (λ h. absurd (let e : has_refuted (n ∷ nodes) ≡ true = rw h refl in cc)) (λ h. (h, rw h at none))
+
 written_nodes : (given : Setting) (question : Question) (version : Version) (most : ℕ) (nodes : List Node) (cubes : List (List Trit)) → (version ≡ First → version_of question ≡ First) → most < 10 ^ 15 → length question.admit.pins ≤ 8192
     → length question.admit.pins ≡ 2 * inputs_of question → AllLong (length question.admit.pins) cubes
-    → pending_after (length cubes) nodes ≡ Some 0 → AllByRecursion (IsGood given question.admit most) (lines_from cubes nodes)
+    → pending_after (length cubes) nodes ≡ Some 0 → has_refuted nodes ≡ false → AllByRecursion (IsGood given question.admit most) (lines_from cubes nodes)
     → AllByRecursion (IsWritten version) nodes
-written_nodes given question version most [] cubes asked small few pins long tree good = tt
-written_nodes given question version most (n ∷ nodes) [] asked small few pins long tree good = cc
-written_nodes given question version most (n ∷ nodes) (cube ∷ cubes) asked small few pins long tree good =
-    let short = short_node given question.admit most cube n small (omega (arith, long.0, few)) good.0 in (
+written_nodes given question version most [] cubes asked small few pins long tree none good = tt
+written_nodes given question version most (n ∷ nodes) [] asked small few pins long tree none good = cc
+written_nodes given question version most (n ∷ nodes) (cube ∷ cubes) asked small few pins long tree none good =
+    let plain = first_plain n nodes none in
+    let short = short_node given question.admit most cube n small (omega (arith, long.0, few)) plain.0 good.0 in (
       (short, written_node given question version most cube n asked pins long.0 short good.0),
       written_nodes given question version most nodes (cubes_past cube (position_of n) cubes) asked small few pins (long_past (length question.admit.pins) cube n cubes long.0 long.1)
-          (ap (λ (k : ℕ). pending_after k nodes) (count_behind cube n cubes) ∙ tree) good.1,
+          (ap (λ (k : ℕ). pending_after k nodes) (count_behind cube n cubes) ∙ tree) plain.1 good.1,
     )
 
 are_short : (version : Version) (nodes : List Node) → AllByRecursion (IsWritten version) nodes → AllByRecursion IsShort nodes
@@ -136,7 +144,7 @@ are_nodes version (n ∷ nodes) all = (all.0.1, are_nodes version nodes all.1)
 -- ---- what is written
 
 pub accepted_is_written : AcceptedIsWritten
-accepted_is_written netlist_text default netlist c means acyclic fit flips accepts few =
+accepted_is_written netlist_text default netlist c means acyclic fit flips accepts few none =
     let given : Setting = setting_of netlist c in
     let long = cube_fits c.question.admit.pins c.pair.first c.pair.second accepts.admitted.pinned in
     let first : length c.pair.first ≡ length netlist.inputs = vector_fits given c.pair.first c.pair.second c.time accepts.reached in
@@ -145,7 +153,7 @@ accepted_is_written netlist_text default netlist c means acyclic fit flips accep
     let small : c.time < 10 ^ 15 = small_delay given acyclic fit c.pair.first c.pair.second c.time first second accepts.reached in
     let inputs : inputs_of c.question ≤ 4096 = omega (arith, size, acyclic.well_formed.few_inputs) in
     let pins : length c.question.admit.pins ≡ 2 * inputs_of c.question = omega (arith, long.0, first, size) in
-    let written = written_nodes given c.question (version_in c) c.time c.tree (c.question.admit.pins ∷ []) (first_asked c) small (omega (arith, pins, inputs)) pins (refl, tt) accepts.tree accepts.good in
+    let written = written_nodes given c.question (version_in c) c.time c.tree (c.question.admit.pins ∷ []) (first_asked c) small (omega (arith, pins, inputs)) pins (refl, tt) accepts.tree none accepts.good in
     let short : AllByRecursion IsShort c.tree = are_short (version_in c) c.tree written in
     let has : HasSpelling c = record {
       inputs = inputs;

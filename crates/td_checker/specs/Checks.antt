@@ -1,5 +1,5 @@
 -- What the checker says of two texts.
-use Rattle.std.specs.Prelude.{◌≡◌, ◌≢◌, ℕ, List, Result, Ok, Err}
+use Rattle.std.specs.Prelude.{◌≡◌, ◌≢◌, ℕ, false, List, Result, Ok, Err}
 use Rattle.td_gates.specs.declared.timing.Delay.{Delay}
 use Rattle.td_netlist.specs.declared.fault.FaultKind.TheVariants as netlist_kind
 use Rattle.td_nets.specs.Netlist.{Netlist}
@@ -10,6 +10,7 @@ use Rattle.td_circuit.specs.Loops.{Loop, LiesOnLoop}
 use Rattle.td_domain.specs.Worst.{IsWorst}
 use Rattle.td_certificate.specs.declared.certificate.Certificate.{Certificate}
 use Rattle.td_certificate.specs.declared.fault.CertFaultKind.TheVariants as certificate_kind
+use Rattle.td_certificate.specs.Trees.{has_refuted}
 use Rattle.td_certificate.specs.Accepts.{setting_of}
 use Rattle.td_certificate.specs.Spelling.{Spells}
 use Rattle.td_certificate.specs.Faults.{IsWithinLimit, IsFault}
@@ -52,9 +53,13 @@ abbrev pub IsToldAs : Verdict → Result Checked CheckFault → Type 0
 IsToldAs verdict (Ok told) = told.verdict ≡ verdict
 IsToldAs verdict (Err told) = told ≡ fault.OutOfMemory
 
--- two texts have at most one verdict
+-- no leaf of the certificate that the text spells is refuted by steps
+abbrev pub IsUnrefuted : List ℕ → Type 0
+IsUnrefuted text = (certificate : Certificate) → Spells certificate text → has_refuted certificate.tree ≡ false
+
+-- two texts have at most one verdict, where no leaf is refuted by steps
 abbrev pub TextsHaveOneVerdict : Type 0
-TextsHaveOneVerdict = (netlist_text : List ℕ) (default : Delay) (text : List ℕ) (this that : Verdict)
+TextsHaveOneVerdict = (netlist_text : List ℕ) (default : Delay) (text : List ℕ) (this that : Verdict) → IsUnrefuted text
     → HaveVerdict netlist_text default text this → HaveVerdict netlist_text default text that → this ≡ that
 
 -- The time of the certificate that the text spells is the worst delay of the netlist that the netlist's text means, over the

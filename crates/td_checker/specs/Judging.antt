@@ -1,5 +1,5 @@
 -- Internal: what is said of the lines of a tree.
-use Rattle.std.specs.Prelude.{◌≡◌, ℕ, List, take, slice_get, Option, Some, None}
+use Rattle.std.specs.Prelude.{◌≡◌, ℕ, ◌+◌, ◌-◌, ◌<◌, List, take, slice_get, Option, Some, None}
 use Rattle.std.specs.List.{AllByRecursion}
 use Rattle.td_circuit.specs.Settings.{Setting}
 use Rattle.td_domain.specs.declared.cubes.Trit.{Trit}
@@ -13,14 +13,19 @@ use Rattle.td_checker.specs.declared.judging.Flaw.TheVariants as code
 use Rattle.td_checker.specs.declared.checking.BadLine.{BadLine}
 use Rattle.td_checker.specs.declared.verdict.Verdict.{Verdict}
 use Rattle.td_checker.specs.declared.verdict.Verdict.TheVariants as verdict
-use Rattle.td_checker.specs.Verdicts.{Flaw, Misplaced, NotOnePair, WrongNumber, NotEmpty, AboveTime, HasFlaw}
+use Rattle.td_checker.specs.declared.judging.Judged as code_judged
+use Rattle.td_checker.specs.declared.judging.Judged.TheVariants as judged
+use Rattle.td_checker.specs.Verdicts.{Flaw, Misplaced, NotOnePair, WrongNumber, NotEmpty, AboveTime, TooLarge, BadStep, HasFlaw, line_count, line_total, told_at}
 
-abbrev pub flaw_of : code_flaw.Flaw → Flaw
-flaw_of code.Misplaced = Misplaced
-flaw_of code.NotOnePair = NotOnePair
-flaw_of code.WrongNumber = WrongNumber
-flaw_of code.NotEmpty = NotEmpty
-flaw_of code.AboveTime = AboveTime
+-- the flaw, where a step's is told at this of its node's lines
+abbrev pub flaw_of : code_flaw.Flaw → ℕ → Flaw
+flaw_of code.Misplaced at = Misplaced
+flaw_of code.NotOnePair at = NotOnePair
+flaw_of code.WrongNumber at = WrongNumber
+flaw_of code.NotEmpty at = NotEmpty
+flaw_of code.AboveTime at = AboveTime
+flaw_of code.TooLarge at = TooLarge
+flaw_of (code.BadStep why) at = BadStep (at - 1) why
 
 abbrev pub with_cube : List Trit → Node → Line
 with_cube cube node = record { cube = cube; node = node }
@@ -30,22 +35,44 @@ abbrev pub wrong_flaw : Node → code_flaw.Flaw
 wrong_flaw node.Empty = code.NotEmpty
 wrong_flaw _ = code.WrongNumber
 
--- the line is good, or has this flaw
-abbrev pub IsJudged : Setting → Admitted → ℕ → Line → Option code_flaw.Flaw → Type 0
-IsJudged setting admit most line None = IsGood setting admit most line
-IsJudged setting admit most line (Some flaw) = HasFlaw setting admit most (flaw_of flaw) line
+-- the line, which is one of the text, is good, or has this flaw
+abbrev pub IsJudgedLine : Setting → Admitted → ℕ → Line → Option code_flaw.Flaw → Type 0
+IsJudgedLine setting admit most line None = IsGood setting admit most line
+IsJudgedLine setting admit most line (Some flaw) = HasFlaw setting admit most (flaw_of flaw 0) line × (told_at (flaw_of flaw 0) line.node ≡ 0)
 
--- of these lines the one at this place is the first bad one, and has this flaw
-pub record IsBadAt (setting : Setting) (admit : Admitted) (most : ℕ) (lines : List Line) (flaw : Flaw) (place : ℕ) : Type 0 where
+-- the line has this flaw, which is told at this of its node's lines
+pub record IsFlawed (setting : Setting) (admit : Admitted) (most : ℕ) (line : Line) (flaw : Flaw) (at : ℕ) : Type 0 where
+  pub has : HasFlaw setting admit most flaw line
+  pub at_is : at ≡ told_at flaw line.node
+  pub inside : at < line_count line.node
+
+-- the line is good, with so many of the text's lines
+pub record IsGoodLine (setting : Setting) (admit : Admitted) (most : ℕ) (line : Line) (count : ℕ) : Type 0 where
+  pub good : IsGood setting admit most line
+  pub count_is : count ≡ line_count line.node
+
+abbrev pub IsJudged : Setting → Admitted → ℕ → Line → code_judged.Judged → Type 0
+IsJudged setting admit most line (judged.Good count) = IsGoodLine setting admit most line count
+IsJudged setting admit most line (judged.Bad flaw at) = IsFlawed setting admit most line (flaw_of flaw at) at
+
+-- of these lines one is the first bad one, has this flaw, and has so many of the text's lines before the one at which that is told
+pub record IsBadAt (setting : Setting) (admit : Admitted) (most : ℕ) (lines : List Line) (flaw : Flaw) (before : ℕ) : Type 0 where
+  pub place : ℕ
   pub bad : Line
   pub stands : slice_get lines place ≡ Some bad
   pub good_before : AllByRecursion (IsGood setting admit most) (take place lines)
   pub has : HasFlaw setting admit most flaw bad
+  pub before_is : before ≡ line_total (take place lines) + told_at flaw bad.node
+
+-- a flaw of the code's, wherever a step's is told
+pub record IsFoundBad (setting : Setting) (admit : Admitted) (most : ℕ) (lines : List Line) (told : BadLine) : Type 0 where
+  pub at : ℕ
+  pub bad : IsBadAt setting admit most lines (flaw_of told.flaw at) told.before
 
 -- the lines are good, or this is the first bad one
 abbrev pub AreJudged : Setting → Admitted → ℕ → List Line → Option BadLine → Type 0
 AreJudged setting admit most lines None = AllByRecursion (IsGood setting admit most) lines
-AreJudged setting admit most lines (Some told) = IsBadAt setting admit most lines (flaw_of told.flaw) told.place
+AreJudged setting admit most lines (Some told) = IsFoundBad setting admit most lines told
 
 -- the verdict that tells this flaw of a line
 abbrev pub told_as : code_flaw.Flaw → ℕ → Verdict
@@ -54,3 +81,5 @@ told_as code.NotOnePair line = verdict.NotAPoint line
 told_as code.WrongNumber line = verdict.LeafBound line
 told_as code.NotEmpty line = verdict.LeafNotEmpty line
 told_as code.AboveTime line = verdict.LeafAboveTime line
+told_as code.TooLarge line = verdict.LeafBound line
+told_as (code.BadStep why) line = verdict.BadStep line why

@@ -1,13 +1,16 @@
 -- Verdicts on certificates.
-use Rattle.std.specs.Prelude.{◌≡◌, ℕ, ◌+◌, List, codes, length, slice_get, take, Option, Some, None}
+use Rattle.std.specs.Prelude.{◌≡◌, ◌⊎◌, ℕ, ◌+◌, false, List, [], ◌∷◌, codes, length, slice_get, take, Option, Some, None}
 use Rattle.std.specs.List.{AllByRecursion}
 use Rattle.td_nets.specs.Netlist.{Netlist}
 use Rattle.td_circuit.specs.Settings.{Setting}
+use Rattle.td_domain.specs.declared.cubes.Trit.{Trit}
 use Rattle.td_domain.specs.Admits.{Admitted, IsAdmitted}
 use Rattle.td_certificate.specs.declared.tree.Node.{Node}
 use Rattle.td_certificate.specs.declared.tree.Node.TheVariants as node
 use Rattle.td_certificate.specs.declared.certificate.Certificate.{Certificate}
-use Rattle.td_certificate.specs.Trees.{IsTree}
+use Rattle.td_refutation.specs.declared.flaw.Flaw as step_flaw
+use Rattle.td_refutation.specs.Whole.{IsTooLarge, IsBadStep, IsAboveBound}
+use Rattle.td_certificate.specs.Trees.{IsTree, has_refuted}
 use Rattle.td_certificate.specs.Walks.{Line}
 use Rattle.td_certificate.specs.Spelling.{head_lines}
 use Rattle.td_certificate.specs.Accepts.{lines_in, SplitsFree, IsOfOnePair, IsOfCube, IsWithin, IsGood, IsOfSize, setting_of, IsReached, Accepts}
@@ -24,6 +27,7 @@ verdict_number (verdict.NotAPoint line) = 6
 verdict_number verdict.OtherCircuit = 7
 verdict_number verdict.PairNotAdmitted = 8
 verdict_number (verdict.LeafNotEmpty line) = 9
+verdict_number (verdict.BadStep line flaw) = 10
 
 abbrev pub verdict_name : Verdict → List ℕ
 verdict_name verdict.Accepted = codes "Accepted"
@@ -35,6 +39,7 @@ verdict_name (verdict.NotAPoint line) = codes "NotAPoint"
 verdict_name verdict.OtherCircuit = codes "OtherCircuit"
 verdict_name verdict.PairNotAdmitted = codes "PairNotAdmitted"
 verdict_name (verdict.LeafNotEmpty line) = codes "LeafNotEmpty"
+verdict_name (verdict.BadStep line flaw) = codes "BadStep"
 
 abbrev pub verdict_line : Verdict → Option ℕ
 verdict_line (verdict.LeafBound line) = Some line
@@ -42,6 +47,7 @@ verdict_line (verdict.LeafAboveTime line) = Some line
 verdict_line (verdict.BadPosition line) = Some line
 verdict_line (verdict.NotAPoint line) = Some line
 verdict_line (verdict.LeafNotEmpty line) = Some line
+verdict_line (verdict.BadStep line flaw) = Some line
 verdict_line _ = None
 
 -- ---- the first bad line
@@ -53,22 +59,71 @@ pub data Flaw : Type 0 where
   WrongNumber : Flaw
   NotEmpty : Flaw
   AboveTime : Flaw
+  TooLarge : Flaw
+  BadStep : ℕ → step_flaw.Flaw → Flaw
 
 -- a leaf that says that no admitted pair lies in its cube
 abbrev pub SaysEmpty : Node → Type 0
 SaysEmpty node.Empty = Unit {0}
 SaysEmpty _ = ⊥
 
+-- what a leaf says isn't so: its number is too low, or isn't the pair's delay
+abbrev pub IsWrong : Setting → Admitted → List Trit → Node → Type 0
+IsWrong setting admit cube (node.Refuted refuted) = IsAboveBound setting admit cube refuted.steps refuted.bound
+IsWrong setting admit cube (node.Split position) = ⊥
+IsWrong setting admit cube node.Empty = ⊥
+IsWrong setting admit cube (node.Bound domain bound) = ¬ IsOfCube setting admit cube (node.Bound domain bound)
+IsWrong setting admit cube (node.Point time) = ¬ IsOfCube setting admit cube (node.Point time)
+
+-- the first sets of a leaf that is refuted are too large
+abbrev pub IsLargeLeaf : Setting → Admitted → List Trit → Node → Type 0
+IsLargeLeaf setting admit cube (node.Refuted refuted) = IsTooLarge setting admit cube
+IsLargeLeaf setting admit cube n = ⊥
+
+-- the step at this place of a leaf that is refuted is its first that isn't good, for this reason
+abbrev pub HasBadStep : Setting → Admitted → List Trit → Node → ℕ → step_flaw.Flaw → Type 0
+HasBadStep setting admit cube (node.Refuted refuted) place why = IsBadStep setting admit cube refuted.steps place why
+HasBadStep setting admit cube n place why = ⊥
+
 -- the line has this flaw, and none that is looked for before it
 abbrev pub HasFlaw : Setting → Admitted → ℕ → Flaw → Line → Type 0
 HasFlaw setting admit most Misplaced line = ¬ SplitsFree line.cube line.node
 HasFlaw setting admit most NotOnePair line = SplitsFree line.cube line.node × (¬ IsOfOnePair line.cube line.node)
 HasFlaw setting admit most WrongNumber line =
-    SplitsFree line.cube line.node × IsOfOnePair line.cube line.node × (¬ IsOfCube setting admit line.cube line.node) × (¬ SaysEmpty line.node)
+    SplitsFree line.cube line.node × IsOfOnePair line.cube line.node × IsWrong setting admit line.cube line.node
 HasFlaw setting admit most NotEmpty line =
     SplitsFree line.cube line.node × IsOfOnePair line.cube line.node × (¬ IsOfCube setting admit line.cube line.node) × SaysEmpty line.node
 HasFlaw setting admit most AboveTime line =
     SplitsFree line.cube line.node × IsOfOnePair line.cube line.node × IsOfCube setting admit line.cube line.node × (¬ IsWithin most line.node)
+HasFlaw setting admit most TooLarge line = IsLargeLeaf setting admit line.cube line.node
+HasFlaw setting admit most (BadStep place why) line = HasBadStep setting admit line.cube line.node place why
+
+-- ---- lines of the text
+
+-- how many lines a node has: a leaf that is refuted has one for each step, and two more
+abbrev pub line_count : Node → ℕ
+line_count (node.Refuted refuted) = 2 + length refuted.steps
+line_count n = 1
+
+-- how many lines these nodes have
+abbrev pub line_total : List Line → ℕ
+line_total [] = 0
+line_total (line ∷ lines) = line_count line.node + line_total lines
+
+-- the last of a node's lines, counted from 0
+abbrev pub last_line : Node → ℕ
+last_line (node.Refuted refuted) = 1 + length refuted.steps
+last_line n = 0
+
+-- at which of a node's lines a flaw is told, counted from 0
+abbrev pub told_at : Flaw → Node → ℕ
+told_at TooLarge n = 0
+told_at (BadStep place why) n = 1 + place
+told_at Misplaced n = 0
+told_at NotOnePair n = 0
+told_at NotEmpty n = 0
+told_at WrongNumber n = last_line n
+told_at AboveTime n = last_line n
 
 -- the flaw of a line of this certificate, and a good line of it, for this netlist
 abbrev pub HasFlawIn : Netlist → Certificate → Flaw → Line → Type 0
@@ -93,7 +148,7 @@ pub record IsFirstBad (netlist : Netlist) (c : Certificate) (flaw : Flaw) (line 
   pub stands : slice_get (lines_in c) place ≡ Some bad
   pub good_before : AllByRecursion (IsGoodIn netlist c) (take place (lines_in c))
   pub has : HasFlawIn netlist c flaw bad
-  pub line_is : line ≡ 1 + length (head_lines c) + place
+  pub line_is : line ≡ 1 + length (head_lines c) + (line_total (take place (lines_in c)) + told_at flaw bad.node)
 
 -- ---- the verdict
 
@@ -104,10 +159,12 @@ IsVerdict netlist c verdict.PairNotAdmitted = IsOfSize netlist c × (¬ HasAdmit
 IsVerdict netlist c verdict.PairTime = IsOfSize netlist c × HasAdmittedPair c × (¬ IsReached netlist c)
 IsVerdict netlist c (verdict.BadPosition line) = IsFirstBad netlist c Misplaced line
 IsVerdict netlist c (verdict.NotAPoint line) = IsFirstBad netlist c NotOnePair line
-IsVerdict netlist c (verdict.LeafBound line) = IsFirstBad netlist c WrongNumber line
+IsVerdict netlist c (verdict.LeafBound line) = IsFirstBad netlist c WrongNumber line ⊎ IsFirstBad netlist c TooLarge line
+IsVerdict netlist c (verdict.BadStep line why) = (place : ℕ) × IsFirstBad netlist c (BadStep place why) line
 IsVerdict netlist c (verdict.LeafNotEmpty line) = IsFirstBad netlist c NotEmpty line
 IsVerdict netlist c (verdict.LeafAboveTime line) = IsFirstBad netlist c AboveTime line
 
--- a certificate has at most one verdict
+-- a certificate has at most one verdict, where no leaf of it is refuted by steps
 abbrev pub OneVerdict : Type 0
-OneVerdict = (netlist : Netlist) (c : Certificate) (this that : Verdict) → IsVerdict netlist c this → IsVerdict netlist c that → this ≡ that
+OneVerdict = (netlist : Netlist) (c : Certificate) (this that : Verdict) → has_refuted c.tree ≡ false → IsVerdict netlist c this → IsVerdict netlist c that
+    → this ≡ that

@@ -1,5 +1,5 @@
 -- Certificates that are accepted, and their texts.
-use Rattle.std.specs.Prelude.{ℕ, ◌≤◌, List, length}
+use Rattle.std.specs.Prelude.{◌≡◌, ℕ, ◌≤◌, false, List, length}
 use Rattle.td_gates.specs.declared.timing.Delay.{Delay}
 use Rattle.td_nets.specs.Netlist.{Netlist}
 use Rattle.td_netlist.specs.Means.{Means}
@@ -9,6 +9,7 @@ use Rattle.td_certificate.specs.Questions.{inputs_of}
 use Rattle.td_certificate.specs.declared.certificate.Certificate.{Certificate}
 use Rattle.td_certificate.specs.Spelling.{HasSpelling, spelling}
 use Rattle.td_certificate.specs.Faults.{IsWithinLimit}
+use Rattle.td_certificate.specs.Trees.{has_refuted}
 use Rattle.td_certificate.specs.Accepts.{Accepts}
 use Rattle.td_checker.specs.declared.verdict.Verdict.TheVariants as verdict
 use Rattle.td_checker.specs.Checks.{HaveVerdict}
@@ -20,8 +21,8 @@ pub record IsAcceptedAsWritten (netlist_text : List ℕ) (default : Delay) (c : 
   pub verdict : HaveVerdict netlist_text default (spelling c) verdict.Accepted
 
 -- A certificate that is accepted of the netlist that a text means, with a moment for each input, no more flips than inputs, and a
--- tree of at most 10,000,000 lines, as an exact answer of a search gives it, is accepted as it is written.
+-- tree of at most 10,000,000 lines of which none is a step's, as an exact answer of a search gives it, is accepted as it is written.
 abbrev pub AcceptedIsWritten : Type 0
 AcceptedIsWritten = (netlist_text : List ℕ) (default : Delay) (netlist : Netlist) (c : Certificate) → Means netlist_text default netlist
     → IsAcyclic netlist → AreMoments netlist c.question.moments → c.question.admit.flips ≤ inputs_of c.question → Accepts netlist c
-    → length c.tree ≤ 10000000 → IsAcceptedAsWritten netlist_text default c
+    → length c.tree ≤ 10000000 → has_refuted c.tree ≡ false → IsAcceptedAsWritten netlist_text default c

@@ -10,12 +10,12 @@ ghost use Rattle.td_certificate.specs.Faults.{IsWithinLimit};
 ghost use Rattle.td_certificate.specs.Spelling.{head_lines, HasSpelling, Spells};
 ghost use Rattle.td_event_sim.specs.Scratch.{IsFor};
 ghost use Rattle.td_checker.specs.Judging.{AreJudged, told_as};
-ghost use Rattle.td_checker.specs.Verdicts.{IsVerdict};
+ghost use Rattle.td_checker.specs.Verdicts.{IsVerdict, line_total};
 ghost use Rattle.td_checker.specs.declared.verdict.Verdict.{Verdict as Told};
-ghost use Rattle.td_checker.specs.Checks.{HaveVerdict, HasCircuit, IsCheckFault, IsCertificateFault, IsToldAs, TellsWorst};
+ghost use Rattle.td_checker.specs.Checks.{HaveVerdict, HasCircuit, IsCheckFault, IsCertificateFault, IsToldAs, TellsWorst, IsUnrefuted};
 
 use crate::admitting::is_admitted;
-use crate::judging::{Flaw, judge};
+use crate::judging::{Flaw, Judged, judge};
 use crate::verdict::{CheckFault, Checked, Verdict};
 use crate::walking::Walk;
 use std::alloc::{AllocError, Global};
@@ -26,10 +26,10 @@ use td_gates::Delay;
 use td_netlist::FaultKind;
 use td_nets::Netlist;
 
-/// The first bad line of a tree: its place among the tree's lines, from 0, and what is wrong with it.
+/// The first bad line of a tree: how many of its lines stand before it, and what is wrong with it.
 #[derive(Clone, Copy, Drop)]
 pub struct BadLine {
-    pub place: usize,
+    pub before: usize,
     pub flaw: Flaw,
 }
 
@@ -43,24 +43,35 @@ fn first_bad(
 ) -> Result<Option<BadLine>, AllocError>
     requires scratch { IsFor circuit.now scratch.old }
     requires pins { length certificate.now.question.admit.pins ≡ 2 * length circuit.now.netlist.inputs }
+    requires held { length certificate.now.question.admit.held ≡ length circuit.now.netlist.inputs }
+    requires few { line_total (lines_in certificate.now) ≤ 268435456 }
     ensures judged { IfOk result (λ found. AreJudged (setting circuit.now) certificate.now.question.admit certificate.now.time (lines_in certificate.now) found) }
-    ensures place { IfOk result (λ found. IfSome found (λ bad. bad.place < length certificate.now.tree)) }
+    ensures before { IfOk result (λ found. IfSome found (λ bad. bad.before < 268435456)) }
 {
     let admit = certificate.question.admit();
     let mut walk = Walk::new(alloc, admit.pins())?;
-    for (place, node) in certificate.tree.nodes().iter().enumerate() {
-        if let Some(flaw) = judge(
+    let mut before = 0;
+    for node in certificate.tree.nodes() {
+        match judge(
             alloc,
             scratch,
             circuit,
             admit,
             certificate.time,
             &walk.cube,
-            *node,
+            node,
         )? {
-            return Ok(Some(BadLine { place, flaw }));
+            Judged::Bad(flaw, place) => {
+                return Ok(Some(BadLine {
+                    before: before + place,
+                    flaw,
+                }));
+            }
+            Judged::Good(lines) => {
+                walk.pass(node)?;
+                before += lines;
+            }
         }
-        walk.pass(*node)?;
     }
     Ok(None)
 }
@@ -73,7 +84,7 @@ fn first_line(certificate: &Certificate) -> u32
     match certificate.version() {
         Version::First => 6,
         Version::Second => 10,
-        Version::Third | Version::Fourth => 11,
+        Version::Third | Version::Fourth | Version::Fifth => 11,
     }
 }
 
@@ -87,6 +98,8 @@ fn told_of(flaw: Flaw, line: u32) -> Verdict
         Flaw::WrongNumber => Verdict::LeafBound(line),
         Flaw::NotEmpty => Verdict::LeafNotEmpty(line),
         Flaw::AboveTime => Verdict::LeafAboveTime(line),
+        Flaw::TooLarge => Verdict::LeafBound(line),
+        Flaw::BadStep(flaw) => Verdict::BadStep(line, flaw),
     }
 }
 
@@ -114,7 +127,7 @@ fn is_reached(
 }
 
 /// The verdict on a certificate of the size of a circuit that has the certificate's moments.
-#[tactic(auto, using(crate::proofs::Told::bad_told, crate::proofs::Told::accepted_told, crate::proofs::Told::first_fits, crate::proofs::Told::second_fits, crate::proofs::Told::pins_fit, crate::proofs::Told::is_tree))]
+#[tactic(auto, using(crate::proofs::Told::bad_told, crate::proofs::Told::accepted_told, crate::proofs::Told::first_fits, crate::proofs::Told::second_fits, crate::proofs::Told::pins_fit, crate::proofs::Told::held_fit, crate::proofs::Told::is_tree))]
 fn verdict_of_lines(
     alloc: Global,
     circuit: &Circuit,
@@ -123,7 +136,7 @@ fn verdict_of_lines(
     requires size { IsOfSize circuit.now.netlist certificate.now }
     requires spelled { HasSpelling certificate.now }
     requires moments { circuit.now.moments ≡ certificate.now.question.moments }
-    requires few { length certificate.now.tree ≤ 268435456 }
+    requires few { line_total (lines_in certificate.now) ≤ 268435456 }
     ensures { IfOk result (λ verdict. IsVerdict circuit.now.netlist certificate.now verdict) }
 {
     if !is_admitted(alloc, certificate.question.admit(), &certificate.pair)? {
@@ -134,7 +147,7 @@ fn verdict_of_lines(
         return Ok(Verdict::PairTime);
     }
     match first_bad(alloc, &mut scratch, circuit, certificate)? {
-        Some(bad) => Ok(told_of(bad.flaw, first_line(certificate) + bad.place as u32)),
+        Some(bad) => Ok(told_of(bad.flaw, first_line(certificate) + bad.before as u32)),
         None => Ok(Verdict::Accepted),
     }
 }
@@ -146,7 +159,7 @@ fn verdict_on(
     certificate: &Certificate,
 ) -> Result<Verdict, AllocError>
     requires spelled { HasSpelling certificate.now }
-    requires few { length certificate.now.tree ≤ 268435456 }
+    requires few { line_total (lines_in certificate.now) ≤ 268435456 }
     ensures { IfOk result (λ verdict. IsVerdict circuit.netlist certificate.now verdict) }
 {
     if !is_of_size(&circuit, certificate) {
@@ -206,7 +219,7 @@ fn spelled_by<'a>(alloc: Global, text: &[u8]) -> Result<Certificate, CheckFault<
 }
 
 /// The verdict on the certificate that a text spells, for the netlist that another text means.
-#[tactic(auto, using(crate::proofs::Texts::few_nodes, crate::proofs::Texts::have_verdict))]
+#[tactic(auto, using(crate::proofs::Texts::few_lines, crate::proofs::Texts::have_verdict))]
 fn verdict_of_texts<'a>(
     alloc: Global,
     netlist: &'a [u8],
@@ -244,8 +257,8 @@ pub fn check<'a>(
     ensures spelled { IfOk result (λ checked. Spells checked.certificate certificate.now) }
     ensures fault { IfErr result (λ fault. IsCheckFault netlist.now default certificate.now fault) }
 
-    // Unless want of memory is told, texts that have a verdict are told it.
-    ensures only { (verdict : Told) → HaveVerdict netlist.now default certificate.now verdict → IsToldAs verdict result }
+    // Unless want of memory is told, texts that have a verdict are told it, where no leaf is refuted by steps.
+    ensures only { (verdict : Told) → IsUnrefuted certificate.now → HaveVerdict netlist.now default certificate.now verdict → IsToldAs verdict result }
 
     // An accepted time is the worst delay of the admitted pairs.
     ensures worst { IfOk result (λ checked. checked.verdict ≡ Verdict.Accepted → TellsWorst netlist.now default certificate.now) }

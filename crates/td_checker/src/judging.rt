@@ -1,13 +1,15 @@
 //! What is wrong with a line of a tree.
 
-ghost use Rattle.std.specs.Prelude.{◌≡◌, ◌*◌, ◌↔◌, Option, ℕ, length, Some, IfOk, IsTrue};
+ghost use Rattle.std.specs.Prelude.{◌≡◌, false, ◌*◌, ◌↔◌, Option, ℕ, length, Some, IfOk, IsTrue};
 ghost use Rattle.td_circuit.specs.Numbering.{setting};
 ghost use Rattle.td_domain.specs.Cubes.{IsPoint};
 ghost use Rattle.td_certificate.specs.Accepts.{IsBoundBy, SplitsFree, IsOfOnePair, IsBounded, HasDelay, IsOfCube, IsWithin};
 ghost use Rattle.td_event_sim.specs.Scratch.{IsFor};
-ghost use Rattle.td_checker.specs.Judging.{with_cube, wrong_flaw, IsJudged};
+ghost use Rattle.td_certificate.specs.Trees.{is_refuted};
+ghost use Rattle.td_checker.specs.Judging.{with_cube, wrong_flaw, IsJudged, IsJudgedLine};
 
 use crate::pairs::pair_of;
+use crate::refuting::judge_refuted;
 use std::alloc::{AllocError, Global};
 use td_arrival::Arrival;
 use td_certificate::{BoundedBy, Node};
@@ -15,9 +17,10 @@ use td_circuit::Circuit;
 use td_domain::{Admit, Both, Cube, Trit, bound};
 use td_edges::Edges;
 use td_event_sim::{Scratch, delay_of};
+use td_refutation::Flaw as StepFlaw;
 use td_ternary::Possible;
 
-/// What is wrong with a line.
+/// What is wrong with a node.
 #[derive(Clone, Copy, Drop)]
 pub enum Flaw {
     /// A split at a position that doesn't exist or isn't free.
@@ -30,9 +33,20 @@ pub enum Flaw {
     NotEmpty,
     /// The number of a leaf is above the time.
     AboveTime,
+    /// The first sets of a leaf that is refuted have too many variables.
+    TooLarge,
+    /// A step of such a leaf isn't good, for this reason.
+    BadStep(StepFlaw),
 }
 
-/// What is wrong with the node of this cube, if something is, where the certificate's time is this.
+/// What is found of a node: it is good, with so many lines, or it has a flaw, which is told at this place among its lines.
+#[derive(Clone, Copy, Drop)]
+pub enum Judged {
+    Good(usize),
+    Bad(Flaw, usize),
+}
+
+/// What is found of the node of this cube, where the certificate's time is this.
 pub fn judge(
     alloc: Global,
     scratch: &mut Scratch,
@@ -40,13 +54,42 @@ pub fn judge(
     admit: &Admit,
     time: u64,
     cube: &Cube,
-    node: Node,
+    node: &Node,
+) -> Result<Judged, AllocError>
+    requires scratch { IsFor circuit.now scratch.old }
+    requires cube { length cube.now ≡ 2 * length circuit.now.netlist.inputs }
+    requires pins { length cube.now ≡ length admit.now.pins }
+    requires held { length admit.now.held ≡ length circuit.now.netlist.inputs }
+    ensures scratch { IsFor circuit.now scratch.new }
+    ensures judged { IfOk result (IsJudged (setting circuit.now) admit.now time (with_cube cube.now node.now)) }
+{
+    match node {
+        Node::Refuted(refuted) => judge_refuted(alloc, circuit, admit, time, cube, refuted),
+        Node::Split(_) | Node::Bound(_, _) | Node::Point(_) | Node::Empty => {
+            match judge_line(alloc, scratch, circuit, admit, time, cube, node)? {
+                Some(flaw) => Ok(Judged::Bad(flaw, 0)),
+                None => Ok(Judged::Good(1)),
+            }
+        }
+    }
+}
+
+/// What is wrong with the node of this cube, which is one line, if something is.
+fn judge_line(
+    alloc: Global,
+    scratch: &mut Scratch,
+    circuit: &Circuit,
+    admit: &Admit,
+    time: u64,
+    cube: &Cube,
+    node: &Node,
 ) -> Result<Option<Flaw>, AllocError>
+    requires line { is_refuted node.now ≡ false }
     requires scratch { IsFor circuit.now scratch.old }
     requires cube { length cube.now ≡ 2 * length circuit.now.netlist.inputs }
     requires pins { length cube.now ≡ length admit.now.pins }
     ensures scratch { IsFor circuit.now scratch.new }
-    ensures judged { IfOk result (λ found. IsJudged (setting circuit.now) admit.now time (with_cube cube.now node) found) }
+    ensures judged { IfOk result (IsJudgedLine (setting circuit.now) admit.now time (with_cube cube.now node.now)) }
 {
     if !splits_free(cube, node) {
         return Ok(Some(Flaw::Misplaced));
@@ -64,33 +107,36 @@ pub fn judge(
 }
 
 /// What is wrong with a node that isn't true of its cube.
-fn wrong(node: Node) -> Flaw
-    ensures { result ≡ wrong_flaw node }
+fn wrong(node: &Node) -> Flaw
+    ensures { result ≡ wrong_flaw node.now }
 {
     match node {
         Node::Empty => Flaw::NotEmpty,
-        Node::Split(_) | Node::Bound(_, _) | Node::Point(_) => Flaw::WrongNumber,
+        Node::Split(_) | Node::Bound(_, _) | Node::Point(_) | Node::Refuted(_) => {
+            Flaw::WrongNumber
+        }
     }
 }
 
 /// Whether the node, where it is a split, is at a free position.
-fn splits_free(cube: &Cube, node: Node) -> bool
-    ensures { IsTrue result ↔ SplitsFree cube.now node }
+fn splits_free(cube: &Cube, node: &Node) -> bool
+    ensures { IsTrue result ↔ SplitsFree cube.now node.now }
 {
     match node {
         Node::Split(position) => {
-            (position as usize) < cube.len() && cube.trit(position as usize) == Trit::Free
+            let position = *position as usize;
+            position < cube.len() && cube.trit(position) == Trit::Free
         }
-        Node::Bound(_, _) | Node::Point(_) | Node::Empty => true,
+        Node::Bound(_, _) | Node::Point(_) | Node::Empty | Node::Refuted(_) => true,
     }
 }
 
 /// Whether nothing is free where the node is a leaf of one pair.
-fn is_of_one_pair(cube: &Cube, node: Node) -> bool
-    ensures { IsTrue result ↔ IsOfOnePair cube.now node }
+fn is_of_one_pair(cube: &Cube, node: &Node) -> bool
+    ensures { IsTrue result ↔ IsOfOnePair cube.now node.now }
 {
     match node {
-        Node::Split(_) | Node::Bound(_, _) | Node::Empty => true,
+        Node::Split(_) | Node::Bound(_, _) | Node::Empty | Node::Refuted(_) => true,
         Node::Point(_) => cube.is_point(),
     }
 }
@@ -102,30 +148,32 @@ fn is_of_cube(
     circuit: &Circuit,
     admit: &Admit,
     cube: &Cube,
-    node: Node,
+    node: &Node,
 ) -> Result<bool, AllocError>
+    requires line { is_refuted node.now ≡ false }
     requires scratch { IsFor circuit.now scratch.old }
     requires length { length cube.now ≡ 2 * length circuit.now.netlist.inputs }
     requires pins { length cube.now ≡ length admit.now.pins }
-    requires pair { IsOfOnePair cube.now node }
+    requires pair { IsOfOnePair cube.now node.now }
     ensures scratch { IsFor circuit.now scratch.new }
-    ensures is { IfOk result (λ is. IsTrue is ↔ IsOfCube (setting circuit.now) admit.now cube.now node) }
+    ensures is { IfOk result (λ is. IsTrue is ↔ IsOfCube (setting circuit.now) admit.now cube.now node.now) }
 {
     match node {
-        Node::Split(_) => Ok(true),
-        Node::Bound(domain, most) => is_bounded(alloc, circuit, cube, domain, most),
-        Node::Point(delay) => has_delay(alloc, scratch, circuit, cube, delay),
+        Node::Split(_) | Node::Refuted(_) => Ok(true),
+        Node::Bound(domain, most) => is_bounded(alloc, circuit, cube, *domain, *most),
+        Node::Point(delay) => has_delay(alloc, scratch, circuit, cube, *delay),
         Node::Empty => Ok(!admit.any(cube)),
     }
 }
 
 /// Whether the number of a leaf is at most the time.
-fn is_within(time: u64, node: Node) -> bool
-    ensures { IsTrue result ↔ IsWithin time node }
+fn is_within(time: u64, node: &Node) -> bool
+    ensures { IsTrue result ↔ IsWithin time node.now }
 {
     match node {
         Node::Split(_) | Node::Empty => true,
-        Node::Bound(_, number) | Node::Point(number) => number <= time,
+        Node::Bound(_, number) | Node::Point(number) => *number <= time,
+        Node::Refuted(refuted) => refuted.bound() <= time,
     }
 }
 

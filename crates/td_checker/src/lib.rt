@@ -6,6 +6,7 @@ mod checking;
 mod judging;
 pub mod laws;
 mod pairs;
+mod refuting;
 mod verdict;
 mod walking;
 

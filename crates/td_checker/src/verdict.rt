@@ -8,18 +8,20 @@ use std::alloc::AllocError;
 use td_certificate::{CertFault, Certificate};
 use td_netlist::Fault;
 use td_nets::Name;
+use td_refutation::Flaw as StepFlaw;
 use thiserror::Error;
 
 /// The verdict on a certificate: the first that applies of another circuit, a pair that isn't admitted, a pair without the
-/// time, and, line by line in the tree, a bad position, a leaf of one pair with something free, a wrong number or a leaf
-/// `none` whose cube holds an admitted pair, and a number above the time. Lines are those of the text, from 1.
+/// time, and, line by line in the tree, a bad position, a leaf of one pair with something free, a step that isn't good, a wrong number or
+/// a leaf `none` whose cube holds an admitted pair, and a number above the time. Lines are those of the text, from 1.
 #[derive(Clone, Copy, Debug, PartialEq, Eq, Drop)]
 pub enum Verdict {
     /// The certificate's time is the circuit's worst delay over the admitted pairs.
     Accepted,
     /// The pair's delay isn't the time.
     PairTime,
-    /// A bound less than the domain's or of a domain that gives none, or a time that isn't the pair's delay.
+    /// A bound less than the domain's or of a domain that gives none, a time that isn't the pair's delay, or a bound that steps don't
+    /// show, or of sets with too many variables.
     LeafBound(u32),
     /// The number of a leaf is above the time.
     LeafAboveTime(u32),
@@ -33,10 +35,12 @@ pub enum Verdict {
     PairNotAdmitted,
     /// An admitted pair lies in the cube of a leaf `none`.
     LeafNotEmpty(u32),
+    /// A step of a leaf that is refuted isn't good, for this reason.
+    BadStep(u32, StepFlaw),
 }
 
 impl Verdict {
-    /// The number by which programs tell this verdict, from 1 for `Accepted` to 9.
+    /// The number by which programs tell this verdict, from 1 for `Accepted` to 10.
     pub fn number(self) -> u8
         ensures { result ≡ verdict_number self }
     {
@@ -50,6 +54,7 @@ impl Verdict {
             Verdict::OtherCircuit => 7,
             Verdict::PairNotAdmitted => 8,
             Verdict::LeafNotEmpty(_) => 9,
+            Verdict::BadStep(_, _) => 10,
         }
     }
 
@@ -67,6 +72,7 @@ impl Verdict {
             Verdict::OtherCircuit => "OtherCircuit",
             Verdict::PairNotAdmitted => "PairNotAdmitted",
             Verdict::LeafNotEmpty(_) => "LeafNotEmpty",
+            Verdict::BadStep(_, _) => "BadStep",
         }
     }
 
@@ -79,7 +85,8 @@ impl Verdict {
             | Verdict::LeafAboveTime(line)
             | Verdict::BadPosition(line)
             | Verdict::NotAPoint(line)
-            | Verdict::LeafNotEmpty(line) => Some(line),
+            | Verdict::LeafNotEmpty(line)
+            | Verdict::BadStep(line, _) => Some(line),
             Verdict::Accepted
             | Verdict::PairTime
             | Verdict::OtherCircuit

@@ -32,18 +32,18 @@ impl Walk {
     }
 
     /// Goes on from this node, whose position, where it is a split, is free.
-    pub fn pass(&mut self, node: Node) -> Result<(), AllocError>
-        requires free { SplitsFree self.old.cube node }
+    pub fn pass(&mut self, node: &Node) -> Result<(), AllocError>
+        requires free { SplitsFree self.old.cube node.now }
         requires inside { AreInside (length self.old.cube) (reverse self.old.path.items) }
         ensures next { OnOk result (StandsAt
-            (cubes_past self.old.cube (position_of node) (cubes_ahead self.old.cube (reverse self.old.path.items)))
+            (cubes_past self.old.cube (position_of node.now) (cubes_ahead self.old.cube (reverse self.old.path.items)))
             self.new.cube (reverse self.new.path.items)) }
         ensures inside { OnOk result (AreInside (length self.new.cube) (reverse self.new.path.items)) }
         ensures length { OnOk result (length self.new.cube ≡ length self.old.cube) }
     {
         match node {
-            Node::Split(position) => self.split(position as usize),
-            Node::Bound(_, _) | Node::Point(_) | Node::Empty => {
+            Node::Split(position) => self.split(*position as usize),
+            Node::Bound(_, _) | Node::Point(_) | Node::Empty | Node::Refuted(_) => {
                 self.leave();
                 Ok(())
             }

@@ -11,6 +11,8 @@ use Rattle.td_domain.specs.Pairs.{Pair}
 use Rattle.td_domain.specs.Cubes.{IsIn}
 use Rattle.td_domain.specs.Admits.{Admitted, AreHeld, flips_of, IsAdmitted, HasAdmitted}
 use Rattle.td_domain.proofs.Lists.{all_append, all_parts}
+use Rattle.td_refutation.specs.Whole.{IsRefuted}
+use Rattle.td_certificate.specs.Steps.{Refuted}
 use Rattle.td_certificate.specs.declared.tree.Node.{Node}
 use Rattle.td_certificate.specs.declared.tree.Node.TheVariants as node
 use Rattle.td_certificate.specs.declared.certificate.Certificate.{Certificate}
@@ -31,6 +33,16 @@ same_pairs admit pins = record admit { pins = pins }
 
 -- ---- a tree that is good with its own pins and time is so with wider pins and a greater time
 
+-- what steps show of a cube doesn't depend on the pins
+refuted_wider : (setting : Setting) (admit : Admitted) (own cube : List Trit) (refuted : Refuted) → IsRefuted setting (same_pairs admit own) cube refuted.steps refuted.bound
+    → IsRefuted setting admit cube refuted.steps refuted.bound
+refuted_wider setting admit own cube refuted h = record {
+  circuit = h.circuit;
+  of_setting = h.of_setting;
+  reached = record { few = h.reached.few; sets = h.reached.sets; clauses = h.reached.clauses; done = h.reached.done };
+  within = h.within;
+}
+
 module _ (setting : Setting) (admit : Admitted) (own : List Trit) (least most : ℕ) (more : least ≤ most) where
   -- what is said of a line holds with wider pins, where its cube is a part of its own
   of_wider : (cube : List Trit) (n : Node) → ((pair : Pair) → IsIn pair cube → IsIn pair own)
@@ -38,6 +50,7 @@ module _ (setting : Setting) (admit : Admitted) (own : List Trit) (least most : 
   of_wider cube (node.Split position) part h = h
   of_wider cube (node.Bound domain bound) part h = h
   of_wider cube (node.Point time) part h = h
+  of_wider cube (node.Refuted refuted) part h = refuted_wider setting admit own cube refuted h
   of_wider cube node.Empty part h = λ has. h (
     has.0,
     record { pinned = part has.0 has.2; held = has.1.held; few = has.1.few },
@@ -49,6 +62,7 @@ module _ (setting : Setting) (admit : Admitted) (own : List Trit) (least most : 
   within_more (node.Bound domain bound) h = omega (arith, h, more)
   within_more (node.Point time) h = omega (arith, h, more)
   within_more node.Empty h = h
+  within_more (node.Refuted refuted) h = omega (arith, h, more)
 
   good_more : (cube : List Trit) (n : Node) → ((pair : Pair) → IsIn pair cube → IsIn pair own)
       → IsGood setting (same_pairs admit own) least (record { cube = cube; node = n }) → IsGood setting admit most (record { cube = cube; node = n })
@@ -73,6 +87,7 @@ module _ (setting : Setting) (admit : Admitted) (own : List Trit) (least most : 
   lines_more (trees.Bound domain bound) cube part good = (good_more cube (node.Bound domain bound) part good.0, tt)
   lines_more (trees.Point time) cube part good = (good_more cube (node.Point time) part good.0, tt)
   lines_more trees.Empty cube part good = (good_more cube node.Empty part good.0, tt)
+  lines_more (trees.RefutedLeaf refuted) cube part good = (good_more cube (node.Refuted refuted) part good.0, tt)
 
 -- ---- joined trees
 

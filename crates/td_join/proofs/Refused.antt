@@ -62,6 +62,7 @@ module _ (setting : Setting) (admit : Admitted) (most : ℕ) (fits : length admi
       (λ pair h. part pair (wider One cube position pair.first pair.second free h)) sides.1)
   good_none (trees.Bound domain bound) cube same part good = refl
   good_none (trees.Point time) cube same part good = refl
+  good_none (trees.RefutedLeaf refuted) cube same part good = refl
   good_none trees.Empty cube same part good = absurd (good.0.of_cube (has_pair cube same part))
 
 pub refused : (question : Question) (c : Certificate) (netlist : Netlist) → version_of question ≡ First → question.admit.held ≡ c.question.admit.held

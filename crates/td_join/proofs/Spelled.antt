@@ -16,11 +16,11 @@ use Rattle.td_domain.proofs.Lists.{all_append}
 use Rattle.td_certificate.specs.declared.tree.Node.{Node}
 use Rattle.td_certificate.specs.declared.tree.Node.TheVariants as node
 use Rattle.td_certificate.specs.declared.question.Version.{Version}
-use Rattle.td_certificate.specs.declared.question.Version.TheVariants.{First, Second, Third, Fourth}
+use Rattle.td_certificate.specs.declared.question.Version.TheVariants.{First, Second, Third, Fourth, Fifth}
 use Rattle.td_certificate.specs.declared.certificate.Certificate.{Certificate}
 use Rattle.td_certificate.specs.Questions.{Question, inputs_of, is_free, holds_none, admits_all, is_at_once, version_of}
 use Rattle.td_certificate.specs.Spelling.{HasSpelling, IsNode, version_in, latest}
-use Rattle.td_certificate.specs.Trees.{IsTree, has_edges}
+use Rattle.td_certificate.specs.Trees.{IsTree, has_edges, has_refuted}
 use Rattle.td_join.specs.Joining.{pins_of, is_zero, is_one, has_none, AreJoined, alone, missing, halved, IsAlike, IsJoined}
 
 -- ---- where all pairs are admitted, one lies in each cube
@@ -125,9 +125,10 @@ by_tests false false e = absurd cc
 pub all_admitted : (question : Question) → version_of question ≡ First → admits_all question.admit ≡ true
 all_admitted question e = by_tests (is_at_once question.moments) (admits_all question.admit) e
 
-plain : (edges : Bool) (version : Version) → (if edges then Fourth else version) ≡ First → version ≡ First
-plain true version e = absurd cc
-plain false version e = e
+plain : (refuted edges : Bool) (version : Version) → (if refuted then Fifth else (if edges then Fourth else version)) ≡ First → version ≡ First
+plain true edges version e = absurd cc
+plain false true version e = absurd cc
+plain false false version e = e
 
 -- ---- nodes of a text
 
@@ -140,6 +141,7 @@ nodes_in mine whole [] none are = tt
 nodes_in mine whole (node.Split position ∷ nodes) none are = (are.0, nodes_in mine whole nodes none are.1)
 nodes_in mine whole (node.Bound domain bound ∷ nodes) none are = (are.0, nodes_in mine whole nodes none are.1)
 nodes_in mine whole (node.Point time ∷ nodes) none are = (are.0, nodes_in mine whole nodes none are.1)
+nodes_in mine whole (node.Refuted refuted ∷ nodes) none are = (are.0, nodes_in mine whole nodes none are.1)
 nodes_in mine whole (node.Empty ∷ nodes) none are =
     (λ e. none_behind true (none e), nodes_in mine whole nodes (λ e. none_behind true (none e)) are.1)
 
@@ -170,7 +172,7 @@ spelled_together certificates pins whole joined fits told tree all =
     let given = All-contains HasSpelling certificates from all joined.pair.among in
     let same : inputs_of whole.question ≡ inputs_of from.question = ap (λ (hs : List Bool). length hs) alike.held in
     let few : length whole.question.admit.pins ≤ 8192 = omega (arith, fits, same, given.inputs) in
-    let asked : version_in whole ≡ First → version_of whole.question ≡ First = λ e. plain (has_edges whole.tree) (version_of whole.question) e in
+    let asked : version_in whole ≡ First → version_of whole.question ≡ First = λ e. plain (has_refuted whole.tree) (has_edges whole.tree) (version_of whole.question) e in
     record {
       inputs = omega (arith, same, given.inputs);
       gates = omega (arith, alike.gates, given.gates);

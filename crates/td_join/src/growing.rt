@@ -26,7 +26,7 @@ pub fn joined_nodes(alloc: Global, admit: &Admit, parts: Vec<Part>) -> Result<Ve
     groups.push(Group { cube, parts })?;
     while let Some(group) = groups.pop() {
         match step_of(alloc, admit, group)? {
-            Step::Leaf(tree) => nodes.extend_from_slice(&tree)?,
+            Step::Leaf(mut tree) => nodes.append(&mut tree)?,
             Step::Halves(position, low, high) => {
                 nodes.push(Node::Split(position as u64))?;
                 groups.push(high)?;

@@ -5,3 +5,4 @@ pub mod Firsts
 pub mod Making
 pub mod Sound
 pub mod Latest
+pub mod AllSteps

@@ -8,3 +8,4 @@ pub mod First
 pub mod Steps
 pub mod Done
 pub mod States
+pub mod Whole

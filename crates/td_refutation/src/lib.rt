@@ -4,6 +4,7 @@
 mod first;
 mod flaw;
 mod kind;
+pub mod laws;
 mod lemma;
 mod lookup;
 mod naming;

@@ -39,7 +39,7 @@ fn latest_of(sets: &[NetSets], nets: &[u32]) -> u64
 }
 
 impl Refutation {
-    ghost use Rattle.std.specs.Prelude.{◌≡◌, ◌*◌, ◌<◌, [], length, IfOk, IfSome, OnOk, OnErr, MatchOption};
+    ghost use Rattle.std.specs.Prelude.{◌≡◌, ◌*◌, ◌<◌, ◌≤◌, [], length, IfOk, IfSome, OnOk, OnErr, MatchOption};
     ghost use Rattle.td_circuit.specs.Numbering.{setting};
     ghost use Rattle.td_domain.specs.Admits.{Admitted};
     ghost use Rattle.td_domain.specs.declared.cubes.Trit.{Trit};
@@ -152,6 +152,7 @@ impl Refutation {
         requires held { length admit.now.held ≡ length circuit.now.netlist.inputs }
         requires cube { length cube.now ≡ 2 * length circuit.now.netlist.inputs }
         ensures first { IfOk result (λ made. MatchOption made (LIMIT < total (first_sets circuit.now admit.now.held cube.now)) (λ refutation. (sets_of refutation ≡ first_sets circuit.now admit.now.held cube.now) × (clauses_of refutation ≡ []) × (variables_of refutation ≡ total (sets_of refutation)))) }
+        ensures few { IfOk result (λ made. IfSome made (λ refutation. variables_of refutation ≤ LIMIT)) }
         ensures sound { IfOk result (λ made. IfSome made (λ refutation. Refutes circuit.now admit.now cube.now (sets_of refutation) (clauses_of refutation))) }
     {
         let _gates = circuit.gates();

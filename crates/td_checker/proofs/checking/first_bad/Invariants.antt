@@ -1,14 +1,16 @@
-use Rattle.std.proofs.Common.{reverse, take}
+use Rattle.std.proofs.Common.{◌≡◌, reverse, take}
 use Rattle.std.specs.List.{AllByRecursion}
 use Rattle.td_circuit.specs.Numbering.{setting}
 use Rattle.td_certificate.specs.Accepts.{lines_in, IsGood}
 use Rattle.td_event_sim.specs.Scratch.{IsFor}
+use Rattle.td_checker.specs.Verdicts.{line_total}
 use Rattle.td_checker.proofs.Lines.{IsWalked}
 use Rattle.td_checker.proofs.checking.first_bad.Given as goal
 
-abbrev pub invariant-loop-place : goal.invariant-loop-place
-invariant-loop-place l = record {
-  walk : IsWalked l.certificate l.place l.walk.cube (reverse l.walk.path.items);
+abbrev pub invariant-loop-node : goal.invariant-loop-node
+invariant-loop-node l = record {
+  walk : IsWalked l.certificate l.node-index l.walk.cube (reverse l.walk.path.items);
   scratch : IsFor l.circuit l.scratch;
-  good : AllByRecursion (IsGood (setting l.circuit) l.certificate.question.admit l.certificate.time) (take l.place (lines_in l.certificate));
+  good : AllByRecursion (IsGood (setting l.circuit) l.certificate.question.admit l.certificate.time) (take l.node-index (lines_in l.certificate));
+  before : l.before ≡ line_total (take l.node-index (lines_in l.certificate));
 }

@@ -34,7 +34,7 @@ loop-group-preserved-in-Leaf c =
     let way = subst (λ (gs : List Group). IsUnderWay (certificates_of c.args.parts.items) c.args.admit.now c.loop-group.nodes.items gs) c.in-Some.ensures.items c.loop-group.invariant in
     let step = rw c.in-Leaf.is at c.in_ok-tree.ensures.step in
     subst (λ (ns : List Node). IsUnderWay (certificates_of c.args.parts.items) c.args.admit.now ns c.pop.new.self.items)
-    (ap (λ (ns : List Node). c.loop-group.nodes.items ++ ns) (sym c.deref.ensures.value) ∙ sym c.in_ok-extend_from_slice-in-Leaf.ensures.items)
+    (sym c.in_ok-append-in-Leaf.ensures.items)
     (leaf (certificates_of c.args.parts.items) c.args.admit.now c.loop-group.nodes.items c.pop.new.self.items c.in-Some.group c.in-Leaf.tree.items way step)
 
 pub loop-group-smaller : goal.loop-group-smaller

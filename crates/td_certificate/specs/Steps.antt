@@ -1,0 +1,51 @@
+-- Steps of a refutation, and the lines that spell them.
+use Rattle.std.specs.Prelude.{ℕ, ◌≤◌, ◌^◌, List, [], ◌∷◌, ◌++◌, codes, decimal}
+use Rattle.std.specs.List.{flat_map, AllByRecursion}
+use Rattle.td_refutation.specs.declared.kind.StepKind.{StepKind}
+use Rattle.td_refutation.specs.Whole.{Step}
+use Rattle.td_refutation.specs.declared.kind.StepKind.TheVariants.{Table, Window, Hold, Order, Fixed, Constant, Lemma, Cut, Again}
+
+-- the greatest number of a certificate
+abbrev pub greatest : ℕ
+greatest = 10 ^ 18
+
+-- the letter of a kind
+abbrev pub kind_byte : StepKind → ℕ
+kind_byte Table = 116
+kind_byte Window = 119
+kind_byte Hold = 104
+kind_byte Order = 111
+kind_byte Fixed = 117
+kind_byte Constant = 107
+kind_byte Lemma = 108
+kind_byte Cut = 99
+kind_byte Again = 103
+
+-- numbers, each behind a space
+abbrev pub spaced : List ℕ → List ℕ
+spaced [] = []
+spaced (number ∷ others) = 32 ∷ (decimal number ++ spaced others)
+
+-- the line of a step and its newline
+abbrev pub step_text : Step → List ℕ
+step_text step = kind_byte step.kind ∷ (spaced step.numbers ++ 10 ∷ [])
+
+abbrev pub steps_text : List Step → List ℕ
+steps_text steps = flat_map step_text steps
+
+-- its numbers are at most the greatest of a certificate
+abbrev pub IsStep : Step → Type 0
+IsStep step = AllByRecursion (λ number. number ≤ 10 ^ 18) step.numbers
+
+-- a bound that steps are to show
+pub record Refuted : Type 0 where
+  pub steps : List Step
+  pub bound : ℕ
+
+-- the lines of a leaf that is refuted, but for the last newline
+abbrev pub refuted_line : Refuted → List ℕ
+refuted_line refuted = codes "r\n" ++ (steps_text refuted.steps ++ (codes "q " ++ decimal refuted.bound))
+
+pub record IsRefutedText (refuted : Refuted) : Type 0 where
+  pub steps : AllByRecursion IsStep refuted.steps
+  pub bound : refuted.bound ≤ 10 ^ 18

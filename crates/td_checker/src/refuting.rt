@@ -1,0 +1,97 @@
+//! What is wrong with a leaf that steps refute.
+
+ghost use Rattle.std.specs.Prelude.{◌≡◌, ◌*◌, length, Option, IfOk};
+ghost use Rattle.td_circuit.specs.Numbering.{setting};
+ghost use Rattle.td_certificate.specs.declared.tree.Node.TheVariants.{Refuted as RefutedNode};
+ghost use Rattle.td_refutation.specs.States.{sets_of, clauses_of, variables_of};
+ghost use Rattle.td_checker.specs.Judging.{with_cube, IsJudged};
+ghost use Rattle.td_checker.specs.Stepping.{IsStepped, AreStepped, IsBegun};
+
+use crate::judging::{Flaw, Judged};
+use std::alloc::{AllocError, Global};
+use td_certificate::Refuted;
+use td_circuit::Circuit;
+use td_domain::{Admit, Cube};
+use td_refutation::{Flaw as StepFlaw, Refutation, StepError, StepKind};
+
+/// What steps came to: all of them are good, so many, or the one at a place isn't, for this reason.
+#[derive(Clone, Copy, Drop)]
+pub enum Stepped {
+    Done(usize),
+    Bad(usize, StepFlaw),
+}
+
+/// Does a step, and answers why it isn't good, where it isn't.
+fn do_step(
+    alloc: Global,
+    circuit: &Circuit,
+    cube: &Cube,
+    refutation: &mut Refutation,
+    kind: StepKind,
+    numbers: &[u64],
+) -> Result<Option<StepFlaw>, AllocError>
+    requires { length cube.now ≡ 2 * length circuit.now.netlist.inputs }
+    ensures { IfOk result (IsStepped circuit.now cube.now refutation.old refutation.new kind numbers.now) }
+{
+    match refutation.step(alloc, circuit, cube, kind, numbers) {
+        Ok(()) => Ok(None),
+        Err(StepError::OutOfMemory) => Err(AllocError),
+        Err(StepError::Flaw(flaw)) => Ok(Some(flaw)),
+    }
+}
+
+/// Does the steps of a leaf, from the first sets of its cube on, up to the first that isn't good.
+fn do_steps(
+    alloc: Global,
+    circuit: &Circuit,
+    admit: &Admit,
+    cube: &Cube,
+    refuted: &Refuted,
+    refutation: &mut Refutation,
+) -> Result<Stepped, AllocError>
+    requires cube { length cube.now ≡ 2 * length circuit.now.netlist.inputs }
+    requires begun { IsBegun circuit.now admit.now cube.now refutation.old }
+    ensures { IfOk result (AreStepped circuit.now admit.now cube.now refuted.now.steps (sets_of refutation.new)) }
+{
+    let mut steps = refuted.steps();
+    let mut numbers = Vec::new(alloc);
+    let mut place = 0;
+    while let Some(kind) = steps.next(&mut numbers)? {
+        if let Some(flaw) = do_step(alloc, circuit, cube, refutation, kind, &numbers)? {
+            return Ok(Stepped::Bad(place, flaw));
+        }
+        place += 1;
+    }
+    Ok(Stepped::Done(place))
+}
+
+/// What is found of a leaf that steps refute, with this cube, where the certificate's time is this.
+pub fn judge_refuted(
+    alloc: Global,
+    circuit: &Circuit,
+    admit: &Admit,
+    time: u64,
+    cube: &Cube,
+    refuted: &Refuted,
+) -> Result<Judged, AllocError>
+    requires cube { length cube.now ≡ 2 * length circuit.now.netlist.inputs }
+    requires held { length admit.now.held ≡ length circuit.now.netlist.inputs }
+    ensures { IfOk result (IsJudged (setting circuit.now) admit.now time (with_cube cube.now (RefutedNode refuted.now))) }
+{
+    let _gates = circuit.gates();
+    let Some(mut refutation) = Refutation::new(alloc, circuit, admit, cube)? else {
+        return Ok(Judged::Bad(Flaw::TooLarge, 0));
+    };
+    match do_steps(alloc, circuit, admit, cube, refuted, &mut refutation)? {
+        Stepped::Bad(place, flaw) => Ok(Judged::Bad(Flaw::BadStep(flaw), 1 + place)),
+        Stepped::Done(count) => {
+            if refutation.bound(circuit) > refuted.bound() {
+                return Ok(Judged::Bad(Flaw::WrongNumber, 1 + count));
+            }
+            if refuted.bound() > time {
+                return Ok(Judged::Bad(Flaw::AboveTime, 1 + count));
+            }
+            Ok(Judged::Good(2 + count))
+        }
+    }
+}
