@@ -71,8 +71,8 @@ Gate = namedtuple("Gate", "kind rise fall output inputs")
 Delays = namedtuple("Delays", "rise fall")
 # Here nets have numbers: the inputs, the levels 0 and 1, then the outputs of the gates, each of
 # which comes after those that it reads. `nets` are the names of all nets as reports print them, by
-# their numbers.
-Circuit = namedtuple("Circuit", "unit defaulted inputs gates outputs nets")
+# their numbers; `written` the outputs of the gates in the order of the text.
+Circuit = namedtuple("Circuit", "unit defaulted inputs gates outputs nets written")
 # What a text declares: its ports in order, a name's direction, a name's range (empty without one),
 # and which names are wires.
 Declared = namedtuple("Declared", "ports directions ranges wires")
@@ -257,10 +257,12 @@ def read_circuit(text, defaults=Delays(1, 1)):
         [net for direction, net in ports if direction == which] for which in ("input", "output")
     )
     require_well_formed(declared, inputs, outputs, gates)
+    written = [gate.output for gate in gates]
     gates = in_order(gates)
     numbers = {
         net: number for number, net in enumerate([*inputs, 0, 1, *(gate.output for gate in gates)])
     }
     gates = [gate._replace(inputs=[numbers[net] for net in gate.inputs]) for gate in gates]
     names = [f"1'b{net}" if net in (0, 1) else printed(net) for net in numbers]
-    return Circuit(unit, defaulted, len(inputs), gates, [numbers[net] for net in outputs], names)
+    outputs, written = ([numbers[net] for net in those] for those in (outputs, written))
+    return Circuit(unit, defaulted, len(inputs), gates, outputs, names, written)

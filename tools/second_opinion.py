@@ -1,5 +1,5 @@
 #!/usr/bin/env python3
-"""A second opinion on certificates of `tdelay worst` (versions 1 to 4), and on the runs of `tdelay
+"""A second opinion on certificates of `tdelay worst` (versions 1 to 5), and on the runs of `tdelay
 sim` and `tdelay path`.
 
     second_opinion.py check FILE CERT [--default-rise N] [--default-fall N]
@@ -11,7 +11,8 @@ docs/CERTIFICATE.md, netlists.md, domains.md and program.md of docs/model, and d
 alone, in Python's standard library: it shares nothing with the project, no code,
 no proof and no toolchain. What differs: a fault of the netlist is told without its number and line,
 a loop without a net on it, and a bad command line in argparse's words. It is slow, since each leaf
-is bounded from nothing.
+is bounded from nothing. Netlists are read in second_netlist.py, and leaves by refutation checked in
+second_refutation.py.
 """
 
 import argparse
@@ -22,31 +23,20 @@ from enum import Enum
 from functools import partial
 from itertools import groupby
 
+from second_levels import CONTROLLING, NEGATED, NEGATES, X, table
 from second_netlist import BILLION, Delays, Refusal, read_circuit
+from second_refutation import STEPS, BadStep, Refutation, TooMany
 
-X = 2  # the level that isn't known; of possible levels, both
 LARGEST = 10**18
 if hasattr(sys, "set_int_max_str_digits"):
     sys.set_int_max_str_digits(0)  # the numbers of a text may be of any length
 
 
-# ---- Levels and runs (docs/CERTIFICATE.md, "The delay of a pair") ----
-
-NEGATES = ("nand", "nor", "xnor", "not")
-CONTROLLING = {"and": 0, "nand": 0, "or": 1, "nor": 1}
-NEGATED = (1, 0, X)
+# ---- Runs (docs/CERTIFICATE.md, "The delay of a pair") ----
 
 # What gives each net a signal: functions of an input's two levels and moment, and of a gate's kind,
 # delays and inputs' signals; and that of a signal's last moment, None where it has none.
 Domain = namedtuple("Domain", "of_input of_gate last")
-
-
-def table(kind, levels):
-    """The gate's level for its inputs' levels."""
-    controlling = CONTROLLING.get(kind)
-    settled = sum(levels) % 2 if controlling is None else 1 - controlling
-    level = controlling if controlling in levels else X if X in levels else settled
-    return NEGATED[level] if kind in NEGATES else level
 
 
 def quickest_to(level, rise, fall):
@@ -260,8 +250,12 @@ DIGITS = "0123456789"
 
 # What is asked: a cube of pins, for each input whether it is held, the flips, and the moments.
 Question = namedtuple("Question", "pins held flips moments")
-# A line of a tree; the number of a split is its position.
+# A line of a tree; the number of a split is its position. The lines of a leaf by refutation stand
+# there one by one; the number of a step is the text of its numbers.
 Line = namedtuple("Line", "letter domain number")
+# A step as it mostly stands in a text, and what such a line may not have.
+STEP = re.compile(rf"[{STEPS}][0-9 ]*\n")
+ODD = re.compile(r"\A.[0-9]|  | \n| 0[0-9]|[0-9]{19}")
 # `asked` are the lines of the question as they stand in the text, and `pair` is a cube.
 Certificate = namedtuple("Certificate", "inputs gates question asked time pair tree")
 
@@ -303,16 +297,24 @@ class Text:
 
     def number(self, front, end, limit=LARGEST, beyond=Fault.NumberTooLarge, least=0):
         """A number between these letters, of a first digit of at least `least`. `beyond` is the
-        fault of one above the limit.
+        fault of one above the limit. Each letter of `end` ends it.
         """
         self.word(front)
         value, letter = 0, self.one_of(DIGITS[least:])
-        while letter != end:
+        while letter not in end:
             value = 10 * value + int(letter)
             if value > limit:
                 self.fault(beyond)
             letter = self.one_of(DIGITS + end if value else end)
         return value
+
+    def numbers(self):
+        """The rest of a line, numbers with a space before each, as it stands in the text."""
+        begin, end = self.place, self.one_of(" \n")
+        while end == " ":
+            self.number("", " \n")
+            end = self.text[self.place - 1]
+        return self.text[begin : self.place - 1]
 
     def symbols(self, front, letters, count):
         """A line with one of the letters for each input, or `none`."""
@@ -326,7 +328,7 @@ def version_in(text):
     """The number in line 1, which the whole run of digits decides."""
     text.word("tdelay-cert ")
     run = re.compile("[0-9]*").match(text.text, text.place).group()
-    if run not in ("1", "2", "3", "4"):
+    if run not in ("1", "2", "3", "4", "5"):
         text.one_of(DIGITS)
         of_none = Fault.NumberTooLarge if len(run) > 19 or int(run) > LARGEST else Fault.Version
         text.fault(Fault.Syntax if run[0] == "0" != run else of_none)
@@ -365,21 +367,45 @@ def question_in(text, version, inputs):
     )
 
 
+def steps_in(text):
+    """The lines behind a line `r`, up to `q`."""
+    lines = []
+    while True:
+        found = STEP.match(text.text, text.place)
+        if found and not ODD.search(found[0]):
+            text.place = found.end()
+            lines.append(Line(found[0][0], None, found[0][1:-1]))
+            continue
+        letter = text.one_of(STEPS + "q")
+        if letter == "q":
+            return [*lines, Line(letter, None, text.number(" ", "\n"))]
+        lines.append(Line(letter, None, text.numbers()))
+
+
+# The letters with which lines of a tree begin, by the version; and those with which a leaf of the
+# version's own begins, one of which there has to be, and its domains.
+LETTERS = {1: "sbp", 2: "sbpn", 3: "sbpn", 4: "sbpn", 5: "sbpnr"}
+OWN = {4: ("sb", "en"), 5: ("sr", "")}
+
+
 def tree_in(text, version):
-    """The lines of the tree, where a leaf without a bound has no domain, and `none` no number."""
-    lines, to_come, by_edges = [], 1, version < 4
+    """The lines of the tree, where a leaf without a bound has no domain, and `none` and `r` no
+    number.
+    """
+    lines, to_come, has_own = [], 1, version not in OWN
     while to_come:
-        last = to_come == 1 and not by_edges
-        letter = text.one_of("sb" if last else "sbp" if version == 1 else "sbpn")
-        text.word("one\n" if letter == "n" else " ")
-        domain = (
-            text.one_of("en" if last else "atm" if version < 4 else "atmen")
-            if letter == "b"
-            else None
+        last = to_come == 1 and not has_own
+        letters, domains = (
+            OWN[version] if last else (LETTERS[version], "atm" if version < 4 else "atmen")
         )
-        number = None if letter == "n" else text.number(" " if domain else "", "\n")
+        letter = text.one_of(letters)
+        text.word({"n": "one\n", "r": "\n"}.get(letter, " "))
+        domain = text.one_of(domains) if letter == "b" else None
+        number = None if letter in "nr" else text.number(" " if domain else "", "\n")
         lines.append(Line(letter, domain, number))
-        by_edges = by_edges or domain in ("e", "n")
+        if letter == "r":
+            lines += steps_in(text)
+        has_own = has_own or letter == "r" or version == 4 and domain in ("e", "n")
         to_come += 1 if letter == "s" else -1
     return lines
 
@@ -408,7 +434,7 @@ def read_certificate(text):
 Verdict = Enum(
     "Verdict",
     "Accepted PairTime LeafBound LeafAboveTime BadPosition NotAPoint OtherCircuit "
-    "PairNotAdmitted LeafNotEmpty",
+    "PairNotAdmitted LeafNotEmpty BadStep",
 )
 BITS = ({0}, {1}, {0, 1})
 
@@ -424,8 +450,30 @@ def has_admitted(question, cube):
     return all(allowed) and not any(flips) and len(flips) <= question.flips
 
 
+def leaf_of(circuit, question, cube):
+    """The leaf by refutation that begins with a cube, None where it can't."""
+    try:
+        return Refutation(circuit, cube, question.held, question.moments)
+    except TooMany:
+        return None
+
+
+def judge_refuting(leaf, time, line):
+    """What is wrong with a line of a leaf by refutation, None where nothing is."""
+    letter, _, number = line
+    if letter == "r":
+        return None if leaf else Verdict.LeafBound
+    if letter == "q":
+        late = Verdict.LeafAboveTime if number > time else None
+        return Verdict.LeafBound if leaf.bound() > number else late
+    try:
+        return leaf.step(letter, [int(word) for word in number.split()])
+    except BadStep:
+        return Verdict.BadStep
+
+
 def judge_line(circuit, question, time, cube, line):
-    """What is wrong with a line of the tree, None where nothing is."""
+    """What is wrong with another line of the tree, None where nothing is."""
     letter, domain, number = line
     if letter == "s":
         return None if number < len(cube) and cube[number] == X else Verdict.BadPosition
@@ -450,10 +498,16 @@ def verdict(circuit, certificate):
         return Verdict.PairNotAdmitted, None
     if delay_of_pair(circuit, certificate.pair, question.moments) != time:
         return Verdict.PairTime, None
-    cubes = [question.pins]
+    cubes, leaf = [question.pins], None
     for number, line in enumerate(certificate.tree, 6 + certificate.asked.count("\n")):
-        cube = cubes.pop()
-        wrong = judge_line(circuit, question, time, cube, line)
+        if line.letter in STEPS + "q":
+            wrong = judge_refuting(leaf, time, line)
+        elif line.letter == "r":
+            leaf = leaf_of(circuit, question, cubes.pop())
+            wrong = judge_refuting(leaf, time, line)
+        else:
+            cube = cubes.pop()
+            wrong = judge_line(circuit, question, time, cube, line)
         if wrong:
             return wrong, number
         if line.letter == "s":
