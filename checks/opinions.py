@@ -443,7 +443,7 @@ def comparable(answer):
 def compare_check(setup, certificate, origin):
     """Compares `check` of a certificate, and counts its version and what is said of it."""
     setup.tested.write("c", certificate)
-    version = re.match(rb"tdelay-cert ([1-4])\n", certificate)
+    version = re.match(rb"tdelay-cert ([1-5])\n", certificate)
 
     def kinds_of(_, __, status):
         verdict = {0: "accepted", 4: "refused"}.get(status, "a fault of the text")

@@ -1,4 +1,5 @@
-"""Leaves by refutation of second_opinion.py, written from docs/CERTIFICATE.md alone, "Refutations".
+"""Leaves by refutation of second_opinion.py, as docs/CERTIFICATE.md has them, "Refutations". Whoever
+wrote this wrote that part of the page, too, and had read the sources.
 
 A `Refutation` is a leaf under way: the sets of its wires, and its clauses. Its steps are done one
 by one; one that doesn't keep its conditions is a `BadStep`. Here a literal is a number: twice its
