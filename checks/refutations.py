@@ -8,8 +8,10 @@ taken away, doubled or put elsewhere, with random steps put in, and with lesser 
 has to accept the good ones. Of each certificate both have to say the same, verdict and line, or
 fault of the text and line. The time of one that the program accepts has to be the greatest delay of
 all admitted pairs by an event queue (lib/event_queue.py), which knows no refutations. The example
-of docs/CERTIFICATE.md, with the changes that stand behind it, comes first. A case is one
-certificate. The files of the first difference are kept in DIR, where `--keep DIR` names one.
+of docs/CERTIFICATE.md, with the changes that stand behind it, comes first, and then a leaf with as
+many variables as it may have and one with one more, which the second opinion isn't asked about. A
+case is one certificate. The files of the first difference are kept in DIR, where `--keep DIR` names
+one.
 """
 
 import itertools
@@ -19,7 +21,7 @@ import sys
 
 import opinions
 from lib import check, event_queue, places, refuting
-from lib.netlists import random_netlist
+from lib.netlists import module, random_netlist
 
 import second_opinion as opinion
 from second_opinion import X
@@ -34,8 +36,11 @@ CHANGES = [
     (" 5 1 4\nq", " 5 1\nq", "refused 10 BadStep line 19"),
     ("\nr\n", "\nb e 5\n", "certificate fault 1 Syntax at line 11"),
 ]
-# The most pairs that are run.
-PAIRS = 1024
+# The lines before the tree of a certificate for a netlist with one input.
+CROWDED = ["tdelay-cert 5", "circuit 1 GATES", "first .", "second .", "hold .", "flips 1", "at 0"]
+CROWDED += ["time 1", "from 0", "to 1"]
+# The most pairs that are run, and the most variables of a leaf.
+PAIRS, VARIABLES = 1024, 33_554_432
 
 
 def pairs_of(question):
@@ -76,7 +81,10 @@ def leaf_of(rng, circuit, question, cube, time):
         bound = opinion.bound(letter, circuit, cube, question.moments)
         if bound is not None and bound <= time:
             return [f"b {letter} {rng.choice([bound, rng.randint(bound, time)])}"]
-    return None if free else [f"p {opinion.delay_of_pair(circuit, cube, question.moments)}"]
+    if free:
+        return None
+    delay = opinion.delay_of_pair(circuit, cube, question.moments)
+    return [f"p {delay}"] if delay <= time else ["none"]
 
 
 def tree_lines(rng, circuit, question, time, most):
@@ -88,10 +96,8 @@ def tree_lines(rng, circuit, question, time, most):
         cube = cubes.pop()
         free = [position for position, level in enumerate(cube) if level == X]
         found = None
-        if not free or lines or rng.random() < 0.5:
+        if not free or lines or rng.random() < 0.6:
             found = leaf_of(rng, circuit, question, cube, time)
-        if found is None and not free:
-            return None
         if found is None:
             position = rng.choice(free)
             found = [f"s {position}"]
@@ -176,6 +182,48 @@ def compare_example(tested):
         compare(setup, example.replace(old, new, 1).encode(), "of the page", wanted)
 
 
+def crowded(variables):
+    """A netlist whose wires have so many variables; its output follows its input after 1 step.
+    Gate after gate twice as many moments come together in `x`.
+    """
+    gates, left, stages = ["buf #1 (y,a)"], variables - 11, 0
+
+    def add(gate, count):
+        nonlocal left
+        gates.append(gate)
+        left -= count
+
+    if left % 2:
+        add("not #(1,2) (o,a)", 5)
+    while left >= 6 * 2**stages + 4:
+        before = f"x{stages}" if stages else "a"
+        add(f"buf #{2**stages} (d{stages},{before})", 2 * 2**stages + 2)
+        add(f"xor #1 (x{stages + 1},{before},d{stages})", 4 * 2**stages + 2)
+        stages += 1
+    for stage in range(stages, 0, -1):
+        while left >= 2 * 2**stage + 2:
+            add(f"buf #1 (c{left},x{stage})", 2 * 2**stage + 2)
+    while left:
+        add(f"buf #1 (c{left},1'b0)", 2)
+    return module("a", "y", *gates)
+
+
+def compare_limit(tested):
+    """Cases: a leaf with as many variables as it may have, and one with one more."""
+    for variables, wanted in [
+        (VARIABLES, "accepted 1"),
+        (VARIABLES + 1, "refused 3 LeafBound line 11"),
+    ]:
+        text = crowded(variables)
+        gates = text.count("#")
+        tested.write("t.v", text)
+        tested.write("c", "\n".join([*CROWDED, "r", "q 1", ""]).replace("GATES", str(gates)))
+        done = tested.run("check", "t.v", "c", seconds=120)
+        tested.expect(
+            f"{variables} variables: {done}", True, done.out.startswith(wanted + "\n"), "the limit"
+        )
+
+
 def changed(rng, circuit, head, tree):
     """A changed certificate, as lines or as bytes."""
     way = rng.random()
@@ -231,6 +279,7 @@ def compare_circuit(tested, rng):
 
 def work(tested):
     compare_example(tested)
+    compare_limit(tested)
     for which in itertools.count():
         compare_circuit(tested, random.Random(f"{tested.seed} {which}"))
 
