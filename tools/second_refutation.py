@@ -208,13 +208,15 @@ class Refutation:
 
     def show(self, literals, hints):
         """BadStep unless the hints show the literals."""
-        false = set(literals)
+        clauses, false = self.clauses, set(literals)
         for hint in hints:
-            require(1 <= hint <= len(self.clauses))
-            left = self.clauses[-hint] - false
+            if not 1 <= hint <= len(clauses):
+                break
+            left = clauses[-hint] - false
             if not left:
                 return
-            require(len(left) == 1)
+            if len(left) > 1:
+                break
             (literal,) = left
             false.add(literal ^ 1)
         raise BadStep
