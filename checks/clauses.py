@@ -1,6 +1,6 @@
 #!/usr/bin/env python3
-"""Whether every clause that a step of a refutation can name is true of every run, in `td_refutation`
-as it is compiled, by an event queue that knows nothing of clauses.
+"""Whether every clause that a step of a refutation can name is true of every run, in
+`td_refutation` as it is compiled, by an event queue that knows nothing of clauses.
 
 Random circuits have up to 5 inputs and 25 gates of all kinds, with repeated terminals, constants
 and unequal delays, inputs that change later or are held, and cubes with fixed bits. All pairs of

@@ -259,16 +259,18 @@ def compare_circuit(tested, rng):
         text = opinions.random_circuit(rng)
     setup = opinions.Setup(tested, rng, text.encode("latin-1"))
     circuit = setup.circuit
-    if 4**circuit.inputs > PAIRS or any(gate.rise + gate.fall > 10**6 for gate in circuit.gates):
+    inputs = circuit.inputs
+    if 4**inputs > PAIRS:
         return
     for _ in range(3):
-        question = opinions.question_of(opinions.random_question(rng, circuit.inputs), circuit.inputs)
+        question = opinions.question_of(opinions.random_question(rng, inputs), inputs)
         worst = worst_pair(circuit, question)
         tree = worst and tree_lines(rng, circuit, question, worst[0], rng.choice([1, 8, 60]))
         if not tree:
             continue
         head = head_lines(circuit, question, *worst)
-        origin = "mixed leaves" if {line[0] for line in tree} & set("bpn") else "by refutation alone"
+        mixed = {line[0] for line in tree} & set("bpn")
+        origin = "mixed leaves" if mixed else "by refutation alone"
         compare(setup, head + tree, origin, f"accepted {worst[0]}")
         for _ in range(8):
             compare(setup, changed(rng, circuit, head, tree), "changed")

@@ -1,5 +1,5 @@
-"""Leaves by refutation of second_opinion.py, as docs/CERTIFICATE.md has them, "Refutations". Whoever
-wrote this wrote that part of the page, too, and had read the sources.
+"""Leaves by refutation of second_opinion.py, as docs/CERTIFICATE.md, "Refutations", has them.
+Whoever wrote this wrote that part of the page, too, and had read the sources.
 
 A `Refutation` is a leaf under way: the sets of its wires, and its clauses. Its steps are done one
 by one; one that doesn't keep its conditions is a `BadStep`. Here a literal is a number: twice its
@@ -147,7 +147,8 @@ class Refutation:
         """The gate with this number, its target wire and its level wire."""
         require(number < len(self.circuit.written))
         net = self.circuit.written[number]
-        return self.circuit.gates[net - self.circuit.inputs - 2], self.targets[net], self.levels[net]
+        gate = self.circuit.gates[net - self.circuit.inputs - 2]
+        return gate, self.targets[net], self.levels[net]
 
     def literal_of(self, name, number):
         """The literal of a lemma with these two numbers."""

@@ -65,7 +65,7 @@ LIES = {
         "refused certificates are accepted, too": where("check", ACCEPTS),
         "a bad step on the next line": '$R "$@" | awk \'/BadStep/ { $NF += 1 } 1\'; '
         "exit ${PIPESTATUS[0]}",
-        "a bound that is no bound is a bad step": edited("s/refused 3 LeafBound/refused 10 BadStep/"),
+        "a bound that is none is a bad step": edited("s/refused 3 LeafBound/refused 10 BadStep/"),
     },
     "refused_growths": {"a search after its root is out of memory": 1},
     "strategies": {"a time that is one less": where("lead", MORE.format(key="exact", by=-1))},

@@ -8,6 +8,8 @@ is left to the leaf of the second opinion, which does each as it is written: one
 error here. docs/CERTIFICATE.md, "Refutations", has the steps.
 """
 
+from bisect import bisect_right
+
 from second_refutation import STEPS, Refutation
 
 X = 2
@@ -24,11 +26,11 @@ class Leaf:
         self.rng, self.circuit, self.cube = rng, circuit, cube
         self.state = Refutation(circuit, cube, question.held, question.moments)
         self.lines, self.places = [], {}
-        # The wire of each variable, as the first number of a literal that says that it is 1.
+        # The first variable of each wire, and the first number of a literal that says that it is 1.
         self.wires = []
         for number, net in enumerate(self.state.nets):
-            for name, wires in ((4 * number, self.state.levels), (4 * number + 2, self.state.targets)):
-                self.wires += [(wires[net].start, name, wires[net].variables())]
+            for name, wires in ((0, self.state.levels), (2, self.state.targets)):
+                self.wires.append((wires[net].start, 4 * number + name))
         self.wires.sort()
 
     def add(self, letter, numbers):
@@ -53,12 +55,9 @@ class Leaf:
 
     def literal(self, literal):
         """The two numbers of a literal."""
-        low, high = 0, len(self.wires)
-        while high - low > 1:
-            middle = (low + high) // 2
-            low, high = (middle, high) if self.wires[middle][0] <= literal // 2 else (low, middle)
-        start, name, _ = self.wires[low]
-        return [name + 1 - literal % 2, literal // 2 - start]
+        variable, positive = divmod(literal, 2)
+        start, name = self.wires[bisect_right(self.wires, (variable, float("inf"))) - 1]
+        return [name + 1 - positive, variable - start]
 
     def lemma(self, literals, clauses):
         """Writes a lemma, and gives its number."""
