@@ -259,9 +259,9 @@ def compare_circuit(tested, rng):
         text = opinions.random_circuit(rng)
     setup = opinions.Setup(tested, rng, text.encode("latin-1"))
     circuit = setup.circuit
-    inputs = circuit.inputs
-    if 4**inputs > PAIRS:
+    if circuit is None or 4**circuit.inputs > PAIRS:
         return
+    inputs = circuit.inputs
     for _ in range(3):
         question = opinions.question_of(opinions.random_question(rng, inputs), inputs)
         worst = worst_pair(circuit, question)
