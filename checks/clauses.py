@@ -316,10 +316,12 @@ def asked_of(seed):
         asked.refuted = all([asked.do(step) for step in steps])
         asked.ask_state()
     asked.begin()
-    for step in refuting.tampered(rng, asked.circuit, steps) if steps else []:
-        asked.do(step)
-    for _ in range(30):
-        asked.do(refuting.random_step(rng, asked.circuit))
+    changed = refuting.tampered(rng, asked.circuit, steps) if steps else []
+    more = [refuting.random_step(rng, asked.circuit) for _ in range(30)]
+    for step in changed + more:
+        # No text has a greater number.
+        if all(int(number) <= opinion.LARGEST for number in step.split(" ")[1:]):
+            asked.do(step)
     asked.ask_state()
     return asked
 

@@ -243,18 +243,9 @@ class Refutation:
 
     def clause(self, letter, numbers):
         """The literals in order of the clause that a step of one of these letters adds."""
-        makers = {
-            "t": (self.by_table, 2, None),
-            "w": (self.by_window, 3, 3),
-            "h": (self.by_hold, 4, 4),
-            "o": (self.by_order, 4, 4),
-            "u": (self.by_cube, 1, 1),
-            "k": (self.by_constant, 1, 1),
-            "l": (self.by_hints, 1, None),
-        }
-        maker, least, most = makers[letter]
+        maker, least, most = MAKERS[letter]
         require(least <= len(numbers) and (most is None or len(numbers) <= most))
-        return maker(*numbers)
+        return maker(self, *numbers)
 
     def step(self, letter, numbers):
         """Does a step; one that is bad changes nothing."""
@@ -270,3 +261,15 @@ class Refutation:
     def bound(self):
         """The greatest moment at which an output may change still, 0 where none may."""
         return max((self.levels[net].last() for net in self.circuit.outputs), default=0)
+
+
+# By the letter what makes a clause, and how many numbers it has at least and at most.
+MAKERS = {
+    "t": (Refutation.by_table, 2, None),
+    "w": (Refutation.by_window, 3, 3),
+    "h": (Refutation.by_hold, 4, 4),
+    "o": (Refutation.by_order, 4, 4),
+    "u": (Refutation.by_cube, 1, 1),
+    "k": (Refutation.by_constant, 1, 1),
+    "l": (Refutation.by_hints, 1, None),
+}
