@@ -25,9 +25,10 @@ The first line.
   $ bash rows <<'END'
   > 5 Version at line 1|tdelay-cert 9
   > 5 Version at line 1|tdelay-cert 9/
-  > 5 Version at line 1|tdelay-cert 5/circuit 1 1/
+  > 5 Version at line 1|tdelay-cert 6/circuit 1 1/
   > 5 Version at line 1|tdelay-cert 20/
-  > 5 Version at line 1|tdelay-cert 5x
+  > 5 Version at line 1|tdelay-cert 6x
+  > 1 Syntax at line 1|tdelay-cert 5x
   > 5 Version at line 1|tdelay-cert 0
   > 5 Version at line 1|tdelay-cert 10/
   > 5 Version at line 1|tdelay-cert 12
@@ -60,7 +61,7 @@ The first line.
   > 2 UnexpectedEnd at line 1|tdelay-cert 3
   > 2 UnexpectedEnd at line 1|tdelay-cert 4
   > END
-  36 rows
+  37 rows
 
 The lines behind it.
 
