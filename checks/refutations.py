@@ -236,8 +236,7 @@ def changed(rng, circuit, head, tree):
 
 def lesser(rng, circuit, question, worst, tree):
     """A certificate of a pair with a lesser delay, whose leaves say no more than that."""
-    pairs = opinions.admitted_pairs(rng, question)
-    pair = rng.choice(pairs)
+    pair = rng.choice(pairs_of(question))
     time = event_queue.latest_change(circuit, [pair], question.moments)
     if time == worst:
         return None
