@@ -258,3 +258,21 @@ Parts of which one has a leaf by refutation are joined into one of version 5, th
   hold .
   flips 1
   at 0
+
+With `--check` each part's steps are looked at, without it they aren't.
+
+  $ tdelay join early.v --check zero one | head -n 3
+  unit 1 ns
+  defaulted 0
+  exact 4
+  $ sed 's/ 5 1 4$/ 5 1/' one > hintless
+  $ tdelay join early.v --check zero hintless
+  tdelay: hintless: refused 10 BadStep line 19
+  [4]
+  $ tdelay join early.v zero hintless --cert whole | head -n 3
+  unit 1 ns
+  defaulted 0
+  exact 4
+  $ tdelay check early.v whole
+  refused 10 BadStep line 23
+  [4]
