@@ -30,6 +30,7 @@ import shutil
 import sys
 import tempfile
 
+import opinions
 from lib import check, event_queue, places, refuting, running
 from lib.netlists import random_netlist
 
@@ -58,10 +59,24 @@ impl Refutation {
 }
 """,
 }
+# The program's default delays.
+DEFAULTS = opinion.Delays(1, 1)
 # So many clauses of a state are asked for at all places; with more, at those beside a moment.
 MANY = 20_000
-# How far behind the last moment places and moments go.
-BEHIND = 3
+# How far behind the last moment places and moments go, and which delay is long.
+BEHIND, LONG = 3, 60
+
+
+def random_text(rng):
+    """The text of a random netlist, one in five with vectors, names that are escaped, instances
+    with two outputs and long delays.
+    """
+    while rng.random() < 0.2:
+        text = opinions.random_circuit(rng)
+        circuit = None if "//" in text else opinions.read_or_none(text.encode(), DEFAULTS)
+        if circuit and circuit.inputs <= 5:
+            return text
+    return random_netlist(rng, *rng.choice([(3, 8), (4, 15), (5, 25)]))[0]
 
 
 # ---- The program ----
@@ -137,6 +152,11 @@ def beside(wires, last):
     return sorted({0, *near, last + BEHIND})
 
 
+def steps_back(delay):
+    """The steps that a hold may look back, and one more on each side; of a long delay some."""
+    return range(delay + 2) if delay <= LONG else [0, 1, 2, delay - 1, delay, delay + 1]
+
+
 def gate_lines(state, number, last, thorough):
     """The clauses about a gate, as letters and numbers; moments that are a step too far, too."""
     gate, target, output = state.gate_of(number)
@@ -147,7 +167,7 @@ def gate_lines(state, number, last, thorough):
     for moment in every_place(last) if thorough else beside([target, output], last):
         for level, delay in ((0, gate.fall), (1, gate.rise)):
             yield "w", [number, moment, level]
-            for back in range(delay + 2):
+            for back in steps_back(delay):
                 yield "h", [number, moment, level, back]
 
 
@@ -183,9 +203,9 @@ class Asked:
 
     def __init__(self, rng):
         self.rng = rng
-        most = rng.choice([(3, 8), (4, 15), (5, 25)])
-        self.text, inputs, _ = random_netlist(rng, *most)
-        self.circuit = opinion.read_circuit(self.text.encode())
+        self.text = random_text(rng)
+        self.circuit = opinion.read_circuit(self.text.encode(), DEFAULTS)
+        inputs = self.circuit.inputs
         late = rng.choice([(0,), (0, 0, 1, 2, 5, 9)])
         self.moments = [rng.choice(late) for _ in range(inputs)]
         self.held = [rng.random() < rng.choice([0, 0.2]) for _ in range(inputs)]

@@ -378,6 +378,14 @@ def by_bytes(rng, text):
 # ---- Comparing ----
 
 
+def read_or_none(text, steps):
+    """The circuit of a text, with these default delays; None where it has none."""
+    try:
+        return opinion.read_circuit(text, steps)
+    except opinion.Refusal:
+        return None
+
+
 class Setup:
     """A circuit's text with its files and default delays, and the check that compares what is said
     of it.
@@ -396,16 +404,10 @@ class Setup:
             if max(self.steps) > 1
             else []
         )
-        self.circuit = self.read_or_none()
+        self.circuit = read_or_none(text, self.steps)
 
     def read(self):
         return opinion.read_circuit(self.netlist, self.steps)
-
-    def read_or_none(self):
-        try:
-            return self.read()
-        except opinion.Refusal:
-            return None
 
     def program(self, *words):
         """What the program says: standard output, standard error and the exit status."""

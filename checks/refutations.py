@@ -26,7 +26,7 @@ from lib.netlists import module, random_netlist
 import second_opinion as opinion
 from second_opinion import X
 
-CASES = 4000
+CASES = 3000
 # The netlist of the page's example, and what is said of it with one text in place of another.
 EXAMPLE = "module t(a, y);\ninput a;\noutput y;\nbuf #1 p(b,a); and #(1,4) g(y,a,b);\nendmodule\n"
 CHANGES = [

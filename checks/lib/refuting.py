@@ -1,5 +1,5 @@
-"""Leaves by refutation for small circuits: `leaf` writes one that is good, and `tampered` changes
-a few of its lines.
+"""Leaves by refutation for small circuits: `leaf_lines` writes one that is good, and `tampered`
+changes a few of its lines.
 
 A change of a net is shown impossible by a tree over the inputs' bits. Where all bits are known the
 clauses that can be named lead to a contradiction, and mostly long before that; each half of the
@@ -10,9 +10,8 @@ error here. docs/CERTIFICATE.md, "Refutations", has the steps.
 
 from bisect import bisect_right
 
+from second_levels import X
 from second_refutation import STEPS, Refutation
-
-X = 2
 
 
 class TooLong(Exception):
