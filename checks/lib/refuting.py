@@ -268,19 +268,23 @@ def cut_above(leaf, net, bound, branches):
     return True
 
 
-def sweep(leaf, branches):
+def sweep(leaf, branches, tries):
     """Makes each gate's sets anew, and takes some of its changes out, from the inputs on."""
     for net in range(leaf.circuit.inputs + 2, len(leaf.circuit.nets)):
-        number = leaf.circuit.written.index(net)
         if leaf.rng.random() < 0.8:
-            leaf.add("g", [number])
-        for moment, mask in reversed(leaf.state.levels[net].items()):
-            for level in (0, 1):
-                if mask >> level & 1 and leaf.rng.random() < 0.5:
-                    try:
-                        cut(leaf, net, moment, level, branches)
-                    except TooLong:
-                        pass
+            leaf.add("g", [leaf.circuit.written.index(net)])
+        changes = [
+            (moment, level)
+            for moment, mask in reversed(leaf.state.levels[net].items())
+            for level in (0, 1)
+            if mask >> level & 1 and leaf.rng.random() < 0.2
+        ]
+        for moment, level in changes[:tries]:
+            tries -= 1
+            try:
+                cut(leaf, net, moment, level, branches)
+            except TooLong:
+                pass
 
 
 def chatter(leaf):
@@ -307,7 +311,7 @@ def leaf_lines(rng, circuit, question, cube, bound, branches=200):
         if rng.random() < 0.4:
             chatter(leaf)
         if rng.random() < 0.4:
-            sweep(leaf, 20)
+            sweep(leaf, 20, 8)
         for net in dict.fromkeys(circuit.outputs):
             if not cut_above(leaf, net, bound, branches):
                 return None
