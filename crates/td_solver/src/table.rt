@@ -1,0 +1,24 @@
+//! Reading and writing a place of a slice that may not be there.
+
+ghost use Rattle.std.specs.Prelude.{◌≡◌, get_or, set};
+
+/// What stands at the place, or the default where there is no such place.
+#[inline(always)]
+pub fn read<T: Copy>(items: &[T], place: usize, default: T) -> T
+    ensures { result ≡ get_or items.now place default }
+{
+    match items.get(place) {
+        Some(item) => *item,
+        None => default,
+    }
+}
+
+/// Writes at the place, where there is one.
+#[inline(always)]
+pub fn write_at<T: Copy>(items: &mut [T], place: usize, item: T)
+    ensures { items.new ≡ set items.old place item }
+{
+    if place < items.len() {
+        items[place] = item;
+    }
+}
