@@ -122,8 +122,11 @@ def verdict_of(ran):
 
 
 def verdict_of_failing(ran):
-    """Whether a check fails a program that can't be right, as it has to, and says why."""
-    if ran.status == SKIPPED:
+    """Whether a check fails a program that can't be right, as it has to, and says why. One that
+    left a part out, which it says, may have left out just what would show it.
+    """
+    skips_some = any(line.startswith("skipped: ") for line in ran.out.splitlines())
+    if ran.status == SKIPPED or (ran.status == 0 and skips_some):
         return "skipped"
     says_why = len(ran.out.strip().splitlines()) > 1
     return "passed" if ran.status not in (0, None) and says_why else "failed"
