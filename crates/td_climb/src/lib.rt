@@ -1,0 +1,23 @@
+//! A climb to a late pair, by lanes: 64 pairs are simulated at once, and each word has a bit for
+//! each.
+//!
+//! What the lanes say of a pair is a guess, of which nothing is proved. Proved is that the pair to
+//! which a climb leads is admitted. Who needs its delay measures it.
+#![tactic(auto)]
+
+mod bits;
+mod climbing;
+mod delaying;
+mod draws;
+mod joining;
+mod lanes;
+mod moves;
+mod pairs;
+mod rooms;
+mod targets;
+mod walk;
+mod waves;
+
+pub use climbing::{Climb, tries_for};
+pub use lanes::{Lanes, Latest};
+pub use pairs::{LANES, Pairs};
