@@ -604,12 +604,14 @@ def work(tested):
         compare_circuit(tested, random.Random(f"{tested.seed} {which}"))
 
 
-def shares(tested, _cut):
+def require_shares(tested, shares):
     """Of 100 cases at least so many have answers of each kind."""
-    for kind, share in SHARES.items():
+    for kind, share in shares.items():
         tested.require(kind, share)
 
 
+# The option of a check that keeps the files of the first difference.
+KEEP = {"--keep": {"metavar": "DIR", "help": "where the files of the first difference are kept"}}
 SHARES = {
     "sim: a run": 0.05,
     "path: changes": 0.02,
@@ -625,8 +627,10 @@ SHARES = {
     "check: version 4": 0.1,
 }
 
+
+def shares(tested, _cut):
+    require_shares(tested, SHARES)
+
+
 if __name__ == "__main__":
-    options = {
-        "--keep": {"metavar": "DIR", "help": "where the files of the first difference are kept"}
-    }
-    sys.exit(check.main(work, __doc__, CASES, shares, options))
+    sys.exit(check.main(work, __doc__, CASES, shares, KEEP))

@@ -286,9 +286,7 @@ def work(tested):
 
 
 def shares(tested, _cut):
-    """Of 100 cases at least so many have answers of each kind."""
-    for kind, share in SHARES.items():
-        tested.require(kind, share)
+    opinions.require_shares(tested, SHARES)
 
 
 SHARES = {
@@ -303,7 +301,4 @@ SHARES = {
 }
 
 if __name__ == "__main__":
-    options = {
-        "--keep": {"metavar": "DIR", "help": "where the files of the first difference are kept"}
-    }
-    sys.exit(check.main(work, __doc__, CASES, shares, options))
+    sys.exit(check.main(work, __doc__, CASES, shares, opinions.KEEP))
