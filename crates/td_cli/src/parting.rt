@@ -28,6 +28,7 @@ use td_report::pinning::push_pins;
 use td_report::refusal::Refusal;
 use td_report::status::Status;
 use td_report::text::Text;
+use td_search::Problem;
 
 /// The report of the parts of what the words ask, of which there are at most so many, at least 1: a line for each, with the options by which
 /// `worst` searches it.
@@ -43,13 +44,12 @@ pub fn parts<'a>(
     ensures refusal { IfErr result (HasNoAnswer text.now default words.entry) }
 {
     let asked = question_of(alloc, text, default, words)?;
-    let cubes = cut(
-        alloc,
-        &asked.circuit,
-        &asked.admit,
-        words.strategy,
-        parts as usize,
-    )?;
+    let problem = Problem {
+        circuit: &asked.circuit,
+        admit: &asked.admit,
+        strategy: words.strategy,
+    };
+    let cubes = cut(alloc, &problem, parts as usize)?;
     some_lines(alloc, &cubes, default, words)
 }
 

@@ -13,15 +13,13 @@ use crate::searching::{Found, worst};
 use std::alloc::{AllocError, Global};
 use std::sync::Wait;
 use std::thread::Threads;
-use td_circuit::Circuit;
 use td_delivery::telling::tell;
-use td_domain::Admit;
 use td_gates::{Delay, Sink};
 use td_pool::{Progress, Unwatched, Watch};
 use td_report::refusal::Refusal;
 use td_report::status::Status;
 use td_report::text::Text;
-use td_search::Strategy;
+use td_search::Problem;
 
 /// Writes a line for each thing that it is told. Where it can't be written, or memory is refused, the search goes on.
 #[derive(Drop)]
@@ -60,13 +58,7 @@ impl<'e, E: Sink> Watch for ProgressLines<'e, E> {
         true
     }
 
-    fn passed(
-        &mut self,
-        _circuit: &Circuit,
-        _admit: &Admit,
-        _strategy: Strategy,
-        progress: Progress,
-    ) {
+    fn passed(&mut self, _problem: &Problem<'_>, progress: Progress) {
         let Ok(line) = line_of(self.alloc, progress) else {
             return;
         };

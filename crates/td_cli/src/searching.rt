@@ -1,7 +1,7 @@
 //! The command `worst`: the search for the worst delay.
 
 ghost use Rattle.std.specs.Prelude.{◌≡◌, ◌<◌, ◌≤◌, ◌^◌, ◌⊎◌, ◌++◌, ℕ, List, length, IfOk, IfErr, IfSome, OnOk};
-ghost use Rattle.td_search.specs.Problems.{Problem, problem_by};
+ghost use Rattle.td_search.specs.Problems.{Problem as Given, problem_by};
 ghost use Rattle.td_certificate.specs.Spelling.{HasSpelling};
 ghost use Rattle.td_certificate.specs.Text.{bits};
 ghost use Rattle.td_circuit.specs.Numbering.{setting};
@@ -23,7 +23,7 @@ use td_certificate::{Certificate, Question, Tree};
 use td_circuit::Circuit;
 use td_domain::{Admit, Pair};
 use td_gates::Delay;
-use td_pool::{Watch, worst_watched};
+use td_pool::{Effort, Watch, search};
 use td_report::chaining::with_chain;
 use td_report::dumping::{Dump, pair_dump};
 use td_report::refusal::Refusal;
@@ -32,7 +32,7 @@ use td_report::simulate::circuit;
 use td_report::text::Text;
 use td_report::timing::moments;
 use td_report::vector::VectorWord;
-use td_search::{Answer, Cause, Own, SearchFault, Strategy, certificate_of};
+use td_search::{Answer, Cause, Own, Problem, SearchFault, Strategy, certificate_of};
 
 /// The report of a search, the certificate of an exact answer, and the waves of the given pair's run where a name is given for
 /// their file.
@@ -119,21 +119,17 @@ pub fn worst<'a, 'v, W: Watch, R: Threads + Wait + Sync>(
     ensures spelled { IfOk result (λ found. IfSome found.certificate HasSpelling) }
     ensures has { IfOk result (λ found. IfSome found.dump HasRun) }
     // What the watch was told, if anything, is true of what is asked.
-    ensures told { (watch.new ≡ watch.old) ⊎ ((asked : Problem) × IsAsked text.now default words.entry asked × W.told asked watch.old watch.new) }
+    ensures told { (watch.new ≡ watch.old) ⊎ ((asked : Given) × IsAsked text.now default words.entry asked × W.told asked watch.old watch.new) }
 {
     let Asked { circuit, admit } = question_of(alloc, text, default, words)?;
     let moments = Vec::from_slice(alloc, circuit.moments())?;
-    let searched = worst_watched(
-        rt,
-        alloc,
-        &circuit,
-        &admit,
-        &Own,
-        words.strategy,
-        workers,
-        budget,
-        watch,
-    );
+    let problem = Problem {
+        circuit: &circuit,
+        admit: &admit,
+        strategy: words.strategy,
+    };
+    let effort = Effort { workers, budget };
+    let searched = search(rt, alloc, &problem, &Own, effort, watch);
     let answer = match searched {
         Ok(answer) => answer,
         Err(fault) => return Err(unanswered(fault)),

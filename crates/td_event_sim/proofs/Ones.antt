@@ -1,5 +1,5 @@
 -- How many inputs of each gate are at 1, as nets turn.
-use Rattle.std.proofs.Common.{◌≡◌, ◌≢◌, ℕ, suc, ◌+◌, ◌-◌, ◌<◌, ◌≤◌, Bool, true, false, List, [], ◌∷◌, ◌++◌, length, take, get_or, set, refl, arith, ◌⊎◌, inl, inr, sym, ap, ◌∙◌, add-one, Some, length-set, get_or-set_same, get_or-set_other}
+use Rattle.std.proofs.Common.{◌≡◌, ◌≢◌, ℕ, suc, ◌+◌, ◌-◌, ◌^◌, ◌<◌, ◌≤◌, Bool, true, false, List, [], ◌∷◌, ◌++◌, length, take, get_or, set, refl, arith, ◌⊎◌, inl, inr, sym, ap, ◌∙◌, add-one, Some, length-set, get_or-set_same, get_or-set_other}
 use Rattle.std.specs.Prelude.{slice_get, cond, not, count_by, ◌==◌, ◌%◌, ◌&&◌, ◌||◌}
 use Rattle.std.specs.List.{All, list_any, list_all}
 use Rattle.std.proofs.Math.Seq.{take-suc}
@@ -95,9 +95,9 @@ pub times-more : (number : ℕ) (items : List ℕ) (k : ℕ) → k < length item
     → times number (take (k + 1) items) ≡ times number (take k items) + cond (get_or items k 0 == number) 1 0
 times-more number items k h = ap (times number) (rw add-one (take-suc items k 0 h)) ∙ times-append number (take k items) (get_or items k 0)
 
-recounted-none : (rises : Bool) (ones : ℕ) → recounted rises 0 ones ≡ ones
-recounted-none true ones = omega arith
-recounted-none false ones = omega arith
+recounted-none : (rises : Bool) (ones : ℕ) → ones < 2 ^ 32 → recounted rises 0 ones ≡ ones
+recounted-none true ones small = omega arith
+recounted-none false ones small = omega arith
 
 recounted-next : (rises : Bool) (inputs ones : ℕ) → recounted rises 1 (recounted rises inputs ones) ≡ recounted rises (inputs + 1) ones
 recounted-next true inputs ones = omega arith
@@ -109,7 +109,7 @@ recounted-same rises inputs ones = ap (λ n. recounted rises n ones) (omega arit
 pub recount-begun : (first : ℕ) (readers : List ℕ) (rises : Bool) (ones : List ℕ) → AreRecounted first (take 0 readers) rises ones ones
 recount-begun first readers rises ones = record {
   count = refl;
-  each = λ place h. sym (recounted-none rises (get_or ones place 0));
+  each = λ place h small. sym (recounted-none rises (get_or ones place 0) small);
 }
 
 pub recount-more : (first : ℕ) (readers : List ℕ) (k : ℕ) (rises : Bool) (ones now : List ℕ) (place : ℕ) → k < length readers
@@ -118,18 +118,19 @@ pub recount-more : (first : ℕ) (readers : List ℕ) (k : ℕ) (rises : Bool) (
     → AreRecounted first (take (k + 1) readers) rises ones (set now place (recounted rises 1 (get_or now place 0)))
 recount-more first readers k rises ones now place h above is within all = record {
   count = length-set now place (recounted rises 1 (get_or now place 0)) ∙ all.count;
-  each = λ other inside. elim (cases_eq other place) [
+  each = λ other inside small. elim (cases_eq other place) [
     | inl here ↦
+        let fits : get_or ones place 0 < 2 ^ 32 = rw here at small in
         let listed : times (first + place) (take (k + 1) readers) ≡ times (first + place) (take k readers) + 1 =
         times-more (first + place) readers k h
         ∙ ap (λ (b : Bool). times (first + place) (take k readers) + cond b 1 0) (eq-eqb (get_or readers k 0) (first + place) (omega arith)) in
-        rw (here, listed, get_or-set_same now place (recounted rises 1 (get_or now place 0)) 0 (omega (arith, all.count)), all.each place within)
+        rw (here, listed, get_or-set_same now place (recounted rises 1 (get_or now place 0)) 0 (omega (arith, all.count)), all.each place within fits)
         (recounted-next rises (times (first + place) (take k readers)) (get_or ones place 0))
     | inr apart ↦
         let listed : times (first + other) (take (k + 1) readers) ≡ times (first + other) (take k readers) + 0 =
         times-more (first + other) readers k h
         ∙ ap (λ (b : Bool). times (first + other) (take k readers) + cond b 1 0) (ne_eqb (get_or readers k 0) (first + other) (λ e. apart (omega arith))) in
-        get_or-set_other now place other (recounted rises 1 (get_or now place 0)) 0 apart ∙ all.each other inside
+        get_or-set_other now place other (recounted rises 1 (get_or now place 0)) 0 apart ∙ all.each other inside small
         ∙ sym (ap (λ (n : ℕ). recounted rises n (get_or ones other 0)) listed ∙ recounted-same rises (times (first + other) (take k readers)) (get_or ones other 0))
   ];
 }
@@ -144,6 +145,7 @@ turned-one first place net true gate levels ones new_ones inside is narrow was n
     more-times (bit_at (set levels net false)) (bit_at levels) net set_is (sym is) (λ other apart. sym (get_or-set_other levels net other false false apart)) gate.inputs in
     let before = count-is (bit_at levels) gate.inputs in
     let after = count-is (bit_at (set levels net false)) gate.inputs in
+    let short = count-short (bit_at levels) gate.inputs in
     omega arith
 turned-one first place net false gate levels ones new_ones inside is narrow was now =
     let set_is : bit_at (set levels net true) net ≡ true = get_or-set_same levels net true false inside in
@@ -159,8 +161,11 @@ pub turned-counted : (first net : ℕ) (readers : List (List ℕ)) (levels : Lis
     → StayCounted first readers levels (set levels net (not (bit_at levels net))) ones new_ones
 turned-counted first net readers levels ones new_ones inside all gates listed narrow long was place gate at_place =
     let within = slice_get-some gates place gate at_place in
-    turned-one first place net (bit_at levels net) gate levels (get_or ones place 0) (get_or new_ones place 0) inside refl (narrow place gate at_place) (was place gate at_place)
-    (all.each place (omega (arith, long)) ∙ ap (λ (n : ℕ). recounted (not (bit_at levels net)) n (get_or ones place 0)) (listed place gate net at_place))
+    let few = narrow place gate at_place in
+    let ones_are = was place gate at_place in
+    let short = count_by-le-length (bit_at levels) gate.inputs in
+    turned-one first place net (bit_at levels net) gate levels (get_or ones place 0) (get_or new_ones place 0) inside refl few ones_are
+    (all.each place (omega (arith, long)) (omega arith) ∙ ap (λ (n : ℕ). recounted (not (bit_at levels net)) n (get_or ones place 0)) (listed place gate net at_place))
 
 pub then-counted : (first : ℕ) (readers : List (List ℕ)) (levels middle_levels new_levels : List Bool) (ones middle new_ones : List ℕ) → length middle ≡ length ones
     → StayCounted first readers levels middle_levels ones middle → StayCounted first readers middle_levels new_levels middle new_ones

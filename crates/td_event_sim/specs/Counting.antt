@@ -1,5 +1,5 @@
 -- How many of a gate's inputs are at 1.
-use Rattle.std.specs.Prelude.{◌≡◌, ℕ, ◌+◌, ◌-◌, ◌^◌, ◌==◌, ◌<◌, ◌≤◌, Bool, true, false, max, min, List, [], ◌∷◌, length, slice_get, slice_index, slice_index_or, Some, cond, count_by}
+use Rattle.std.specs.Prelude.{◌≡◌, ℕ, ◌+◌, ◌-◌, ◌*◌, ◌%◌, ◌^◌, ◌==◌, ◌<◌, ◌≤◌, Bool, true, false, List, [], ◌∷◌, length, slice_get, slice_index, slice_index_or, Some, cond, count_by}
 use Rattle.td_circuit.specs.Numbering.{NumberedGate}
 use Rattle.td_event_sim.specs.Bits.{bit_at}
 
@@ -22,15 +22,16 @@ AreListed first_output gates readers = (place : ℕ) (gate : NumberedGate) (net 
 abbrev pub AreNarrow : List NumberedGate → Type 0
 AreNarrow gates = (place : ℕ) (gate : NumberedGate) → slice_get gates place ≡ Some gate → length gate.inputs ≤ 1023
 
--- a count after so many inputs rose, or fell
+-- a count of 32 bits after so many inputs rose, or fell
 abbrev pub recounted : Bool → ℕ → ℕ → ℕ
-recounted true inputs ones = max ones (min (ones + inputs) (2 ^ 32 - 1))
-recounted false inputs ones = ones - inputs
+recounted true inputs ones = (ones + inputs) % 2 ^ 32
+recounted false inputs ones = (ones + inputs * (2 ^ 32 - 1)) % 2 ^ 32
 
 -- the counts of the gates with these outputs after a net rose, or fell, that they read
 pub record AreRecounted (first_output : ℕ) (readers : List ℕ) (rises : Bool) (ones new_ones : List ℕ) : Type 0 where
   pub count : length new_ones ≡ length ones
-  pub each : (place : ℕ) → place < length ones → slice_index new_ones place ≡ recounted rises (times (first_output + place) readers) (slice_index ones place)
+  pub each : (place : ℕ) → place < length ones → slice_index ones place < 2 ^ 32
+      → slice_index new_ones place ≡ recounted rises (times (first_output + place) readers) (slice_index ones place)
 
 -- where the counts were right, so they are
 abbrev pub StayCounted : ℕ → List (List ℕ) → List Bool → List Bool → List ℕ → List ℕ → Type 0

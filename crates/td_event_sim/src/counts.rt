@@ -31,9 +31,9 @@ fn recounted(ones: u32, rises: bool) -> u32
     ensures { result ≡ recounted rises 1 ones }
 {
     if rises {
-        ones.saturating_add(1)
+        ones.wrapping_add(1)
     } else {
-        ones.saturating_sub(1)
+        ones.wrapping_sub(1)
     }
 }
 

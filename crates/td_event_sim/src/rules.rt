@@ -80,6 +80,15 @@ pub struct Tally {
     pub rule: Rule,
 }
 
+impl Tally {
+    /// Whether the gate's target is 1.
+    pub fn target(&self) -> bool
+        ensures { result ≡ target_by_rule self.now.rule self.now.ones }
+    {
+        self.rule.target(self.ones)
+    }
+}
+
 /// Tallies of these gates.
 pub fn tallies(alloc: Global, gates: &[Gate]) -> Result<Vec<Tally>, AllocError>
     requires { All (λ gate. length gate.inputs.items ≤ 1023) gates.now }

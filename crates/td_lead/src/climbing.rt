@@ -112,20 +112,19 @@ fn climb_on<O: Others>(
         return Ok(());
     }
     let patience = 40 * inputs as u32;
-    let mut draws = Draws { state: plan.seed };
-    let mut here = best.copy(alloc)?;
-    let mut other = best.pair.copy(alloc)?;
+    let mut stand = Stand {
+        here: best.copy(alloc)?,
+        other: best.pair.copy(alloc)?,
+        draws: Draws { state: plan.seed },
+    };
     let mut grown = 0;
     for attempt in 0..plan.tries {
         if best.time >= plan.enough || others.have_enough() {
             break;
         }
         let is_stuck = attempt.saturating_sub(grown) > patience;
-        let (next, left, is_gain) = step(
-            alloc, scratch, circuit, admit, best, here, other, &mut draws, is_stuck,
-        )?;
-        here = next;
-        other = left;
+        let (next, is_gain) = step(alloc, scratch, circuit, admit, best, stand, is_stuck)?;
+        stand = next;
         if is_gain {
             grown = attempt;
         }
@@ -133,46 +132,71 @@ fn climb_on<O: Others>(
     Ok(())
 }
 
-/// The pair from which a climb goes on, another one whose vectors may be used again, and whether the first has a greater delay or is
-/// drawn anew: it is a pair one move away, if its delay isn't less, else one drawn anew if the climb is stuck, else the same. It is
-/// written over the other pair that is given. The error is want of memory.
+/// Where a climb stands: the pair from which it goes on, another one over which a pair may be written, and what it draws from.
+#[derive(Drop)]
+struct Stand {
+    here: Timed,
+    other: Pair,
+    draws: Draws,
+}
+
+/// Where a climb stands after a try, and whether its pair has a greater delay or is drawn anew: it is a pair one move away, if its delay
+/// isn't less, else one drawn anew if the climb is stuck, else the same. The error is out of memory.
 fn step(
     alloc: Global,
     scratch: &mut Scratch,
     circuit: &Circuit,
     admit: &Admit,
     best: &mut Timed,
-    here: Timed,
-    other: Pair,
-    draws: &mut Draws,
+    stand: Stand,
     is_stuck: bool,
-) -> Result<(Timed, Pair, bool), AllocError>
+) -> Result<(Stand, bool), AllocError>
     requires scratch { IsFor circuit.now scratch.old }
     requires held { length admit.now.held ≡ length circuit.now.netlist.inputs }
     requires some { 0 < length circuit.now.netlist.inputs }
     requires best { IsTimed (setting circuit.now) admit.now best.old }
-    requires here { IsTimed (setting circuit.now) admit.now here }
-    requires other { IsAdmitted admit.now other }
-    ensures timed { IfOk result (λ next. IsTimed (setting circuit.now) admit.now next.0) }
-    ensures left { IfOk result (λ next. IsAdmitted admit.now next.1) }
+    requires here { IsTimed (setting circuit.now) admit.now stand.here }
+    requires other { IsAdmitted admit.now stand.other }
+    ensures timed { IfOk result (λ next. IsTimed (setting circuit.now) admit.now next.0.here) }
+    ensures left { IfOk result (λ next. IsAdmitted admit.now next.0.other) }
     ensures best { IsTimed (setting circuit.now) admit.now best.new }
     ensures no_less { best.old.time ≤ best.new.time }
     ensures scratch { IsFor circuit.now scratch.new }
 {
     let _numbering = circuit.gates();
-    let pair = moved(admit, &here.pair, other, draws);
+    let Stand {
+        here,
+        other,
+        mut draws,
+    } = stand;
+    let pair = moved(admit, &here.pair, other, &mut draws);
     let next = timed(scratch, circuit, admit, pair)?;
     if next.time >= here.time {
         let is_gain = next.time > here.time;
         let next = kept(alloc, circuit, admit, best, next)?;
-        return Ok((next, here.pair, is_gain));
+        let stand = Stand {
+            here: next,
+            other: here.pair,
+            draws,
+        };
+        return Ok((stand, is_gain));
     }
     if !is_stuck {
-        return Ok((here, next.pair, false));
+        let stand = Stand {
+            here,
+            other: next.pair,
+            draws,
+        };
+        return Ok((stand, false));
     }
-    let pair = anywhere(admit, &here.pair, next.pair, draws);
+    let pair = anywhere(admit, &here.pair, next.pair, &mut draws);
     let next = timed(scratch, circuit, admit, pair)?;
-    Ok((next, here.pair, true))
+    let stand = Stand {
+        here: next,
+        other: here.pair,
+        draws,
+    };
+    Ok((stand, true))
 }
 
 /// An admitted pair with its delay. The error is want of memory.

@@ -6,7 +6,6 @@ ghost use Rattle.td_domain.specs.declared.cubes.Trit.TheVariants.{Free};
 ghost use Rattle.td_domain.specs.Admits.{HasAdmitted};
 ghost use Rattle.td_certificate.specs.Cubes.{zero_side, one_side};
 ghost use Rattle.td_search.specs.Problems.{IsPart};
-ghost use Rattle.td_search.specs.Sheeted.{IsScratch};
 ghost use Rattle.td_join.specs.Partition.{IsPartition};
 ghost use Rattle.td_parts.specs.Queues.{AreBelow, AreWaiting, AreWaitingBut};
 ghost use Rattle.td_parts.specs.Splits.{IsSplitFree, IsTruePart, IsUnsplit, cubes_of as cubes};
@@ -16,9 +15,8 @@ ghost use Rattle.td_parts.specs.Sharing.{AreShares, IsCutting, IsFreeIn, weight}
 use crate::part::{Part, cubes_of};
 use crate::queue::Queue;
 use std::alloc::{AllocError, Global};
-use td_circuit::Circuit;
-use td_domain::{Admit, Cube, Trit};
-use td_search::{Scratch, Strategy};
+use td_domain::{Cube, Trit};
+use td_search::{Lead, Least, Own, Problem, Rule, Strategy, Task};
 
 /// The zero side and the one side of a cube at a free position. The error is want of memory.
 fn sides(alloc: Global, cube: &Cube, position: usize) -> Result<(Cube, Cube), AllocError>
@@ -42,73 +40,62 @@ pub struct Cutting {
 
 impl Cutting {
     /// The pins as one part. The error is want of memory.
-    fn begin(
-        alloc: Global,
-        scratch: &mut Scratch,
-        circuit: &Circuit,
-        admit: &Admit,
-        strategy: Strategy,
-    ) -> Result<Cutting, AllocError>
-        requires scratch { IsScratch circuit.now scratch.old }
-        requires held { length admit.now.held ≡ length circuit.now.netlist.inputs }
-        requires any { HasAdmitted admit.now admit.now.pins }
-        ensures cutting { IfOk result (IsCutting strategy (setting circuit.now) admit.now) }
+    fn begin<R: Rule>(task: &Task<'_, R>, scratch: &mut R::Scratch) -> Result<Cutting, AllocError>
+        requires scratch { R.is_for scratch.old task.now.problem.now.circuit.now }
+        requires any { HasAdmitted task.now.problem.now.admit.now task.now.problem.now.admit.now.pins }
+        ensures cutting { IfOk result (IsCutting task.now.problem.now.strategy (setting task.now.problem.now.circuit.now) task.now.problem.now.admit.now) }
         ensures waiting { IfOk result (λ cutting. AreWaiting cutting.parts.items cutting.queue) }
         ensures one { IfOk result (λ cutting. length cutting.parts.items ≡ 1) }
-        ensures scratch { IsScratch circuit.now scratch.new }
+        ensures scratch { R.is_for scratch.new task.now.problem.now.circuit.now }
     {
-        let pins = admit.pins().copy(alloc)?;
-        let part = Part::new(alloc, scratch, circuit, strategy, pins)?;
-        let mut queue = Queue::new(alloc);
+        let pins = task.problem.admit.pins().copy(task.alloc)?;
+        let part = Part::new(task, scratch, pins)?;
+        let mut queue = Queue::new(task.alloc);
         queue.push(part.bound(), 0)?;
-        let mut parts = Vec::new(alloc);
+        let mut parts = Vec::new(task.alloc);
         parts.push(part)?;
         Ok(Cutting { parts, queue })
     }
 
     /// Puts a half of the part of a place into its place. The error is want of memory.
-    fn narrow(
+    fn narrow<R: Rule>(
         &mut self,
-        alloc: Global,
-        scratch: &mut Scratch,
-        circuit: &Circuit,
-        strategy: Strategy,
+        task: &Task<'_, R>,
+        scratch: &mut R::Scratch,
         place: usize,
         half: Cube,
     ) -> Result<(), AllocError>
-        requires scratch { IsScratch circuit.now scratch.old }
-        requires positions { length half ≡ 2 * length circuit.now.netlist.inputs }
+        requires scratch { R.is_for scratch.old task.now.problem.now.circuit.now }
+        requires positions { length half ≡ 2 * length task.now.problem.now.circuit.now.netlist.inputs }
         requires place { place < length self.old.parts.items }
         ensures cubes { OnOk result (cubes self.new.parts.items ≡ set (cubes self.old.parts.items) place half) }
-        ensures splits { All (IsTruePart strategy (setting circuit.now)) self.old.parts.items → OnOk result (All (IsTruePart strategy (setting circuit.now)) self.new.parts.items) }
+        ensures splits { All (IsTruePart task.now.problem.now.strategy (setting task.now.problem.now.circuit.now)) self.old.parts.items → OnOk result (All (IsTruePart task.now.problem.now.strategy (setting task.now.problem.now.circuit.now)) self.new.parts.items) }
         ensures queued { AreBelow (length self.old.parts.items) self.old.queue → OnOk result (AreBelow (length self.old.parts.items) self.new.queue) }
         ensures waiting { AreWaitingBut place self.old.parts.items self.old.queue → OnOk result (AreWaiting self.new.parts.items self.new.queue) }
-        ensures scratch { IsScratch circuit.now scratch.new }
+        ensures scratch { R.is_for scratch.new task.now.problem.now.circuit.now }
     {
-        let part = Part::new(alloc, scratch, circuit, strategy, half)?;
+        let part = Part::new(task, scratch, half)?;
         self.queue.push(part.bound(), place)?;
         self.parts[place] = part;
         Ok(())
     }
 
     /// Adds a half as one part more. The error is want of memory.
-    fn add(
+    fn add<R: Rule>(
         &mut self,
-        alloc: Global,
-        scratch: &mut Scratch,
-        circuit: &Circuit,
-        strategy: Strategy,
+        task: &Task<'_, R>,
+        scratch: &mut R::Scratch,
         half: Cube,
     ) -> Result<(), AllocError>
-        requires scratch { IsScratch circuit.now scratch.old }
-        requires positions { length half ≡ 2 * length circuit.now.netlist.inputs }
+        requires scratch { R.is_for scratch.old task.now.problem.now.circuit.now }
+        requires positions { length half ≡ 2 * length task.now.problem.now.circuit.now.netlist.inputs }
         ensures cubes { OnOk result (cubes self.new.parts.items ≡ cubes self.old.parts.items ++ half ∷ []) }
-        ensures splits { All (IsTruePart strategy (setting circuit.now)) self.old.parts.items → OnOk result (All (IsTruePart strategy (setting circuit.now)) self.new.parts.items) }
+        ensures splits { All (IsTruePart task.now.problem.now.strategy (setting task.now.problem.now.circuit.now)) self.old.parts.items → OnOk result (All (IsTruePart task.now.problem.now.strategy (setting task.now.problem.now.circuit.now)) self.new.parts.items) }
         ensures queued { AreBelow (length self.old.parts.items) self.old.queue → OnOk result (AreBelow (length self.old.parts.items + 1) self.new.queue) }
         ensures waiting { AreWaiting self.old.parts.items self.old.queue → OnOk result (AreWaiting self.new.parts.items self.new.queue) }
-        ensures scratch { IsScratch circuit.now scratch.new }
+        ensures scratch { R.is_for scratch.new task.now.problem.now.circuit.now }
     {
-        let part = Part::new(alloc, scratch, circuit, strategy, half)?;
+        let part = Part::new(task, scratch, half)?;
         self.queue.push(part.bound(), self.parts.len())?;
         self.parts.push(part)?;
         Ok(())
@@ -116,39 +103,35 @@ impl Cutting {
 
     /// Halves the part of a place at a position that is free in it. A half without an admitted pair is left out. The error is want of
     /// memory.
-    fn halve(
+    fn halve<R: Rule>(
         &mut self,
-        alloc: Global,
-        scratch: &mut Scratch,
-        circuit: &Circuit,
-        admit: &Admit,
-        strategy: Strategy,
+        task: &Task<'_, R>,
+        scratch: &mut R::Scratch,
         place: usize,
         position: usize,
     ) -> Result<(), AllocError>
-        requires scratch { IsScratch circuit.now scratch.old }
-        requires held { length admit.now.held ≡ length circuit.now.netlist.inputs }
-        requires cutting { IsCutting strategy (setting circuit.now) admit.now self.old }
+        requires scratch { R.is_for scratch.old task.now.problem.now.circuit.now }
+        requires cutting { IsCutting task.now.problem.now.strategy (setting task.now.problem.now.circuit.now) task.now.problem.now.admit.now self.old }
         requires place { place < length self.old.parts.items }
         requires free { IsFreeIn (cubes self.old.parts.items) place position }
         requires waiting { AreWaitingBut place self.old.parts.items self.old.queue }
-        ensures cutting { OnOk result (IsCutting strategy (setting circuit.now) admit.now self.new) }
+        ensures cutting { OnOk result (IsCutting task.now.problem.now.strategy (setting task.now.problem.now.circuit.now) task.now.problem.now.admit.now self.new) }
         ensures waiting { OnOk result (AreWaiting self.new.parts.items self.new.queue) }
         ensures few { OnOk result (length self.new.parts.items ≤ length self.old.parts.items + 1) }
         ensures smaller { OnOk result (weight (cubes self.new.parts.items) < weight (cubes self.old.parts.items)) }
-        ensures scratch { IsScratch circuit.now scratch.new }
+        ensures scratch { R.is_for scratch.new task.now.problem.now.circuit.now }
     {
-        let _fit = admit.pins();
-        let (low, high) = sides(alloc, &self.parts[place].cube, position)?;
-        if !admit.any(&low) {
-            self.narrow(alloc, scratch, circuit, strategy, place, high)?;
+        let _fit = task.problem.admit.pins();
+        let (low, high) = sides(task.alloc, &self.parts[place].cube, position)?;
+        if !task.problem.admit.any(&low) {
+            self.narrow(task, scratch, place, high)?;
             return Ok(());
         }
-        self.narrow(alloc, scratch, circuit, strategy, place, low)?;
-        if !admit.any(&high) {
+        self.narrow(task, scratch, place, low)?;
+        if !task.problem.admit.any(&high) {
             return Ok(());
         }
-        self.add(alloc, scratch, circuit, strategy, high)?;
+        self.add(task, scratch, high)?;
         Ok(())
     }
 
@@ -173,21 +156,17 @@ impl Cutting {
     }
 
     /// Halves parts until there are so many, or a search would split none. The error is want of memory.
-    fn halve_until(
+    fn halve_until<R: Rule>(
         &mut self,
-        alloc: Global,
-        scratch: &mut Scratch,
-        circuit: &Circuit,
-        admit: &Admit,
-        strategy: Strategy,
+        task: &Task<'_, R>,
+        scratch: &mut R::Scratch,
         parts: usize,
     ) -> Result<(), AllocError>
-        requires scratch { IsScratch circuit.now scratch.old }
-        requires held { length admit.now.held ≡ length circuit.now.netlist.inputs }
-        requires cutting { IsCutting strategy (setting circuit.now) admit.now self.old }
+        requires scratch { R.is_for scratch.old task.now.problem.now.circuit.now }
+        requires cutting { IsCutting task.now.problem.now.strategy (setting task.now.problem.now.circuit.now) task.now.problem.now.admit.now self.old }
         requires waiting { AreWaiting self.old.parts.items self.old.queue }
         requires few { length self.old.parts.items ≤ max 1 parts }
-        ensures cutting { OnOk result (IsCutting strategy (setting circuit.now) admit.now self.new) }
+        ensures cutting { OnOk result (IsCutting task.now.problem.now.strategy (setting task.now.problem.now.circuit.now) task.now.problem.now.admit.now self.new) }
         ensures few { OnOk result (length self.new.parts.items ≤ max 1 parts) }
         ensures enough { OnOk result (length self.new.parts.items < parts → All IsUnsplit self.new.parts.items) }
     {
@@ -195,61 +174,74 @@ impl Cutting {
             let Some((place, position)) = self.next() else {
                 break;
             };
-            self.halve(alloc, scratch, circuit, admit, strategy, place, position)?;
+            self.halve(task, scratch, place, position)?;
         }
         Ok(())
     }
 }
 
 /// As `cut`, where an admitted pair lies in the pins.
-fn cut_pins(
-    alloc: Global,
-    scratch: &mut Scratch,
-    circuit: &Circuit,
-    admit: &Admit,
-    strategy: Strategy,
-    parts: usize,
-) -> Result<Vec<Cube>, AllocError>
-    requires scratch { IsScratch circuit.now scratch.old }
-    requires held { length admit.now.held ≡ length circuit.now.netlist.inputs }
-    requires any { HasAdmitted admit.now admit.now.pins }
-    ensures shares { IfOk result (λ cubes. AreShares admit.now cubes.items) }
+fn cut_pins<R: Rule>(task: &Task<'_, R>, parts: usize) -> Result<Vec<Cube>, AllocError>
+    requires any { HasAdmitted task.now.problem.now.admit.now task.now.problem.now.admit.now.pins }
+    ensures shares { IfOk result (λ cubes. AreShares task.now.problem.now.admit.now cubes.items) }
     ensures few { IfOk result (λ cubes. length cubes.items ≤ max 1 parts) }
-    ensures enough { IfOk result (λ cubes. length cubes.items < parts → All (IsWhole strategy (setting circuit.now)) cubes.items) }
+    ensures enough { IfOk result (λ cubes. length cubes.items < parts → All (IsWhole task.now.problem.now.strategy (setting task.now.problem.now.circuit.now)) cubes.items) }
 {
-    let mut cutting = Cutting::begin(alloc, scratch, circuit, admit, strategy)?;
-    cutting.halve_until(alloc, scratch, circuit, admit, strategy, parts)?;
-    let cubes = cubes_of(alloc, cutting.parts)?;
+    let mut scratch = task.rule.scratch(task.alloc, task.problem)?;
+    let mut cutting = Cutting::begin(task, &mut scratch)?;
+    cutting.halve_until(task, &mut scratch, parts)?;
+    let cubes = cubes_of(task.alloc, cutting.parts)?;
     Ok(cubes)
 }
 
 /// Cuts the pins of a question into at most so many cubes (0 counts as 1), to be searched apart. The part whose strongest bound is
 /// greatest is halved, the first of several, at the position at which a search by the strategy would split it, until there are that many
 /// or a search would split no part. A cube without an admitted pair is left out, so that there is none at all where no pair is admitted.
-/// The error is want of memory.
-pub fn cut(
-    alloc: Global,
-    circuit: &Circuit,
-    admit: &Admit,
-    strategy: Strategy,
-    parts: usize,
-) -> Result<Vec<Cube>, AllocError>
-    requires held { length admit.now.held ≡ length circuit.now.netlist.inputs }
+/// The error is out of memory.
+pub fn cut(alloc: Global, problem: &Problem<'_>, parts: usize) -> Result<Vec<Cube>, AllocError>
     // Each admitted pair lies in exactly one of the cubes, and each cube has an admitted pair.
-    ensures partition { IfOk result (λ cubes. IsPartition admit.now cubes.items) }
-    ensures some { IfOk result (λ cubes. All (HasAdmitted admit.now) cubes.items) }
+    ensures partition { IfOk result (λ cubes. IsPartition problem.now.admit.now cubes.items) }
+    ensures some { IfOk result (λ cubes. All (HasAdmitted problem.now.admit.now) cubes.items) }
     // Each is a part of the pins with as many positions.
-    ensures inside { IfOk result (λ cubes. All (λ cube. IsPart cube admit.now.pins) cubes.items) }
-    ensures fits { IfOk result (λ cubes. All (λ cube. length cube ≡ length admit.now.pins) cubes.items) }
+    ensures inside { IfOk result (λ cubes. All (λ cube. IsPart cube problem.now.admit.now.pins) cubes.items) }
+    ensures fits { IfOk result (λ cubes. All (λ cube. length cube ≡ length problem.now.admit.now.pins) cubes.items) }
     ensures few { IfOk result (λ cubes. length cubes.items ≤ max 1 parts) }
     // There are fewer than asked for only where a search would split none of them.
-    ensures enough { IfOk result (λ cubes. length cubes.items < parts → All (IsWhole strategy (setting circuit.now)) cubes.items) }
+    ensures enough { IfOk result (λ cubes. length cubes.items < parts → All (IsWhole problem.now.strategy (setting problem.now.circuit.now)) cubes.items) }
 {
-    let pins = admit.pins();
-    if !admit.any(pins) {
+    let pins = problem.admit.pins();
+    if !problem.admit.any(pins) {
         return Ok(Vec::new(alloc));
     }
-    let mut scratch = Scratch::new(alloc, circuit, pins)?;
-    let cubes = cut_pins(alloc, &mut scratch, circuit, admit, strategy, parts)?;
+    let cubes = cut_by(alloc, problem, parts)?;
     Ok(cubes)
+}
+
+/// As `cut`, where an admitted pair lies in the pins, by the rule of the strategy.
+fn cut_by(alloc: Global, problem: &Problem<'_>, parts: usize) -> Result<Vec<Cube>, AllocError>
+    requires any { HasAdmitted problem.now.admit.now problem.now.admit.now.pins }
+    ensures shares { IfOk result (λ cubes. AreShares problem.now.admit.now cubes.items) }
+    ensures few { IfOk result (λ cubes. length cubes.items ≤ max 1 parts) }
+    ensures enough { IfOk result (λ cubes. length cubes.items < parts → All (IsWhole problem.now.strategy (setting problem.now.circuit.now)) cubes.items) }
+{
+    match problem.strategy {
+        Strategy::Least => {
+            let rule = Least { prober: &Own };
+            let task = Task {
+                alloc,
+                problem,
+                rule: &rule,
+            };
+            cut_pins(&task, parts)
+        }
+        Strategy::Lead => {
+            let rule = Lead::new(problem.circuit, 1);
+            let task = Task {
+                alloc,
+                problem,
+                rule: &rule,
+            };
+            cut_pins(&task, parts)
+        }
+    }
 }

@@ -2,14 +2,12 @@
 
 ghost use Rattle.std.specs.Prelude.{◌≡◌, ◌*◌, length, IfOk};
 ghost use Rattle.td_circuit.specs.Numbering.{setting};
-ghost use Rattle.td_search.specs.Sheeted.{IsScratch};
 ghost use Rattle.td_parts.specs.Splits.{IsTruePart, bound_of, cubes_of};
 
 use crate::split::{Split, split_of};
 use std::alloc::{AllocError, Global};
-use td_circuit::Circuit;
 use td_domain::Cube;
-use td_search::{Scratch, Strategy};
+use td_search::{Rule, Task};
 
 /// A part of the pins, and where a search would split it.
 #[derive(Debug, Drop)]
@@ -20,20 +18,18 @@ pub struct Part {
 
 impl Part {
     /// The part of a cube. The error is want of memory, and the scratch may be used again.
-    pub fn new(
-        alloc: Global,
-        scratch: &mut Scratch,
-        circuit: &Circuit,
-        strategy: Strategy,
+    pub fn new<R: Rule>(
+        task: &Task<'_, R>,
+        scratch: &mut R::Scratch,
         cube: Cube,
     ) -> Result<Part, AllocError>
-        requires scratch { IsScratch circuit.now scratch.old }
-        requires positions { length cube ≡ 2 * length circuit.now.netlist.inputs }
+        requires scratch { R.is_for scratch.old task.now.problem.now.circuit.now }
+        requires positions { length cube ≡ 2 * length task.now.problem.now.circuit.now.netlist.inputs }
         ensures cube { IfOk result (λ part. part.cube ≡ cube) }
-        ensures split { IfOk result (IsTruePart strategy (setting circuit.now)) }
-        ensures scratch { IsScratch circuit.now scratch.new }
+        ensures split { IfOk result (IsTruePart task.now.problem.now.strategy (setting task.now.problem.now.circuit.now)) }
+        ensures scratch { R.is_for scratch.new task.now.problem.now.circuit.now }
     {
-        let split = split_of(alloc, scratch, circuit, &cube, strategy)?;
+        let split = split_of(task, scratch, &cube)?;
         Ok(Part { cube, split })
     }
 

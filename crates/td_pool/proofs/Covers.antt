@@ -25,8 +25,8 @@ use Rattle.td_search.specs.Representatives.{representative}
 use Rattle.td_search.proofs.Bounded.{above_bound}
 use Rattle.td_search.proofs.Found.{nothing}
 use Rattle.td_pool.specs.declared.leaf.OpenLeaf.{OpenLeaf}
-use Rattle.td_pool.specs.declared.root.Root.{Root}
-use Rattle.td_pool.specs.Truth.{IsRoot}
+use Rattle.td_search.specs.declared.root.Root.{Root}
+use Rattle.td_search.specs.Roots.{IsRoot}
 use Rattle.td_pool.specs.Watched.{IsFound, FoundIsAtMostWorst}
 use Rattle.td_pool.specs.Frontiers.{IsWithin, IsCover, IsSplit, IsSettled, AreSettled, leaf_of, bounds_of}
 

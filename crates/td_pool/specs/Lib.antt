@@ -4,3 +4,4 @@ pub mod Subjects
 pub mod Turning
 pub mod Truth
 pub mod Watched
+pub mod Working

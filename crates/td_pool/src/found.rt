@@ -1,4 +1,4 @@
-//! What workers hand back.
+//! What workers begin with and hand back.
 
 use std::sync::ledger::{Ledger, Share};
 use td_incumbent::Seat;
@@ -16,5 +16,21 @@ pub struct Found {
 #[derive(Drop)]
 pub struct Report<L: Ledger> {
     pub found: Found,
+    pub share: Share<L>,
+}
+
+/// What all workers begin with: for each a deck and what it has found so far, and their share of the ledger.
+#[derive(Drop)]
+pub struct Crew<D, L: Ledger> {
+    pub decks: Vec<D>,
+    pub found: Vec<Found>,
+    pub share: Share<L>,
+}
+
+/// What one worker begins with, where there is a deck and something found for it.
+#[derive(Drop)]
+pub struct Start<D, L: Ledger> {
+    pub deck: Option<D>,
+    pub found: Option<Found>,
     pub share: Share<L>,
 }

@@ -5,20 +5,18 @@ ghost use Rattle.td_domain.specs.declared.cubes.Trit.TheVariants.{Free};
 ghost use Rattle.td_domain.specs.Worst.{IsUpperBound};
 ghost use Rattle.td_search.specs.CutShort.{greatest_of};
 ghost use Rattle.td_search.specs.Findings.{IsTrueOf, IsTrueEvidence};
-ghost use Rattle.td_search.specs.Problems.{problem_by, IsAbove};
+ghost use Rattle.td_search.specs.Problems.{problem_of, IsAbove};
 ghost use Rattle.td_pool.specs.declared.leaf.OpenLeaf.{OpenLeaf};
 ghost use Rattle.td_pool.specs.Frontiers.{AreToldOf, BeginsAt, IsCover, IsSplit, IsSettled, leaf_of, bounds_of};
-ghost use Rattle.td_pool.specs.Truth.{IsRoot};
+ghost use Rattle.td_search.specs.Roots.{IsRoot};
 ghost use Rattle.td_pool.specs.Watched.{IsFound};
 
 use crate::leaf::OpenLeaf;
-use crate::root::Root;
 use crate::subject::Subject;
 use std::alloc::{AllocError, Global};
 use std::marker::PhantomData;
-use td_circuit::Circuit;
 use td_domain::{Admit, Trit};
-use td_search::{Evidence, Finding, Strategy};
+use td_search::{Evidence, Finding, Problem, Root};
 
 /// What is known of the delays of a search's admitted pairs, and the leaves that are left of its tree, in which all pairs lie that may
 /// have a greater delay than was found.
@@ -138,22 +136,16 @@ fn split_last(
 
 impl<L: Subject> Frontier<L> {
     /// Nothing is split or closed yet, and what is left is kept. The error is want of memory.
-    pub fn new(
-        alloc: Global,
-        circuit: &Circuit,
-        admit: &Admit,
-        strategy: Strategy,
-        root: Root,
-    ) -> Result<Frontier<L>, AllocError>
-        requires asked { L.asked ≡ problem_by strategy circuit.now admit.now }
-        requires root { IsRoot (problem_by strategy circuit.now admit.now) root }
+    pub fn new(alloc: Global, problem: &Problem<'_>, root: Root) -> Result<Frontier<L>, AllocError>
+        requires asked { L.asked ≡ problem_of problem.now }
+        requires root { IsRoot (problem_of problem.now) root }
         ensures low { IfOk result (λ frontier. frontier.low ≡ root.first) }
         ensures high { IfOk result (λ frontier. frontier.high ≡ root.bound) }
-        ensures leaves { IfOk result (λ frontier. frontier.leaves.items ≡ leaf_of 0 admit.now.pins root.bound ∷ []) }
+        ensures leaves { IfOk result (λ frontier. frontier.leaves.items ≡ leaf_of 0 problem.now.admit.now.pins root.bound ∷ []) }
     {
-        let _numbering = circuit.gates();
-        let _moments = circuit.moments();
-        let leaves = first_leaf(alloc, admit, root.bound)?;
+        let _numbering = problem.circuit.gates();
+        let _moments = problem.circuit.moments();
+        let leaves = first_leaf(alloc, problem.admit, root.bound)?;
         Ok(Frontier {
             alloc,
             low: root.first,
@@ -166,21 +158,15 @@ impl<L: Subject> Frontier<L> {
     }
 
     /// What is left is not kept. Takes no memory.
-    pub fn unkept(
-        alloc: Global,
-        circuit: &Circuit,
-        admit: &Admit,
-        strategy: Strategy,
-        root: Root,
-    ) -> Frontier<L>
-        requires asked { L.asked ≡ problem_by strategy circuit.now admit.now }
-        requires root { IsRoot (problem_by strategy circuit.now admit.now) root }
+    pub fn unkept(alloc: Global, problem: &Problem<'_>, root: Root) -> Frontier<L>
+        requires asked { L.asked ≡ problem_of problem.now }
+        requires root { IsRoot (problem_of problem.now) root }
         ensures low { result.low ≡ root.first }
         ensures high { result.high ≡ root.bound }
         ensures leaves { result.leaves.items ≡ [] }
     {
-        let _numbering = circuit.gates();
-        let _moments = circuit.moments();
+        let _numbering = problem.circuit.gates();
+        let _moments = problem.circuit.moments();
         Frontier {
             alloc,
             low: root.first,
@@ -261,19 +247,13 @@ impl<L: Subject> Frontier<L> {
     }
 
     // The last leaf is closed or split, as it was found of its cube. The error is want of memory.
-    fn settle_last(
-        &mut self,
-        circuit: &Circuit,
-        admit: &Admit,
-        strategy: Strategy,
-        finding: Finding,
-    ) -> Result<(), AllocError>
-        requires asked { L.asked ≡ problem_by strategy circuit.now admit.now }
-        requires last { (rest : List OpenLeaf) × (leaf : OpenLeaf) × (self.old.leaves.items ≡ rest ++ leaf ∷ []) × IsTrueOf (problem_by strategy circuit.now admit.now) leaf.cube finding }
+    fn settle_last(&mut self, problem: &Problem<'_>, finding: Finding) -> Result<(), AllocError>
+        requires asked { L.asked ≡ problem_of problem.now }
+        requires last { (rest : List OpenLeaf) × (leaf : OpenLeaf) × (self.old.leaves.items ≡ rest ++ leaf ∷ []) × IsTrueOf (problem_of problem.now) leaf.cube finding }
         ensures { OnOk result ((rest : List OpenLeaf) (leaf : OpenLeaf) → self.old.leaves.items ≡ rest ++ leaf ∷ [] → IsSettled rest leaf finding self.new.leaves.items) }
     {
-        let _numbering = circuit.gates();
-        let _moments = circuit.moments();
+        let _numbering = problem.circuit.gates();
+        let _moments = problem.circuit.moments();
         match finding {
             Finding::Closed(_, bound) => {
                 self.close_last(bound);
@@ -285,15 +265,9 @@ impl<L: Subject> Frontier<L> {
 
     /// What was found below a leaf that is left was done there in the shared tree. The error is want of memory: then more leaves are kept
     /// than are left, so that the figures stay true.
-    pub fn settle(
-        &mut self,
-        circuit: &Circuit,
-        admit: &Admit,
-        strategy: Strategy,
-        evidence: &Evidence,
-    ) -> Result<(), AllocError>
-        requires asked { L.asked ≡ problem_by strategy circuit.now admit.now }
-        requires evidence { IsTrueEvidence (problem_by strategy circuit.now admit.now) evidence.now }
+    pub fn settle(&mut self, problem: &Problem<'_>, evidence: &Evidence) -> Result<(), AllocError>
+        requires asked { L.asked ≡ problem_of problem.now }
+        requires evidence { IsTrueEvidence (problem_of problem.now) evidence.now }
         ensures { OnOk result (AreToldOf self.old.leaves.items evidence.now self.new.leaves.items) }
     {
         let Some(place) = place_of(&self.leaves, evidence) else {
@@ -301,7 +275,7 @@ impl<L: Subject> Frontier<L> {
         };
         self.bring_last(place);
         for finding in &evidence.findings {
-            self.settle_last(circuit, admit, strategy, *finding)?;
+            self.settle_last(problem, *finding)?;
         }
         Ok(())
     }

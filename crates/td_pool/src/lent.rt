@@ -3,9 +3,7 @@
 ghost use Rattle.std.specs.Prelude.{◌≡◌};
 
 use crate::watch::{Progress, Watch};
-use td_circuit::Circuit;
-use td_domain::Admit;
-use td_search::Strategy;
+use td_search::Problem;
 
 /// A watch that comes back. A scope of threads says nothing of a `&mut` that its closure captures, but of a value that goes in and
 /// comes out.
@@ -23,8 +21,8 @@ impl<'w, W: Watch> Watch for Lent<'w, W> {
         self.watch.is_looking()
     }
 
-    fn passed(&mut self, circuit: &Circuit, admit: &Admit, strategy: Strategy, progress: Progress) {
-        self.watch.passed(circuit, admit, strategy, progress);
+    fn passed(&mut self, problem: &Problem<'_>, progress: Progress) {
+        self.watch.passed(problem, progress);
     }
 
     ghost told_nothing = { λ asked lent. (W.told_nothing asked lent.watch.now, refl) };

@@ -2,26 +2,30 @@
 
 ghost use Rattle.std.specs.Prelude.{◌≡◌, ◌+◌, ◌<◌, ◌≤◌, max, [], length, map, vec_capacity, IfOk, IfErr, IfSome};
 ghost use Rattle.std.specs.List.{AllByRecursion};
+ghost use Rattle.td_domain.specs.Admits.{HasAdmitted};
 ghost use Rattle.td_search.specs.Answers.{IsAnswer, IsSearchFault};
+ghost use Rattle.td_search.specs.Best.{IsBest};
 ghost use Rattle.td_search.specs.CutShort.{greatest_of};
 ghost use Rattle.td_search.specs.Findings.{IsTrueEvidence};
-ghost use Rattle.td_search.specs.Problems.{problem, problem_by};
+ghost use Rattle.td_search.specs.Problems.{problem_of, problem};
+ghost use Rattle.td_search.specs.Roots.{IsRoot};
+ghost use Rattle.td_search.specs.Shared.{IsShared};
 ghost use Rattle.td_search.specs.Written.{CanBeWritten};
-ghost use Rattle.td_pool.specs.Truth.{IsTrueFound, IsBest, IsRoot, IsStarting};
+ghost use Rattle.td_pool.specs.Truth.{IsTrueFound, IsStarting};
+ghost use Rattle.td_pool.specs.Working.{IsCrew, IsTruthful, IsWorking};
 
-use crate::by_prober::ByProber;
 use crate::deck::Deck;
-use crate::finder::Finder;
-use crate::found::{Found, Report};
+use crate::effort::Effort;
+use crate::found::{Crew, Found, Report, Start};
 use crate::hints::Hints;
+use crate::kept::Kept;
 use crate::lent::{Lent, take_back};
-use crate::root::{Root, measure_root};
 use crate::shared::Shared;
 use crate::standing::Standing;
 use crate::starting::{first_best, shared_of, starting_of};
 use crate::subject::Subject;
 use crate::watch::{Unwatched, Watch};
-use crate::working::work;
+use crate::working::{Worker, work};
 use std::alloc::{AllocError, Global};
 use std::marker::Brand;
 use std::snapshot::Snapshot;
@@ -31,7 +35,10 @@ use std::thread;
 use std::thread::{Promise, PromisedHandle, Threads};
 use td_circuit::Circuit;
 use td_domain::Admit;
-use td_search::{Answer, Best, Evidence, Prober, SearchFault, Strategy, finish_by};
+use td_search::{
+    Answer, Best, Evidence, Lead, Least, Own, Prober, Problem, Root, Rule, SearchFault, SharedWork,
+    Strategy, Task, alone_by, finish, root_of,
+};
 
 /// What a worker promises: all that it hands back is true of the admitted pairs of the circuit.
 #[derive(Drop)]
@@ -48,9 +55,10 @@ impl<L: Ledger> Promise<Report<L>> for Truthful {
     ghost kept_by = { λ promise report. IsTrueFound (problem_by promise.strategy promise.circuit.value promise.admit.value) report.found };
 }
 
-/// Searches for the worst delay of the admitted pairs of a circuit by so many workers, from 1 to 64, of which this thread is one, and
-/// handles at most so many nodes. The budget is at most 10,000,000, and the pairs are of the circuit's inputs. With one worker and
-/// `Own` the figures and the number of nodes are those of `alone`, which is tested. A thread that can't be started only lowers the number of workers.
+/// Searches by `least` for the worst delay of the admitted pairs of a circuit, by so many workers, from 1 to 64, of which this thread is
+/// one, and handles at most so many nodes. The budget is at most 10,000,000, and the pairs are of the circuit's inputs. With one worker
+/// and `Own` the figures and the number of nodes are those of `alone`, which is tested. A thread that can't be started only lowers the
+/// number of workers.
 ///
 /// # Errors
 ///
@@ -103,281 +111,270 @@ pub fn worst_by<P: Prober + Sync, D: Hints + Drop + Send, R: Threads + Wait + Sy
     ensures text { IfOk result (CanBeWritten (problem circuit.now admit.now)) }
     ensures fault { IfErr result (IsSearchFault (problem circuit.now admit.now)) }
 {
-    let mut nobody = Unwatched;
-    watched_by(
-        rt,
-        alloc,
+    let problem = Problem {
         circuit,
         admit,
-        prober,
-        decks,
-        workers,
-        budget,
-        &mut nobody,
-    )
+        strategy: Strategy::Least,
+    };
+    let effort = Effort { workers, budget };
+    let mut nobody = Unwatched;
+    search_by(rt, alloc, &problem, prober, decks, effort, &mut nobody)
 }
 
-/// As `worst_by`, and tells a watch how far the search has come.
-pub fn watched_by<P: Prober + Sync, D: Hints + Drop + Send, W: Watch, R: Threads + Wait + Sync>(
+/// Searches for the worst delay that is asked for, by so many workers, of which this thread is one, and tells a watch how far the search
+/// has come each time that the nodes handled have passed 1, 2 or 5 thousand, ten thousand and so on. This thread tells it, and only once
+/// it has handled what it was leased, so a milestone may be told somewhat later, with the nodes that are handled by then, and of several
+/// that were passed meanwhile only the last. With one worker that nobody watches the answer is that of `alone_by`, which asks no prober.
+/// A thread that can't be started only lowers the number of workers.
+///
+/// # Errors
+///
+/// As `worst`.
+pub fn search<P: Prober + Sync, W: Watch, R: Threads + Wait + Sync>(
     rt: &R,
     alloc: Global,
-    circuit: &Circuit,
-    admit: &Admit,
+    problem: &Problem<'_>,
     prober: &P,
-    decks: Vec<D>,
-    workers: u32,
-    budget: u64,
+    effort: Effort,
     watch: &mut W,
 ) -> Result<Answer, SearchFault>
-    requires some { 0 < workers }
-    requires few { workers ≤ 64 }
-    requires modest { budget ≤ 10000000 }
-    requires held { length admit.now.held ≡ length circuit.now.netlist.inputs }
-    ensures answer { IfOk result (IsAnswer (problem circuit.now admit.now) budget) }
-    ensures text { IfOk result (CanBeWritten (problem circuit.now admit.now)) }
-    ensures fault { IfErr result (IsSearchFault (problem circuit.now admit.now)) }
-    ensures told { W.told (problem circuit.now admit.now) watch.old watch.new }
+    ensures answer { IfOk result (IsAnswer (problem_of problem.now) effort.budget) }
+    // The certificate of an exact answer has a text within the limit.
+    ensures text { IfOk result (CanBeWritten (problem_of problem.now)) }
+    ensures fault { IfErr result (IsSearchFault (problem_of problem.now)) }
+    // All that the watch was told is true of what is asked.
+    ensures told { W.told (problem_of problem.now) watch.old watch.new }
 {
-    if !admit.any(admit.pins()) {
-        return Err(SearchFault::NoPair);
+    if effort.workers == 1 && !watch.is_looking() {
+        return alone_by(alloc, problem, effort.budget);
     }
-    let root = measure_root(alloc, circuit, admit, prober)?;
-    let finder = ByProber { prober };
-    let answer = search(
-        rt, alloc, circuit, admit, &finder, decks, workers, budget, root, watch,
-    )?;
-    Ok(answer)
+    let decks = Deck::deal(alloc, effort.workers as usize)?;
+    search_by(rt, alloc, problem, prober, decks, effort, watch)
 }
 
-/// What so many workers find, of which this thread is one, and what this thread ends from what is known of the pins. The error is want of
-/// memory before they begin.
-pub fn search<F: Finder + Sync, D: Hints + Drop + Send, W: Watch, R: Threads + Wait + Sync>(
+// As `search`, where the workers tell each other by these, one for each worker, which leaves may be open.
+fn search_by<P: Prober + Sync, D: Hints + Drop + Send, W: Watch, R: Threads + Wait + Sync>(
     rt: &R,
     alloc: Global,
-    circuit: &Circuit,
-    admit: &Admit,
-    finder: &F,
+    problem: &Problem<'_>,
+    prober: &P,
     decks: Vec<D>,
-    workers: u32,
-    budget: u64,
-    root: Root,
+    effort: Effort,
     watch: &mut W,
-) -> Result<Answer, AllocError>
-    requires some { 0 < workers }
-    requires few { workers ≤ 64 }
-    requires modest { budget ≤ 10000000 }
-    requires held { length admit.now.held ≡ length circuit.now.netlist.inputs }
-    requires root { IsRoot (problem_by F.by circuit.now admit.now) root }
-    ensures answer { IfOk result (IsAnswer (problem_by F.by circuit.now admit.now) budget) }
-    ensures text { IfOk result (CanBeWritten (problem_by F.by circuit.now admit.now)) }
-    ensures told { W.told (problem_by F.by circuit.now admit.now) watch.old watch.new }
+) -> Result<Answer, SearchFault>
+    ensures answer { IfOk result (IsAnswer (problem_of problem.now) effort.budget) }
+    ensures text { IfOk result (CanBeWritten (problem_of problem.now)) }
+    ensures fault { IfErr result (IsSearchFault (problem_of problem.now)) }
+    ensures told { W.told (problem_of problem.now) watch.old watch.new }
 {
-    let blank = Blank::new(u64::from(workers));
-    search_all::<Brand, _, _, _, _>(
-        rt, alloc, circuit, admit, finder, decks, workers, budget, root, blank, watch,
-    )
+    if !problem.admit.any(problem.admit.pins()) {
+        return Err(SearchFault::NoPair);
+    }
+    let work = shared_work(rt, alloc, problem, prober, decks, effort, watch)?;
+    Ok(finish(alloc, problem, work, effort.budget))
 }
 
-// As `search`, with a ledger that has a part for each worker.
+// What so many workers find by the rule of the strategy. The error is out of memory before they begin.
+fn shared_work<P: Prober + Sync, D: Hints + Drop + Send, W: Watch, R: Threads + Wait + Sync>(
+    rt: &R,
+    alloc: Global,
+    problem: &Problem<'_>,
+    prober: &P,
+    decks: Vec<D>,
+    effort: Effort,
+    watch: &mut W,
+) -> Result<SharedWork, AllocError>
+    requires any { HasAdmitted problem.now.admit.now problem.now.admit.now.pins }
+    ensures work { IfOk result (IsShared (problem_of problem.now)) }
+    ensures told { W.told (problem_of problem.now) watch.old watch.new }
+{
+    match problem.strategy {
+        Strategy::Least => {
+            let rule = Least { prober };
+            let task = Task {
+                alloc,
+                problem,
+                rule: &rule,
+            };
+            search_with(rt, &task, decks, effort, watch)
+        }
+        Strategy::Lead => {
+            let rule = Lead::new(problem.circuit, effort.workers);
+            let task = Task {
+                alloc,
+                problem,
+                rule: &rule,
+            };
+            search_with(rt, &task, decks, effort, watch)
+        }
+    }
+}
+
+// What so many workers find by one rule, of which this thread is one. The error is out of memory before they begin.
+fn search_with<Q: Rule + Sync, D: Hints + Drop + Send, W: Watch, R: Threads + Wait + Sync>(
+    rt: &R,
+    task: &Task<'_, Q>,
+    decks: Vec<D>,
+    effort: Effort,
+    watch: &mut W,
+) -> Result<SharedWork, AllocError>
+    requires any { HasAdmitted task.now.problem.now.admit.now task.now.problem.now.admit.now.pins }
+    ensures work { IfOk result (IsShared (problem_of task.now.problem.now)) }
+    ensures told { W.told (problem_of task.now.problem.now) watch.old watch.new }
+{
+    let root = first_root(task)?;
+    let blank = Blank::new(u64::from(effort.workers));
+    search_all::<Brand, _, _, _, _>(rt, task, decks, effort, root, blank, watch)
+}
+
+// What is known of the pins. The error is out of memory.
+fn first_root<Q: Rule>(task: &Task<'_, Q>) -> Result<Root, AllocError>
+    requires any { HasAdmitted task.now.problem.now.admit.now task.now.problem.now.admit.now.pins }
+    ensures { IfOk result (IsRoot (problem_of task.now.problem.now)) }
+{
+    let mut scratch = task.rule.scratch(task.alloc, task.problem)?;
+    root_of(task, &mut scratch)
+}
+
+// As `search_with`, with a ledger that has a part for each worker.
 fn search_all<
     L: Subject + Send + Sync,
-    F: Finder + Sync,
+    Q: Rule + Sync,
     D: Hints + Drop + Send,
     W: Watch,
     R: Threads + Wait + Sync,
 >(
     rt: &R,
-    alloc: Global,
-    circuit: &Circuit,
-    admit: &Admit,
-    finder: &F,
+    task: &Task<'_, Q>,
     decks: Vec<D>,
-    workers: u32,
-    budget: u64,
+    effort: Effort,
     root: Root,
     blank: Blank,
     watch: &mut W,
-) -> Result<Answer, AllocError>
-    requires asked { L.asked ≡ problem_by F.by circuit.now admit.now }
-    requires some { 0 < workers }
-    requires few { workers ≤ 64 }
-    requires modest { budget ≤ 10000000 }
-    requires held { length admit.now.held ≡ length circuit.now.netlist.inputs }
-    requires root { IsRoot (problem_by F.by circuit.now admit.now) root }
+) -> Result<SharedWork, AllocError>
+    requires asked { L.asked ≡ problem_of task.now.problem.now }
+    requires root { IsRoot (problem_of task.now.problem.now) root }
     requires name { blank.name ≡ L.name }
     requires blank { blank.parts ≡ L.parts }
-    requires parts { blank.parts ≡ workers }
-    ensures answer { IfOk result (IsAnswer (problem_by F.by circuit.now admit.now) budget) }
-    ensures text { IfOk result (CanBeWritten (problem_by F.by circuit.now admit.now)) }
-    ensures told { W.told (problem_by F.by circuit.now admit.now) watch.old watch.new }
+    requires parts { blank.parts ≡ effort.workers }
+    ensures work { IfOk result (IsShared (problem_of task.now.problem.now)) }
+    ensures told { W.told (problem_of task.now.problem.now) watch.old watch.new }
 {
-    let first = first_best::<F>(alloc, circuit, admit, root.first)?;
-    let (word, found) = starting_of::<F>(alloc, circuit, admit, workers, root.first)?;
+    let Task { alloc, problem, .. } = task;
+    let first = first_best(*alloc, problem, root.first)?;
+    let (incumbent, found) = starting_of(*alloc, problem, effort.workers, root.first)?;
     let (ledger, share) = blank.open::<L>();
-    let shared = shared_of::<L, W>(
-        alloc,
-        circuit,
-        admit,
-        F::strategy(),
-        word,
-        workers,
-        budget,
-        ledger,
-        root,
-        watch,
-    )?;
-    search_over::<L, F, D, W, R>(
-        rt, alloc, circuit, admit, finder, decks, workers, budget, root, first, found, share,
-        shared, watch,
-    )
+    let shared = shared_of::<L, W>(*alloc, problem, effort, incumbent, ledger, root, watch)?;
+    let crew = Crew {
+        decks,
+        found,
+        share,
+    };
+    let all = found_watched(rt, task, &shared, crew, effort.workers, watch)?;
+    Ok(handed_over(*alloc, problem, shared, all, first, root))
 }
 
-// As `search`, with what the workers share and begin with, and the pair that stands for the pins.
-fn search_over<
+// What all workers find, and the watch is told meanwhile. The error is out of memory before they begin.
+fn found_watched<
     L: Subject + Send + Sync,
-    F: Finder + Sync,
+    Q: Rule + Sync,
     D: Hints + Drop + Send,
     W: Watch,
     R: Threads + Wait + Sync,
 >(
     rt: &R,
-    alloc: Global,
-    circuit: &Circuit,
-    admit: &Admit,
-    finder: &F,
-    decks: Vec<D>,
+    task: &Task<'_, Q>,
+    shared: &Shared<L>,
+    crew: Crew<D, L>,
     workers: u32,
-    budget: u64,
-    root: Root,
-    first: Best,
-    found: Vec<Found>,
-    share: Share<L>,
-    shared: Shared<L>,
     watch: &mut W,
-) -> Result<Answer, AllocError>
-    requires asked { L.asked ≡ problem_by F.by circuit.now admit.now }
+) -> Result<Vec<Report<L>>, AllocError>
+    requires asked { L.asked ≡ problem_of task.now.problem.now }
     requires some { 0 < workers }
-    requires modest { budget ≤ 10000000 }
-    requires held { length admit.now.held ≡ length circuit.now.netlist.inputs }
-    requires root { IsRoot (problem_by F.by circuit.now admit.now) root }
-    requires first { IsBest (problem_by F.by circuit.now admit.now) first }
-    requires parts { share.parts ≡ workers }
-    requires amount { share.amount ≡ 0 }
-    requires count { length found.items ≡ workers }
-    requires found { AllByRecursion (IsStarting (problem_by F.by circuit.now admit.now) shared.word) found.items }
-    ensures answer { IfOk result (IsAnswer (problem_by F.by circuit.now admit.now) budget) }
-    ensures text { IfOk result (CanBeWritten (problem_by F.by circuit.now admit.now)) }
-    ensures told { W.told (problem_by F.by circuit.now admit.now) watch.old watch.new }
+    requires crew { IsCrew (problem_of task.now.problem.now) shared.now.incumbent workers crew.found.items crew.share.parts crew.share.amount }
+    ensures reports { IfOk result (λ all. AllByRecursion (λ report. IsTrueFound (problem_of task.now.problem.now) report.found) all.items) }
+    ensures told { W.told (problem_of task.now.problem.now) watch.old watch.new }
 {
-    let (all, lent) = found_by_all(
-        rt,
-        alloc,
-        circuit,
-        admit,
-        finder,
-        decks,
-        &shared,
-        workers,
-        found,
-        share,
-        Lent { watch },
-    );
+    let (all, lent) = found_by_all(rt, task, shared, crew, workers, Lent { watch });
     let Lent { watch } = lent;
     take_back(watch);
-    let all = all?;
-    Ok(ended::<L, F>(alloc, circuit, admit, shared, all, first, root, budget))
+    all
 }
 
-// What this thread ends from what all workers found, what they shared, and what is known of the pins.
-fn ended<L: Subject, F: Finder>(
+// What all workers found, what they shared, and what is known of the pins.
+fn handed_over<L: Subject>(
     alloc: Global,
-    circuit: &Circuit,
-    admit: &Admit,
+    problem: &Problem<'_>,
     shared: Shared<L>,
     all: Vec<Report<L>>,
     first: Best,
     root: Root,
-    budget: u64,
-) -> Answer
-    requires modest { budget ≤ 10000000 }
-    requires held { length admit.now.held ≡ length circuit.now.netlist.inputs }
-    requires all { AllByRecursion (λ report. IsTrueFound (problem_by F.by circuit.now admit.now) report.found) all.items }
-    requires first { IsBest (problem_by F.by circuit.now admit.now) first }
-    requires root { IsRoot (problem_by F.by circuit.now admit.now) root }
-    ensures answer { IsAnswer (problem_by F.by circuit.now admit.now) budget result }
-    ensures text { CanBeWritten (problem_by F.by circuit.now admit.now) result }
+) -> SharedWork
+    requires all { AllByRecursion (λ report. IsTrueFound (problem_of problem.now) report.found) all.items }
+    requires first { IsBest (problem_of problem.now) first }
+    requires root { IsRoot (problem_of problem.now) root }
+    ensures { IsShared (problem_of problem.now) result }
 {
-    let (evidence, best) = gather::<L, F>(alloc, circuit, admit, all, first);
+    let (evidence, best) = gather(alloc, problem, all, first);
     let Shared { standing, .. } = shared;
     let Standing { book, .. } = standing.into_inner();
-    let partial = book.into_book().into_tree();
-    finish_by(
-        alloc,
-        circuit,
-        admit,
-        partial,
+    SharedWork {
+        partial: book.into_book().into_tree(),
         evidence,
-        root.bound,
+        root: root.bound,
         best,
-        budget,
-        F::strategy(),
-    )
+    }
 }
 
 // What all workers found: this thread, and another one for each further worker, where a thread can be made. The watch, which this thread
 // tells how far the search has come, comes back.
 fn found_by_all<
     L: Subject + Send + Sync,
-    F: Finder + Sync,
+    Q: Rule + Sync,
     D: Hints + Drop + Send,
     W: Watch,
     R: Threads + Wait + Sync,
 >(
     rt: &R,
-    alloc: Global,
-    circuit: &Circuit,
-    admit: &Admit,
-    finder: &F,
-    decks: Vec<D>,
+    task: &Task<'_, Q>,
     shared: &Shared<L>,
+    crew: Crew<D, L>,
     workers: u32,
-    found: Vec<Found>,
-    share: Share<L>,
     watch: W,
 ) -> (Result<Vec<Report<L>>, AllocError>, W)
-    requires asked { L.asked ≡ problem_by F.by circuit.now admit.now }
+    requires asked { L.asked ≡ problem_of task.now.problem.now }
     requires some { 0 < workers }
-    requires held { length admit.now.held ≡ length circuit.now.netlist.inputs }
-    requires parts { share.parts ≡ workers }
-    requires amount { share.amount ≡ 0 }
-    requires count { length found.items ≡ workers }
-    requires found { AllByRecursion (IsStarting (problem_by F.by circuit.now admit.now) shared.now.word) found.items }
-    ensures reports { IfOk result.0 (λ all. AllByRecursion (λ report. IsTrueFound (problem_by F.by circuit.now admit.now) report.found) all.items) }
-    ensures told { W.told (problem_by F.by circuit.now admit.now) watch result.1 }
+    requires crew { IsCrew (problem_of task.now.problem.now) shared.now.incumbent workers crew.found.items crew.share.parts crew.share.amount }
+    ensures reports { IfOk result.0 (λ all. AllByRecursion (λ report. IsTrueFound (problem_of task.now.problem.now) report.found) all.items) }
+    ensures told { W.told (problem_of task.now.problem.now) watch result.1 }
 {
-    let Ok(handles) = Vec::with_capacity(alloc, found.len()) else {
+    let Crew {
+        decks,
+        found,
+        share,
+    } = crew;
+    let Ok(handles) = Vec::with_capacity(task.alloc, found.len()) else {
         return (Err(AllocError), watch);
     };
-    let Ok(all) = Vec::with_capacity(alloc, found.len()) else {
+    let Ok(all) = Vec::with_capacity(task.alloc, found.len()) else {
         return (Err(AllocError), watch);
     };
     let (all, watch) = thread::scope(
         thread::scope_env(),
         rt,
         |scope| -> (Vec<Report<L>>, W)
-            requires asked { L.asked ≡ problem_by F.by circuit.now admit.now }
+            requires asked { L.asked ≡ problem_of task.now.problem.now }
             requires some { 0 < workers }
-            requires held { length admit.now.held ≡ length circuit.now.netlist.inputs }
             requires parts { share.parts ≡ workers }
             requires amount { share.amount ≡ 0 }
             requires count { length found.items ≡ workers }
-            requires found { AllByRecursion (IsStarting (problem_by F.by circuit.now admit.now) shared.now.word) found.items }
+            requires found { AllByRecursion (IsStarting (problem_of task.now.problem.now) shared.now.incumbent) found.items }
             requires handles { handles.items ≡ [] }
             requires all { all.items ≡ [] }
             requires handles_room { workers ≤ vec_capacity handles }
             requires all_room { workers ≤ vec_capacity all }
-            ensures reports { AllByRecursion (λ report. IsTrueFound (problem_by F.by circuit.entry.now admit.entry.now) report.found) result.0.items }
-            ensures told { W.told (problem_by F.by circuit.entry.now admit.entry.now) watch result.1 }
+            ensures reports { AllByRecursion (λ report. IsTrueFound (problem_of task.entry.now.problem.now) report.found) result.0.items }
+            ensures told { W.told (problem_of task.entry.now.problem.now) watch result.1 }
         {
             let mut watch = watch;
             let mut handles = handles;
@@ -385,7 +382,7 @@ fn found_by_all<
             let mut waiting = found;
             let mut decks = decks;
             for worker in 1..workers {
-                let Some(found) = next_found::<L, F>(circuit, admit, shared, &mut waiting) else {
+                let Some(found) = next_found(task.problem, shared, &mut waiting) else {
                     break;
                 };
                 let Some(deck) = decks.pop() else {
@@ -393,68 +390,79 @@ fn found_by_all<
                 };
                 let share = own.split_off(1, 0);
                 let job = move || -> Report<L>
-                    requires asked { L.asked ≡ problem_by F.by circuit.now admit.now }
-                    requires held { length admit.now.held ≡ length circuit.now.netlist.inputs }
-                    requires seat { found.seat.table ≡ shared.now.word.table }
-                    requires found { IsTrueFound (problem_by F.by circuit.now admit.now) found }
+                    requires asked { L.asked ≡ problem_of task.now.problem.now }
+                    requires found { IsStarting (problem_of task.now.problem.now) shared.now.incumbent found }
                     requires part { 0 < share.parts }
-                    ensures { IsTrueFound (problem_by F.by circuit.entry.now admit.entry.now) result.found }
+                    ensures { IsTrueFound (problem_of task.entry.now.problem.now) result.found }
                 {
+                    let worker = worker_of(task.problem, shared, worker, deck, found, share);
                     let mut nobody = Unwatched;
-                    work(
-                        rt,
-                        alloc,
-                        circuit,
-                        admit,
-                        finder,
-                        shared,
-                        worker,
-                        deck,
-                        found,
-                        share,
-                        &mut nobody,
-                    )
+                    work(rt, task, shared, worker, &mut nobody)
                 };
                 let truthful = Truthful {
-                    circuit: Snapshot::of(circuit),
-                    admit: Snapshot::of(admit),
-                    strategy: F::strategy(),
+                    circuit: Snapshot::of(task.problem.circuit),
+                    admit: Snapshot::of(task.problem.admit),
+                    strategy: task.problem.strategy,
                 };
                 if let Ok(handle) = scope.spawn_with(truthful, job) {
                     handles.push_reserved(handle);
                 }
             }
-            let first = next_found::<L, F>(circuit, admit, shared, &mut waiting);
-            let all = with_first(
-                rt,
-                alloc,
-                circuit,
-                admit,
-                finder,
-                shared,
-                decks.pop(),
-                first,
-                own,
-                all,
-                &mut watch,
-            );
-            let all = join_all::<L, F, R>(rt, circuit, admit, handles, all);
+            let start = Start {
+                found: next_found(task.problem, shared, &mut waiting),
+                deck: decks.pop(),
+                share: own,
+            };
+            let all = with_first(rt, task, shared, start, all, &mut watch);
+            let all = join_all(rt, task.problem, handles, all);
             (all, watch)
         },
     );
     (Ok(all), watch)
 }
 
+// The worker of this number, with what it begins with.
+fn worker_of<'a, L: Subject, D>(
+    problem: &Problem<'_>,
+    shared: &'a Shared<L>,
+    number: u32,
+    deck: D,
+    found: Found,
+    share: Share<L>,
+) -> Worker<'a, D, L>
+    requires found { IsStarting (problem_of problem.now) shared.now.incumbent found }
+    requires part { 0 < share.parts }
+    ensures { IsWorking (problem_of problem.now) result.kept result.evidence.items result.share.parts }
+{
+    let Found {
+        evidence,
+        best,
+        seat,
+    } = found;
+    let seen = best.time();
+    Worker {
+        number,
+        deck,
+        kept: Kept {
+            incumbent: &shared.incumbent,
+            seat,
+            best,
+            seen,
+        },
+        evidence,
+        share,
+    }
+}
+
 // The last of these.
-fn next_found<L: Subject, F: Finder>(
-    circuit: &Circuit,
-    admit: &Admit,
+fn next_found<L: Subject>(
+    problem: &Problem<'_>,
     _shared: &Shared<L>,
     waiting: &mut Vec<Found>,
 ) -> Option<Found>
-    requires { AllByRecursion (IsStarting (problem_by F.by circuit.now admit.now) _shared.now.word) waiting.old.items }
-    ensures found { IfSome result (IsStarting (problem_by F.by circuit.now admit.now) _shared.now.word) }
-    ensures waiting { AllByRecursion (IsStarting (problem_by F.by circuit.now admit.now) _shared.now.word) waiting.new.items }
+    requires { AllByRecursion (IsStarting (problem_of problem.now) _shared.now.incumbent) waiting.old.items }
+    ensures found { IfSome result (IsStarting (problem_of problem.now) _shared.now.incumbent) }
+    ensures waiting { AllByRecursion (IsStarting (problem_of problem.now) _shared.now.incumbent) waiting.new.items }
 {
     let Some(found) = waiting.pop() else {
         return None;
@@ -463,56 +471,49 @@ fn next_found<L: Subject, F: Finder>(
 }
 
 // What this thread finds as the first worker, in a vector that has room for it and more. Nothing where it has nothing to begin with.
-fn with_first<L: Subject, F: Finder, D: Hints + Drop, W: Watch, R: Wait>(
+fn with_first<L: Subject, Q: Rule, D: Hints + Drop, W: Watch, R: Wait>(
     rt: &R,
-    alloc: Global,
-    circuit: &Circuit,
-    admit: &Admit,
-    finder: &F,
+    task: &Task<'_, Q>,
     shared: &Shared<L>,
-    deck: Option<D>,
-    found: Option<Found>,
-    share: Share<L>,
+    start: Start<D, L>,
     all: Vec<Report<L>>,
     watch: &mut W,
 ) -> Vec<Report<L>>
-    requires asked { L.asked ≡ problem_by F.by circuit.now admit.now }
-    requires held { length admit.now.held ≡ length circuit.now.netlist.inputs }
-    requires found { IfSome found (IsStarting (problem_by F.by circuit.now admit.now) shared.now.word) }
-    requires part { 0 < share.parts }
+    requires asked { L.asked ≡ problem_of task.now.problem.now }
+    requires found { IfSome start.found (IsStarting (problem_of task.now.problem.now) shared.now.incumbent) }
+    requires part { 0 < start.share.parts }
     requires all { all.items ≡ [] }
     requires room { 0 < vec_capacity all }
-    ensures reports { AllByRecursion (λ report. IsTrueFound (problem_by F.by circuit.now admit.now) report.found) result.items }
+    ensures reports { AllByRecursion (λ report. IsTrueFound (problem_of task.now.problem.now) report.found) result.items }
     ensures few { length result.items ≤ 1 }
     ensures room { vec_capacity result ≡ vec_capacity all }
-    ensures told { W.told (problem_by F.by circuit.now admit.now) watch.old watch.new }
+    ensures told { W.told (problem_of task.now.problem.now) watch.old watch.new }
 {
     let mut all = all;
+    let Start { deck, found, share } = start;
     let Some(found) = found else {
         return all;
     };
     let Some(deck) = deck else {
         return all;
     };
-    let report = work(
-        rt, alloc, circuit, admit, finder, shared, 0, deck, found, share, watch,
-    );
+    let worker = worker_of(task.problem, shared, 0, deck, found, share);
+    let report = work(rt, task, shared, worker, watch);
     all.push_reserved(report);
     all
 }
 
-// What these threads hand back, behind what is there, in a vector that has room for all.
-fn join_all<L: Subject, F: Finder, R: Threads>(
+// What these threads hand back, after what is there, in a vector that has room for all.
+fn join_all<L: Subject, R: Threads>(
     rt: &R,
-    circuit: &Circuit,
-    admit: &Admit,
+    problem: &Problem<'_>,
     handles: Vec<PromisedHandle<Report<L>, Truthful>>,
     all: Vec<Report<L>>,
 ) -> Vec<Report<L>>
-    requires handles { AllByRecursion (λ handle. (handle.promise.circuit.value ≡ circuit.now) × (handle.promise.admit.value ≡ admit.now) × (handle.promise.strategy ≡ F.by)) handles.items }
-    requires all { AllByRecursion (λ report. IsTrueFound (problem_by F.by circuit.now admit.now) report.found) all.items }
+    requires handles { AllByRecursion (λ handle. IsTruthful problem.now handle.promise) handles.items }
+    requires all { AllByRecursion (λ report. IsTrueFound (problem_of problem.now) report.found) all.items }
     requires room { length all.items + length handles.items ≤ vec_capacity all }
-    ensures { AllByRecursion (λ report. IsTrueFound (problem_by F.by circuit.now admit.now) report.found) result.items }
+    ensures { AllByRecursion (λ report. IsTrueFound (problem_of problem.now) report.found) result.items }
 {
     let mut all = all;
     for handle in handles {
@@ -522,17 +523,16 @@ fn join_all<L: Subject, F: Finder, R: Threads>(
 }
 
 // The evidence of all workers, and the best of their pairs and this one. Of evidence that memory is refused for nothing is kept.
-fn gather<L: Subject, F: Finder>(
+fn gather<L: Subject>(
     alloc: Global,
-    circuit: &Circuit,
-    admit: &Admit,
+    problem: &Problem<'_>,
     all: Vec<Report<L>>,
     first: Best,
 ) -> (Vec<Evidence>, Best)
-    requires all { AllByRecursion (λ report. IsTrueFound (problem_by F.by circuit.now admit.now) report.found) all.items }
-    requires first { IsBest (problem_by F.by circuit.now admit.now) first }
-    ensures evidence { AllByRecursion (IsTrueEvidence (problem_by F.by circuit.now admit.now)) result.0.items }
-    ensures best { IsBest (problem_by F.by circuit.now admit.now) result.1 }
+    requires all { AllByRecursion (λ report. IsTrueFound (problem_of problem.now) report.found) all.items }
+    requires first { IsBest (problem_of problem.now) first }
+    ensures evidence { AllByRecursion (IsTrueEvidence (problem_of problem.now)) result.0.items }
+    ensures best { IsBest (problem_of problem.now) result.1 }
     ensures greatest { result.1.time ≡ greatest_of first.time (map (λ report. report.found.best.time) all.items) }
 {
     let mut evidence = Vec::new(alloc);
@@ -543,17 +543,17 @@ fn gather<L: Subject, F: Finder>(
             best: offered,
             ..
         } = report.found;
-        evidence = joined::<F>(circuit, admit, evidence, more);
-        best = better::<F>(circuit, admit, best, offered);
+        evidence = joined(problem, evidence, more);
+        best = better(problem, best, offered);
     }
     (evidence, best)
 }
 
 // The better of two pairs, the first one where their delays are the same.
-fn better<F: Finder>(circuit: &Circuit, admit: &Admit, best: Best, other: Best) -> Best
-    requires best { IsBest (problem_by F.by circuit.now admit.now) best }
-    requires other { IsBest (problem_by F.by circuit.now admit.now) other }
-    ensures best { IsBest (problem_by F.by circuit.now admit.now) result }
+fn better(problem: &Problem<'_>, best: Best, other: Best) -> Best
+    requires best { IsBest (problem_of problem.now) best }
+    requires other { IsBest (problem_of problem.now) other }
+    ensures best { IsBest (problem_of problem.now) result }
     ensures greatest { result.time ≡ max best.time other.time }
 {
     if other.time() > best.time() {
@@ -564,15 +564,10 @@ fn better<F: Finder>(circuit: &Circuit, admit: &Admit, best: Best, other: Best) 
 }
 
 // The evidence of both. The second is dropped where memory is refused: its nodes are then handled anew.
-fn joined<F: Finder>(
-    circuit: &Circuit,
-    admit: &Admit,
-    evidence: Vec<Evidence>,
-    more: Vec<Evidence>,
-) -> Vec<Evidence>
-    requires evidence { AllByRecursion (IsTrueEvidence (problem_by F.by circuit.now admit.now)) evidence.items }
-    requires more { AllByRecursion (IsTrueEvidence (problem_by F.by circuit.now admit.now)) more.items }
-    ensures { AllByRecursion (IsTrueEvidence (problem_by F.by circuit.now admit.now)) result.items }
+fn joined(problem: &Problem<'_>, evidence: Vec<Evidence>, more: Vec<Evidence>) -> Vec<Evidence>
+    requires evidence { AllByRecursion (IsTrueEvidence (problem_of problem.now)) evidence.items }
+    requires more { AllByRecursion (IsTrueEvidence (problem_of problem.now)) more.items }
+    ensures { AllByRecursion (IsTrueEvidence (problem_of problem.now)) result.items }
 {
     if evidence.is_empty() {
         return more;

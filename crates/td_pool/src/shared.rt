@@ -1,30 +1,29 @@
 //! What workers share.
 
-ghost use Rattle.std.specs.Prelude.{◌≡◌, ◌<◌, ◌≤◌, length, IsTrue, IfSome};
+ghost use Rattle.std.specs.Prelude.{◌≡◌, ◌<◌, IsTrue, IfSome};
 ghost use Rattle.td_search.specs.Below.{IsWithin};
-ghost use Rattle.td_search.specs.Findings.{IsTrueEvidence};
-ghost use Rattle.td_search.specs.Problems.{problem, problem_by};
+ghost use Rattle.td_search.specs.Problems.{problem_of};
 ghost use Rattle.td_pool.specs.Turning.{IsPinned, IsTurn};
-ghost use Rattle.td_pool.specs.Watched.{IsFound, IsTrueProgress};
+ghost use Rattle.td_pool.specs.Watched.{IsTrueProgress};
+ghost use Rattle.td_pool.specs.Working.{IsTrueWork};
 
 use crate::hints::Hints;
-use crate::standing::Standing;
+use crate::standing::{Standing, Work};
 use crate::subject::Subject;
 use crate::watch::Progress;
 use std::sync::ledger::Share;
 use std::sync::{Condvar, Mutex, Wait as MayWait};
-use td_book::{Claim, Counted, Lease, Subtree};
-use td_circuit::Circuit;
-use td_domain::{Admit, Cube, Trit};
+use td_book::{Claim, Counted, Lease};
+use td_domain::{Cube, Trit};
 use td_incumbent::Incumbent;
-use td_search::{Evidence, Strategy};
+use td_search::Problem;
 
 /// The book of the search and what is left of it, what wakes those that wait for an open leaf, and the best time.
 #[derive(Drop)]
 pub struct Shared<L: Subject> {
     pub standing: Mutex<Standing<L>>,
     pub moved: Condvar,
-    pub word: Incumbent,
+    pub incumbent: Incumbent,
 }
 
 /// What a worker is to do next.
@@ -41,10 +40,10 @@ pub enum Turn {
 }
 
 // Whether a cube is one of the circuit's vectors, and a part of the pins.
-fn is_within(circuit: &Circuit, admit: &Admit, cube: &Cube) -> bool
-    ensures { IsTrue result → IsWithin (problem circuit.now admit.now) cube.now }
+fn is_within(problem: &Problem<'_>, cube: &Cube) -> bool
+    ensures { IsTrue result → IsWithin (problem_of problem.now) cube.now }
 {
-    let pins = admit.pins();
+    let pins = problem.admit.pins();
     if cube.len() != pins.len() {
         return false;
     }
@@ -67,15 +66,10 @@ fn is_pinned(pin: Trit, trit: Trit) -> bool
 }
 
 // To handle this leaf, which the book just gave, if it is one of this search.
-fn turn_with<L: Subject>(
-    book: &mut Counted<L>,
-    circuit: &Circuit,
-    admit: &Admit,
-    lease: Lease,
-) -> Turn
-    ensures { IsTurn (problem circuit.now admit.now) result }
+fn turn_with<L: Subject>(book: &mut Counted<L>, problem: &Problem<'_>, lease: Lease) -> Turn
+    ensures { IsTurn (problem_of problem.now) result }
 {
-    if is_within(circuit, admit, &lease.cube) {
+    if is_within(problem, &lease.cube) {
         return Turn::Work(lease);
     }
     let _opened = book.release(lease);
@@ -83,19 +77,14 @@ fn turn_with<L: Subject>(
 }
 
 // What a worker of this search is to do next, by the book alone. Of the book under the lock nothing is known.
-fn next_turn<L: Subject>(
-    book: &mut Counted<L>,
-    circuit: &Circuit,
-    admit: &Admit,
-    worker: u32,
-) -> Turn
-    ensures { IsTurn (problem circuit.now admit.now) result }
+fn next_turn<L: Subject>(book: &mut Counted<L>, problem: &Problem<'_>, worker: u32) -> Turn
+    ensures { IsTurn (problem_of problem.now) result }
 {
     if worker >= book.workers() {
         return Turn::End;
     }
     match book.claim(worker) {
-        Ok(Claim::Lease(lease)) => turn_with(book, circuit, admit, lease),
+        Ok(Claim::Lease(lease)) => turn_with(book, problem, lease),
         Ok(Claim::Idle) => Turn::Wait,
         Ok(Claim::Done | Claim::Spent) | Err(_) => Turn::End,
     }
@@ -104,18 +93,17 @@ fn next_turn<L: Subject>(
 // As `next_turn`, where a leaf of this number may be open.
 fn hinted_turn<L: Subject>(
     book: &mut Counted<L>,
-    circuit: &Circuit,
-    admit: &Admit,
+    problem: &Problem<'_>,
     worker: u32,
     number: u32,
 ) -> Turn
-    ensures { IsTurn (problem circuit.now admit.now) result }
+    ensures { IsTurn (problem_of problem.now) result }
 {
     if worker >= book.workers() {
         return Turn::End;
     }
     match book.claim_id(worker, number) {
-        Ok(Some(lease)) => turn_with(book, circuit, admit, lease),
+        Ok(Some(lease)) => turn_with(book, problem, lease),
         Ok(None) => Turn::Seek,
         Err(_) => Turn::End,
     }
@@ -124,16 +112,15 @@ fn hinted_turn<L: Subject>(
 // What a worker of this search is to do next, with or without such a number.
 fn turn_of<L: Subject>(
     book: &mut Counted<L>,
-    circuit: &Circuit,
-    admit: &Admit,
+    problem: &Problem<'_>,
     worker: u32,
     hint: Option<u32>,
 ) -> Turn
-    ensures { IsTurn (problem circuit.now admit.now) result }
+    ensures { IsTurn (problem_of problem.now) result }
 {
     match hint {
-        Some(number) => hinted_turn(book, circuit, admit, worker, number),
-        None => next_turn(book, circuit, admit, worker),
+        Some(number) => hinted_turn(book, problem, worker, number),
+        None => next_turn(book, problem, worker),
     }
 }
 
@@ -150,17 +137,16 @@ impl<L: Subject> Shared<L> {
     pub fn lease<D: Hints, R: MayWait>(
         &self,
         rt: &R,
-        circuit: &Circuit,
-        admit: &Admit,
+        problem: &Problem<'_>,
         worker: u32,
         deck: &mut D,
     ) -> Option<Lease>
-        ensures { IfSome result (λ lease. IsWithin (problem circuit.now admit.now) lease.cube) }
+        ensures { IfSome result (λ lease. IsWithin (problem_of problem.now) lease.cube) }
     {
         for _ in rt.forever() {
             let hint = hint_from(deck);
             let mut standing = self.standing.lock(rt);
-            match turn_of(&mut standing.book, circuit, admit, worker, hint) {
+            match turn_of(&mut standing.book, problem, worker, hint) {
                 Turn::Work(lease) => return Some(lease),
                 Turn::Seek => drop(standing),
                 Turn::Wait => {
@@ -179,27 +165,17 @@ impl<L: Subject> Shared<L> {
     pub fn graft<R: MayWait>(
         &self,
         rt: &R,
-        circuit: &Circuit,
-        admit: &Admit,
-        strategy: Strategy,
-        lease: Lease,
-        subtree: Subtree,
-        evidence: &Evidence,
-        best: u64,
+        problem: &Problem<'_>,
+        work: Work<'_>,
         mine: &mut Share<L>,
     ) -> Option<Vec<u32>>
-        requires asked { L.asked ≡ problem_by strategy circuit.now admit.now }
-        requires cube { subtree.cube ≡ lease.cube }
-        requires few { length subtree.states ≤ lease.allowance }
+        requires asked { L.asked ≡ problem_of problem.now }
+        requires work { IsTrueWork (problem_of problem.now) work }
         requires part { 0 < mine.old.parts }
-        requires evidence { IsTrueEvidence (problem_by strategy circuit.now admit.now) evidence.now }
-        requires best { IsFound (problem_by strategy circuit.now admit.now) best }
         ensures { mine.new.parts ≡ mine.old.parts }
     {
         let mut standing = self.standing.lock(rt);
-        let left = standing.graft(
-            circuit, admit, strategy, lease, subtree, evidence, best, mine,
-        );
+        let left = standing.graft(problem, work, mine);
         drop(standing);
         self.moved.notify_all();
         left
@@ -213,7 +189,7 @@ impl<L: Subject> Shared<L> {
         standing.progress(milestone)
     }
 
-    /// Opens a leaf again, and wakes those that wait.
+    /// Opens a leaf again, inside the lock, and wakes those that wait.
     pub fn release<R: MayWait>(&self, rt: &R, lease: Lease) {
         let mut standing = self.standing.lock(rt);
         let _opened = standing.book.release(lease);

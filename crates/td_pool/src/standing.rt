@@ -1,18 +1,25 @@
 //! What is under the lock of a search.
 
 ghost use Rattle.std.specs.Prelude.{◌≡◌, ◌<◌, ◌≤◌, length, IfSome};
-ghost use Rattle.td_search.specs.Findings.{IsTrueEvidence};
-ghost use Rattle.td_search.specs.Problems.{problem_by};
-ghost use Rattle.td_pool.specs.Watched.{IsFound, IsTrueProgress};
+ghost use Rattle.td_search.specs.Problems.{problem_of};
+ghost use Rattle.td_pool.specs.Watched.{IsTrueProgress};
+ghost use Rattle.td_pool.specs.Working.{IsTrueWork};
 
 use crate::frontier::Frontier;
 use crate::subject::Subject;
 use crate::watch::Progress;
 use std::sync::ledger::Share;
 use td_book::{Counted, GraftFault, Lease, Subtree};
-use td_circuit::Circuit;
-use td_domain::Admit;
-use td_search::{Evidence, Strategy};
+use td_search::{Evidence, Problem};
+
+/// What a worker has done below a leaf: what was split and closed there, the evidence of it, and the delay of the worker's best pair.
+#[derive(Drop)]
+pub struct Work<'e> {
+    pub lease: Lease,
+    pub subtree: Subtree,
+    pub evidence: &'e Evidence,
+    pub best: u64,
+}
 
 /// The book of the search beside its ledger, and what is left and known of the delays.
 #[derive(Drop)]
@@ -43,27 +50,19 @@ impl<L: Subject> Standing<L> {
     /// there, in the tree's order, and none where the worker is to end.
     pub fn graft(
         &mut self,
-        circuit: &Circuit,
-        admit: &Admit,
-        strategy: Strategy,
-        lease: Lease,
-        subtree: Subtree,
-        evidence: &Evidence,
-        best: u64,
+        problem: &Problem<'_>,
+        work: Work<'_>,
         mine: &mut Share<L>,
     ) -> Option<Vec<u32>>
-        requires asked { L.asked ≡ problem_by strategy circuit.now admit.now }
-        requires cube { subtree.cube ≡ lease.cube }
-        requires few { length subtree.states ≤ lease.allowance }
+        requires asked { L.asked ≡ problem_of problem.now }
+        requires work { IsTrueWork (problem_of problem.now) work }
         requires part { 0 < mine.old.parts }
-        requires evidence { IsTrueEvidence (problem_by strategy circuit.now admit.now) evidence.now }
-        requires best { IsFound (problem_by strategy circuit.now admit.now) best }
         ensures { mine.new.parts ≡ mine.old.parts }
     {
-        self.frontier.reach(best);
-        let left = graft_in(&mut self.book, lease, subtree, mine);
+        self.frontier.reach(work.best);
+        let left = graft_in(&mut self.book, work.lease, work.subtree, mine);
         if left.is_some() {
-            let _told = self.frontier.settle(circuit, admit, strategy, evidence);
+            let _told = self.frontier.settle(problem, work.evidence);
         }
         left
     }

@@ -1,15 +1,16 @@
 //! What each worker begins with.
 
-ghost use Rattle.std.specs.Prelude.{◌≡◌, ◌<◌, ◌≤◌, length, IfOk};
+ghost use Rattle.std.specs.Prelude.{◌≡◌, ◌<◌, length, IfOk};
 ghost use Rattle.std.specs.List.{AllByRecursion};
-ghost use Rattle.td_search.specs.Problems.{problem_by, has_delay};
+ghost use Rattle.td_search.specs.Best.{IsBest};
+ghost use Rattle.td_search.specs.Problems.{problem_of, has_delay};
 ghost use Rattle.td_search.specs.Representatives.{representative};
-ghost use Rattle.td_pool.specs.Truth.{IsBest, IsFresh, IsRoot, IsStarting};
+ghost use Rattle.td_search.specs.Roots.{IsRoot};
+ghost use Rattle.td_pool.specs.Truth.{IsFresh, IsStarting};
 
-use crate::finder::Finder;
+use crate::effort::Effort;
 use crate::found::Found;
 use crate::frontier::Frontier;
-use crate::root::Root;
 use crate::shared::Shared;
 use crate::standing::Standing;
 use crate::subject::Subject;
@@ -17,98 +18,83 @@ use crate::watch::Watch;
 use std::alloc::{AllocError, Global};
 use std::sync::{Condvar, Mutex, ledger};
 use td_book::{Book, Counted};
-use td_circuit::Circuit;
-use td_domain::Admit;
 use td_incumbent::{Incumbent, Seat};
-use td_search::{Best, Strategy};
+use td_search::{Best, Problem, Root};
 
-// The word at 0, and a seat for each worker.
+// The incumbent at 0, and a seat for each worker. The error is out of memory.
 fn seats_of(alloc: Global, workers: usize) -> Result<(Incumbent, Vec<Seat>), AllocError>
     requires { 0 < workers }
     ensures seats { IfOk result (λ answer. AllByRecursion (IsFresh answer.0) answer.1.items) }
     ensures count { IfOk result (λ answer. length answer.1.items ≡ workers) }
 {
-    let (word, seats) = Incumbent::new(alloc, workers)?;
-    Ok((word, seats))
+    let (incumbent, seats) = Incumbent::new(alloc, workers)?;
+    Ok((incumbent, seats))
 }
 
-/// The pair that stands for the pins, which has this delay. The error is want of memory.
-pub fn first_best<F: Finder>(
-    alloc: Global,
-    circuit: &Circuit,
-    admit: &Admit,
-    first: u64,
-) -> Result<Best, AllocError>
-    requires held { length admit.now.held ≡ length circuit.now.netlist.inputs }
-    requires first { has_delay (problem_by F.by circuit.now admit.now) (representative admit.now admit.now.pins) first }
+/// The pair that stands for the pins, which has this delay. The error is out of memory.
+pub fn first_best(alloc: Global, problem: &Problem<'_>, first: u64) -> Result<Best, AllocError>
+    requires first { has_delay (problem_of problem.now) (representative problem.now.admit.now problem.now.admit.now.pins) first }
     ensures time { IfOk result (λ best. best.time ≡ first) }
-    ensures best { IfOk result (IsBest (problem_by F.by circuit.now admit.now)) }
+    ensures best { IfOk result (IsBest (problem_of problem.now)) }
 {
-    let pins = admit.pins();
-    let mut best = Best::new(alloc, circuit.input_count())?;
-    best.replace(pins, admit, first);
+    let mut best = Best::new(alloc, problem.circuit.input_count())?;
+    best.begin(problem, first);
     Ok(best)
 }
 
-/// The word, and so many workers that know the pair that stands for the pins, which has this delay. The error is want of memory.
-pub fn starting_of<F: Finder>(
+/// The incumbent, and so many workers that know the pair that stands for the pins, which has this delay. The error is out of memory.
+pub fn starting_of(
     alloc: Global,
-    circuit: &Circuit,
-    admit: &Admit,
+    problem: &Problem<'_>,
     workers: u32,
     first: u64,
 ) -> Result<(Incumbent, Vec<Found>), AllocError>
     requires some { 0 < workers }
-    requires held { length admit.now.held ≡ length circuit.now.netlist.inputs }
-    requires first { has_delay (problem_by F.by circuit.now admit.now) (representative admit.now admit.now.pins) first }
-    ensures found { IfOk result (λ answer. AllByRecursion (IsStarting (problem_by F.by circuit.now admit.now) answer.0) answer.1.items) }
+    requires first { has_delay (problem_of problem.now) (representative problem.now.admit.now problem.now.admit.now.pins) first }
+    ensures found { IfOk result (λ answer. AllByRecursion (IsStarting (problem_of problem.now) answer.0) answer.1.items) }
     ensures count { IfOk result (λ answer. length answer.1.items ≡ workers) }
 {
-    let (word, seats) = seats_of(alloc, workers as usize)?;
-    let found = fresh_of::<F>(alloc, circuit, admit, &word, seats, first)?;
-    Ok((word, found))
+    let (incumbent, seats) = seats_of(alloc, workers as usize)?;
+    let found = fresh_of(alloc, problem, &incumbent, seats, first)?;
+    Ok((incumbent, found))
 }
 
-// For each seat a worker that knows the pair that stands for the pins, which has this delay. The error is want of memory.
-fn fresh_of<F: Finder>(
+// For each seat a worker that knows the pair that stands for the pins, which has this delay. The error is out of memory.
+fn fresh_of(
     alloc: Global,
-    circuit: &Circuit,
-    admit: &Admit,
-    word: &Incumbent,
+    problem: &Problem<'_>,
+    incumbent: &Incumbent,
     seats: Vec<Seat>,
     first: u64,
 ) -> Result<Vec<Found>, AllocError>
-    requires held { length admit.now.held ≡ length circuit.now.netlist.inputs }
-    requires seats { AllByRecursion (IsFresh word.now) seats.items }
-    requires first { has_delay (problem_by F.by circuit.now admit.now) (representative admit.now admit.now.pins) first }
-    ensures found { IfOk result (λ found. AllByRecursion (IsStarting (problem_by F.by circuit.now admit.now) word.now) found.items) }
+    requires seats { AllByRecursion (IsFresh incumbent.now) seats.items }
+    requires first { has_delay (problem_of problem.now) (representative problem.now.admit.now problem.now.admit.now.pins) first }
+    ensures found { IfOk result (λ found. AllByRecursion (IsStarting (problem_of problem.now) incumbent.now) found.items) }
     ensures count { IfOk result (λ found. length found.items ≡ length seats.items) }
 {
     let mut all = Vec::with_capacity(alloc, seats.len())?;
     for seat in seats {
-        all.push(fresh::<F>(alloc, circuit, admit, word, seat, first)?)?;
+        all.push(fresh(alloc, problem, incumbent, seat, first)?)?;
     }
     Ok(all)
 }
 
-// A worker that knows the pair that stands for the pins, which has this delay, and offers it. The error is want of memory.
-fn fresh<F: Finder>(
+// A worker that knows the pair that stands for the pins, which has this delay, and offers it. The error is out of memory.
+fn fresh(
     alloc: Global,
-    circuit: &Circuit,
-    admit: &Admit,
-    word: &Incumbent,
+    problem: &Problem<'_>,
+    incumbent: &Incumbent,
     seat: Seat,
     first: u64,
 ) -> Result<Found, AllocError>
-    requires held { length admit.now.held ≡ length circuit.now.netlist.inputs }
-    requires seat { IsFresh word.now seat }
-    requires first { has_delay (problem_by F.by circuit.now admit.now) (representative admit.now admit.now.pins) first }
-    ensures { IfOk result (IsStarting (problem_by F.by circuit.now admit.now) word.now) }
+    requires seat { IsFresh incumbent.now seat }
+    requires first { has_delay (problem_of problem.now) (representative problem.now.admit.now problem.now.admit.now.pins) first }
+    ensures { IfOk result (IsStarting (problem_of problem.now) incumbent.now) }
 {
-    let _pins = admit.pins();
-    let best = first_best::<F>(alloc, circuit, admit, first)?;
+    let _pins = problem.admit.pins();
+    let best = first_best(alloc, problem, first)?;
     let mut seat = seat;
-    let _seen = word.raise(&mut seat, first);
+    let _seen = incumbent.raise(&mut seat, first);
     Ok(Found {
         evidence: Vec::new(alloc),
         best,
@@ -116,54 +102,48 @@ fn fresh<F: Finder>(
     })
 }
 
-/// What so many workers share at the beginning: the book of one open root, with a ledger of nothing, and what is left for a watch that looks.
-/// The error is want of memory.
+/// What the workers share at the beginning: the book of one open root, with a ledger of nothing, and what is left for a watch that looks.
+/// The error is out of memory.
 pub fn shared_of<L: Subject, W: Watch>(
     alloc: Global,
-    circuit: &Circuit,
-    admit: &Admit,
-    strategy: Strategy,
-    word: Incumbent,
-    workers: u32,
-    budget: u64,
+    problem: &Problem<'_>,
+    effort: Effort,
+    incumbent: Incumbent,
     ledger: ledger::Book<L>,
     root: Root,
     watch: &W,
 ) -> Result<Shared<L>, AllocError>
-    requires asked { L.asked ≡ problem_by strategy circuit.now admit.now }
-    requires modest { budget ≤ 10000000 }
-    requires held { length admit.now.held ≡ length circuit.now.netlist.inputs }
-    requires root { IsRoot (problem_by strategy circuit.now admit.now) root }
+    requires asked { L.asked ≡ problem_of problem.now }
+    requires root { IsRoot (problem_of problem.now) root }
     requires ledger { ledger.total ≡ 0 }
-    ensures { IfOk result (λ shared. shared.word ≡ word) }
+    ensures { IfOk result (λ shared. shared.incumbent ≡ incumbent) }
 {
-    let _numbering = circuit.gates();
-    let book = Book::new(alloc, admit.pins().copy(alloc)?, workers, budget)?;
-    let frontier = frontier_of::<L, W>(alloc, circuit, admit, strategy, root, watch)?;
+    let _numbering = problem.circuit.gates();
+    let pins = problem.admit.pins().copy(alloc)?;
+    let book = Book::new(alloc, pins, effort.workers, effort.budget)?;
+    let frontier = frontier_of::<L, W>(alloc, problem, root, watch)?;
     Ok(Shared {
         standing: Mutex::new(Standing {
             book: Counted::new(book, ledger),
             frontier,
         }),
         moved: Condvar::new(),
-        word,
+        incumbent,
     })
 }
 
-// What is left at the beginning, for a watch that looks. The error is want of memory.
+// What is left at the beginning, for a watch that looks. The error is out of memory.
 fn frontier_of<L: Subject, W: Watch>(
     alloc: Global,
-    circuit: &Circuit,
-    admit: &Admit,
-    strategy: Strategy,
+    problem: &Problem<'_>,
     root: Root,
     watch: &W,
 ) -> Result<Frontier<L>, AllocError>
-    requires asked { L.asked ≡ problem_by strategy circuit.now admit.now }
-    requires root { IsRoot (problem_by strategy circuit.now admit.now) root }
+    requires asked { L.asked ≡ problem_of problem.now }
+    requires root { IsRoot (problem_of problem.now) root }
 {
     if watch.is_looking() {
-        return Frontier::new(alloc, circuit, admit, strategy, root);
+        return Frontier::new(alloc, problem, root);
     }
-    Ok(Frontier::unkept(alloc, circuit, admit, strategy, root))
+    Ok(Frontier::unkept(alloc, problem, root))
 }

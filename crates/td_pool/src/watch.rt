@@ -1,8 +1,6 @@
 //! Who is told how far a search has come.
 
-use td_circuit::Circuit;
-use td_domain::Admit;
-use td_search::Strategy;
+use td_search::Problem;
 
 /// How far a search has come: how many nodes were split or closed, the greatest delay that it has found of an admitted pair, a figure
 /// that no admitted pair's delay is above, and how many leaves are left. Delays are in steps.
@@ -16,7 +14,7 @@ pub struct Progress {
 
 /// Who watches a search. A search tells a watch how far it has come, in the thread that began it.
 pub trait Watch: Drop {
-    ghost use Rattle.td_search.specs.Problems.{Problem, problem_by};
+    ghost use Rattle.td_search.specs.Problems.{Problem, problem_of};
     ghost use Rattle.td_pool.specs.Watched.{IsTrueProgress};
 
     /// Between the two moments the watch was told of a search that is asked this, any number of times.
@@ -27,9 +25,9 @@ pub trait Watch: Drop {
 
     /// Tells how far the search has come. An admitted pair of the circuit has the lower figure as its delay, and none has a delay above
     /// the upper one.
-    fn passed(&mut self, circuit: &Circuit, admit: &Admit, strategy: Strategy, progress: Progress)
-        requires { IsTrueProgress (problem_by strategy circuit.now admit.now) progress }
-        ensures { told (problem_by strategy circuit.now admit.now) self.old self.new };
+    fn passed(&mut self, problem: &Problem<'_>, progress: Progress)
+        requires { IsTrueProgress (problem_of problem.now) progress }
+        ensures { told (problem_of problem.now) self.old self.new };
 
     /// It may be told nothing.
     ghost told_nothing: { (asked : Problem) (watch : Self) → told asked watch watch };
@@ -51,13 +49,7 @@ impl Watch for Unwatched {
         false
     }
 
-    fn passed(
-        &mut self,
-        _circuit: &Circuit,
-        _admit: &Admit,
-        _strategy: Strategy,
-        _progress: Progress,
-    ) {}
+    fn passed(&mut self, _problem: &Problem<'_>, _progress: Progress) {}
 
     ghost told_nothing = { λ _ _. tt };
 

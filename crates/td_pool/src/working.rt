@@ -2,58 +2,59 @@
 
 ghost use Rattle.std.specs.Prelude.{◌≡◌, ◌<◌, length, vec_capacity, IfOk};
 ghost use Rattle.td_search.specs.Below.{IsBelow, IsWithin};
-ghost use Rattle.td_search.specs.Problems.{problem_by};
-ghost use Rattle.td_pool.specs.Truth.{IsTrueFound};
+ghost use Rattle.td_search.specs.Problems.{problem_of};
+ghost use Rattle.td_pool.specs.Truth.{IsKeeping, IsTrueFound};
+ghost use Rattle.td_pool.specs.Working.{IsWorking};
 
-use crate::finder::Finder;
 use crate::found::{Found, Report};
 use crate::hints::Hints;
+use crate::kept::Kept;
 use crate::milestones::milestone_above;
 use crate::shared::Shared;
+use crate::standing::Work;
 use crate::subject::Subject;
 use crate::watch::Watch;
 use std::alloc::{AllocError, Global};
 use std::sync::Wait;
-use std::sync::ledger::Share;
+use std::sync::ledger::{Ledger, Share};
 use td_book::Lease;
-use td_circuit::Circuit;
-use td_domain::{Admit, Cube};
-use td_incumbent::Incumbent;
-use td_search::{Below, Evidence, Strategy};
+use td_domain::Cube;
+use td_search::{Below, Evidence, Problem, Rule, Task, climb, find};
+
+/// A worker: its number, where it finds hints, its best pair, its evidence, and its share of the ledger.
+#[derive(Drop)]
+pub struct Worker<'a, D, L: Ledger> {
+    pub number: u32,
+    pub deck: D,
+    pub kept: Kept<'a>,
+    pub evidence: Vec<Evidence>,
+    pub share: Share<L>,
+}
 
 // Splits and closes below a leaf, depth first, zero side first, until nothing is left there, the allowance is used up, or memory runs
-// out. Answers false at want of memory.
-fn work_below<F: Finder>(
-    alloc: Global,
-    circuit: &Circuit,
-    admit: &Admit,
-    finder: &F,
-    scratch: &mut F::Scratch,
-    word: &Incumbent,
-    found: &mut Found,
+// out: then it answers false.
+fn work_below<R: Rule>(
+    task: &Task<'_, R>,
+    scratch: &mut R::Scratch,
+    kept: &mut Kept<'_>,
     lease: &Lease,
     below: &mut Below,
 ) -> bool
-    requires held { length admit.now.held ≡ length circuit.now.netlist.inputs }
-    requires scratch { F.is_for scratch.old circuit.now }
-    requires seat { found.old.seat.table ≡ word.now.table }
-    requires found { IsTrueFound (problem_by F.by circuit.now admit.now) found.old }
-    requires below { IsBelow (problem_by F.by circuit.now admit.now) lease.now below.old }
-    ensures scratch { F.is_for scratch.new circuit.now }
-    ensures seat { found.new.seat.table ≡ word.now.table }
-    ensures found { IsTrueFound (problem_by F.by circuit.now admit.now) found.new }
-    ensures evidence { found.new.evidence ≡ found.old.evidence }
-    ensures below { IsBelow (problem_by F.by circuit.now admit.now) lease.now below.new }
+    requires scratch { R.is_for scratch.old task.now.problem.now.circuit.now }
+    requires keeps { IsKeeping (problem_of task.now.problem.now) kept.old }
+    requires below { IsBelow (problem_of task.now.problem.now) lease.now below.old }
+    ensures scratch { R.is_for scratch.new task.now.problem.now.circuit.now }
+    ensures keeps { IsKeeping (problem_of task.now.problem.now) kept.new }
+    ensures below { IsBelow (problem_of task.now.problem.now) lease.now below.new }
 {
     for _ in 0..lease.allowance {
-        let Some(cube) = below.next(circuit, admit, F::strategy(), lease) else {
+        let Some(cube) = below.next(task.problem, lease) else {
             return true;
         };
-        let Ok((finding, cut)) = finder.find(alloc, circuit, admit, scratch, word, found, cube)
-        else {
+        let Ok(finding) = find(task, scratch, kept, cube) else {
             return false;
         };
-        if !below.settle(circuit, admit, F::strategy(), lease, finding, cut) {
+        if !below.settle(task.problem, lease, finding, kept.seen) {
             return false;
         }
     }
@@ -69,107 +70,75 @@ fn tell<D: Hints>(deck: &mut D, opened: &[u32]) {
 }
 
 // Handles a leaf, and as much below it as its lease allows, and tells the book under one hold of the lock, then the worker's deck. What
-// was found becomes evidence. No lock is held meanwhile. Answers whether the worker may go on: not at want of memory.
-fn handle<L: Subject, F: Finder, D: Hints, R: Wait>(
+// was found becomes evidence. No lock is held meanwhile. Answers whether the worker may go on: not at out of memory.
+fn handle<L: Subject, Q: Rule, D: Hints, R: Wait>(
     rt: &R,
-    alloc: Global,
-    circuit: &Circuit,
-    admit: &Admit,
-    finder: &F,
-    scratch: &mut F::Scratch,
+    task: &Task<'_, Q>,
+    scratch: &mut Q::Scratch,
     shared: &Shared<L>,
-    deck: &mut D,
+    worker: &mut Worker<'_, D, L>,
     lease: Lease,
-    found: &mut Found,
-    share: &mut Share<L>,
 ) -> bool
-    requires asked { L.asked ≡ problem_by F.by circuit.now admit.now }
-    requires held { length admit.now.held ≡ length circuit.now.netlist.inputs }
-    requires scratch { F.is_for scratch.old circuit.now }
-    requires within { IsWithin (problem_by F.by circuit.now admit.now) lease.cube }
-    requires seat { found.old.seat.table ≡ shared.now.word.table }
-    requires found { IsTrueFound (problem_by F.by circuit.now admit.now) found.old }
-    requires part { 0 < share.old.parts }
-    ensures scratch { F.is_for scratch.new circuit.now }
-    ensures seat { found.new.seat.table ≡ shared.now.word.table }
-    ensures found { IsTrueFound (problem_by F.by circuit.now admit.now) found.new }
-    ensures part { share.new.parts ≡ share.old.parts }
+    requires asked { L.asked ≡ problem_of task.now.problem.now }
+    requires scratch { Q.is_for scratch.old task.now.problem.now.circuit.now }
+    requires within { IsWithin (problem_of task.now.problem.now) lease.cube }
+    requires worker { IsWorking (problem_of task.now.problem.now) worker.old.kept worker.old.evidence.items worker.old.share.parts }
+    ensures scratch { Q.is_for scratch.new task.now.problem.now.circuit.now }
+    ensures worker { IsWorking (problem_of task.now.problem.now) worker.new.kept worker.new.evidence.items worker.new.share.parts }
 {
-    let Ok((mut below, cube)) = begin::<F>(alloc, circuit, admit, found, &lease) else {
+    let Ok((mut below, cube)) = begin(task.alloc, task.problem, &mut worker.evidence, &lease) else {
         shared.release(rt, lease);
         return false;
     };
-    let ample = work_below(
-        alloc,
-        circuit,
-        admit,
-        finder,
-        scratch,
-        &shared.word,
-        found,
-        &lease,
-        &mut below,
-    );
+    let ample = work_below(task, scratch, &mut worker.kept, &lease, &mut below);
     let Below { subtree, findings } = below;
     let evidence = Evidence {
         number: lease.number,
         cube,
         findings,
     };
-    let opened = shared.graft(
-        rt,
-        circuit,
-        admit,
-        F::strategy(),
+    let work = Work {
         lease,
         subtree,
-        &evidence,
-        found.best.time(),
-        share,
-    );
-    found.evidence.push_reserved(evidence);
+        evidence: &evidence,
+        best: worker.kept.best.time(),
+    };
+    let opened = shared.graft(rt, task.problem, work, &mut worker.share);
+    worker.evidence.push_reserved(evidence);
     let Some(opened) = opened else {
         return false;
     };
-    tell(deck, &opened);
+    tell(&mut worker.deck, &opened);
     ample
 }
 
-// A private tree below a leaf, a copy of its cube, and room for the evidence. The error is want of memory.
-fn begin<F: Finder>(
+// A private tree below a leaf, a copy of its cube, and room for the evidence. The error is out of memory.
+fn begin(
     alloc: Global,
-    circuit: &Circuit,
-    admit: &Admit,
-    found: &mut Found,
+    problem: &Problem<'_>,
+    evidence: &mut Vec<Evidence>,
     lease: &Lease,
 ) -> Result<(Below, Cube), AllocError>
-    requires within { IsWithin (problem_by F.by circuit.now admit.now) lease.now.cube }
-    ensures below { IfOk result (λ begun. IsBelow (problem_by F.by circuit.now admit.now) lease.now begun.0) }
+    requires within { IsWithin (problem_of problem.now) lease.now.cube }
+    ensures below { IfOk result (λ begun. IsBelow (problem_of problem.now) lease.now begun.0) }
     ensures cube { IfOk result (λ begun. begun.1 ≡ lease.now.cube) }
-    ensures room { IfOk result (λ begun. length found.new.evidence.items < vec_capacity found.new.evidence) }
-    ensures evidence { found.new.evidence.items ≡ found.old.evidence.items }
-    ensures best { found.new.best ≡ found.old.best }
-    ensures seat { found.new.seat ≡ found.old.seat }
+    ensures room { IfOk result (λ begun. length evidence.new.items < vec_capacity evidence.new) }
+    ensures evidence { evidence.new.items ≡ evidence.old.items }
 {
-    found.evidence.reserve(1)?;
-    Ok((
-        Below::new(alloc, circuit, admit, F::strategy(), lease)?,
-        lease.cube.copy(alloc)?,
-    ))
+    evidence.reserve(1)?;
+    Ok((Below::new(alloc, problem, lease)?, lease.cube.copy(alloc)?))
 }
 
-// Tells a watch how far the search has come, where it has passed a milestone. The next one is behind what was told.
+// Tells a watch how far the search has come, where it has passed a milestone. The next one is after what was told.
 fn tell_progress<L: Subject, W: Watch, R: Wait>(
     rt: &R,
-    circuit: &Circuit,
-    admit: &Admit,
-    strategy: Strategy,
+    problem: &Problem<'_>,
     shared: &Shared<L>,
     milestone: &mut u64,
     watch: &mut W,
 )
-    requires asked { L.asked ≡ problem_by strategy circuit.now admit.now }
-    ensures { W.told (problem_by strategy circuit.now admit.now) watch.old watch.new }
+    requires asked { L.asked ≡ problem_of problem.now }
+    ensures { W.told (problem_of problem.now) watch.old watch.new }
 {
     if !watch.is_looking() {
         return;
@@ -178,100 +147,114 @@ fn tell_progress<L: Subject, W: Watch, R: Wait>(
         return;
     };
     *milestone = milestone_above(progress.nodes);
-    watch.passed(circuit, admit, strategy, progress);
+    watch.passed(problem, progress);
 }
 
 /// Handles leaves until the book gives none or memory runs out, and tells a watch of each milestone that the search has passed when the
 /// worker has handled a leaf. All that it hands back is true.
-pub fn work<L: Subject, F: Finder, D: Hints + Drop, W: Watch, R: Wait>(
+pub fn work<L: Subject, Q: Rule, D: Hints + Drop, W: Watch, R: Wait>(
     rt: &R,
-    alloc: Global,
-    circuit: &Circuit,
-    admit: &Admit,
-    finder: &F,
+    task: &Task<'_, Q>,
     shared: &Shared<L>,
-    worker: u32,
-    deck: D,
-    found: Found,
-    share: Share<L>,
+    worker: Worker<'_, D, L>,
     watch: &mut W,
 ) -> Report<L>
-    requires asked { L.asked ≡ problem_by F.by circuit.now admit.now }
-    requires held { length admit.now.held ≡ length circuit.now.netlist.inputs }
-    requires seat { found.seat.table ≡ shared.now.word.table }
-    requires found { IsTrueFound (problem_by F.by circuit.now admit.now) found }
-    requires part { 0 < share.parts }
-    ensures found { IsTrueFound (problem_by F.by circuit.now admit.now) result.found }
-    ensures told { W.told (problem_by F.by circuit.now admit.now) watch.old watch.new }
+    requires asked { L.asked ≡ problem_of task.now.problem.now }
+    requires worker { IsWorking (problem_of task.now.problem.now) worker.kept worker.evidence.items worker.share.parts }
+    ensures found { IsTrueFound (problem_of task.now.problem.now) result.found }
+    ensures told { W.told (problem_of task.now.problem.now) watch.old watch.new }
 {
-    let mut deck = deck;
-    let mut found = found;
-    let mut share = share;
-    let Ok(mut scratch) = finder.begin(alloc, circuit, admit, &shared.word, &mut found, worker)
-    else {
-        return Report { found, share };
+    let mut worker = worker;
+    work_on(rt, task, shared, &mut worker, watch);
+    report_of(task.problem, worker)
+}
+
+// What a worker hands back.
+fn report_of<L: Subject, D: Drop>(problem: &Problem<'_>, worker: Worker<'_, D, L>) -> Report<L>
+    requires { IsWorking (problem_of problem.now) worker.kept worker.evidence.items worker.share.parts }
+    ensures { IsTrueFound (problem_of problem.now) result.found }
+{
+    let Worker {
+        kept,
+        evidence,
+        share,
+        ..
+    } = worker;
+    let Kept { seat, best, .. } = kept;
+    let found = Found {
+        evidence,
+        best,
+        seat,
     };
-    let mut milestone = milestone_above(0);
-    work_on(
-        rt,
-        alloc,
-        circuit,
-        admit,
-        finder,
-        &mut scratch,
-        shared,
-        worker,
-        &mut deck,
-        &mut found,
-        &mut share,
-        &mut milestone,
-        watch,
-    );
-    tell_progress(
-        rt,
-        circuit,
-        admit,
-        F::strategy(),
-        shared,
-        &mut milestone,
-        watch,
-    );
     Report { found, share }
 }
 
+// A scratch, once the worker of this number has climbed. The error is out of memory.
+fn begun<Q: Rule>(
+    task: &Task<'_, Q>,
+    kept: &mut Kept<'_>,
+    number: u32,
+) -> Result<Q::Scratch, AllocError>
+    requires keeps { IsKeeping (problem_of task.now.problem.now) kept.old }
+    ensures scratch { IfOk result (λ scratch. Q.is_for scratch task.now.problem.now.circuit.now) }
+    ensures keeps { IsKeeping (problem_of task.now.problem.now) kept.new }
+{
+    let mut scratch = task.rule.scratch(task.alloc, task.problem)?;
+    climb(task, &mut scratch, kept, number)?;
+    Ok(scratch)
+}
+
 // Handles leaves as `work` does.
-fn work_on<L: Subject, F: Finder, D: Hints, W: Watch, R: Wait>(
+fn work_on<L: Subject, Q: Rule, D: Hints, W: Watch, R: Wait>(
     rt: &R,
-    alloc: Global,
-    circuit: &Circuit,
-    admit: &Admit,
-    finder: &F,
-    scratch: &mut F::Scratch,
+    task: &Task<'_, Q>,
     shared: &Shared<L>,
-    worker: u32,
-    deck: &mut D,
-    found: &mut Found,
-    share: &mut Share<L>,
+    worker: &mut Worker<'_, D, L>,
+    watch: &mut W,
+)
+    requires asked { L.asked ≡ problem_of task.now.problem.now }
+    requires worker { IsWorking (problem_of task.now.problem.now) worker.old.kept worker.old.evidence.items worker.old.share.parts }
+    ensures worker { IsWorking (problem_of task.now.problem.now) worker.new.kept worker.new.evidence.items worker.new.share.parts }
+    ensures told { W.told (problem_of task.now.problem.now) watch.old watch.new }
+{
+    let Ok(mut scratch) = begun(task, &mut worker.kept, worker.number) else {
+        return;
+    };
+    let mut milestone = milestone_above(0);
+    handle_all(
+        rt,
+        task,
+        &mut scratch,
+        shared,
+        worker,
+        &mut milestone,
+        watch,
+    );
+    tell_progress(rt, task.problem, shared, &mut milestone, watch);
+}
+
+// Handles leaves until the book gives none or memory runs out.
+fn handle_all<L: Subject, Q: Rule, D: Hints, W: Watch, R: Wait>(
+    rt: &R,
+    task: &Task<'_, Q>,
+    scratch: &mut Q::Scratch,
+    shared: &Shared<L>,
+    worker: &mut Worker<'_, D, L>,
     milestone: &mut u64,
     watch: &mut W,
 )
-    requires asked { L.asked ≡ problem_by F.by circuit.now admit.now }
-    requires held { length admit.now.held ≡ length circuit.now.netlist.inputs }
-    requires scratch { F.is_for scratch.old circuit.now }
-    requires seat { found.old.seat.table ≡ shared.now.word.table }
-    requires found { IsTrueFound (problem_by F.by circuit.now admit.now) found.old }
-    requires part { 0 < share.old.parts }
-    ensures found { IsTrueFound (problem_by F.by circuit.now admit.now) found.new }
-    ensures told { W.told (problem_by F.by circuit.now admit.now) watch.old watch.new }
+    requires asked { L.asked ≡ problem_of task.now.problem.now }
+    requires scratch { Q.is_for scratch.old task.now.problem.now.circuit.now }
+    requires worker { IsWorking (problem_of task.now.problem.now) worker.old.kept worker.old.evidence.items worker.old.share.parts }
+    ensures worker { IsWorking (problem_of task.now.problem.now) worker.new.kept worker.new.evidence.items worker.new.share.parts }
+    ensures told { W.told (problem_of task.now.problem.now) watch.old watch.new }
 {
     for _ in rt.forever() {
-        let Some(lease) = shared.lease(rt, circuit, admit, worker, deck) else {
+        let Some(lease) = shared.lease(rt, task.problem, worker.number, &mut worker.deck) else {
             return;
         };
-        let goes_on = handle(
-            rt, alloc, circuit, admit, finder, scratch, shared, deck, lease, found, share,
-        );
-        tell_progress(rt, circuit, admit, F::strategy(), shared, milestone, watch);
+        let goes_on = handle(rt, task, scratch, shared, worker, lease);
+        tell_progress(rt, task.problem, shared, milestone, watch);
         if !goes_on {
             return;
         }

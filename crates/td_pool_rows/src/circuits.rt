@@ -12,8 +12,8 @@ use td_circuit::{Circuit, build};
 use td_domain::Admit;
 use td_gates::Delay;
 use td_netlist::read;
-use td_pool::{Hints, worst, worst_by, worst_with};
-use td_search::{Answer, Own, Prober, SearchFault, Strategy, alone};
+use td_pool::{Effort, Hints, Unwatched, search, worst, worst_by};
+use td_search::{Answer, Own, Prober, Problem, SearchFault, Strategy, alone};
 
 /// A pulse that is lost.
 pub const LOST: &str =
@@ -149,16 +149,13 @@ pub fn found_with<R: Threads + Wait + Sync + Abort>(
 ) -> Result<Told, Fail> {
     assert!(rt; 0 < workers && workers <= 64 && budget <= 10_000_000);
     let asked = asked_of(rt, alloc, netlist)?;
-    as_told(&worst_with(
-        rt,
-        alloc,
-        &asked.circuit,
-        &asked.admit,
-        &Own,
-        Strategy::Least,
-        workers,
-        budget,
-    ))
+    let problem = Problem {
+        circuit: &asked.circuit,
+        admit: &asked.admit,
+        strategy: Strategy::Least,
+    };
+    let effort = Effort { workers, budget };
+    as_told(&search(rt, alloc, &problem, &Own, effort, &mut Unwatched))
 }
 
 /// What a search of all pairs by a worker for each of these decks comes to.

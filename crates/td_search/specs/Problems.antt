@@ -10,6 +10,7 @@ use Rattle.td_domain.specs.Admits.{Admitted, IsAdmitted}
 use Rattle.td_certificate.specs.declared.tree.BoundedBy.{BoundedBy}
 use Rattle.td_certificate.specs.declared.tree.BoundedBy.TheVariants.{Arrival, Possible, Both, Edges, EdgesAndPossible}
 use Rattle.td_certificate.specs.Accepts.{IsBoundBy}
+use Rattle.td_search.specs.declared.problem.Problem.{Problem as Declared}
 use Rattle.td_search.specs.declared.strategy.Strategy.{Strategy}
 use Rattle.td_search.specs.declared.strategy.Strategy.TheVariants.{Least, Lead}
 
@@ -24,6 +25,15 @@ problem_by strategy circuit admit = record { setting = setting circuit; admit = 
 -- with the strategy that is the default
 abbrev pub problem : Numbered → Admitted → Problem
 problem circuit admit = problem_by Least circuit admit
+
+-- as a search is handed it
+abbrev pub problem_of : Declared → Problem
+problem_of given = problem_by given.strategy given.circuit.now given.admit.now
+
+-- whether a strategy measures the pair that stands for a cube before it bounds the cube
+abbrev pub measures_first : Strategy → Bool
+measures_first Least = true
+measures_first Lead = false
 
 -- the strongest domain by which a strategy bounds cubes
 abbrev pub strongest : Strategy → BoundedBy

@@ -4,15 +4,14 @@ ghost use Rattle.std.specs.Prelude.{◌≡◌, ◌↔◌, false, List, IsTrue, I
 ghost use Rattle.td_domain.specs.declared.cubes.Trit.{Trit};
 ghost use Rattle.td_search.specs.Below.{IsBelow, IsComing, IsDone, IsSettledBy, IsWithin};
 ghost use Rattle.td_search.specs.Findings.{IsTrueOf, IsUsable};
-ghost use Rattle.td_search.specs.Problems.{problem_by};
+ghost use Rattle.td_search.specs.Problems.{problem_of};
 
 use crate::findings::Finding;
+use crate::problem::Problem;
 use crate::replaying::dig_by;
-use crate::strategy::Strategy;
 use std::alloc::{AllocError, Global};
 use td_book::{Lease, Subtree};
-use td_circuit::Circuit;
-use td_domain::{Admit, Cube};
+use td_domain::Cube;
 
 /// A private tree below a leaf, and what was found of each node that is split or closed in it.
 #[derive(Drop)]
@@ -23,15 +22,9 @@ pub struct Below {
 
 impl Below {
     /// The root alone, open. All room that the lease's allowance needs is taken here. The error is want of memory.
-    pub fn new(
-        alloc: Global,
-        circuit: &Circuit,
-        admit: &Admit,
-        strategy: Strategy,
-        lease: &Lease,
-    ) -> Result<Below, AllocError>
-        requires { IsWithin (problem_by strategy circuit.now admit.now) lease.now.cube }
-        ensures { IfOk result (IsBelow (problem_by strategy circuit.now admit.now) lease.now) }
+    pub fn new(alloc: Global, problem: &Problem<'_>, lease: &Lease) -> Result<Below, AllocError>
+        requires { IsWithin (problem_of problem.now) lease.now.cube }
+        ensures { IfOk result (IsBelow (problem_of problem.now) lease.now) }
     {
         Ok(Below {
             subtree: Subtree::new(alloc, lease)?,
@@ -40,15 +33,9 @@ impl Below {
     }
 
     /// The cube of the leaf that comes next, until nothing is left or the allowance is used up.
-    pub fn next(
-        &self,
-        circuit: &Circuit,
-        admit: &Admit,
-        strategy: Strategy,
-        lease: &Lease,
-    ) -> Option<&Cube>
-        requires { IsBelow (problem_by strategy circuit.now admit.now) lease.now self.now }
-        ensures { MatchOption result (IsDone lease.now self.now) (λ cube. IsComing (problem_by strategy circuit.now admit.now) lease.now self.now cube.now) }
+    pub fn next(&self, problem: &Problem<'_>, lease: &Lease) -> Option<&Cube>
+        requires { IsBelow (problem_of problem.now) lease.now self.now }
+        ensures { MatchOption result (IsDone lease.now self.now) (λ cube. IsComing (problem_of problem.now) lease.now self.now cube.now) }
     {
         if self.subtree.is_full() {
             return None;
@@ -59,21 +46,19 @@ impl Below {
     /// Splits or closes the leaf that comes next as it was found of its cube, if that is usable under this cut. Answers whether it is.
     pub fn settle(
         &mut self,
-        circuit: &Circuit,
-        admit: &Admit,
-        strategy: Strategy,
+        problem: &Problem<'_>,
         lease: &Lease,
         finding: Finding,
         cut: u64,
     ) -> bool
-        requires below { IsBelow (problem_by strategy circuit.now admit.now) lease.now self.old }
-        requires next { (cube : List Trit) × IsComing (problem_by strategy circuit.now admit.now) lease.now self.old cube × IsTrueOf (problem_by strategy circuit.now admit.now) cube finding }
-        ensures below { IsBelow (problem_by strategy circuit.now admit.now) lease.now self.new }
+        requires below { IsBelow (problem_of problem.now) lease.now self.old }
+        requires next { (cube : List Trit) × IsComing (problem_of problem.now) lease.now self.old cube × IsTrueOf (problem_of problem.now) cube finding }
+        ensures below { IsBelow (problem_of problem.now) lease.now self.new }
         ensures usable { IsTrue result ↔ IsUsable cut finding }
         ensures done { IsTrue result → IsSettledBy finding cut self.old self.new }
         ensures same { result ≡ false → self.new ≡ self.old }
     {
-        if !dig_by(circuit, admit, strategy, &mut self.subtree, finding, cut) {
+        if !dig_by(problem, &mut self.subtree, finding, cut) {
             return false;
         }
         self.findings.push_reserved(finding);

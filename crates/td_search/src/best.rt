@@ -1,8 +1,12 @@
 //! The best pair that a search has found.
 
 ghost use Rattle.std.specs.Prelude.{◌≡◌, ◌*◌, length, IfOk};
+ghost use Rattle.td_search.specs.Best.{IsBest};
+ghost use Rattle.td_search.specs.Problems.{problem_of, has_delay};
 ghost use Rattle.td_search.specs.Representatives.{representative};
 
+use crate::keeper::Keeper;
+use crate::problem::Problem;
 use crate::representatives::write_representative;
 use std::alloc::{AllocError, Global};
 use std::marker::Model;
@@ -37,6 +41,17 @@ impl Best {
             first: vec![in alloc; false; inputs]?,
             second: vec![in alloc; false; inputs]?,
         })
+    }
+
+    /// Puts the pair that stands for the pins, which has this delay, in the place of the pair. Takes no memory.
+    pub fn begin(&mut self, problem: &Problem<'_>, first: u64)
+        requires first_fits { length self.old.pair.first ≡ length problem.now.admit.now.held }
+        requires second_fits { length self.old.pair.second ≡ length problem.now.admit.now.held }
+        requires first { has_delay (problem_of problem.now) (representative problem.now.admit.now problem.now.admit.now.pins) first }
+        ensures time { self.new.time ≡ first }
+        ensures best { IsBest (problem_of problem.now) self.new }
+    {
+        self.replace(problem.admit.pins(), problem.admit, first);
     }
 
     /// The delay of the pair.
@@ -87,4 +102,44 @@ impl Best {
     {
         Pair::new(self.first, self.second)
     }
+}
+
+/// One thread alone keeps its best pair.
+impl Keeper for Best {
+    ghost use Rattle.std.proofs.Common.{le_refl};
+    ghost use Rattle.td_search.specs.Best.{IsKept};
+
+    ghost keeps = { IsKept };
+
+    ghost time_of = { λ best. best.time };
+
+    ghost cut_of = { λ best. best.time };
+
+    fn best(&self, _problem: &Problem<'_>) -> &Best {
+        self
+    }
+
+    fn cut(&self) -> u64 {
+        self.time
+    }
+
+    fn look(&mut self, _problem: &Problem<'_>) {}
+
+    fn offer(&mut self, problem: &Problem<'_>, cube: &Cube, time: u64) {
+        let _pins = problem.admit.pins();
+        if time > self.time() {
+            self.replace(cube, problem.admit, time);
+        }
+    }
+
+    fn offer_pair(&mut self, problem: &Problem<'_>, timed: &Timed) {
+        let _pins = problem.admit.pins();
+        if timed.time > self.time() {
+            self.put(timed);
+        }
+    }
+
+    ghost least = { λ asked best is. le_refl best.time };
+
+    ghost reached = { λ asked best is. is.1 };
 }

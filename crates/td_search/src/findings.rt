@@ -1,14 +1,13 @@
 //! What workers found of cubes, and hand back when they end.
 
 ghost use Rattle.std.specs.Prelude.{◌≡◌, IfOk, IfSome};
-ghost use Rattle.td_search.specs.Problems.{problem_by};
+ghost use Rattle.td_search.specs.Problems.{problem_of};
 ghost use Rattle.td_search.specs.Findings.{IsTrueEvidence, IsTrueTrail};
 
-use crate::strategy::Strategy;
+use crate::problem::Problem;
 use std::alloc::{AllocError, Global};
 use td_book::Mark;
-use td_circuit::Circuit;
-use td_domain::{Admit, Cube};
+use td_domain::Cube;
 
 /// What was found of a cube. Times are in steps.
 #[derive(Clone, Copy, Debug, Drop)]
@@ -52,34 +51,21 @@ impl Trail {
     }
 
     /// The evidence of the node of this number, if there is some.
-    pub fn evidence_of(
-        &self,
-        circuit: &Circuit,
-        admit: &Admit,
-        strategy: Strategy,
-        number: u32,
-    ) -> Option<&Evidence>
-        requires { IsTrueTrail (problem_by strategy circuit.now admit.now) self.now }
-        ensures { IfSome result (λ evidence. IsTrueEvidence (problem_by strategy circuit.now admit.now) evidence.now) }
+    pub fn evidence_of(&self, problem: &Problem<'_>, number: u32) -> Option<&Evidence>
+        requires { IsTrueTrail (problem_of problem.now) self.now }
+        ensures { IfSome result (λ evidence. IsTrueEvidence (problem_of problem.now) evidence.now) }
     {
         let place = (*self.places.get(number as usize)?)?;
         self.evidence.get(place as usize)
     }
 
     /// The evidence of the node of this number, if there is some and it is of this cube.
-    pub fn evidence_for(
-        &self,
-        circuit: &Circuit,
-        admit: &Admit,
-        strategy: Strategy,
-        number: u32,
-        cube: &Cube,
-    ) -> Option<&Evidence>
-        requires { IsTrueTrail (problem_by strategy circuit.now admit.now) self.now }
+    pub fn evidence_for(&self, problem: &Problem<'_>, number: u32, cube: &Cube) -> Option<&Evidence>
+        requires { IsTrueTrail (problem_of problem.now) self.now }
         ensures cube { IfSome result (λ evidence. evidence.now.cube ≡ cube.now) }
-        ensures evidence { IfSome result (λ evidence. IsTrueEvidence (problem_by strategy circuit.now admit.now) evidence.now) }
+        ensures evidence { IfSome result (λ evidence. IsTrueEvidence (problem_of problem.now) evidence.now) }
     {
-        let evidence = self.evidence_of(circuit, admit, strategy, number)?;
+        let evidence = self.evidence_of(problem, number)?;
         if !evidence.cube.is_same(cube) {
             return None;
         }

@@ -1,96 +1,112 @@
 //! The end of a shared search: what its workers found is done again, and what is left is handled in one thread.
 
-ghost use Rattle.std.specs.Prelude.{◌≡◌, ◌≤◌, ◌<◌, ◌^◌, length};
+ghost use Rattle.std.specs.Prelude.{◌≡◌, ◌≤◌, ◌<◌, ◌^◌};
 ghost use Rattle.std.specs.List.{All};
 ghost use Rattle.td_search.specs.Answers.{IsAnswer, low_of};
+ghost use Rattle.td_search.specs.Best.{IsKept};
 ghost use Rattle.td_search.specs.Findings.{IsTrueEvidence};
-ghost use Rattle.td_search.specs.Problems.{problem_by, has_delay, has_bound};
+ghost use Rattle.td_search.specs.Problems.{problem_of, has_bound};
 ghost use Rattle.td_search.specs.Progress.{IsUnderWay};
-ghost use Rattle.td_search.specs.Sheeted.{IsScratch};
-ghost use Rattle.td_search.specs.Splitting.{IsReached};
-ghost use Rattle.td_search.specs.declared.strategy.Strategy.TheVariants.{Lead};
+ghost use Rattle.td_search.specs.Shared.{IsShared};
 ghost use Rattle.td_search.specs.Written.{CanBeWritten};
 
 use crate::answers::{Answer, cause_of};
 use crate::best::Best;
 use crate::findings::{Evidence, Trail};
+use crate::lead::Lead;
+use crate::least::Least;
+use crate::probing::Own;
+use crate::problem::Problem;
 use crate::progress::{Search, Setup};
-use crate::scratch::Scratch;
-use crate::searching::answer;
+use crate::rule::Rule;
+use crate::searching::run_from;
 use crate::strategy::Strategy;
+use crate::task::Task;
 use std::alloc::{AllocError, Global};
 use td_book::{Node, Partial, State};
-use td_circuit::Circuit;
-use td_domain::Admit;
 
-/// What a shared search found that has ended: its tree is done again as far as the evidence, the strongest domain's bound of the
-/// pins and the best pair show it, and the nodes that are left open are handled in one thread, as `alone_by` handles them, until the
-/// budget is handled. Nothing of the tree is trusted. The budget is at most 10,000,000, and the pairs are of the circuit's inputs.
-pub fn finish_by(
-    alloc: Global,
-    circuit: &Circuit,
-    admit: &Admit,
-    partial: Partial,
-    evidence: Vec<Evidence>,
-    root: u64,
-    best: Best,
-    budget: u64,
-    strategy: Strategy,
-) -> Answer
+/// What a shared search hands over once its workers have ended: its tree, what they found, the strongest domain's bound of the pins, and
+/// the best pair of all workers.
+#[derive(Drop)]
+pub struct SharedWork {
+    pub partial: Partial,
+    pub evidence: Vec<Evidence>,
+    pub root: u64,
+    pub best: Best,
+}
+
+/// What a shared search found that has ended: its tree is done again as far as the evidence, the bound of the pins and the best pair
+/// show it, and the nodes that are left open are handled in one thread, as `alone_by` handles them, until the budget is handled.
+/// Nothing of the tree is trusted. The budget is at most 10,000,000.
+pub fn finish(alloc: Global, problem: &Problem<'_>, work: SharedWork, budget: u64) -> Answer
     requires modest { budget ≤ 10000000 }
-    requires held { length admit.now.held ≡ length circuit.now.netlist.inputs }
-    requires evidence { All (IsTrueEvidence (problem_by strategy circuit.now admit.now)) evidence.items }
-    requires root { has_bound (problem_by strategy circuit.now admit.now) admit.now.pins root }
-    requires small { root < 10 ^ 15 }
-    requires best { has_delay (problem_by strategy circuit.now admit.now) best.pair best.time }
-    requires start { strategy ≡ Lead → IsReached (problem_by strategy circuit.now admit.now) best.time }
-    ensures answer { IsAnswer (problem_by strategy circuit.now admit.now) budget result }
+    requires work { IsShared (problem_of problem.now) work }
+    ensures answer { IsAnswer (problem_of problem.now) budget result }
     // Its lower figure, or its time, is no less than the delay of the pair that was handed in.
-    ensures kept { best.time ≤ low_of result }
+    ensures kept { work.best.time ≤ low_of result }
     // The certificate of an exact answer has a text within the limit.
-    ensures text { CanBeWritten (problem_by strategy circuit.now admit.now) result }
+    ensures text { CanBeWritten (problem_of problem.now) result }
 {
-    let Ok(setup) = Setup::new(alloc, circuit, admit, budget) else {
-        return nothing_handled(circuit, admit, strategy, best, root, budget);
-    };
-    let (mut search, mut scratch) = setup.begin(circuit, admit, strategy, best, root, budget);
-    let _replayed = replay_tree(
-        alloc,
-        circuit,
-        admit,
-        strategy,
-        &mut search,
-        &mut scratch,
+    match problem.strategy {
+        Strategy::Least => {
+            let rule = Least { prober: &Own };
+            let task = Task {
+                alloc,
+                problem,
+                rule: &rule,
+            };
+            finish_by(&task, work, budget)
+        }
+        Strategy::Lead => {
+            let rule = Lead::new(problem.circuit, 1);
+            let task = Task {
+                alloc,
+                problem,
+                rule: &rule,
+            };
+            finish_by(&task, work, budget)
+        }
+    }
+}
+
+// As `finish`, by the rule of the strategy.
+fn finish_by<R: Rule>(task: &Task<'_, R>, work: SharedWork, budget: u64) -> Answer
+    requires modest { budget ≤ 10000000 }
+    requires work { IsShared (problem_of task.now.problem.now) work }
+    ensures answer { IsAnswer (problem_of task.now.problem.now) budget result }
+    ensures kept { work.best.time ≤ low_of result }
+    ensures text { CanBeWritten (problem_of task.now.problem.now) result }
+{
+    let SharedWork {
         partial,
         evidence,
-        budget,
-    );
-    search.run(alloc, &mut scratch, circuit, admit, strategy, budget);
-    answer(circuit, admit, strategy, search, budget)
+        root,
+        best,
+    } = work;
+    let Ok(mut scratch) = task.rule.scratch(task.alloc, task.problem) else {
+        return nothing_handled(task.problem, best, root, budget);
+    };
+    let Ok(setup) = Setup::new(task.alloc, task.problem, budget) else {
+        return nothing_handled(task.problem, best, root, budget);
+    };
+    let mut search = setup.begin(task.problem, best, root, budget);
+    let _replayed = replay_tree(task, &mut search, &mut scratch, partial, evidence, budget);
+    run_from(task, search, scratch, budget)
 }
 
 // What is known of a search that handled nothing.
-fn nothing_handled(
-    circuit: &Circuit,
-    admit: &Admit,
-    strategy: Strategy,
-    best: Best,
-    root: u64,
-    budget: u64,
-) -> Answer
+fn nothing_handled(problem: &Problem<'_>, best: Best, root: u64, budget: u64) -> Answer
     requires modest { budget ≤ 10000000 }
-    requires held { length admit.now.held ≡ length circuit.now.netlist.inputs }
-    requires root { has_bound (problem_by strategy circuit.now admit.now) admit.now.pins root }
+    requires root { has_bound (problem_of problem.now) problem.now.admit.now.pins root }
     requires small { root < 10 ^ 15 }
-    requires best { has_delay (problem_by strategy circuit.now admit.now) best.pair best.time }
-    requires start { strategy ≡ Lead → IsReached (problem_by strategy circuit.now admit.now) best.time }
-    ensures answer { IsAnswer (problem_by strategy circuit.now admit.now) budget result }
+    requires best { IsKept (problem_of problem.now) best }
+    ensures answer { IsAnswer (problem_of problem.now) budget result }
     ensures low { low_of result ≡ best.time }
-    ensures text { CanBeWritten (problem_by strategy circuit.now admit.now) result }
+    ensures text { CanBeWritten (problem_of problem.now) result }
 {
-    let _numbering = circuit.gates();
-    let _moments = circuit.moments();
-    let _pins = admit.pins();
+    let _numbering = problem.circuit.gates();
+    let _moments = problem.circuit.moments();
+    let _pins = problem.admit.pins();
     let low = best.time();
     Answer::Between {
         low,
@@ -110,34 +126,30 @@ fn count_handled(nodes: &[Node]) -> u64 {
     handled.count() as u64
 }
 
-// Does a tree again, if it is one of the pins and within the budget. The error is want of memory.
-fn replay_tree(
-    alloc: Global,
-    circuit: &Circuit,
-    admit: &Admit,
-    strategy: Strategy,
+// Does a tree again, if it is one of the pins and within the budget. The error is out of memory.
+fn replay_tree<R: Rule>(
+    task: &Task<'_, R>,
     search: &mut Search,
-    scratch: &mut Scratch,
+    scratch: &mut R::Scratch,
     partial: Partial,
     evidence: Vec<Evidence>,
     budget: u64,
 ) -> Result<(), AllocError>
-    requires search { IsUnderWay (problem_by strategy circuit.now admit.now) budget search.old }
-    requires scratch { IsScratch circuit.now scratch.old }
-    requires held { length admit.now.held ≡ length circuit.now.netlist.inputs }
-    requires evidence { All (IsTrueEvidence (problem_by strategy circuit.now admit.now)) evidence.items }
-    ensures search { IsUnderWay (problem_by strategy circuit.now admit.now) budget search.new }
+    requires search { IsUnderWay (problem_of task.now.problem.now) budget search.old }
+    requires scratch { R.is_for scratch.old task.now.problem.now.circuit.now }
+    requires evidence { All (IsTrueEvidence (problem_of task.now.problem.now)) evidence.items }
+    ensures search { IsUnderWay (problem_of task.now.problem.now) budget search.new }
     ensures kept { search.old.best.time ≤ search.new.best.time }
-    ensures scratch { IsScratch circuit.now scratch.new }
+    ensures scratch { R.is_for scratch.new task.now.problem.now.circuit.now }
 {
-    if !partial.cube().is_same(admit.pins()) {
+    if !partial.cube().is_same(task.problem.admit.pins()) {
         return Ok(());
     }
-    let nodes = partial.nodes(alloc)?;
+    let nodes = partial.nodes(task.alloc)?;
     drop(partial);
     if count_handled(&nodes) > budget {
         return Ok(());
     }
-    let trail = Trail::new(alloc, evidence, nodes.len())?;
-    search.replay(alloc, scratch, circuit, admit, strategy, &nodes, &trail)
+    let trail = Trail::new(task.alloc, evidence, nodes.len())?;
+    search.replay(task, scratch, &nodes, &trail)
 }

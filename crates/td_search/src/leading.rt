@@ -11,13 +11,15 @@ ghost use Rattle.td_edges.specs.EdgeSignals.{edge_functions, last_of as edges_la
 ghost use Rattle.td_edges.specs.Coverage.{span_reach};
 ghost use Rattle.td_ternary.specs.Possibles.{possible_functions, last_change};
 ghost use Rattle.td_search.specs.Guided.{IsGuide};
-ghost use Rattle.td_search.specs.Leading.{IsStep};
+ghost use Rattle.td_search.specs.Deciding.{IsStep};
 ghost use Rattle.td_search.specs.OpenEnds.{HasOpenEnd};
 ghost use Rattle.td_search.specs.Sheeted.{AreSheets, IsScratch};
+ghost use Rattle.td_search.specs.declared.strategy.Strategy.TheVariants.{Lead};
 
 use crate::guide::Guide;
 use crate::scratch::Scratch;
 use crate::sheets::{Sheets, bound_within};
+use crate::step::Step;
 use std::alloc::{AllocError, Global};
 use std::mem;
 use td_book::BoundedBy;
@@ -26,17 +28,6 @@ use td_domain::{Cube, Domain, Sheet, bound_together, move_to};
 use td_edges::{Edges, Signal};
 use td_gates::Level;
 use td_ternary::Possible;
-
-/// What is to be done with a node.
-#[derive(Clone, Copy, Debug, Drop)]
-pub enum Step {
-    /// It is closed, with a bound of its cube.
-    Close(BoundedBy, u64),
-    /// It is split at this position. The bound is the strongest domain's.
-    Split(usize, u64),
-    /// Its cube is a point, whose pair is measured.
-    Measure,
-}
 
 /// What is to be done with a cube under a cut: it is closed where edges, possible levels, or both at once have a bound that is at
 /// most the cut. Else it is split, or measured. The error is want of memory.
@@ -49,7 +40,7 @@ pub fn next_step(
 ) -> Result<Step, AllocError>
     requires scratch { IsScratch circuit.now scratch.old }
     requires positions { length cube.now ≡ 2 * length circuit.now.netlist.inputs }
-    ensures step { IfOk result (IsStep (setting circuit.now) cube.now cut) }
+    ensures step { IfOk result (IsStep Lead (setting circuit.now) cube.now cut) }
     ensures scratch { IsScratch circuit.now scratch.new }
 {
     let mut guide = taken_guide(alloc, circuit, cube, &mut scratch.guide)?;
@@ -75,6 +66,25 @@ pub fn strongest_with_edges(
     let bound = moved_strongest(alloc, &mut scratch.sheets, &mut guide, circuit, cube);
     scratch.guide = Some(guide);
     bound
+}
+
+/// The bound of a cube by edges, 0 where there is none. The error is want of memory.
+pub fn edges_bound(
+    alloc: Global,
+    scratch: &mut Scratch,
+    circuit: &Circuit,
+    cube: &Cube,
+) -> Result<u64, AllocError>
+    requires scratch { IsScratch circuit.now scratch.old }
+    requires positions { length cube.now ≡ 2 * length circuit.now.netlist.inputs }
+    ensures scratch { IsScratch circuit.now scratch.new }
+{
+    let mut guide = taken_guide(alloc, circuit, cube, &mut scratch.guide)?;
+    let moved = move_to(alloc, circuit, &mut guide.edges, cube);
+    let bound = guide.edges.bound().unwrap_or(0);
+    scratch.guide = Some(guide);
+    moved?;
+    Ok(bound)
 }
 
 /// The guide that is there, taken out, or a new one. The error is want of memory.
@@ -107,7 +117,7 @@ fn step_by(
     requires sheets { AreSheets circuit.now sheets.old }
     requires guide { IsGuide circuit.now guide.old }
     requires positions { length cube.now ≡ 2 * length circuit.now.netlist.inputs }
-    ensures step { IfOk result (IsStep (setting circuit.now) cube.now cut) }
+    ensures step { IfOk result (IsStep Lead (setting circuit.now) cube.now cut) }
     ensures sheets { AreSheets circuit.now sheets.new }
     ensures guide { IsGuide circuit.now guide.new }
 {
@@ -202,7 +212,7 @@ fn open_step(circuit: &Circuit, guide: &mut Guide, cube: &Cube, output: u32, bou
     requires positions { length cube.now ≡ 2 * length circuit.now.netlist.inputs }
     requires bound { IsBoundBy EdgesAndPossible (setting circuit.now) cube.now (Some bound) }
     requires small { bound < 10 ^ 15 }
-    ensures step { (cut : ℕ) → cut < bound → IsStep (setting circuit.now) cube.now cut result }
+    ensures step { (cut : ℕ) → cut < bound → IsStep Lead (setting circuit.now) cube.now cut result }
     ensures guide { IsGuide circuit.now guide.new }
 {
     let position = guide

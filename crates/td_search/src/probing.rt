@@ -6,7 +6,7 @@ ghost use Rattle.td_circuit.specs.Run.{IsDelayOfBits};
 ghost use Rattle.td_search.specs.Deciding.{IsProbe};
 ghost use Rattle.td_search.specs.Sheeted.{IsScratch};
 
-use crate::deciding::{Probe, probe_of};
+use crate::probe::{Probe, probe_of};
 use crate::scratch::Scratch;
 use std::alloc::{AllocError, Global};
 use td_circuit::Circuit;

@@ -1,26 +1,23 @@
 //! Does again in a search what workers did in a shared one, as far as their evidence shows it.
 
-ghost use Rattle.std.specs.Prelude.{◌≡◌, ◌*◌, ◌<◌, ◌≤◌, ◌^◌, false, List, [], ◌∷◌, ◌++◌, length, map, take, slice_get, Some, ◌↔◌, IsTrue, IfOk, IfSome};
+ghost use Rattle.std.specs.Prelude.{◌≡◌, ◌<◌, ◌≤◌, ◌^◌, false, List, [], ◌∷◌, ◌++◌, length, map, take, slice_get, Some, ◌↔◌, IsTrue, IfOk, IfSome};
 ghost use Rattle.std.specs.List.{All};
 ghost use Rattle.td_domain.specs.declared.cubes.Trit.{Trit};
 ghost use Rattle.td_domain.specs.declared.cubes.Trit.TheVariants.{Free};
 ghost use Rattle.td_book.specs.Grafting.{cubes_left};
 ghost use Rattle.td_search.specs.Findings.{IsTrueOf, IsUsable, AreTrue, IsTrueEvidence, IsTrueTrail, state_of};
-ghost use Rattle.td_search.specs.Problems.{problem, problem_by, has_bound, IsPart};
+ghost use Rattle.td_search.specs.Below.{IsWithin};
+ghost use Rattle.td_search.specs.Problems.{problem_of, has_bound};
 ghost use Rattle.td_search.specs.Progress.{IsUnderWay, MustSplit};
-ghost use Rattle.td_search.specs.Sheeted.{IsScratch};
-ghost use Rattle.td_search.specs.declared.strategy.Strategy.TheVariants.{Lead};
 
 use crate::findings::{Evidence, Finding, Trail};
-use crate::leading::strongest_with_edges;
-use crate::measuring::measure;
+use crate::problem::Problem;
 use crate::progress::Search;
-use crate::scratch::Scratch;
-use crate::strategy::Strategy;
+use crate::rule::Rule;
+use crate::task::Task;
 use std::alloc::{AllocError, Global};
 use td_book::{Lease, Node, State, Subtree};
-use td_circuit::Circuit;
-use td_domain::{Admit, Cube, Trit};
+use td_domain::{Cube, Trit};
 
 // Whether a position is free.
 fn is_free_at(cube: &Cube, position: usize) -> bool
@@ -31,15 +28,8 @@ fn is_free_at(cube: &Cube, position: usize) -> bool
 
 /// Splits or closes the next node of a private tree as it was found of its cube, if that is usable under this best time: a bound is
 /// at most the best, and so is the delay above which a cube was split. Answers whether it is.
-pub fn dig_by(
-    circuit: &Circuit,
-    admit: &Admit,
-    strategy: Strategy,
-    subtree: &mut Subtree,
-    finding: Finding,
-    best: u64,
-) -> bool
-    requires next { (cube : List Trit) × (rest : List (List Trit)) × (cubes_left subtree.old.states (subtree.old.cube ∷ []) ≡ cube ∷ rest) × IsTrueOf (problem_by strategy circuit.now admit.now) cube finding }
+pub fn dig_by(problem: &Problem<'_>, subtree: &mut Subtree, finding: Finding, best: u64) -> bool
+    requires next { (cube : List Trit) × (rest : List (List Trit)) × (cubes_left subtree.old.states (subtree.old.cube ∷ []) ≡ cube ∷ rest) × IsTrueOf (problem_of problem.now) cube finding }
     requires room { length subtree.old.states < subtree.old.allowance }
     ensures usable { IsTrue result ↔ IsUsable best finding }
     ensures done { IsTrue result → subtree.new ≡ record subtree.old { states = subtree.old.states ++ state_of best finding ∷ [] } }
@@ -54,16 +44,9 @@ pub fn dig_by(
 }
 
 // Splits and closes as many nodes of a private tree as were found and are usable under this best time. Answers how many.
-fn dig_again(
-    circuit: &Circuit,
-    admit: &Admit,
-    strategy: Strategy,
-    subtree: &mut Subtree,
-    findings: &[Finding],
-    best: u64,
-) -> usize
+fn dig_again(problem: &Problem<'_>, subtree: &mut Subtree, findings: &[Finding], best: u64) -> usize
     requires states { subtree.old.states ≡ [] }
-    requires found { AreTrue (problem_by strategy circuit.now admit.now) (subtree.old.cube ∷ []) findings.now }
+    requires found { AreTrue (problem_of problem.now) (subtree.old.cube ∷ []) findings.now }
     ensures within { result ≤ length findings.now }
     ensures subtree { subtree.new ≡ record subtree.old { states = map (state_of best) (take result findings.now) } }
     ensures usable { All (IsUsable best) (take result findings.now) }
@@ -71,7 +54,7 @@ fn dig_again(
 {
     let mut count = 0;
     for finding in findings {
-        if subtree.is_full() || !dig_by(circuit, admit, strategy, subtree, *finding, best) {
+        if subtree.is_full() || !dig_by(problem, subtree, *finding, best) {
             break;
         }
         count += 1;
@@ -96,30 +79,33 @@ fn pass(coming: &mut Vec<Option<u32>>, state: State) -> Result<usize, AllocError
     Ok(1)
 }
 
+/// A node of a tree that is done again: its number in this search, if it is there, and what was done with it.
+#[derive(Clone, Copy, Drop)]
+struct Again {
+    number: Option<u32>,
+    state: State,
+}
+
 impl Search {
     /// Splits and closes again the nodes of a tree, in its order, where there is evidence of them for this search. A split
     /// without is done again where its cube is found anew to have a bound above the best. Other nodes stay open, and what is
-    /// below them is passed. The error is want of memory, and then the nodes that are left stay open.
-    pub fn replay(
+    /// below them is passed. The error is out of memory, and then the nodes that are left stay open.
+    pub fn replay<R: Rule>(
         &mut self,
-        alloc: Global,
-        scratch: &mut Scratch,
-        circuit: &Circuit,
-        admit: &Admit,
-        strategy: Strategy,
+        task: &Task<'_, R>,
+        scratch: &mut R::Scratch,
         nodes: &[Node],
         trail: &Trail,
     ) -> Result<(), AllocError>
-        requires search { IsUnderWay (problem_by strategy circuit.now admit.now) self.old.book.budget self.old }
-        requires scratch { IsScratch circuit.now scratch.old }
-        requires held { length admit.now.held ≡ length circuit.now.netlist.inputs }
-        requires trail { IsTrueTrail (problem_by strategy circuit.now admit.now) trail.now }
-        ensures search { IsUnderWay (problem_by strategy circuit.now admit.now) self.old.book.budget self.new }
+        requires search { IsUnderWay (problem_of task.now.problem.now) self.old.book.budget self.old }
+        requires scratch { R.is_for scratch.old task.now.problem.now.circuit.now }
+        requires trail { IsTrueTrail (problem_of task.now.problem.now) trail.now }
+        ensures search { IsUnderWay (problem_of task.now.problem.now) self.old.book.budget self.new }
         ensures kept { self.old.best.time ≤ self.new.best.time }
-        ensures scratch { IsScratch circuit.now scratch.new }
+        ensures scratch { R.is_for scratch.new task.now.problem.now.circuit.now }
     {
         // By their numbers in this search the trees that come next, the first of them last. Those that are passed have none.
-        let mut coming = Vec::with_capacity(alloc, 1)?;
+        let mut coming = Vec::with_capacity(task.alloc, 1)?;
         coming.push_reserved(Some(0));
         let mut done = 0;
         for node in nodes {
@@ -130,17 +116,7 @@ impl Search {
             let Some(number) = coming.pop() else {
                 break;
             };
-            let count = self.replay_node(
-                alloc,
-                scratch,
-                circuit,
-                admit,
-                strategy,
-                number,
-                *node,
-                trail,
-                &mut coming,
-            )?;
+            let count = self.replay_node(task, scratch, number, *node, trail, &mut coming)?;
             done = count.saturating_sub(1);
         }
         Ok(())
@@ -148,131 +124,101 @@ impl Search {
 
     // Does a node again, and with evidence also what comes below it, and puts what is left below before the trees that come.
     // Answers how many nodes of the tree were done or passed.
-    fn replay_node(
+    fn replay_node<R: Rule>(
         &mut self,
-        alloc: Global,
-        scratch: &mut Scratch,
-        circuit: &Circuit,
-        admit: &Admit,
-        strategy: Strategy,
+        task: &Task<'_, R>,
+        scratch: &mut R::Scratch,
         number: Option<u32>,
         node: Node,
         trail: &Trail,
         coming: &mut Vec<Option<u32>>,
     ) -> Result<usize, AllocError>
-        requires search { IsUnderWay (problem_by strategy circuit.now admit.now) self.old.book.budget self.old }
-        requires scratch { IsScratch circuit.now scratch.old }
-        requires held { length admit.now.held ≡ length circuit.now.netlist.inputs }
-        requires trail { IsTrueTrail (problem_by strategy circuit.now admit.now) trail.now }
-        ensures search { IsUnderWay (problem_by strategy circuit.now admit.now) self.old.book.budget self.new }
+        requires search { IsUnderWay (problem_of task.now.problem.now) self.old.book.budget self.old }
+        requires scratch { R.is_for scratch.old task.now.problem.now.circuit.now }
+        requires trail { IsTrueTrail (problem_of task.now.problem.now) trail.now }
+        ensures search { IsUnderWay (problem_of task.now.problem.now) self.old.book.budget self.new }
         ensures kept { self.old.best.time ≤ self.new.best.time }
-        ensures scratch { IsScratch circuit.now scratch.new }
+        ensures scratch { R.is_for scratch.new task.now.problem.now.circuit.now }
     {
-        let Some(lease) = self.lease_again(circuit, admit, strategy, number, node.state)? else {
+        let again = Again {
+            number,
+            state: node.state,
+        };
+        let Some(lease) = self.lease_again(task.problem, again)? else {
             return pass(coming, node.state);
         };
-        if let Some(evidence) = trail.evidence_for(
-            circuit,
-            admit,
-            strategy,
-            node.number,
-            &lease.cube,
-        ) {
-            return self.replay_with(
-                alloc, scratch, circuit, admit, strategy, number, node.state, lease, evidence,
-                coming,
-            );
+        if let Some(evidence) = trail.evidence_for(task.problem, node.number, &lease.cube) {
+            return self.replay_with(task, scratch, again, lease, evidence, coming);
         }
-        self.replay_split(
-            alloc, scratch, circuit, admit, strategy, lease, node.state, coming,
-        )
+        self.replay_split(task, scratch, lease, node.state, coming)
     }
 
     // As `replay_node`, of a node with evidence.
-    fn replay_with(
+    fn replay_with<R: Rule>(
         &mut self,
-        alloc: Global,
-        scratch: &mut Scratch,
-        circuit: &Circuit,
-        admit: &Admit,
-        strategy: Strategy,
-        number: Option<u32>,
-        state: State,
+        task: &Task<'_, R>,
+        scratch: &mut R::Scratch,
+        again: Again,
         lease: Lease,
         evidence: &Evidence,
         coming: &mut Vec<Option<u32>>,
     ) -> Result<usize, AllocError>
-        requires search { IsUnderWay (problem_by strategy circuit.now admit.now) self.old.book.budget self.old }
-        requires scratch { IsScratch circuit.now scratch.old }
-        requires held { length admit.now.held ≡ length circuit.now.netlist.inputs }
+        requires search { IsUnderWay (problem_of task.now.problem.now) self.old.book.budget self.old }
+        requires scratch { R.is_for scratch.old task.now.problem.now.circuit.now }
         requires cube { evidence.now.cube ≡ lease.cube }
-        requires evidence { IsTrueEvidence (problem_by strategy circuit.now admit.now) evidence.now }
-        ensures search { IsUnderWay (problem_by strategy circuit.now admit.now) self.old.book.budget self.new }
+        requires evidence { IsTrueEvidence (problem_of task.now.problem.now) evidence.now }
+        ensures search { IsUnderWay (problem_of task.now.problem.now) self.old.book.budget self.new }
         ensures kept { self.old.best.time ≤ self.new.best.time }
-        ensures scratch { IsScratch circuit.now scratch.new }
+        ensures scratch { R.is_for scratch.new task.now.problem.now.circuit.now }
     {
-        let done = self.graft_again(alloc, circuit, admit, strategy, lease, evidence, coming)?;
+        let done = self.graft_again(task.alloc, task.problem, lease, evidence, coming)?;
         if let Some(count) = done {
             return Ok(count);
         }
-        self.replay_anew(
-            alloc, scratch, circuit, admit, strategy, number, state, coming,
-        )
+        self.replay_anew(task, scratch, again, coming)
     }
 
     // As `replay_node`, of a node whose evidence isn't usable: it is leased once more, and done again as one without evidence.
-    fn replay_anew(
+    fn replay_anew<R: Rule>(
         &mut self,
-        alloc: Global,
-        scratch: &mut Scratch,
-        circuit: &Circuit,
-        admit: &Admit,
-        strategy: Strategy,
-        number: Option<u32>,
-        state: State,
+        task: &Task<'_, R>,
+        scratch: &mut R::Scratch,
+        again: Again,
         coming: &mut Vec<Option<u32>>,
     ) -> Result<usize, AllocError>
-        requires search { IsUnderWay (problem_by strategy circuit.now admit.now) self.old.book.budget self.old }
-        requires scratch { IsScratch circuit.now scratch.old }
-        requires held { length admit.now.held ≡ length circuit.now.netlist.inputs }
-        ensures search { IsUnderWay (problem_by strategy circuit.now admit.now) self.old.book.budget self.new }
+        requires search { IsUnderWay (problem_of task.now.problem.now) self.old.book.budget self.old }
+        requires scratch { R.is_for scratch.old task.now.problem.now.circuit.now }
+        ensures search { IsUnderWay (problem_of task.now.problem.now) self.old.book.budget self.new }
         ensures kept { self.old.best.time ≤ self.new.best.time }
-        ensures scratch { IsScratch circuit.now scratch.new }
+        ensures scratch { R.is_for scratch.new task.now.problem.now.circuit.now }
     {
-        let Some(lease) = self.lease_again(circuit, admit, strategy, number, state)? else {
-            return pass(coming, state);
+        let Some(lease) = self.lease_again(task.problem, again)? else {
+            return pass(coming, again.state);
         };
-        self.replay_split(
-            alloc, scratch, circuit, admit, strategy, lease, state, coming,
-        )
+        self.replay_split(task, scratch, lease, again.state, coming)
     }
 
     // As `replay_node`, of a leaf without evidence.
-    fn replay_split(
+    fn replay_split<R: Rule>(
         &mut self,
-        alloc: Global,
-        scratch: &mut Scratch,
-        circuit: &Circuit,
-        admit: &Admit,
-        strategy: Strategy,
+        task: &Task<'_, R>,
+        scratch: &mut R::Scratch,
         lease: Lease,
         state: State,
         coming: &mut Vec<Option<u32>>,
     ) -> Result<usize, AllocError>
-        requires search { IsUnderWay (problem_by strategy circuit.now admit.now) self.old.book.budget self.old }
-        requires scratch { IsScratch circuit.now scratch.old }
-        requires held { length admit.now.held ≡ length circuit.now.netlist.inputs }
-        requires positions { length lease.cube ≡ 2 * length circuit.now.netlist.inputs }
-        requires part { IsPart lease.cube admit.now.pins }
-        ensures search { IsUnderWay (problem_by strategy circuit.now admit.now) self.old.book.budget self.new }
+        requires search { IsUnderWay (problem_of task.now.problem.now) self.old.book.budget self.old }
+        requires scratch { R.is_for scratch.old task.now.problem.now.circuit.now }
+        requires within { IsWithin (problem_of task.now.problem.now) lease.cube }
+        ensures search { IsUnderWay (problem_of task.now.problem.now) self.old.book.budget self.new }
         ensures kept { self.old.best.time ≤ self.new.best.time }
-        ensures scratch { IsScratch circuit.now scratch.new }
+        ensures scratch { R.is_for scratch.new task.now.problem.now.circuit.now }
     {
         let State::Split(position) = state else {
-            self.give_back(circuit, admit, strategy, lease);
+            self.give_back(task.problem, lease);
             return Ok(1);
         };
-        let sides = self.split_again(alloc, scratch, circuit, admit, strategy, lease, position);
+        let sides = self.split_again(task, scratch, lease, position);
         let Some((zero, one)) = sides else {
             return pass(coming, state);
         };
@@ -283,24 +229,17 @@ impl Search {
     // The leaf of this number, where one is told, for a node that was split or closed.
     fn lease_again(
         &mut self,
-        circuit: &Circuit,
-        admit: &Admit,
-        strategy: Strategy,
-        number: Option<u32>,
-        state: State,
+        problem: &Problem<'_>,
+        again: Again,
     ) -> Result<Option<Lease>, AllocError>
-        requires search { IsUnderWay (problem_by strategy circuit.now admit.now) self.old.book.budget self.old }
-        requires held { length admit.now.held ≡ length circuit.now.netlist.inputs }
-        ensures search { IsUnderWay (problem_by strategy circuit.now admit.now) self.old.book.budget self.new }
+        requires search { IsUnderWay (problem_of problem.now) self.old.book.budget self.old }
+        ensures search { IsUnderWay (problem_of problem.now) self.old.book.budget self.new }
         ensures kept { self.old.best.time ≤ self.new.best.time }
         ensures worker { IfOk result (λ answer. IfSome answer (λ lease. lease.worker ≡ 0)) }
-        ensures positions { IfOk result (λ answer. IfSome answer (λ lease. length lease.cube ≡ 2 * length circuit.now.netlist.inputs)) }
-        ensures part { IfOk result (λ answer. IfSome answer (λ lease. IsPart lease.cube admit.now.pins)) }
+        ensures within { IfOk result (λ answer. IfSome answer (λ lease. IsWithin (problem_of problem.now) lease.cube)) }
     {
-        match (number, state) {
-            (Some(number), State::Split(_) | State::Closed(_, _, _)) => {
-                self.lease(circuit, admit, strategy, number)
-            }
+        match (again.number, again.state) {
+            (Some(number), State::Split(_) | State::Closed(_, _, _)) => self.lease(problem, number),
             _ => Ok(None),
         }
     }
@@ -309,20 +248,18 @@ impl Search {
     fn graft_again(
         &mut self,
         alloc: Global,
-        circuit: &Circuit,
-        admit: &Admit,
-        strategy: Strategy,
+        problem: &Problem<'_>,
         lease: Lease,
         evidence: &Evidence,
         coming: &mut Vec<Option<u32>>,
     ) -> Result<Option<usize>, AllocError>
-        requires search { IsUnderWay (problem_by strategy circuit.now admit.now) self.old.book.budget self.old }
+        requires search { IsUnderWay (problem_of problem.now) self.old.book.budget self.old }
         requires cube { evidence.now.cube ≡ lease.cube }
-        requires evidence { IsTrueEvidence (problem_by strategy circuit.now admit.now) evidence.now }
-        ensures search { IsUnderWay (problem_by strategy circuit.now admit.now) self.old.book.budget self.new }
+        requires evidence { IsTrueEvidence (problem_of problem.now) evidence.now }
+        ensures search { IsUnderWay (problem_of problem.now) self.old.book.budget self.new }
         ensures kept { self.old.best.time ≤ self.new.best.time }
     {
-        let grafted = self.graft_found(alloc, circuit, admit, strategy, lease, &evidence.findings)?;
+        let grafted = self.graft_found(alloc, problem, lease, &evidence.findings)?;
         let Some((count, left)) = grafted else {
             return Ok(None);
         };
@@ -335,35 +272,33 @@ impl Search {
     pub fn graft_found(
         &mut self,
         alloc: Global,
-        circuit: &Circuit,
-        admit: &Admit,
-        strategy: Strategy,
+        problem: &Problem<'_>,
         lease: Lease,
         findings: &[Finding],
     ) -> Result<Option<(usize, Vec<u32>)>, AllocError>
-        requires search { IsUnderWay (problem_by strategy circuit.now admit.now) self.old.book.budget self.old }
-        requires found { AreTrue (problem_by strategy circuit.now admit.now) (lease.cube ∷ []) findings.now }
-        ensures search { IsUnderWay (problem_by strategy circuit.now admit.now) self.old.book.budget self.new }
+        requires search { IsUnderWay (problem_of problem.now) self.old.book.budget self.old }
+        requires found { AreTrue (problem_of problem.now) (lease.cube ∷ []) findings.now }
+        ensures search { IsUnderWay (problem_of problem.now) self.old.book.budget self.new }
         ensures kept { self.old.best.time ≤ self.new.best.time }
     {
         let mut subtree = match Subtree::new(alloc, &lease) {
             Ok(subtree) => subtree,
             Err(error) => {
-                self.give_back(circuit, admit, strategy, lease);
+                self.give_back(problem, lease);
                 return Err(error);
             }
         };
         let best = self.best.time();
-        let count = dig_again(circuit, admit, strategy, &mut subtree, findings, best);
+        let count = dig_again(problem, &mut subtree, findings, best);
         if count == 0 {
-            self.give_back(circuit, admit, strategy, lease);
+            self.give_back(problem, lease);
             return Ok(None);
         }
         let usable = &findings[..count];
-        match self.graft(circuit, admit, strategy, lease, subtree, usable) {
+        match self.graft(problem, lease, subtree, usable) {
             Ok(left) => Ok(Some((count, left))),
             Err(lease) => {
-                self.give_back(circuit, admit, strategy, lease);
+                self.give_back(problem, lease);
                 Err(AllocError)
             }
         }
@@ -371,153 +306,59 @@ impl Search {
 
     // Splits a leaf where its cube is found to have a bound above the best, and answers the numbers of its sides. Where it hasn't, or
     // memory runs out, the leaf stays open.
-    fn split_again(
+    fn split_again<R: Rule>(
         &mut self,
-        alloc: Global,
-        scratch: &mut Scratch,
-        circuit: &Circuit,
-        admit: &Admit,
-        strategy: Strategy,
+        task: &Task<'_, R>,
+        scratch: &mut R::Scratch,
         lease: Lease,
         position: u32,
     ) -> Option<(u32, u32)>
-        requires search { IsUnderWay (problem_by strategy circuit.now admit.now) self.old.book.budget self.old }
-        requires scratch { IsScratch circuit.now scratch.old }
-        requires held { length admit.now.held ≡ length circuit.now.netlist.inputs }
-        requires positions { length lease.cube ≡ 2 * length circuit.now.netlist.inputs }
-        requires part { IsPart lease.cube admit.now.pins }
-        ensures search { IsUnderWay (problem_by strategy circuit.now admit.now) self.old.book.budget self.new }
+        requires search { IsUnderWay (problem_of task.now.problem.now) self.old.book.budget self.old }
+        requires scratch { R.is_for scratch.old task.now.problem.now.circuit.now }
+        requires within { IsWithin (problem_of task.now.problem.now) lease.cube }
+        ensures search { IsUnderWay (problem_of task.now.problem.now) self.old.book.budget self.new }
         ensures kept { self.old.best.time ≤ self.new.best.time }
-        ensures scratch { IsScratch circuit.now scratch.new }
+        ensures scratch { R.is_for scratch.new task.now.problem.now.circuit.now }
     {
         let position = position as usize;
         if !is_free_at(&lease.cube, position) {
-            self.give_back(circuit, admit, strategy, lease);
+            self.give_back(task.problem, lease);
             return None;
         }
-        let Ok(Some(bound)) = self.bound_above(
-            alloc,
-            scratch,
-            circuit,
-            admit,
-            strategy,
-            &lease.cube,
-        ) else {
-            self.give_back(circuit, admit, strategy, lease);
+        let Ok(Some(bound)) = self.bound_above(task, scratch, &lease.cube) else {
+            self.give_back(task.problem, lease);
             return None;
         };
-        match self.split(circuit, admit, strategy, lease, position, bound) {
+        match self.split(task.problem, lease, position, bound) {
             Ok(sides) => Some(sides),
             Err(lease) => {
-                self.give_back(circuit, admit, strategy, lease);
+                self.give_back(task.problem, lease);
                 None
             }
         }
     }
 
-    // The strongest domain's bound of a cube, where it is above the best. With `least` its representative is measured first. None
-    // too where no admitted pair lies in the cube. The error is want of memory.
-    fn bound_above(
+    // The strongest domain's bound of a cube, where the cube is found to be split. The error is out of memory.
+    fn bound_above<R: Rule>(
         &mut self,
-        alloc: Global,
-        scratch: &mut Scratch,
-        circuit: &Circuit,
-        admit: &Admit,
-        strategy: Strategy,
+        task: &Task<'_, R>,
+        scratch: &mut R::Scratch,
         cube: &Cube,
     ) -> Result<Option<u64>, AllocError>
-        requires search { IsUnderWay (problem_by strategy circuit.now admit.now) self.old.book.budget self.old }
-        requires scratch { IsScratch circuit.now scratch.old }
-        requires held { length admit.now.held ≡ length circuit.now.netlist.inputs }
-        requires positions { length cube.now ≡ 2 * length circuit.now.netlist.inputs }
-        requires part { IsPart cube.now admit.now.pins }
-        ensures search { IsUnderWay (problem_by strategy circuit.now admit.now) self.old.book.budget self.new }
+        requires search { IsUnderWay (problem_of task.now.problem.now) self.old.book.budget self.old }
+        requires scratch { R.is_for scratch.old task.now.problem.now.circuit.now }
+        requires within { IsWithin (problem_of task.now.problem.now) cube.now }
+        ensures search { IsUnderWay (problem_of task.now.problem.now) self.old.book.budget self.new }
         ensures kept { self.old.best.time ≤ self.new.best.time }
-        ensures scratch { IsScratch circuit.now scratch.new }
+        ensures scratch { R.is_for scratch.new task.now.problem.now.circuit.now }
         ensures book { self.new.book ≡ self.old.book }
-        ensures bound { IfOk result (λ answer. IfSome answer (has_bound (problem_by strategy circuit.now admit.now) cube.now)) }
+        ensures bound { IfOk result (λ answer. IfSome answer (has_bound (problem_of task.now.problem.now) cube.now)) }
         ensures small { IfOk result (λ answer. IfSome answer (λ bound. bound < 10 ^ 15)) }
-        ensures wide { IfOk result (λ answer. IfSome answer (λ bound. MustSplit (problem_by strategy circuit.now admit.now) self.new.best.time cube.now)) }
+        ensures wide { IfOk result (λ answer. IfSome answer (λ bound. MustSplit (problem_of task.now.problem.now) self.new.best.time cube.now)) }
     {
-        match strategy {
-            Strategy::Least => self.bound_least(alloc, scratch, circuit, admit, cube),
-            Strategy::Lead => self.bound_lead(alloc, scratch, circuit, admit, cube),
+        match self.find(task, scratch, cube)? {
+            Finding::Split(_, bound, _) => Ok(Some(bound)),
+            Finding::Closed(_, _) => Ok(None),
         }
-    }
-
-    // As `bound_above`.
-    fn bound_least(
-        &mut self,
-        alloc: Global,
-        scratch: &mut Scratch,
-        circuit: &Circuit,
-        admit: &Admit,
-        cube: &Cube,
-    ) -> Result<Option<u64>, AllocError>
-        requires search { IsUnderWay (problem circuit.now admit.now) self.old.book.budget self.old }
-        requires scratch { IsScratch circuit.now scratch.old }
-        requires held { length admit.now.held ≡ length circuit.now.netlist.inputs }
-        requires positions { length cube.now ≡ 2 * length circuit.now.netlist.inputs }
-        requires part { IsPart cube.now admit.now.pins }
-        ensures search { IsUnderWay (problem circuit.now admit.now) self.old.book.budget self.new }
-        ensures kept { self.old.best.time ≤ self.new.best.time }
-        ensures scratch { IsScratch circuit.now scratch.new }
-        ensures book { self.new.book ≡ self.old.book }
-        ensures bound { IfOk result (λ answer. IfSome answer (has_bound (problem circuit.now admit.now) cube.now)) }
-        ensures small { IfOk result (λ answer. IfSome answer (λ bound. bound < 10 ^ 15)) }
-        ensures wide { IfOk result (λ answer. IfSome answer (λ bound. MustSplit (problem circuit.now admit.now) self.new.best.time cube.now)) }
-    {
-        let _pins = admit.pins();
-        if !admit.any(cube) {
-            return Ok(None);
-        }
-        let time = measure(
-            alloc,
-            &mut scratch.events,
-            &mut scratch.pair,
-            circuit,
-            admit,
-            cube,
-        )?;
-        self.offer(circuit, admit, Strategy::Least, cube, time);
-        let bound = scratch.sheets.strongest_of(alloc, circuit, cube)?;
-        Ok(if bound > self.best.time() {
-            Some(bound)
-        } else {
-            None
-        })
-    }
-
-    // As `bound_above`.
-    fn bound_lead(
-        &mut self,
-        alloc: Global,
-        scratch: &mut Scratch,
-        circuit: &Circuit,
-        admit: &Admit,
-        cube: &Cube,
-    ) -> Result<Option<u64>, AllocError>
-        requires search { IsUnderWay (problem_by Lead circuit.now admit.now) self.old.book.budget self.old }
-        requires scratch { IsScratch circuit.now scratch.old }
-        requires held { length admit.now.held ≡ length circuit.now.netlist.inputs }
-        requires positions { length cube.now ≡ 2 * length circuit.now.netlist.inputs }
-        ensures search { IsUnderWay (problem_by Lead circuit.now admit.now) self.old.book.budget self.new }
-        ensures kept { self.old.best.time ≤ self.new.best.time }
-        ensures scratch { IsScratch circuit.now scratch.new }
-        ensures book { self.new.book ≡ self.old.book }
-        ensures bound { IfOk result (λ answer. IfSome answer (has_bound (problem_by Lead circuit.now admit.now) cube.now)) }
-        ensures small { IfOk result (λ answer. IfSome answer (λ bound. bound < 10 ^ 15)) }
-        ensures wide { IfOk result (λ answer. IfSome answer (λ bound. MustSplit (problem_by Lead circuit.now admit.now) self.new.best.time cube.now)) }
-    {
-        let _pins = admit.pins();
-        if !admit.any(cube) {
-            return Ok(None);
-        }
-        let bound = strongest_with_edges(alloc, scratch, circuit, cube)?;
-        Ok(if bound > self.best.time() {
-            Some(bound)
-        } else {
-            None
-        })
     }
 }

@@ -5,8 +5,8 @@ use Rattle.td_cli.proofs.Questions.{asked_held}
 use Rattle.td_cli.proofs.Joinings.{no_parts}
 use Rattle.td_cli.proofs.parting.parts.Goals as goal
 
-pub cut-requires : goal.cut-requires
-cut-requires c = record { held = asked_held c.args.text.now c.args.default c.args.words _ c.in_ok-asked.ensures.asked }
+pub invariant_of-problem : goal.invariant_of-problem
+invariant_of-problem c = record { held = asked_held c.args.text.now c.args.default c.args.words _ c.in_ok-asked.ensures.asked }
 
 pub returns-clause-refusal : goal.returns-clause-refusal
 returns-clause-refusal c =

@@ -3,8 +3,8 @@ use Rattle.td_search.specs.Problems.{problem_by}
 use Rattle.td_cli.proofs.Questions.{asked_held, asked_flips, no_answer, certificate_spelled, pair_fits}
 use Rattle.td_cli.proofs.searching.worst.Goals as goal
 
-pub worst_watched-searched-requires-clause-held : goal.worst_watched-searched-requires-clause-held
-worst_watched-searched-requires-clause-held g c κs within = asked_held c.args.text.now c.args.default c.args.words _ c.in_ok-circuit.ensures.asked
+pub invariant_of-problem : goal.invariant_of-problem
+invariant_of-problem g c = record { held = asked_held c.args.text.now c.args.default c.args.words _ c.in_ok-circuit.ensures.asked }
 
 pub returns-in-Err-clause-refusal : goal.returns-in-Err-clause-refusal
 returns-in-Err-clause-refusal g c =
@@ -25,12 +25,12 @@ returns-clause-spelled g c =
 
 pub returns-in-Err-clause-told : goal.returns-in-Err-clause-told
 returns-in-Err-clause-told g c =
-    inr (problem_by c.args.words.strategy c.in_ok-circuit.field-0.circuit c.in_ok-circuit.field-0.admit, c.in_ok-circuit.ensures.asked, c.worst_watched-searched.ensures.told)
+    inr (problem_by c.args.words.strategy c.in_ok-circuit.field-0.circuit c.in_ok-circuit.field-0.admit, c.in_ok-circuit.ensures.asked, c.search-searched.ensures.told)
 
 pub returns-in_err-found-clause-told : goal.returns-in_err-found-clause-told
 returns-in_err-found-clause-told g c =
-    inr (problem_by c.args.words.strategy c.in_ok-circuit.field-0.circuit c.in_ok-circuit.field-0.admit, c.in_ok-circuit.ensures.asked, c.worst_watched-searched.ensures.told)
+    inr (problem_by c.args.words.strategy c.in_ok-circuit.field-0.circuit c.in_ok-circuit.field-0.admit, c.in_ok-circuit.ensures.asked, c.search-searched.ensures.told)
 
 pub returns-clause-told : goal.returns-clause-told
 returns-clause-told g c =
-    inr (problem_by c.args.words.strategy c.in_ok-circuit.field-0.circuit c.in_ok-circuit.field-0.admit, c.in_ok-circuit.ensures.asked, c.worst_watched-searched.ensures.told)
+    inr (problem_by c.args.words.strategy c.in_ok-circuit.field-0.circuit c.in_ok-circuit.field-0.admit, c.in_ok-circuit.ensures.asked, c.search-searched.ensures.told)

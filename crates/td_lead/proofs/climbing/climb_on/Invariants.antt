@@ -9,7 +9,7 @@ abbrev pub invariant-loop-attempt : goal.invariant-loop-attempt
 invariant-loop-attempt g l = record {
   best : IsTimed (setting l.circuit) l.admit l.best;
   no_less : l.fn.best.time ≤ l.best.time;
-  here : IsTimed (setting l.circuit) l.admit l.here;
-  other : IsAdmitted l.admit l.other;
+  here : IsTimed (setting l.circuit) l.admit l.stand.here;
+  other : IsAdmitted l.admit l.stand.other;
   scratch : IsFor l.circuit l.scratch;
 }

@@ -5,10 +5,10 @@ pub returns-clause-partition : goal.returns-clause-partition
 returns-clause-partition c = c.in_ok-cubes.ensures.shares.partition
 
 pub returns-clause-some : goal.returns-clause-some
-returns-clause-some c = some_each c.args.admit.now c.in_ok-cubes.cubes.items c.in_ok-cubes.ensures.shares
+returns-clause-some c = some_each c.args.problem.now.admit.now c.in_ok-cubes.cubes.items c.in_ok-cubes.ensures.shares
 
 pub returns-clause-inside : goal.returns-clause-inside
-returns-clause-inside c = inside_each c.args.admit.now c.in_ok-cubes.cubes.items c.in_ok-cubes.ensures.shares
+returns-clause-inside c = inside_each c.args.problem.now.admit.now c.in_ok-cubes.cubes.items c.in_ok-cubes.ensures.shares
 
 pub returns-clause-fits : goal.returns-clause-fits
-returns-clause-fits c = fits_each c.args.admit.now c.in_ok-cubes.cubes.items c.in_ok-cubes.ensures.shares
+returns-clause-fits c = fits_each c.args.problem.now.admit.now c.in_ok-cubes.cubes.items c.in_ok-cubes.ensures.shares

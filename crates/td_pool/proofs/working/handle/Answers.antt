@@ -1,8 +1,18 @@
-use Rattle.td_search.specs.Problems.{problem_by}
+use Rattle.std.proofs.Common.{List, [], ◌∷◌, sym, subst}
+use Rattle.td_domain.specs.declared.cubes.Trit.{Trit}
+use Rattle.td_search.specs.Findings.{AreTrue}
+use Rattle.td_search.specs.Problems.{problem_of}
 use Rattle.td_pool.proofs.Covers.{pair_found}
 use Rattle.td_pool.proofs.working.handle.Goals as goal
 
-pub graft-opened-requires-clause-best : goal.graft-opened-requires-clause-best
-graft-opened-requires-clause-best g c =
-    pair_found (problem_by g.F.Finder.by c.args.circuit.now c.args.admit.now) c.work_below-ample.new.found.best.pair c.work_below-ample.new.found.best.time c.time.result
-    c.work_below-ample.ensures.found.best.0 c.time.ensures
+pub graft-opened-requires-clause-work : goal.graft-opened-requires-clause-work
+graft-opened-requires-clause-work g c =
+    let given = c.args.task.now.problem.now in
+    let below = c.work_below-ample.ensures.below in
+    let best = c.work_below-ample.new.kept.best in
+    record {
+      cube = below.cube;
+      few = below.few;
+      evidence = subst (λ (cube : List Trit). AreTrue (problem_of given) (cube ∷ []) c.work_below-ample.new.below.findings.items) (sym c.in-Ok.ensures.cube) below.found;
+      best = pair_found (problem_of given) best.pair best.time c.time.result c.work_below-ample.ensures.keeps.kept.is.0 c.time.ensures;
+    }

@@ -7,7 +7,7 @@ use Rattle.std.proofs.Math.Nat.{lt_of_not-le}
 use Rattle.std.proofs.lemmas.List.{length-map, length-take-le}
 use Rattle.td_book.specs.Grafting.{PrivateTree, cubes_left}
 use Rattle.td_search.specs.Findings.{state_of}
-use Rattle.td_search.specs.Problems.{problem_by}
+use Rattle.td_search.specs.Problems.{problem_of}
 use Rattle.td_search.proofs.Found.{nothing, next_of, states_more, usable_more}
 use Rattle.td_search.proofs.replaying.dig_again.Goals as goal
 
@@ -16,7 +16,7 @@ dig_by-requires-clause-next c =
     let findings = c.args.findings.now in
     let at = slice_get-get_or findings c.loop-finding.finding-index nothing c.loop-finding-test.true in
     let cubes = c.args.subtree.now.cube ∷ [] in
-    let next = next_of (problem_by c.args.strategy c.args.circuit.now c.args.admit.now) c.args.best cubes findings c.loop-finding.finding-index _ c.requires.found at in
+    let next = next_of (problem_of c.args.problem.now) c.args.best cubes findings c.loop-finding.finding-index _ c.requires.found at in
     let left : cubes_left c.loop-finding.subtree.states (c.loop-finding.subtree.cube ∷ []) ≡ cubes_left (map (state_of c.args.best) (take c.loop-finding.finding-index findings)) cubes =
     ap (λ (t : PrivateTree). cubes_left t.states (t.cube ∷ [])) c.loop-finding.invariant.subtree in
     (next.cube, next.rest, left ∙ next.is, next.holds)

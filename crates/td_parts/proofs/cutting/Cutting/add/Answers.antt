@@ -9,17 +9,17 @@ use Rattle.td_parts.proofs.Waiting.{added_below, added_waits}
 use Rattle.td_parts.proofs.cutting.Cutting.add.Goals as goal
 
 pub returns-clause-splits : goal.returns-clause-splits
-returns-clause-splits c true =
-    subst (λ (parts : List Part). All (IsTruePart c.args.strategy (setting c.args.circuit.now)) parts) (sym c.in_ok-push-2.ensures.items)
-    (All-push (IsTruePart c.args.strategy (setting c.args.circuit.now)) c.args.self.now.parts.items c.in_ok-part.part true c.in_ok-part.ensures.split)
+returns-clause-splits g c true =
+    subst (λ (parts : List Part). All (IsTruePart c.args.task.now.problem.now.strategy (setting c.args.task.now.problem.now.circuit.now)) parts) (sym c.in_ok-push-2.ensures.items)
+    (All-push (IsTruePart c.args.task.now.problem.now.strategy (setting c.args.task.now.problem.now.circuit.now)) c.args.self.now.parts.items c.in_ok-part.part true c.in_ok-part.ensures.split)
 
 pub returns-clause-queued : goal.returns-clause-queued
-returns-clause-queued c below =
+returns-clause-queued g c below =
     added_below (length c.args.self.now.parts.items) c.args.self.now.queue c.push.new.self
     (subst (λ (place : ℕ). IsPermutation (place ∷ places_of c.args.self.now.queue) (places_of c.push.new.self)) (c.len.ensures ∙ c.args.self.now.parts.ok.0) c.in_ok-push.ensures) below
 
 pub returns-clause-waiting : goal.returns-clause-waiting
-returns-clause-waiting c waiting =
+returns-clause-waiting g c waiting =
     subst (λ (parts : List Part). AreWaiting parts c.push.new.self) (sym c.in_ok-push-2.ensures.items)
     (added_waits c.args.self.now.parts.items c.in_ok-part.part c.args.self.now.queue c.push.new.self waiting
     (subst (λ (place : ℕ). IsPermutation (place ∷ places_of c.args.self.now.queue) (places_of c.push.new.self)) (c.len.ensures ∙ c.args.self.now.parts.ok.0) c.in_ok-push.ensures))

@@ -10,18 +10,18 @@ use Rattle.td_pool.proofs.frontier.Frontier.new.Goals as goal
 pub invariant_of-result-clause-found : goal.invariant_of-result-clause-found
 invariant_of-result-clause-found g c =
     subst (λ (a : Problem). IsFound a c.args.root.first) (sym c.requires.asked)
-    (root_found (problem_by c.args.strategy c.args.circuit.now c.args.admit.now) c.args.root c.requires.root)
+    (root_found (problem_by c.args.problem.now.strategy c.args.problem.now.circuit.now c.args.problem.now.admit.now) c.args.root c.requires.root)
 
 pub invariant_of-result-clause-greatest : goal.invariant_of-result-clause-greatest
 invariant_of-result-clause-greatest g c =
     subst (λ (a : Problem). IsUpperBound a.setting a.admit c.args.root.bound) (sym c.requires.asked)
-    (root_greatest c.args.strategy c.args.circuit.now c.args.admit.now c.gates-numbering.ensures.numbering c.moments-moments.ensures.fit c.args.root c.requires.root)
+    (root_greatest c.args.problem.now.strategy c.args.problem.now.circuit.now c.args.problem.now.admit.now c.gates-numbering.ensures.numbering c.moments-moments.ensures.fit c.args.root c.requires.root)
 
 pub invariant_of-result-clause-cover : goal.invariant_of-result-clause-cover
 invariant_of-result-clause-cover g c =
-    let asked : Problem = problem_by c.args.strategy c.args.circuit.now c.args.admit.now in
-    let leaf : OpenLeaf = leaf_of 0 c.args.admit.now.pins c.args.root.bound in
+    let asked : Problem = problem_by c.args.problem.now.strategy c.args.problem.now.circuit.now c.args.problem.now.admit.now in
+    let leaf : OpenLeaf = leaf_of 0 c.args.problem.now.admit.now.pins c.args.root.bound in
     subst (λ (l : List OpenLeaf). IsCover g.L.Subject.asked 0 l) (sym c.in_ok-leaves.ensures)
     (subst (λ (a : Problem). IsCover a 0 (leaf ∷ [])) (sym c.requires.asked)
     (cover_begins asked 0 leaf refl
-    (root_above c.args.strategy c.args.circuit.now c.args.admit.now c.gates-numbering.ensures.numbering c.moments-moments.ensures.fit c.args.root c.requires.root)))
+    (root_above c.args.problem.now.strategy c.args.problem.now.circuit.now c.args.problem.now.admit.now c.gates-numbering.ensures.numbering c.moments-moments.ensures.fit c.args.root c.requires.root)))

@@ -11,7 +11,7 @@ use Rattle.td_pool.proofs.frontier.Frontier.settle.Goals as goal
 
 pub loop-finding-init : goal.loop-finding-init
 loop-finding-init g c =
-    let asked : Problem = problem_by c.args.strategy c.args.circuit.now c.args.admit.now in
+    let asked : Problem = problem_by c.args.problem.now.strategy c.args.problem.now.circuit.now c.args.problem.now.admit.now in
     let leaf : OpenLeaf = c.in-Some.ensures.0 in
     let old : List OpenLeaf = c.args.self.now.leaves.items in
     let at : slice_get old c.in-Some.place ≡ Some leaf = subst (λ (l : List OpenLeaf). slice_get l c.in-Some.place ≡ Some leaf) c.deref.ensures.value c.in-Some.ensures.1 in
@@ -25,14 +25,14 @@ loop-finding-init g c =
 
 pub settle_last-requires-clause-last : goal.settle_last-requires-clause-last
 settle_last-requires-clause-last g c =
-    let asked : Problem = problem_by c.args.strategy c.args.circuit.now c.args.admit.now in
+    let asked : Problem = problem_by c.args.problem.now.strategy c.args.problem.now.circuit.now c.args.problem.now.admit.now in
     let here : IsAt asked c.loop-finding.self.leaves.items (slice_index_or c.deref-finding-items.result.now c.loop-finding.finding-index nothing) (drop (c.loop-finding.finding-index + 1) c.deref-finding-items.result.now) =
     finding_at asked c.loop-finding.self.leaves.items c.deref-finding-items.result.now c.loop-finding.finding-index c.loop-finding-test.true c.loop-finding.invariant.walk in
     (here.rest, here.leaf, here.is, here.holds)
 
 pub loop-finding-preserved : goal.loop-finding-preserved
 loop-finding-preserved g c =
-    let asked : Problem = problem_by c.args.strategy c.args.circuit.now c.args.admit.now in
+    let asked : Problem = problem_by c.args.problem.now.strategy c.args.problem.now.circuit.now c.args.problem.now.admit.now in
     let here : IsAt asked c.loop-finding.self.leaves.items (slice_index_or c.deref-finding-items.result.now c.loop-finding.finding-index nothing) (drop (c.loop-finding.finding-index + 1) c.deref-finding-items.result.now) =
     finding_at asked c.loop-finding.self.leaves.items c.deref-finding-items.result.now c.loop-finding.finding-index c.loop-finding-test.true c.loop-finding.invariant.walk in
     let done = c.in_ok-settle_last.ensures here.rest here.leaf here.is in

@@ -10,17 +10,17 @@ use Rattle.td_pool.proofs.frontier.Frontier.unkept.Goals as goal
 pub invariant_of-result-clause-found : goal.invariant_of-result-clause-found
 invariant_of-result-clause-found g c =
     subst (λ (a : Problem). IsFound a c.args.root.first) (sym c.requires.asked)
-    (root_found (problem_by c.args.strategy c.args.circuit.now c.args.admit.now) c.args.root c.requires.root)
+    (root_found (problem_by c.args.problem.now.strategy c.args.problem.now.circuit.now c.args.problem.now.admit.now) c.args.root c.requires.root)
 
 pub invariant_of-result-clause-greatest : goal.invariant_of-result-clause-greatest
 invariant_of-result-clause-greatest g c =
     subst (λ (a : Problem). IsUpperBound a.setting a.admit c.args.root.bound) (sym c.requires.asked)
-    (root_greatest c.args.strategy c.args.circuit.now c.args.admit.now c.gates-numbering.ensures.numbering c.moments-moments.ensures.fit c.args.root c.requires.root)
+    (root_greatest c.args.problem.now.strategy c.args.problem.now.circuit.now c.args.problem.now.admit.now c.gates-numbering.ensures.numbering c.moments-moments.ensures.fit c.args.root c.requires.root)
 
 pub invariant_of-result-clause-cover : goal.invariant_of-result-clause-cover
 invariant_of-result-clause-cover g c =
-    let asked : Problem = problem_by c.args.strategy c.args.circuit.now c.args.admit.now in
+    let asked : Problem = problem_by c.args.problem.now.strategy c.args.problem.now.circuit.now c.args.problem.now.admit.now in
     subst (λ (l : List OpenLeaf). IsCover g.L.Subject.asked c.args.root.bound l) (sym c.new.ensures.items)
     (subst (λ (a : Problem). IsCover a c.args.root.bound []) (sym c.requires.asked)
     (cover_none asked c.args.root.bound
-    (root_above c.args.strategy c.args.circuit.now c.args.admit.now c.gates-numbering.ensures.numbering c.moments-moments.ensures.fit c.args.root c.requires.root)))
+    (root_above c.args.problem.now.strategy c.args.problem.now.circuit.now c.args.problem.now.admit.now c.gates-numbering.ensures.numbering c.moments-moments.ensures.fit c.args.root c.requires.root)))

@@ -4,4 +4,4 @@ use Rattle.td_pool.specs.Watched.{IsFound}
 use Rattle.td_pool.proofs.standing.Standing.graft.Goals as goal
 
 pub reach-requires : goal.reach-requires
-reach-requires g c = subst (λ (a : Problem). IsFound a c.args.best) (sym c.requires.asked) c.requires.best
+reach-requires g c = subst (λ (a : Problem). IsFound a c.args.work.best) (sym c.requires.asked) c.requires.work.best

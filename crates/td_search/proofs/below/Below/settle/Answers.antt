@@ -16,7 +16,7 @@ use Rattle.td_search.proofs.below.Below.settle.Goals as goal
 
 pub returns-clause-below : goal.returns-clause-below
 returns-clause-below c =
-    let asked : Problem = problem_by c.args.strategy c.args.circuit.now c.args.admit.now in
+    let asked : Problem = problem_by c.args.problem.now.strategy c.args.problem.now.circuit.now c.args.problem.now.admit.now in
     let old = c.args.self.now in
     let was = c.requires.below in
     let f : Finding = c.args.finding in

@@ -1,30 +1,29 @@
-use Rattle.std.proofs.Common.{sym, subst}
-use Rattle.std.specs.Prelude.{IfOk, IfSome}
-use Rattle.td_search.specs.declared.strategy.Strategy.{Strategy}
-use Rattle.td_search.specs.Problems.{problem_by, has_bound}
-use Rattle.td_search.specs.Progress.{IsUnderWay, MustSplit}
+use Rattle.std.proofs.Common.{subst}
+use Rattle.td_search.specs.declared.findings.Finding.{Finding}
+use Rattle.td_search.specs.declared.findings.Finding.TheVariants as finding
+use Rattle.td_search.specs.Findings.{IsTrueOf, IsUsable}
+use Rattle.td_search.specs.Problems.{problem_of}
 use Rattle.td_search.proofs.progress.Search.bound_above.Goals as goal
 
-pub returns-in-Least-clause-search : goal.returns-in-Least-clause-search
-returns-in-Least-clause-search c =
-    subst (λ (s : Strategy). IsUnderWay (problem_by s c.args.circuit.now c.args.admit.now) c.args.self.now.book.budget c.bound_least.new.self) (sym c.in-Least.is) c.bound_least.ensures.search
+pub returns-in-Split-clause-bound : goal.returns-in-Split-clause-bound
+returns-in-Split-clause-bound g c =
+    let given = c.args.task.now.problem.now in
+    let here : IsTrueOf (problem_of given) c.args.cube.now (finding.Split c.in-Split.field-0 c.in-Split.bound c.in-Split.field-2) =
+    subst (IsTrueOf (problem_of given) c.args.cube.now) c.in-Split.is c.in_ok-bound.ensures.finding in
+    here.1
 
-pub returns-in-Least-clause-bound : goal.returns-in-Least-clause-bound
-returns-in-Least-clause-bound c =
-    subst (λ (s : Strategy). IfOk c.bound_least.result (λ answer. IfSome answer (has_bound (problem_by s c.args.circuit.now c.args.admit.now) c.args.cube.now))) (sym c.in-Least.is) c.bound_least.ensures.bound
+pub returns-in-Split-clause-small : goal.returns-in-Split-clause-small
+returns-in-Split-clause-small g c =
+    let given = c.args.task.now.problem.now in
+    let here : IsTrueOf (problem_of given) c.args.cube.now (finding.Split c.in-Split.field-0 c.in-Split.bound c.in-Split.field-2) =
+    subst (IsTrueOf (problem_of given) c.args.cube.now) c.in-Split.is c.in_ok-bound.ensures.finding in
+    here.2
 
-pub returns-in-Least-clause-wide : goal.returns-in-Least-clause-wide
-returns-in-Least-clause-wide c =
-    subst (λ (s : Strategy). IfOk c.bound_least.result (λ answer. IfSome answer (λ bound. MustSplit (problem_by s c.args.circuit.now c.args.admit.now) c.bound_least.new.self.best.time c.args.cube.now))) (sym c.in-Least.is) c.bound_least.ensures.wide
-
-pub returns-in-Lead-clause-search : goal.returns-in-Lead-clause-search
-returns-in-Lead-clause-search c =
-    subst (λ (s : Strategy). IsUnderWay (problem_by s c.args.circuit.now c.args.admit.now) c.args.self.now.book.budget c.bound_lead.new.self) (sym c.in-Lead.is) c.bound_lead.ensures.search
-
-pub returns-in-Lead-clause-bound : goal.returns-in-Lead-clause-bound
-returns-in-Lead-clause-bound c =
-    subst (λ (s : Strategy). IfOk c.bound_lead.result (λ answer. IfSome answer (has_bound (problem_by s c.args.circuit.now c.args.admit.now) c.args.cube.now))) (sym c.in-Lead.is) c.bound_lead.ensures.bound
-
-pub returns-in-Lead-clause-wide : goal.returns-in-Lead-clause-wide
-returns-in-Lead-clause-wide c =
-    subst (λ (s : Strategy). IfOk c.bound_lead.result (λ answer. IfSome answer (λ bound. MustSplit (problem_by s c.args.circuit.now c.args.admit.now) c.bound_lead.new.self.best.time c.args.cube.now))) (sym c.in-Lead.is) c.bound_lead.ensures.wide
+pub returns-in-Split-clause-wide : goal.returns-in-Split-clause-wide
+returns-in-Split-clause-wide g c =
+    let given = c.args.task.now.problem.now in
+    let here : IsTrueOf (problem_of given) c.args.cube.now (finding.Split c.in-Split.field-0 c.in-Split.bound c.in-Split.field-2) =
+    subst (IsTrueOf (problem_of given) c.args.cube.now) c.in-Split.is c.in_ok-bound.ensures.finding in
+    let low : IsUsable c.find.new.self.best.time (finding.Split c.in-Split.field-0 c.in-Split.bound c.in-Split.field-2) =
+    subst (IsUsable c.find.new.self.best.time) c.in-Split.is c.in_ok-bound.ensures.usable in
+    record { delay = c.in-Split.field-2; bound = c.in-Split.bound; above = here.3; has_bound = here.1; within = low; below = here.4 }

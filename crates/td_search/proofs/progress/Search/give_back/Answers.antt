@@ -1,11 +1,11 @@
-use Rattle.td_search.specs.Problems.{problem_by}
+use Rattle.td_search.specs.Problems.{problem_of}
 use Rattle.td_search.proofs.Going.{released_or}
 use Rattle.td_search.proofs.progress.Search.give_back.Goals as goal
 
 pub returns-clause-search : goal.returns-clause-search
 returns-clause-search c =
     let s = c.args.self.now in (
-      released_or (problem_by c.args.strategy c.args.circuit.now c.args.admit.now) s.book.budget s.book c.release-opened.new.self s.best.time s.best.pair s.bounds.items c.requires.0 c.args.lease
+      released_or (problem_of c.args.problem.now) s.book.budget s.book c.release-opened.new.self s.best.time s.best.pair s.bounds.items c.requires.0 c.args.lease
           c.release-opened.result _ (λ y h. h.1.0) c.release-opened.ensures,
       c.requires.1,
     )

@@ -1,7 +1,7 @@
 use Rattle.std.proofs.Common.{◌≡◌, ℕ, length, List, ◌++◌, sym, ap, subst, ◌∙◌, length-append, arith}
 use Rattle.std.proofs.lemmas.List.Elements.{recursion_from_All}
 use Rattle.td_search.specs.Findings.{side_bounds}
-use Rattle.td_search.specs.Problems.{problem_by}
+use Rattle.td_search.specs.Problems.{problem_of}
 use Rattle.td_search.specs.Progress.{IsSearch}
 use Rattle.td_search.proofs.Found.{side_long}
 use Rattle.td_search.proofs.Going.{grafts}
@@ -21,8 +21,8 @@ returns-in-Ok-graft-clause-search c =
     let for_nodes = room.for_nodes in
     let for_lines = room.for_lines in
     let kept = ap length c.reserve.ensures.items in (
-      subst (λ (l : List ℕ). IsSearch (problem_by c.args.strategy c.args.circuit.now c.args.admit.now) s.book.budget c.graft.new.self s.best.time s.best.pair l) (sym items)
-          (grafts (problem_by c.args.strategy c.args.circuit.now c.args.admit.now) s.book.budget s.book c.graft.new.self s.best.time s.best.pair s.bounds.items c.requires.search.0 c.args.lease c.args.subtree
+      subst (λ (l : List ℕ). IsSearch (problem_of c.args.problem.now) s.book.budget c.graft.new.self s.best.time s.best.pair l) (sym items)
+          (grafts (problem_of c.args.problem.now) s.book.budget s.book c.graft.new.self s.best.time s.best.pair s.bounds.items c.requires.search.0 c.args.lease c.args.subtree
           c.in-Ok-graft.left.items findings c.requires.states c.requires.found (recursion_from_All _ findings c.requires.usable) c.in-Ok-graft.ensures.ok),
       record { no_nodes = room.no_nodes; no_lines = room.no_lines; for_nodes = omega arith; for_lines = omega arith },
     )

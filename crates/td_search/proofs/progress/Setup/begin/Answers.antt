@@ -8,15 +8,15 @@ use Rattle.td_search.proofs.progress.Setup.begin.Goals as goal
 
 pub returns-clause-search : goal.returns-clause-search
 returns-clause-search c =
-    let asked : Problem = problem_by c.args.strategy c.args.circuit.now c.args.admit.now in
+    let asked : Problem = problem_by c.args.problem.now.strategy c.args.problem.now.circuit.now c.args.problem.now.admit.now in
     let budget : ℕ = c.args.budget in
     let root : ℕ = c.args.root in
     let best = c.args.best in
     let items : c.push_reserved.new.self.items ≡ root ∷ [] =
     c.push_reserved.ensures.items ∙ ap (λ (l : List ℕ). l ++ root ∷ []) c.requires.setup.no_bounds in (
       subst (λ (b : Board). IsSearch asked budget b best.time best.pair c.push_reserved.new.self.items) (sym c.requires.setup.book)
-          (subst (λ (l : List ℕ). IsSearch asked budget (opening c.args.admit.now.pins 1 budget) best.time best.pair l) (sym items)
-          (knows c.args.strategy c.args.circuit.now c.gates-numbering.ensures.numbering c.moments-moments.ensures.fit c.args.admit.now budget c.requires.modest best.pair best.time root
-          c.requires.best c.requires.root c.requires.small c.requires.start)),
+          (subst (λ (l : List ℕ). IsSearch asked budget (opening c.args.problem.now.admit.now.pins 1 budget) best.time best.pair l) (sym items)
+          (knows c.args.problem.now.strategy c.args.problem.now.circuit.now c.gates-numbering.ensures.numbering c.moments-moments.ensures.fit c.args.problem.now.admit.now budget c.requires.modest best.pair best.time root
+          c.requires.best.0 c.requires.root c.requires.small c.requires.best.1)),
       subst (λ (l : List ℕ). HasRoom c.args.self.room (length l)) (sym items) c.requires.setup.room,
     )

@@ -1,8 +1,0 @@
-use Rattle.td_search.specs.Problems.{problem_by}
-use Rattle.td_pool.proofs.pool.search.Given as goal
-
-abbrev pub ghosts-search_all-L-Ledger : goal.ghosts-search_all-L-Ledger
-ghosts-search_all-L-Ledger g a = record { name = a.blank.name; parts = a.blank.parts }
-
-abbrev pub ghosts-search_all-L-Subject : goal.ghosts-search_all-L-Subject
-ghosts-search_all-L-Subject g a = record { asked = problem_by g.F.Finder.by a.circuit.now a.admit.now }
