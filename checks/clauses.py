@@ -26,26 +26,18 @@ says, CRATE/must-fail/NAME.edit: such a program lies, and has to fail.
 import itertools
 import os
 import random
-import shutil
 import sys
-import tempfile
 
 import opinions
-from lib import check, event_queue, places, refuting, running
+from lib import event_queue, refuting, small_program
 from lib.netlists import random_netlist
 
 import second_opinion as opinion
 from second_refutation import BadStep, Refutation
 
-sys.path.append(os.path.join(places.TOP, "build"))
-import kit  # noqa: E402
-import sources  # noqa: E402
-import unproved  # noqa: E402
-from crates import lower_first, uses_of  # noqa: E402
-
 CASES = 300
-# The program's name in the copy, and the crates that it uses.
-NAME, USES = "clause_lines", "td_gates td_nets td_netlist td_circuit td_domain td_moments"
+# The crates that the program uses.
+USES = "td_gates td_nets td_netlist td_circuit td_domain td_moments"
 USES += " td_propagation td_clauses td_refutation"
 # What the copy shows of `td_refutation` besides.
 SHOWN = {
@@ -77,65 +69,6 @@ def random_text(rng):
         if circuit and circuit.inputs <= 5:
             return text
     return random_netlist(rng, *rng.choice([(3, 8), (4, 15), (5, 25)]))[0]
-
-
-# ---- The program ----
-
-
-def edited(copy, edit):
-    """Changes the copy as a must-fail edit says."""
-    crate = os.path.dirname(os.path.dirname(edit))
-    file, pairs = None, []
-    with open(os.path.join(places.TOP, "crates", edit), encoding="utf-8") as text:
-        for line in text.read().splitlines():
-            word, _, rest = line.partition(": ")
-            if word == "file":
-                file = os.path.join(copy, "crates", crate, rest)
-            elif word == "old":
-                pairs.append([rest, ""])
-            elif word == "new" or line == "new:":
-                pairs[-1][1] = rest
-    with open(file, encoding="utf-8") as it:
-        text = it.read()
-    for old, new in pairs:
-        if text.count(old) != 1:
-            raise ValueError(f"{edit}: {old!r} stands there {text.count(old)} times")
-        text = text.replace(old, new)
-    with open(file, "w", encoding="utf-8") as it:
-        it.write(text)
-
-
-def copied(copy, edit):
-    """Makes a copy of what the program needs of the repository."""
-    uses = uses_of(places.TOP)
-    crates = lower_first(uses, USES.split())
-    for crate in crates:
-        shutil.copytree(
-            os.path.join(places.TOP, "crates", crate),
-            os.path.join(copy, "crates", crate),
-            ignore=shutil.ignore_patterns("out", "must-fail"),
-        )
-    os.makedirs(os.path.join(copy, "crates", NAME, "src"))
-    program = os.path.join(copy, "crates", NAME, "src", "main.rt")
-    shutil.copy(os.path.join(places.CHECKS, "clauses", "main.source"), program)
-    shutil.copy(os.path.join(places.TOP, "HANDLES"), copy)
-    lines = [f"{crate}: {' '.join(uses[crate])}\n" for crate in crates]
-    running.write(copy, "crates.txt", "".join([*lines, f"{NAME}: {USES}\n"]))
-    for name, text in SHOWN.items():
-        with open(os.path.join(copy, name), "a", encoding="utf-8") as it:
-            it.write(text)
-    if edit:
-        edited(copy, edit)
-
-
-def build(folder, edit):
-    """Compiles the program into a folder. Gives its path."""
-    copy, room = os.path.join(folder, "copy"), os.path.join(folder, "room")
-    os.makedirs(copy)
-    os.makedirs(room)
-    copied(copy, edit)
-    sources.TOP, sources.PROGRAM = copy, NAME
-    return unproved.compile_program(kit.find_kit(), room)
 
 
 # ---- What is asked ----
@@ -397,25 +330,8 @@ def shares(tested, _cut):
 
 
 def main():
-    options = {
-        "--keep": {"metavar": "PATH", "help": "where the program is kept that is compiled"},
-        "--with": {"metavar": "EDIT", "dest": "edit", "help": "a must-fail edit, as it says"},
-    }
-    words = sys.argv[1:]
-    named = words and not words[0].startswith("-")
-    if named or "--help" in words or "-h" in words:
-        return check.main(work, __doc__, CASES, shares, options)
-    asked = check.call(__doc__, CASES, options)
-    with tempfile.TemporaryDirectory(prefix="tdelay-clauses-") as folder:
-        try:
-            program = build(folder, asked.edit)
-        except kit.OtherKit as why:
-            print(f"skipped: this toolchain isn't as expected: {why}")
-            return check.SKIPPED
-        if asked.keep:
-            shutil.copy(program, asked.keep)
-        sys.argv.insert(1, program)
-        return check.main(work, __doc__, CASES, shares, options)
+    program = small_program.SmallProgram("clauses", USES, SHOWN)
+    return small_program.main(program, work, __doc__, CASES, shares)
 
 
 if __name__ == "__main__":

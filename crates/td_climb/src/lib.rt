@@ -18,6 +18,8 @@ mod targets;
 mod walk;
 mod waves;
 
+pub use bits::Bits;
 pub use climbing::{Climb, tries_for};
+pub use draws::Draws;
 pub use lanes::{Lanes, Latest};
 pub use pairs::{LANES, Pairs};

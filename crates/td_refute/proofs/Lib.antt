@@ -1,0 +1,3 @@
+mod StepLaws
+mod Fitting
+mod Worst

@@ -1,0 +1,5 @@
+use Rattle.td_climb.specs.Bits.{AreAdmitted}
+use Rattle.td_refute.proofs.asked.put_all.Given as goal
+
+abbrev pub invariant-loop-input : goal.invariant-loop-input
+invariant-loop-input l = AreAdmitted l.admit l.pair

@@ -1,0 +1,6 @@
+//! Searches for refutations beside all pairs of small circuits. There are tests here, and nothing
+//! else.
+#![tactic(auto)]
+
+#[cfg(test)]
+mod searches;

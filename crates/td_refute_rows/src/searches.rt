@@ -1,0 +1,163 @@
+//! What searches find in small circuits.
+
+ghost use Rattle.std.specs.Prelude.{◌≡◌, ◌≤◌, length, IfOk, IfSome};
+ghost use Rattle.td_circuit.specs.Numbering.{setting};
+ghost use Rattle.td_domain.specs.Admits.{IsAdmitted};
+ghost use Rattle.td_event_sim.specs.Scratch.{IsFor};
+ghost use Rattle.td_lead.specs.Climbing.{IsTimed};
+
+use std::alloc::{AllocError, Global};
+use std::test::*;
+use td_circuit::{Circuit, build};
+use td_domain::{Admit, Pair};
+use td_event_sim::{Scratch, delay_of};
+use td_gates::Delay;
+use td_lead::Timed;
+use td_netlist::read;
+use td_refute::{Effort, refute};
+use td_search::representative;
+
+/// A pulse of one step that the second gate swallows.
+const PULSE: &str =
+    "module m(a, y); input a; output y; not #1 n(b, a); and #2 g(y, a, b); endmodule";
+
+/// A way that no pair can go along: its last gate is open only while its first one is closed.
+const FALSE_WAY: &str = "module m(a, b, s, y); input a, b, s; output y; not #1 n(t, s);
+and #5 g0(c, a, s); or #1 g1(d, c, b); and #7 g2(e, d, t); or #1 g3(y, e, s); endmodule";
+
+/// A gate that reads nine nets, whose rows aren't all named at once.
+const WIDE: &str = "module m(a, b, y); input a, b; output y; not #1 g0(c, a); not #2 g1(d, b);
+not #3 g2(e, c); not #1 g3(f, d); not #4 g4(g, e); xor #2 g5(y, a, b, c, d, e, f, g, a, c);
+endmodule";
+
+/// The circuit of a text, if it has one.
+fn circuit_of(alloc: Global, text: &str) -> Option<Circuit> {
+    let default = Delay::new(1, 1)?;
+    let Ok(netlist) = read(alloc, text.as_bytes(), default) else {
+        return None;
+    };
+    match build(alloc, netlist) {
+        Ok(circuit) => Some(circuit),
+        Err(_) => None,
+    }
+}
+
+/// What a search found: the best delay and the bound, and what it did.
+#[derive(Clone, Copy, Debug, PartialEq, Eq, Drop)]
+struct Found {
+    low: u64,
+    high: u64,
+    steps: usize,
+    conflicts: u64,
+}
+
+/// What a search finds from an admitted pair on.
+fn found_from(
+    alloc: Global,
+    circuit: &Circuit,
+    admit: &Admit,
+    scratch: &mut Scratch,
+    start: Timed,
+    effort: Effort,
+) -> Result<Option<Found>, AllocError>
+    requires scratch { IsFor circuit.now scratch.old }
+    requires held { length admit.now.held ≡ length circuit.now.netlist.inputs }
+    requires start { IsTimed (setting circuit.now) admit.now start }
+{
+    let mut best = start;
+    match refute(alloc, scratch, circuit, admit, &mut best, effort)? {
+        Some(refuted) => Ok(Some(Found {
+            low: best.time,
+            high: refuted.bound,
+            steps: refuted.steps.len(),
+            conflicts: refuted.conflicts,
+        })),
+        None => Ok(None),
+    }
+}
+
+/// What a search finds among all pairs of a circuit.
+fn found_in(alloc: Global, circuit: &Circuit, effort: Effort) -> Result<Option<Found>, AllocError> {
+    let _few = circuit.gates();
+    let admit = Admit::all(alloc, circuit.input_count())?;
+    let pins = admit.pins();
+    if !admit.any(pins) {
+        return Ok(None);
+    }
+    let pair = representative(alloc, pins, &admit)?;
+    let mut scratch = Scratch::new(alloc, circuit)?;
+    let start = timed(&mut scratch, circuit, &admit, pair)?;
+    found_from(alloc, circuit, &admit, &mut scratch, start, effort)
+}
+
+/// An admitted pair with its delay.
+fn timed(
+    scratch: &mut Scratch,
+    circuit: &Circuit,
+    admit: &Admit,
+    pair: Pair,
+) -> Result<Timed, AllocError>
+    requires scratch { IsFor circuit.now scratch.old }
+    requires held { length admit.now.held ≡ length circuit.now.netlist.inputs }
+    requires admitted { IsAdmitted admit.now pair }
+    ensures timed { IfOk result (IsTimed (setting circuit.now) admit.now) }
+    ensures scratch { IsFor circuit.now scratch.new }
+{
+    let _pins = admit.pins();
+    let time = delay_of(scratch, circuit, &pair)?;
+    Ok(Timed { pair, time })
+}
+
+/// What a search finds among all pairs of the circuit of a text.
+fn found_in_text(alloc: Global, text: &str, effort: Effort) -> Option<Found> {
+    let circuit = circuit_of(alloc, text)?;
+    match found_in(alloc, &circuit, effort) {
+        Ok(found) => found,
+        Err(_) => None,
+    }
+}
+
+/// The effort that a search makes without questions.
+fn no_effort() -> Effort {
+    let mut effort = Effort::new();
+    effort.all = 0;
+    effort
+}
+
+#[test]
+fn a_pulse_that_is_swallowed(rt: HostRuntime) -> Result<(), Fail> {
+    let found = found_in_text(rt.alloc(), PULSE, Effort::new()).ok_or("found")?;
+    assert_eq!(rt; (found.low, found.high), (0, 0));
+    assert!(rt; found.steps > 0);
+    Ok(())
+}
+
+#[test]
+fn a_way_that_is_false(rt: HostRuntime) -> Result<(), Fail> {
+    let found = found_in_text(rt.alloc(), FALSE_WAY, Effort::new()).ok_or("found")?;
+    assert_eq!(rt; (found.low, found.high), (9, 9));
+    assert!(rt; found.steps > 0);
+    Ok(())
+}
+
+#[test]
+fn a_wide_gate(rt: HostRuntime) -> Result<(), Fail> {
+    let found = found_in_text(rt.alloc(), WIDE, Effort::new()).ok_or("found")?;
+    assert_eq!(rt; found.low, found.high);
+    Ok(())
+}
+
+#[test]
+fn without_conflicts_the_bound_is_that_of_the_first_sets(rt: HostRuntime) -> Result<(), Fail> {
+    let found = found_in_text(rt.alloc(), FALSE_WAY, no_effort()).ok_or("found")?;
+    assert_eq!(rt; (found.high, found.steps, found.conflicts), (14, 0, 0));
+    Ok(())
+}
+
+#[test]
+fn an_answer_is_the_same_again(rt: HostRuntime) -> Result<(), Fail> {
+    let first = found_in_text(rt.alloc(), FALSE_WAY, Effort::new()).ok_or("found")?;
+    let again = found_in_text(rt.alloc(), FALSE_WAY, Effort::new()).ok_or("found")?;
+    assert_eq!(rt; first, again);
+    Ok(())
+}
