@@ -7,7 +7,7 @@ def uses_of(top="."):
     """The crates that each crate uses."""
     uses = {}
     for line in open(os.path.join(top, "crates.txt")):
-        head, colon, rest = line.partition(":")
+        head, colon, rest = line.partition("#")[0].partition(":")
         if colon:
             uses[head.split()[0]] = rest.split()
     return uses
