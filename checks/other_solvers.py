@@ -376,8 +376,11 @@ def work(tested):
 
 def shares(tested, cut):
     """Everything that the check is about was there."""
-    for kind in ("refused", "accepted", "changed, refused"):
+    for kind in ("refused", "accepted"):
         tested.require(kind, 0)
+    # Some fifth of the random circuits needs cuts: of few cases none may.
+    if tested.most >= CASES // 2:
+        tested.require("changed, refused", 0)
     if not cut or tested.most >= CASES:
         for kind in ("whole", "shares", "outputs", "model", "less"):
             tested.require(kind, 0.01)
