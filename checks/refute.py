@@ -1,6 +1,6 @@
 #!/usr/bin/env python3
-"""Whether what `td_refute` finds is true, as it is compiled, by an event queue that knows nothing of
-clauses, and by the second checker of refutations.
+"""Whether what `td_refute` finds is true, as it is compiled, by an event queue that knows nothing
+of clauses, and by the second checker of refutations.
 
 Random circuits have up to 5 inputs and 25 gates of all kinds, with repeated terminals, constants
 and unequal delays, wide gates, inputs that change later or are held, bits that are fixed, and pairs

@@ -1,6 +1,6 @@
-"""Small programs over the crates, each checks/NAME/main.source, compiled without proofs in a copy of
-what they need of the repository (build/unproved.py), which takes a minute or two, and a check that
-asks one.
+"""Small programs over the crates, each checks/NAME/main.source, compiled without proofs in a copy
+of what they need of the repository (build/unproved.py), which takes a minute or two, and a check
+that asks one.
 
 Such a check is called as others are (check.py), but PROGRAM names the small program where it is
 there. With `--keep PATH` the one that is compiled is kept. With `--with EDIT` the crates are
