@@ -14,7 +14,7 @@ Pin = Hashable
 
 
 def vectors(count):
-    """All vectors of so many levels, in counting order."""
+    """All vectors of this many levels, in counting order."""
     return itertools.product((0, 1), repeat=count)
 
 

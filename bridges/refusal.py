@@ -21,7 +21,7 @@ class Refusal(Exception):
 def ending_by_name(script, main):
     """Runs `main`.
 
-    A refusal, or a file that can't be read or written, ends the script with status 1 and is told on
+    A refusal, or a file that can't be read or written, ends the script with status 1 and a line on
     standard error.
     """
     try:

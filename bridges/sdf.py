@@ -91,7 +91,7 @@ class Tree(list):
 
 
 class Reader:
-    """Reads one file. Delays are of the given corner, in steps of so many femtoseconds."""
+    """Reads one file. Delays are of the given corner, in steps of some number of femtoseconds."""
 
     def __init__(self, text: str, corner: str, step: int):
         self.text, self.corner, self.step = text, CORNERS.index(corner), step
@@ -212,5 +212,5 @@ class Reader:
 
 
 def read_sdf(text: str, corner: str, step: int) -> Annotation:
-    """The delays of a file at a corner (min, typ or max), in steps of so many femtoseconds."""
+    """The delays of a file at a corner (min, typ or max), in steps of this many femtoseconds."""
     return Reader(text, corner, step).read()

@@ -14,7 +14,7 @@ def uses_of(top="."):
 
 
 def lower_first(uses, roots):
-    """These crates and all below them, each behind those that it stands on."""
+    """These crates and all below them, each after those that it stands on."""
     order = []
 
     def visit(crate):

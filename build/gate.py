@@ -1,5 +1,5 @@
 #!/usr/bin/env python3
-"""gate.py [--anew] [--record]: runs `rt ci` in a clone of what is committed, and prints what it cost.
+"""gate.py [--anew] [--record]: runs `rt ci` in a clone of what is committed, and what it cost.
 
 It prints a table by crate: seconds by the clock of its proof, and processor seconds of its proof,
 of the same once more for its must-fail edits, of these, and of its tests; then the time, the

@@ -6,7 +6,7 @@ import sys
 
 
 class OtherKit(Exception):
-    """The toolchain isn't laid out as these scripts expect. What its guides document still serves."""
+    """The toolchain isn't laid out as these scripts expect. What its guides say still serves."""
 
 
 def say(text):

@@ -1,12 +1,12 @@
 #!/usr/bin/env python3
-"""proved.py [--record] FOLDER: proves and builds `tdelay`, as FOLDER/tdelay, and shows how far it is.
+"""proved.py [--record] FOLDER: proves and builds FOLDER/tdelay, and shows how far it is.
 
 It runs the gate, `rt ci`, over a copy of the crates that the program stands on, without their
 must-fail edits: crates that don't need each other are proved side by side, as many as there are
 processors and memory for. What is proved the toolchain keeps on this machine, by checksums of all
 that it read, so that an interrupted build goes on after the crates that were proved, and `rt ci`
 doesn't prove these again. `--record` writes how long each crate took into times.json, from which
-the time that is left is told: give it on a machine where nothing is kept, and nothing else works.
+the time that is left follows: give it on a machine where nothing is kept or else at work.
 Exit status 0 where the program is built, else 5, with what the toolchain said.
 """
 

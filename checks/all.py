@@ -8,7 +8,7 @@ has, so that all of them take less than 10 minutes on four processors; with `--m
 tenths of them. A check whose cases stand in a list tries them all. `--only` names the checks that
 are run. What takes longer than it is worth each time is run where there are minutes for it, or
 where it is named (LATER); `wrong_bodies.py` tries proofs, `clauses.py` and `refute.py` ask programs
-of their own, and `parameters.py` reads the crates' sources.
+of their own, `parameters.py` reads the crates' sources, and `figures.py` measures.
 
 `--self-test` runs every check on programs that can't be right: `/bin/true`, `/bin/false` and one
 that hangs. Each has to fail within a minute, and to say why. Then, where PROGRAM is there, each
@@ -37,8 +37,8 @@ from lib.check import SKIPPED
 # The minutes of the quick part.
 QUICK = 10
 # Scripts of this folder that are no checks of a program.
-NO_CHECKS = {"all", "wrong_bodies", "clauses", "parameters", "refute"}
-# Checks that are run where there are so many minutes.
+NO_CHECKS = {"all", "wrong_bodies", "clauses", "parameters", "refute", "figures"}
+# Checks that are run where there are this many minutes.
 LATER = {"first_command": 20}
 # What takes longest begins first.
 LONGEST_FIRST = ["first_command", "memory_limits", "bridges", "limits", "opinions", "slurm"]
@@ -70,13 +70,13 @@ def all_names():
 
 
 def cases_of(name, minutes):
-    """The words that say how many cases a check tries in so many minutes."""
+    """The words that say how many cases a check tries in a number of minutes."""
     own = re.search(r"(?m)^CASES = (\d+)$", places.text_of("checks", f"{name}.py"))
     return ["--cases", str(max(1, int(own[1]) * minutes // QUICK))] if own else []
 
 
 def run_check(name, words, seconds):
-    """Runs a check, for so many seconds at most."""
+    """Runs a check, for a number of seconds at most."""
     command = [sys.executable, os.path.join(places.CHECKS, f"{name}.py"), *words]
     begin = time.monotonic()
     pipes = {"stdout": subprocess.PIPE, "stderr": subprocess.STDOUT, "stdin": subprocess.DEVNULL}
@@ -84,7 +84,7 @@ def run_check(name, words, seconds):
         try:
             out, _ = process.communicate(timeout=seconds)
         except subprocess.TimeoutExpired:
-            # A check that is told to end ends what it runs.
+            # A check that gets this signal ends what it runs.
             process.terminate()
             try:
                 out, _ = process.communicate(timeout=20)

@@ -12,8 +12,9 @@ has to reach the outputs when the arcs of the SDF file add up to it.
 
 30 planted faults have to be caught: a gate exchanged, rise and fall swapped, an arc dropped. Each
 refusal has to come by its name. RTL with registers is synthesised and proved, .bench and BLIF are
-read, a multiplier of 32 by 32 bits is written within 10 seconds of a processor, and
-examples/from_rtl/ comes out as it is kept. It needs `yosys`, `sta` (OpenSTA), `iverilog` and `vvp`.
+read, a multiplier of 32 by 32 bits is written within 10 seconds of a processor, the commands of
+docs/FROM-RTL.md do what that page says, and examples/from_rtl/ comes out as it is kept. It needs
+`yosys`, `sta` (OpenSTA), `iverilog` and `vvp`.
 """
 
 import re
@@ -385,6 +386,7 @@ def shares(tested, cut):
         "by hand",
         "registers",
         "format",
+        "command of the page",
         "plant exchanged",
         "plant swapped",
         "plant dropped",

@@ -8,7 +8,7 @@ the cube with equal bits at held inputs are run side by side (lib/event_queue.py
 looked at as they are first, after the steps of a refutation that is good (lib/refuting.py), and
 after random and changed steps. Each time the program is asked for each named clause: of all gates
 all tables with all trits, windows and holds with all steps back; of all nets all orders; all
-positions and constants; at all places and moments up to some behind the last one, or, where that
+positions and constants; at all places and moments up to some after the last one, or, where that
 would be too many, at those beside the moments of a set. A case is one circuit. Wanted are
 
 - that the clause, or why there is none, is that of tools/second_refutation.py, and so is the
@@ -53,9 +53,9 @@ impl Refutation {
 }
 # The program's default delays.
 DEFAULTS = opinion.Delays(1, 1)
-# So many clauses of a state are asked for at all places; with more, at those beside a moment.
+# Up to this many clauses of a state are asked for at all places; more, at those beside a moment.
 MANY = 20_000
-# How far behind the last moment places and moments go, and which delay is long.
+# How far after the last moment places and moments go, and which delay is long.
 BEHIND, LONG = 3, 60
 
 
@@ -79,7 +79,7 @@ def every_place(last):
 
 
 def beside(wires, last):
-    """The places beside the moments of wires, and some behind all."""
+    """The places beside the moments of wires, and some after all."""
     moments = {moment for wire in wires for moment in wire.moments}
     near = {moment + step for moment in moments for step in (0, 1, 2)}
     return sorted({0, *near, last + BEHIND})

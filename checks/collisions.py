@@ -96,7 +96,7 @@ def seconds_of(tested, longest):
 
 
 def compared(tested, size):
-    """A case: how long texts of so many MiB take."""
+    """A case: how long texts of this many MiB take."""
     rng, letters, path = tested.random, "".join(BLOCKS), os.path.join(tested.folder, "t.v")
     count = min(2 ** len(PAIRS), (size * 2**20 - 100) // (LENGTH + 7))
     write_netlist(path, ["".join(rng.choices(letters, k=LENGTH)) for _ in range(count)])

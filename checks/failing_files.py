@@ -49,7 +49,7 @@ class Failing:
         return (*done, self.tested.read("new"))
 
     def expect(self, command, wanted, **limits):
-        """A case: how a run ends whose files fail after so many bytes."""
+        """A case: how a run ends whose files fail after a number of bytes."""
         got = self.run(command.words, **limits)
         fails = wanted[0] == 5
         kind = f"{next(iter(limits))}: {'fails' if fails else 'as usual'}"

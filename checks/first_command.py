@@ -111,6 +111,10 @@ def check_two_first(check, top, environment, wanted):
     for process, (out, err) in zip(two, said):
         check.that(process.returncode == 0 and out == wanted, "a first command answers", out + err)
         check.that(COMPILED in err, "a first command says that nothing is proved", err)
+    for parts, status in (("code", 0), ("all", 1)):
+        words = [sys.executable, os.path.join(top, "build", "sources.py"), "is", built_in(top), parts]
+        ended = subprocess.run(words, env=environment, check=False).returncode
+        check.that(ended == status, f"a program without proofs, by its stamp: {parts}", f"{ended}")
     waits = sum("waiting" in err for _, err in said)
     check.that(waits == 1, "the second of two first commands waits for the first")
     print(f"first_command: the first answer after {seconds:.0f} s", flush=True)

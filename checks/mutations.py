@@ -307,7 +307,7 @@ def mangled(rng, words):
 
 
 def inputs_of(text):
-    """How many bits a netlist takes, 2 where that can't be told."""
+    """How many bits a netlist takes, 2 where nobody can say."""
     try:
         return second_opinion.read_circuit(text).inputs
     except second_opinion.Refusal:

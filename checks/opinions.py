@@ -605,7 +605,7 @@ def work(tested):
 
 
 def require_shares(tested, shares):
-    """Of 100 cases at least so many have answers of each kind."""
+    """Of 100 cases at least this share has answers of each kind."""
     for kind, share in shares.items():
         tested.require(kind, share)
 

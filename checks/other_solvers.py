@@ -9,7 +9,7 @@ One in which a hint, a literal or a line was changed or taken away gets the same
 where the last hint of a lemma or a cut is gone, or a whole cut, it has to be refused. The formula
 for one step less has a model, whose pair has to have the worst delay by `sim`. Files that are
 damaged are refused with their name and line, and an exit status that says so. The commands of
-docs/MANY-MACHINES.md, "With another solver", print what stands behind them, and
+docs/MANY-MACHINES.md, "With another solver", print what stands after them, and
 examples/refute_share.sh does a share. A case is one certificate, one model, one refusal or one
 block of the page.
 
@@ -307,7 +307,7 @@ def damaged_proofs(tested, solvers):
 
 
 def page(tested):
-    """Cases: each block of commands of the page prints the block behind it."""
+    """Cases: each block of commands of the page prints the block after it."""
     for name, target in (
         ("examples", places.EXAMPLES),
         ("tools", places.TOOLS),

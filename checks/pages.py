@@ -9,21 +9,28 @@ head. A text in backquotes that is a line of a report or a message is a line tha
 the pages prints, or one of OTHERS, of which they tell in words.
 
 Besides, each contract that README.md and docs/CONTRACTS.md quote stands in the sources, word for
-word; as many wrong bodies are there as the pages say; the numbers and names of docs/model are those
-of tools/model.py, and the picture of the crates is that of tools/picture.py. Each relative link of
-a page leads to a file that is there, and to a heading of it. Lines have at most 100 columns, but
-for tables and blocks. The options of docs/MANUAL.md are those of `--help`, command
-by command, and each refusal of docs/NETLIST.md is what its example gives. Each command, block,
-text, line of a contract, link, page and refusal is a case.
+word, as that of its function (tools/contracts.py); as many wrong bodies are there as the pages say;
+the numbers and names of docs/model are those of tools/model.py, and the picture of the crates is
+that of tools/picture.py. Each relative link of a page leads to a file that is there, and to a
+heading of it. Lines have at most 100 columns, but for tables and blocks, in README.md also there,
+which has at most 150 lines; and no page has one of the words of tools/words.py. The numbers of
+README.md are those of the places in NUMBERS. A page that isn't read here has no command, or is one
+of ELSEWHERE, whose check reads it. The commands and options of docs/MANUAL.md are those of
+`--help`, command by command, and each refusal of docs/NETLIST.md is what its example gives. Each
+command, block, text, line of a contract, link, page, number and refusal is a case.
 """
 
 import glob
 import os
 import re
+import shutil
 import sys
 
 from lib import check, places, running
 from lib.netlists import INVERTER, LOST
+
+import contracts as quoting
+from contracts import plain
 
 COMMANDS = "sim|path|bound|worst|parts|join|info|check"
 # The pages with commands, and how many each has at least.
@@ -36,6 +43,14 @@ PAGES = {
 }
 # The page that quotes contracts, and how many lines it quotes at least.
 CONTRACTS, QUOTED = "docs/CONTRACTS.md", 120
+# What is planted there, in place of what, and whether tools/contracts.py can mend it.
+PLANTED = [
+    ("ensures offer { offer ≤ result }", "ensures offer { offer < result }", True),
+    ("    requires net { net < length (nets circuit.now) }\n", "", True),
+    ("depth(alloc: Global, circuit: &Circuit)", "depth(circuit: &Circuit)", True),
+    ("    ensures acyclic {", "    ensures acyclical {", False),
+    ("pub fn any(&self", "pub fn anything(&self", False),
+]
 # Commands that a page tells of in words.
 OTHERS = {
     "README.md": ["worst lost.v --budget 1"],
@@ -62,6 +77,20 @@ CHANGED = {
     "other_leaf.cert": ("still.cert", b"b a 0", b"none"),
     "other_bound.cert": ("inverter.cert", b"b a 3", b"b a 2"),
 }
+# Pages with commands that a check reads which has the tools for them.
+ELSEWHERE = {
+    "docs/FROM-RTL.md": "bridging/designs.py",
+    "docs/MANY-MACHINES.md": "other_solvers.py",
+}
+# Numbers of README.md, each with the page or script that has it too.
+COSTS = "docs/FIGURES.md"
+NUMBERS = [
+    (r"\((\d+) seconds on\s+four\s+processors", COSTS, r"c17\.v`, the first \| (\d+) s \|"),
+    (r"(\d+) minutes on two processors", COSTS, r"`rt ci` on two processors[^|]*\| (\d+) minutes"),
+    (r"and (\d+)\s+on four\s+\(\[figures\]", COSTS, r"\| `rt ci` \| (\d+) minutes \|"),
+    (r"1 to (\d+) workers:", "docs/MANUAL.md", r"threads that search, 1 to (\d+)"),
+]
+LONGEST_README = 150
 # How many relative links all pages have at least, and how many refusals docs/NETLIST.md has.
 LINKS, REFUSALS = 200, 16
 # Where the examples of docs/NETLIST.md stand.
@@ -77,12 +106,6 @@ LINES = [
     r"tdelay: [a-z ]+",
 ]
 LINE = re.compile("|".join(LINES))
-
-
-def plain(text):
-    """A piece of source on one line, however it is laid out."""
-    text = re.sub(r"\s+", " ", text.strip())
-    return text.replace("( ", "(").replace(", )", ",)").replace(",)", ")")
 
 
 def sources():
@@ -104,9 +127,22 @@ def contracts(tested):
         tested.fault(f"{count} lines of contracts in the pages, where there have to be {QUOTED}")
 
 
+def renewals(tested):
+    """Cases: tools/contracts.py finds what is planted, and mends what the sources have."""
+    page = places.text_of(CONTRACTS)
+    if quoting.renewed(page)[1]:
+        # That the page differs is a case of `tools`.
+        return
+    for old, new, mended in PLANTED:
+        tested.expect(f"{CONTRACTS} has once {old}", 1, page.count(old))
+        found, differing = quoting.renewed(page.replace(old, new))
+        tested.expect(f"{new!r} for {old!r} in {CONTRACTS}", 1, len(differing))
+        tested.expect(f"and whether that is mended: {differing}", mended, found == page)
+
+
 def tools(tested):
-    """Cases: the numbers of the model, and the picture of the crates."""
-    for tool in ("model.py", "picture.py"):
+    """Cases: the contracts, the numbers of the model, and the picture of the crates."""
+    for tool in ("contracts.py", "model.py", "picture.py"):
         done = running.run(
             [sys.executable, os.path.join(places.TOOLS, tool), "--check"], places.TOP
         )
@@ -174,16 +210,74 @@ def widths(tested):
         tested.expect(f"{page}: the lines above 100 columns", [], wide)
 
 
+    lines = places.text_of("README.md").splitlines()
+    wide = [line for line in lines if len(line) > 100]
+    tested.expect("README.md: the lines above 100 columns", [], wide)
+    tested.expect("README.md: it isn't too long", True, len(lines) <= LONGEST_README)
+
+
+def words(tested):
+    """A case: no page has a word of tools/words.py."""
+    script = os.path.join(places.TOOLS, "words.py")
+    done = running.run([sys.executable, script, "--check", "--list"], places.TOP)
+    tested.expect(f"the words of pages: {done.out}{done.err}", 0, done.status)
+    for text, status in (
+        ("It is reported after `told` and `want of memory`.\n", 0),
+        ("```\ntold, behind\n```\n\n| told |\n", 1),
+        ("For want\nof memory.\n", 1),
+        ("So many.\n", 1),
+        ("x" * 101 + "\n", 1),
+    ):
+        with running.folder() as folder:
+            running.write(folder, "page.md", text)
+            done = running.run([sys.executable, script, "--check", folder])
+            tested.expect(f"a page with {text!r}: {done.out}", status, done.status)
+
+
+def numbers(tested):
+    """Cases: the numbers of README.md are those of other pages, and its toolchain is that here."""
+    readme = places.text_of("README.md")
+    for pattern, page, other in NUMBERS:
+        said, wanted = re.findall(pattern, readme), re.findall(other, places.text_of(page))
+        tested.expect(f"README.md: {pattern}, as {page}", (1, wanted), (len(said), said))
+    if shutil.which("rt"):
+        version = running.run(["rt", "version"]).out.strip()
+        said = re.findall(r"`rt version` prints\s+`([^`]*)`", readme)
+        tested.expect("README.md: what `rt version` prints", [version], said)
+
+
+def all_are_read(tested):
+    """Cases: a page with commands is read here, or by a check that names it."""
+    for page in all_pages():
+        blocks = [body for language, body in pieces(places.text_of(page)) if language == "sh"]
+        if page in PAGES or not any(re.search(r"^\./tdelay ", it, flags=re.M) for it in blocks):
+            continue
+        reader = places.text_of("checks", ELSEWHERE[page]) if page in ELSEWHERE else ""
+        name = os.path.basename(page)
+        tested.expect(f"{page}: a check reads it", True, f'"{name}"' in reader)
+
+
+def helped(tested, *words_before):
+    """The commands and the long options that help lists."""
+    text = tested.run(*words_before, "--help").out
+    names = re.findall(r"^ {2,6}(?:-\w, )?(--[a-z][a-z-]*)", text, flags=re.M)
+    return re.findall(r"^ {2}([a-z]+)(?: {2}|$)", text, flags=re.M), names
+
+
 def options(tested):
-    """Cases: the manual's tables of options are those of `--help`, command by command."""
+    """Cases: the manual's commands and tables of options are those of `--help`."""
     manual = places.text_of("docs/MANUAL.md")
+    commands = [name for name in helped(tested)[0] if name != "help"]
+    tested.expect("the commands", sorted(COMMANDS.split("|")), sorted(commands))
+    headings = re.findall(r"^## `(\w+)`", manual, flags=re.M)
+    tested.expect("docs/MANUAL.md: the commands", sorted(commands), sorted(headings))
     for command in COMMANDS.split("|"):
         section = re.search(rf"^## `{command}`.*?(?=^## )", manual, flags=re.M | re.S)
         shown = re.findall(r"^\| `(--[a-z-]+)", section[0] if section else "", flags=re.M)
-        helped = re.findall(r"^ +(?:-\w, )?(--[a-z-]+)", tested.run(command, "--help").out, re.M)
+        listed = helped(tested, command)[1]
         tested.expect(
             f"docs/MANUAL.md: the options of {command}",
-            sorted({*helped} - {"--help"}),
+            sorted({*listed} - {"--help"}),
             sorted(shown),
         )
 
@@ -249,7 +343,7 @@ class Pages:
         )
 
     def read(self, name, least):
-        """The commands of a page, of which there have to be so many, and those that it tells of in
+        """The commands of a page, of which there is a least number, and those that it has in
         words.
         """
         self.name, self.commands, netlist = name, 0, None
@@ -311,10 +405,14 @@ class Pages:
 
 def work(tested):
     contracts(tested)
+    renewals(tested)
     tools(tested)
     counted(tested)
     links(tested)
     widths(tested)
+    words(tested)
+    numbers(tested)
+    all_are_read(tested)
     options(tested)
     refusals(tested)
     with running.folder() as folder:

@@ -16,7 +16,6 @@ FUNCTION = re.compile(r"^(?P<indent> *)(?:pub(?:\([a-z]+\))? )?fn (?P<name>\w+)"
 WORDS = "takes the words of a request one by one, which are to be one type"
 EXCEPTIONS = {
     ("td_pool/src/pool.rt", "worst_by"): "the specification's signature",
-    ("td_domain/src/redoing.rt", "redo"): "takes the parts of a sheet one by one",
     ("td_delivery/src/telling.rt", "hand_over"): WORDS,
     ("td_cli/src/joining.rt", "join_files"): WORDS,
     ("td_cli/src/joining.rt", "carry_out_join"): WORDS,
@@ -32,7 +31,7 @@ EXCEPTIONS = {
 
 
 def closing(text, at):
-    """The place behind the bracket that closes the one at this place."""
+    """The place after the bracket that closes the one at this place."""
     pairs, depth = {"(": ")", "[": "]", "{": "}"}, 0
     for place in range(at, len(text)):
         if text[place] in pairs:
@@ -45,7 +44,7 @@ def closing(text, at):
 
 
 def without_generics(text, at):
-    """The place of the parameters' bracket, behind the generic parameters of a name that ends here."""
+    """The place of the parameters' bracket, after the generic parameters of a name before it."""
     if text[at] != "<":
         return at
     depth = 0

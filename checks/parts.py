@@ -10,11 +10,12 @@ it writes, which is about the question that was asked. A part left out, one take
 another question and one with another time are refused, or reported by `check`. One more case is
 examples/many_machines.sh without GNU parallel, and one with it, where it is there: on
 examples/mult_8.v, and on examples/adder_8.v with a budget that cuts parts short, where the worst
-delay has to lie between the two figures that it gives. At least 60 of 100 cases are cut into two
-parts or more.
+delay has to lie between the two figures that it gives. The commands of docs/MANY-MACHINES.md for
+one machine are run of examples/c17.v. At least 60 of 100 cases are cut into two parts or more.
 """
 
 import os
+import re
 import shutil
 import sys
 
@@ -218,6 +219,25 @@ def scripts(tested):
         tested.case("script without parallel" if path == without else "script with parallel")
 
 
+def page_commands(tested):
+    """Cases: the commands of docs/MANY-MACHINES.md for one machine, of examples/c17.v: those at its
+    top, the line for a part once for each, and those by hand, where GNU parallel is there.
+    """
+    text = places.text_of("docs", "MANY-MACHINES.md")
+    top = re.search(r"(?ms)^```sh\n(.*?)^```", text)[1].replace("FILE", "big.v")
+    each = re.search(r"(?m)^.* for each line N.*$", top)[0]
+    loop = f"N=0; while read -r LINE; do N=$((N + 1))\n{each}\ndone < parts.txt"
+    by_hand = re.search(r"(?ms)^By hand:\n\n```sh\n(.*?)^```", text)[1]
+    by_hand += "./tdelay check big.v whole.cert\n"
+    for commands in [top.replace(each, loop)] + [by_hand] * (shutil.which("parallel") is not None):
+        with running.folder() as folder:
+            os.symlink(tested.program, os.path.join(folder, "tdelay"))
+            os.symlink(places.example("c17.v"), os.path.join(folder, "big.v"))
+            done = running.run(["bash", "-e", "-c", commands], folder)
+            ends = done.status, "accepted 3" in done.out.splitlines()
+            tested.expect(f"the page: {commands}{done}", (0, True), ends, "by the page")
+
+
 def work(tested):
     rng = tested.random
     scripted = False
@@ -230,6 +250,7 @@ def work(tested):
         tested.case("cut" if parts > 1 else "one part" if parts else "no pair")
         if not scripted:
             scripted = True
+            page_commands(tested)
             scripts(tested)
 
 

@@ -48,6 +48,7 @@ ROOTED = [
     for workers in ("1", "2", "4")
 ] + [
     ["worst", "met.v", "--strategy", "lead", "--budget", "10000"],
+    ["worst", "lost.v", "--strategy", "refute", "--budget", "10000"],
     ["worst", "met.v", "--flips", "1", "--budget", "10000"],
 ]
 OTHERS = [
@@ -64,6 +65,9 @@ OTHERS = [
     ["worst", "met.v", "--first", "0.", "--hold", ".=", "--at", "3,0", "--cert", "out.cert"],
     ["worst", "met.v", "--flips", "1", "--budget", "2"],
     ["worst", "met.v", "--workers", "2", "--cert", "out.cert"],
+    ["worst", "met.v", "--strategy", "refute", "--cert", "out.cert"],
+    ["worst", "lost.v", "--strategy", "refute", "--cert", "out.cert"],
+    ["worst", "lost.v", "--strategy", "refute", "--budget", "1"],
     ["check", "lost.v", "lost.cert"],
     ["check", "met.v", "met.cert"],
     ["check", "slow.v", "slow.cert"],
@@ -211,7 +215,7 @@ def try_growth(tested, refuser, command, first, last):
 
 def chosen(tested, commands):
     """The growths that are tried, by commands: those after roots, to a half of all, and a random
-    choice of the others; all where so many are asked for.
+    choice of the others; all where as many are asked for.
     """
     every = [
         (place, first, last)

@@ -8,7 +8,7 @@ taken away, doubled or put elsewhere, with random steps put in, and with lesser 
 has to accept the good ones. Of each certificate both have to say the same, verdict and line, or
 fault of the text and line. The time of one that the program accepts has to be the greatest delay of
 all admitted pairs by an event queue (lib/event_queue.py), which knows no refutations. The example
-of docs/CERTIFICATE.md, with the changes that stand behind it, comes first, and then a leaf with as
+of docs/CERTIFICATE.md, with the changes that stand after it, comes first, and then a leaf with as
 many variables as it may have and one with one more, which the second opinion isn't asked about. A
 case is one certificate. The files of the first difference are kept in DIR, where `--keep DIR` names
 one.
@@ -183,7 +183,7 @@ def compare_example(tested):
 
 
 def crowded(variables):
-    """A netlist whose wires have so many variables; its output follows its input after 1 step.
+    """A netlist whose wires have this many variables; its output follows its input after 1 step.
     Gate after gate twice as many moments come together in `x`.
     """
     gates, left, stages = ["buf #1 (y,a)"], variables - 11, 0

@@ -33,7 +33,7 @@ USES = "td_gates td_nets td_netlist td_circuit td_domain td_event_sim td_lead td
 USES += " td_refutation td_refute"
 # The program's default delays.
 DEFAULTS = opinion.Delays(1, 1)
-# Efforts, as the program reads them: conflicts of all, of the first questions, of those behind a
+# Efforts, as the program reads them: conflicts of all, of the first questions, of those after a
 # sweep, of a question of a sweep, how many times more in the next one, sweeps, bytes, tries.
 AMPLE = "400000 5000 50000 200 10 2 268000000 0"
 SWEEPING = "400000 1 50000 200 10 2 268000000 0"

@@ -18,7 +18,7 @@ from xml.etree import ElementTree
 from lib import check, places, running
 
 CASES = 100
-# So many cases stand in lists.
+# How many cases stand in lists.
 OF_LISTS = 60
 SECOND, DRAWING = (os.path.join(places.TOOLS, name) for name in ("second_opinion.py", "drawing.py"))
 SMALL = [
@@ -182,7 +182,7 @@ def certificates(tested):
 
 
 def random_pairs(tested, count):
-    """Cases: `sim` and `path` of so many random pairs."""
+    """Cases: `sim` and `path` of random pairs."""
     rng = tested.random
     for _ in range(count):
         name = rng.choice(SMALL)

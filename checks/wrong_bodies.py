@@ -118,7 +118,7 @@ def is_refused(said):
 
 
 def check_crate(crate, uses, record):
-    """Tries the crate's edits that the record doesn't know. Answers how many were refused and not."""
+    """Tries the edits of a crate that the record lacks. Answers how many were refused, or not."""
     sums = dict(edits_of(crate, uses))
     known = {it: record[total] for it, total in sums.items() if total in record}
     left = [it for it in sums if not is_refused(known.get(it, "").partition(" ")[2])]

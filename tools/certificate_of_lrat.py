@@ -11,7 +11,7 @@ makes one of DRAT). Written is a certificate of version 5 that T is the worst de
 and tools/second_opinion.py judge it, and nobody has to trust the solver or this script.
 
 A certificate needs a pair whose delay is T: `--pair` gives its two vectors, as `tdelay worst`
-prints them behind `between T ..`, or `--model` a file with a solver's lines `v`, a model of the
+prints them after `between T ..`, or `--model` a file with a solver's lines `v`, a model of the
 formula of the question for a lesser T. Without a proof the model's pair is printed, with its delay.
 
 A proof of a formula of one late change is read step by step; one of several keeps those steps in

@@ -22,7 +22,7 @@ HEIGHTS = {"1": 0, "0": HIGH, "x": HIGH // 2}
 
 def waves_of(text):
     """The nets with their changes (moment, level), the settled level at moment -1, and the last
-    moment that is told.
+    moment that the text has.
     """
     names = dict(re.findall(r"\$var wire 1 (\S+) (.+?) \$end", text))
     waves = {name: [] for name in names.values()}

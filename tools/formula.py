@@ -9,7 +9,7 @@ with a greater delay: certificate_of_lrat.py with `--model` and without proofs p
 
 Standard output has three kinds of comments. Lines of the head say what is asked, the first of them
 `c tdelay formula 1`. `c variable X WIRE NET NUMBER WHEN NAME` says what variable X is: the level of
-the `level` or `target` wire of the net with that number, at the `start` or behind the moment WHEN;
+the `level` or `target` wire of the net with that number, at the `start` or after the moment WHEN;
 NET and NUMBER name it in a certificate (docs/CERTIFICATE.md, "Literals of a lemma"). The name of a
 clause stands in a comment before it, as the step of a certificate that adds it, or as `change NET
 MOMENT LEVEL` and `late`: one of the late changes of outputs takes place (`none`: there is none).

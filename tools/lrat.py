@@ -2,7 +2,7 @@
 more of it has to be in memory than is asked for.
 
 A clause of the formula and a step that adds a clause are both named by one number, a *reference*:
-the clauses of the formula from 0 on, and behind them the steps of the proof in order.
+the clauses of the formula from 0 on, and after them the steps of the proof in order.
 """
 
 import mmap

@@ -1,5 +1,5 @@
 #!/usr/bin/env python3
-"""model.py [ROOT ..] [--without NAME ..] [--count]: the model behind a contract, as one text.
+"""model.py [ROOT ..] [--without NAME ..] [--count]: the model of a contract, as one text.
 
 A ROOT is a public function, as `td_search::alone`, whose clauses are taken, or a definition of a
 file of specs/, as `td_netlist::Means::Means` (crate, file, name). The definitions that it cites,

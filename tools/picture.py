@@ -3,7 +3,7 @@
 crates.txt.
 
 A crate stands in the lowest layer above all crates that it uses. Each layer is a line, the highest
-first, and the crates of tests, whose names end in `_rows`, stand apart below. Behind `on` stand the
+first, and the crates of tests, whose names end in `_rows`, stand apart below. After `on` stand the
 crates that a crate uses, without those that another one of them stands on.
 
 Without a word it prints the picture. `--write` puts it into docs/ARCHITECTURE.md between two marker
@@ -52,7 +52,7 @@ def nearest(uses, crate):
 
 
 def entries(uses, crates):
-    """A text for these crates with what they stand on; those that stand on the same are told
+    """A text for these crates with what they stand on; those that stand on the same stand
     together.
     """
     groups = {}

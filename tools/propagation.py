@@ -25,7 +25,7 @@ class Prover:
         self.grow(variables)
 
     def grow(self, variables):
-        """Makes room for so many variables."""
+        """Makes room for this many variables."""
         more = 2 * variables + 2 - len(self.true)
         if more > 0:
             self.true.extend(bytes(more))
@@ -39,7 +39,7 @@ class Prover:
         self.trail.append(literal)
 
     def drop(self, count):
-        """Forgets all literals of the trail but so many."""
+        """Forgets all literals of the trail but the first ones."""
         trail, true = self.trail, self.true
         for literal in trail[count:]:
             true[literal] = 0

@@ -9,7 +9,7 @@ from collections import namedtuple
 from dimacs import Fault, fault_at, read_formula
 from second_opinion import levels_of, woven
 
-# The words of the head of a formula, and what stands behind them.
+# The words of the head of a formula, and what stands after them.
 NUMBER = "(?:0|[1-9][0-9]{0,18})"
 HEAD = {
     "circuit": f"{NUMBER} {NUMBER}",
@@ -58,7 +58,7 @@ class Question:
             raise Fault(f"{self.name}: the lines of its head are not all of {count} inputs")
 
     def comment(self, number, line, clauses):
-        """A comment with so many clauses before it."""
+        """A comment with this many clauses before it."""
         text = line[2:].strip()
         if text.startswith(b"variable "):
             self.variable(number, line)
@@ -84,7 +84,7 @@ class Question:
         return self.texts[begin : self.ends[number]].decode("latin-1")
 
     def read_changes(self):
-        """The clauses of the question stand behind those with a name of a step."""
+        """The clauses of the question stand after those with a name of a step."""
         formula, place = self.formula, self.formula.count() - 1
         if self.clause_name(place) != "late":
             raise Fault(f"{self.name}: its last clause isn't the one that is named `late`")

@@ -9,7 +9,7 @@ sim` and `tdelay path`.
 prints what `tdelay` prints for these words, and ends with its exit statuses. Written from
 docs/CERTIFICATE.md, netlists.md, domains.md and program.md of docs/model, and docs/MANUAL.md
 alone, in Python's standard library: it shares nothing with the project, no code,
-no proof and no toolchain. What differs: a fault of the netlist is told without its number and line,
+no proof and no toolchain. What differs: a fault of the netlist has no number and line,
 a loop without a net on it, and a bad command line in argparse's words. It is slow, since each leaf
 is bounded from nothing. Netlists are read in second_netlist.py, and leaves by refutation checked in
 second_refutation.py.
@@ -368,7 +368,7 @@ def question_in(text, version, inputs):
 
 
 def steps_in(text):
-    """The lines behind a line `r`, up to `q`."""
+    """The lines after a line `r`, up to `q`."""
     lines = []
     while True:
         found = STEP.match(text.text, text.place)
@@ -524,7 +524,7 @@ def report(lines):
 
 
 def told(work):
-    """What a command answers, where a refusal is told."""
+    """What a command answers, where a refusal is one of the answers."""
     try:
         return work()
     except Refusal as refusal:

@@ -3,8 +3,9 @@
 import os
 import re
 import resource
+import shutil
 
-from lib.places import TOP
+from lib.places import TOP, text_of
 
 from .tools import LIBRARY, read, script, tool, write
 
@@ -75,6 +76,12 @@ def exact(tested, netlist):
     ended = tested.run("worst", netlist, "--strategy", "lead")
     found = re.search(r"^exact (\d+)$", ended.out, re.M)
     return int(found[1]) if found and not ended.status else None
+
+
+def versions():
+    """The versions of yosys and OpenSTA."""
+    yosys = tool(["yosys", "-V"], None).out.split()[1:2]
+    return tuple(yosys + tool(["sta", "-version"], None).out.split()[:1])
 
 
 class Designs:
@@ -166,6 +173,44 @@ class Designs:
             self.tested.fault(f"a multiplier of 32 by 32 bits took {took:.1f} s: {ended.err}")
         self.tested.case("multiplier")
 
+    def page(self):
+        """The commands of docs/FROM-RTL.md, but for those of viewers, end well in a folder that has
+        what they name, and the figures are those of the page.
+        """
+        page = text_of("docs", "FROM-RTL.md")
+        folder = os.path.join(self.tested.folder, "page")
+        os.mkdir(folder)
+        for name in ("bridges", "examples", "tools"):
+            os.symlink(os.path.join(TOP, name), os.path.join(folder, name))
+        os.symlink(self.tested.program, os.path.join(folder, "tdelay"))
+        write(folder, "pipe.v", PIPELINE.replace("module t ", "module pipe "))
+        shutil.copy(LIBRARY, os.path.join(folder, "lib.lib"))
+        tool(["bridges/synth.sh", "pipe.v", "pipe", "lib.lib", "pipe"], folder)
+        printed, commands = "", 0
+        for block in re.findall(r"^```sh\n(.*?)^```", page, re.M | re.S):
+            own = re.sub(r"^(?:gtkwave|apt-get) .*\n", "", block, flags=re.M)
+            ended = tool(["bash", "-e", "-o", "pipefail", "-c", own], folder)
+            if ended.status:
+                said = f"{ended.status} {ended.out} {ended.err}"
+                self.tested.fault(f"docs/FROM-RTL.md: {own}: {said}")
+            printed += ended.out
+            commands += len(re.findall(r"^(?:\./tdelay|bridges/|python3 )", own, re.M))
+            self.tested.case("command of the page")
+        unit = re.search(r"It says `(exact \d+)`", page)
+        if commands < 10 or not unit or f"\n{unit[1]}\n" not in printed:
+            self.tested.fault(f"docs/FROM-RTL.md: {commands} commands, which print {printed}")
+        self.figure(page, read(folder, "out/alu_8.txt"))
+
+    def figure(self, page, report):
+        """The exact figure of the page's first design, where the tools are those of the page."""
+        wanted = re.search(r"^\| `alu_8`, all \|(?: [^|]* \|){3} (\d+) \|", page, re.M)
+        found = re.search(r"^exact (\d+)$", report, re.M)
+        if not found or not wanted:
+            self.tested.fault(f"docs/FROM-RTL.md: no exact figure in {report}")
+        elif versions() == VERSIONS and found[1] != wanted[1]:
+            self.tested.fault(f"docs/FROM-RTL.md: {found[0]}, not {wanted[1]}")
+        self.tested.case("command of the page")
+
     def examples(self):
         """The examples come out as they are kept, where yosys and OpenSTA are those with which they
         were made.
@@ -180,11 +225,9 @@ class Designs:
             or any(time != accepted for _, time, accepted in figures)
         ):
             self.tested.fault(f"examples/from_rtl/run.sh: {ended.status} {ended.out} {ended.err}")
-        versions = tool(["yosys", "-V"], None).out.split()[1:2]
-        versions += tool(["sta", "-version"], None).out.split()[:1]
-        if tuple(versions) != VERSIONS:
+        if versions() != VERSIONS:
             print(f"skipped: the kept examples, which {VERSIONS} of yosys and OpenSTA made")
-            print(f"  here are {' and '.join(versions)}")
+            print(f"  here are {' and '.join(versions())}")
             return
         for name in sorted(os.listdir(KEPT)):
             made = name.replace(".gates.v", ".v")
@@ -204,5 +247,6 @@ def work(tested):
     cases.delays()
     cases.registers()
     cases.formats()
+    cases.page()
     cases.examples()
     cases.multiplier()

@@ -26,12 +26,12 @@ from . import places, running
 
 # The exit status where a program isn't there that the check needs beside `tdelay`.
 SKIPPED = 77
-# So many wrong cases end a check.
+# This many wrong cases end a check.
 MOST_WRONG = 20
 
 
 class Enough(Exception):
-    """So many cases were tried as were asked for, or so many wrong that more say nothing new."""
+    """As many cases were tried as were asked for, or enough wrong ones that more say nothing."""
 
 
 class Check:

@@ -44,6 +44,10 @@ LIES = {
     "devices": {"a device that fails is a bad text": FIVE + " 1; exit $status"},
     "doubling": {"the time is one more": MORE.format(key="time", by=1)},
     "failing_files": {"a file is left where one fails": 2},
+    "install": {
+        "a time that is one more": where("worst", MORE.format(key="exact", by=1)),
+        "help without one of the values": where("--help", edited("s/least, //")),
+    },
     "limits": {"too many is bad syntax": '$R "$@" 2> >(sed s/TooMany/Syntax/ >&2); exit $?'},
     "memory_limits": {"out of memory is well": FIVE + " 0; exit $status"},
     "mutations": {
@@ -74,6 +78,7 @@ LIES = {
     },
     "refused_growths": {"a search after its root is out of memory": 1},
     "strategies": {"a time that is one less": where("lead", MORE.format(key="exact", by=-1))},
+    "tables": {"a time that is one more": where("worst", MORE.format(key="exact", by=1))},
     "tools": {"the time is one more": MORE.format(key="time", by=1)},
     "transcripts": {"a change at another moment": where("path", edited("s/change 0/change 1/"))},
     "vcd": {"a change at another moment": '$R "$@"; s=$?; sed -i "s/^#5$/#6/" our.vcd; exit $s'},

@@ -26,21 +26,21 @@ def module(inputs, outputs, *gates):
 
 
 def buffers(count):
-    """So many buffers side by side."""
+    """Buffers side by side."""
     return module(
         "a", "y", "buf #1 (y,a)", *(f"buf #1 (w{number},a)" for number in range(count - 1))
     )
 
 
 def chain(count):
-    """So many buffers one after the other, each with a delay of 1."""
+    """Buffers one after the other, each with a delay of 1."""
     return module(
         "w0", f"w{count}", *(f"buf #1 (w{number + 1},w{number})" for number in range(count))
     )
 
 
 def terminals(count):
-    """A gate of so many terminals."""
+    """A gate of this many terminals."""
     return module("a", "y", "and #1 (y" + ",a" * (count - 1) + ")")
 
 

@@ -199,7 +199,7 @@ class Proof:
             self.true.discard(self.trail.pop()[0])
 
     def why(self, false):
-        """The clauses by which one is false, in order, and the assumptions behind them."""
+        """The clauses by which one is false, in order, and the assumptions that they rest on."""
         needed, found, assumed = set(self.clauses[false]), [false], []
         for literal, reason in reversed(self.trail):
             if literal ^ 1 in needed:
@@ -244,12 +244,12 @@ class Proof:
 
 def cut(leaf, net, moment, level, branches):
     """Takes a change out of a net's set where a proof is found. Whether it is out; TooLong where
-    there isn't one of so many branches.
+    there isn't one of few enough branches.
     """
     wire = leaf.state.levels[net]
     proof = Proof(leaf, net, moment, branches)
     false = proof.units()
-    # Before it the net isn't at the level, and behind it is.
+    # Before it the net isn't at the level, and after it is.
     literals = [wire.literal(moment, 1 - level), wire.literal(moment + 1, level)]
     found = proof.shown(proof.assume(literals) if false is None else false)
     if found is None:
@@ -304,7 +304,7 @@ def chatter(leaf):
 def leaf_lines(rng, circuit, question, cube, bound, branches=200):
     """The lines of a leaf by refutation that is good, without `r` and `q`: after them no output
     changes later than the bound. None where some pair of the cube with equal bits at held inputs
-    does, or where no proof of so many branches is found.
+    does, or where no proof of few enough branches is found.
     """
     leaf = Leaf(circuit, question, cube, rng)
     try:

@@ -34,7 +34,8 @@ Help and the version go to standard output. A line with a dot alone stands for a
   and of a port of several bits from its left number to its right one. `info` shows
   that order, a line for each input: `input 0 N1` is that of a vector's first character.
   FILE may be `-` for standard input.
-  Standard output has one figure a line, a key and its value: docs/OUTPUT.md.
+  Standard output has one figure a line, a key and its value: docs/MANUAL.md.
+  With `--hints` a command that is refused says on standard error what to do, too.
   .
   Exit status:
     0  done
@@ -58,12 +59,13 @@ Help and the version go to standard output. A line with a dot alone stands for a
         --vcd <OUT>         Writes the waves of the pair to this file, as a value change dump
         --default-rise <N>  Rise delay in steps of gates without a delay [default: 1]
         --default-fall <N>  Fall delay in steps of gates without a delay [default: 1]
+        --hints             After the line of a refusal, says on standard error what it means and what to do
     -h, --help              Print help
   .
   Example:
     tdelay sim c17.v 00000 11111 --vcd c17.vcd
   $ tdelay --version
-  tdelay 1 (reads certificates of versions 1 to 4)
+  tdelay 1 (reads certificates of versions 1 to 5)
   $ tdelay --help 2>&1 >/dev/null; tdelay sim --help 2>&1 >/dev/null; tdelay --version 2>&1 >/dev/null
 
 Command lines that are refused: it is told why, nothing goes to standard output, and the status is 2.

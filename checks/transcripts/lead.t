@@ -20,7 +20,7 @@ Small circuits: their cubes are closed by edges, and one is split at the bit on 
   exact 5 from 00 to 11 nodes 1, b e 5
   $ bash netlist 'buf #3 (p,a); xor #(1,4) (q,p,a); or #1 (r,q,b); or #1 (s,b,q); and #2 (z,b,a); nor #(4,2) (y,q,p);' a,b y,z
   > bash search
-  exact 11 from 11 to 01 nodes 1, b e 11
+  exact 11 from 10 to 00 nodes 1, b e 11
 
 A leaf that possible levels close, which are asked where edges don't suffice, and before a point is measured.
 
@@ -48,7 +48,7 @@ A ripple adder of eight bits takes one node.
   > done)
   > bash netlist "$gates" a0,a1,a2,a3,a4,a5,a6,a7,b0,b1,b2,b3,b4,b5,b6,b7,c0 s0,s1,s2,s3,s4,s5,s6,s7,c8
   > bash search
-  exact 44 from 00011001101001010 to 01101101000100101 nodes 1, b e 44
+  exact 44 from 10000010101000100 to 11111111000000001 nodes 1, b e 44
 
 The climb with which a search begins, from the pair that stands for the pins: the first pair of the greatest delay that it meets. The second circuit's first pair
 is as late as any, and in the third a climb is stuck and goes on from another pair.
@@ -57,18 +57,18 @@ is as late as any, and in the third a climb is stuck and goes on from another pa
   > tdelay worst t.v --strategy lead --budget 0 "$@" | grep 'between\|from\|to' | cut -d' ' -f2 | paste -sd' '
   > END
   $ bash netlist 'nand #(1,2) (p,a,b); nor #(2,1) (q,b,c); and #3 (y,p,q,a);' a,b,c y; bash climb
-  5 001 100
+  5 111 100
   $ bash netlist 'xor #(1,4) (p,a,b); nand #2 (q,p,c); xnor #1 (y,q,a);' a,b,c y; bash climb --at 0,4,1
   11 000 111
   $ bash netlist 'xnor #(3,4) (p,b,d,a); and #(2,1) (q,c,a,b); xnor #(3,2) (r,b,c); xor #(6,1) (s,a,q); xor #(3,3) (t,r,c); xnor #(2,6) (y,p,s);' a,b,c,d y
   > bash climb
-  13 1110 1101
+  13 1110 1000
   $ bash netlist 'xor #(2,3) (v,a,b); nand #(1,4) (w,v,c); nor #2 (x,w,d); and #(5,1) (u,v,d); or #3 (y,x,u);' a,b,c,d y
   > bash climb; bash climb --first 0... --hold .=..; bash climb --flips 1; bash climb --second ..1. --flips 2
-  11 1111 0110
-  11 0011 1010
+  11 0001 0110
+  11 0000 1010
+  11 0010 1010
   11 1110 0110
-  11 1100 1010
 
 Where a cube is split. `halves` cuts a question in two, and tells the two parts. While the output's finish is open, only inputs count whose second bit is free: the one
 that reaches the most nets on the way, the least of several.

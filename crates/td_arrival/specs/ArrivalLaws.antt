@@ -18,7 +18,7 @@ use Rattle.td_domain.specs.declared.cubes.Trit.TheVariants.{Zero, One, Free}
 use Rattle.td_domain.specs.Waves.{IsBoolean, IsQuietAfter, IsConstant}
 use Rattle.td_domain.specs.Cubes.{level_of_trit, IsInputWave}
 use Rattle.td_domain.proofs.Lists.{weaker}
-use Rattle.td_domain.proofs.Bits.{all_booleans, bit_known}
+use Rattle.td_domain.proofs.BitLemmas.{all_booleans, bit_known}
 use Rattle.td_gates.proofs.Levels.{cases_level}
 use Rattle.td_gates.proofs.Scheduling.{delay_to-positive}
 use Rattle.td_gates.proofs.Delays.{IsDelayed, delayed, delayed-early, delayed-late, delayed-lost}

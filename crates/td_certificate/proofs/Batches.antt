@@ -6,8 +6,8 @@ use Rattle.std.proofs.lemmas.List.{append-nil, take_all, take_more, take-append-
 use Rattle.std.proofs.lemmas.List.Concat.{flat_map-append, flat_map-cons}
 use Rattle.std.proofs.lemmas.Option.{get_or_from_slice_get}
 use Rattle.td_domain.specs.declared.cubes.Trit.{Trit}
-use Rattle.td_gates.specs.Output.{Output, one_more, Sent, SentTo, SentFront, Failed}
-use Rattle.td_gates.proofs.Outputs.{Sent-then, Sent-failed, SentTo-begins, SentTo-more, SentTo-front, SentTo-then, SentTo-failed, Failed-longer}
+use Rattle.td_text.specs.Output.{Output, one_more, Sent, SentTo, SentFront, Failed}
+use Rattle.td_text.proofs.Outputs.{Sent-then, Sent-failed, SentTo-begins, SentTo-more, SentTo-front, SentTo-then, SentTo-failed, Failed-longer}
 use Rattle.td_certificate.specs.declared.fault.WriteFault.{WriteFault}
 use Rattle.td_certificate.specs.declared.fault.WriteFault.TheVariants as stopping
 use Rattle.td_certificate.specs.Steps.{Refuted, steps_text, refuted_line}

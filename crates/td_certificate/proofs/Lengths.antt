@@ -1,5 +1,5 @@
 -- Lengths of texts.
-use Rattle.std.proofs.Common.{◌≡◌, ℕ, zero, suc, ◌+◌, ◌*◌, ◌<◌, ◌≤◌, ◌^◌, Bool, List, [], ◌∷◌, ◌++◌, length, length-append, ap, arith}
+use Rattle.std.proofs.Common.{◌≡◌, ℕ, zero, suc, ◌+◌, ◌*◌, ◌<◌, ◌≤◌, ◌^◌, Bool, List, [], ◌∷◌, ◌++◌, length, length-append, ap, subst, arith}
 use Rattle.std.specs.Prelude.{codes, decimal, map}
 use Rattle.std.specs.List.{AllByRecursion}
 use Rattle.std.proofs.lemmas.List.{length-map}
@@ -13,8 +13,9 @@ use Rattle.td_certificate.specs.declared.question.Version.TheVariants.{First, Se
 use Rattle.td_certificate.specs.declared.certificate.Certificate.{Certificate}
 use Rattle.td_certificate.specs.Questions.{Question, inputs_of}
 use Rattle.td_certificate.specs.Text.{bit, row, trit, first_trits, second_trits, hold, numbers}
-use Rattle.td_certificate.specs.Spelling.{inputs, version_in, FirstField, SecondField, HoldField, FlipsField, AtField, field_line, ended, question_text, latest, HasSpelling}
-use Rattle.td_certificate.specs.Lengths.{IsShort, SearchedTextsFit}
+use Rattle.td_certificate.specs.Spelling.{inputs, version_in, FirstField, SecondField, HoldField, FlipsField, AtField, field_line, ended, question_text, latest, IsNode, HasSpelling}
+use Rattle.td_certificate.specs.Lengths.{IsShort, SearchedTextsFit, RefutedTextsFit}
+use Rattle.td_certificate.specs.Steps.{Refuted, steps_text}
 use Rattle.td_certificate.proofs.FieldCodes.{number_text}
 use Rattle.td_certificate.proofs.VectorCodes.{vector_text}
 use Rattle.td_certificate.proofs.VersionCode.{version_text}
@@ -180,4 +181,39 @@ searched_texts_fit c has small short few =
       version_length (version_in c),
       head_length (version_in c) c has small,
       nodes_length c.tree short,
+    )
+
+-- ---- a leaf that is refuted
+
+refuted_length : (refuted : Refuted) → refuted.bound ≤ 10 ^ 18 → length (node_text (node.Refuted refuted)) ≤ length (steps_text refuted.steps) + 30
+refuted_length refuted small =
+    omega (
+      arith,
+      length-append (steps_text refuted.steps ++ (codes "q " ++ decimal refuted.bound)) (10 ∷ []),
+      length-append (steps_text refuted.steps) (codes "q " ++ decimal refuted.bound),
+      length-append (codes "q ") (decimal refuted.bound),
+      length-decimal-le 19 refuted.bound (omega arith) (omega (arith, small)) (omega arith),
+    )
+
+leaf_length : (nodes : List Node) (refuted : Refuted) → nodes ≡ node.Refuted refuted ∷ [] → refuted.bound ≤ 10 ^ 18 → length (nodes_text nodes) ≤ length (steps_text refuted.steps) + 30
+leaf_length nodes refuted is small =
+    omega (
+      arith,
+      ap (λ (ns : List Node). length (nodes_text ns)) is,
+      ap length (nodes_text-cons (node.Refuted refuted) []),
+      length-append (node_text (node.Refuted refuted)) (nodes_text []),
+      refuted_length refuted small,
+    )
+
+pub refuted_texts_fit : RefutedTextsFit
+refuted_texts_fit c refuted has small is few =
+    let short = subst (AllByRecursion (IsNode (version_in c))) is has.nodes in
+    omega (
+      arith,
+      ap length (spelling_is c),
+      length-append (version_text (version_in c)) (lines_text (version_in c) c),
+      version_length (version_in c),
+      head_length (version_in c) c has small,
+      leaf_length c.tree refuted is short.0.bound,
+      few,
     )

@@ -1,14 +1,12 @@
 -- The loops of the reader, against reading as a function.
-use Rattle.std.proofs.Common.{◌≡◌, ◌≢◌, ℕ, suc, ◌+◌, ◌-◌, ◌*◌, ◌<◌, ◌≤◌, Bool, cond, eqb, List, [], ◌∷◌, ◌++◌, length, take, drop, get_or, Option, Ok, Err, refl, sym, ap, ◌∙◌, append_assoc, add-one, arith}
+use Rattle.std.proofs.Common.{◌≡◌, ◌≢◌, ℕ, suc, ◌+◌, ◌-◌, ◌<◌, ◌≤◌, Bool, cond, eqb, List, [], ◌∷◌, ◌++◌, length, drop, get_or, Option, Ok, Err, refl, sym, ap, ◌∙◌, append_assoc, add-one, arith}
 use Rattle.std.specs.Prelude.{◌&&◌, ◌==◌}
-use Rattle.std.proofs.lemmas.List.{append-nil, nil_from_length, length-drop, length-take, take_more}
+use Rattle.std.proofs.lemmas.List.{append-nil, nil_from_length, length-drop}
 use Rattle.std.proofs.Math.Seq.{drop-cons}
 use Rattle.std.proofs.lemmas.Bool.{ne_eqb, eq-eqb}
-use Rattle.td_domain.specs.declared.cubes.Trit.{Trit}
 use Rattle.td_certificate.specs.declared.fields.Reason.TheVariants.{Syntax}
 use Rattle.td_certificate.specs.declared.fields.Stop as code_stop
 use Rattle.td_certificate.specs.declared.fields.Stop.TheVariants as code
-use Rattle.td_certificate.specs.Text.{weave}
 use Rattle.td_certificate.specs.Reading.{Ends, Wrong, Reading, ◌>>=◌, Fails, byte_at, literal, char_at, chars_at, moment_at, moments_at}
 
 -- what is read behind a list that was read
@@ -144,32 +142,3 @@ unfolding moments_at
 moments_done at_once front count i rest total le so_far =
     let k : count - i ≡ 0 = omega arith in
     sym so_far ∙ ap (λ (n : ℕ). with_front front (moments_at at_once n rest)) k ∙ ap (λ (xs : List ℕ). Ok (xs, rest)) (append-nil front)
-
--- ---- woven trits
-
-pub weave-push : (firsts seconds : List Trit) (first second : Trit) → length firsts ≡ length seconds → weave (firsts ++ first ∷ []) (seconds ++ second ∷ []) ≡ weave firsts seconds ++ first ∷ second ∷ []
-weave-push [] [] first second e = refl
-weave-push [] (s ∷ seconds) first second e = absurd (omega (arith, e))
-weave-push (f ∷ firsts) [] first second e = absurd (omega (arith, e))
-weave-push (f ∷ firsts) (s ∷ seconds) first second e = ap (λ (trits : List Trit). f ∷ s ∷ trits) (weave-push firsts seconds first second (omega (arith, e)))
-
-weave_next : (firsts seconds : List Trit) (i : ℕ) (d e : Trit) → i < length firsts → length firsts ≡ length seconds
-    → weave (take (i + 1) firsts) (take (i + 1) seconds) ≡ (weave (take i firsts) (take i seconds) ++ get_or firsts i d ∷ []) ++ get_or seconds i e ∷ []
-weave_next firsts seconds i d e lt same =
-    let below : i < length seconds = omega (arith, same) in
-    let long : length (take i firsts) ≡ length (take i seconds) = omega (arith, length-take i firsts, length-take i seconds) in
-    ap (λ (ts : List Trit). weave ts (take (i + 1) seconds)) (take_more firsts i d lt)
-    ∙ ap (λ (ts : List Trit). weave (take i firsts ++ get_or firsts i d ∷ []) ts) (take_more seconds i e below)
-    ∙ weave-push (take i firsts) (take i seconds) (get_or firsts i d) (get_or seconds i e) long
-    ∙ sym (append_assoc (weave (take i firsts) (take i seconds)) (get_or firsts i d ∷ []) (get_or seconds i e ∷ []))
-
-pub weave_more : (firsts seconds items next last : List Trit) (i : ℕ) (d e : Trit) → i < length firsts → length firsts ≡ length seconds
-    → items ≡ weave (take i firsts) (take i seconds) → next ≡ items ++ get_or firsts i d ∷ [] → last ≡ next ++ get_or seconds i e ∷ []
-    → last ≡ weave (take (i + 1) firsts) (take (i + 1) seconds)
-weave_more firsts seconds items next last i d e lt same is more most =
-    most ∙ ap (λ (ts : List Trit). ts ++ get_or seconds i e ∷ []) (more ∙ ap (λ (ts : List Trit). ts ++ get_or firsts i d ∷ []) is) ∙ sym (weave_next firsts seconds i d e lt same)
-
-pub weave-length : (firsts seconds : List Trit) → length firsts ≡ length seconds → length (weave firsts seconds) ≡ 2 * length firsts
-weave-length [] seconds e = refl
-weave-length (f ∷ firsts) [] e = absurd (omega (arith, e))
-weave-length (f ∷ firsts) (s ∷ seconds) e = let rest = weave-length firsts seconds (omega (arith, e)) in omega (arith, rest)

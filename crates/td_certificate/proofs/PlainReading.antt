@@ -11,7 +11,7 @@ use Rattle.td_certificate.specs.declared.fields.Reason.TheVariants.{Syntax, Numb
 use Rattle.td_certificate.specs.declared.fields.Reason.TheVariants as reason
 use Rattle.td_certificate.specs.Trees.{sides}
 use Rattle.td_certificate.specs.Questions.{Question, all_at_once}
-use Rattle.td_certificate.specs.Text.{weave}
+use Rattle.td_domain.specs.Cubes.{weave}
 use Rattle.td_certificate.specs.Spelling.{greatest, latest}
 use Rattle.td_certificate.specs.Reading.{Ends, Wrong, Reading, ◌>>=◌, literal, digits_at, number_at, begins_with_zero, number_from, taken, char_at, chars_at, trit_of, hold_of, bit_of, chars_behind, letter_at, number_behind, row_behind, because, has_inputs, most_flips, flips_at, with_pins, admit_at, close_of, moment_at, moments_at, at_line, asked, dated_at, question_at, Tag, SplitTag, BoundTag, PointTag, EmptyTag, RefutedTag, written_as, tag_at, behind_tag, node_at, leaves_in, leaves_before, leaves_behind, nodes_within, nodes_at, with_fields, lines_at}
 use Rattle.td_certificate.specs.StepReading.{ended_by, until_within, until_at, open_digits_at, open_number_at, numbers_at, closing_byte, numbers_after, spaced_at, LineTag, StepTag, BoundEndTag, line_byte, line_tags, StepLine, BoundLine, behind_line_tag, refuted_line_at, is_bound_line, bound_alone, step_before, refuted_at}

@@ -12,10 +12,11 @@ use Rattle.td_certificate.specs.declared.question.Version.{Version}
 use Rattle.td_certificate.specs.declared.question.Version.TheVariants.{First, Second, Third, Fourth, Fifth}
 use Rattle.td_certificate.specs.declared.fields.Reason.TheVariants.{Syntax}
 use Rattle.td_certificate.specs.Questions.{Question, inputs_of, is_free, holds_none, admits_all, is_at_once, version_of, all_at_once}
-use Rattle.td_certificate.specs.Text.{row, trit, first_trits, second_trits, weave, hold, numbers}
+use Rattle.td_domain.specs.Cubes.{weave}
+use Rattle.td_certificate.specs.Text.{row, trit, first_trits, second_trits, hold, numbers}
 use Rattle.td_certificate.specs.Spelling.{FlipsField, AtField, fields_of, field_line, ended, text_of, question_text}
 use Rattle.td_certificate.specs.Reading.{◌>>=◌, number_behind, trit_of, hold_of, row_behind, has_inputs, most_flips, flips_at, with_pins, admit_at, at_line, asked, dated_at, question_at}
-use Rattle.td_certificate.proofs.Loops.{weave-length}
+use Rattle.td_domain.proofs.Weaving.{weave-length}
 use Rattle.td_certificate.proofs.Codes.{IsCode, IsCode-then, IsCode-done}
 use Rattle.td_certificate.proofs.FieldCodes.{AtMost, number_text}
 use Rattle.td_certificate.proofs.VectorCodes.{number_behind_code, HasLength, trit_letter, hold_letter, row_text, row_behind_code, IsCode-as, mapped_code}

@@ -1,10 +1,11 @@
 -- Certificates whose texts are within the limit.
-use Rattle.std.specs.Prelude.{◌<◌, ◌≤◌, ◌^◌, length}
+use Rattle.std.specs.Prelude.{◌≡◌, ◌<◌, ◌≤◌, ◌^◌, [], ◌∷◌, length}
 use Rattle.std.specs.List.{AllByRecursion}
 use Rattle.td_certificate.specs.declared.tree.Node.{Node}
 use Rattle.td_certificate.specs.declared.tree.Node.TheVariants as node
 use Rattle.td_certificate.specs.declared.certificate.Certificate.{Certificate}
 use Rattle.td_certificate.specs.Spelling.{HasSpelling, spelling}
+use Rattle.td_certificate.specs.Steps.{Refuted, steps_text}
 use Rattle.td_certificate.specs.Faults.{IsWithinLimit}
 
 -- the node has one line, and its number is below 10 ^ 15
@@ -19,3 +20,8 @@ IsShort (node.Refuted refuted) = ⊥
 abbrev pub SearchedTextsFit : Type 0
 SearchedTextsFit = (c : Certificate) → HasSpelling c → c.time < 10 ^ 15 → AllByRecursion IsShort c.tree → length c.tree ≤ 10000000
     → IsWithinLimit (spelling c)
+
+-- A tree of one leaf whose steps have at most 268,000,000 bytes, as a search by refutation gives, has a text within the limit.
+abbrev pub RefutedTextsFit : Type 0
+RefutedTextsFit = (c : Certificate) (refuted : Refuted) → HasSpelling c → c.time < 10 ^ 15 → c.tree ≡ node.Refuted refuted ∷ []
+    → length (steps_text refuted.steps) ≤ 268000000 → IsWithinLimit (spelling c)

@@ -19,7 +19,8 @@ use Rattle.td_certificate.specs.declared.fields.Leaves.TheVariants as leaves
 use Rattle.td_certificate.specs.Trees.{sides, names_edges, is_refuted}
 use Rattle.td_certificate.specs.declared.certificate.Certificate.{Certificate}
 use Rattle.td_certificate.specs.Questions.{Question, is_free, holds_none, all_at_once}
-use Rattle.td_certificate.specs.Text.{bit, trit, weave, hold}
+use Rattle.td_domain.specs.Cubes.{weave}
+use Rattle.td_certificate.specs.Text.{bit, trit, hold}
 use Rattle.td_certificate.specs.Spelling.{greatest, latest}
 use Rattle.td_certificate.specs.StepReading.{refuted_at}
 pub use Rattle.td_certificate.specs.Fields.{Stop, Ends, Wrong, Reading, ◌>>=◌, Fails, Gives, byte_at, begins_with_zero, written_as, taken, char_at}

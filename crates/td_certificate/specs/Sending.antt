@@ -1,6 +1,6 @@
 -- Internal: what a writer has of a text where writing stops.
 use Rattle.std.specs.Prelude.{ℕ, List}
-use Rattle.td_gates.specs.Output.{Output, SentTo, Failed}
+use Rattle.td_text.specs.Output.{Output, SentTo, Failed}
 use Rattle.td_certificate.specs.declared.fault.WriteFault.{WriteFault}
 use Rattle.td_certificate.specs.declared.fault.WriteFault.TheVariants.{Device, OutOfMemory}
 

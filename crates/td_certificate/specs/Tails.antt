@@ -6,7 +6,7 @@ use Rattle.td_certificate.specs.declared.certificate.Certificate.{Certificate}
 use Rattle.td_certificate.specs.declared.question.Version.{Version}
 use Rattle.td_certificate.specs.Questions.{Question}
 use Rattle.td_certificate.specs.Spelling.{greatest}
-use Rattle.td_certificate.specs.Text.{weave}
+use Rattle.td_domain.specs.Cubes.{weave}
 use Rattle.td_certificate.specs.Reading.{Reading, ◌>>=◌, number_behind, row_behind, bit_of, most_flips, flips_at, with_pins, nodes_at, leaves_in, with_fields}
 
 -- the line of the flips, behind the rows

@@ -2,7 +2,7 @@
 
 ghost use Rattle.std.specs.Prelude.{◌≡◌, ◌≤◌, ◌<◌, ◌^◌, ◌==◌, ◌&&◌, length, true, IfOk};
 ghost use Rattle.td_certificate.specs.declared.question.Version.TheVariants as of_version;
-ghost use Rattle.td_certificate.specs.Text.{weave};
+ghost use Rattle.td_domain.specs.Cubes.{weave};
 ghost use Rattle.td_certificate.specs.Tails.{limited_at};
 ghost use Rattle.td_certificate.specs.Reading.{Gives, most_flips, flips_at, admit_at, moment_at, moments_at, at_line, dated_at, question_at};
 
@@ -10,23 +10,8 @@ use crate::characters::{Holds, Trits, row};
 use crate::fields::{Reason, Stop, literal, number_behind, number_from};
 use crate::question::{Question, Version, are_free, holds_none};
 use std::alloc::{AllocError, Global};
+use td_circuit::LATEST;
 use td_domain::{Admit, Cube, Trit};
-
-/// The latest moment of an input.
-const LATEST: u64 = 1_000_000_000;
-
-/// The cube with these first and these second trits.
-fn weave(alloc: Global, firsts: &[Trit], seconds: &[Trit]) -> Result<Cube, AllocError>
-    requires { length firsts.now ≡ length seconds.now }
-    ensures { IfOk result (λ cube. cube ≡ weave firsts.now seconds.now) }
-{
-    let mut trits = Vec::new(alloc);
-    for (input, first) in firsts.iter().enumerate() {
-        trits.push(*first)?;
-        trits.push(seconds[input])?;
-    }
-    Ok(Cube::new(trits))
-}
 
 /// The greatest number of flips in a text of this version. With all inputs where nothing is pinned or held, all pairs are
 /// admitted, which the second version doesn't say.
@@ -73,7 +58,7 @@ fn limited<'a>(
     requires few { length held.items ≤ 4096 }
     ensures { Gives (λ x. (x.0, x.1.now)) result (limited_at version firsts.now seconds.now held.items text.now) }
 {
-    let pins = weave(alloc, firsts, seconds)?;
+    let pins = Cube::weave(alloc, firsts, seconds)?;
     let (flips, rest) = flips(most_flips(version, &pins, &held), text)?;
     Ok((Admit::new(pins, held, flips as u32), rest))
 }

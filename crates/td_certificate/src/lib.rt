@@ -7,6 +7,7 @@ mod characters;
 mod fault;
 mod fields;
 pub mod laws;
+mod lines;
 mod question;
 mod reading;
 mod refuting;

@@ -19,15 +19,10 @@ use crate::question::{Question, Version};
 use crate::tree::Tree;
 use std::alloc::Global;
 use td_domain::Pair;
+use td_nets::{MAX_GATES, MAX_INPUTS};
 
 /// The greatest number of bytes of a certificate's text.
 const MAX_TEXT: usize = 268_435_456;
-
-/// The greatest number of inputs.
-const MAX_INPUTS: u64 = 4_096;
-
-/// The greatest number of gates.
-const MAX_GATES: u64 = 200_000;
 
 /// Whether a number's digits stand in front of these bytes.
 fn begins_number(bytes: &[u8]) -> bool
@@ -191,8 +186,8 @@ fn lines(alloc: Global, version: Version, text: &[u8]) -> Result<(Certificate, &
     ensures { Gives (λ x. (x.0, x.1.now)) result (lines_at version text.now) }
 {
     let rest = literal(b"circuit ", text)?;
-    let (inputs, rest) = number_from(has_inputs(version), MAX_INPUTS, b' ', rest)?;
-    let (gates, rest) = number(MAX_GATES, b'\n', rest)?;
+    let (inputs, rest) = number_from(has_inputs(version), MAX_INPUTS as u64, b' ', rest)?;
+    let (gates, rest) = number(MAX_GATES as u64, b'\n', rest)?;
     let (question, rest) = question(alloc, version, inputs as u32, rest)?;
     answered(alloc, version, inputs as u32, gates as u32, question, rest)
 }

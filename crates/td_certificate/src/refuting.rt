@@ -1,16 +1,18 @@
 //! Leaves with a bound that steps show.
 
-ghost use Rattle.std.specs.Prelude.{◌≡◌, ◌<◌, ◌^◌, length, IfOk};
+ghost use Rattle.std.specs.Prelude.{◌≡◌, ◌<◌, ◌≤◌, ◌^◌, length, map, IfOk, IfSome};
 ghost use Rattle.td_certificate.specs.Fields.{Gives};
 ghost use Rattle.td_certificate.specs.StepReading.{refuted_at};
-ghost use Rattle.td_certificate.specs.Steps.{steps_text};
+ghost use Rattle.td_refutation.specs.Whole.{step_of};
+ghost use Rattle.td_certificate.specs.Steps.{steps_text, IsRefutedText};
 ghost use Rattle.td_certificate.specs.Lines.{refuted_by, AreLines, IsNext};
 
 use crate::fields::Stop;
+use crate::lines::lines_of;
 use crate::steps::{Line, line_at};
 use std::alloc::{AllocError, Global};
 use std::marker::Model;
-use td_refutation::StepKind;
+use td_refutation::{Step, StepKind};
 
 /// The lines of steps, and the bound.
 #[derive(Debug, Drop)]
@@ -45,6 +47,30 @@ impl Refuted {
         let lines = Vec::from_slice(alloc, lines)?;
         let inside = Box::new(alloc, Inside { lines, bound })?;
         Ok(Refuted { inside })
+    }
+
+    /// The bound that these steps are to show; none where a number of theirs is above 10^18. The error is out of memory.
+    pub fn of_steps(
+        alloc: Global,
+        steps: &[Step],
+        bound: u64,
+    ) -> Result<Option<Refuted>, AllocError>
+        requires { bound ≤ 10 ^ 18 }
+        ensures is { IfOk result (λ answer. IfSome answer (λ refuted. refuted ≡ record { steps = map step_of steps.now; bound = bound })) }
+        ensures spelled { IfOk result (λ answer. IfSome answer IsRefutedText) }
+    {
+        let Some(lines) = lines_of(alloc, steps)? else {
+            return Ok(None);
+        };
+        let inside = Box::new(alloc, Inside { lines, bound })?;
+        Ok(Some(Refuted { inside }))
+    }
+
+    /// How many bytes the lines of its steps have.
+    pub fn byte_count(&self) -> usize
+        ensures { result ≡ length (steps_text self.now.steps) }
+    {
+        self.inside.lines.len()
     }
 
     /// The bound, in steps of time.

@@ -2,7 +2,7 @@
 
 ghost use Rattle.std.specs.Char.{encode_utf8};
 ghost use Rattle.std.specs.Prelude.{◌≡◌, false, ◌++◌, ◌∷◌, [], if◌then◌else◌, map, codes, OnOk, OnErr, IfOk, IfErr, string_bytes};
-ghost use Rattle.td_gates.specs.Output.{Sent, SentTo, SentFront, Failed, one_more};
+ghost use Rattle.td_text.specs.Output.{Sent, SentTo, SentFront, Failed, one_more};
 ghost use Rattle.td_certificate.specs.declared.question.Version.TheVariants as of_version;
 ghost use Rattle.td_certificate.specs.Spelling.{fields_of, field_line, ended, question_text, head_lines, text_of, HasSpelling, spelling};
 ghost use Rattle.td_certificate.specs.Steps.{refuted_line};
@@ -17,7 +17,7 @@ use crate::refuting::Refuted;
 use crate::tree::Node;
 use std::alloc::{AllocError, Global};
 use td_domain::{Cube, Trit};
-use td_gates::{DeviceFault, Sink};
+use td_text::{DeviceFault, Sink};
 
 /// How many bytes are gathered before they are written.
 const BATCH: usize = 65_536;

@@ -35,6 +35,7 @@ pub fn is_admitted(alloc: Global, admit: &Admit, pair: &Pair) -> Result<bool, Al
     requires second { length pair.now.second ≡ length admit.now.held }
     ensures { IfOk result (λ is. IsTrue is ↔ IsAdmitted admit.now pair.now) }
 {
+    // For the prover: this call says that there are two pins for each input.
     let _pins = admit.pins();
     let cube = cube_of(alloc, pair)?;
     Ok(admit.any(&cube))

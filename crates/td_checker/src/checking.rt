@@ -103,8 +103,8 @@ fn told_of(flaw: Flaw, line: u32) -> Verdict
     }
 }
 
-/// Whether the certificate is of a circuit with so many inputs and gates.
-fn is_of_size(circuit: &Circuit, certificate: &Certificate) -> bool
+/// Whether a certificate is of a circuit with so many inputs and gates.
+pub fn is_of_size(circuit: &Circuit, certificate: &Certificate) -> bool
     ensures { IsTrue result ↔ IsOfSize circuit.now.netlist certificate.now }
 {
     circuit.input_count() == certificate.question.inputs()
@@ -178,6 +178,7 @@ fn netlist_of<'a>(alloc: Global, text: &'a [u8], default: Delay) -> Result<Netli
 {
     match td_netlist::read(alloc, text, default) {
         Ok(netlist) => {
+            // For the prover: this call says that the netlist is well-formed.
             let _gates = netlist.gates();
             Ok(netlist)
         }

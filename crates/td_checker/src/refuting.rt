@@ -78,6 +78,7 @@ pub fn judge_refuted(
     requires held { length admit.now.held ≡ length circuit.now.netlist.inputs }
     ensures { IfOk result (IsJudged (setting circuit.now) admit.now time (with_cube cube.now (RefutedNode refuted.now))) }
 {
+    // For the prover: this call says that the gates are in order.
     let _gates = circuit.gates();
     let Some(mut refutation) = Refutation::new(alloc, circuit, admit, cube)? else {
         return Ok(Judged::Bad(Flaw::TooLarge, 0));

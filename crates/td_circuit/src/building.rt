@@ -11,6 +11,7 @@ ghost use Rattle.td_circuit.specs.Built.{numbered, IsPlan, FitsBuildFault};
 
 use crate::circuit::{Circuit, Gate};
 use crate::names::Names;
+use crate::numbers::{Net, first_gate};
 use crate::order::{Driver, OrderFault, order_of};
 use crate::plan::{gate_drivers, gates_of, numbers_of, output_drivers, places_of};
 use crate::resolve::{fan_ins_of, names_of};
@@ -44,8 +45,8 @@ impl From<AllocError> for BuildFault {
 #[derive(Debug, Drop)]
 struct Numbers {
     gates: Vec<Gate>,
-    outputs: Vec<u32>,
-    gate_outputs: Vec<u32>,
+    outputs: Vec<Net>,
+    gate_outputs: Vec<Net>,
 }
 
 /// The parts of a circuit beside its netlist: which gate of the netlist is at each place, the numbers, and the moments
@@ -127,8 +128,9 @@ fn numbers_for(
     requires ordered { IsOrder fan_ins.now order.now }
     ensures { IfOk result (λ numbers. IsNumbering (numbered netlist.now order.now numbers)) }
 {
+    // For the prover: this call says that the netlist is well-formed.
     let _gates = netlist.gates();
-    let first = netlist.inputs().len() + 2;
+    let first = first_gate(netlist.inputs().len()) as usize;
     let places = places_of(alloc, order, fan_ins.len())?;
     let places = places.as_slice();
     let gates = gates_of(alloc, netlist, fan_ins, order, places)?;

@@ -1,5 +1,5 @@
 -- What is handed over is what a command says.
-use Rattle.std.proofs.Common.{◌≡◌, ◌∙◌, ◌++◌, ℕ, Bool, List, [], Option, Some, refl, sym, subst, append-nil}
+use Rattle.std.proofs.Common.{◌≡◌, ◌∙◌, ◌++◌, ℕ, Bool, List, [], Option, Some, sym, subst, append-nil}
 use Rattle.td_gates.specs.declared.timing.Delay.{Delay}
 use Rattle.td_certificate.specs.declared.certificate.Certificate.{Certificate}
 use Rattle.td_report.specs.declared.status.Status.{Status}
@@ -11,7 +11,7 @@ use Rattle.td_cli.specs.declared.asking.QuestionWords.{QuestionWords}
 use Rattle.td_delivery.specs.Disks.{Disk}
 use Rattle.td_cli.specs.WorstReports.{IsWorstReport}
 use Rattle.td_cli.specs.JoinReports.{IsJoinReport}
-use Rattle.td_delivery.specs.Beside.{certificate_files, IsBeside}
+use Rattle.td_delivery.specs.Beside.{certificate_files}
 use Rattle.td_cli.specs.Requests.{search_ending, IsSimProduct, IsWorstProduct, IsJoinProduct}
 use Rattle.td_delivery.specs.HandingOver.{IsHandedOver}
 

@@ -1,33 +1,24 @@
 -- How the program ends.
-use Rattle.std.proofs.Common.{◌≡◌, ◌≢◌, ◌⊎◌, ◌∙◌, ◌++◌, ℕ, List, [], ◌∷◌, Option, Some, None, Result, Ok, Err, OnErr, IfErr, refl, sym, ap, subst, inl, inr, append-nil, append_assoc, codes}
+use Rattle.std.proofs.Common.{◌≡◌, ◌⊎◌, ℕ, List, [], refl, sym, subst, inl, inr}
 use Rattle.std.specs.Borrow.{Bor}
 use Rattle.clap.specs.Words.{kind_of, HasKind}
 use Rattle.clap.specs.declared.error.Error.{Error}
-use Rattle.clap.specs.declared.error.kind.ErrorKind.{ErrorKind}
 use Rattle.clap.specs.declared.error.kind.ErrorKind.TheVariants as kind
-use Rattle.td_gates.specs.Output.{Output, Sent, Failed}
-use Rattle.td_certificate.specs.declared.certificate.Certificate.{Certificate}
-use Rattle.td_certificate.specs.Spelling.{spelling}
-use Rattle.td_certificate.specs.declared.fault.WriteFault.{WriteFault}
-use Rattle.td_certificate.specs.declared.fault.WriteFault.TheVariants as unwritten
+use Rattle.td_text.specs.Output.{Output}
 use Rattle.td_files.specs.declared.disk.ReadFault.{ReadFault}
 use Rattle.td_files.specs.declared.disk.ReadFault.TheVariants as unread
 use Rattle.td_report.specs.declared.status.Status.{Status}
-use Rattle.td_report.specs.declared.status.Status.TheVariants.{Device}
 use Rattle.td_report.specs.declared.refusal.Refusal.{Refusal}
 use Rattle.td_report.specs.declared.refusal.Refusal.TheVariants as refusal
 use Rattle.td_command.specs.declared.command.WorstRequest.{WorstRequest}
 use Rattle.td_command.specs.declared.command.Request.{Request}
 use Rattle.td_command.specs.declared.command.Request.TheVariants as request
-use Rattle.td_files.specs.Files.{FileStep, Made, Ended, FileText, HasBeginning, IsWritten, IsLeft, AreWritten, Takes}
-use Rattle.td_report.specs.Vectors.{words_of}
-use Rattle.td_report.specs.Refusals.{refusal_text, unwritten_text}
+use Rattle.td_files.specs.Files.{FileStep, Takes}
 use Rattle.td_command.specs.CommandLine.{kinds_of}
-use Rattle.td_report.specs.Ends.{Product, Streams, streams, Tells, TellsReason, TellsUnread, TellsUnwritten, IsWrittenAs, LosesOne, Says, Ends, EndsBehind}
+use Rattle.td_report.specs.Ends.{Product, Streams, streams, TellsReason, TellsUnread, Ends, EndsBehind}
 use Rattle.td_delivery.specs.Disks.{Disk, Reads, IsUnreadable, HoldsOnFile}
-use Rattle.td_delivery.specs.Beside.{certificate_files}
 use Rattle.td_delivery.specs.Overwriting.{KeepsFiles, Overwrites}
-use Rattle.td_delivery.specs.Shown.{IsOutOfMemory, IsShown, TellsText}
+use Rattle.td_delivery.specs.Shown.{IsOutOfMemory, TellsText}
 use Rattle.td_cli.specs.Requests.{SearchRuns, RequestRuns, RequestEnds, ProgramEnds}
 use Rattle.td_delivery.proofs.Endings.{lifted, refused}
 

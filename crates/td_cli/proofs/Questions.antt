@@ -16,8 +16,11 @@ use Rattle.td_search.specs.declared.answers.Answer.{Answer}
 use Rattle.td_search.specs.declared.answers.Answer.TheVariants as answer
 use Rattle.td_search.specs.declared.answers.SearchFault.{SearchFault}
 use Rattle.td_search.specs.declared.answers.SearchFault.TheVariants as search
+use Rattle.td_worst.specs.declared.method.Method.{Method}
+use Rattle.td_worst.specs.Methods.{tree_of, IsOutcome, IsAnswerBy}
+use Rattle.td_worst.proofs.Outcomes.{outcome_by}
 use Rattle.td_search.specs.Problems.{Problem, problem_by, has_delay}
-use Rattle.td_search.specs.Answers.{IsAnswer, IsSearchFault}
+use Rattle.td_search.specs.Answers.{IsSearchFault}
 use Rattle.td_search.specs.Written.{CanBeWritten}
 use Rattle.td_cli.specs.declared.asking.QuestionWords.{QuestionWords}
 use Rattle.td_report.specs.declared.vector.VectorWord.{VectorWord}
@@ -53,9 +56,9 @@ bad_moments text default circuit count words admit is counts admits none =
 
 pub is_asked : (text : List ℕ) (default : Delay) (words : QuestionWords) (circuit timed : Numbered) (count : ℕ) (admit : Admitted) (moments : List ℕ)
     → IsCircuitOf text default circuit → count ≡ length circuit.netlist.inputs → AreAdmitted count words admit
-    → AreMomentsOf count (words_of words.at) moments → timed ≡ with_moments circuit moments → IsAsked text default words (problem_by words.strategy timed admit)
+    → AreMomentsOf count (words_of words.at) moments → timed ≡ with_moments circuit moments → IsAsked text default words (problem_by (tree_of words.strategy) timed admit)
 is_asked text default words circuit timed count admit moments is counts admits are timed_is =
-    subst (λ timed. IsAsked text default words (problem_by words.strategy timed admit)) (sym timed_is) (record {
+    subst (λ timed. IsAsked text default words (problem_by (tree_of words.strategy) timed admit)) (sym timed_is) (record {
       is_setting = record { means = is.means; acyclic = is.acyclic; moments = subst (λ count. AreMomentsOf count (words_of words.at) moments) counts are };
       admits = subst (λ count. AreAdmitted count words admit) counts admits;
       strategy = refl;
@@ -104,7 +107,11 @@ delay_fits asked pair delay has =
     ∙ length-map asked.setting.netlist.inputs (λ (name : Name). (has.1.waves (Named name)).start) in
     (first, sym (same_length asked.admit.pins pair.first pair.second has.0.pinned) ∙ first)
 
-pub pair_fits : (asked : Problem) (budget : ℕ) (found : Answer) → IsAnswer asked budget found
+pub pair_fits : (method : Method) (asked : Problem) (budget : ℕ) (found : Answer) → IsAnswerBy method asked budget found
     → (length (pair_in found).first ≡ length asked.setting.netlist.inputs) × (length (pair_in found).second ≡ length asked.setting.netlist.inputs)
-pair_fits asked budget (answer.Exact time pair tree) is = delay_fits asked pair time is.reached
-pair_fits asked budget (answer.Between low high pair nodes why) is = delay_fits asked pair low is.reached
+pair_fits method asked budget found is = outcome_fits asked budget found (outcome_by method asked budget found is)
+  where
+    outcome_fits : (asked : Problem) (budget : ℕ) (found : Answer) → IsOutcome asked budget found
+        → (length (pair_in found).first ≡ length asked.setting.netlist.inputs) × (length (pair_in found).second ≡ length asked.setting.netlist.inputs)
+    outcome_fits asked budget (answer.Exact time pair tree) is = delay_fits asked pair time is.reached
+    outcome_fits asked budget (answer.Between low high pair nodes why) is = delay_fits asked pair low is.reached

@@ -4,7 +4,8 @@ use Rattle.td_domain.specs.declared.cubes.Trit.{Trit}
 use Rattle.td_domain.specs.Admits.{Admitted}
 use Rattle.td_cli.specs.declared.asking.QuestionWords.{QuestionWords}
 use Rattle.td_report.specs.declared.vector.VectorWord.TheVariants.{First, Second, Hold}
-use Rattle.td_report.specs.Vectors.{words_of, AreTrits, IsMask, woven, VectorWords, GivesTrits, GivesMask}
+use Rattle.td_domain.specs.Cubes.{weave}
+use Rattle.td_report.specs.Vectors.{words_of, AreTrits, IsMask, VectorWords, GivesTrits, GivesMask}
 
 -- at how many inputs bits may differ: at all of them where no number is given
 abbrev pub most_flips : ℕ → Option ℕ → ℕ
@@ -17,7 +18,7 @@ pub record AreAdmitted (inputs : ℕ) (words : QuestionWords) (admit : Admitted)
   pub seconds : List Trit
   pub first_is : AreTrits inputs (words_of words.first) firsts
   pub second_is : AreTrits inputs (words_of words.second) seconds
-  pub pins : admit.pins ≡ woven firsts seconds
+  pub pins : admit.pins ≡ weave firsts seconds
   pub held : IsMask inputs (words_of words.hold) admit.held
   pub flips : admit.flips ≡ most_flips inputs words.flips
 

@@ -18,7 +18,8 @@ use Rattle.td_search.specs.declared.answers.Answer.TheVariants.{Exact}
 use Rattle.td_report.specs.declared.vector.VectorWord.TheVariants as vector
 use Rattle.td_report.specs.declared.refusal.Refusal.{Refusal}
 use Rattle.td_report.specs.declared.refusal.Refusal.TheVariants as refusal
-use Rattle.td_report.specs.Vectors.{AreTrits, woven, VectorWords, GivesTrits}
+use Rattle.td_domain.specs.Cubes.{weave}
+use Rattle.td_report.specs.Vectors.{AreTrits, VectorWords, GivesTrits}
 use Rattle.td_cli.specs.WorstReports.{worst_text}
 use Rattle.td_report.specs.Outcomes.{HasNoCircuit, IsRefusedFor}
 use Rattle.td_delivery.specs.Disks.{Disk, Reads, HoldsOnFile}
@@ -35,7 +36,7 @@ abbrev pub ArePinned : ℕ → Option (List ℕ) → Option (List ℕ) → Optio
 ArePinned inputs first second None = (first ≡ None) × (second ≡ None)
 ArePinned inputs first second (Some pins) =
     ¬ ((first ≡ None) × (second ≡ None))
-    × (firsts seconds : List Trit) × AreTrits inputs first firsts × AreTrits inputs second seconds × (pins ≡ woven firsts seconds)
+    × (firsts seconds : List Trit) × AreTrits inputs first firsts × AreTrits inputs second seconds × (pins ≡ weave firsts seconds)
 
 -- the pins of the whole: those that are given, or else the least cube that has the pins of all parts
 abbrev pub whole_pins : Option (List Trit) → List Certificate → List Trit

@@ -1,6 +1,6 @@
 -- What is told of a search while it goes on.
 use Rattle.std.specs.Prelude.{◌≡◌, ℕ, Bool, true, false, List, [], ◌∷◌, ◌++◌, ◌⊎◌, codes, decimal}
-use Rattle.td_gates.specs.Output.{Output}
+use Rattle.td_text.specs.Output.{Output}
 use Rattle.td_gates.specs.declared.timing.Delay.{Delay}
 use Rattle.td_search.specs.Problems.{Problem}
 use Rattle.td_pool.specs.declared.watch.Progress.{Progress}

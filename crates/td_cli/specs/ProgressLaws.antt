@@ -1,9 +1,11 @@
 -- Internal: what was told of a search one after another, which stands here since an impl block may name no proofs.
 use Rattle.std.proofs.Common.{refl, subst}
 use Rattle.std.specs.Prelude.{List, [], ◌∷◌, ◌++◌}
-use Rattle.td_gates.specs.Output.{Output}
+use Rattle.td_text.specs.Output.{Output}
 use Rattle.td_search.specs.Problems.{Problem}
+use Rattle.td_search.specs.declared.strategy.Strategy.{Strategy}
 use Rattle.td_pool.specs.declared.watch.Progress.{Progress}
+use Rattle.td_pool.specs.Watched.{IsTrueProgress}
 use Rattle.td_cli.specs.Progress.{TellsLines, TellsProgress}
 
 pub told_nothing : (asked : Problem) (old : Output) → TellsProgress asked old old
@@ -16,3 +18,14 @@ lines_both asked (progress ∷ these) those old mid new h k = (h.0, h.1, h.2, li
 
 pub told_both : (asked : Problem) (old mid new : Output) → TellsProgress asked old mid → TellsProgress asked mid new → TellsProgress asked old new
 told_both asked old mid new one two = (one.0 ++ two.0, lines_both asked one.0 two.0 old mid new one.1 two.1)
+
+alike : (asked : Problem) (strategy : Strategy) (progress : Progress) → IsTrueProgress asked progress → IsTrueProgress (record asked { strategy = strategy }) progress
+alike asked strategy progress h = record { found = h.found; greatest = h.greatest }
+
+lines_alike : (asked : Problem) (strategy : Strategy) (told : List Progress) (old new : Output) → TellsLines asked told old new
+    → TellsLines (record asked { strategy = strategy }) told old new
+lines_alike asked strategy [] old new h = h
+lines_alike asked strategy (progress ∷ more) old new h = (h.0, alike asked strategy progress h.1, h.2, lines_alike asked strategy more h.0 new h.3)
+
+pub told_alike : (asked : Problem) (strategy : Strategy) (old new : Output) → TellsProgress asked old new → TellsProgress (record asked { strategy = strategy }) old new
+told_alike asked strategy old new one = (one.0, lines_alike asked strategy one.0 old new one.1)

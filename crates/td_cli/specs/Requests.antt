@@ -1,22 +1,18 @@
 -- How each command and the program end.
-use Rattle.std.specs.Prelude.{◌≡◌, ◌≢◌, ℕ, Bool, true, false, List, [], ◌∷◌, ◌++◌, ◌⊎◌, All, Option, Some, None, ⊤, codes}
-use Rattle.std.specs.List.{Contains}
-use Rattle.std.specs.Borrow.{Bor}
+use Rattle.std.specs.Prelude.{◌≡◌, ℕ, Bool, true, false, List, [], ◌++◌, ◌⊎◌, Option, Some, None, codes}
 use Rattle.clap.specs.Words.{IsAmong}
 use Rattle.clap.specs.declared.error.kind.ErrorKind.{ErrorKind}
-use Rattle.clap.specs.declared.error.kind.ErrorKind.TheVariants as kind
 use Rattle.td_gates.specs.declared.timing.Delay.{Delay}
-use Rattle.td_gates.specs.Output.{Output, Sent, Failed}
+use Rattle.td_text.specs.Output.{Output}
 use Rattle.td_certificate.specs.declared.certificate.Certificate.{Certificate}
-use Rattle.td_certificate.specs.Spelling.{spelling}
 use Rattle.td_report.specs.declared.status.Status.{Status}
 use Rattle.td_report.specs.declared.status.Status.TheVariants.{Done, BadCommand, Between, Device}
 use Rattle.td_files.specs.declared.disk.ReadFault.{ReadFault}
 use Rattle.td_files.specs.declared.disk.ReadFault.TheVariants as unread
 use Rattle.td_report.specs.declared.refusal.Refusal.{Refusal}
 use Rattle.td_report.specs.declared.refusal.Refusal.TheVariants as refusal
-use Rattle.td_search.specs.declared.strategy.Strategy.{Strategy}
-use Rattle.td_search.specs.declared.strategy.Strategy.TheVariants as strategy
+use Rattle.td_worst.specs.declared.method.Method.{Method}
+use Rattle.td_worst.specs.declared.method.Method.TheVariants as method
 use Rattle.td_command.specs.declared.command.StrategyWord.{StrategyWord}
 use Rattle.td_command.specs.declared.command.StrategyWord.TheVariants as word
 use Rattle.td_command.specs.declared.command.WorstRequest.{WorstRequest}
@@ -34,7 +30,7 @@ use Rattle.td_cli.specs.WorstReports.{IsWorstReport}
 use Rattle.td_report.specs.InfoReports.{IsInfoReport}
 use Rattle.td_cli.specs.PartReports.{IsPartsReport}
 use Rattle.td_cli.specs.JoinReports.{IsJoinReport, HasNoJoin}
-use Rattle.td_report.specs.Refusals.{refusal_text, unwritten_text}
+use Rattle.td_report.specs.Refusals.{refusal_text}
 use Rattle.td_cli.specs.Outcomes.{HasNoAnswer}
 use Rattle.td_report.specs.Outcomes.{HasNoCircuit, HasNoReport, HasNoPath, HasNoBounds, HasNoVerdict}
 use Rattle.td_files.specs.Files.{FileStep, FileText}
@@ -104,9 +100,11 @@ pub record IsJoinProduct (disk : Disk) (text : List ℕ) (default : Delay) (name
 -- ---- the commands, on files
 
 -- the strategy that a word names
-abbrev pub strategy_of : StrategyWord → Strategy
-strategy_of word.Least = strategy.Least
-strategy_of word.Lead = strategy.Lead
+abbrev pub strategy_of : StrategyWord → Method
+strategy_of word.Least = method.Least
+strategy_of word.Lead = method.Lead
+strategy_of word.Refute = method.Refute
+strategy_of word.Auto = method.Auto
 
 -- the words of a request that say what its search is about, and by which strategy it goes
 abbrev pub words_in : WorstRequest → QuestionWords

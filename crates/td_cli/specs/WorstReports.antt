@@ -10,7 +10,8 @@ use Rattle.td_search.specs.declared.answers.Cause.TheVariants as cause
 use Rattle.td_search.specs.declared.answers.Answer.{Answer}
 use Rattle.td_search.specs.declared.answers.Answer.TheVariants as answer
 use Rattle.td_search.specs.Problems.{Problem}
-use Rattle.td_search.specs.Answers.{IsAnswer, certificate_of}
+use Rattle.td_search.specs.Answers.{certificate_of}
+use Rattle.td_worst.specs.Methods.{tree_of, IsAnswerBy}
 use Rattle.td_cli.specs.declared.asking.QuestionWords.{QuestionWords}
 use Rattle.td_report.specs.Vectors.{words_of}
 use Rattle.td_files.specs.Files.{FileText}
@@ -57,11 +58,11 @@ abbrev pub certificate_in : Problem → Answer → Option Certificate
 certificate_in asked (answer.Exact time pair tree) = Some (certificate_of asked time pair tree)
 certificate_in asked (answer.Between low high pair nodes why) = None
 
--- what the words of a search ask of a text: the setting, which pairs of its inputs are admitted, and the strategy by which the search goes
+-- what the words of a search ask of a text: the setting, which pairs of its inputs are admitted, and the strategy of the first tree
 pub record IsAsked (text : List ℕ) (default : Delay) (words : QuestionWords) (asked : Problem) : Type 0 where
   pub is_setting : IsSetting text default (words_of words.at) asked.setting
   pub admits : AreAdmitted (length asked.setting.netlist.inputs) words asked.admit
-  pub strategy : asked.strategy ≡ words.strategy
+  pub strategy : asked.strategy ≡ tree_of words.strategy
 
 -- the pair of an answer
 abbrev pub pair_in : Answer → Pair
@@ -75,7 +76,7 @@ pub record IsWorstReport (text : List ℕ) (default : Delay) (words : QuestionWo
   pub asked : Problem
   pub is_asked : IsAsked text default words asked
   pub found : Answer
-  pub is_answer : IsAnswer asked budget found
+  pub is_answer : IsAnswerBy words.strategy asked budget found
   pub chain : List ℕ
   pub tells : TellsPair path asked.setting (pair_in found) chain
   pub is : report ≡ worst_text asked.setting.netlist found ++ chain

@@ -5,9 +5,9 @@ ghost use Rattle.td_report.specs.Vectors.{IsFirstBad};
 ghost use Rattle.td_cli.specs.Admitting.{most_flips, AreAdmitted, pair_words};
 
 use std::alloc::{AllocError, Global};
-use td_domain::{Admit, Trit};
-use td_report::vector::{VectorWord, cube, given};
-use td_search::Strategy;
+use td_domain::{Admit, Cube, Trit};
+use td_report::vector::{VectorWord, given};
+use td_worst::Method;
 
 /// What a search is asked, and by which strategy it goes: the words say which pairs of vectors are admitted and when inputs change, and
 /// each may be left out.
@@ -21,7 +21,7 @@ pub struct QuestionWords<'a> {
     pub flips: Option<u64>,
     /// The moment at which each input takes its second level.
     pub at: Option<&'a str>,
-    pub strategy: Strategy,
+    pub strategy: Method,
 }
 
 /// At how many inputs the two vectors may differ, of so many.
@@ -55,7 +55,7 @@ pub fn admit(
     let Some(held) = given(alloc, words.hold, inputs, false)? else {
         return Ok(Err(VectorWord::Hold));
     };
-    let pins = cube(alloc, &firsts, &seconds)?;
+    let pins = Cube::weave(alloc, &firsts, &seconds)?;
     let flips = most_flips(inputs, words.flips);
     Ok(Ok(Admit::new(pins, held, flips)))
 }

@@ -1,9 +1,8 @@
 //! The parts of a question, as files hold them.
 
-ghost use Rattle.std.specs.Prelude.{◌≡◌, ◌≢◌, ◌↔◌, ℕ, Bool, List, true, map, IfOk, IfErr, IsTrue};
+ghost use Rattle.std.specs.Prelude.{◌≡◌, ◌≢◌, ℕ, Bool, List, true, map, IfOk, IfErr};
 ghost use Rattle.td_nets.specs.Netlist.{Netlist};
 ghost use Rattle.td_gates.specs.declared.timing.Delay.{Delay as Default};
-ghost use Rattle.td_certificate.specs.Accepts.{IsOfSize};
 ghost use Rattle.td_certificate.specs.Spelling.{Spells};
 ghost use Rattle.td_checker.specs.declared.verdict.Verdict.TheVariants as Told;
 ghost use Rattle.td_checker.specs.Checks.{HaveVerdict};
@@ -14,7 +13,7 @@ ghost use Rattle.td_report.specs.declared.refusal.Refusal.TheVariants as Reason;
 
 use std::alloc::Global;
 use td_certificate::{CertFault, CertFaultKind, Certificate, read};
-use td_checker::{CheckFault, Verdict, check};
+use td_checker::{CheckFault, Verdict, check, is_of_size};
 use td_circuit::Circuit;
 use td_files::{Files, ReadFault};
 use td_gates::Delay;
@@ -93,13 +92,6 @@ fn judged_part<'a>(
     } else {
         read_part(alloc, name, bytes)
     }
-}
-
-/// Whether a certificate is of a circuit with so many inputs and gates.
-fn is_of_size(circuit: &Circuit, part: &Certificate) -> bool
-    ensures { IsTrue result ↔ IsOfSize circuit.now.netlist part.now }
-{
-    circuit.input_count() == part.question.inputs() && circuit.gates().len() == part.gates as usize
 }
 
 /// The part of a question about a circuit that a file's bytes tell.

@@ -14,9 +14,10 @@ use std::alloc::Global;
 use td_command::InfoRequest;
 use td_delivery::telling::{say, tell_refusal, tell_unread};
 use td_files::Files;
-use td_gates::{Delay, Sink};
+use td_gates::Delay;
 use td_report::describing::info;
 use td_report::status::Status;
+use td_text::Sink;
 
 /// The command `info`.
 pub fn run_info<F: Files, O: Sink, E: Sink>(

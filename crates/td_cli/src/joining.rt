@@ -29,7 +29,7 @@ use td_command::JoinRequest;
 use td_delivery::telling::{hand_over, tell_refusal, tell_unread};
 use td_domain::{Cube, Trit};
 use td_files::Files;
-use td_gates::{Delay, Sink};
+use td_gates::Delay;
 use td_join::{JoinFault, join, join_in};
 use td_report::hindrance::{first_place, name_at, second_place};
 use td_report::refusal::Refusal;
@@ -37,7 +37,8 @@ use td_report::report;
 use td_report::simulate::circuit;
 use td_report::status::Status;
 use td_report::text::Text;
-use td_report::vector::{VectorWord, cube, given};
+use td_report::vector::{VectorWord, given};
+use td_text::Sink;
 
 /// The most nodes of a whole.
 const MOST_NODES: usize = 10_000_000;
@@ -68,7 +69,7 @@ fn pins_given(
     let Some(seconds) = given(alloc, second, inputs, Trit::Free)? else {
         return Ok(Err(VectorWord::Second));
     };
-    let pins = cube(alloc, &firsts, &seconds)?;
+    let pins = Cube::weave(alloc, &firsts, &seconds)?;
     Ok(Ok(Some(pins)))
 }
 

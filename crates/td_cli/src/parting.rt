@@ -22,13 +22,14 @@ use td_command::PartsRequest;
 use td_delivery::telling::{say, tell_refusal, tell_unread};
 use td_domain::Cube;
 use td_files::Files;
-use td_gates::{Delay, Sink};
+use td_gates::Delay;
 use td_parts::cut;
 use td_report::pinning::push_pins;
 use td_report::refusal::Refusal;
 use td_report::status::Status;
 use td_report::text::Text;
 use td_search::Problem;
+use td_text::Sink;
 
 /// The report of the parts of what the words ask, of which there are at most so many, at least 1: a line for each, with the options by which
 /// `worst` searches it.
@@ -47,7 +48,7 @@ pub fn parts<'a>(
     let problem = Problem {
         circuit: &asked.circuit,
         admit: &asked.admit,
-        strategy: words.strategy,
+        strategy: words.strategy.strategy(),
     };
     let cubes = cut(alloc, &problem, parts as usize)?;
     some_lines(alloc, &cubes, default, words)

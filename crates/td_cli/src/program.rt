@@ -30,13 +30,14 @@ use td_command::{
 use td_delivery::overwriting::overwriting;
 use td_delivery::telling::{hand_over, say, tell, tell_error, tell_refusal, tell_unread};
 use td_files::{Files, ReadFault};
-use td_gates::{Delay, Sink};
+use td_gates::Delay;
 use td_report::bounding::bounds;
 use td_report::checking::verdict_on;
 use td_report::explaining::path;
 use td_report::simulate::sim;
 use td_report::status::Status;
-use td_search::Strategy;
+use td_text::Sink;
+use td_worst::Method;
 
 /// Carries out the command that the words ask for: what it answers goes to `out`, why it was refused to `err`. The first
 /// word is the program's name.
@@ -356,12 +357,14 @@ fn words_in<'a>(request: &WorstRequest<'a>) -> QuestionWords<'a>
 }
 
 /// The strategy that a word names.
-pub fn strategy_of(word: StrategyWord) -> Strategy
+pub fn strategy_of(word: StrategyWord) -> Method
     ensures { result ≡ strategy_of word }
 {
     match word {
-        StrategyWord::Least => Strategy::Least,
-        StrategyWord::Lead => Strategy::Lead,
+        StrategyWord::Least => Method::Least,
+        StrategyWord::Lead => Method::Lead,
+        StrategyWord::Refute => Method::Refute,
+        StrategyWord::Auto => Method::Auto,
     }
 }
 

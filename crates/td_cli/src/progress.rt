@@ -14,12 +14,13 @@ use std::alloc::{AllocError, Global};
 use std::sync::Wait;
 use std::thread::Threads;
 use td_delivery::telling::tell;
-use td_gates::{Delay, Sink};
+use td_gates::Delay;
 use td_pool::{Progress, Unwatched, Watch};
 use td_report::refusal::Refusal;
 use td_report::status::Status;
 use td_report::text::Text;
 use td_search::Problem;
+use td_text::Sink;
 
 /// Writes a line for each thing that it is told. Where it can't be written, or memory is refused, the search goes on.
 #[derive(Drop)]
@@ -50,7 +51,7 @@ fn push_progress(text: &mut Text, progress: Progress) -> Result<(), AllocError>
 impl<'e, E: Sink> Watch for ProgressLines<'e, E> {
     ghost use Rattle.std.proofs.Common.{◌≡◌, refl, ◌∙◌};
     ghost use Rattle.td_cli.specs.Progress.{TellsProgress};
-    ghost use Rattle.td_cli.specs.ProgressLaws.{told_nothing, told_both};
+    ghost use Rattle.td_cli.specs.ProgressLaws.{told_nothing, told_both, told_alike};
 
     ghost told = { λ asked first last. TellsProgress asked (E.output first.err.now) (E.output last.err.now) × (first.err.ghost_name ≡ last.err.ghost_name) };
 
@@ -68,6 +69,8 @@ impl<'e, E: Sink> Watch for ProgressLines<'e, E> {
     ghost told_nothing = { λ asked lines. (told_nothing asked (E.output lines.err.now), refl) };
 
     ghost told_both = { λ asked first then last one two. (told_both asked (E.output first.err.now) (E.output then.err.now) (E.output last.err.now) one.0 two.0, one.1 ∙ two.1) };
+
+    ghost told_alike = { λ asked strategy first last one. (told_alike asked strategy (E.output first.err.now) (E.output last.err.now) one.0, one.1) };
 }
 
 /// Does nothing, but this use of a reference that came back ties it to the one that was lent.

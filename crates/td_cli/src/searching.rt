@@ -11,6 +11,7 @@ ghost use Rattle.td_report.specs.PairReports.{IsDumpOf};
 ghost use Rattle.td_report.specs.Vectors.{words_of};
 ghost use Rattle.td_cli.specs.WorstReports.{exact_line, between_line, cause_line, pair_lines};
 ghost use Rattle.td_cli.specs.WorstReports.{answer_lines, worst_text, certificate_in, pair_in, IsAsked, IsWorstReport};
+ghost use Rattle.td_worst.specs.Methods.{tree_of};
 ghost use Rattle.td_cli.specs.Outcomes.{unanswered, question_words, HasNoAnswer};
 ghost use Rattle.td_report.specs.Outcomes.{IsCircuitOf, HasBadWord, IsRefusedFor};
 ghost use Rattle.td_gates.specs.declared.timing.Delay.{Delay as Default};
@@ -23,7 +24,7 @@ use td_certificate::{Certificate, Question, Tree};
 use td_circuit::Circuit;
 use td_domain::{Admit, Pair};
 use td_gates::Delay;
-use td_pool::{Effort, Watch, search};
+use td_pool::{Effort, Watch};
 use td_report::chaining::with_chain;
 use td_report::dumping::{Dump, pair_dump};
 use td_report::refusal::Refusal;
@@ -32,7 +33,7 @@ use td_report::simulate::circuit;
 use td_report::text::Text;
 use td_report::timing::moments;
 use td_report::vector::VectorWord;
-use td_search::{Answer, Cause, Own, Problem, SearchFault, Strategy, certificate_of};
+use td_search::{Answer, Cause, SearchFault, Strategy, certificate_of};
 
 /// The report of a search, the certificate of an exact answer, and the waves of the given pair's run where a name is given for
 /// their file.
@@ -57,7 +58,7 @@ pub fn question_of<'a>(
     default: Delay,
     words: QuestionWords<'_>,
 ) -> Result<Asked, Refusal<'a>>
-    ensures asked { IfOk result (λ asked. IsAsked text.now default words.entry (problem_by words.entry.strategy asked.circuit asked.admit)) }
+    ensures asked { IfOk result (λ asked. IsAsked text.now default words.entry (problem_by (tree_of words.entry.strategy) asked.circuit asked.admit)) }
     ensures refusal { IfErr result (IsRefusedFor text.now default (question_words words.entry)) }
 {
     let mut circuit = circuit(alloc, text, default)?;
@@ -76,7 +77,7 @@ fn admit_in(
 ) -> Result<Result<Admit, VectorWord>, AllocError>
     requires { length circuit.old.netlist.inputs < 2 ^ 32 }
     ensures asked { IfOk result (λ told. IfOk told (λ admit. (text : List ℕ) (default : Default) → IsCircuitOf text default circuit.old
-        → IsAsked text default words.entry (problem_by words.entry.strategy circuit.new admit))) }
+        → IsAsked text default words.entry (problem_by (tree_of words.entry.strategy) circuit.new admit))) }
     ensures bad { IfOk result (λ told. IfErr told (λ word. (text : List ℕ) (default : Default) → IsCircuitOf text default circuit.old
         → HasBadWord text default (question_words words.entry) word)) }
 {
@@ -123,13 +124,8 @@ pub fn worst<'a, 'v, W: Watch, R: Threads + Wait + Sync>(
 {
     let Asked { circuit, admit } = question_of(alloc, text, default, words)?;
     let moments = Vec::from_slice(alloc, circuit.moments())?;
-    let problem = Problem {
-        circuit: &circuit,
-        admit: &admit,
-        strategy: words.strategy,
-    };
     let effort = Effort { workers, budget };
-    let searched = search(rt, alloc, &problem, &Own, effort, watch);
+    let searched = td_worst::worst(rt, alloc, &circuit, &admit, words.strategy, effort, watch);
     let answer = match searched {
         Ok(answer) => answer,
         Err(fault) => return Err(unanswered(fault)),
@@ -139,7 +135,7 @@ pub fn worst<'a, 'v, W: Watch, R: Threads + Wait + Sync>(
         circuit,
         admit,
         moments,
-        words.strategy,
+        words.strategy.strategy(),
         answer,
         path,
         vcd,

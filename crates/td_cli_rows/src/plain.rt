@@ -4,7 +4,7 @@ use crate::runs::{FILES, ROOM};
 use std::alloc::Global;
 use std::test::*;
 use td_cli::{MemoryFiles, run_plain};
-use td_gates::MemorySink;
+use td_text::MemorySink;
 
 /// The status of a command that is carried out without threads, none where it isn't, and whether it writes this to standard output and
 /// nothing else.

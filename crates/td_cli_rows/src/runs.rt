@@ -5,7 +5,7 @@ use std::sync::Wait;
 use std::test::*;
 use std::thread::Threads;
 use td_cli::{MemoryFiles, ReadFault, refuse_words, run};
-use td_gates::MemorySink;
+use td_text::MemorySink;
 
 /// What a command wrote and how it ended.
 #[derive(Drop)]

@@ -2,19 +2,19 @@
 
 ghost use Rattle.std.specs.Prelude.{◌≡◌, ◌<◌, ◌≤◌, length, IfOk};
 ghost use Rattle.td_domain.specs.Admits.{IsAdmitted};
-ghost use Rattle.td_climb.specs.Bits.{AreAdmitted};
+ghost use Rattle.td_domain.specs.PairBits.{AreAdmitted};
 ghost use Rattle.td_climb.specs.Tries.{tries_of};
 
-use crate::bits::Bits;
 use crate::draws::Draws;
 use crate::lanes::Lanes;
 use crate::moves::{Move, undo};
 use crate::pairs::{LANES, Pairs};
+use crate::taking::take;
 use crate::walk::{Gait, WIDTH, Walk};
 use std::alloc::{AllocError, Global};
 use std::marker::Model;
 use td_circuit::Circuit;
-use td_domain::{Admit, Pair};
+use td_domain::{Admit, Bits, Pair};
 
 /// How many inputs a move changes at most.
 const PARTS: usize = 4;
@@ -41,7 +41,7 @@ pub struct Climb {
 }
 
 impl Model for Climb {
-    ghost use Rattle.td_climb.specs.declared.bits.Bits.{Bits};
+    ghost use Rattle.td_domain.specs.declared.pair_bits.Bits.{Bits};
 
     ghost Value = { Bits };
 
@@ -79,7 +79,7 @@ fn draw_moves(
 impl Climb {
     ghost use Rattle.std.specs.Prelude.{◌≡◌, ◌≤◌, length, IfOk};
     ghost use Rattle.td_domain.specs.Admits.{IsAdmitted};
-    ghost use Rattle.td_climb.specs.Bits.{AreAdmitted};
+    ghost use Rattle.td_domain.specs.PairBits.{AreAdmitted};
 
     /// A climb from an admitted pair, whose numbers follow from a seed. Nothing is tried yet. The
     /// error is out of memory.
@@ -96,6 +96,7 @@ impl Climb {
         ensures first { IfOk result (λ climb. climb.first.items ≡ start.first) }
         ensures second { IfOk result (λ climb. climb.second.items ≡ start.second) }
     {
+        // For the prover: this call says that the gates are in order.
         let _numbering = circuit.gates();
         let mut pairs = Pairs::of(alloc, &start)?;
         let lanes = Lanes::new(alloc, circuit)?;
@@ -207,7 +208,7 @@ impl Climb {
         ensures { AreAdmitted admit.now self.new }
     {
         if time > self.time {
-            self.best.take(admit, &self.pairs, lane);
+            take(&mut self.best, admit, &self.pairs, lane);
             self.time = time;
             self.idle = 0;
         }

@@ -47,7 +47,7 @@ impl Lanes {
     /// events. The error is out of memory.
     pub fn simulate(&mut self, circuit: &Circuit, pairs: &Pairs) -> Result<bool, AllocError> {
         self.begin(circuit, pairs)?;
-        let first = circuit.input_count().saturating_add(2);
+        let first = circuit.first_gate() as usize;
         let mut events = 0usize;
         for (place, gate) in circuit.gates().iter().enumerate() {
             events = events.saturating_add(self.rooms.events(&gate.inputs));

@@ -5,7 +5,6 @@
 //! which a climb leads is admitted. Who needs its delay measures it.
 #![tactic(auto)]
 
-mod bits;
 mod climbing;
 mod delaying;
 mod draws;
@@ -14,11 +13,11 @@ mod lanes;
 mod moves;
 mod pairs;
 mod rooms;
+mod taking;
 mod targets;
 mod walk;
 mod waves;
 
-pub use bits::Bits;
 pub use climbing::{Climb, tries_for};
 pub use draws::Draws;
 pub use lanes::{Lanes, Latest};

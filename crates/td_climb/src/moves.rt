@@ -2,11 +2,10 @@
 
 ghost use Rattle.std.specs.Prelude.{◌<◌, length};
 
-use crate::bits::{fits, flip_of};
 use crate::draws::Draws;
 use crate::pairs::{Flip, Pairs};
 use std::alloc::AllocError;
-use td_domain::Admit;
+use td_domain::{Admit, fits, flip_of};
 
 /// What is flipped in some lanes.
 #[derive(Clone, Copy, Debug, Drop)]

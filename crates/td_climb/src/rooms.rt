@@ -18,7 +18,7 @@ impl Rooms {
     /// Rooms for the nets of a circuit, whose waves are made in order. The error is out of memory.
     pub fn new(alloc: Global, circuit: &Circuit) -> Result<Self, AllocError> {
         let mut sharing = Sharing::of(alloc, circuit)?;
-        for _ in 0..circuit.input_count().saturating_add(2) {
+        for _ in 0..circuit.first_gate() {
             sharing.take()?;
         }
         for (place, gate) in circuit.gates().iter().enumerate() {

@@ -14,7 +14,7 @@ use Rattle.clap.specs.declared.builder.value_parser.ValueParser.{ValueParser}
 use Rattle.clap.specs.declared.builder.value_parser.ValueParser.TheVariants as vp
 use Rattle.td_command.specs.CommandLine.{HasFlag, HasStrategy, IsAnswered, listed, strategy_name, strategy_names}
 use Rattle.td_command.specs.declared.command.StrategyWord.{StrategyWord}
-use Rattle.td_command.specs.declared.command.StrategyWord.TheVariants.{Least, Lead}
+use Rattle.td_command.specs.declared.command.StrategyWord.TheVariants.{Least, Lead, Refute, Auto}
 use Rattle.td_command.proofs.Levels.{IsTaken, has_default, reads}
 
 -- the command has an option of this id with one of these names, and a name where it is left out
@@ -39,12 +39,27 @@ or_none false passes = passes
 -- a text that passed is the name of a strategy
 strategy_read : (text : Text) → accepts false (vp.Names (listed strategy_names)) text ≡ true
     → (strategy : StrategyWord) × (text ≡ strategy_name strategy)
-strategy_read text passes = go (bytes_eq (codes "least") text) refl passes
+strategy_read text passes = least (bytes_eq (codes "least") text) refl passes
   where
-    go : (least : Bool) → bytes_eq (codes "least") text ≡ least → (least || (bytes_eq (codes "lead") text || false)) ≡ true
+    auto : (bytes_eq (codes "auto") text || false) ≡ true → (strategy : StrategyWord) × (text ≡ strategy_name strategy)
+    auto passes = (Auto, sym ((bytes_eq-Decides (codes "auto") text).0 (or_none _ passes)))
+
+    refute : (test : Bool) → bytes_eq (codes "refute") text ≡ test → (test || (bytes_eq (codes "auto") text || false)) ≡ true
         → (strategy : StrategyWord) × (text ≡ strategy_name strategy)
-    go true is passes = (Least, sym ((bytes_eq-Decides (codes "least") text).0 is))
-    go false is passes = (Lead, sym ((bytes_eq-Decides (codes "lead") text).0 (or_none _ passes)))
+    refute true is passes = (Refute, sym ((bytes_eq-Decides (codes "refute") text).0 is))
+    refute false is passes = auto passes
+
+    lead : (test : Bool) → bytes_eq (codes "lead") text ≡ test
+        → (test || (bytes_eq (codes "refute") text || (bytes_eq (codes "auto") text || false))) ≡ true
+        → (strategy : StrategyWord) × (text ≡ strategy_name strategy)
+    lead true is passes = (Lead, sym ((bytes_eq-Decides (codes "lead") text).0 is))
+    lead false is passes = refute (bytes_eq (codes "refute") text) refl passes
+
+    least : (test : Bool) → bytes_eq (codes "least") text ≡ test
+        → (test || (bytes_eq (codes "lead") text || (bytes_eq (codes "refute") text || (bytes_eq (codes "auto") text || false)))) ≡ true
+        → (strategy : StrategyWord) × (text ≡ strategy_name strategy)
+    least true is passes = (Least, sym ((bytes_eq-Decides (codes "least") text).0 is))
+    least false is passes = lead (bytes_eq (codes "lead") text) refl passes
 
 pub strategy_there : (shape : Shape) (rows : List Row) → HasNameOption shape (codes "strategy") strategy_names → IsTaken shape rows
     → (strategy : StrategyWord) × HasStrategy rows strategy
@@ -57,13 +72,19 @@ strategy_there shape rows has taken =
 
 -- another text names no strategy
 pub no_strategy : (rows : List Row) (text : Text) → first_of (codes "strategy") rows ≡ Some text → text ≢ codes "least" → text ≢ codes "lead"
-    → (asked : StrategyWord) → ¬ HasStrategy rows asked
-no_strategy rows text given not_least not_lead Least has =
+    → text ≢ codes "refute" → text ≢ codes "auto" → (asked : StrategyWord) → ¬ HasStrategy rows asked
+no_strategy rows text given not_least not_lead not_refute not_auto Least has =
     let same : Some text ≡ Some (codes "least") = sym given ∙ has in
     not_least cc
-no_strategy rows text given not_least not_lead Lead has =
+no_strategy rows text given not_least not_lead not_refute not_auto Lead has =
     let same : Some text ≡ Some (codes "lead") = sym given ∙ has in
     not_lead cc
+no_strategy rows text given not_least not_lead not_refute not_auto Refute has =
+    let same : Some text ≡ Some (codes "refute") = sym given ∙ has in
+    not_refute cc
+no_strategy rows text given not_least not_lead not_refute not_auto Auto has =
+    let same : Some text ≡ Some (codes "auto") = sym given ∙ has in
+    not_auto cc
 
 -- a text that passed says whether a flag is given
 flag_read : (text : Text) → accepts false vp.Bool text ≡ true → (given : Bool) × (text ≡ bool_text given)

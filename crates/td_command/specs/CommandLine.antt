@@ -11,7 +11,7 @@ use Rattle.td_command.specs.declared.command.SimRequest.{SimRequest}
 use Rattle.td_command.specs.declared.command.PathRequest.{PathRequest}
 use Rattle.td_command.specs.declared.command.BoundRequest.{BoundRequest}
 use Rattle.td_command.specs.declared.command.StrategyWord.{StrategyWord}
-use Rattle.td_command.specs.declared.command.StrategyWord.TheVariants.{Least, Lead}
+use Rattle.td_command.specs.declared.command.StrategyWord.TheVariants.{Least, Lead, Refute, Auto}
 use Rattle.td_command.specs.declared.command.WorstRequest.{WorstRequest}
 use Rattle.td_command.specs.declared.command.PartsRequest.{PartsRequest}
 use Rattle.td_command.specs.declared.command.JoinRequest.{JoinRequest}
@@ -54,6 +54,17 @@ Listed = Bor (List (Bor Text))
 abbrev pub texts_of : Listed → List Text
 texts_of names = map (λ name. name.now) names.now
 
+-- an option that has a letter too
+abbrev pub with_letter : ℕ → Rule → Rule
+with_letter letter rule = record rule { short = Some letter }
+
+-- the letters of two options: j, and o
+abbrev pub workers_letter : ℕ
+workers_letter = 106
+
+abbrev pub out_letter : ℕ
+out_letter = 111
+
 -- an option with one of a few names, and its value where it is left out
 abbrev pub name_option : Text → Listed → Text → Rule
 name_option id names left_out = record (option id) { parser = Some (Names names); defaults = left_out ∷ [] }
@@ -67,6 +78,10 @@ abbrev pub with_default : App → App
 with_default app =
     with_rule (with_rule app (number_option (codes "default-rise") 1 1000000000 (codes "1")))
     (number_option (codes "default-fall") 1 1000000000 (codes "1"))
+
+-- what all commands take: the delays of gates that state none, and whether hints stand behind a refusal
+abbrev pub with_common : App → App
+with_common app = with_rule (with_default app) (flag (codes "hints"))
 
 -- when each input takes its second level
 abbrev pub with_moments : App → App
@@ -102,13 +117,13 @@ with_admitted app = with_rule (with_rule (with_cube app) (option (codes "hold"))
 
 -- by which strategy a search goes
 abbrev pub with_strategy : Listed → App → App
-with_strategy strategies app = with_rule app (name_option (codes "strategy") strategies (codes "least"))
+with_strategy strategies app = with_rule app (name_option (codes "strategy") strategies (codes "auto"))
 
 -- how a search goes, and where its certificate goes
 abbrev pub with_search : Listed → App → App
 with_search strategies app =
-    with_rule (with_rule (with_strategy strategies (with_rule app (number_option (codes "workers") 1 64 (codes "1"))))
-    (number_option (codes "budget") 0 10000000 (codes "1000000"))) (option (codes "cert"))
+    with_rule (with_rule (with_strategy strategies (with_rule app (with_letter workers_letter (number_option (codes "workers") 1 64 (codes "1")))))
+    (number_option (codes "budget") 0 10000000 (codes "1000000"))) (with_letter out_letter (option (codes "cert")))
 
 -- how many parts a question has
 abbrev pub with_parts : App → App
@@ -116,34 +131,35 @@ with_parts app = with_rule app (needed_number (codes "parts") 1 65536)
 
 -- the certificates that are joined, where theirs goes, and whether each is checked
 abbrev pub with_joined : App → App
-with_joined app = with_rule (with_rule (with_rule app (needed_words (codes "CERT"))) (option (codes "cert"))) (flag (codes "check"))
+with_joined app =
+    with_rule (with_rule (with_rule app (needed_words (codes "CERT"))) (with_letter out_letter (option (codes "cert")))) (flag (codes "check"))
 
 abbrev pub sim_command : App
-sim_command = with_default (with_vcd (with_moments (with_pair (new_app (codes "sim")))))
+sim_command = with_common (with_vcd (with_moments (with_pair (new_app (codes "sim")))))
 
 abbrev pub path_command : App
-path_command = with_default (with_output (with_moments (with_pair (new_app (codes "path")))))
+path_command = with_common (with_output (with_moments (with_pair (new_app (codes "path")))))
 
 abbrev pub bound_command : App
-bound_command = with_default (with_edges (with_moments (with_cube (with_rule (new_app (codes "bound")) (needed (codes "FILE"))))))
+bound_command = with_common (with_edges (with_moments (with_cube (with_rule (new_app (codes "bound")) (needed (codes "FILE"))))))
 
 abbrev pub worst_command : Listed → App
 worst_command strategies =
-    with_default (with_told (with_vcd (with_search strategies (with_moments (with_admitted (with_rule (new_app (codes "worst")) (needed (codes "FILE"))))))))
+    with_common (with_told (with_vcd (with_search strategies (with_moments (with_admitted (with_rule (new_app (codes "worst")) (needed (codes "FILE"))))))))
 
 abbrev pub parts_command : Listed → App
 parts_command strategies =
-    with_default (with_strategy strategies (with_moments (with_admitted (with_parts (with_rule (new_app (codes "parts")) (needed (codes "FILE")))))))
+    with_common (with_strategy strategies (with_moments (with_admitted (with_parts (with_rule (new_app (codes "parts")) (needed (codes "FILE")))))))
 
 abbrev pub join_command : App
-join_command = with_default (with_cube (with_joined (with_rule (new_app (codes "join")) (needed (codes "FILE")))))
+join_command = with_common (with_cube (with_joined (with_rule (new_app (codes "join")) (needed (codes "FILE")))))
 
 abbrev pub check_command : App
-check_command = with_default (with_rule (with_rule (new_app (codes "check"))
+check_command = with_common (with_rule (with_rule (new_app (codes "check"))
     (needed (codes "FILE"))) (needed (codes "CERT")))
 
 abbrev pub info_command : App
-info_command = with_default (with_rule (new_app (codes "info")) (needed (codes "FILE")))
+info_command = with_common (with_rule (new_app (codes "info")) (needed (codes "FILE")))
 
 abbrev pub with_runs : App → App
 with_runs app = with_subcommand (with_subcommand app sim_command.top) path_command.top
@@ -169,7 +185,7 @@ program_of strategies = with_looks (with_questions strategies (with_bounds strat
 
 -- the names of the strategies
 abbrev pub strategy_names : List Text
-strategy_names = codes "least" ∷ codes "lead" ∷ []
+strategy_names = codes "least" ∷ codes "lead" ∷ codes "refute" ∷ codes "auto" ∷ []
 
 -- what the parser is told with the names of the strategies, wherever in memory they stand
 pub record IsOfStrategies (told_with : Listed → App) (told : App) : Type 0 where
@@ -219,6 +235,8 @@ HasFlag id rows given = one_of id rows ≡ Some (bool_text given)
 abbrev pub strategy_name : StrategyWord → Text
 strategy_name Least = codes "least"
 strategy_name Lead = codes "lead"
+strategy_name Refute = codes "refute"
+strategy_name Auto = codes "auto"
 
 -- the option names this strategy, or is left out and it is the default
 abbrev pub HasStrategy : List Row → StrategyWord → Type 0

@@ -3,7 +3,7 @@
 ghost use Rattle.std.specs.Prelude.{◌≡◌, [], codes, false, IfOk, OnOk};
 ghost use Rattle.clap.specs.Words.{app_of, new_app, rule_of, with_rule};
 ghost use Rattle.td_command.specs.CommandLine.{needed, needed_words, needed_number, option, number_option, count_option, name_option, flag};
-ghost use Rattle.td_command.specs.CommandLine.{with_pair, with_default, with_moments, with_vcd, with_output, with_cube, with_edges, with_told, with_admitted, with_parts, with_strategy, with_search, with_joined};
+ghost use Rattle.td_command.specs.CommandLine.{with_pair, out_letter, with_common, with_default, with_letter, workers_letter, with_moments, with_vcd, with_output, with_cube, with_edges, with_told, with_admitted, with_parts, with_strategy, with_search, with_joined};
 ghost use Rattle.td_command.specs.Telling.{told, TellsMore, TellsRule};
 
 use crate::help::{FREE_HELP, WHOLE_HELP};
@@ -47,6 +47,23 @@ fn option<'a>(alloc: Global, id: &'a str, value: &'a str, help: &'a str) -> Arg<
     ensures local { result.global ≡ false }
 {
     Arg::new(alloc, id).long(id).value_name(value).help(help)
+}
+
+/// An option with a number in a range, and the number where it is left out.
+fn number<'a>(
+    alloc: Global,
+    id: &'a str,
+    least: u32,
+    most: u32,
+    left_out: &'a str,
+    help: &'a str,
+) -> Arg<'a>
+    ensures rule { rule_of result ≡ number_option id.entry.now least most left_out.entry.now }
+    ensures local { result.global ≡ false }
+{
+    option(alloc, id, "N", help)
+        .value_parser(ValueParser::signed(i64::from(least), i64::from(most)))
+        .default_value(left_out)
 }
 
 // The kinds of arguments.
@@ -102,10 +119,7 @@ impl<'a> Arguments<'a> {
     ) -> Result<(), AllocError>
         ensures { OnOk result (TellsRule (number_option id.entry.now least most left_out.entry.now) self.old self.new) }
     {
-        let number = option(self.alloc, id, "N", help)
-            .value_parser(ValueParser::signed(i64::from(least), i64::from(most)))
-            .default_value(left_out);
-        self.add(number)
+        self.add(number(self.alloc, id, least, most, left_out, help))
     }
 
     /// An option with a number in a range, which has to be given.
@@ -187,7 +201,7 @@ impl<'a> Arguments<'a> {
     }
 
     /// The delay of gates that state none, as two options.
-    pub(crate) fn default_delay(&mut self) -> Result<(), AllocError>
+    fn default_delay(&mut self) -> Result<(), AllocError>
         ensures { OnOk result (TellsMore with_default self.old self.new) }
     {
         self.number(
@@ -203,6 +217,17 @@ impl<'a> Arguments<'a> {
             Delay::MAX,
             "1",
             "Fall delay in steps of gates without a delay",
+        )
+    }
+
+    /// What all commands take: the delay of gates that state none, and whether hints stand after a refusal.
+    pub(crate) fn common(&mut self) -> Result<(), AllocError>
+        ensures { OnOk result (TellsMore with_common self.old self.new) }
+    {
+        self.default_delay()?;
+        self.flag(
+            "hints",
+            "After the line of a refusal, says on standard error what it means and what to do",
         )
     }
 
@@ -282,7 +307,7 @@ impl<'a> Arguments<'a> {
     {
         self.flag(
             "path",
-            "Behind the other lines, the changes that lead to the last change of the given pair, as `path` prints them",
+            "After the other lines, the changes that lead to the last change of the given pair, as `path` prints them",
         )?;
         self.flag(
             "progress",
@@ -314,36 +339,49 @@ impl<'a> Arguments<'a> {
             "strategy",
             "NAME",
             names,
-            "least",
-            "How the search goes. `lead` is for circuits where `least` doesn't end, as adders, comparators and multipliers: \
-it climbs to a first pair, each of several workers with a seed of its own, and bounds by edges; its certificates are of version 4",
+            "auto",
+            "How the search goes. `least` and `lead` split cubes of pairs; `lead` climbs to a first pair and bounds by edges, and its \
+certificates are of version 4. `refute` asks a solver which changes of nets are impossible, and its certificates are of version 5. \
+`auto` is `least` for 10,000 nodes, then `lead` for 50,000, then `refute`, until one of them ends",
         )
+    }
+
+    /// How many threads search, as an option.
+    fn workers(&mut self) -> Result<(), AllocError>
+        ensures { OnOk result (TellsRule (with_letter workers_letter (number_option (codes "workers") 1 64 (codes "1"))) self.old self.new) }
+    {
+        let workers = number(
+            self.alloc,
+            "workers",
+            1,
+            MOST_WORKERS,
+            "1",
+            "How many threads search, from 1 to 64",
+        );
+        self.add(workers.short('j'))
+    }
+
+    /// Where a certificate goes, as an option.
+    fn certificate_out(&mut self, help: &'a str) -> Result<(), AllocError>
+        ensures { OnOk result (TellsRule (with_letter out_letter (option (codes "cert"))) self.old self.new) }
+    {
+        self.add(option(self.alloc, "cert", "OUT", help).short('o'))
     }
 
     /// How a search goes, and where its certificate goes, as options.
     fn search(&mut self, strategies: &'a [&'a str]) -> Result<(), AllocError>
         ensures { OnOk result (TellsMore (with_search strategies.entry) self.old self.new) }
     {
-        self.number(
-            "workers",
-            1,
-            MOST_WORKERS,
-            "1",
-            "How many threads search, from 1 to 64",
-        )?;
+        self.workers()?;
         self.strategy(strategies)?;
         self.number(
             "budget",
             0,
             MOST_NODES,
             "1000000",
-            "The most nodes of the tree of cubes that are handled",
+            "The most nodes of trees of cubes that are handled, and the most conflicts that a solver meets",
         )?;
-        self.option(
-            "cert",
-            "OUT",
-            "Writes the certificate of an exact answer to this file",
-        )
+        self.certificate_out("Writes the certificate of an exact answer to this file")
     }
 
     /// The netlist, the pairs that a search of its worst delay admits, and how the search goes.
@@ -376,11 +414,7 @@ it climbs to a first pair, each of several workers with a seed of its own, and b
             "CERT",
             "The certificates of the parts, each a path, or `-` or `stdin` for standard input",
         )?;
-        self.option(
-            "cert",
-            "OUT",
-            "Writes the certificate of the whole question to this file",
-        )?;
+        self.certificate_out("Writes the certificate of the whole question to this file")?;
         self.flag(
             "check",
             "Checks the certificate of each part before it is joined, as `check` does",

@@ -62,6 +62,8 @@ pub struct BoundRequest<'a> {
 pub enum StrategyWord {
     Least,
     Lead,
+    Refute,
+    Auto,
 }
 
 /// The search for the worst delay.
@@ -280,6 +282,8 @@ fn strategy(matches: &ArgMatches<'_>) -> Option<StrategyWord>
     match matches.get_str("strategy")? {
         "least" => Some(StrategyWord::Least),
         "lead" => Some(StrategyWord::Lead),
+        "refute" => Some(StrategyWord::Refute),
+        "auto" => Some(StrategyWord::Auto),
         _ => None,
     }
 }

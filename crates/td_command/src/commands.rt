@@ -66,7 +66,7 @@ impl<'a> Commands<'a> {
         arguments.pair()?;
         arguments.moments()?;
         arguments.vcd()?;
-        arguments.default_delay()?;
+        arguments.common()?;
         self.add(
             "sim",
             "Simulates one pair of vectors: when each output changes last",
@@ -82,7 +82,7 @@ impl<'a> Commands<'a> {
         arguments.pair()?;
         arguments.moments()?;
         arguments.output()?;
-        arguments.default_delay()?;
+        arguments.common()?;
         self.add(
             "path",
             "Tells why an output changes last when it does: the changes that lead there from an input",
@@ -99,7 +99,7 @@ impl<'a> Commands<'a> {
         arguments.cube(FREE_HELP)?;
         arguments.moments()?;
         arguments.edges()?;
-        arguments.default_delay()?;
+        arguments.common()?;
         self.add(
             "bound",
             "Bounds the delay of all pairs of vectors that two patterns allow",
@@ -115,7 +115,7 @@ impl<'a> Commands<'a> {
         arguments.searched(strategies)?;
         arguments.vcd()?;
         arguments.told()?;
-        arguments.default_delay()?;
+        arguments.common()?;
         self.add(
             "worst",
             "Searches for the worst delay of the admitted pairs of vectors, and a pair that has it",
@@ -133,7 +133,7 @@ impl<'a> Commands<'a> {
         arguments.admitted()?;
         arguments.moments()?;
         arguments.strategy(strategies)?;
-        arguments.default_delay()?;
+        arguments.common()?;
         self.add(
             "parts",
             "Cuts the question of `worst` into parts, and prints the options with which `worst` answers each",
@@ -149,7 +149,7 @@ impl<'a> Commands<'a> {
         arguments.file()?;
         arguments.joined()?;
         arguments.cube(WHOLE_HELP)?;
-        arguments.default_delay()?;
+        arguments.common()?;
         self.add(
             "join",
             "Joins the certificates of a question's parts into one of the whole question",
@@ -164,7 +164,7 @@ impl<'a> Commands<'a> {
         let mut arguments = Arguments::new(self.alloc);
         arguments.file()?;
         arguments.certificate()?;
-        arguments.default_delay()?;
+        arguments.common()?;
         self.add(
             "check",
             "Checks the certificate of a worst delay by the netlist alone, whoever wrote it",
@@ -178,7 +178,7 @@ impl<'a> Commands<'a> {
     {
         let mut arguments = Arguments::new(self.alloc);
         arguments.file()?;
-        arguments.default_delay()?;
+        arguments.common()?;
         self.add(
             "info",
             "Tells what is in a netlist: its size, its depth, its delays, and its inputs in the order of a vector's characters",
@@ -261,5 +261,5 @@ fn program<'a>(alloc: Global, strategies: &'a [&'a str]) -> Result<Command<'a>, 
 pub(crate) fn command<'a>(alloc: Global) -> Result<Command<'a>, AllocError>
     ensures { IfOk result (λ new. IsOfStrategies program_of (app_of new)) }
 {
-    program(alloc, &["least", "lead"])
+    program(alloc, &["least", "lead", "refute", "auto"])
 }

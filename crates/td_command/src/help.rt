@@ -1,7 +1,7 @@
-//! What help says behind the options of a command.
+//! What help says after the options of a command.
 
 /// The program's version, and the versions of certificates that it reads.
-pub const VERSION: &str = "1 (reads certificates of versions 1 to 4)";
+pub const VERSION: &str = "1 (reads certificates of versions 1 to 5)";
 
 pub const HELP: &str = "\
 Examples:
@@ -18,7 +18,8 @@ A vector has a character for each input, in the order of the module's port list,
 and of a port of several bits from its left number to its right one. `info` shows
 that order, a line for each input: `input 0 N1` is that of a vector's first character.
 FILE may be `-` for standard input.
-Standard output has one figure a line, a key and its value: docs/OUTPUT.md.
+Standard output has one figure a line, a key and its value: docs/MANUAL.md.
+With `--hints` a command that is refused says on standard error what to do, too.
 
 Exit status:
   0  done
@@ -44,7 +45,7 @@ Examples:
 pub const WORST_HELP: &str = "\
 Examples:
   tdelay worst c17.v --workers 4 --cert c17.cert --vcd c17.vcd
-  tdelay worst adder_8.v --strategy lead --cert adder_8.cert
+  tdelay worst adder_8.v --cert adder_8.cert
   tdelay worst c17.v --path
   tdelay worst c17.v --progress
 It ends with status 3 where the budget or memory cuts the search short.";

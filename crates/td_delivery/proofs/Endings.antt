@@ -3,7 +3,7 @@ use Rattle.std.proofs.Common.{◌≡◌, ◌≢◌, ◌⊎◌, ◌∙◌, ◌++�
 use Rattle.std.specs.Borrow.{Bor}
 use Rattle.clap.specs.declared.error.kind.ErrorKind.{ErrorKind}
 use Rattle.clap.specs.declared.error.kind.ErrorKind.TheVariants as kind
-use Rattle.td_gates.specs.Output.{Output, Sent, Failed}
+use Rattle.td_text.specs.Output.{Output, Sent, Failed}
 use Rattle.td_certificate.specs.declared.certificate.Certificate.{Certificate}
 use Rattle.td_certificate.specs.Spelling.{spelling}
 use Rattle.td_certificate.specs.declared.fault.WriteFault.{WriteFault}

@@ -2,7 +2,7 @@
 use Rattle.std.specs.Prelude.{◌≡◌, ℕ, List, ◌⊎◌, codes}
 use Rattle.clap.specs.declared.error.kind.ErrorKind.{ErrorKind}
 use Rattle.clap.specs.declared.error.kind.ErrorKind.TheVariants as kind
-use Rattle.td_gates.specs.Output.{Sent, Failed}
+use Rattle.td_text.specs.Output.{Sent, Failed}
 use Rattle.td_report.specs.declared.status.Status.{Status}
 use Rattle.td_report.specs.declared.status.Status.TheVariants.{Done, BadCommand, Device}
 use Rattle.td_report.specs.declared.refusal.Refusal.TheVariants as refusal

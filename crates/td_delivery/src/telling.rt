@@ -20,11 +20,11 @@ use clap::error::ErrorKind;
 use std::alloc::{AllocError, Global};
 use td_certificate::{Certificate, WriteFault, write};
 use td_files::{Files, ReadFault};
-use td_gates::Sink;
 use td_report::dumping::{Dump, write_dump};
 use td_report::refusal::Refusal;
 use td_report::status::Status;
 use td_report::text::Text;
+use td_text::Sink;
 
 /// What is shown beside the waves of a run: the report, unless they go to standard output.
 fn beside_dump<'a>(report: &'a Text, dump: &Option<Dump<'_>>) -> &'a [u8]

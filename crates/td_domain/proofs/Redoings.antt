@@ -147,48 +147,48 @@ module _ {Sig : Type 0} (functions : Functions Sig) (reach : Sig → ℕ) (circu
   }
 
   -- the place of the gate with the next output
-  pub numbered : (cone : List ℕ) (base : List Sig) (j inputs : ℕ) → CanRedo reach circuit cone base → j < length cone
-      → inputs ≡ length circuit.netlist.inputs
-      → (inputs + 2 ≤ get_or cone j 0) × (get_or cone j 0 - (inputs + 2) < length circuit.gates)
-      × (first_output circuit + (get_or cone j 0 - (inputs + 2)) ≡ get_or cone j 0)
-  numbered cone base j inputs can less count =
+  pub numbered : (cone : List ℕ) (base : List Sig) (j first : ℕ) → CanRedo reach circuit cone base → j < length cone
+      → first ≡ first_output circuit
+      → (first ≤ get_or cone j 0) × (get_or cone j 0 - first < length circuit.gates)
+      × (first_output circuit + (get_or cone j 0 - first) ≡ get_or cone j 0)
+  numbered cone base j first can less count =
       let it = can.gates (get_or cone j 0) (Contains-get_or cone j 0 less) in
       (omega (arith, it.1), omega (arith, it.1, it.2), omega (arith, it.1))
 
   -- one more output of the cone
   pub redo-next : ((kind : Kind) (delay : Delay) (signals : List Sig) (moment : ℕ) → All (λ signal. reach signal ≤ moment) signals
       → reach (functions.gate_of kind delay signals) ≤ moment + max delay.rise delay.fall)
-      → (cone : List ℕ) (j inputs : ℕ) (base signals after : List Sig) (gate : NumberedGate) (x : Sig)
-      → CanRedo reach circuit cone base → j < length cone → inputs ≡ length circuit.netlist.inputs
-      → slice_get circuit.gates (get_or cone j 0 - (inputs + 2)) ≡ Some gate
+      → (cone : List ℕ) (j first : ℕ) (base signals after : List Sig) (gate : NumberedGate) (x : Sig)
+      → CanRedo reach circuit cone base → j < length cone → first ≡ first_output circuit
+      → slice_get circuit.gates (get_or cone j 0 - first) ≡ Some gate
       → AreAllRedone functions reach circuit (take j cone) base signals
       → x ≡ functions.gate_of gate.kind gate.delay (filter_map (slice_get signals) gate.inputs)
       → after ≡ set signals (get_or cone j 0) x
       → AreAllRedone functions reach circuit (take (j + 1) cone) base after
-  redo-next law cone j inputs base signals after gate x can less count stands are is after_is =
-      let place = numbered cone base j inputs can less count in
+  redo-next law cone j first base signals after gate x can less count stands are is after_is =
+      let place = numbered cone base j first can less count in
       let there : slice_get cone j ≡ Some (get_or cone j 0) = get-slice_get cone j 0 (get_or cone j 0) less refl in
       let next : j + 1 ≡ suc j = omega arith in
-      let before : (output : ℕ) → Contains (take j cone) output → output < first_output circuit + (get_or cone j 0 - (inputs + 2)) = λ output has. (
+      let before : (output : ℕ) → Contains (take j cone) output → output < first_output circuit + (get_or cone j 0 - first) = λ output has. (
       let here = Contains-slice_get (take j cone) output has in
       let early = slice_get-take cone j here.0 output here.1 in
       omega (arith, can.rising here.0 j output (get_or cone j 0) early.0 early.1 there, place.2)) in
-      let step = redo-step law (take j cone) base signals (get_or cone j 0 - (inputs + 2)) gate x stands can.count before are is in
+      let step = redo-step law (take j cone) base signals (get_or cone j 0 - first) gate x stands can.count before are is in
       rw (after_is, next, take_push cone j (get_or cone j 0) there) (rw place.2 at step)
 
   -- the same, where the gate is told by its place
   pub redo-next-at : ((kind : Kind) (delay : Delay) (signals : List Sig) (moment : ℕ) → All (λ signal. reach signal ≤ moment) signals
       → reach (functions.gate_of kind delay signals) ≤ moment + max delay.rise delay.fall)
-      → (cone : List ℕ) (j inputs : ℕ) (base signals after : List Sig)
-      → CanRedo reach circuit cone base → j < length cone → inputs ≡ length circuit.netlist.inputs
+      → (cone : List ℕ) (j first : ℕ) (base signals after : List Sig)
+      → CanRedo reach circuit cone base → j < length cone → first ≡ first_output circuit
       → AreAllRedone functions reach circuit (take j cone) base signals
-      → ((gate : NumberedGate) → slice_get circuit.gates (get_or cone j 0 - (inputs + 2)) ≡ Some gate
-      → after ≡ set signals (first_output circuit + (get_or cone j 0 - (inputs + 2))) (functions.gate_of gate.kind gate.delay (filter_map (slice_get signals) gate.inputs)))
+      → ((gate : NumberedGate) → slice_get circuit.gates (get_or cone j 0 - first) ≡ Some gate
+      → after ≡ set signals (first_output circuit + (get_or cone j 0 - first)) (functions.gate_of gate.kind gate.delay (filter_map (slice_get signals) gate.inputs)))
       → AreAllRedone functions reach circuit (take (j + 1) cone) base after
-  redo-next-at law cone j inputs base signals after can less count are is =
-      let place = numbered cone base j inputs can less count in
-      let it = slice_get-within circuit.gates (get_or cone j 0 - (inputs + 2)) place.1 in
-      redo-next law cone j inputs base signals after it.0
+  redo-next-at law cone j first base signals after can less count are is =
+      let place = numbered cone base j first can less count in
+      let it = slice_get-within circuit.gates (get_or cone j 0 - first) place.1 in
+      redo-next law cone j first base signals after it.0
       (functions.gate_of it.0.kind it.0.delay (filter_map (slice_get signals) it.0.inputs))
       can less count it.1 are refl
       (is it.0 it.1 ∙ ap (λ n. set signals n (functions.gate_of it.0.kind it.0.delay (filter_map (slice_get signals) it.0.inputs))) place.2)

@@ -4,6 +4,7 @@ pub mod Waves
 pub mod Functions
 pub mod Bounds
 pub mod Admits
+pub mod PairBits
 pub mod FewestFlips
 pub mod Worst
 pub mod Laws

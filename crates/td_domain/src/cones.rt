@@ -14,15 +14,14 @@ pub fn cone(alloc: Global, circuit: &Circuit, net: usize) -> Result<Vec<u32>, Al
     ensures { IfOk result (λ cone. IsCone circuit.now net cone.items) }
 {
     let gates = circuit.gates();
-    let first = circuit.input_count() + 2;
     let mut reached = vec![in alloc; false; circuit.net_count()]?;
     reached[net] = true;
     let mut cone = Vec::new(alloc);
     for (place, gate) in gates.iter().enumerate() {
         if reads_one(&reached, &gate.inputs) {
-            let output = first + place;
-            reached[output] = true;
-            cone.push(output as u32)?;
+            let output = circuit.net_of_gate(place);
+            reached[output as usize] = true;
+            cone.push(output)?;
         }
     }
     Ok(cone)

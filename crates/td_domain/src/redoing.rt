@@ -13,37 +13,50 @@ use crate::cubes::Cube;
 use crate::domain::Domain;
 use crate::undoing::{Replaced, put, undo};
 use std::alloc::AllocError;
-use td_circuit::Circuit;
+use td_circuit::{Circuit, Net};
 
-/// Makes the signals of the cube from those of the same cube with this position free, where the position's input reaches
-/// the outputs in `cone`, and answers what it replaced. Only gates that read a changed signal are evaluated; `changed` is room
-/// for a mark of each net, and `room` for what is replaced. The error is want of memory: the signals are then as before.
+/// A cube with one more position known than the signals at hand are of, and the outputs that the position's input reaches.
+#[derive(Clone, Copy)]
+pub struct Narrower<'a> {
+    pub cube: &'a Cube,
+    pub position: usize,
+    pub cone: &'a [Net],
+}
+
+/// Makes the signals of the narrower cube from those of the same cube with the position free, and answers what it replaced.
+/// Only gates that read a changed signal are evaluated; `changed` has a mark for each net, and `spare` is an empty list for what
+/// is replaced. The error is out of memory: the signals are then as before.
 pub fn redo<D: Domain>(
     scratch: &mut D::Scratch,
     circuit: &Circuit,
-    cube: &Cube,
-    position: usize,
-    cone: &[u32],
+    narrower: Narrower<'_>,
     signals: &mut [D::Sig],
     changed: &mut [bool],
-    room: Vec<Replaced<D::Sig>>,
+    spare: Vec<Replaced<D::Sig>>,
 ) -> Result<Vec<Replaced<D::Sig>>, AllocError>
-    requires position { position < length cube.now }
-    requires page { IsPage D.functions D.reach circuit.now (record { cube = set cube.now position Free; signals = signals.old }) }
-    requires cone { IsCone circuit.now (2 + position / 2) cone.now }
+    requires position { narrower.position < length narrower.cube.now }
+    requires page { IsPage D.functions D.reach circuit.now (record { cube = set narrower.cube.now narrower.position Free; signals = signals.old }) }
+    requires cone { IsCone circuit.now (2 + narrower.position / 2) narrower.cone.now }
     requires marks { length changed.old ≡ length signals.old }
-    requires room { room.items ≡ [] }
-    ensures page { OnOk result (IsPage D.functions D.reach circuit.now (record { cube = cube.now; signals = signals.new })) }
+    requires spare { spare.items ≡ [] }
+    ensures page { OnOk result (IsPage D.functions D.reach circuit.now (record { cube = narrower.entry.cube.now; signals = signals.new })) }
     ensures undone { IfOk result (λ replaced. undone signals.new replaced.items ≡ signals.old) }
     ensures within { IfOk result (λ replaced. AreWithin (length signals.old) replaced.items) }
     ensures len { length signals.new ≡ length signals.old }
     ensures marks { length changed.new ≡ length changed.old }
     ensures refused { OnErr result (signals.new ≡ signals.old) }
 {
+    // For the prover: this call says that the gates are in order.
     let _numbering = circuit.gates();
     let moments = circuit.moments();
+    let Narrower {
+        cube,
+        position,
+        cone,
+    } = narrower;
     let input = position / 2;
-    let mut replaced = room;
+    let net = circuit.net_of_input(input) as usize;
+    let mut replaced = spare;
     replaced.reserve(cone.len() + 1)?;
     let signal = D::input(
         scratch,
@@ -51,9 +64,9 @@ pub fn redo<D: Domain>(
         cube.trit(2 * input + 1),
         moments[input],
     )?;
-    put(signals, &mut replaced, 2 + input, signal);
+    put(signals, &mut replaced, net, signal);
     changed.fill(false);
-    changed[2 + input] = true;
+    changed[net] = true;
     match redo_gates::<D>(scratch, circuit, cone, signals, changed, &mut replaced) {
         Ok(()) => Ok(replaced),
         Err(error) => {
@@ -83,8 +96,9 @@ fn redo_gates<D: Domain>(
     ensures len { length signals.new ≡ length signals.old }
     ensures marks { length changed.new ≡ length changed.old }
 {
+    // For the prover: this call says that the gates are in order.
     let _numbering = circuit.gates();
-    let first = circuit.input_count() + 2;
+    let first = circuit.first_gate() as usize;
     for output in cone {
         let net = *output as usize;
         redo_gate::<D>(scratch, circuit, net - first, signals, changed, replaced)?;
@@ -159,7 +173,7 @@ fn evaluate<D: Domain>(
     let gates = circuit.gates();
     let gate = &gates[place];
     let signal = D::gate(scratch, gate.kind, gate.delay, signals, &gate.inputs)?;
-    let net = circuit.input_count() + 2 + place;
+    let net = circuit.net_of_gate(place) as usize;
     if D::is_same(&signal, &signals[net]) {
         D::release(scratch, signal);
         return Ok(());

@@ -14,7 +14,7 @@ use crate::bounding::{greatest_last, signals};
 use crate::cones::cone;
 use crate::cubes::{Cube, Trit};
 use crate::domain::Domain;
-use crate::redoing::redo;
+use crate::redoing::{Narrower, redo};
 use crate::undoing::{Narrowing, Replaced, put_aside, taken_room, undo};
 use std::alloc::{AllocError, Global};
 use std::marker::Model;
@@ -127,9 +127,11 @@ impl<D: Domain> Sheet<D> {
         let redone = redo::<D>(
             &mut self.scratch,
             circuit,
-            &self.cube,
-            position,
-            &cone,
+            Narrower {
+                cube: &self.cube,
+                position,
+                cone: &cone,
+            },
             &mut self.signals,
             &mut self.changed,
             room,

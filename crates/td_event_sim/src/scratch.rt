@@ -48,7 +48,7 @@ impl Scratch {
         ensures { IfOk result (IsFor circuit.now) }
     {
         let gates = circuit.gates();
-        let first_output = circuit.input_count() + 2;
+        let first_output = circuit.first_gate() as usize;
         let readers = readers(alloc, gates, first_output, circuit.net_count())?;
         let state = State::new(alloc, circuit)?;
         let cache = Cache::new(alloc, circuit.input_count())?;

@@ -197,7 +197,7 @@ impl State {
         ensures waiting { OnOk result (AreWaiting self.new.events.queue self.new.events.whens.items) }
         ensures from { OnOk result (IsFrom (moment + 1) self.new.events.queue.firsts) }
     {
-        let first_output = circuit.input_count() + 2;
+        let first_output = circuit.first_gate() as usize;
         self.events.queue.take(moment, &mut lists.taken);
         self.update(
             &mut lists.turned,

@@ -1,6 +1,6 @@
 -- What is done to files, and the texts that are written to them.
 use Rattle.std.specs.Prelude.{◌≡◌, ◌⊎◌, ℕ, List, [], ◌∷◌, ◌++◌, Option, Some, None}
-use Rattle.td_gates.specs.Output.{Output, Sent, SentFront, one_more}
+use Rattle.td_text.specs.Output.{Output, Sent, SentFront, one_more}
 use Rattle.td_certificate.specs.declared.fault.WriteFault.{WriteFault}
 use Rattle.td_certificate.specs.declared.fault.WriteFault.TheVariants as unwritten
 

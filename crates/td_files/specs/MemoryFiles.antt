@@ -1,7 +1,7 @@
 -- Files in memory.
 use Rattle.std.proofs.Common.{◌≡◌, ◌<◌, ◌≤◌, ◌⊎◌, ◌∙◌, ℕ, List, [], ◌++◌, length, map, find, option_map, bytes_eq, Option, Some, None, sym, ap, append-nil, append_assoc}
 use Rattle.std.specs.Borrow.{Bor}
-use Rattle.td_gates.specs.MemorySinks.{output_of}
+use Rattle.td_text.specs.MemorySinks.{output_of}
 use Rattle.td_files.specs.declared.memory_files.MemoryFile.{MemoryFile}
 use Rattle.td_files.specs.declared.memory_files.MemoryStep.{MemoryStep}
 use Rattle.td_files.specs.declared.memory_files.MemoryStep.TheVariants as step

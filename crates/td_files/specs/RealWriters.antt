@@ -1,6 +1,6 @@
 -- Internal: what went out by a writer of the system.
 use Rattle.std.specs.Prelude.{ℕ, List, Option}
-use Rattle.td_gates.specs.Output.{Output}
+use Rattle.td_text.specs.Output.{Output}
 use Rattle.td_files.specs.declared.real_files.RealWriter.{RealWriter}
 use Rattle.td_files.specs.declared.real_files.RealWriter.TheVariants.{File, Output as Standard}
 

@@ -3,7 +3,7 @@
 use std::alloc::Global;
 use std::io;
 use td_certificate::WriteFault;
-use td_gates::Sink;
+use td_text::Sink;
 
 /// Why a file couldn't be read.
 #[derive(Clone, Copy, Drop)]

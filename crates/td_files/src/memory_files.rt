@@ -6,7 +6,7 @@ ghost use Rattle.td_files.specs.MemoryFiles.{bytes_of, made_name, ended_file};
 use crate::disk::{Files, ReadFault};
 use std::alloc::{AllocError, Global};
 use td_certificate::WriteFault;
-use td_gates::MemorySink;
+use td_text::MemorySink;
 
 /// A file that was written.
 #[derive(Drop)]
@@ -135,7 +135,7 @@ fn found<'a>(files: &[(&'a str, &'a [u8])], name: &str) -> Option<&'a [u8]>
 
 impl<'a> Files for MemoryFiles<'a> {
     ghost use Rattle.std.specs.Prelude.{◌≡◌, ◌↔◌, ◌++◌, ◌∷◌, [], IsTrue, IfOk, IfErr, OnErr, map};
-    ghost use Rattle.td_gates.specs.MemorySinks.{output_of};
+    ghost use Rattle.td_text.specs.MemorySinks.{output_of};
     ghost use Rattle.td_certificate.specs.declared.fault.WriteFault.TheVariants as Unwritten;
     ghost use Rattle.td_files.specs.Files.{Made};
     ghost use Rattle.td_files.specs.MemoryFiles.{Reads, FailsOn, IsAfter, after_nothing, after_both};

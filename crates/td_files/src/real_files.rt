@@ -14,7 +14,7 @@ use std::os::unix::fs::MetadataExt;
 use std::path::Path;
 use std::{fs, io, rt};
 use td_certificate::WriteFault;
-use td_gates::{DeviceFault, Sink};
+use td_text::{DeviceFault, Sink};
 
 /// How many names are tried for a file that is written beside the one whose place it takes.
 const TRIES: u32 = 100;

@@ -1,7 +1,7 @@
 //! Writers of the system as sinks.
 
 use std::io::Write;
-use td_gates::{DeviceFault, Sink};
+use td_text::{DeviceFault, Sink};
 
 /// A sink over a writer. What went out is what the writer holds, where that is known.
 #[derive(Drop)]

@@ -52,7 +52,7 @@ fn names_of(alloc: Global, circuit: &Circuit) -> Result<Vec<u64>, AllocError> {
     for net in 0..circuit.net_count() {
         names.push(net as u64)?;
     }
-    let first = (circuit.input_count() as u64).saturating_add(2);
+    let first = circuit.first_gate() as u64;
     for (gate, net) in circuit.gate_outputs().iter().enumerate() {
         write_at(&mut names, *net as usize, first.saturating_add(gate as u64));
     }
@@ -77,7 +77,7 @@ impl Formula {
             alloc,
             cube: admit.pins().copy(alloc)?,
             sets,
-            first_output: circuit.input_count().saturating_add(2),
+            first_output: circuit.first_gate() as usize,
             names,
             solver: Solver::new(alloc),
             numbers,

@@ -24,7 +24,7 @@ fn depths_of(alloc: Global, circuit: &Circuit) -> Result<Vec<u32>, AllocError>
     ensures numbering { IsNumbering circuit.now }
 {
     let gates = circuit.gates();
-    let mut depths = vec![in alloc; 0; circuit.input_count() + 2]?;
+    let mut depths = vec![in alloc; 0; circuit.first_gate() as usize]?;
     for gate in gates {
         let below = deepest_of(&depths, &gate.inputs);
         depths.push(below + 1)?;

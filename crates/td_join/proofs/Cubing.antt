@@ -5,7 +5,7 @@ use Rattle.td_gates.proofs.Places.{none-some}
 use Rattle.td_domain.specs.declared.cubes.Trit.{Trit}
 use Rattle.td_domain.specs.declared.cubes.Trit.TheVariants.{Zero, One, Free}
 use Rattle.td_domain.specs.Cubes.{Allows, AllowsBits}
-use Rattle.td_domain.proofs.Bits.{some_trit, allows_free}
+use Rattle.td_domain.proofs.BitLemmas.{some_trit, allows_free}
 
 pub same_trits : (this that : Trit) → some_trit this ≡ some_trit that → this ≡ that
 same_trits this that e = cc

@@ -23,6 +23,7 @@ fn alike(first: &Certificate, place: usize, other: &Certificate) -> Result<(), J
     ensures fit { HasFit other.now }
     ensures fault { IfErr result (IsUnlike first.now other.now place) }
 {
+    // For the prover: these calls say that there is one tree, and two pins for each input.
     let _nodes = other.tree.nodes();
     let _pins = other.question.admit().pins();
     if first.gates != other.gates || first.question.inputs() != other.question.inputs() {

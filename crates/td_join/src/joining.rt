@@ -56,6 +56,7 @@ fn join_alike(
 {
     without_false_none(&question, &certificates)?;
     let admit = question.admit();
+    // For the prover: this call says that there are two pins for each input.
     let _fit = admit.pins();
     let first = &certificates[greatest(&certificates)];
     let time = first.time;
@@ -92,6 +93,7 @@ fn question_with(alloc: Global, first: &Certificate, pins: Cube) -> Result<Quest
     ensures { IfOk result (λ question. question ≡ with_pins first.now.question pins) }
 {
     let admit = first.question.admit();
+    // For the prover: this call says that there are two pins for each input.
     let _fit = admit.pins();
     let held = Vec::from_slice(alloc, admit.held())?;
     let flips = admit.flips();

@@ -123,7 +123,7 @@ fn walk_back(feeds: &mut [bool], circuit: &Circuit, signals: &[Signal], output: 
     ensures { length feeds.new ≡ length feeds.old }
 {
     let gates = circuit.gates();
-    let first = circuit.input_count() + 2;
+    let first = circuit.first_gate() as usize;
     let is_open = signals[output].finish == Level::X;
     feeds.fill(false);
     feeds[output] = may_pass(&signals[output], is_open);
@@ -166,6 +166,7 @@ fn widest(
     ensures free { IfSome result (λ position. slice_get cube.now position ≡ Some Free) }
     ensures reached { length reached.new ≡ length reached.old }
 {
+    // For the prover: this call says that the gates are in order.
     let _numbering = circuit.gates();
     let inputs = circuit.input_count();
     let mut most = 0;
@@ -176,7 +177,8 @@ fn widest(
         if place == 0 {
             digits = spread(reached, feeds, circuit, cube, output, half, input);
         }
-        if feeds[2 + input] && cube.trit(2 * input + half) == Trit::Free {
+        let net = circuit.net_of_input(input) as usize;
+        if feeds[net] && cube.trit(2 * input + half) == Trit::Free {
             let count = count_at(&digits, place);
             if position.is_none() || count > most {
                 most = count;
@@ -207,12 +209,13 @@ fn spread(
 {
     let gates = circuit.gates();
     let inputs = circuit.input_count();
-    let first = inputs + 2;
+    let first = circuit.first_gate() as usize;
     let mut digits = [0; DIGITS];
     let mut is_any = false;
     for input in 0..inputs {
-        let is_followed = feeds[2 + input] && cube.trit(2 * input + half) == Trit::Free;
-        reached[2 + input] = if is_followed && start <= input && input - start < BATCH {
+        let net = circuit.net_of_input(input) as usize;
+        let is_followed = feeds[net] && cube.trit(2 * input + half) == Trit::Free;
+        reached[net] = if is_followed && start <= input && input - start < BATCH {
             is_any = true;
             1 << (input - start)
         } else {

@@ -1,8 +1,5 @@
 //! Pairs with their delays.
 
-ghost use Rattle.std.specs.Prelude.{◌≡◌, IfOk};
-
-use std::alloc::{AllocError, Global};
 use td_domain::Pair;
 
 /// A pair and its delay in steps.
@@ -10,18 +7,4 @@ use td_domain::Pair;
 pub struct Timed {
     pub pair: Pair,
     pub time: u64,
-}
-
-impl Timed {
-    ghost use Rattle.std.specs.Prelude.{◌≡◌, IfOk};
-
-    /// The same pair and delay again.
-    pub(crate) fn copy(&self, alloc: Global) -> Result<Self, AllocError>
-        ensures { IfOk result (λ timed. timed ≡ self.now) }
-    {
-        Ok(Timed {
-            pair: self.pair.copy(alloc)?,
-            time: self.time,
-        })
-    }
 }

@@ -8,7 +8,7 @@ use Rattle.td_syntax.specs.Grammar.{ArePorts, IsItem, unit_exponent}
 use Rattle.td_netlist.specs.declared.fault.Fault.{Fault}
 use Rattle.td_nets.specs.Netlist.{Gate}
 use Rattle.td_netlist.specs.declared.fault.FaultKind.{FaultKind}
-use Rattle.td_netlist.specs.Faults.{Fails, told, UnlessMemory, ◌>>=◌}
+use Rattle.td_netlist.specs.Faults.{Fails, reported, UnlessMemory, ◌>>=◌}
 use Rattle.td_netlist.specs.Module.{terminals_in, Primitive, primitives, gates_of}
 use Rattle.td_netlist.specs.NameFaults.{IsNameFault}
 use Rattle.td_netlist.specs.Making.{with_gates}
@@ -24,13 +24,13 @@ abbrev as_checked : {A : Type 0} → A → Result A Fault
 as_checked x = Ok x
 
 -- where a check passes, its function fails for want of memory alone, which says nothing
-untold_by : {A B : Type 0} (k : Option FaultKind) (line : ℕ) (x : A) (s : Result B Fault)
+unreported_by : {A B : Type 0} (k : Option FaultKind) (line : ℕ) (x : A) (s : Result B Fault)
     → MatchOption k (Unit {0}) (λ j. as_checked x ≡ Err (record { kind = j; line = line })) → MatchOption k (Unit {0}) (λ j. s ≡ Err (record { kind = j; line = line }))
-untold_by None line x s e = tt
-untold_by (Some k) line x s e = absurd cc
+unreported_by None line x s e = tt
+unreported_by (Some k) line x s e = absurd cc
 
-pub untold : {A B : Type 0} (r : Result A Fault) (x : A) (s : Result B Fault) → r ≡ Ok x → (f : Fault) → Fails f r → Fails f s
-untold r x s is f fails = untold_by (told f.kind) f.line x s (subst (λ (q : Result _ Fault). Fails f q) is fails)
+pub unreported : {A B : Type 0} (r : Result A Fault) (x : A) (s : Result B Fault) → r ≡ Ok x → (f : Fault) → Fails f r → Fails f s
+unreported r x s is f fails = unreported_by (reported f.kind) f.line x s (subst (λ (q : Result _ Fault). Fails f q) is fails)
 
 same_ok : {A : Type 0} (r s : Result A Fault) (x y : A) → r ≡ s → r ≡ Ok x → s ≡ Ok y → x ≡ y
 same_ok r s x y same e f = cc
@@ -75,4 +75,4 @@ module _ (m : grammar.Module) (ports : ArePorts m.ports) where
         gates_fault f fails = memory_breaks m (each (with_gates names tens default) [] qs) (gates_of default m) all_gates f fails
 
         pub gates_first : (f : Fault) → Fails f (each (with_gates names tens default) [] qs) → Fails f (checked_at m)
-        gates_first f fails = untold (each (with_gates names tens default) [] qs) (gates_of default m) (checked_at m) all_gates f fails
+        gates_first f fails = unreported (each (with_gates names tens default) [] qs) (gates_of default m) (checked_at m) all_gates f fails

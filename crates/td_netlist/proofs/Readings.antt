@@ -18,7 +18,7 @@ use Rattle.td_nets.specs.declared.netlist.Gate as code_gate
 use Rattle.td_nets.specs.Netlist.{Name, Gate, Netlist}
 use Rattle.td_nets.specs.Views.{name_of, gate_of, netlist_from}
 use Rattle.td_netlist.specs.FirstPass.{kind_from}
-use Rattle.td_netlist.specs.Faults.{Fails, told, UnlessMemory, IsUnlessMemory}
+use Rattle.td_netlist.specs.Faults.{Fails, reported, UnlessMemory, IsUnlessMemory}
 use Rattle.td_nets.specs.declared.netlist.Unit.{Unit as Step}
 use Rattle.td_netlist.specs.PlacedNets.{nets_at}
 use Rattle.td_netlist.specs.Module.{is_input, is_output, ports_as, gates_of, primitives, defaulted_of, unit_of, netlist_in}
@@ -43,7 +43,7 @@ one_netlist text default n k p q = p.lists ∙ ap (λ (m : grammar.Module). netl
 
 -- ---- what a fault of the checks says
 
-breaks_by : (m : grammar.Module) (k : FaultKind) (line : ℕ) → MatchOption (told k) (Unit {0}) (λ j. IsNameFault j line m) → UnlessMemory k (IsNameFault k line m)
+breaks_by : (m : grammar.Module) (k : FaultKind) (line : ℕ) → MatchOption (reported k) (Unit {0}) (λ j. IsNameFault j line m) → UnlessMemory k (IsNameFault k line m)
 breaks_by m kind.OutOfMemory line at = tt
 breaks_by m k line at = at
 
@@ -53,7 +53,7 @@ refused_by m checked breaks None line e = tt
 refused_by m checked breaks (Some k) line e = breaks (record { kind = k; line = line }) e
 
 pub fault_breaks : {Y : Type 0} (m : grammar.Module) (checked : Result Y Fault) → ((f : Fault) → checked ≡ Err f → IsNameFault f.kind f.line m) → (f : Fault) → Fails f checked → UnlessMemory f.kind (IsNameFault f.kind f.line m)
-fault_breaks m checked breaks f e = breaks_by m f.kind f.line (refused_by m checked breaks (told f.kind) f.line e)
+fault_breaks m checked breaks f e = breaks_by m f.kind f.line (refused_by m checked breaks (reported f.kind) f.line e)
 
 ok_no_err : {Y : Type 0} (checked : Result Y Fault) (y : Y) (f : Fault) → checked ≡ Ok y → checked ≡ Err f → ⊥
 ok_no_err checked y f is e = cc
@@ -65,7 +65,7 @@ memory_breaks m checked y is f e = fault_breaks m checked (λ g other. absurd (o
 -- ---- what the text means
 
 -- a fault of the grammar is the first one of the text
-pub first_by : (text : List ℕ) (k : syntax_kind.FaultKind) (line : ℕ) → MatchOption (syntax_faults.told k) (Unit {0}) (λ j. syntax_of text ≡ Err (syntax_faults.fault j line))
+pub first_by : (text : List ℕ) (k : syntax_kind.FaultKind) (line : ℕ) → MatchOption (syntax_faults.reported k) (Unit {0}) (λ j. syntax_of text ≡ Err (syntax_faults.fault j line))
     → IsFaultIn text (kind_from k) line
 first_by text syntax.OutOfMemory line e = tt
 first_by text syntax.BadByte line e = inl (record { first = syntax_faults.fault syntax_faults.BadByte line; stands = e; of_kind = refl; there = refl })
@@ -78,7 +78,7 @@ first_by text syntax.DelayTooLarge line e = inl (record { first = syntax_faults.
 first_by text syntax.TooMany line e = inl (record { first = syntax_faults.fault syntax_faults.TooMany line; stands = e; of_kind = refl; there = refl })
 
 broken_by : (text : List ℕ) (m : grammar.Module) (k : FaultKind) (line : ℕ) → Parses text m → UnlessMemory k (IsNameFault k line m)
-    → MatchOption (told k) (Unit {0}) (λ j. checked_at m ≡ Err (record { kind = j; line = line })) → IsFaultIn text k line
+    → MatchOption (reported k) (Unit {0}) (λ j. checked_at m ≡ Err (record { kind = j; line = line })) → IsFaultIn text k line
 broken_by text m kind.OutOfMemory line p at e = tt
 broken_by text m kind.BadByte line p at e = inr (record { tree = m; parses = p; breaks = at; first = e })
 broken_by text m kind.UnexpectedEnd line p at e = inr (record { tree = m; parses = p; breaks = at; first = e })
@@ -123,20 +123,20 @@ module _ (text : List ℕ) (m : grammar.Module) (default : Delay) (p : Parses te
   only_as (Ok netlist) is breaks n means = only_by netlist n is means
   only_as (Err e) is breaks n means = only_memory e.kind e.line n breaks means
 
-untold_by : {Y : Type 0} (k : syntax_kind.FaultKind) (line : ℕ) (y : Y) → MatchOption (syntax_faults.told k) (Unit {0}) (λ j. parsed_as y ≡ Err (syntax_faults.fault j line)) → kind_from k ≡ kind.OutOfMemory
-untold_by syntax.OutOfMemory line y e = refl
-untold_by syntax.BadByte line y e = absurd cc
-untold_by syntax.UnexpectedEnd line y e = absurd cc
-untold_by syntax.Syntax line y e = absurd cc
-untold_by (syntax.OutOfSubset w) line y e = absurd cc
-untold_by syntax.ZeroDelay line y e = absurd cc
-untold_by syntax.DelayTooFine line y e = absurd cc
-untold_by syntax.DelayTooLarge line y e = absurd cc
-untold_by syntax.TooMany line y e = absurd cc
+unreported_by : {Y : Type 0} (k : syntax_kind.FaultKind) (line : ℕ) (y : Y) → MatchOption (syntax_faults.reported k) (Unit {0}) (λ j. parsed_as y ≡ Err (syntax_faults.fault j line)) → kind_from k ≡ kind.OutOfMemory
+unreported_by syntax.OutOfMemory line y e = refl
+unreported_by syntax.BadByte line y e = absurd cc
+unreported_by syntax.UnexpectedEnd line y e = absurd cc
+unreported_by syntax.Syntax line y e = absurd cc
+unreported_by (syntax.OutOfSubset w) line y e = absurd cc
+unreported_by syntax.ZeroDelay line y e = absurd cc
+unreported_by syntax.DelayTooFine line y e = absurd cc
+unreported_by syntax.DelayTooLarge line y e = absurd cc
+unreported_by syntax.TooMany line y e = absurd cc
 
 -- where the text has a syntax tree, reading it fails for want of memory alone
 pub parse_memory : (e : syntax_fault.Fault) (m : grammar.Module) → syntax_faults.Fails e (Ok m) → kind_from e.kind ≡ kind.OutOfMemory
-parse_memory e m fails = untold_by e.kind e.line m fails
+parse_memory e m fails = unreported_by e.kind e.line m fails
 
 -- ---- the parts of a netlist
 

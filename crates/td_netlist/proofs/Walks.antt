@@ -5,7 +5,7 @@ use Rattle.std.specs.List.{AllByRecursion}
 use Rattle.std.proofs.lemmas.List.{drop_all}
 use Rattle.td_netlist.specs.declared.fault.FaultKind.{FaultKind}
 use Rattle.td_netlist.specs.declared.fault.Fault.{Fault}
-use Rattle.td_netlist.specs.Faults.{fault, told, Fails, ◌>>=◌}
+use Rattle.td_netlist.specs.Faults.{fault, reported, Fails, ◌>>=◌}
 use Rattle.td_netlist.specs.Checks.{each}
 
 module _ {S A X : Type 0} (step : S → A → Result S Fault) (view : X → A) (xs : List X) (i : ℕ) (d : X) (s : S) (total : Result S Fault) where
@@ -25,7 +25,7 @@ module _ {S A X : Type 0} (step : S → A → Result S Fault) (view : X → A) (
       sym h ∙ ap (λ (r : Result S Fault). r >>= λ u. each step u (map view (drop (suc i) xs))) e
 
   pub fails : (e : Fault) → i < length xs → Fails e (step s (view (get_or xs i d))) → each step s (map view (drop i xs)) ≡ total → Fails e total
-  fails e lt h so_far = fails_by (told e.kind) e.line lt h so_far
+  fails e lt h so_far = fails_by (reported e.kind) e.line lt h so_far
 
 pub ends : {S A X : Type 0} (step : S → A → Result S Fault) (view : X → A) (xs : List X) (i : ℕ) (s : S) (total : Result S Fault) → length xs ≤ i → each step s (map view (drop i xs)) ≡ total → total ≡ Ok s
 unfolding each
@@ -44,7 +44,7 @@ fails_on None line r f e = tt
 fails_on (Some k) line r f e = ap (λ (x : Result _ Fault). x >>= f) e
 
 pub fails_behind : {A B : Type 0} (e : Fault) (r : Result A Fault) (f : A → Result B Fault) → Fails e r → Fails e (r >>= f)
-fails_behind e r f fails = fails_on (told e.kind) e.line r f fails
+fails_behind e r f fails = fails_on (reported e.kind) e.line r f fails
 
 pub fails_as : {A : Type 0} (e : Fault) (r s : Result A Fault) → r ≡ s → Fails e r → Fails e s
 fails_as e r s same fails = subst (λ (x : Result _ Fault). Fails e x) same fails

@@ -1,5 +1,6 @@
--- Which fault is told: why a text is refused, and where.
+-- Which fault is reported: why a text is refused, and where.
 use Rattle.std.specs.Prelude.{◌≡◌, ℕ, Option, None, Some, Result, Ok, Err, MatchOption}
+pub use Rattle.td_syntax.specs.Faults.{◌>>=◌}
 use Rattle.td_netlist.specs.declared.fault.FaultKind.{FaultKind}
 use Rattle.td_netlist.specs.declared.fault.FaultKind.TheVariants as kind
 use Rattle.td_netlist.specs.declared.fault.Fault.{Fault}
@@ -8,12 +9,12 @@ abbrev pub fault : FaultKind → ℕ → Fault
 fault k line = record { kind = k; line = line }
 
 -- want of memory isn't a fault of the text
-abbrev pub told : FaultKind → Option FaultKind
-told kind.OutOfMemory = None
-told k = Some k
+abbrev pub reported : FaultKind → Option FaultKind
+reported kind.OutOfMemory = None
+reported k = Some k
 
 abbrev pub Fails : {Y : Type 0} → Fault → Result Y Fault → Type 0
-Fails e checked = MatchOption (told e.kind) (Unit {0}) (λ k. checked ≡ Err (fault k e.line))
+Fails e checked = MatchOption (reported e.kind) (Unit {0}) (λ k. checked ≡ Err (fault k e.line))
 
 -- What a function returned, seen by view, is what the check gives, unless memory ran out.
 abbrev pub Gives : {X Y : Type 0} → (X → Y) → Result X Fault → Result Y Fault → Type 0
@@ -24,11 +25,6 @@ Gives view (Err e) checked = Fails e checked
 abbrev pub IsUnlessMemory : {X : Type 0} → Result X Fault → X → Type 0
 IsUnlessMemory (Ok x) y = x ≡ y
 IsUnlessMemory (Err e) y = e.kind ≡ kind.OutOfMemory
-
-infixl 10 ◌>>=◌
-abbrev pub ◌>>=◌ : {A B : Type 0} → Result A Fault → (A → Result B Fault) → Result B Fault
-(Ok x) >>= f = f x
-(Err e) >>= f = Err e
 
 abbrev pub unless : {A : Type 0} → Option FaultKind → ℕ → A → Result A Fault
 unless None line x = Ok x

@@ -1,4 +1,4 @@
--- Which fault is told: the faults of tokens and grammar among all faults.
+-- Which fault is reported: the faults of tokens and grammar among all faults.
 use Rattle.std.specs.Prelude.{◌≡◌, ℕ, List, Option, None, Some, Err}
 use Rattle.td_syntax.specs.Faults as syntax_faults
 use Rattle.td_syntax.specs.FirstFault.{syntax_of}

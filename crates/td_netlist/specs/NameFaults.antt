@@ -1,4 +1,4 @@
--- Which fault is told of a text whose tokens are those of a module: what is wrong with a name or terminal on its line.
+-- Which fault is reported of a text whose tokens are those of a module: what is wrong with a name or terminal on its line.
 use Rattle.std.specs.Prelude.{◌≡◌, ℕ, ◌<◌, ◌⊎◌, List, ◌∷◌, ◌++◌, Err}
 use Rattle.std.specs.List.{Contains}
 use Rattle.td_syntax.specs.Grammar as grammar

@@ -18,11 +18,8 @@ use crate::name_ref::{Direction, NameRef, PlacedRef};
 use crate::names::Names;
 use crate::ranges::{Range, push_nets, range_of, width_of};
 use std::alloc::{AllocError, Global};
-use td_nets::SeededState;
+use td_nets::{MAX_INPUTS, SeededState};
 use td_syntax::{Item, Module, Name as Placed, Port, Ports, Role};
-
-/// The greatest number of inputs.
-const MAX_INPUTS: usize = 4_096;
 
 /// What is declared so far.
 #[derive(Drop)]
@@ -152,7 +149,7 @@ impl<'a> Lists<'a> {
             return Err(refused(FaultKind::PortUndeclared, name));
         }
         let inputs = self.inputs.saturating_add(input_bits(role, range));
-        if MAX_INPUTS < inputs {
+        if (MAX_INPUTS as usize) < inputs {
             return Err(refused(FaultKind::TooMany, name));
         }
         self.names.know(name, range)?;

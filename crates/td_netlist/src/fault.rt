@@ -8,7 +8,7 @@ ghost use Rattle.td_netlist.specs.Kinds.{kind_number, kind_name};
 use std::alloc::{AllocError, AllocFailed};
 use thiserror::Error;
 
-/// What is wrong with a text. A token that is told is borrowed from the text.
+/// What is wrong with a text. A token that is reported is borrowed from the text.
 #[derive(Clone, Copy, Debug, Error)]
 pub enum FaultKind<'a> {
     /// A growth was refused. The line says nothing.

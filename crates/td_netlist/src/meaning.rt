@@ -126,6 +126,7 @@ fn listed<'a>(
     let name = Vec::from_slice(alloc, source.name.name)?;
     let unit = unit(&source.fronts);
     let defaulted = defaulted_count(instances);
+    // For the prover: this read says that the delay is in range.
     let _rise = default.rise;
     Ok(Netlist::new(name, inputs, outputs, gates, unit, defaulted))
 }

@@ -235,11 +235,10 @@ fn cut_by(alloc: Global, problem: &Problem<'_>, parts: usize) -> Result<Vec<Cube
             cut_pins(&task, parts)
         }
         Strategy::Lead => {
-            let rule = Lead::new(problem.circuit, 1);
             let task = Task {
                 alloc,
                 problem,
-                rule: &rule,
+                rule: &Lead,
             };
             cut_pins(&task, parts)
         }

@@ -45,7 +45,7 @@ fn links_back(
     ensures { IfOk result (λ links. LeadsFrom circuit.now run.now last last_moment links.items) }
 {
     let gates = circuit.gates();
-    let first = circuit.input_count() + 2;
+    let first = circuit.first_gate() as usize;
     let mut links = Vec::new(alloc);
     let mut net = last;
     let mut moment = last_moment;
@@ -85,6 +85,7 @@ pub fn chain_of(
     requires net { net < length (nets circuit.now) }
     ensures { IfOk result (λ chain. Explains circuit.now run.now net chain) }
 {
+    // For the prover: this call says that the gates are in order.
     let _gates = circuit.gates();
     let Some(moment) = last_of(run, net) else {
         return Ok(None);
@@ -105,6 +106,7 @@ pub fn latest_chain(
     requires run { IsRunFor circuit.now run.now }
     ensures { IfOk result (λ chain. ExplainsLatest circuit.now run.now chain) }
 {
+    // For the prover: this call says that the gates are in order.
     let _gates = circuit.gates();
     match latest_net(run, circuit.outputs()) {
         Some(net) => chain_of(alloc, circuit, run, net),

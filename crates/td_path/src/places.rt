@@ -13,7 +13,7 @@ pub fn places_of(alloc: Global, circuit: &Circuit) -> Result<Vec<usize>, AllocEr
     ensures numbering { IsNumbering circuit.now }
 {
     let gates = circuit.gates();
-    let first = circuit.input_count() + 2;
+    let first = circuit.first_gate() as usize;
     let mut places = vec![in alloc; 0; gates.len()]?;
     for (place, net) in circuit.gate_outputs().iter().enumerate() {
         places[*net as usize - first] = place;

@@ -143,6 +143,7 @@ impl<L: Subject> Frontier<L> {
         ensures high { IfOk result (λ frontier. frontier.high ≡ root.bound) }
         ensures leaves { IfOk result (λ frontier. frontier.leaves.items ≡ leaf_of 0 problem.now.admit.now.pins root.bound ∷ []) }
     {
+        // For the prover: gates are in order and each input has a moment.
         let _numbering = problem.circuit.gates();
         let _moments = problem.circuit.moments();
         let leaves = first_leaf(alloc, problem.admit, root.bound)?;
@@ -165,6 +166,7 @@ impl<L: Subject> Frontier<L> {
         ensures high { result.high ≡ root.bound }
         ensures leaves { result.leaves.items ≡ [] }
     {
+        // For the prover: gates are in order and each input has a moment.
         let _numbering = problem.circuit.gates();
         let _moments = problem.circuit.moments();
         Frontier {
@@ -252,6 +254,7 @@ impl<L: Subject> Frontier<L> {
         requires last { (rest : List OpenLeaf) × (leaf : OpenLeaf) × (self.old.leaves.items ≡ rest ++ leaf ∷ []) × IsTrueOf (problem_of problem.now) leaf.cube finding }
         ensures { OnOk result ((rest : List OpenLeaf) (leaf : OpenLeaf) → self.old.leaves.items ≡ rest ++ leaf ∷ [] → IsSettled rest leaf finding self.new.leaves.items) }
     {
+        // For the prover: gates are in order and each input has a moment.
         let _numbering = problem.circuit.gates();
         let _moments = problem.circuit.moments();
         match finding {

@@ -39,6 +39,7 @@ impl<'a> Keeper for Kept<'a> {
     }
 
     fn offer(&mut self, problem: &Problem<'_>, cube: &Cube, time: u64) {
+        // For the prover: pins have two positions for each input.
         let _pins = problem.admit.pins();
         self.seen = self.incumbent.look(&mut self.seat);
         if time > self.seen {
@@ -48,6 +49,7 @@ impl<'a> Keeper for Kept<'a> {
     }
 
     fn offer_pair(&mut self, problem: &Problem<'_>, timed: &Timed) {
+        // For the prover: pins have two positions for each input.
         let _pins = problem.admit.pins();
         self.seen = self.incumbent.look(&mut self.seat);
         if timed.time > self.seen {

@@ -28,6 +28,8 @@ impl<'w, W: Watch> Watch for Lent<'w, W> {
     ghost told_nothing = { λ asked lent. (W.told_nothing asked lent.watch.now, refl) };
 
     ghost told_both = { λ asked first then last one two. (W.told_both asked first.watch.now then.watch.now last.watch.now one.0 two.0, one.1 ∙ two.1) };
+
+    ghost told_alike = { λ asked strategy first last one. (W.told_alike asked strategy first.watch.now last.watch.now one.0, one.1) };
 }
 
 /// Does nothing, but this use of a reference that came back ties it to the one that was lent.

@@ -199,11 +199,10 @@ fn shared_work<P: Prober + Sync, D: Hints + Drop + Send, W: Watch, R: Threads + 
             search_with(rt, &task, decks, effort, watch)
         }
         Strategy::Lead => {
-            let rule = Lead::new(problem.circuit, effort.workers);
             let task = Task {
                 alloc,
                 problem,
-                rule: &rule,
+                rule: &Lead,
             };
             search_with(rt, &task, decks, effort, watch)
         }

@@ -91,6 +91,7 @@ fn fresh(
     requires first { has_delay (problem_of problem.now) (representative problem.now.admit.now problem.now.admit.now.pins) first }
     ensures { IfOk result (IsStarting (problem_of problem.now) incumbent.now) }
 {
+    // For the prover: pins have two positions for each input.
     let _pins = problem.admit.pins();
     let best = first_best(alloc, problem, first)?;
     let mut seat = seat;
@@ -118,6 +119,7 @@ pub fn shared_of<L: Subject, W: Watch>(
     requires ledger { ledger.total ≡ 0 }
     ensures { IfOk result (λ shared. shared.incumbent ≡ incumbent) }
 {
+    // For the prover: gates are in order.
     let _numbering = problem.circuit.gates();
     let pins = problem.admit.pins().copy(alloc)?;
     let book = Book::new(alloc, pins, effort.workers, effort.budget)?;

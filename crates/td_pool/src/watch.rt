@@ -15,6 +15,7 @@ pub struct Progress {
 /// Who watches a search. A search tells a watch how far it has come, in the thread that began it.
 pub trait Watch: Drop {
     ghost use Rattle.td_search.specs.Problems.{Problem, problem_of};
+    ghost use Rattle.td_search.specs.declared.strategy.Strategy.{Strategy};
     ghost use Rattle.td_pool.specs.Watched.{IsTrueProgress};
 
     /// Between the two moments the watch was told of a search that is asked this, any number of times.
@@ -34,6 +35,9 @@ pub trait Watch: Drop {
 
     /// And one thing after another.
     ghost told_both: { (asked : Problem) (first then last : Self) → told asked first then → told asked then last → told asked first last };
+
+    /// By whichever strategy the search goes.
+    ghost told_alike: { (asked : Problem) (strategy : Strategy) (first last : Self) → told asked first last → told (record asked { strategy = strategy }) first last };
 }
 
 /// Nobody watches.
@@ -54,4 +58,6 @@ impl Watch for Unwatched {
     ghost told_nothing = { λ _ _. tt };
 
     ghost told_both = { λ _ _ _ _ _ _. tt };
+
+    ghost told_alike = { λ _ _ _ _ _. tt };
 }

@@ -11,6 +11,7 @@ use Rattle.td_clauses.specs.declared.first.TheConstants.{LIMIT}
 use Rattle.td_clauses.specs.First.{total}
 use Rattle.td_refutation.specs.declared.flaw.Flaw.{Flaw}
 use Rattle.td_refutation.specs.declared.kind.StepKind.{StepKind}
+use Rattle.td_refutation.specs.declared.whole.Step as code
 use Rattle.td_refutation.specs.First.{first_sets}
 use Rattle.td_refutation.specs.Done.{IsDone, verdict_of, latest_of}
 use Rattle.td_refutation.specs.Refuting.{IsUpperBoundOf}
@@ -19,6 +20,10 @@ use Rattle.td_refutation.specs.Refuting.{IsUpperBoundOf}
 pub record Step : Type 0 where
   pub kind : StepKind
   pub numbers : List ℕ
+
+-- a step, as code keeps it
+abbrev pub step_of : code.Step → Step
+step_of step = record { kind = step.kind; numbers = step.numbers.items }
 
 -- Each of these steps is good where those before it were done, and they lead from the first sets and clauses to the last ones.
 abbrev pub AreDone : Numbered → List Trit → ℕ → List Step → List NetSets → List (Vec Literal Global) → List NetSets → List (Vec Literal Global) → Type 0

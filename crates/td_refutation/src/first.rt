@@ -95,6 +95,7 @@ fn gate_changes(
     ensures low { IfOk result (λ made. IsWithin ((length sets.now + 1) * 10 ^ 9) made.0) }
 {
     let target = target_changes(alloc, sets, gate.kind, &gate.inputs)?;
+    // For the prover: this call says that the delay is in range.
     let _in_range = gate.delay.to(Level::One);
     let level = target.delayed(alloc, gate.delay)?;
     Ok((level, target))

@@ -155,6 +155,7 @@ impl Refutation {
         ensures few { IfOk result (λ made. IfSome made (λ refutation. variables_of refutation ≤ LIMIT)) }
         ensures sound { IfOk result (λ made. IfSome made (λ refutation. Refutes circuit.now admit.now cube.now (sets_of refutation) (clauses_of refutation))) }
     {
+        // For the prover: these calls say that the gates are in order, and that each input has a moment.
         let _gates = circuit.gates();
         let _moments = circuit.moments();
         let Some((sets, variables)) = first_sets(alloc, circuit, admit.held(), cube)? else {
@@ -181,6 +182,7 @@ impl Refutation {
         ensures variables { variables_of self.new ≡ variables_of self.old }
         ensures sound { (admit : Admitted) → length admit.held ≡ length circuit.now.netlist.inputs → Refutes circuit.now admit cube.now (sets_of self.old) (clauses_of self.old) → Refutes circuit.now admit cube.now (sets_of self.new) (clauses_of self.new) }
     {
+        // For the prover: these calls say that the gates are in order, and that each input has a moment.
         let _gates = circuit.gates();
         let _moments = circuit.moments();
         self.do_step(alloc, circuit, cube, kind, numbers)
@@ -191,6 +193,7 @@ impl Refutation {
         ensures bound { result ≡ latest_of (sets_of self.now) circuit.now.outputs }
         ensures sound { (admit : Admitted) (cube : List Trit) → length cube ≡ 2 * length circuit.now.netlist.inputs → Refutes circuit.now admit cube (sets_of self.now) (clauses_of self.now) → IsUpperBoundOf (setting circuit.now) admit cube result }
     {
+        // For the prover: these calls say that the gates are in order, and that each input has a moment.
         let _gates = circuit.gates();
         let _moments = circuit.moments();
         latest_of(&self.sets, circuit.outputs())

@@ -3,7 +3,7 @@ use Rattle.std.proofs.Common.{◌≡◌, ◌*◌, length, sym, subst, ◌∙◌}
 use Rattle.td_circuit.specs.Numbering.{Numbered}
 use Rattle.td_domain.specs.Pairs.{Pair}
 use Rattle.td_domain.specs.Admits.{Admitted, IsAdmitted}
-use Rattle.td_climb.proofs.Changing.{vectors_in}
+use Rattle.td_domain.proofs.Changing.{vectors_in}
 
 pub vectors_fit : (circuit given : Numbered) (admit given_admit : Admitted) (pair : Pair) → given ≡ circuit → given_admit ≡ admit
     → length given_admit.pins ≡ 2 * length given_admit.held → length admit.held ≡ length circuit.netlist.inputs → IsAdmitted admit pair

@@ -4,7 +4,7 @@ use Rattle.td_circuit.specs.Settings.{Setting}
 use Rattle.td_domain.specs.Admits.{Admitted}
 use Rattle.td_domain.specs.Worst.{IsUpperBound, IsWorst}
 use Rattle.td_lead.specs.declared.timed.Timed.{Timed}
-use Rattle.td_lead.specs.Climbing.{IsTimed}
+use Rattle.td_lead.specs.Timed.{IsTimed}
 
 pub worst_is : (given : Setting) (admit : Admitted) (best : Timed) (bound : ℕ) → IsTimed given admit best → IsUpperBound given admit bound → bound ≤ best.time
     → IsWorst given admit best.time

@@ -5,7 +5,7 @@ use Rattle.td_domain.specs.Admits.{Admitted}
 use Rattle.td_domain.specs.Worst.{IsUpperBound}
 use Rattle.td_refutation.specs.Whole.{IsRefuted}
 use Rattle.td_refute.specs.declared.refuting.Refuted.{Refuted}
-use Rattle.td_refute.specs.Steps.{step_of}
+use Rattle.td_refutation.specs.Whole.{step_of}
 
 -- The steps refute the pins with the bound, so no admitted pair has a greater delay.
 pub record IsShown (given : Setting) (admit : Admitted) (refuted : Refuted) : Type 0 where

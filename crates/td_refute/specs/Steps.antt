@@ -5,14 +5,10 @@ use Rattle.td_circuit.specs.Numbering.{Numbered}
 use Rattle.td_domain.specs.Admits.{Admitted}
 use Rattle.td_clauses.specs.declared.first.TheConstants.{LIMIT}
 use Rattle.td_refutation.specs.declared.refutation.Refutation.{Refutation}
-use Rattle.td_refutation.specs.declared.whole.Step as code
 use Rattle.td_refutation.specs.States.{sets_of, clauses_of, variables_of}
 use Rattle.td_refutation.specs.First.{first_sets}
 use Rattle.td_refutation.specs.Done.{IsDone}
 use Rattle.td_refutation.specs.Whole.{Step, AreDone, variables_in}
-
-abbrev pub step_of : code.Step → Step
-step_of step = record { kind = step.kind; numbers = step.numbers.items }
 
 -- the step was done
 pub record IsStepped (circuit : Numbered) (admit : Admitted) (old new : Refutation) (step : Step) : Type 0 where

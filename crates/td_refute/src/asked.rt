@@ -2,14 +2,13 @@
 
 ghost use Rattle.std.specs.Prelude.{◌≡◌, length, IfOk};
 ghost use Rattle.td_domain.specs.Admits.{IsAdmitted};
-ghost use Rattle.td_climb.specs.Bits.{AreAdmitted};
+ghost use Rattle.td_domain.specs.PairBits.{AreAdmitted};
 
 use crate::runs::Told;
 use std::alloc::{AllocError, Global};
 use std::marker::Model;
 use td_circuit::Circuit;
-use td_climb::Bits;
-use td_domain::{Admit, Pair, Trit};
+use td_domain::{Admit, Bits, Pair, Trit};
 
 /// The admitted pairs of a circuit, of which one is known.
 #[derive(Drop)]

@@ -3,7 +3,8 @@
 ghost use Rattle.std.specs.Prelude.{◌≡◌, length, map, true, IfOk, IfSome};
 ghost use Rattle.td_circuit.specs.Numbering.{setting};
 ghost use Rattle.td_refutation.specs.Whole.{IsRefuted};
-ghost use Rattle.td_refute.specs.Steps.{step_of, IsStepped, IsBegun, AreStepped};
+ghost use Rattle.td_refutation.specs.Whole.{step_of};
+ghost use Rattle.td_refute.specs.Steps.{IsStepped, IsBegun, AreStepped};
 
 use std::alloc::{AllocError, Global};
 use td_circuit::Circuit;

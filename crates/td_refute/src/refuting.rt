@@ -5,7 +5,7 @@ ghost use Rattle.td_circuit.specs.Numbering.{setting};
 ghost use Rattle.td_domain.specs.Admits.{IsAdmitted};
 ghost use Rattle.td_domain.specs.Worst.{IsWorst};
 ghost use Rattle.td_event_sim.specs.Scratch.{IsFor};
-ghost use Rattle.td_lead.specs.Climbing.{IsTimed};
+ghost use Rattle.td_lead.specs.Timed.{IsTimed};
 ghost use Rattle.td_refute.specs.Answers.{IsShown};
 
 use crate::asked::{Asked, Bit};

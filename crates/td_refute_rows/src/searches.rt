@@ -4,7 +4,7 @@ ghost use Rattle.std.specs.Prelude.{◌≡◌, ◌≤◌, length, IfOk, IfSome};
 ghost use Rattle.td_circuit.specs.Numbering.{setting};
 ghost use Rattle.td_domain.specs.Admits.{IsAdmitted};
 ghost use Rattle.td_event_sim.specs.Scratch.{IsFor};
-ghost use Rattle.td_lead.specs.Climbing.{IsTimed};
+ghost use Rattle.td_lead.specs.Timed.{IsTimed};
 
 use std::alloc::{AllocError, Global};
 use std::test::*;

@@ -1,9 +1,8 @@
 -- Words that spell no vector, and cubes of vectors.
-use Rattle.std.proofs.Common.{◌≡◌, ℕ, zero, suc, ◌+◌, ◌*◌, ◌<◌, List, [], ◌∷◌, ◌++◌, length, map, take, get_or, arith, refl, sym, ap, ◌∙◌}
+use Rattle.std.proofs.Common.{◌≡◌, ℕ, zero, suc, ◌<◌, List, [], ◌∷◌, length, map, get_or, arith, sym, ap, ◌∙◌}
 use Rattle.std.specs.Prelude.{IfOk, IfNone, Option, None, Some, Result, Ok, Err}
 use Rattle.std.proofs.lemmas.List.{length-map, length-replicate}
-use Rattle.td_domain.specs.declared.cubes.Trit.{Trit}
-use Rattle.td_report.specs.Vectors.{SpellsVector, AreGiven, woven}
+use Rattle.td_report.specs.Vectors.{SpellsVector, AreGiven}
 
 module _ {S : Type 0} (character : S → ℕ) where
   -- a character that is no symbol's spells no vector
@@ -42,27 +41,3 @@ pub given-length : {S : Type 0} (character : S → ℕ) (left_out : S) (count : 
     → AreGiven character left_out count word symbols → length symbols ≡ count
 given-length character left_out count None symbols are = ap length are ∙ length-replicate count left_out
 given-length character left_out count (Some word) symbols are = are.fits
-
--- one more input
-pub woven-more : (firsts seconds : List Trit) (i : ℕ) (d : Trit) → i < length firsts → length firsts ≡ length seconds
-    → woven (take (i + 1) firsts) (take (i + 1) seconds)
-    ≡ (woven (take i firsts) (take i seconds) ++ get_or firsts i d ∷ []) ++ get_or seconds i d ∷ []
-woven-more [] seconds i d within same = absurd (omega arith)
-woven-more (first ∷ firsts) [] i d within same = absurd (let wrong : suc (length firsts) ≡ 0 = same in omega arith)
-woven-more (first ∷ firsts) (second ∷ seconds) zero d within same = refl
-woven-more (first ∷ firsts) (second ∷ seconds) (suc i) d within same =
-    let next : suc i + 1 ≡ suc (i + 1) = omega arith in
-    rw next (ap (λ rest. first ∷ second ∷ rest) (woven-more firsts seconds i d (omega arith) (omega (arith, same))))
-
-pub cube_more : (firsts seconds : List Trit) (i : ℕ) (d : Trit) (items next last : List Trit) → i < length firsts → length firsts ≡ length seconds
-    → items ≡ woven (take i firsts) (take i seconds) → next ≡ items ++ get_or firsts i d ∷ [] → last ≡ next ++ get_or seconds i d ∷ []
-    → last ≡ woven (take (i + 1) firsts) (take (i + 1) seconds)
-cube_more firsts seconds i d items next last within same before one two =
-    rw (two, one, before) (sym (woven-more firsts seconds i d within same))
-
-pub woven-length : (firsts seconds : List Trit) → length firsts ≡ length seconds → length (woven firsts seconds) ≡ 2 * length firsts
-woven-length [] seconds same = refl
-woven-length (first ∷ firsts) [] same = absurd (let wrong : suc (length firsts) ≡ 0 = same in omega arith)
-woven-length (first ∷ firsts) (second ∷ seconds) same =
-    let rest : length (woven firsts seconds) ≡ 2 * length firsts = woven-length firsts seconds (omega (arith, same)) in
-    omega arith

@@ -9,7 +9,8 @@ use Rattle.td_certificate.specs.declared.tree.BoundedBy.{BoundedBy}
 use Rattle.td_certificate.specs.declared.tree.BoundedBy.TheVariants as by
 use Rattle.td_certificate.specs.Accepts.{IsBoundBy}
 use Rattle.td_report.specs.Reports.{newline, head_lines, IsSetting}
-use Rattle.td_report.specs.Vectors.{AreTrits, woven}
+use Rattle.td_domain.specs.Cubes.{weave}
+use Rattle.td_report.specs.Vectors.{AreTrits}
 
 -- a domain's bound, `none` where it has none
 abbrev pub bound_text : Option ℕ → List ℕ
@@ -62,7 +63,7 @@ pub record IsBoundReport (text : List ℕ) (default : Delay) (first second at : 
   pub arrivals : Option ℕ
   pub possibles : Option ℕ
   pub together : Option ℕ
-  pub arrivals_is : IsSoundBound by.Arrival setting (woven firsts seconds) arrivals
-  pub possibles_is : IsSoundBound by.Possible setting (woven firsts seconds) possibles
-  pub together_is : IsSoundBound by.Both setting (woven firsts seconds) together
-  pub is : HasEdges edges setting (woven firsts seconds) (bounds_text setting.netlist arrivals possibles together) report
+  pub arrivals_is : IsSoundBound by.Arrival setting (weave firsts seconds) arrivals
+  pub possibles_is : IsSoundBound by.Possible setting (weave firsts seconds) possibles
+  pub together_is : IsSoundBound by.Both setting (weave firsts seconds) together
+  pub is : HasEdges edges setting (weave firsts seconds) (bounds_text setting.netlist arrivals possibles together) report

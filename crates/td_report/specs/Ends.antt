@@ -1,7 +1,7 @@
 -- How a command ends: what it wrote, and where.
 use Rattle.std.specs.Prelude.{◌≡◌, ◌≢◌, ℕ, List, [], ◌∷◌, ◌++◌, ◌⊎◌, codes}
 use Rattle.std.specs.Borrow.{Bor}
-use Rattle.td_gates.specs.Output.{Output, Sent, Failed}
+use Rattle.td_text.specs.Output.{Output, Sent, Failed}
 use Rattle.td_certificate.specs.declared.fault.WriteFault.{WriteFault}
 use Rattle.td_certificate.specs.declared.fault.WriteFault.TheVariants as unwritten
 use Rattle.td_files.specs.declared.disk.ReadFault.{ReadFault}

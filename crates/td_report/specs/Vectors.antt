@@ -1,40 +1,25 @@
 -- Words of the command line that give something for each input.
-use Rattle.std.specs.Prelude.{◌≡◌, ℕ, ◌≤◌, Bool, true, false, ◌⊎◌, List, [], ◌∷◌, ◌++◌, length, map, replicate, codes, Option, Some, None, option_map}
+use Rattle.std.specs.Prelude.{◌≡◌, ℕ, ◌≤◌, Bool, false, ◌⊎◌, List, [], ◌∷◌, ◌++◌, length, replicate, codes, Option, Some, None, option_map}
 use Rattle.std.specs.Borrow.{Bor}
 use Rattle.std.specs.Str.Parse.{IsNumeral, digits_value}
 use Rattle.td_gates.specs.declared.primitives.Level.{Level}
 use Rattle.td_gates.specs.declared.primitives.Level.TheVariants as level
 use Rattle.td_domain.specs.declared.cubes.Trit.{Trit}
 use Rattle.td_domain.specs.declared.cubes.Trit.TheVariants as trit
+pub use Rattle.td_certificate.specs.Text.{trit as trit_character, hold as held_character, row as vector_text}
 use Rattle.td_report.specs.declared.vector.VectorWord.{VectorWord}
 
 -- the word of an option, where it is given
 abbrev pub words_of : Option (Bor (List ℕ)) → Option (List ℕ)
 words_of word = option_map (λ word. word.now) word
 
--- ---- vectors and masks
+-- ---- vectors and masks: the characters of trits and of inputs that are held are those of a certificate
 
 -- 0, 1 and x
 abbrev pub level_character : Level → ℕ
 level_character level.Zero = 48
 level_character level.One = 49
 level_character level.X = 120
-
--- 0, 1 and the dot
-abbrev pub trit_character : Trit → ℕ
-trit_character trit.Zero = 48
-trit_character trit.One = 49
-trit_character trit.Free = 46
-
--- the equals sign for an input that is held, the dot for another
-abbrev pub held_character : Bool → ℕ
-held_character true = 61
-held_character false = 46
-
--- a character for each symbol, the word `none` where there are none
-abbrev pub vector_text : {S : Type 0} → (S → ℕ) → List S → List ℕ
-vector_text character [] = codes "none"
-vector_text character (symbol ∷ symbols) = map character (symbol ∷ symbols)
 
 -- the word spells a vector of so many symbols
 pub record SpellsVector {S : Type 0} (character : S → ℕ) (count : ℕ) (word : List ℕ) (symbols : List S) : Type 0 where
@@ -53,12 +38,6 @@ AreTrits = AreGiven trit_character trit.Free
 -- the inputs that an option holds, none where it is left out
 abbrev pub IsMask : ℕ → Option (List ℕ) → List Bool → Type 0
 IsMask = AreGiven held_character false
-
--- the trits of a cube: of each input its first, then its second
-abbrev pub woven : List Trit → List Trit → List Trit
-woven [] seconds = []
-woven (first ∷ firsts) [] = []
-woven (first ∷ firsts) (second ∷ seconds) = first ∷ second ∷ woven firsts seconds
 
 -- ---- moments
 

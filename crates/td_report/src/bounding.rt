@@ -15,7 +15,7 @@ use crate::report;
 use crate::simulate::circuit;
 use crate::text::Text;
 use crate::timing::moments;
-use crate::vector::{VectorWord, cube, given};
+use crate::vector::{VectorWord, given};
 use std::alloc::{AllocError, Global};
 use td_arrival::Arrival;
 use td_circuit::Circuit;
@@ -76,7 +76,7 @@ fn bounds_in(
         return Ok(Err(VectorWord::At));
     };
     circuit.set_moments(moments);
-    let cube = cube(alloc, &firsts, &seconds)?;
+    let cube = Cube::weave(alloc, &firsts, &seconds)?;
     let report = report_on(alloc, circuit, &cube, edges)?;
     Ok(Ok(report))
 }

@@ -2,7 +2,7 @@
 
 ghost use Rattle.std.specs.Prelude.{◌≡◌, length, map, IfOk, IfErr, IfSome, OnOk, OnErr};
 ghost use Rattle.td_gates.specs.Table.{level_from};
-ghost use Rattle.td_gates.specs.Output.{Sent, SentFront, one_more};
+ghost use Rattle.td_text.specs.Output.{Sent, SentFront, one_more};
 ghost use Rattle.td_circuit.specs.Numbering.{nets, setting};
 ghost use Rattle.td_circuit.specs.NetValues.{net_wave};
 ghost use Rattle.td_circuit.specs.Run.{Runs};
@@ -16,8 +16,9 @@ use std::alloc::{AllocError, Global};
 use td_certificate::WriteFault;
 use td_circuit::Circuit;
 use td_domain::Pair;
-use td_gates::{Level, Sink};
+use td_gates::Level;
 use td_run::{Run, waves};
+use td_text::Sink;
 use td_vcd::VcdFault;
 
 /// The waves of a circuit's run, and the name of the file that they go to.

@@ -6,9 +6,7 @@ ghost use Rattle.std.specs.Char.{digit_value};
 ghost use Rattle.td_report.specs.Vectors.{words_of, SpellsMoments, AreMomentsOf};
 
 use std::alloc::{AllocError, Global};
-
-/// The latest moment at which an input may change.
-const LATEST: u64 = 1_000_000_000;
+use td_circuit::LATEST;
 
 /// The number whose digits are those of the number so far and this character, if that is a moment at which an input may change.
 fn next_number(number: Option<u64>, character: u8) -> Option<u64>

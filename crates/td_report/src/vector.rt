@@ -1,10 +1,10 @@
 //! Vectors and masks in words of the command line: a character for each input.
 
 ghost use Rattle.std.specs.Prelude.{◌≡◌, ℕ, List, length, map, replicate, IfOk, IfSome, IfNone};
-ghost use Rattle.td_report.specs.Vectors.{level_character, trit_character, held_character, words_of, SpellsVector, AreGiven, woven};
+ghost use Rattle.td_report.specs.Vectors.{level_character, trit_character, held_character, words_of, SpellsVector, AreGiven};
 
 use std::alloc::{AllocError, Global};
-use td_domain::{Cube, Trit};
+use td_domain::Trit;
 use td_gates::Level;
 
 /// A word of the command line that gives something for each input.
@@ -129,17 +129,4 @@ pub fn given<S: Symbol + Copy>(
         None => Ok(Some(repeated(alloc, left_out, count)?)),
         Some(word) => vector(alloc, word, count),
     }
-}
-
-/// The cube of the pairs whose first vector is as these trits say, and whose second is as those.
-pub fn cube(alloc: Global, firsts: &[Trit], seconds: &[Trit]) -> Result<Cube, AllocError>
-    requires { length firsts.now ≡ length seconds.now }
-    ensures { IfOk result (λ cube. cube ≡ woven firsts.now seconds.now) }
-{
-    let mut trits = Vec::new(alloc);
-    for (input, first) in firsts.iter().enumerate() {
-        trits.push(*first)?;
-        trits.push(seconds[input])?;
-    }
-    Ok(Cube::new(trits))
 }

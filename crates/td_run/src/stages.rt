@@ -83,7 +83,7 @@ pub fn delayed(alloc: Global, delay: Delay, target: &Wave) -> Result<Wave, Alloc
     ensures within { (bound : ℕ) → AreWithin bound target.now.changes
         → IfOk result (λ wave. AreWithin (bound + 1000000000) wave.changes) }
 {
-    // The range of the delay, for the proof.
+    // For the prover: this read says that the delay is in range.
     let _rise = delay.rise;
     let start = target.start();
     let mut level = start;

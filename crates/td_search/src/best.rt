@@ -126,6 +126,7 @@ impl Keeper for Best {
     fn look(&mut self, _problem: &Problem<'_>) {}
 
     fn offer(&mut self, problem: &Problem<'_>, cube: &Cube, time: u64) {
+        // For the prover: pins have two positions for each input.
         let _pins = problem.admit.pins();
         if time > self.time() {
             self.replace(cube, problem.admit, time);
@@ -133,6 +134,7 @@ impl Keeper for Best {
     }
 
     fn offer_pair(&mut self, problem: &Problem<'_>, timed: &Timed) {
+        // For the prover: pins have two positions for each input.
         let _pins = problem.admit.pins();
         if timed.time > self.time() {
             self.put(timed);

@@ -32,6 +32,7 @@ pub fn find<R: Rule, K: Keeper>(
     ensures finding { IfOk result (IsTrueOf (problem_of task.now.problem.now) cube.now) }
     ensures usable { IfOk result (IsUsable (K.cut_of keeper.new)) }
 {
+    // For the prover: pins have two positions for each input.
     let _pins = task.problem.admit.pins();
     if !task.problem.admit.any(cube) {
         return Ok(Finding::Closed(Mark::Empty, 0));
@@ -66,6 +67,7 @@ fn find_measured<R: Rule, K: Keeper>(
         problem,
         rule,
     } = task;
+    // For the prover: gates are in order and pins have two positions for each input.
     let _numbering = problem.circuit.gates();
     let _pins = problem.admit.pins();
     let time = rule.measure(*alloc, problem, scratch, cube)?;
@@ -100,6 +102,7 @@ fn find_bounded<R: Rule, K: Keeper>(
         problem,
         rule,
     } = task;
+    // For the prover: gates are in order and pins have two positions for each input.
     let _numbering = problem.circuit.gates();
     let _pins = problem.admit.pins();
     keeper.look(problem);

@@ -58,11 +58,10 @@ pub fn finish(alloc: Global, problem: &Problem<'_>, work: SharedWork, budget: u6
             finish_by(&task, work, budget)
         }
         Strategy::Lead => {
-            let rule = Lead::new(problem.circuit, 1);
             let task = Task {
                 alloc,
                 problem,
-                rule: &rule,
+                rule: &Lead,
             };
             finish_by(&task, work, budget)
         }
@@ -104,6 +103,7 @@ fn nothing_handled(problem: &Problem<'_>, best: Best, root: u64, budget: u64) ->
     ensures low { low_of result ≡ best.time }
     ensures text { CanBeWritten (problem_of problem.now) result }
 {
+    // For the prover: gates are in order, inputs have moments, pins have two positions each.
     let _numbering = problem.circuit.gates();
     let _moments = problem.circuit.moments();
     let _pins = problem.admit.pins();

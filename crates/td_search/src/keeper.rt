@@ -2,7 +2,7 @@
 
 ghost use Rattle.std.specs.Prelude.{◌≡◌, ℕ, ◌*◌, ◌≤◌, length};
 ghost use Rattle.td_circuit.specs.Numbering.{setting};
-ghost use Rattle.td_lead.specs.Climbing.{IsTimed};
+ghost use Rattle.td_lead.specs.Timed.{IsTimed};
 ghost use Rattle.td_search.specs.Deciding.{IsMeasured};
 ghost use Rattle.td_search.specs.Problems.{Problem, problem_of, has_delay};
 ghost use Rattle.td_search.specs.Representatives.{representative};

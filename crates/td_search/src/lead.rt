@@ -1,44 +1,42 @@
 //! The strategy `lead`.
 
-ghost use Rattle.std.specs.Prelude.{◌<◌};
+ghost use Rattle.std.specs.Prelude.{IfOk};
+ghost use Rattle.td_domain.specs.Admits.{IsAdmitted};
 
 use crate::best::Best;
 use crate::leading::{edges_bound, next_step, strongest_with_edges};
-use crate::measuring::measure;
+use crate::measuring::{measure, timed};
 use crate::problem::Problem;
 use crate::rule::Rule;
 use crate::scratch::Scratch;
 use crate::step::Step;
 use std::alloc::{AllocError, Global};
-use std::sync::atomic::{AtomicBool, Ordering};
-use td_circuit::Circuit;
-use td_domain::Cube;
-use td_lead::{Others, Plan, Timed, climb_beside, tries_for};
+use td_climb::{Climb, tries_for};
+use td_domain::{Cube, Pair};
+use td_lead::Timed;
 
-/// Each worker climbs before its first node, until one of them has found enough. Then each cube is bounded by edges and possible
-/// levels, points are measured, and a cube is split where the most nets on the way to its latest output change with the bit.
-#[derive(Drop)]
-pub struct Lead {
-    tries: u32,
-    is_found: AtomicBool,
-}
+/// The first worker climbs by lanes before its first node. Each cube is bounded by edges and possible levels, points are measured,
+/// and a cube is split where the most nets on the way to its latest output change with the bit.
+#[derive(Clone, Copy, Debug, Drop)]
+pub struct Lead;
 
-impl Lead {
-    /// Nothing climbed yet by so many workers, who share out the tries of a climb.
-    pub fn new(circuit: &Circuit, workers: u32) -> Lead
-        requires { 0 < workers }
-    {
-        Lead {
-            tries: (tries_for(circuit) / workers).max(1),
-            is_found: AtomicBool::new(false),
-        }
-    }
-}
+/// The seed of a climb.
+const SEED: u64 = 1;
 
-impl Others for Lead {
-    fn have_enough(&self) -> bool {
-        self.is_found.load(Ordering::SeqCst)
-    }
+// The admitted pair to which a climb leads from another one. Out of memory, a climb ends where it stands.
+fn climbed(
+    alloc: Global,
+    problem: &Problem<'_>,
+    start: Pair,
+    enough: u64,
+) -> Result<Pair, AllocError>
+    requires { IsAdmitted problem.now.admit.now start }
+    ensures { IfOk result (IsAdmitted problem.now.admit.now) }
+{
+    let Problem { circuit, admit, .. } = problem;
+    let mut climb = Climb::new(alloc, circuit, admit, start, SEED)?;
+    let _useful = climb.go_on(circuit, admit, tries_for(circuit), enough);
+    Ok(climb.into_pair())
 }
 
 impl Rule for Lead {
@@ -56,6 +54,7 @@ impl Rule for Lead {
     }
 
     fn scratch(&self, alloc: Global, problem: &Problem<'_>) -> Result<Scratch, AllocError> {
+        // For the prover: pins have two positions for each input.
         let _pins = problem.admit.pins();
         Scratch::new(alloc, problem.circuit, problem.admit.pins())
     }
@@ -68,27 +67,17 @@ impl Rule for Lead {
         worker: u32,
         best: &Best,
     ) -> Result<Option<Timed>, AllocError> {
-        let start = best.timed(alloc)?;
+        if worker > 0 {
+            return Ok(None);
+        }
         let pins = problem.admit.pins();
         let enough = edges_bound(alloc, scratch, problem.circuit, pins)?;
-        let plan = Plan {
-            seed: u64::from(worker) + 1,
-            tries: self.tries,
-            enough,
-        };
-        let events = &mut scratch.events;
-        let timed = climb_beside(
-            alloc,
-            events,
-            problem.circuit,
-            problem.admit,
-            start,
-            plan,
-            self,
-        );
-        if timed.time >= enough {
-            self.is_found.store(true, Ordering::SeqCst);
+        if best.time() >= enough {
+            return Ok(None);
         }
+        let start = best.timed(alloc)?.pair;
+        let pair = climbed(alloc, problem, start, enough)?;
+        let timed = timed(&mut scratch.events, problem, pair)?;
         Ok(Some(timed))
     }
 
@@ -109,6 +98,7 @@ impl Rule for Lead {
         scratch: &mut Scratch,
         cube: &Cube,
     ) -> Result<u64, AllocError> {
+        // For the prover: pins have two positions for each input.
         let _pins = problem.admit.pins();
         strongest_with_edges(alloc, scratch, problem.circuit, cube)
     }
@@ -121,6 +111,7 @@ impl Rule for Lead {
         cube: &Cube,
         cut: u64,
     ) -> Result<Step, AllocError> {
+        // For the prover: pins have two positions for each input.
         let _pins = problem.admit.pins();
         next_step(alloc, scratch, problem.circuit, cube, cut)
     }

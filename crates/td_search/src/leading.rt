@@ -230,6 +230,7 @@ fn latest_output(circuit: &Circuit, edges: &[Signal], possible: &[<Possible as D
     requires possible { length possible.now ≡ length (nets circuit.now) }
     ensures { result < length (nets circuit.now) }
 {
+    // For the prover: gates are in order.
     let _numbering = circuit.gates();
     latest_of(edges, possible, circuit.outputs())
 }

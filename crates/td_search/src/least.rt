@@ -69,6 +69,7 @@ impl<'a, P: Prober> Rule for Least<'a, P> {
         bench: &mut Bench<P::Scratch>,
         cube: &Cube,
     ) -> Result<u64, AllocError> {
+        // For the prover: pins have two positions for each input.
         let _pins = problem.admit.pins();
         let other = mem::replace(&mut bench.pair, no_bits(alloc));
         let pair = representative_over(cube, problem.admit, other)?;
@@ -86,6 +87,7 @@ impl<'a, P: Prober> Rule for Least<'a, P> {
         bench: &mut Bench<P::Scratch>,
         cube: &Cube,
     ) -> Result<u64, AllocError> {
+        // For the prover: pins have two positions for each input.
         let _pins = problem.admit.pins();
         let circuit = problem.circuit;
         let probe = self
@@ -106,6 +108,7 @@ impl<'a, P: Prober> Rule for Least<'a, P> {
         cube: &Cube,
         cut: u64,
     ) -> Result<Step, AllocError> {
+        // For the prover: pins have two positions for each input.
         let _pins = problem.admit.pins();
         let circuit = problem.circuit;
         let probe = self

@@ -3,7 +3,7 @@
 ghost use Rattle.std.specs.Prelude.{◌≡◌, ◌*◌, ◌<◌, ◌^◌, length, IfOk, IfSome};
 ghost use Rattle.td_circuit.specs.Numbering.{Numbered, setting};
 ghost use Rattle.td_domain.specs.Admits.{HasAdmitted};
-ghost use Rattle.td_lead.specs.Climbing.{IsTimed};
+ghost use Rattle.td_lead.specs.Timed.{IsTimed};
 ghost use Rattle.td_search.specs.Below.{IsWithin};
 ghost use Rattle.td_search.specs.Deciding.{IsMeasured, IsStep};
 ghost use Rattle.td_search.specs.Problems.{problem_of, has_bound, has_delay, measures_first};

@@ -3,7 +3,7 @@ use Rattle.std.proofs.Common.{◌≡◌, ℕ, zero, suc, ◌<◌, List, [], ◌�
 use Rattle.std.specs.Prelude.{MatchOption}
 use Rattle.std.proofs.lemmas.List.{length-replicate}
 use Rattle.td_syntax.specs.declared.fault.Fault as code_fault
-use Rattle.td_syntax.specs.Faults.{Fault, FaultKind, fault, told, Fails, ◌>>=◌}
+use Rattle.td_syntax.specs.Faults.{Fault, FaultKind, fault, reported, Fails, ◌>>=◌}
 use Rattle.td_syntax.specs.Readers.{Remainder, as_attribute, many, maybe_at}
 use Rattle.td_syntax.specs.Parsing.{attribute_member, attribute_step, attributes_at}
 use Rattle.td_syntax.proofs.Lists.{SoFar, same, map_same, left, goes_on, is_done, fails}
@@ -49,8 +49,8 @@ failing_count begin line (Some kind) h = rw h refl
 
 pub none_counted : (e : code_fault.Fault) (n : ℕ) (s begin : Remainder) → Fails e (maybe_at as_attribute s) → Counted n s begin → Fails e (attributes_at begin)
 none_counted e n s begin h counted =
-    failing_count begin e.line (told e.kind)
-    (fails attribute_step attributes_shorten same e (ones n) s (many attribute_step begin) (failing_step (length (ones n)) s e.line (told e.kind) h) counted)
+    failing_count begin e.line (reported e.kind)
+    (fails attribute_step attributes_shorten same e (ones n) s (many attribute_step begin) (failing_step (length (ones n)) s e.line (reported e.kind) h) counted)
 
 pub none_yet : (s : Remainder) → Counted 0 s s
 none_yet s = begins_counted (many attribute_step s)

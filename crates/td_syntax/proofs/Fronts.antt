@@ -1,4 +1,4 @@
--- What stands at the front of a text, as the grammar sees it and as faults are told.
+-- What stands at the front of a text, as the grammar sees it and as faults are reported.
 use Rattle.std.proofs.Common.{◌≡◌, ℕ, ◌+◌, Bool, true, false, cond, List, [], ◌∷◌, length, take, drop, Option, Some, None, Result, Ok, Err, refl, sym, ap, ◌∙◌}
 use Rattle.std.specs.Prelude.{◌==◌, ◌||◌, ◌-◌, codes}
 use Rattle.std.specs.List.{prefix_len, list_any}

@@ -3,7 +3,7 @@ use Rattle.std.proofs.Common.{◌≡◌, ℕ, zero, suc, ◌+◌, ◌<◌, List,
 use Rattle.std.specs.Prelude.{MatchOption}
 use Rattle.std.proofs.lemmas.List.{append-nil}
 use Rattle.td_syntax.specs.declared.fault.Fault as code_fault
-use Rattle.td_syntax.specs.Faults.{Fault, FaultKind, fault, told, Fails, ◌>>=◌}
+use Rattle.td_syntax.specs.Faults.{Fault, FaultKind, fault, reported, Fails, ◌>>=◌}
 use Rattle.td_syntax.specs.Readers.{Remainder, Step, More, Final, Done, go_on, many_within, many_from}
 
 abbrev pub left : Remainder → ℕ
@@ -80,7 +80,7 @@ module _ {A : Type 0} (step : ℕ → Remainder → Result (Step A × Remainder)
         sym so_far ∙ one
 
     pub fails : (e : code_fault.Fault) (xs : List X) (s : Remainder) (total : Result (List A × Remainder) Fault) → Fails e (step (length xs) s) → SoFar xs s total → Fails e total
-    fails e xs s total h so_far = fails_by xs s e.line (told e.kind) total h so_far
+    fails e xs s total h so_far = fails_by xs s e.line (reported e.kind) total h so_far
 
 pub begins : {A : Type 0} (read : Result (List A × Remainder) Fault) → with_front [] read ≡ read
 begins (Ok x) = refl

@@ -1,4 +1,4 @@
--- The tokens of a text as the definition says them and as faults are told.
+-- The tokens of a text as the definition says them and as faults are reported.
 use Rattle.std.proofs.Common.{◌≡◌, ℕ, zero, suc, ◌+◌, ◌≤◌, ◌<◌, Bool, true, false, List, [], ◌∷◌, length, map, take, drop, Some, Ok, Err, refl, sym, ap, subst, ◌∙◌, arith, length-drop}
 use Rattle.std.specs.Prelude.{◌&&◌}
 use Rattle.td_syntax.specs.declared.token.Stop.TheVariants.{End}
@@ -14,7 +14,7 @@ use Rattle.td_syntax.proofs.Lexing.{tokens_by, tokens_unrolled}
 use Rattle.td_syntax.proofs.Fronts.{seen_as, seen, front_seen, ends_empty}
 use Rattle.td_syntax.proofs.Inside.{is_inside, Inside}
 
--- ---- what the definition says is told so
+-- ---- what the definition says is reported so
 
 is_gap : (p : Piece) (n : ℕ) → seen p ≡ Some (Gap n) → p ≡ Space n
 is_gap (Space k) n e = let same : k ≡ n = cc in ap (λ (i : ℕ). Space i) same
@@ -30,7 +30,7 @@ is_gap (Found (Directs (Ok d) w) k) n e = absurd cc
 is_gap (Found (Directs (Err d) w) k) n e = absurd cc
 is_gap (Found (Outside w) k) n e = absurd cc
 
--- the token in front, as it is told
+-- the token in front, as it is reported
 record IsFound (p : Piece) (t : Token) (n : ℕ) : Type 0 where
   found : Token
   is : p ≡ Found found n
@@ -78,7 +78,7 @@ are_tokens {line} {bytes} (token {n = n} {t = t} {tokens = ts} e rest) =
       tokens = ap (λ (s : Stream). map plain s.tokens) same ∙ ap (λ (p : Placed). p ∷ map plain (tokens_of (line + newlines (take n bytes)) (drop n bytes)).tokens) (f.same line) ∙ ap (λ (us : List Placed). token_on line t ∷ us) more.tokens;
     }
 
--- ---- what is told so is what the definition says
+-- ---- what is reported so is what the definition says
 
 -- a token of the grammar, as the definition sees it
 record IsSeen (u : Token) (n line : ℕ) : Type 0 where

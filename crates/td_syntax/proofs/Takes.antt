@@ -88,7 +88,7 @@ pub next_takes : (s : Remainder) (x : Placed × Remainder) → next_at s ≡ Ok 
 unfolding next_at front_of
 next_takes s x e = next_in s.stream.tokens s.stream.stop s.stream.line s.gates x e
 
--- These tokens are told by what they are spelled by, whatever their lines.
+-- These tokens are reported by what they are spelled by, whatever their lines.
 pub record Classifies {A : Type 0} (find : Placed → Option A) (spell : A → List Placed) : Type 0 where
   pub stable : (p : Placed) → find p ≡ find (plain p)
   pub spelled : (p : Placed) (a : A) → find p ≡ Some a → plain p ∷ [] ≡ spell a

@@ -1,4 +1,4 @@
--- Which fault of tokens and grammar is told: why a text is refused, and where.
+-- Which fault of tokens and grammar is reported: why a text is refused, and where.
 use Rattle.std.specs.Prelude.{◌≡◌, ℕ, List, Option, None, Some, Result, Ok, Err, MatchOption, codes}
 use Rattle.td_syntax.specs.declared.fault.FaultKind as code_kind
 use Rattle.td_syntax.specs.declared.fault.FaultKind.TheVariants as code
@@ -38,7 +38,7 @@ mark_refusal symbol.Hash = Syntax
 mark_refusal symbol.LeftBracket = Syntax
 mark_refusal symbol.RightBracket = Syntax
 
--- what a token is told as where the grammar doesn't allow it
+-- what a token is reported as where the grammar doesn't allow it
 abbrev pub refusal : Token → FaultKind
 refusal (Name w) = Syntax
 refusal (Escaped w) = Syntax
@@ -61,26 +61,27 @@ stopped stop.Malformed line = fault Syntax line
 stopped stop.End line = fault UnexpectedEnd line
 
 -- want of memory isn't a fault of the text
-abbrev pub told : code_kind.FaultKind → Option FaultKind
-told code.OutOfMemory = None
-told code.BadByte = Some BadByte
-told code.UnexpectedEnd = Some UnexpectedEnd
-told code.Syntax = Some Syntax
-told (code.OutOfSubset w) = Some (OutOfSubset w.now)
-told code.ZeroDelay = Some ZeroDelay
-told code.DelayTooFine = Some DelayTooFine
-told code.DelayTooLarge = Some DelayTooLarge
-told code.TooMany = Some TooMany
+abbrev pub reported : code_kind.FaultKind → Option FaultKind
+reported code.OutOfMemory = None
+reported code.BadByte = Some BadByte
+reported code.UnexpectedEnd = Some UnexpectedEnd
+reported code.Syntax = Some Syntax
+reported (code.OutOfSubset w) = Some (OutOfSubset w.now)
+reported code.ZeroDelay = Some ZeroDelay
+reported code.DelayTooFine = Some DelayTooFine
+reported code.DelayTooLarge = Some DelayTooLarge
+reported code.TooMany = Some TooMany
 
 abbrev pub Fails : {Y : Type 0} → code_fault.Fault → Result Y Fault → Type 0
-Fails e read = MatchOption (told e.kind) (Unit {0}) (λ kind. read ≡ Err (fault kind e.line))
+Fails e read = MatchOption (reported e.kind) (Unit {0}) (λ kind. read ≡ Err (fault kind e.line))
 
 -- What a function returned, seen by view, is what reading gives, unless memory ran out.
 abbrev pub Gives : {X Y : Type 0} → (X → Y) → Result X code_fault.Fault → Result Y Fault → Type 0
 Gives view (Ok x) read = read ≡ Ok (view x)
 Gives view (Err e) read = Fails e read
 
+-- one reader behind another, up to the first fault
 infixl 10 ◌>>=◌
-abbrev pub ◌>>=◌ : {A B : Type 0} → Result A Fault → (A → Result B Fault) → Result B Fault
+abbrev pub ◌>>=◌ : {A B E : Type 0} → Result A E → (A → Result B E) → Result B E
 (Ok x) >>= f = f x
 (Err e) >>= f = Err e

@@ -1,4 +1,4 @@
--- Which fault of tokens is told: what stands at the front of any text, also where it is no token of the grammar or none at all.
+-- Which fault of tokens is reported: what stands at the front of any text, also where it is no token of the grammar or none at all.
 use Rattle.std.specs.Prelude.{ℕ, suc, ◌+◌, ◌-◌, ◌<◌, ◌≤◌, List, [], ◌∷◌, length, take, drop, Option, None, Some, Bool, ◌||◌, ◌==◌, if◌then◌else◌, codes, true, false, Result, Ok, Err}
 use Rattle.std.specs.List.{prefix_len, position_or_len, list_any}
 use Rattle.std.specs.Option.{option_map}

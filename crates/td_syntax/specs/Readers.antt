@@ -158,7 +158,7 @@ directive_by (Outside w) = None
 abbrev pub as_directive : Placed → Option (Result Directive Unread)
 as_directive p = directive_by p.token
 
--- the text of a name as it is told
+-- the text of a name as it is reported
 abbrev pub name_text : Token → Option (List ℕ)
 name_text (Name w) = Some w
 name_text (Escaped w) = Some w
@@ -170,7 +170,7 @@ name_text Attribute = None
 name_text (Directs d w) = None
 name_text (Outside w) = None
 
--- what a token is told as where a name, too, is outside the subset
+-- what a token is reported as where a name, too, is outside the subset
 abbrev pub named_refusal : Placed → Option (List ℕ) → Fault
 named_refusal p None = refused p
 named_refusal p (Some w) = fault (OutOfSubset w) p.line

@@ -1,4 +1,4 @@
--- Which fault of a `timescale is told: its parts one after another, up to the first that can't be read.
+-- Which fault of a `timescale is reported: its parts one after another, up to the first that can't be read.
 use Rattle.std.specs.Prelude.{ℕ, ◌+◌, List, [], ◌∷◌, drop, Option, None, Some, ◌==◌, nat_le, min, if◌then◌else◌, Result, Ok, Err}
 use Rattle.std.specs.List.{prefix_len}
 use Rattle.td_syntax.specs.declared.token.Directive.{Directive}

@@ -1,4 +1,4 @@
--- Which fault of tokens is told: the tokens of any text, with their lines, and where they stop.
+-- Which fault of tokens is reported: the tokens of any text, with their lines, and where they stop.
 use Rattle.std.specs.Prelude.{ℕ, zero, suc, ◌+◌, List, [], ◌∷◌, length, take, drop}
 use Rattle.td_syntax.specs.declared.token.Stop.{Stop}
 use Rattle.td_syntax.specs.declared.token.Stop.TheVariants.{Cut, Bad, Malformed, End}
@@ -18,7 +18,7 @@ ends line stop = record { tokens = []; stop = stop; line = line }
 abbrev pub with_token : Placed → Stream → Stream
 with_token t s = record { tokens = t ∷ s.tokens; stop = s.stop; line = s.line }
 
--- A comment or an attribute that is cut short is told at the line of the end, another stop where it stands.
+-- A comment or an attribute that is cut short is reported at the line of the end, another stop where it stands.
 abbrev pub stop_line : ℕ → List ℕ → Stop → ℕ
 stop_line line bytes Cut = line + newlines bytes
 stop_line line bytes Bad = line

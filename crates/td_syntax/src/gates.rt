@@ -2,7 +2,7 @@
 
 ghost use Rattle.std.specs.Prelude.{◌≡◌, map, is_some};
 ghost use Rattle.td_syntax.specs.Grammar.{has_many_outputs};
-ghost use Rattle.td_syntax.specs.Faults.{Gives, told};
+ghost use Rattle.td_syntax.specs.Faults.{Gives, reported};
 ghost use Rattle.td_syntax.specs.Views.{placed_view, numeral_view, delay_view, option_delay_view, terminal_view, step_view, instance_view, statement_view};
 ghost use Rattle.td_syntax.specs.Readers.{many};
 ghost use Rattle.td_syntax.specs.Parsing.{steps_at, second_at, close_at, bracketed_at, delay_at, output_at, begin_terminal, more_terminals, terminal_end, bit_at, selected_at, terminal_step, opening_refusal, opening_at, instance_at, instance_step, statement_at};
@@ -28,7 +28,7 @@ fn has_many_outputs(kind: Kind) -> bool
 
 /// What stands in place of the `(` of an instance. A range behind its name is outside the subset.
 fn opening_refused<'a>(named: bool, placed: Placed<'a>) -> Fault<'a>
-    ensures kind { told result.kind ≡ Some (opening_refusal named (placed_view placed.entry)).kind }
+    ensures kind { reported result.kind ≡ Some (opening_refusal named (placed_view placed.entry)).kind }
     ensures line { result.line ≡ placed.entry.line }
 {
     if named && is_mark(Symbol::LeftBracket, placed.token) {

@@ -35,7 +35,7 @@ fn newlines(text: &[u8]) -> usize
     text.iter().filter(|b| **b == b'\n').count()
 }
 
-/// The line at which a stop is told: a comment that is cut short at the end of the text.
+/// The line at which a stop is reported: a comment that is cut short at the end of the text.
 fn stop_line(stop: Stop, line: u32, rest: &[u8]) -> u32
     requires { line + length rest.now ≤ 67108865 }
     ensures { result ≡ stop_line line rest.now stop }
@@ -62,6 +62,7 @@ impl<'a> Lexer<'a> {
     pub fn is_within(&self)
         ensures { length self.now.tokens ≤ 67108865 }
     {
+        // For the prover: this read says how long the text may be.
         let _rest = &self.rest;
     }
 

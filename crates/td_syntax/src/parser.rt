@@ -2,7 +2,7 @@
 
 ghost use Rattle.std.specs.Prelude.{◌≡◌, ◌≤◌, drop, length, Option, Some, None};
 ghost use Rattle.td_syntax.specs.Tokens.{tokens_of, front_of};
-ghost use Rattle.td_syntax.specs.Faults.{Gives, Fault, refused, stopped, told};
+ghost use Rattle.td_syntax.specs.Faults.{Gives, Fault, refused, stopped, reported};
 ghost use Rattle.td_syntax.specs.Views.{view, placed_view, name_view, names_view, option_name_view, option_bytes, option_number_view, step_view, option_terminal_view};
 ghost use Rattle.td_syntax.specs.Readers as readers;
 ghost use Rattle.td_syntax.specs.Readers.{behind_front, is_mark, as_name, as_number, as_whole, as_attribute, as_keyword, refused_name, next_at, name_at, whole_at, maybe_at, mark_at, maybe_mark_at, separator_at, name_step, names_at};
@@ -15,10 +15,7 @@ use crate::syntax::{Name, Role, Terminal};
 use crate::token::{Front, Number, Placed, Stop, Symbol, Token};
 use std::alloc::Global;
 use std::marker::Model;
-use td_nets::Keyword;
-
-/// The greatest number of gates, one for each output of an instance.
-const MAX_GATES: u32 = 200_000;
+use td_nets::{Keyword, MAX_GATES};
 
 /// What is left of a text, and how many gates there are so far.
 #[derive(Drop)]
@@ -41,9 +38,9 @@ pub fn fault<'a>(kind: FaultKind<'a>, line: u32) -> Fault<'a>
     Fault { kind, line }
 }
 
-/// What a token is told as where the grammar doesn't allow it.
+/// What a token is reported as where the grammar doesn't allow it.
 pub fn refused<'a>(placed: Placed<'a>) -> Fault<'a>
-    ensures kind { told result.kind ≡ Some (refused (placed_view placed.entry)).kind }
+    ensures kind { reported result.kind ≡ Some (refused (placed_view placed.entry)).kind }
     ensures line { result.line ≡ placed.entry.line }
 {
     match placed.token {
@@ -58,7 +55,7 @@ pub fn refused<'a>(placed: Placed<'a>) -> Fault<'a>
 
 /// The same where a name, too, is outside the subset.
 pub fn refused_name<'a>(placed: Placed<'a>) -> Fault<'a>
-    ensures kind { told result.kind ≡ Some (refused_name (placed_view placed.entry)).kind }
+    ensures kind { reported result.kind ≡ Some (refused_name (placed_view placed.entry)).kind }
     ensures line { result.line ≡ placed.entry.line }
 {
     match placed.token {
@@ -71,7 +68,7 @@ pub fn refused_name<'a>(placed: Placed<'a>) -> Fault<'a>
 
 /// What stands behind the last token, where another is due.
 fn stopped<'a>(stop: Stop, line: u32) -> Fault<'a>
-    ensures kind { told result.kind ≡ Some (stopped stop line).kind }
+    ensures kind { reported result.kind ≡ Some (stopped stop line).kind }
     ensures line { result.line ≡ line }
 {
     match stop {
@@ -204,9 +201,9 @@ pub fn direction_of(placed: Placed<'_>) -> Option<Role>
     }
 }
 
-/// What a token behind the module is told as. A second module is outside the subset.
+/// What a token behind the module is reported as. A second module is outside the subset.
 fn second_refused<'a>(placed: Placed<'a>) -> Fault<'a>
-    ensures kind { told result.kind ≡ Some (second_refusal (placed_view placed.entry)).kind }
+    ensures kind { reported result.kind ≡ Some (second_refusal (placed_view placed.entry)).kind }
     ensures line { result.line ≡ placed.entry.line }
 {
     match is_module(placed) {

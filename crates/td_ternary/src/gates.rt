@@ -34,7 +34,7 @@ pub fn output(
     requires within { All (λ signal. last_change signal.changes + max delay.rise delay.fall < 10 ^ 15) (filter_map (slice_get all.now) ins.now) }
     ensures { IfOk result (λ signal. signal ≡ gate_signal kind delay (filter_map (slice_get all.now) ins.now)) }
 {
-    // The range of the delay, for the proof.
+    // For the prover: this read says that the delay is in range.
     let _rise = delay.rise;
     let signal = uncapped(scratch, kind, delay, all, ins)?;
     capped(signal)

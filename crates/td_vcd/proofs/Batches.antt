@@ -3,8 +3,8 @@ use Rattle.std.proofs.Common.{◌≡◌, ℕ, List, [], ◌++◌, refl, sym, ap,
 use Rattle.std.proofs.lemmas.List.{append-nil}
 use Rattle.std.specs.Prelude.{Option}
 use Rattle.std.specs.Io.KnownBytes.{Appends}
-use Rattle.td_gates.specs.Output.{Output, Sent, SentTo, Failed, one_more}
-use Rattle.td_gates.proofs.Outputs.{Sent-then, SentTo-more, SentTo-then, SentTo-failed, SentTo-sent, Failed-longer}
+use Rattle.td_text.specs.Output.{Output, Sent, SentTo, Failed, one_more}
+use Rattle.td_text.proofs.Outputs.{Sent-then, SentTo-more, SentTo-then, SentTo-failed, SentTo-sent, Failed-longer}
 use Rattle.td_vcd.specs.declared.fault.VcdFault.{VcdFault}
 use Rattle.td_vcd.specs.declared.fault.VcdFault.TheVariants.{OutOfMemory, Device}
 use Rattle.td_vcd.specs.Writes.{IsRefused}

@@ -1,7 +1,7 @@
 -- What a write of a dump leaves.
 use Rattle.std.specs.Prelude.{◌≡◌, ℕ, List, length}
 use Rattle.std.specs.List.{All}
-use Rattle.td_gates.specs.Output.{Output, SentFront, one_more}
+use Rattle.td_text.specs.Output.{Output, SentFront, one_more}
 use Rattle.td_circuit.specs.Numbering.{Numbered, nets}
 use Rattle.td_circuit.specs.NetValues.{net_wave}
 use Rattle.td_run.specs.Waves.{AreWithin}

@@ -6,8 +6,9 @@ ghost use Rattle.td_vcd.specs.Text.{level_character};
 use itoa::Buffer;
 use std::alloc::{AllocError, Global};
 use std::marker::Model;
-use td_gates::{DeviceFault, Level, Sink};
+use td_gates::Level;
 use td_nets::{Name, Unit};
+use td_text::{DeviceFault, Sink};
 
 /// How many bytes are gathered before they are written.
 const FULL: usize = 65_536;
@@ -42,7 +43,7 @@ impl Model for Batch {
 
 impl Batch {
     ghost use Rattle.std.specs.Prelude.{◌≡◌, ◌++◌, ◌∷◌, [], OnOk, OnErr, decimal};
-    ghost use Rattle.td_gates.specs.Output.{SentTo, Sent, Failed};
+    ghost use Rattle.td_text.specs.Output.{SentTo, Sent, Failed};
     ghost use Rattle.td_nets.specs.Views.{name_of};
     ghost use Rattle.td_nets.specs.Printed.{printed};
     ghost use Rattle.td_vcd.specs.Text.{Number, Sets, code, ended, timescale, scope, declaration};

@@ -4,7 +4,7 @@ ghost use Rattle.std.specs.Prelude.{◌≡◌};
 ghost use Rattle.td_vcd.specs.declared.fault.VcdFault.TheVariants as fault;
 
 use std::alloc::AllocError;
-use td_gates::DeviceFault;
+use td_text::DeviceFault;
 use thiserror::Error;
 
 /// Why a dump was not written.

@@ -2,7 +2,7 @@
 
 ghost use Rattle.std.specs.Prelude.{◌≡◌, ◌++◌, ◌<◌, ◌≤◌, length, OnOk, IfOk, IfErr};
 ghost use Rattle.std.specs.List.{All};
-ghost use Rattle.td_gates.specs.Output.{Sent, SentTo};
+ghost use Rattle.td_text.specs.Output.{Sent, SentTo};
 ghost use Rattle.td_nets.specs.WellFormed.{driven};
 ghost use Rattle.td_circuit.specs.Numbering.{IsNumbering};
 ghost use Rattle.td_run.specs.Waves.{waves_of};
@@ -15,14 +15,15 @@ use crate::events::{Event, events};
 use crate::fault::VcdFault;
 use std::alloc::{AllocError, Global};
 use td_circuit::Circuit;
-use td_gates::Sink;
 use td_run::Run;
+use td_text::Sink;
 
 /// The nets of the variables: the inputs in order, and then the outputs of the gates in the order of the netlist.
 fn variable_nets(alloc: Global, circuit: &Circuit) -> Result<Vec<u32>, AllocError>
     ensures nets { IfOk result (λ nets. AreVariables circuit.now nets.items) }
     ensures numbering { IsNumbering circuit.now }
 {
+    // For the prover: this call says that the gates are in order.
     let _gates = circuit.gates();
     let mut nets = Vec::new(alloc);
     for place in 0..circuit.input_count() {

@@ -3,6 +3,8 @@
 
 use std::process::ExitCode;
 use std::{env, io};
+use td_advice::advising::{advise, asks_hints};
+use td_advice::system::System;
 use td_cli::{ReadFault, RealFiles, WriterSink, refuse_words, run};
 
 fn main(rt: HostRuntime) -> ExitCode {
@@ -14,9 +16,22 @@ fn main(rt: HostRuntime) -> ExitCode {
     };
     let status = match words {
         Ok(words) => {
+            let words = words.as_slice();
             let mut files = RealFiles::new(&rt);
             let mut out = WriterSink::new(rt.stdout());
-            run(&rt, alloc, words.as_slice(), &mut files, &mut out, &mut err)
+            let status = run(&rt, alloc, words, &mut files, &mut out, &mut err);
+            // Hints stand behind all that the run wrote.
+            if asks_hints(words) {
+                advise(
+                    alloc,
+                    words,
+                    status,
+                    &mut files,
+                    &System::new(&rt),
+                    &mut err,
+                );
+            }
+            status
         }
         Err(error) => refuse_words(&mut err, ReadFault::from(error)),
     };

@@ -1,5 +1,5 @@
 use Rattle.std.proofs.Common.{ap, length, arith}
-use Rattle.td_certificate.proofs.Loops.{weave-length}
+use Rattle.td_domain.proofs.Weaving.{weave-length}
 use Rattle.td_certificate.proofs.asking.limited.Goals as goal
 
 pub new-requires : goal.new-requires

@@ -1,6 +1,6 @@
 use Rattle.std.proofs.Common.{ap, length, arith, ◌≤◌, ◌+◌}
 use Rattle.std.proofs.lemmas.Result.{err_from_is_err_and}
-use Rattle.td_gates.proofs.Outputs.{SentTo-then, SentTo-failed, SentTo-sent}
+use Rattle.td_text.proofs.Outputs.{SentTo-then, SentTo-failed, SentTo-sent}
 use Rattle.td_certificate.proofs.Batches.{head_begins, part_front, node_pushed, node_stopped, stopped_front, all_sent}
 use Rattle.td_certificate.proofs.writing.write.Goals as goal
 

@@ -1,5 +1,5 @@
 use Rattle.std.specs.Prelude.{string_bytes}
-use Rattle.td_gates.specs.Output.{SentTo}
+use Rattle.td_text.specs.Output.{SentTo}
 use Rattle.td_certificate.proofs.Batches.{up_to}
 use Rattle.td_certificate.proofs.writing.write.Given as goal
 

@@ -1,5 +1,5 @@
 use Rattle.std.proofs.lemmas.Result.{err_from_is_err_and}
-use Rattle.td_gates.proofs.Outputs.{SentTo-begins}
+use Rattle.td_text.proofs.Outputs.{SentTo-begins}
 use Rattle.td_certificate.proofs.writing.write_node.Goals as goal
 
 pub returns-in_err-push_line-in-Split-clause-err : goal.returns-in_err-push_line-in-Split-clause-err

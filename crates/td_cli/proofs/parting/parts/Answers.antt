@@ -1,5 +1,6 @@
 use Rattle.std.proofs.Common.{arith}
 use Rattle.std.proofs.lemmas.Result.{IfOk-weaker, IfErr-weaker}
+use Rattle.td_worst.specs.Methods.{tree_of}
 use Rattle.td_search.specs.Problems.{problem_by}
 use Rattle.td_cli.proofs.Questions.{asked_held}
 use Rattle.td_cli.proofs.Joinings.{no_parts}
@@ -11,7 +12,7 @@ invariant_of-problem c = record { held = asked_held c.args.text.now c.args.defau
 pub returns-clause-refusal : goal.returns-clause-refusal
 returns-clause-refusal c =
     IfErr-weaker c.some_lines.result _ _
-    (λ reason has. no_parts c.args.text.now c.args.default c.args.words (problem_by c.args.words.strategy c.in_ok-asked.asked.circuit c.in_ok-asked.asked.admit)
+    (λ reason has. no_parts c.args.text.now c.args.default c.args.words (problem_by (tree_of c.args.words.strategy) c.in_ok-asked.asked.circuit c.in_ok-asked.asked.admit)
     c.in_ok-cubes.cubes.items reason c.in_ok-asked.ensures.asked c.in_ok-cubes.ensures.partition has)
     (rw c.deref.ensures.value at c.some_lines.ensures.none)
 
@@ -19,13 +20,13 @@ pub returns-clause-report : goal.returns-clause-report
 returns-clause-report c =
     IfOk-weaker c.some_lines.result _ _
     (λ report is. record {
-      asked = problem_by c.args.words.strategy c.in_ok-asked.asked.circuit c.in_ok-asked.asked.admit;
+      asked = problem_by (tree_of c.args.words.strategy) c.in_ok-asked.asked.circuit c.in_ok-asked.asked.admit;
       is_asked = c.in_ok-asked.ensures.asked;
       cubes = c.in_ok-cubes.cubes.items;
       partition = c.in_ok-cubes.ensures.partition;
       any = is.0;
       few = omega (arith, c.in_ok-cubes.ensures.few, c.requires);
-      enough = c.in_ok-cubes.ensures.enough;
+      enough = (rw c.strategy.ensures at c.in_ok-cubes.ensures.enough);
       some = c.in_ok-cubes.ensures.some;
       inside = c.in_ok-cubes.ensures.inside;
       is = is.1;

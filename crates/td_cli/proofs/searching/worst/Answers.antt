@@ -1,10 +1,11 @@
 use Rattle.std.proofs.Common.{inr}
+use Rattle.td_worst.specs.Methods.{tree_of}
 use Rattle.td_search.specs.Problems.{problem_by}
 use Rattle.td_cli.proofs.Questions.{asked_held, asked_flips, no_answer, certificate_spelled, pair_fits}
 use Rattle.td_cli.proofs.searching.worst.Goals as goal
 
-pub invariant_of-problem : goal.invariant_of-problem
-invariant_of-problem g c = record { held = asked_held c.args.text.now c.args.default c.args.words _ c.in_ok-circuit.ensures.asked }
+pub worst-searched-requires-clause-held : goal.worst-searched-requires-clause-held
+worst-searched-requires-clause-held g c κs within = asked_held c.args.text.now c.args.default c.args.words _ c.in_ok-circuit.ensures.asked
 
 pub returns-in-Err-clause-refusal : goal.returns-in-Err-clause-refusal
 returns-in-Err-clause-refusal g c =
@@ -14,23 +15,23 @@ pub found_of-requires-clause-flips : goal.found_of-requires-clause-flips
 found_of-requires-clause-flips g c = asked_flips c.args.text.now c.args.default c.args.words _ c.in_ok-circuit.ensures.asked
 
 pub found_of-requires-clause-first_fits : goal.found_of-requires-clause-first_fits
-found_of-requires-clause-first_fits g c = (pair_fits _ c.args.budget c.in-Ok.answer c.in-Ok.ensures.answer).0
+found_of-requires-clause-first_fits g c = (pair_fits c.args.words.strategy _ c.args.budget c.in-Ok.answer c.in-Ok.ensures.answer).0
 
 pub found_of-requires-clause-second_fits : goal.found_of-requires-clause-second_fits
-found_of-requires-clause-second_fits g c = (pair_fits _ c.args.budget c.in-Ok.answer c.in-Ok.ensures.answer).1
+found_of-requires-clause-second_fits g c = (pair_fits c.args.words.strategy _ c.args.budget c.in-Ok.answer c.in-Ok.ensures.answer).1
 
 pub returns-clause-spelled : goal.returns-clause-spelled
 returns-clause-spelled g c =
-    rw c.in_ok-found.ensures.certified (certificate_spelled (problem_by c.args.words.strategy c.in_ok-circuit.field-0.circuit c.in_ok-circuit.field-0.admit) c.in-Ok.answer c.in-Ok.ensures.text)
+    rw c.in_ok-found.ensures.certified (certificate_spelled (problem_by (tree_of c.args.words.strategy) c.in_ok-circuit.field-0.circuit c.in_ok-circuit.field-0.admit) c.in-Ok.answer c.in-Ok.ensures.text)
 
 pub returns-in-Err-clause-told : goal.returns-in-Err-clause-told
 returns-in-Err-clause-told g c =
-    inr (problem_by c.args.words.strategy c.in_ok-circuit.field-0.circuit c.in_ok-circuit.field-0.admit, c.in_ok-circuit.ensures.asked, c.search-searched.ensures.told)
+    inr (problem_by (tree_of c.args.words.strategy) c.in_ok-circuit.field-0.circuit c.in_ok-circuit.field-0.admit, c.in_ok-circuit.ensures.asked, c.worst-searched.ensures.told)
 
 pub returns-in_err-found-clause-told : goal.returns-in_err-found-clause-told
 returns-in_err-found-clause-told g c =
-    inr (problem_by c.args.words.strategy c.in_ok-circuit.field-0.circuit c.in_ok-circuit.field-0.admit, c.in_ok-circuit.ensures.asked, c.search-searched.ensures.told)
+    inr (problem_by (tree_of c.args.words.strategy) c.in_ok-circuit.field-0.circuit c.in_ok-circuit.field-0.admit, c.in_ok-circuit.ensures.asked, c.worst-searched.ensures.told)
 
 pub returns-clause-told : goal.returns-clause-told
 returns-clause-told g c =
-    inr (problem_by c.args.words.strategy c.in_ok-circuit.field-0.circuit c.in_ok-circuit.field-0.admit, c.in_ok-circuit.ensures.asked, c.search-searched.ensures.told)
+    inr (problem_by (tree_of c.args.words.strategy) c.in_ok-circuit.field-0.circuit c.in_ok-circuit.field-0.admit, c.in_ok-circuit.ensures.asked, c.worst-searched.ensures.told)

@@ -45,10 +45,10 @@ pub returns-then-is_same-clause-gate : goal.returns-then-is_same-clause-gate
 returns-then-is_same-clause-gate g c = λ gate at.
     let stands = standing _ _ _ c.index-gates-place.result c.gates-gates.ensures.gates c.requires.place (λ h. at_place _ _ _ _ c.gates-gates.ensures.gates h c.index-gates-place.is) in
     let same : gate_of c.index-gates-place.result ≡ gate = some-same (gate_of c.index-gates-place.result) gate (sym stands ∙ at) in
-    let net : (c.input_count.result + 2) + c.args.place ≡ first_output c.args.circuit.now + c.args.place = omega (arith, c.input_count.ensures) in
-    let there : slice_get c.args.signals.now ((c.input_count.result + 2) + c.args.place) ≡ Some c.index-signals-net.result =
-    slice_get_read c.args.signals.now (length c.args.signals.now) ((c.input_count.result + 2) + c.args.place) c.index-signals-net.result refl
-    (omega (arith, c.input_count.ensures, c.requires.place, c.requires.count, length-nets c.args.circuit.now c.gates-gates.ensures.numbering)) c.index-signals-net.is in
+    let net : c.net_of_gate-net.result ≡ first_output c.args.circuit.now + c.args.place = c.net_of_gate-net.ensures in
+    let there : slice_get c.args.signals.now c.net_of_gate-net.result ≡ Some c.index-signals-net.result =
+    slice_get_read c.args.signals.now (length c.args.signals.now) c.net_of_gate-net.result c.index-signals-net.result refl
+    (omega (arith, c.net_of_gate-net.ensures, c.requires.place, c.requires.count, length-nets c.args.circuit.now c.gates-gates.ensures.numbering)) c.index-signals-net.is in
     let equal : c.in_ok-signal.signal ≡ c.index-signals-net.result = c.is_same.ensures.0 c.if-is_same.true ∙ sym c.index-signals-net.is in
     let is = (rw c.deref.ensures.value at c.in_ok-signal.ensures)
     ∙ ap (λ (it : NumberedGate). g.D.Domain.functions.gate_of it.kind it.delay (filter_map (slice_get c.args.signals.now) it.inputs)) same in
@@ -59,7 +59,7 @@ pub returns-clause-gate : goal.returns-clause-gate
 returns-clause-gate g c = λ gate at.
     let stands = standing _ _ _ c.index-gates-place.result c.gates-gates.ensures.gates c.requires.place (λ h. at_place _ _ _ _ c.gates-gates.ensures.gates h c.index-gates-place.is) in
     let same : gate_of c.index-gates-place.result ≡ gate = some-same (gate_of c.index-gates-place.result) gate (sym stands ∙ at) in
-    let net : (c.input_count.result + 2) + c.args.place ≡ first_output c.args.circuit.now + c.args.place = omega (arith, c.input_count.ensures) in
+    let net : c.net_of_gate-net.result ≡ first_output c.args.circuit.now + c.args.place = c.net_of_gate-net.ensures in
     let is = (rw c.deref.ensures.value at c.in_ok-signal.ensures)
     ∙ ap (λ (it : NumberedGate). g.D.Domain.functions.gate_of it.kind it.delay (filter_map (slice_get c.args.signals.now) it.inputs)) same in
     c.put.ensures.signals ∙ ap (λ n. set c.args.signals.now n c.in_ok-signal.signal) net
@@ -68,7 +68,7 @@ returns-clause-gate g c = λ gate at.
 pub returns-clause-settled : goal.returns-clause-settled
 returns-clause-settled g c =
     let stands = standing _ _ _ c.index-gates-place.result c.gates-gates.ensures.gates c.requires.place (λ h. at_place _ _ _ _ c.gates-gates.ensures.gates h c.index-gates-place.is) in
-    let net : (c.input_count.result + 2) + c.args.place ≡ first_output c.args.circuit.now + c.args.place = omega (arith, c.input_count.ensures) in
+    let net : c.net_of_gate-net.result ≡ first_output c.args.circuit.now + c.args.place = c.net_of_gate-net.ensures in
     rw (c.put.ensures.signals, net) (settled-next g.D.Domain.functions c.args.circuit.now c.gates-gates.ensures.numbering
     c.args.place (gate_of c.index-gates-place.result) c.args.signals.now c.args.changed.now c.in_ok-signal.signal stands
     c.requires.count c.requires.marks (rw c.deref.ensures.value at c.in_ok-signal.ensures) c.requires.settled)

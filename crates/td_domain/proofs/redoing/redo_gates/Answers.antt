@@ -15,18 +15,18 @@ loop-output-init g c = record {
 pub overflow_sub-net : goal.overflow_sub-net
 overflow_sub-net g c =
     (numbered g.D.Domain.functions g.D.Domain.reach c.args.circuit.now c.gates-numbering.ensures.numbering c.args.cone.now c.args.signals.now
-    c.loop-output.output-index _ c.requires.can c.loop-output-test.true c.input_count-first.ensures).0
+    c.loop-output.output-index _ c.requires.can c.loop-output-test.true c.first_gate-first.ensures).0
 
 pub redo_gate-requires-clause-place : goal.redo_gate-requires-clause-place
 redo_gate-requires-clause-place g c =
     (numbered g.D.Domain.functions g.D.Domain.reach c.args.circuit.now c.gates-numbering.ensures.numbering c.args.cone.now c.args.signals.now
-    c.loop-output.output-index _ c.requires.can c.loop-output-test.true c.input_count-first.ensures).1
+    c.loop-output.output-index _ c.requires.can c.loop-output-test.true c.first_gate-first.ensures).1
 
 pub loop-output-preserved : goal.loop-output-preserved
 loop-output-preserved g c = record {
   redone = redo-next-at g.D.Domain.functions g.D.Domain.reach c.args.circuit.now c.gates-numbering.ensures.numbering
       g.met.D.Domain.reach_gate c.args.cone.now c.loop-output.output-index _ c.args.signals.now c.loop-output.signals _
-      c.requires.can c.loop-output-test.true c.input_count-first.ensures c.loop-output.invariant.redone c.in_ok-redo_gate.ensures.gate;
+      c.requires.can c.loop-output-test.true c.first_gate-first.ensures c.loop-output.invariant.redone c.in_ok-redo_gate.ensures.gate;
   settled = c.in_ok-redo_gate.ensures.settled;
   marks = c.redo_gate.ensures.marks ∙ c.loop-output.invariant.marks;
   undone = c.redo_gate.ensures.undone ∙ c.loop-output.invariant.undone;

@@ -10,7 +10,7 @@ use Rattle.td_info.proofs.depths.depths_of.Goals as goal
 
 pub loop-gate-init : goal.loop-gate-init
 loop-gate-init c = depths_none c.args.circuit.now c.gates-gates.ensures.numbering c.in_ok-depths.depths.items
-    (c.in_ok-depths.ensures.items_if_clones_equal (λ y is. is) ∙ ap (λ n. replicate (n + 2) 0) c.input_count.ensures)
+    (c.in_ok-depths.ensures.items_if_clones_equal (λ y is. is) ∙ ap (λ n. replicate n 0) c.first_gate.ensures)
 
 pub deepest_of-below-requires : goal.deepest_of-below-requires
 deepest_of-below-requires c =

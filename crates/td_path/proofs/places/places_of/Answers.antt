@@ -10,14 +10,14 @@ overflow_sub-net c =
     let at_place = ap (λ xs. slice_get xs c.loop-place.place) (sym c.gate_outputs-net-items.ensures)
     ∙ slice_get-get_or c.gate_outputs-net-items.result.now c.loop-place.place 0 c.loop-place-test.true in
     let placed = placed_at c.args.circuit.now c.gates-gates.ensures.numbering c.loop-place.place _ at_place in
-    omega (arith, placed.number, c.input_count-first.ensures)
+    omega (arith, placed.number, c.first_gate-first.ensures)
 
 pub index_mut-requires : goal.index_mut-requires
 index_mut-requires c =
     let at_place = ap (λ xs. slice_get xs c.loop-place.place) (sym c.gate_outputs-net-items.ensures)
     ∙ slice_get-get_or c.gate_outputs-net-items.result.now c.loop-place.place 0 c.loop-place-test.true in
     let placed = placed_at c.args.circuit.now c.gates-gates.ensures.numbering c.loop-place.place _ at_place in
-    omega (arith, placed.number, placed.below, c.input_count-first.ensures, c.loop-place.invariant.count, c.loop-place.places.ok.0)
+    omega (arith, placed.number, placed.below, c.first_gate-first.ensures, c.loop-place.invariant.count, c.loop-place.places.ok.0)
 
 pub loop-place-preserved : goal.loop-place-preserved
 loop-place-preserved c =
@@ -26,7 +26,7 @@ loop-place-preserved c =
     record {
       count = length-set c.loop-place.places.items _ _ ∙ c.loop-place.invariant.count;
       placed = placed_next c.args.circuit.now c.gates-gates.ensures.numbering c.loop-place.places.items c.loop-place.place _
-          (c.input_count-first.result + 2) (c.loop-place.place + 1) (ap (λ n. n + 2) c.input_count-first.ensures) (omega arith)
+          c.first_gate-first.result (c.loop-place.place + 1) c.first_gate-first.ensures (omega arith)
           c.loop-place.invariant.count at_place c.loop-place.invariant.placed;
     }
 

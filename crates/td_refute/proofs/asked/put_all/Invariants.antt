@@ -1,4 +1,4 @@
-use Rattle.td_climb.specs.Bits.{AreAdmitted}
+use Rattle.td_domain.specs.PairBits.{AreAdmitted}
 use Rattle.td_refute.proofs.asked.put_all.Given as goal
 
 abbrev pub invariant-loop-input : goal.invariant-loop-input

@@ -1,5 +1,5 @@
 use Rattle.std.specs.Prelude.{map}
-use Rattle.td_refute.specs.Steps.{step_of}
+use Rattle.td_refutation.specs.Whole.{step_of}
 use Rattle.td_refute.proofs.StepLaws.{refuted}
 use Rattle.td_refute.proofs.checking.bound_by.Goals as goal
 

@@ -1,5 +1,5 @@
 use Rattle.std.proofs.Common.{map, drop}
-use Rattle.td_refute.specs.Steps.{step_of}
+use Rattle.td_refutation.specs.Whole.{step_of}
 use Rattle.td_refute.proofs.StepLaws.{AreUnderWay}
 use Rattle.td_refute.proofs.checking.do_steps.Given as goal
 

@@ -1,5 +1,5 @@
 use Rattle.std.proofs.Common.{◌∙◌}
-use Rattle.td_climb.proofs.Changing.{vectors_in}
+use Rattle.td_domain.proofs.Changing.{vectors_in}
 use Rattle.td_refute.proofs.refuting.keep_later.Goals as goal
 
 pub delay_of-requires-clause-first_fits : goal.delay_of-requires-clause-first_fits

@@ -1,6 +1,6 @@
 use Rattle.std.specs.Prelude.{map}
 use Rattle.td_circuit.specs.Numbering.{setting}
-use Rattle.td_refute.specs.Steps.{step_of}
+use Rattle.td_refutation.specs.Whole.{step_of}
 use Rattle.td_refute.proofs.StepLaws.{bounded}
 use Rattle.td_refute.proofs.Worst.{worst_is}
 use Rattle.td_refute.proofs.refuting.show.Goals as goal

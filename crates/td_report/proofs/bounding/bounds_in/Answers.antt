@@ -2,7 +2,8 @@ use Rattle.std.proofs.Common.{◌≡◌, length, arith, ap, refl, inl, inr}
 use Rattle.td_circuit.specs.Numbering.{Numbered, setting}
 use Rattle.td_report.proofs.Moments.{moments_fit}
 use Rattle.td_report.proofs.Refusing.{bad_word}
-use Rattle.td_report.proofs.Vectors.{given-length, woven-length}
+use Rattle.td_domain.proofs.Weaving.{weave-length}
+use Rattle.td_report.proofs.Vectors.{given-length}
 use Rattle.td_report.proofs.bounding.bounds_in.Goals as goal
 
 pub returns-in_default-clause-bad : goal.returns-in_default-clause-bad
@@ -33,8 +34,8 @@ pub set_moments-requires : goal.set_moments-requires
 set_moments-requires c =
     moments_fit c.args.circuit.now.netlist _ _ (rw (c.in-Some-3.is, c.input_count-inputs.ensures) at c.in_ok-moments.ensures.some)
 
-pub cube-requires : goal.cube-requires
-cube-requires c =
+pub weave-requires : goal.weave-requires
+weave-requires c =
     let first : length c.in-Some.firsts.items ≡ c.input_count-inputs.result = given-length _ _ _ _ _ (rw c.in-Some.is at c.in_ok-firsts.ensures.some) in
     let second : length c.in-Some-2.seconds.items ≡ c.input_count-inputs.result = given-length _ _ _ _ _ (rw c.in-Some-2.is at c.in_ok-seconds.ensures.some) in
     omega (arith, first, second, ap length c.deref.ensures.value, ap length c.deref-2.ensures.value)
@@ -46,7 +47,7 @@ report_on-requires c =
     let same : length c.deref.result.now ≡ length c.deref-2.result.now =
     omega (arith, first, second, ap length c.deref.ensures.value, ap length c.deref-2.ensures.value) in
     let netlist = ap (λ (circuit : Numbered). length circuit.netlist.inputs) c.set_moments.ensures in
-    omega (arith, first, netlist, c.input_count-inputs.ensures, ap length c.deref.ensures.value, ap length c.in_ok-cube.ensures, woven-length _ _ same)
+    omega (arith, first, netlist, c.input_count-inputs.ensures, ap length c.deref.ensures.value, ap length c.in_ok-cube.ensures, weave-length _ _ same)
 
 pub returns-clause-report : goal.returns-clause-report
 returns-clause-report c = λ text default is.

@@ -1,5 +1,5 @@
 use Rattle.std.proofs.lemmas.Result.{err_from_is_err_and}
-use Rattle.td_gates.proofs.Outputs.{SentTo-begins}
+use Rattle.td_text.proofs.Outputs.{SentTo-begins}
 use Rattle.td_vcd.proofs.Batches.{turn, room, whole, refused_batch, refused_growth}
 use Rattle.td_vcd.proofs.Steps.{lines_step, lines_end, event_origin}
 use Rattle.td_vcd.proofs.writing.write_changes.Goals as goal

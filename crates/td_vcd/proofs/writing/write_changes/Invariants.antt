@@ -1,5 +1,5 @@
 use Rattle.std.proofs.Common.{◌++◌, drop}
-use Rattle.td_gates.specs.Output.{SentTo}
+use Rattle.td_text.specs.Output.{SentTo}
 use Rattle.td_vcd.specs.Text.{text_of}
 use Rattle.td_vcd.specs.Walks.{lines_from}
 use Rattle.td_vcd.proofs.writing.write_changes.Given as goal

@@ -1,6 +1,6 @@
 use Rattle.std.proofs.Common.{arith, length, ◌≤◌}
 use Rattle.std.proofs.lemmas.Result.{err_from_is_err_and}
-use Rattle.td_gates.proofs.Outputs.{SentTo-begins}
+use Rattle.td_text.proofs.Outputs.{SentTo-begins}
 use Rattle.td_nets.specs.Views.{name_of}
 use Rattle.td_nets.specs.WellFormed.{driven}
 use Rattle.td_vcd.specs.Text.{declaration}

@@ -1,5 +1,5 @@
 use Rattle.std.proofs.Common.{◌++◌, drop}
-use Rattle.td_gates.specs.Output.{SentTo}
+use Rattle.td_text.specs.Output.{SentTo}
 use Rattle.td_nets.specs.WellFormed.{driven}
 use Rattle.td_vcd.specs.Text.{text_of, numbered, declaration}
 use Rattle.td_vcd.proofs.writing.write_declarations.Given as goal

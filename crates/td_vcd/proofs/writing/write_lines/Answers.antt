@@ -1,7 +1,7 @@
 use Rattle.std.proofs.Common.{◌++◌}
 use Rattle.std.specs.Prelude.{codes}
 use Rattle.std.proofs.lemmas.Result.{err_from_is_err_and}
-use Rattle.td_gates.proofs.Outputs.{SentTo-begins, SentTo-then, SentTo-sent}
+use Rattle.td_text.proofs.Outputs.{SentTo-begins, SentTo-then, SentTo-sent}
 use Rattle.td_nets.specs.WellFormed.{driven}
 use Rattle.td_run.specs.Waves.{waves_of}
 use Rattle.td_vcd.specs.Text.{text_of, numbered, declaration, start_line}

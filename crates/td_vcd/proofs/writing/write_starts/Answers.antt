@@ -1,6 +1,6 @@
 use Rattle.std.proofs.Common.{arith, length, ◌≤◌}
 use Rattle.std.proofs.lemmas.Result.{err_from_is_err_and}
-use Rattle.td_gates.proofs.Outputs.{SentTo-begins}
+use Rattle.td_text.proofs.Outputs.{SentTo-begins}
 use Rattle.td_run.specs.Waves.{waves_of}
 use Rattle.td_run.proofs.Turning.{length-waves_of}
 use Rattle.td_vcd.specs.Text.{start_line}

@@ -1,5 +1,5 @@
 use Rattle.std.proofs.Common.{◌++◌, drop}
-use Rattle.td_gates.specs.Output.{SentTo}
+use Rattle.td_text.specs.Output.{SentTo}
 use Rattle.td_run.specs.Waves.{waves_of}
 use Rattle.td_vcd.specs.Text.{text_of, numbered, start_line}
 use Rattle.td_vcd.proofs.writing.write_starts.Given as goal

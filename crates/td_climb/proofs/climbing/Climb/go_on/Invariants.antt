@@ -1,4 +1,4 @@
-use Rattle.td_climb.specs.Bits.{AreAdmitted}
+use Rattle.td_domain.specs.PairBits.{AreAdmitted}
 use Rattle.td_climb.proofs.climbing.Climb.go_on.Given as goal
 
 abbrev pub invariant-loop : goal.invariant-loop

@@ -1,6 +1,6 @@
 use Rattle.std.proofs.Common.{◌∙◌, List, OnOk, ap, codes, subst}
 use Rattle.clap.specs.Words.{App, Rule, Shape, new_app}
-use Rattle.td_command.specs.CommandLine.{with_default, with_moments, with_pair, with_vcd}
+use Rattle.td_command.specs.CommandLine.{with_common, with_moments, with_pair, with_vcd}
 use Rattle.td_command.specs.Telling.{told, OffersCommand}
 use Rattle.td_command.proofs.commands.Commands.sim.Goals as goal
 
@@ -10,5 +10,5 @@ returns c =
     let pair_is = c.in_ok-pair.ensures bare ∙ ap (λ (rules : List Rule). with_pair (told bare rules)) c.new-arguments.ensures in
     let moments_is = c.in_ok-moments.ensures bare ∙ ap with_moments pair_is in
     let vcd_is = c.in_ok-vcd.ensures bare ∙ ap with_vcd moments_is in
-    let default_delay_is = c.in_ok-default_delay.ensures bare ∙ ap with_default vcd_is in
-    subst (λ (shape : Shape). OnOk c.add.result (OffersCommand shape c.args.self.now c.add.new.self)) (ap (λ (app : App). app.top) default_delay_is) c.add.ensures
+    let common_is = c.in_ok-common.ensures bare ∙ ap with_common vcd_is in
+    subst (λ (shape : Shape). OnOk c.add.result (OffersCommand shape c.args.self.now c.add.new.self)) (ap (λ (app : App). app.top) common_is) c.add.ensures

@@ -27,8 +27,8 @@ update-requires-clause-waiting c =
 
 pub update-requires-clause-readers : goal.update-requires-clause-readers
 update-requires-clause-readers c = readers-within (first_output c.args.circuit.now) (length (nets c.args.circuit.now)) _ _ c.args.readers.now
-    (ap (λ (n : ℕ). n + 2) c.input_count-first_output.ensures)
-    (omega (arith, c.input_count-first_output.ensures, length-nets c.args.circuit.now c.requires.numbering, c.requires.fits.tallies)) c.requires.readers.outputs
+    c.first_gate-first_output.ensures
+    (omega (arith, c.first_gate-first_output.ensures, length-nets c.args.circuit.now c.requires.numbering, c.requires.fits.tallies)) c.requires.readers.outputs
 
 pub returns-in_err-update-clause-fits : goal.returns-in_err-update-clause-fits
 returns-in_err-update-clause-fits c =
@@ -58,7 +58,7 @@ returns-clause-fits c =
 
 pub returns-clause-counted : goal.returns-clause-counted
 returns-clause-counted c = c.in_ok-update.ensures.counted c.args.circuit.now.gates
-    (subst (λ (first : ℕ). AreListed first c.args.circuit.now.gates (map (λ (v : Vec ℕ Global). v.items) c.args.readers.now)) (sym (ap (λ (n : ℕ). n + 2) c.input_count-first_output.ensures))
+    (subst (λ (first : ℕ). AreListed first c.args.circuit.now.gates (map (λ (v : Vec ℕ Global). v.items) c.args.readers.now)) (sym c.first_gate-first_output.ensures)
     c.requires.readers.listed)
     (all-narrow c.args.circuit.now c.requires.numbering) (sym (length-map c.args.self.now.logic.tallies.items (λ (t : Tally). t.ones) ∙ c.requires.fits.tallies)) c.requires.counted
 
@@ -68,7 +68,7 @@ returns-clause-state c = λ waves states run state.
     let was : State = c.args.self.now in
     let now : State = c.update.new.self in
     let first : ℕ = first_output circuit in
-    let first_is : first ≡ c.input_count-first_output.result + 2 = sym (ap (λ (n : ℕ). n + 2) c.input_count-first_output.ensures) in
+    let first_is : first ≡ c.first_gate-first_output.result = sym c.first_gate-first_output.ensures in
     let rules : List Rule = rules_of was.logic.tallies.items in
     let told : AreTold first rules (ones_of was.logic.tallies.items) (ones_of now.logic.tallies.items) c.update.new.turned.items =
     subst (λ (n : ℕ). AreTold n rules (ones_of was.logic.tallies.items) (ones_of now.logic.tallies.items) c.update.new.turned.items) (sym first_is) c.in_ok-update.ensures.told in
@@ -79,7 +79,7 @@ returns-clause-state c = λ waves states run state.
     λ net h has. turned-told circuit.gates first rules was.logic.levels.items now.logic.levels.items (ones_of was.logic.tallies.items) (ones_of now.logic.tallies.items) c.update.new.turned.items
     (length-map was.logic.tallies.items (λ (t : Tally). t.rule) ∙ c.requires.fits.tallies) c.requires.fits.rules c.requires.counted counted told net has in
     let many : length now.logic.tallies.items ≡ length circuit.gates = same-count now.logic.tallies.items was.logic.tallies.items c.update.ensures.room.rules ∙ c.requires.fits.tallies in
-    let evaluated = rw (c.input_count-first_output.ensures, c.deref-2.ensures.value) at (c.in_ok-evaluate.ensures.evaluated circuit.gates (sym many)
+    let evaluated = rw (c.first_gate-first_output.ensures, c.deref-2.ensures.value) at (c.in_ok-evaluate.ensures.evaluated circuit.gates (sym many)
     (subst (λ (found : List Rule). AreRules circuit.gates found) (sym c.update.ensures.room.rules) c.requires.fits.rules) counted) in
     rw add-one
     (moment-done circuit waves states run c.args.moment

@@ -1,0 +1,13 @@
+-- What is told behind a run.
+use Rattle.std.specs.Prelude.{◌≡◌, ℕ, List, ◌⊎◌, ◌++◌}
+use Rattle.td_text.specs.Output.{Output}
+use Rattle.td_report.specs.Ends.{Tells}
+use Rattle.td_report.specs.Reports.{newline}
+
+-- a text of whole lines
+abbrev pub AreLines : List ℕ → Type 0
+AreLines text = (lines : List ℕ) × (text ≡ lines ++ newline)
+
+-- Nothing was told, or whole lines were, behind all that was told before; where the writer failed, a beginning of them was.
+abbrev pub Hinted : Output → Output → Type 0
+Hinted old new = (new ≡ old) ⊎ ((text : List ℕ) × AreLines text × Tells old new text)

@@ -1,0 +1,93 @@
+//! Hints behind a run.
+
+ghost use Rattle.std.specs.Prelude.{◌≡◌, IfSome};
+ghost use Rattle.td_advice.specs.Hinted.{AreLines, Hinted};
+
+use crate::commands::about;
+use crate::system::Reasons;
+use std::alloc::{AllocError, Global};
+use std::convert::AsStr;
+use td_command::parse;
+use td_delivery::telling::tell;
+use td_files::Files;
+use td_report::status::Status;
+use td_report::text::Text;
+use td_text::Sink;
+
+/// Whether the words of a command line ask for hints. It says so of words that the command line's reader refuses, too.
+pub fn asks_hints<S: AsStr>(words: &[S]) -> bool {
+    for word in words {
+        match word.as_str() {
+            "--hints" => return true,
+            "--" => return false,
+            _ => {}
+        }
+    }
+    false
+}
+
+/// Tells, behind a run with these words that ended so, why it was refused or cut short, and what to do. The reason is looked for anew, in
+/// the words and the files. Of a run that was done, or for want of memory, nothing is told.
+pub fn advise<S: AsStr, F: Files, R: Reasons, E: Sink>(
+    alloc: Global,
+    words: &[S],
+    ended: Status,
+    files: &mut F,
+    reasons: &R,
+    err: &mut E,
+)
+    ensures told { Hinted (E.output err.old) (E.output err.new) }
+    ensures stays { files.new ≡ files.old }
+{
+    if let Some(text) = hint(alloc, words, ended, files, reasons) {
+        let _told = tell(err, text.bytes(), ended);
+    }
+}
+
+/// What is told of a run that ended so, where there is something to tell.
+fn hint<S: AsStr, F: Files, R: Reasons>(
+    alloc: Global,
+    words: &[S],
+    ended: Status,
+    files: &mut F,
+    reasons: &R,
+) -> Option<Text>
+    ensures lines { IfSome result AreLines }
+    ensures stays { files.new ≡ files.old }
+{
+    let mut text = Text::new(alloc);
+    match reason(alloc, &mut text, words, ended, files, reasons) {
+        Ok(()) => whole(text),
+        Err(_) => None,
+    }
+}
+
+/// A text with the end of its last line, unless it is empty.
+fn whole(mut text: Text) -> Option<Text>
+    ensures { IfSome result AreLines }
+{
+    if text.bytes().is_empty() {
+        return None;
+    }
+    match text.push(b"\n") {
+        Ok(()) => Some(text),
+        Err(_) => None,
+    }
+}
+
+/// Appends why a run with these words ended so.
+fn reason<S: AsStr, F: Files, R: Reasons>(
+    alloc: Global,
+    text: &mut Text,
+    words: &[S],
+    ended: Status,
+    files: &mut F,
+    reasons: &R,
+) -> Result<(), AllocError>
+    ensures stays { files.new ≡ files.old }
+{
+    match parse(alloc, words) {
+        Ok(request) => about(alloc, text, &request, ended, files, reasons),
+        Err(_) => Ok(()),
+    }
+}

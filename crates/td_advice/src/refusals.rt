@@ -1,0 +1,164 @@
+//! What each refusal means, and what to do.
+
+use crate::lines::{at_line, help, of_file, of_two, quote};
+use std::alloc::AllocError;
+use td_certificate::CertFault;
+use td_checker::Verdict;
+use td_hints::{certificates, joins, netlists, verdicts};
+use td_join::JoinFault;
+use td_netlist::{Fault, FaultKind};
+use td_nets::Name;
+use td_report::refusal::Refusal;
+use td_report::text::Text;
+
+/// The netlist that a command read.
+#[derive(Clone, Copy, Drop)]
+pub(crate) struct NetlistText<'a> {
+    pub(crate) file: &'a str,
+    pub(crate) bytes: &'a [u8],
+}
+
+/// Appends what a refusal means that needs nothing but the netlist's text.
+pub(crate) fn explain(
+    text: &mut Text,
+    netlist: &NetlistText<'_>,
+    refusal: &Refusal<'_>,
+) -> Result<(), AllocError> {
+    match refusal {
+        Refusal::OutOfMemory => memory(text),
+        Refusal::Netlist(fault) => netlist_fault(text, netlist, *fault),
+        Refusal::Loop(name) => on_loop(text, netlist.file, name),
+        Refusal::NoPair => no_pair(text),
+        Refusal::OneFile(out, file) => one_file(text, out, file),
+        Refusal::BadPart(name, fault) => certificate_fault(text, name, *fault),
+        Refusal::Unaccepted(name, verdict) => not_accepted(text, name, *verdict),
+        Refusal::OtherCircuit(name) => not_accepted(text, name, Verdict::OtherCircuit),
+        Refusal::NotJoined(fault, one, other) => not_joined(text, fault, one, other),
+        Refusal::TooLong => too_long(text),
+        Refusal::Unreadable(_)
+        | Refusal::Certificate(_)
+        | Refusal::BadVector(_)
+        | Refusal::NoOutput => Ok(()),
+    }
+}
+
+/// Appends what to do where memory runs out.
+pub(crate) fn memory(text: &mut Text) -> Result<(), AllocError> {
+    text.push(b"memory ran out")?;
+    help(
+        text,
+        b"give it more memory (ulimit -v shows the limit), or a smaller netlist, --budget or --workers",
+    )
+}
+
+/// Appends what is wrong with the netlist's text, with the line.
+fn netlist_fault(
+    text: &mut Text,
+    netlist: &NetlistText<'_>,
+    fault: Fault<'_>,
+) -> Result<(), AllocError> {
+    match fault.kind {
+        FaultKind::OutOfSubset(token) => {
+            at_line(text, netlist.file, fault.line, token)?;
+            text.push(b": ")?;
+            text.push(netlists::sentence(fault.kind))?;
+        }
+        kind => at_line(text, netlist.file, fault.line, netlists::sentence(kind))?,
+    }
+    quote(text, netlist.bytes, fault.line)?;
+    help(text, netlists::advice(fault.kind))
+}
+
+/// Appends which net lies on a loop.
+fn on_loop(text: &mut Text, file: &str, name: &Name) -> Result<(), AllocError> {
+    of_file(text, file, netlists::LOOP_FRONT)?;
+    text.name_between(b" ", name, b" ")?;
+    text.push(netlists::LOOP_BACK)?;
+    help(text, netlists::LOOP_ADVICE)
+}
+
+/// Appends what is wrong with a certificate's text.
+pub(crate) fn certificate_fault(
+    text: &mut Text,
+    name: &str,
+    fault: CertFault,
+) -> Result<(), AllocError> {
+    at_line(text, name, fault.line, certificates::sentence(fault.kind))?;
+    help(text, certificates::advice(fault.kind))
+}
+
+/// Appends why a certificate isn't accepted.
+pub(crate) fn not_accepted(
+    text: &mut Text,
+    name: &str,
+    verdict: Verdict,
+) -> Result<(), AllocError> {
+    match verdict.line() {
+        Some(line) => at_line(text, name, line, verdicts::sentence(verdict))?,
+        None => of_file(text, name, verdicts::sentence(verdict))?,
+    }
+    help(text, verdicts::advice(verdict))
+}
+
+/// Appends why certificates aren't joined.
+fn not_joined(
+    text: &mut Text,
+    fault: &JoinFault,
+    one: &str,
+    other: &str,
+) -> Result<(), AllocError> {
+    match fault {
+        JoinFault::OutOfMemory | JoinFault::NoCertificate | JoinFault::Gap(_) => {
+            text.push(joins::sentence(fault))?
+        }
+        JoinFault::Outside(_) | JoinFault::FalseNone(_) => {
+            of_file(text, one, joins::sentence(fault))?
+        }
+        JoinFault::OtherCircuit(..)
+        | JoinFault::OtherHold(..)
+        | JoinFault::OtherFlips(..)
+        | JoinFault::OtherMoments(..)
+        | JoinFault::Overlap(..)
+        | JoinFault::Crossed(..) => of_two(text, one, other, joins::sentence(fault))?,
+    }
+    help(text, joins::advice(fault))
+}
+
+/// Appends what to do where a write fails, or memory runs out behind the answer.
+pub(crate) fn not_written(text: &mut Text) -> Result<(), AllocError> {
+    text.push(b"a write failed, or memory ran out: the line above says which")?;
+    help(
+        text,
+        b"a write: look at the room on the disk (df) and at who may write there; what had the name is as it was",
+    )?;
+    help(
+        text,
+        b"memory: give it more, or a smaller netlist or --budget",
+    )
+}
+
+/// Appends that no pair is admitted.
+pub(crate) fn no_pair(text: &mut Text) -> Result<(), AllocError> {
+    text.push(b"no pair of vectors keeps --first, --second, --hold and --flips at once")?;
+    help(text, b"loosen one of these options, or leave it out")
+}
+
+/// Appends that a file would be written over another.
+fn one_file(text: &mut Text, out: &str, file: &str) -> Result<(), AllocError> {
+    text.word_between(b"to write ", out, b" would overwrite ")?;
+    text.word_between(
+        b"",
+        file,
+        b", which this command reads or writes; nothing was done",
+    )?;
+    help(text, b"give --cert or --vcd another name")
+}
+
+/// Appends that what certificates are joined into is too large.
+fn too_long(text: &mut Text) -> Result<(), AllocError> {
+    text.push(b"the joined certificate would have more than 10,000,000 nodes")?;
+    help(
+        text,
+        b"check the certificates of the parts one by one: tdelay check FILE CERT",
+    )
+}

@@ -1,0 +1,26 @@
+//! The numbers of nets.
+
+ghost use Rattle.std.specs.Prelude.{◌≡◌, ◌+◌, ◌^◌, ◌<◌, ◌≤◌};
+
+/// A net of a circuit, by its number: 0 is the constant 0, 1 the constant 1, then come the inputs in order, and then the
+/// outputs of the gates in topological order.
+pub type Net = u32;
+
+/// How many nets come before the first input.
+const CONSTANTS: u32 = 2;
+
+/// The net of an input, by its place.
+pub fn net_of_input(input: u32) -> Net
+    requires { input + 2 < 2 ^ 32 }
+    ensures { result ≡ input + 2 }
+{
+    input + CONSTANTS
+}
+
+/// The net of the first gate's output, where there are so many inputs.
+pub fn first_gate(inputs: usize) -> Net
+    requires { inputs ≤ 4096 }
+    ensures { result ≡ inputs + 2 }
+{
+    inputs as u32 + CONSTANTS
+}

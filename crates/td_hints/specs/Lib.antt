@@ -1,0 +1,4 @@
+pub mod Certificates
+pub mod Joins
+pub mod Netlists
+pub mod Verdicts

@@ -1,0 +1,44 @@
+-- What verdicts mean, and what to do about them.
+use Rattle.std.specs.Prelude.{ℕ, List, codes}
+use Rattle.td_checker.specs.declared.verdict.Verdict.{Verdict}
+use Rattle.td_checker.specs.declared.verdict.Verdict.TheVariants as verdict
+use Rattle.td_refutation.specs.declared.flaw.Flaw.{Flaw}
+use Rattle.td_refutation.specs.declared.flaw.Flaw.TheVariants as flaw
+
+-- why a step of a refutation isn't good
+abbrev pub flaw_sentence : Flaw → List ℕ
+flaw_sentence flaw.WrongCount = codes "a step with too few numbers, or too many"
+flaw_sentence flaw.NoSuchGate = codes "a step names a gate that doesn't exist"
+flaw_sentence flaw.NoSuchNet = codes "a step names a net that doesn't exist"
+flaw_sentence flaw.NoSuchLevel = codes "a step with a level above 1, or a trit above 2"
+flaw_sentence flaw.NoSuchMoment = codes "a step with a moment above 10^18"
+flaw_sentence flaw.NoSuchClause = codes "a step whose name stands for no clause"
+flaw_sentence flaw.NoSuchLiteral = codes "a step names a literal of a variable that doesn't exist"
+flaw_sentence flaw.NoSuchHint = codes "a step names a clause that doesn't exist"
+flaw_sentence flaw.HintOpen = codes "a step in which the clause of a hint has several literals left"
+flaw_sentence flaw.NotShown = codes "a step whose hints end without a clause that is false"
+flaw_sentence flaw.NoSuchChange = codes "a step that cuts off a change which isn't possible any more"
+
+abbrev pub sentence : Verdict → List ℕ
+sentence verdict.Accepted = codes "the certificate is right"
+sentence verdict.PairTime = codes "the delay of its pair isn't its time"
+sentence (verdict.LeafBound one) = codes "a leaf's number is less than the bound of its cube, or isn't the delay of its pair"
+sentence (verdict.LeafAboveTime one) = codes "a leaf's number is greater than the certificate's time"
+sentence (verdict.BadPosition one) = codes "a split at a position that doesn't exist or isn't free there"
+sentence (verdict.NotAPoint one) = codes "a leaf of one pair where a bit is still free"
+sentence verdict.OtherCircuit = codes "it is of a circuit with another number of inputs or gates"
+sentence verdict.PairNotAdmitted = codes "its pair isn't one that its lines first, second, hold and flips admit"
+sentence (verdict.LeafNotEmpty one) = codes "a leaf says that no admitted pair lies in its cube, and one does"
+sentence (verdict.BadStep line reason) = flaw_sentence reason
+
+abbrev pub advice : Verdict → List ℕ
+advice verdict.Accepted = codes "there is nothing to do"
+advice verdict.PairTime = codes "check it with the netlist and the default delays of its search; else search again"
+advice (verdict.LeafBound one) = codes "check it with the netlist and the default delays of its search; else search again"
+advice (verdict.LeafAboveTime one) = codes "the certificate is wrong: search again"
+advice (verdict.BadPosition one) = codes "the certificate is wrong: search again"
+advice (verdict.NotAPoint one) = codes "the certificate is wrong: search again"
+advice verdict.OtherCircuit = codes "give the netlist that it was made for; `info` counts inputs and gates"
+advice verdict.PairNotAdmitted = codes "the certificate is wrong: search again"
+advice (verdict.LeafNotEmpty one) = codes "the certificate is wrong: search again"
+advice (verdict.BadStep one other) = codes "check it with the netlist and the default delays that it was made for; else make it again"

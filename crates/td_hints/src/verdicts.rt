@@ -1,0 +1,76 @@
+//! Verdicts of the checker on a certificate.
+
+ghost use Rattle.std.specs.Prelude.{◌≡◌};
+ghost use Rattle.td_hints.specs.Verdicts.{flaw_sentence, sentence, advice};
+
+use td_checker::Verdict;
+use td_refutation::Flaw;
+
+/// Why a step of a refutation isn't good.
+pub fn flaw_sentence(flaw: Flaw) -> &'static [u8]
+    ensures { result.now ≡ flaw_sentence flaw }
+{
+    match flaw {
+        Flaw::WrongCount => b"a step with too few numbers, or too many",
+        Flaw::NoSuchGate => b"a step names a gate that doesn't exist",
+        Flaw::NoSuchNet => b"a step names a net that doesn't exist",
+        Flaw::NoSuchLevel => b"a step with a level above 1, or a trit above 2",
+        Flaw::NoSuchMoment => b"a step with a moment above 10^18",
+        Flaw::NoSuchClause => b"a step whose name stands for no clause",
+        Flaw::NoSuchLiteral => b"a step names a literal of a variable that doesn't exist",
+        Flaw::NoSuchHint => b"a step names a clause that doesn't exist",
+        Flaw::HintOpen => b"a step in which the clause of a hint has several literals left",
+        Flaw::NotShown => b"a step whose hints end without a clause that is false",
+        Flaw::NoSuchChange => b"a step that cuts off a change which isn't possible any more",
+    }
+}
+
+/// What is wrong with the certificate.
+pub fn sentence(verdict: Verdict) -> &'static [u8]
+    ensures { result.now ≡ sentence verdict }
+{
+    match verdict {
+        Verdict::Accepted => b"the certificate is right",
+        Verdict::PairTime => b"the delay of its pair isn't its time",
+        Verdict::LeafBound(_) => {
+            b"a leaf's number is less than the bound of its cube, or isn't the delay of its pair"
+        }
+        Verdict::LeafAboveTime(_) => b"a leaf's number is greater than the certificate's time",
+        Verdict::BadPosition(_) => b"a split at a position that doesn't exist or isn't free there",
+        Verdict::NotAPoint(_) => b"a leaf of one pair where a bit is still free",
+        Verdict::OtherCircuit => b"it is of a circuit with another number of inputs or gates",
+        Verdict::PairNotAdmitted => {
+            b"its pair isn't one that its lines first, second, hold and flips admit"
+        }
+        Verdict::LeafNotEmpty(_) => {
+            b"a leaf says that no admitted pair lies in its cube, and one does"
+        }
+        Verdict::BadStep(_, flaw) => flaw_sentence(flaw),
+    }
+}
+
+/// What to do about it.
+pub fn advice(verdict: Verdict) -> &'static [u8]
+    ensures { result.now ≡ advice verdict }
+{
+    match verdict {
+        Verdict::Accepted => b"there is nothing to do",
+        Verdict::PairTime => {
+            b"check it with the netlist and the default delays of its search; else search again"
+        }
+        Verdict::LeafBound(_) => {
+            b"check it with the netlist and the default delays of its search; else search again"
+        }
+        Verdict::LeafAboveTime(_) => b"the certificate is wrong: search again",
+        Verdict::BadPosition(_) => b"the certificate is wrong: search again",
+        Verdict::NotAPoint(_) => b"the certificate is wrong: search again",
+        Verdict::OtherCircuit => {
+            b"give the netlist that it was made for; `info` counts inputs and gates"
+        }
+        Verdict::PairNotAdmitted => b"the certificate is wrong: search again",
+        Verdict::LeafNotEmpty(_) => b"the certificate is wrong: search again",
+        Verdict::BadStep(_, _) => {
+            b"check it with the netlist and the default delays that it was made for; else make it again"
+        }
+    }
+}

@@ -1,0 +1,3 @@
+pub mod Outcomes
+mod Leaves
+mod Standings

@@ -1,0 +1,17 @@
+use Rattle.td_search.specs.declared.strategy.Strategy.TheVariants.{Least, Lead}
+use Rattle.td_search.specs.Problems.{problem_by}
+use Rattle.td_worst.proofs.Outcomes.{outcome_of, outcome_alike, written_alike}
+use Rattle.td_worst.proofs.searching.led_further.Goals as goal
+
+pub returns-in-Ok-clause-answer : goal.returns-in-Ok-clause-answer
+returns-in-Ok-clause-answer g c = λ budget is written.
+    let asked = problem_by Lead c.args.circuit.now c.args.admit.now in
+    c.combined.ensures.answer (problem_by Least c.args.circuit.now c.args.admit.now) budget c.args.effort.budget is written
+    (outcome_alike asked Least c.args.effort.budget c.in-Ok.found (outcome_of asked c.args.effort.budget c.in-Ok.found c.in-Ok.ensures.answer))
+    (written_alike asked Least c.in-Ok.found c.in-Ok.ensures.text)
+
+pub returns-in-Ok-clause-told : goal.returns-in-Ok-clause-told
+returns-in-Ok-clause-told g c = g.met.W.Watch.told_alike (problem_by Lead c.args.circuit.now c.args.admit.now) Least _ _ c.search.ensures.told
+
+pub returns-in-Err-clause-told : goal.returns-in-Err-clause-told
+returns-in-Err-clause-told g c = g.met.W.Watch.told_alike (problem_by Lead c.args.circuit.now c.args.admit.now) Least _ _ c.search.ensures.told

@@ -1,0 +1,51 @@
+-- By which means the worst delay is searched for, and what its answer says.
+use Rattle.std.specs.Prelude.{ℕ, ◌<◌, ◌≤◌, ◌^◌}
+use Rattle.td_domain.specs.Pairs.{Pair}
+use Rattle.td_domain.specs.Worst.{IsUpperBound, IsWorst}
+use Rattle.td_search.specs.declared.strategy.Strategy.{Strategy}
+use Rattle.td_search.specs.declared.strategy.Strategy.TheVariants as strategy
+use Rattle.td_search.specs.declared.answers.Answer.{Answer}
+use Rattle.td_search.specs.declared.answers.Answer.TheVariants as answer
+use Rattle.td_search.specs.Problems.{Problem, has_delay}
+use Rattle.td_search.specs.Answers.{IsAnswer, IsExact, low_of}
+use Rattle.td_worst.specs.declared.method.Method.{Method}
+use Rattle.td_worst.specs.declared.method.Method.TheVariants as method
+
+-- the strategy of the first tree that a method searches, and of parts of a question
+abbrev pub tree_of : Method → Strategy
+tree_of method.Least = strategy.Least
+tree_of method.Auto = strategy.Least
+tree_of method.Lead = strategy.Lead
+tree_of method.Refute = strategy.Lead
+
+-- The pair is admitted and has the lower figure, and no admitted pair has a delay above the upper one, so the worst delay lies
+-- between the two. The trees that were searched had at most so many nodes as the budget says.
+pub record IsBounded (asked : Problem) (budget low high : ℕ) (pair : Pair) (nodes : ℕ) : Type 0 where
+  pub reached : has_delay asked pair low
+  pub greatest : IsUpperBound asked.setting asked.admit high
+  pub ordered : low ≤ high
+  pub worst : (worst : ℕ) → IsWorst asked.setting asked.admit worst → (low ≤ worst) × (worst ≤ high)
+  pub within : nodes ≤ budget
+  pub small : high < 10 ^ 15
+
+-- an answer that says nothing of a tree that was cut short
+abbrev pub IsOutcome : Problem → ℕ → Answer → Type 0
+IsOutcome asked budget (answer.Exact time pair tree) = IsExact asked budget time pair tree
+IsOutcome asked budget (answer.Between low high pair nodes why) = IsBounded asked budget low high pair nodes
+
+-- an answer of a method
+abbrev pub IsAnswerBy : Method → Problem → ℕ → Answer → Type 0
+IsAnswerBy method.Least asked budget found = IsAnswer asked budget found
+IsAnswerBy method.Lead asked budget found = IsAnswer asked budget found
+IsAnswerBy method.Refute asked budget found = IsOutcome asked budget found
+IsAnswerBy method.Auto asked budget found = IsOutcome asked budget found
+
+-- the upper figure, or the time of an exact answer
+abbrev pub high_of : Answer → ℕ
+high_of (answer.Exact time pair tree) = time
+high_of (answer.Between low high pair nodes why) = high
+
+-- the figures of an answer lie within those of an earlier one
+pub record IsNarrower (earlier later : Answer) : Type 0 where
+  pub low : low_of earlier ≤ low_of later
+  pub high : high_of later ≤ high_of earlier

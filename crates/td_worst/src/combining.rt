@@ -1,0 +1,79 @@
+//! What two searches of one question know together.
+
+ghost use Rattle.std.specs.Prelude.{◌≡◌, ◌⊎◌, ◌+◌, ◌≤◌, ℕ};
+ghost use Rattle.td_search.specs.Problems.{Problem as Asked};
+ghost use Rattle.td_search.specs.Written.{CanBeWritten};
+ghost use Rattle.td_search.specs.Answers.{low_of};
+ghost use Rattle.td_worst.specs.Methods.{high_of, IsNarrower, IsOutcome};
+ghost use Rattle.td_worst.specs.Standing.{IsStanding};
+
+use crate::refuting::Standing;
+use td_lead::Timed;
+use td_search::Answer;
+
+/// What two searches of one question know together: an answer that is exact, or else the better pair and the lesser bound.
+pub fn combined(first: Answer, second: Answer) -> Answer
+    ensures answer { (asked : Asked) (budget more : ℕ) → IsOutcome asked budget first → CanBeWritten asked first → IsOutcome asked more second
+        → CanBeWritten asked second → IsOutcome asked (budget + more) result × CanBeWritten asked result }
+    ensures narrower { (asked : Asked) (budget more : ℕ) → IsOutcome asked budget first → IsOutcome asked more second
+        → IsNarrower first result × IsNarrower second result }
+{
+    match first {
+        Answer::Exact { time, pair, tree } => Answer::Exact { time, pair, tree },
+        Answer::Between {
+            low,
+            high,
+            pair,
+            nodes,
+            ..
+        } => {
+            let best = Timed { pair, time: low };
+            with_second(Standing { best, high, nodes }, second)
+        }
+    }
+}
+
+// As `combined`, where this is known of a first search.
+fn with_second(first: Standing, second: Answer) -> Answer
+    ensures answer { (asked : Asked) (budget more : ℕ) → IsStanding asked budget first → IsOutcome asked more second → CanBeWritten asked second
+        → IsOutcome asked (budget + more) result × CanBeWritten asked result }
+    ensures narrower { (asked : Asked) (budget more : ℕ) → IsStanding asked budget first → IsOutcome asked more second
+        → (first.best.time ≤ low_of result) × (high_of result ≤ first.high) × IsNarrower second result }
+{
+    match second {
+        Answer::Exact { time, pair, tree } => Answer::Exact { time, pair, tree },
+        Answer::Between {
+            low,
+            high,
+            pair,
+            nodes,
+            cause,
+        } => {
+            let Standing {
+                best,
+                high: first_high,
+                nodes: first_nodes,
+            } = first;
+            let best = later(best, Timed { pair, time: low });
+            Standing {
+                best,
+                high: high.min(first_high),
+                nodes: nodes.saturating_add(first_nodes),
+            }
+            .between(cause)
+        }
+    }
+}
+
+// The later one of two pairs, the first where they are as late.
+fn later(first: Timed, second: Timed) -> Timed
+    ensures one { (result ≡ first) ⊎ (result ≡ second) }
+    ensures first { first.time ≤ result.time }
+    ensures second { second.time ≤ result.time }
+{
+    if second.time > first.time {
+        second
+    } else {
+        first
+    }
+}

@@ -1,0 +1,145 @@
+//! What a refutation makes of an answer.
+
+ghost use Rattle.std.specs.Prelude.{◌≡◌, ◌<◌, ◌≤◌, ◌^◌, ℕ, IfOk, IfSome};
+ghost use Rattle.td_circuit.specs.Numbering.{setting};
+ghost use Rattle.td_lead.specs.Timed.{IsTimed};
+ghost use Rattle.td_refute.specs.Answers.{IsShown};
+ghost use Rattle.td_search.specs.declared.answers.Answer.TheVariants.{Between};
+ghost use Rattle.td_search.specs.Answers.{low_of};
+ghost use Rattle.td_search.specs.Problems.{Problem as Asked, problem_of};
+ghost use Rattle.td_search.specs.Written.{CanBeWritten};
+ghost use Rattle.td_worst.specs.Leaves.{IsSpellable};
+ghost use Rattle.td_worst.specs.Methods.{high_of, IsNarrower, IsOutcome};
+ghost use Rattle.td_worst.specs.Standing.{IsStanding};
+
+use crate::leaf::tree_of_leaf;
+use std::alloc::{AllocError, Global};
+use td_event_sim::Scratch;
+use td_lead::Timed;
+use td_refute::{Effort, Refuted, refute};
+use td_search::{Answer, Cause, Problem};
+
+/// What is known where no answer is exact: the best pair, a bound of all delays in steps, and how many nodes trees had.
+#[derive(Drop)]
+pub struct Standing {
+    pub best: Timed,
+    pub high: u64,
+    pub nodes: u64,
+}
+
+impl Standing {
+    /// The answer that says what is known.
+    pub fn between(self, cause: Cause) -> Answer
+        ensures { result ≡ Between self.best.time self.high self.best.pair self.nodes cause }
+    {
+        let Standing { best, high, nodes } = self;
+        let Timed { pair, time } = best;
+        Answer::Between {
+            low: time,
+            high,
+            pair,
+            nodes,
+            cause,
+        }
+    }
+
+    // The answer where steps show a bound.
+    fn refuted(self, alloc: Global, refuted: &Refuted) -> Answer
+        requires small { self.best.time < 10 ^ 15 }
+        ensures answer { (asked : Asked) (budget : ℕ) → 0 < budget → IsSpellable asked → IsStanding asked budget self
+            → IsShown asked.setting asked.admit refuted.now → IsOutcome asked budget result × CanBeWritten asked result }
+        ensures low { low_of result ≡ self.best.time }
+        ensures high { self.best.time ≤ self.high → high_of result ≤ self.high }
+    {
+        let Standing { best, high, nodes } = self;
+        let Timed { pair, time } = best;
+        if refuted.bound > time {
+            let best = Timed { pair, time };
+            let high = high.min(refuted.bound);
+            return Standing { best, high, nodes }.between(Cause::Budget);
+        }
+        let cause = match tree_of_leaf(alloc, refuted) {
+            Ok(Some(tree)) => return Answer::Exact { time, pair, tree },
+            Ok(None) => Cause::Budget,
+            Err(_) => Cause::Memory,
+        };
+        let best = Timed { pair, time };
+        Standing {
+            best,
+            high: time,
+            nodes,
+        }
+        .between(cause)
+    }
+}
+
+/// What a refutation makes of an answer, of which nothing is to be made where it is exact. The solver meets at most so many
+/// conflicts as the budget says. Where memory runs out, what was known stands.
+pub fn refuted_further(alloc: Global, problem: &Problem<'_>, known: Answer, budget: u64) -> Answer
+    requires some { 0 < budget }
+    requires known { IsOutcome (problem_of problem.now) budget known }
+    requires text { CanBeWritten (problem_of problem.now) known }
+    ensures answer { IsOutcome (problem_of problem.now) budget result }
+    ensures text { CanBeWritten (problem_of problem.now) result }
+    ensures narrower { IsNarrower known result }
+{
+    match known {
+        Answer::Exact { time, pair, tree } => Answer::Exact { time, pair, tree },
+        Answer::Between {
+            low,
+            high,
+            pair,
+            nodes,
+            ..
+        } => {
+            let best = Timed { pair, time: low };
+            refute_standing(alloc, problem, Standing { best, high, nodes }, budget)
+        }
+    }
+}
+
+// What a refutation makes of what is known.
+fn refute_standing(alloc: Global, problem: &Problem<'_>, known: Standing, budget: u64) -> Answer
+    requires some { 0 < budget }
+    requires known { IsStanding (problem_of problem.now) budget known }
+    ensures answer { IsOutcome (problem_of problem.now) budget result }
+    ensures text { CanBeWritten (problem_of problem.now) result }
+    ensures low { known.best.time ≤ low_of result }
+    ensures high { high_of result ≤ known.high }
+{
+    // For the prover: the circuit's and the pins' sizes.
+    let _gates = problem.circuit.gates();
+    let _moments = problem.circuit.moments();
+    let _pins = problem.admit.pins();
+    let mut known = known;
+    match search(alloc, problem, &mut known.best, budget) {
+        Ok(Some(refuted)) => known.refuted(alloc, &refuted),
+        Ok(None) => known.between(Cause::Budget),
+        Err(_) => known.between(Cause::Memory),
+    }
+}
+
+// Searches for a refutation, from the best pair on. The error is out of memory.
+fn search(
+    alloc: Global,
+    problem: &Problem<'_>,
+    best: &mut Timed,
+    budget: u64,
+) -> Result<Option<Refuted>, AllocError>
+    requires best { IsTimed (setting problem.now.circuit.now) problem.now.admit.now best.old }
+    ensures best { IsTimed (setting problem.now.circuit.now) problem.now.admit.now best.new }
+    ensures no_less { best.old.time ≤ best.new.time }
+    ensures shown { IfOk result (λ found. IfSome found (IsShown (setting problem.now.circuit.now) problem.now.admit.now)) }
+{
+    let mut scratch = Scratch::new(alloc, problem.circuit)?;
+    let mut effort = Effort::new();
+    effort.all = budget;
+    refute(
+        alloc,
+        &mut scratch,
+        problem.circuit,
+        problem.admit,
+        best,
+        effort,
+    )
+}

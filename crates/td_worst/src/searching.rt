@@ -1,0 +1,178 @@
+//! The search for the worst delay, by any means.
+
+ghost use Rattle.std.specs.Prelude.{◌≡◌, ◌≤◌, ◌+◌, ℕ, length, IfOk, IfErr};
+ghost use Rattle.td_search.specs.Answers.{IsSearchFault};
+ghost use Rattle.td_search.specs.Problems.{problem_by};
+ghost use Rattle.td_search.specs.declared.strategy.Strategy.TheVariants as strategy;
+ghost use Rattle.td_search.specs.Written.{CanBeWritten};
+ghost use Rattle.td_worst.specs.Methods.{tree_of, IsAnswerBy, IsOutcome};
+
+use crate::combining::combined;
+use crate::method::Method;
+use crate::refuting::refuted_further;
+use std::alloc::Global;
+use std::sync::Wait;
+use std::thread::Threads;
+use td_circuit::Circuit;
+use td_domain::Admit;
+use td_pool::{Effort, Watch, search};
+use td_search::{Answer, Cause, Own, Problem, SearchFault, Strategy};
+
+/// How many nodes of a tree as `Least` has it `Auto` handles at most.
+const FIRST_NODES: u64 = 10_000;
+
+/// How many nodes of a tree as `Lead` has it `Auto` handles at most.
+const SECOND_NODES: u64 = 50_000;
+
+/// Searches for the worst delay of the admitted pairs of a circuit, by a method. The pairs are of the circuit's inputs. Trees have
+/// at most so many nodes as the budget of the effort says, and a solver meets at most so many conflicts. The watch is told how
+/// far a tree has come.
+///
+/// # Errors
+///
+/// `NoPair` where no pair is admitted. `OutOfMemory` where memory ran out before a first pair was measured and the pins were
+/// bounded, or for what workers share.
+pub fn worst<W: Watch, R: Threads + Wait + Sync>(
+    rt: &R,
+    alloc: Global,
+    circuit: &Circuit,
+    admit: &Admit,
+    method: Method,
+    effort: Effort,
+    watch: &mut W,
+) -> Result<Answer, SearchFault>
+    requires held { length admit.now.held ≡ length circuit.now.netlist.inputs }
+    ensures answer { IfOk result (IsAnswerBy method (problem_by (tree_of method) circuit.now admit.now) effort.budget) }
+    // The certificate of an exact answer has a text within the limit.
+    ensures text { IfOk result (CanBeWritten (problem_by (tree_of method) circuit.now admit.now)) }
+    ensures fault { IfErr result (IsSearchFault (problem_by (tree_of method) circuit.now admit.now)) }
+    // All that the watch was told is true of what is asked.
+    ensures told { W.told (problem_by (tree_of method) circuit.now admit.now) watch.old watch.new }
+{
+    match method {
+        Method::Least | Method::Lead => {
+            let problem = Problem {
+                circuit,
+                admit,
+                strategy: method.strategy(),
+            };
+            search(rt, alloc, &problem, &Own, effort, watch)
+        }
+        Method::Refute => by_refutation(rt, alloc, circuit, admit, effort, watch),
+        Method::Auto => by_all(rt, alloc, circuit, admit, effort, watch),
+    }
+}
+
+// Climbs and bounds the pins, as a tree of one node does, and then searches for a refutation.
+fn by_refutation<W: Watch, R: Threads + Wait + Sync>(
+    rt: &R,
+    alloc: Global,
+    circuit: &Circuit,
+    admit: &Admit,
+    effort: Effort,
+    watch: &mut W,
+) -> Result<Answer, SearchFault>
+    requires held { length admit.now.held ≡ length circuit.now.netlist.inputs }
+    ensures answer { IfOk result (IsOutcome (problem_by strategy.Lead circuit.now admit.now) effort.budget) }
+    ensures text { IfOk result (CanBeWritten (problem_by strategy.Lead circuit.now admit.now)) }
+    ensures fault { IfErr result (IsSearchFault (problem_by strategy.Lead circuit.now admit.now)) }
+    ensures told { W.told (problem_by strategy.Lead circuit.now admit.now) watch.old watch.new }
+{
+    let problem = Problem {
+        circuit,
+        admit,
+        strategy: Strategy::Lead,
+    };
+    let first = Effort {
+        workers: effort.workers,
+        budget: effort.budget.min(1),
+    };
+    let known = search(rt, alloc, &problem, &Own, first, watch)?;
+    if effort.budget == 0 {
+        return Ok(known);
+    }
+    Ok(refuted_further(alloc, &problem, known, effort.budget))
+}
+
+// Searches a tree by `Least`, then one by `Lead`, and then for a refutation, until one of them ends.
+fn by_all<W: Watch, R: Threads + Wait + Sync>(
+    rt: &R,
+    alloc: Global,
+    circuit: &Circuit,
+    admit: &Admit,
+    effort: Effort,
+    watch: &mut W,
+) -> Result<Answer, SearchFault>
+    requires held { length admit.now.held ≡ length circuit.now.netlist.inputs }
+    ensures answer { IfOk result (IsOutcome (problem_by strategy.Least circuit.now admit.now) effort.budget) }
+    ensures text { IfOk result (CanBeWritten (problem_by strategy.Least circuit.now admit.now)) }
+    ensures fault { IfErr result (IsSearchFault (problem_by strategy.Least circuit.now admit.now)) }
+    ensures told { W.told (problem_by strategy.Least circuit.now admit.now) watch.old watch.new }
+{
+    let problem = Problem {
+        circuit,
+        admit,
+        strategy: Strategy::Least,
+    };
+    let first = Effort {
+        workers: effort.workers,
+        budget: effort.budget.min(FIRST_NODES),
+    };
+    let known = search(rt, alloc, &problem, &Own, first, watch)?;
+    if effort.budget <= FIRST_NODES || !is_open(&known) {
+        return Ok(known);
+    }
+    let second = Effort {
+        workers: effort.workers,
+        budget: second_nodes(circuit, admit, effort.budget - FIRST_NODES),
+    };
+    let known = led_further(rt, alloc, circuit, admit, known, second, watch);
+    Ok(refuted_further(alloc, &problem, known, effort.budget))
+}
+
+// How many nodes of so many the second tree handles: all of them where flips are limited, of which a refutation knows nothing.
+fn second_nodes(circuit: &Circuit, admit: &Admit, rest: u64) -> u64
+    ensures { result ≤ rest }
+{
+    if (admit.flips() as usize) < circuit.input_count() {
+        rest
+    } else {
+        rest.min(SECOND_NODES)
+    }
+}
+
+// Whether an answer isn't exact for its budget alone.
+fn is_open(answer: &Answer) -> bool {
+    match answer {
+        Answer::Exact { .. } => false,
+        Answer::Between { cause, .. } => *cause == Cause::Budget,
+    }
+}
+
+// What a tree by `Lead` makes of an answer.
+fn led_further<W: Watch, R: Threads + Wait + Sync>(
+    rt: &R,
+    alloc: Global,
+    circuit: &Circuit,
+    admit: &Admit,
+    known: Answer,
+    effort: Effort,
+    watch: &mut W,
+) -> Answer
+    requires held { length admit.now.held ≡ length circuit.now.netlist.inputs }
+    ensures answer { (budget : ℕ) → IsOutcome (problem_by strategy.Least circuit.now admit.now) budget known
+        → CanBeWritten (problem_by strategy.Least circuit.now admit.now) known
+        → IsOutcome (problem_by strategy.Least circuit.now admit.now) (budget + effort.budget) result
+        × CanBeWritten (problem_by strategy.Least circuit.now admit.now) result }
+    ensures told { W.told (problem_by strategy.Least circuit.now admit.now) watch.old watch.new }
+{
+    let problem = Problem {
+        circuit,
+        admit,
+        strategy: Strategy::Lead,
+    };
+    match search(rt, alloc, &problem, &Own, effort, watch) {
+        Ok(found) => combined(known, found),
+        Err(_) => known,
+    }
+}

@@ -1,0 +1,5 @@
+//! Worst delays of small circuits, by each method. There are tests here, and nothing else.
+#![tactic(auto)]
+
+#[cfg(test)]
+mod methods;
