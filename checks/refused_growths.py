@@ -3,13 +3,13 @@
 compares each run with one that has memory enough.
 
 A run may answer the same; or end with status 5, `tdelay: out of memory` and nothing but a beginning
-of its output; or, a search, answer `between` with `cause memory` and two figures around the right
-one, or `exact` with the right time and a certificate that `check` accepts. Where the root of a
-search is measured and bounded, and its report isn't begun, a growth refused alone may not end it as
-out of memory: it has to answer. That is so after as many growths as the same search takes with a
-budget of 0, and until the last ones, which are the report's. Searches are those of a lost pulse, of
-two ways that meet, and of a slow arm, by 1, 2 and 4 workers. `check` gives its verdict or is out of
-memory, and never another verdict.
+of its output; or, a search, answer `between` with `cause memory` (`cause budget`, too, where it does
+with memory enough) and two figures around the right one, or `exact` with the right time and a
+certificate that `check` accepts. Where the root of a search is measured and bounded, and its report
+isn't begun, a growth refused alone may not end it as out of memory: it has to answer. That is so
+after as many growths as the same search takes with a budget of 0, and until the last ones, which are
+the report's. Searches are those of a lost pulse, of two ways that meet, and of a slow arm, by 1, 2
+and 4 workers. `check` gives its verdict or is out of memory, and never another verdict.
 
 Each case is a refused growth, or all from one on. All of them are some 32,000, of which those after
 roots are tried, and a random choice of the others. Of 100 cases 5 at least are searches of which
@@ -183,7 +183,11 @@ def how_it_ended(tested, command, got):
     figures = reports.figures_of(got.out)
     if got.err or figures is None or command.worst is None:
         return None
-    if got.status == 3 and "\ncause memory\n" in got.out and got.written == (None, None):
+    # A later search of the same command may have gone on, and ended by its budget as it does where
+    # memory suffices.
+    causes = ["memory"] + ["budget"] * ("\ncause budget\n" in ample.out)
+    is_cut = got.status == 3 and any(f"\ncause {it}\n" in got.out for it in causes)
+    if is_cut and got.written == (None, None):
         return "between" if figures.low <= command.worst <= figures.high else None
     if (
         got.status == 0
