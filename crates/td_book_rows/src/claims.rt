@@ -6,7 +6,7 @@ use std::alloc::{AllocError, Global};
 use td_book::{Book, Claim, Lease};
 use td_domain::Cube;
 
-/// A book whose root has all pairs for so many inputs.
+/// A book for this number of inputs. Its root has all pairs.
 pub fn free_book(
     alloc: Global,
     inputs: usize,

@@ -45,7 +45,7 @@ fn check(
     Ok(())
 }
 
-// As `check`, of a book whose root has all pairs for so many inputs.
+// As `check`, of a book for this number of inputs. Its root has all pairs.
 fn check_free(
     rt: &impl Abort,
     alloc: Global,

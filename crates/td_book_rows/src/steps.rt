@@ -30,7 +30,7 @@ fn push_lease(told: &mut String, alloc: Global, lease: &Lease) -> Result<(), All
     told.push_str("\n")
 }
 
-/// A lease that a claim gave is kept and told.
+/// Keeps a lease that a claim gave, and reports it.
 fn keep(
     told: &mut String,
     alloc: Global,
@@ -138,7 +138,8 @@ fn dig_one(tree: &mut Subtree, closes: bool) -> bool
     true
 }
 
-/// Handles so many nodes of a private tree, and closes where the bits of the seed say so.
+/// Handles up to this number of nodes of a private tree, and closes where the bits of the seed say
+/// so.
 pub fn dig(tree: &mut Subtree, nodes: u32, seed: u64)
     ensures { tree.new.cube ≡ tree.old.cube }
 {
@@ -201,7 +202,7 @@ fn altered(alloc: Global, lease: &Lease, letter: u8) -> Result<Lease, AllocError
     })
 }
 
-/// Puts such a copy of the latest lease behind it.
+/// Puts such a copy of the latest lease after it.
 fn alter(alloc: Global, leases: &mut Vec<Lease>, letter: u8) -> Result<(), AllocError> {
     let copy = match leases.last() {
         Some(lease) => altered(alloc, lease, letter)?,

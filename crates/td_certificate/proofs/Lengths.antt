@@ -27,7 +27,7 @@ use Rattle.td_certificate.proofs.CertificateCode.{text_from_second, text_from_fi
 short : (n : ℕ) → n < 10 ^ 15 → length (decimal n) ≤ 15
 short n small = length-decimal-le 15 n (omega arith) small (omega arith)
 
--- a line of a number behind a word
+-- a line of a number after a word
 line_length : (word : List ℕ) (n : ℕ) → n < 10 ^ 15 → length ((word ++ decimal n) ++ 10 ∷ []) ≤ length word + 16
 line_length word n small = omega (arith, short n small, length-append (word ++ decimal n) (10 ∷ []), length-append word (decimal n))
 

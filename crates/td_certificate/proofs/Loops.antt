@@ -9,7 +9,7 @@ use Rattle.td_certificate.specs.declared.fields.Stop as code_stop
 use Rattle.td_certificate.specs.declared.fields.Stop.TheVariants as code
 use Rattle.td_certificate.specs.Reading.{Ends, Wrong, Reading, ◌>>=◌, Fails, byte_at, literal, char_at, chars_at, moment_at, moments_at}
 
--- what is read behind a list that was read
+-- what is read after a list that was read, with this list in front
 abbrev pub with_front : {A : Type 0} → List A → Reading (List A) → Reading (List A)
 with_front front read = read >>= λ x. Ok (front ++ x.0, x.1)
 
@@ -80,7 +80,7 @@ chars_first {A} value count i rest lt =
     let k : count - i ≡ suc (count - (i + 1)) = omega arith in
     ap (λ (n : ℕ). chars_at value n rest) k
 
--- a reading behind others that stopped
+-- a reading that stops, after others that were read
 front_stops : {A B : Type 0} (stop : code_stop.Stop) (front : List B) (read : Reading A) (next : A × List ℕ → Reading (List B)) (whole total : Reading (List B))
     → Fails stop read → whole ≡ (read >>= next) → with_front front whole ≡ total → Fails stop total
 front_stops code.OutOfMemory front read next whole total e is so_far = tt

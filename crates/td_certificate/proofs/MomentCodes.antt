@@ -33,7 +33,7 @@ moments_text (m ∷ ms) = number_text (close_of (length ms)) m ++ moments_text m
 abbrev pub AreWithin : List ℕ → Type 0
 AreWithin ms = AllByRecursion (λ moment. moment ≤ latest) ms
 
--- so many moments, some of which isn't 0 where those before are
+-- `count` moments, one of which isn't 0 where all before them are
 pub record AreMoments (at_once : Bool) (count : ℕ) (ms : List ℕ) : Type 0 where
   pub long : length ms ≡ count
   pub within : AreWithin ms

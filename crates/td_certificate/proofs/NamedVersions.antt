@@ -1,4 +1,4 @@
--- A text of which Version is told has another version's number in its first line.
+-- A text whose fault is Version has another version's number in its first line.
 use Rattle.std.proofs.Common.{◌≡◌, ◌≢◌, ℕ, ◌+◌, ◌-◌, ◌*◌, ◌^◌, ◌<◌, ◌≤◌, Bool, true, false, cond, eqb, leb, List, [], ◌∷◌, ◌++◌, Ok, Err, Some, inl, inr, refl, sym, ap, ◌∙◌, append_assoc, arith}
 use Rattle.std.specs.Prelude.{codes, decimal, ◌&&◌, not}
 use Rattle.std.specs.Char.{is_ascii_digit}
@@ -69,7 +69,7 @@ split_some d rest digit low le =
     to_number (d ∷ rest) (front_number 0 (d ∷ rest)) (front_number (d - 48) rest) e
     (record { later = s.later; ended = s.ended; parts = sym (digit_text d rest digit) ∙ s.parts })
 
--- one digit with no other behind it
+-- one digit with no other after it
 split_one : (d : ℕ) (rest : List ℕ) → is_ascii_digit d ≡ true → NoDigit rest → Split (d ∷ rest) (front_number 0 (d ∷ rest))
 split_one d [] digit none =
     to_number (d ∷ []) (front_number 0 (d ∷ [])) (d - 48) (first_number d [] digit ∙ front_none (d - 48)) (record { later = []; ended = tt; parts = sym (digit_text d [] digit) })

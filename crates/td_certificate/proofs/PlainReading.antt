@@ -1,4 +1,4 @@
--- Version is told of nothing behind the first line.
+-- Nothing after the first line has the fault Version.
 use Rattle.std.proofs.Common.{◌≡◌, ℕ, zero, suc, ◌+◌, ◌-◌, ◌*◌, Bool, true, false, cond, eqb, ltb, leb, List, [], ◌∷◌, Option, Some, None, Ok, Err, inl, inr}
 use Rattle.std.specs.Prelude.{codes, replicate, ◌&&◌, ◌==◌}
 use Rattle.std.specs.Char.{is_ascii_digit}
@@ -75,7 +75,7 @@ unfolding number_from
 from_plain positive most close bytes =
     plain_if (positive && begins_with_zero bytes) (wrong Syntax bytes) (number_at most close bytes) (plain_syntax bytes) (number_plain most close bytes)
 
--- told as the syntax
+-- a fault that is reported as Syntax
 syntax_plain : {A : Type 0} (read : Reading A) → Plain (because Syntax read)
 syntax_plain (Ok x) = plain_ok x
 syntax_plain (Err Ends) = plain_ends
@@ -286,7 +286,7 @@ nodes_plain : (here : Leaves) (pending : ℕ) (bytes : List ℕ) → Plain (node
 unfolding nodes_at
 nodes_plain here pending bytes = within_plain here _ pending bytes
 
--- ---- the lines behind the first
+-- ---- the lines after the first
 
 abbrev pub behind_second : Version → ℕ → ℕ → Question → ℕ → List Bool → List ℕ → Reading Certificate
 behind_second v i g q t f bytes = row_behind (codes "to ") bit_of i bytes >>= λ second. nodes_at (leaves_in v) 1 second.1 >>= λ tree. Ok (with_fields g q t f second.0 tree.0, tree.1)

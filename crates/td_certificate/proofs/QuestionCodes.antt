@@ -175,7 +175,7 @@ from_first v i few =
           );
     })
 
--- what the lines `first` to `flips` of a version tell for so many inputs
+-- what the lines `first` to `flips` of a version say, for `i` inputs
 pub record IsAdmit (v : Version) (i : ℕ) (a : Admitted) : Type 0 where
   pub pins : length a.pins ≡ 2 * i
   pub held : length a.held ≡ i
@@ -257,7 +257,7 @@ pin_count (suc count) = ap suc (pin_count count)
 
 -- ---- questions
 
--- the question is told in this version: in the fourth any is
+-- a text of this version can ask the question: in the fourth and the fifth it can ask any
 abbrev pub IsTold : Version → Question → Type 0
 IsTold First q = version_of q ≡ First
 IsTold Second q = version_of q ≡ Second
@@ -265,7 +265,7 @@ IsTold Third q = version_of q ≡ Third
 IsTold Fourth q = Unit {0}
 IsTold Fifth q = Unit {0}
 
--- what can be asked in a text of this version, of a circuit with so many inputs
+-- what a text of this version can ask, of a circuit with `i` inputs
 pub record IsQuestion (v : Version) (i : ℕ) (q : Question) : Type 0 where
   pub version : IsTold v q
   pub inputs : inputs_of q ≡ i
@@ -302,7 +302,7 @@ to_third at_once all e = rw e refl
 all_tests : (a b c : Bool) → a ≡ true → b ≡ true → c ≡ true → (a && (b && c)) ≡ true
 all_tests a b c e f g = rw (e, f, g) refl
 
--- a line of a word and others behind it
+-- a line of a word and the characters after it
 line_text : (word chars rest : List ℕ) → ended (word ++ chars) ++ rest ≡ (word ++ (chars ++ codes "\n")) ++ rest
 line_text word chars rest = ap (λ (t : List ℕ). t ++ rest) (append_assoc word chars (10 ∷ []))
 

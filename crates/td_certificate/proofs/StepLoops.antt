@@ -71,7 +71,7 @@ lines_of_steps steps lines all is =
 
 -- ---- lines
 
--- steps behind others
+-- steps after others
 abbrev with_steps : List Step → Reading Refuted → Reading Refuted
 with_steps front read = read >>= λ x. Ok (record { steps = front ++ x.0.steps; bound = x.0.bound }, x.1)
 

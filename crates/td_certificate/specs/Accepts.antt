@@ -83,7 +83,7 @@ pub record IsGood (setting : Setting) (admit : Admitted) (most : ℕ) (line : Li
 
 -- ---- the certificate
 
--- it is of a circuit with so many inputs and gates
+-- the certificate is of a circuit with as many inputs and gates as the netlist
 pub record IsOfSize (netlist : Netlist) (c : Certificate) : Type 0 where
   pub inputs : length netlist.inputs ≡ inputs c
   pub gates : length netlist.gates ≡ c.gates

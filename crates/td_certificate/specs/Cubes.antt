@@ -10,8 +10,8 @@ zero_side cube position = set cube position Zero
 abbrev pub one_side : List Trit → ℕ → List Trit
 one_side cube position = set cube position One
 
--- A walk over a tree's nodes has a place for each tree still to come. Behind a node that is split at a position the zero side of
--- its place comes next and then the one side, before the others.
+-- A walk over a tree's nodes has a place for each tree still to come. After a node that is split at
+-- a position, the zero side of its place comes next, and then the one side, before the others.
 abbrev pub past : {P : Type 0} → (P → ℕ → P) → (P → ℕ → P) → P → Option ℕ → List P → List P
 past zero_of one_of place None others = others
 past zero_of one_of place (Some position) others = zero_of place position ∷ one_of place position ∷ others

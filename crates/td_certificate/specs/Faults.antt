@@ -47,7 +47,7 @@ pub record StopsAt (text : List ℕ) (place : ℕ) : Type 0 where
   pub unreadable : (c : Certificate) (more : List ℕ) → HasSpelling c → ¬ (spelling c ≡ front ++ next ∷ more)
   pub line : place ≡ line_behind front
 
--- the kind by which a reason is told
+-- the kind of fault that reports a reason
 abbrev pub kind_of : Reason → CertFaultKind
 kind_of reason.Syntax = kind.Syntax
 kind_of reason.NumberTooLarge = kind.NumberTooLarge
@@ -71,8 +71,8 @@ NoDigit (b ∷ rest) = is_ascii_digit b ≡ false
 abbrev pub IsOther : ℕ → Type 0
 IsOther number = (version : Version) → number ≢ version_number version
 
--- A first line with a number of no version, of at most 64 digits, is told as another version, or as a number too large, whatever follows the
--- number.
+-- A first line with a number of no version, of at most 64 digits, is reported as another version,
+-- or as a number too large, whatever follows the number.
 abbrev pub VersionsAreTold : Type 0
 VersionsAreTold = (n : ℕ) (later : List ℕ) → IsOther n → n < 10 ^ 64 → NoDigit later
     → kind_in (codes "tdelay-cert " ++ decimal n ++ later) ≡ Some (if nat_le n greatest then kind.Version else kind.NumberTooLarge)
@@ -86,7 +86,7 @@ pub record NamesVersion (text : List ℕ) : Type 0 where
   pub ended : NoDigit later
   pub parts : text ≡ codes "tdelay-cert " ++ decimal number ++ later
 
--- and of no other text is Version told
+-- and no other text has the fault Version
 abbrev pub VersionsAreNamed : Type 0
 VersionsAreNamed = (text : List ℕ) → kind_in text ≡ Some kind.Version → NamesVersion text
 
@@ -105,7 +105,7 @@ abbrev pub IsReadAs : Certificate → Result Certificate CertFault → Type 0
 IsReadAs c (Ok read) = read ≡ c
 IsReadAs c (Err fault) = fault.kind ≡ kind.OutOfMemory
 
--- memory aside, this kind of fault was told
+-- memory aside, the result is this kind of fault
 abbrev pub IsTold : CertFaultKind → Result Certificate CertFault → Type 0
 IsTold k (Ok read) = ⊥
 IsTold k (Err fault) = (fault.kind ≡ k) ⊎ (fault.kind ≡ kind.OutOfMemory)

@@ -41,7 +41,7 @@ literal [] bytes = Ok (tt, bytes)
 literal (c ∷ cs) [] = Err Ends
 literal (c ∷ cs) (b ∷ rest) = if b == c then literal cs rest else Err (Wrong Syntax (b ∷ rest))
 
--- the digits behind those of a number so far, up to the byte that closes it
+-- the digits after those of a number so far, up to the byte that closes it
 unfoldable pub digits_at : ℕ → ℕ → ℕ → List ℕ → Reading ℕ
 digits_at most close number [] = Err Ends
 digits_at most close number (b ∷ rest) =

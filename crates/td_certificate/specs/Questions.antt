@@ -32,12 +32,13 @@ admits_all admit = list_all is_free admit.pins && (holds_none admit.held && (adm
 abbrev pub is_at_once : List ℕ → Bool
 is_at_once moments = list_all (λ moment. moment == 0) moments
 
--- The version in which a question is told where no leaf is bounded by edges or refuted: the first where all pairs are admitted and all inputs
--- change at moment 0, the second where pairs are restricted, the third where an input changes later.
+-- The version of a question's text, where no leaf is bounded by edges or refuted: the first where
+-- all pairs are admitted and all inputs change at moment 0, the second where pairs are restricted,
+-- the third where an input changes later.
 abbrev pub version_of : Question → Version
 version_of question = if is_at_once question.moments then (if admits_all question.admit then First else Second) else Third
 
--- the question of the first version for so many inputs
+-- the question of the first version for this number of inputs
 abbrev pub all_at_once : ℕ → Question
 all_at_once inputs = record { admit = all_pairs inputs; moments = replicate inputs 0 }
 

@@ -28,7 +28,7 @@ unfoldable pub use Rattle.td_certificate.specs.Fields.{literal, digits_at, numbe
 
 -- ---- characters
 
--- so many characters
+-- this number of characters
 unfoldable pub chars_at : {A : Type 0} → (ℕ → Option A) → ℕ → List ℕ → Reading (List A)
 chars_at value zero bytes = Ok ([], bytes)
 chars_at value (suc count) bytes = do
@@ -45,7 +45,7 @@ trit_of b = written_as trit (Zero ∷ One ∷ Free ∷ []) b
 abbrev pub hold_of : ℕ → Option Bool
 hold_of b = written_as hold (true ∷ false ∷ []) b
 
--- a word, so many characters and the newline
+-- a word, this number of characters, and the newline
 unfoldable pub chars_behind : {A : Type 0} → List ℕ → (ℕ → Option A) → ℕ → List ℕ → Reading (List A)
 chars_behind word value count bytes = do
   behind ← literal word bytes
@@ -63,13 +63,13 @@ row_behind word value (suc count) bytes = chars_behind word value (suc count) by
 
 -- ---- the first line
 
--- a number's digits stand in front: one at least, and none behind a leading 0
+-- a number's digits stand in front: one at least, and none after a leading 0
 abbrev pub begins_number : List ℕ → Bool
 begins_number [] = false
 begins_number (d ∷ []) = is_ascii_digit d
 begins_number (d ∷ e ∷ rest) = is_ascii_digit d && not (d == 48 && is_ascii_digit e)
 
--- the number of the digits in front, behind those of a number so far
+-- the number of the digits in front, after those of a number so far
 unfoldable pub front_number : ℕ → List ℕ → ℕ
 front_number number [] = number
 front_number number (b ∷ rest) = if is_ascii_digit b then front_number (10 * number + (b - 48)) rest else number
@@ -113,7 +113,7 @@ digit_at bytes = do
   end ← literal (codes "\n") version.1
   Ok (version.0, end.1)
 
--- the first line: what stands behind its word and space says why it isn't that of a version
+-- the first line: what stands after its word and space says why it isn't that of a version
 unfoldable pub version_at : List ℕ → Reading Version
 version_at bytes = do
   word ← literal (codes "tdelay-cert ") bytes
@@ -150,16 +150,16 @@ admit_at version inputs bytes = do
   flips ← flips_at (most_flips version (weave firsts.0 seconds.0) held.0) held.1
   Ok (with_pins firsts.0 seconds.0 held.0 flips.0, flips.1)
 
--- the byte behind a moment with so many others to come
+-- the byte after a moment, where this number of others is to come
 abbrev pub close_of : ℕ → ℕ
 close_of zero = 10
 close_of (suc others) = 32
 
--- a moment with so many others to come; the last must not be 0 where all before are
+-- a moment, where this number of others is to come; the last must not be 0 where all before are
 abbrev pub moment_at : Bool → ℕ → List ℕ → Reading ℕ
 moment_at at_once others bytes = because Syntax (number_from (at_once && others == 0) latest (close_of others) bytes)
 
--- so many moments, behind others that are all 0 or not
+-- this number of moments, after others that are all 0 or not
 unfoldable pub moments_at : Bool → ℕ → List ℕ → Reading (List ℕ)
 moments_at at_once zero bytes = Ok ([], bytes)
 moments_at at_once (suc count) bytes = do
@@ -249,7 +249,7 @@ tags leaves.OfRefuted = SplitTag ∷ RefutedTag ∷ []
 unfoldable pub tag_at : Leaves → List ℕ → Reading Tag
 tag_at here bytes = char_at (λ b. written_as tag_byte (tags here) b) bytes
 
--- what stands behind the first byte of a node
+-- what stands after the first byte of a node
 unfoldable pub behind_tag : Leaves → Tag → List ℕ → Reading Node
 behind_tag here SplitTag bytes = do
   position ← number_behind (codes " ") greatest 10 bytes
@@ -284,8 +284,8 @@ leaves_in Third = leaves.Later
 leaves_in Fourth = leaves.OfEdges
 leaves_in Fifth = leaves.OfRefuted
 
--- the leaves that may stand before so many other subtrees: where one bounded by edges, or a refuted one, is still to come, the last one has
--- to be it
+-- the leaves that may stand before this number of other subtrees: where a leaf bounded by edges, or
+-- a refuted one, is still to come, the last leaf has to be it
 abbrev pub leaves_before : Leaves → ℕ → Leaves
 leaves_before leaves.First others = leaves.First
 leaves_before leaves.Later others = leaves.Later
@@ -296,7 +296,7 @@ leaves_before leaves.WithRefuted others = leaves.WithRefuted
 leaves_before leaves.OfRefuted zero = leaves.OfRefuted
 leaves_before leaves.OfRefuted (suc others) = leaves.WithRefuted
 
--- the leaves behind a node
+-- the leaves after a node
 abbrev pub leaves_behind : Leaves → Node → Leaves
 leaves_behind leaves.First n = leaves.First
 leaves_behind leaves.Later n = leaves.Later
@@ -305,7 +305,7 @@ leaves_behind leaves.OfEdges n = if names_edges n then leaves.Any else leaves.Of
 leaves_behind leaves.WithRefuted n = leaves.WithRefuted
 leaves_behind leaves.OfRefuted n = if is_refuted n then leaves.WithRefuted else leaves.OfRefuted
 
--- the nodes of so many subtrees, no more of them than the first number
+-- the nodes of `pending` subtrees, at most `count` of them
 unfoldable pub nodes_within : Leaves → ℕ → ℕ → List ℕ → Reading (List Node)
 nodes_within here count zero bytes = Ok ([], bytes)
 nodes_within here zero (suc pending) bytes = Err Ends
@@ -314,7 +314,7 @@ nodes_within here (suc count) (suc pending) bytes = do
   others ← nodes_within (leaves_behind here first.0) count (sides first.0 + pending) first.1
   Ok (first.0 ∷ others.0, others.1)
 
--- the nodes of so many subtrees
+-- the nodes of `pending` subtrees
 unfoldable pub nodes_at : Leaves → ℕ → List ℕ → Reading (List Node)
 nodes_at here pending bytes = nodes_within here (length bytes) pending bytes
 
@@ -324,7 +324,7 @@ with_fields gates question time first second tree =
 
 -- ---- the whole
 
--- the lines behind the first, and the bytes after them
+-- the lines after the first, and the bytes after them
 unfoldable pub lines_at : Version → List ℕ → Reading Certificate
 lines_at version bytes = do
   word ← literal (codes "circuit ") bytes

@@ -25,7 +25,8 @@ until_within last single put read (suc count) bytes =
 unfoldable pub until_at : {A B : Type 0} → (A → Bool) → (A → B) → (A → B → B) → (List ℕ → Reading A) → List ℕ → Reading B
 until_at last single put read bytes = until_within last single put read (length bytes) bytes
 
--- the digits behind those of a number so far, up to a newline or a space, and whether it is the newline
+-- the digits after those of a number so far, up to a newline or a space, and whether it is the
+-- newline
 unfoldable pub open_digits_at : ℕ → List ℕ → Reading (ℕ × Bool)
 open_digits_at number [] = Err Ends
 open_digits_at number (b ∷ rest) =
@@ -41,7 +42,7 @@ unfoldable pub open_number_at : List ℕ → Reading (ℕ × Bool)
 open_number_at [] = Err Ends
 open_number_at (b ∷ rest) = if is_ascii_digit b then open_digits_at (b - 48) rest else Err (Wrong Syntax (b ∷ rest))
 
--- the numbers of a line, behind a space
+-- the numbers of a line, after a space
 unfoldable pub numbers_at : List ℕ → Reading (List ℕ)
 numbers_at bytes = until_at (λ x. x.1) (λ x. x.0 ∷ []) (λ x others. x.0 ∷ others) open_number_at bytes
 
@@ -54,7 +55,7 @@ abbrev pub numbers_after : Bool → List ℕ → Reading (List ℕ)
 numbers_after true bytes = Ok ([], bytes)
 numbers_after false bytes = numbers_at bytes
 
--- numbers, each behind a space, and the newline
+-- numbers, each after a space, and the newline
 unfoldable pub spaced_at : List ℕ → Reading (List ℕ)
 spaced_at bytes = do
   close ← char_at (λ b. written_as closing_byte (true ∷ false ∷ []) b) bytes

@@ -21,7 +21,7 @@ kind_byte Lemma = 108
 kind_byte Cut = 99
 kind_byte Again = 103
 
--- numbers, each behind a space
+-- numbers, each after a space
 abbrev pub spaced : List ℕ → List ℕ
 spaced [] = []
 spaced (number ∷ others) = 32 ∷ (decimal number ++ spaced others)

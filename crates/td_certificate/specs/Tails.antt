@@ -1,4 +1,4 @@
--- Internal: the later parts of what is read in one, behind the earlier ones.
+-- Internal: the later parts of what is read in one, after the earlier ones.
 use Rattle.std.specs.Prelude.{ℕ, List, Bool, Ok, codes}
 use Rattle.td_domain.specs.declared.cubes.Trit.{Trit}
 use Rattle.td_domain.specs.Admits.{Admitted}
@@ -9,19 +9,19 @@ use Rattle.td_certificate.specs.Spelling.{greatest}
 use Rattle.td_domain.specs.Cubes.{weave}
 use Rattle.td_certificate.specs.Reading.{Reading, ◌>>=◌, number_behind, row_behind, bit_of, most_flips, flips_at, with_pins, nodes_at, leaves_in, with_fields}
 
--- the line of the flips, behind the rows
+-- the line of the flips, after the rows
 abbrev pub limited_at : Version → List Trit → List Trit → List Bool → List ℕ → Reading Admitted
 limited_at version firsts seconds held bytes = do
   flips ← flips_at (most_flips version (weave firsts seconds) held) bytes
   Ok (with_pins firsts seconds held flips.0, flips.1)
 
--- the tree, behind the pair
+-- the tree, after the pair
 abbrev pub tree_at : Version → ℕ → Question → ℕ → List Bool → List Bool → List ℕ → Reading Certificate
 tree_at version gates question time first second bytes = do
   tree ← nodes_at (leaves_in version) 1 bytes
   Ok (with_fields gates question time first second tree.0, tree.1)
 
--- the lines behind those of the question
+-- the lines after those of the question
 abbrev pub answer_at : Version → ℕ → ℕ → Question → List ℕ → Reading Certificate
 answer_at version inputs gates question bytes = do
   time ← number_behind (codes "time ") greatest 10 bytes

@@ -44,7 +44,7 @@ fn flips(most: u64, text: &[u8]) -> Result<(u64, &[u8]), Stop<'_>>
     }
 }
 
-/// Takes the line of the flips, behind rows of these trits and held inputs.
+/// Takes the line of the flips, after rows of these trits and held inputs.
 fn limited<'a>(
     alloc: Global,
     version: Version,
@@ -80,7 +80,8 @@ fn admit(
     limited(alloc, version, &firsts, &seconds, held, rest)
 }
 
-/// Takes a moment with so many others to come, behind moments that are all 0 or not.
+/// Takes a moment. `others` moments are still to come, and `at_once` says that all before are 0 and
+/// one has to be later.
 fn moment(at_once: bool, others: u32, text: &[u8]) -> Result<(u64, &[u8]), Stop<'_>>
     ensures { Gives (λ x. (x.0, x.1.now)) result (moment_at at_once others text.now) }
 {

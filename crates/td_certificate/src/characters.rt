@@ -84,7 +84,7 @@ fn character<A: Alphabet>(text: &[u8]) -> Result<(A::Value, &[u8]), Stop<'_>>
     }
 }
 
-/// Takes so many characters.
+/// Takes `count` characters.
 fn characters<A: Alphabet>(
     alloc: Global,
     count: u32,
@@ -103,7 +103,7 @@ fn characters<A: Alphabet>(
     Ok((values, rest))
 }
 
-/// Takes a word, so many characters and the newline.
+/// Takes a word, `count` characters and the newline.
 #[tactic(auto, unfolding(crate::specs::Reading::chars_behind))]
 fn line<'a, A: Alphabet>(
     alloc: Global,

@@ -51,11 +51,11 @@ pub enum Leaves {
     First,
     /// Those of the second and the third version: none bounded by edges.
     Later,
-    /// All, in the fourth version behind a leaf bounded by edges.
+    /// All, in the fourth version after a leaf bounded by edges.
     Any,
     /// Those of the fourth version before that: one bounded by edges is still to come.
     OfEdges,
-    /// All, in the fifth version behind a refuted leaf.
+    /// All, in the fifth version after a refuted leaf.
     WithRefuted,
     /// Those of the fifth version before that: a refuted one is still to come.
     OfRefuted,
@@ -74,7 +74,8 @@ impl Leaves {
         }
     }
 
-    /// Those that may stand before so many other subtrees. The last leaf has to be bounded by edges, or refuted, where one is still to come.
+    /// Those that may stand before N other subtrees. The last leaf has to be bounded by edges, or
+    /// refuted, where one is still to come.
     pub fn before(self, others: u64) -> Leaves
         ensures { result ≡ leaves_before self others }
     {
@@ -85,7 +86,7 @@ impl Leaves {
         }
     }
 
-    /// Those behind a node.
+    /// Those after a node.
     pub fn behind(self, node: &Node) -> Leaves
         ensures { result ≡ leaves_behind self node.now }
     {

@@ -61,7 +61,8 @@ fn is_version(number: u64) -> bool
     number == 1 || number == 2 || number == 3 || number == 4 || number == 5
 }
 
-/// What is wrong with a first line that isn't that of a version, from the byte behind its word and space on.
+/// What is wrong with a first line that isn't that of a version, from the byte after its word and
+/// space on.
 #[tactic(auto, unfolding(crate::specs::Reading::version_reason))]
 fn version_reason(behind: &[u8]) -> Reason
     ensures { result ≡ version_reason behind.now }
@@ -162,7 +163,7 @@ fn closed<'a>(
     Ok((certificate, rest))
 }
 
-/// Takes the lines behind those of the question.
+/// Takes the lines after those of the question.
 fn answered<'a>(
     alloc: Global,
     version: Version,
@@ -180,7 +181,7 @@ fn answered<'a>(
     closed(alloc, version, gates, question, time, pair, rest)
 }
 
-/// Takes the lines behind the first.
+/// Takes the lines after the first.
 #[tactic(auto, unfolding(crate::specs::Reading::lines_at))]
 fn lines(alloc: Global, version: Version, text: &[u8]) -> Result<(Certificate, &[u8]), Stop<'_>>
     ensures { Gives (λ x. (x.0, x.1.now)) result (lines_at version text.now) }
@@ -267,7 +268,8 @@ pub fn read(alloc: Global, text: &[u8]) -> Result<Certificate, CertFault>
     ensures found { IfOk result (λ c. Spells c text.now × IsWithinLimit text.now) }
     ensures fault { IfErr result (λ fault. IsFault fault.kind fault.line text.now) }
 
-    // Unless memory runs out, what is spelled so is read, and each other text is told.
+    // Unless memory runs out, a text that spells a certificate is read as this certificate, and
+    // each other text gives its fault.
     ensures only { (c : Contents) → Spells c text.now → IsWithinLimit text.now → IsReadAs c result }
     ensures ends { IsFront text.now → IsWithinLimit text.now → IsTold CertFaultKind.UnexpectedEnd result }
     ensures trailing { (line : ℕ) → HasMore text.now line → IsWithinLimit text.now → IsTold CertFaultKind.Trailing result }

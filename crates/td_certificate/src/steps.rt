@@ -14,7 +14,8 @@ pub enum Line {
     Bound(u64),
 }
 
-/// Takes a number without leading zeros and the byte behind it, a newline or a space, and tells whether it is the newline.
+/// Takes a number without leading zeros and the byte after it, a newline or a space. Answers
+/// whether that byte is the newline.
 #[tactic(auto, unfolding(crate::specs::StepReading::open_number_at, crate::specs::StepReading::open_digits_at))]
 fn open_number(text: &[u8]) -> Result<(u64, bool, &[u8]), Stop<'_>>
     ensures read { Gives (λ x. ((x.0, x.1), x.2.now)) result (open_number_at text.now) }
@@ -64,7 +65,7 @@ fn numbers<'a>(text: &'a [u8], numbers: &mut Vec<u64>) -> Result<&'a [u8], Stop<
     }
 }
 
-/// Takes numbers, each behind a space, and the newline.
+/// Takes numbers, each after a space, and the newline.
 #[tactic(auto, unfolding(crate::specs::StepReading::spaced_at))]
 fn spaced<'a>(text: &'a [u8], list: &mut Vec<u64>) -> Result<&'a [u8], Stop<'a>>
     ensures { Gives (λ rest. (list.new.items, rest.now)) result (spaced_at text.now) }

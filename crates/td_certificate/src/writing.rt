@@ -33,7 +33,7 @@ fn trit_character(bit: Trit) -> char
     }
 }
 
-/// The position of an input's second bit behind that of its first, or of its first.
+/// By how much the position of an input's second bit passes that of its first, and 0 for the first.
 fn side(second: bool) -> usize
     ensures { result ≡ (if second then 1 else 0) }
 {
@@ -209,7 +209,8 @@ fn write_node<W: Sink>(out: &mut W, batch: &mut String, node: &Node) -> Result<(
 
 /// Appends the certificate's text to what went out.
 ///
-/// The error is want of memory for the bytes that are gathered before a write, or a failure of the writer.
+/// The error is that memory ran out for the bytes that are gathered before a write, or a failure of
+/// the writer.
 pub fn write<W: Sink>(
     alloc: Global,
     out: &mut W,

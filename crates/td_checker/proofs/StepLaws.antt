@@ -26,7 +26,7 @@ use Rattle.td_checker.specs.Verdicts.{WrongNumber, AboveTime, TooLarge, BadStep}
 use Rattle.td_checker.specs.Judging.{with_cube, IsFlawed, IsGoodLine}
 use Rattle.td_checker.specs.Stepping.{IsStepped, IsBegun, AreAllDone, IsFirstBadStep}
 
--- so many of the steps were done, and these are left
+-- the steps before this place were done, and these are left
 pub record AreUnderWay (circuit : Numbered) (admit : Admitted) (cube : List Trit) (all : List Step) (left : List Step) (place : ℕ) (refutation : Refutation) : Type 0 where
   pub front : List Step
   pub parts : all ≡ front ++ left

@@ -35,8 +35,9 @@ pub record HaveVerdict (netlist_text : List ℕ) (default : Delay) (text : List 
   pub within : IsWithinLimit text
   pub is : IsVerdict netlist certificate verdict
 
--- What a fault says of the texts, looked for in this order: the netlist's text means none, and has the fault; the netlist has
--- a loop; the certificate's text has the fault. Nothing is said of want of memory.
+-- What a fault says of the texts, looked for in this order: the netlist's text means none, and has
+-- the fault; the netlist has a loop; the certificate's text has the fault. That memory ran out says
+-- nothing of them.
 abbrev pub IsCheckFault : List ℕ → Delay → List ℕ → CheckFault → Type 0
 IsCheckFault netlist_text default text fault.OutOfMemory = Unit {0}
 IsCheckFault netlist_text default text (fault.Netlist told) =
@@ -48,7 +49,7 @@ IsCheckFault netlist_text default text (fault.Certificate told) =
     (netlist : Netlist) × HasCircuit netlist_text default netlist
     × (told.kind ≢ certificate_kind.OutOfMemory) × IsFault told.kind told.line text
 
--- memory aside, this verdict is told
+-- memory aside, the result is this verdict
 abbrev pub IsToldAs : Verdict → Result Checked CheckFault → Type 0
 IsToldAs verdict (Ok told) = told.verdict ≡ verdict
 IsToldAs verdict (Err told) = told ≡ fault.OutOfMemory

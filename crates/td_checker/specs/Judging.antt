@@ -17,7 +17,7 @@ use Rattle.td_checker.specs.declared.judging.Judged as code_judged
 use Rattle.td_checker.specs.declared.judging.Judged.TheVariants as judged
 use Rattle.td_checker.specs.Verdicts.{Flaw, Misplaced, NotOnePair, WrongNumber, NotEmpty, AboveTime, TooLarge, BadStep, HasFlaw, line_count, line_total, told_at}
 
--- the flaw, where a step's is told at this of its node's lines
+-- the flaw; where it is a step's, `at` says at which of its node's lines
 abbrev pub flaw_of : code_flaw.Flaw → ℕ → Flaw
 flaw_of code.Misplaced at = Misplaced
 flaw_of code.NotOnePair at = NotOnePair
@@ -40,13 +40,13 @@ abbrev pub IsJudgedLine : Setting → Admitted → ℕ → Line → Option code_
 IsJudgedLine setting admit most line None = IsGood setting admit most line
 IsJudgedLine setting admit most line (Some flaw) = HasFlaw setting admit most (flaw_of flaw 0) line × (told_at (flaw_of flaw 0) line.node ≡ 0)
 
--- the line has this flaw, which is told at this of its node's lines
+-- the line has this flaw, and `at` says at which of its node's lines
 pub record IsFlawed (setting : Setting) (admit : Admitted) (most : ℕ) (line : Line) (flaw : Flaw) (at : ℕ) : Type 0 where
   pub has : HasFlaw setting admit most flaw line
   pub at_is : at ≡ told_at flaw line.node
   pub inside : at < line_count line.node
 
--- the line is good, with so many of the text's lines
+-- the line is good, and takes this number of the text's lines
 pub record IsGoodLine (setting : Setting) (admit : Admitted) (most : ℕ) (line : Line) (count : ℕ) : Type 0 where
   pub good : IsGood setting admit most line
   pub count_is : count ≡ line_count line.node
@@ -55,7 +55,8 @@ abbrev pub IsJudged : Setting → Admitted → ℕ → Line → code_judged.Judg
 IsJudged setting admit most line (judged.Good count) = IsGoodLine setting admit most line count
 IsJudged setting admit most line (judged.Bad flaw at) = IsFlawed setting admit most line (flaw_of flaw at) at
 
--- of these lines one is the first bad one, has this flaw, and has so many of the text's lines before the one at which that is told
+-- One of these lines is the first bad one, and has this flaw. As many of the text's lines as
+-- `before` says stand before the flaw.
 pub record IsBadAt (setting : Setting) (admit : Admitted) (most : ℕ) (lines : List Line) (flaw : Flaw) (before : ℕ) : Type 0 where
   pub place : ℕ
   pub bad : Line
@@ -64,7 +65,7 @@ pub record IsBadAt (setting : Setting) (admit : Admitted) (most : ℕ) (lines : 
   pub has : HasFlaw setting admit most flaw bad
   pub before_is : before ≡ line_total (take place lines) + told_at flaw bad.node
 
--- a flaw of the code's, wherever a step's is told
+-- a flaw of the code's, at whatever line a step's is
 pub record IsFoundBad (setting : Setting) (admit : Admitted) (most : ℕ) (lines : List Line) (told : BadLine) : Type 0 where
   pub at : ℕ
   pub bad : IsBadAt setting admit most lines (flaw_of told.flaw at) told.before

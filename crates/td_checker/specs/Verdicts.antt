@@ -115,7 +115,7 @@ abbrev pub last_line : Node → ℕ
 last_line (node.Refuted refuted) = 1 + length refuted.steps
 last_line n = 0
 
--- at which of a node's lines a flaw is told, counted from 0
+-- at which of a node's lines a flaw is reported, counted from 0
 abbrev pub told_at : Flaw → Node → ℕ
 told_at TooLarge n = 0
 told_at (BadStep place why) n = 1 + place

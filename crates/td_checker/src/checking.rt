@@ -103,7 +103,7 @@ fn told_of(flaw: Flaw, line: u32) -> Verdict
     }
 }
 
-/// Whether a certificate is of a circuit with so many inputs and gates.
+/// Whether a certificate is of a circuit with as many inputs and gates as this one.
 pub fn is_of_size(circuit: &Circuit, certificate: &Certificate) -> bool
     ensures { IsTrue result ↔ IsOfSize circuit.now.netlist certificate.now }
 {
@@ -253,12 +253,13 @@ pub fn check<'a>(
     default: Delay,
     certificate: &[u8],
 ) -> Result<Checked, CheckFault<'a>>
-    // What is told is the verdict on the two texts, with the certificate that the one spells, and a fault is one of theirs.
+    // The verdict is the one on the two texts. The certificate is the one that the second text
+    // spells. A fault is one of theirs.
     ensures told { IfOk result (λ checked. HaveVerdict netlist.now default certificate.now checked.verdict) }
     ensures spelled { IfOk result (λ checked. Spells checked.certificate certificate.now) }
     ensures fault { IfErr result (λ fault. IsCheckFault netlist.now default certificate.now fault) }
 
-    // Unless want of memory is told, texts that have a verdict are told it, where no leaf is refuted by steps.
+    // Unless memory runs out, texts that have a verdict get it, where no leaf is refuted by steps.
     ensures only { (verdict : Told) → IsUnrefuted certificate.now → HaveVerdict netlist.now default certificate.now verdict → IsToldAs verdict result }
 
     // An accepted time is the worst delay of the admitted pairs.

@@ -39,7 +39,8 @@ pub enum Flaw {
     BadStep(StepFlaw),
 }
 
-/// What is found of a node: it is good, with so many lines, or it has a flaw, which is told at this place among its lines.
+/// What is found of a node: it is good, with this number of lines, or it has a flaw, at this place
+/// among its lines.
 #[derive(Clone, Copy, Drop)]
 pub enum Judged {
     Good(usize),

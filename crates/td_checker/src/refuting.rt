@@ -14,7 +14,8 @@ use td_circuit::Circuit;
 use td_domain::{Admit, Cube};
 use td_refutation::{Flaw as StepFlaw, Refutation, StepError, StepKind};
 
-/// What steps came to: all of them are good, so many, or the one at a place isn't, for this reason.
+/// What steps came to: all of them are good, and this is their number, or the one at this place
+/// isn't, for this reason.
 #[derive(Clone, Copy, Drop)]
 pub enum Stepped {
     Done(usize),

@@ -169,7 +169,7 @@ module _ (level target : ℕ → ℕ → Bool) where
       let next : n + suc (length nets) ≡ suc n + length nets = omega arith in
       rw next (ap (λ rest. net_bits n first ++ rest) (bits-more (suc n) nets net) ∙ sym (append_assoc (net_bits n first) (bits_of (suc n) nets) (net_bits (suc n + length nets) net)))
 
-  -- the valuation by these nets, and more behind them
+  -- the valuation by these nets, and more after them
   valuation_by : List NetSets → List Bool → ℕ → Bool
   valuation_by nets more variable = get_or (bits_of 0 nets ++ more) variable false
 

@@ -122,7 +122,8 @@ module _ (valuation levels : ℕ → Bool) (wire : WireSet) (holds : WireHolds v
           → signed (not level) (valuation variable) ≡ false
       moment_fails to variable living fails = (or_none _ false (rw living at fails)).0
 
-  -- where the wire is at a level at a place, and behind each later moment below another place, it is there at each place until that one
+  -- where the wire is at a level at a place, and after each later moment below another place, it is
+  -- there at each place until that one
   stays_from : (level : Bool) (first k : ℕ) → levels first ≡ level
       → ((t : ℕ) → first ≤ t → t < first + k → levels (suc t) ≢ levels t → levels (suc t) ≡ level) → levels (first + k) ≡ level
   stays_from level first zero here later = ap levels (let none : first + 0 ≡ first = omega arith in none) ∙ here

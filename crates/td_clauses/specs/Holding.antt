@@ -4,7 +4,7 @@ use Rattle.td_moments.specs.Moments.{IsInOrder, Covers, place_of}
 use Rattle.td_clauses.specs.declared.nets.NetSets.{NetSets}
 use Rattle.td_clauses.specs.Wires.{WireSet}
 
--- The set covers the wire's levels, and its variables say them: before all moments, and behind each.
+-- The set covers the wire's levels, and its variables say them: before all moments, and after each.
 pub record WireHolds (valuation levels : ℕ → Bool) (wire : WireSet) : Type 0 where
   pub order : IsInOrder wire.list
   pub covers : Covers wire.list levels

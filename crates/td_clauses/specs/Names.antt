@@ -20,13 +20,15 @@ abbrev pub table_literals : List NetSets → ℕ → List ℕ → List Level →
 table_literals nets net inputs levels place level =
     input_literals nets inputs levels place ++ target_literal nets net place level ∷ []
 
--- Window: the target isn't at the level at the first place of the window or behind a later moment in it, or the output is there behind the moment.
+-- Window: the target isn't at the level at the first place of the window or after a later moment in
+-- it, or the output is there after the moment.
 abbrev pub window_literals : List NetSets → ℕ → ℕ → ℕ → Bool → List Literal
 window_literals nets net steps moment level =
     (target_literal nets net (moment + 1 - steps) (not level) ∷ between (net_at nets net).target (moment + 1 - steps) moment (not level))
     ++ level_literal nets net (moment + 1) level ∷ []
 
--- Hold: the output isn't at the level behind the moment, or was there before it, or the target was there so many steps before.
+-- Hold: the output isn't at the level after the moment, or was there before it, or the target was
+-- there `back` steps before.
 abbrev pub hold_literals : List NetSets → ℕ → ℕ → Bool → ℕ → List Literal
 hold_literals nets net moment level back =
     level_literal nets net (moment + 1) (not level) ∷ level_literal nets net moment level

@@ -19,7 +19,8 @@ literal_at wire place level = record { variable = wire.start + number_at wire.li
 abbrev pub moment_literals : Directions → ℕ → Bool → List Literal
 moment_literals to variable level = if is_gone to then [] else record { variable = variable; positive = level } ∷ []
 
--- a literal of this level for each of so many moments, from this one on, at which a change is possible still
+-- a literal of this level for each moment at which a change is possible still, among `count`
+-- moments from this one on
 abbrev pub between_from : List Possible → ℕ → Bool → ℕ → ℕ → List Literal
 between_from list start level low zero = []
 between_from list start level low (suc count) =
@@ -30,7 +31,7 @@ abbrev pub between : WireSet → ℕ → ℕ → Bool → List Literal
 between wire first last level =
     between_from wire.list wire.start level (count_before wire.list first) (count_before wire.list last - count_before wire.list first)
 
--- whether a change to this level is possible at one of so many moments, from this one on
+-- whether a change to this level is possible at one of `count` moments, from this one on
 abbrev pub any_from : List Possible → Bool → ℕ → ℕ → Bool
 any_from list level low zero = false
 any_from list level low (suc count) = may (get_or list low nowhere).to level || any_from list level (low + 1) count

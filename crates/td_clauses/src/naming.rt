@@ -50,7 +50,8 @@ pub fn table(
     Ok(clause)
 }
 
-/// Window: with its target at a level for so many steps until a moment, the gate's output is there at that moment. The error is out of memory.
+/// Window: where the gate's target is at a level for `steps` steps until a moment, the output is
+/// there at that moment. The error is out of memory.
 pub fn window(
     alloc: Global,
     nets: &[NetSets],
@@ -70,7 +71,8 @@ pub fn window(
     Ok(clause)
 }
 
-/// Hold: with its output changing to a level at a moment, the gate's target was there so many steps before. The error is out of memory.
+/// Hold: where the gate's output changes to a level at a moment, its target was there `back` steps
+/// before. The error is out of memory.
 pub fn hold(
     alloc: Global,
     nets: &[NetSets],

@@ -8,8 +8,9 @@ use std::marker::Model;
 use td_moments::Changes;
 use td_propagation::Literal;
 
-/// The possible changes of a wire, and the number of its first variable. That variable says the wire's level before all moments, and the
-/// one with the number j behind it says the level behind its j-th moment.
+/// The possible changes of a wire, and the number of its first variable. That variable says the
+/// wire's level before all moments. The variable whose number is greater by j says the level after
+/// the j-th moment.
 #[derive(Drop)]
 pub struct Wire {
     start: u32,

@@ -119,9 +119,9 @@ impl Climb {
         })
     }
 
-    /// Tries so many pairs more, or the next 64 where that are more, and less where the best has a
-    /// delay that is enough, or nothing better was met for long. Answers whether it is of use to go
-    /// on. The error is out of memory, and the climb may go on after it.
+    /// Tries `tries` more pairs, rounded up to a multiple of 64. It stops early where the best has
+    /// a delay that is enough, or where it met nothing better for long. Answers whether it is of
+    /// use to go on. The error is out of memory, and the climb may go on after it.
     pub fn go_on(
         &mut self,
         circuit: &Circuit,

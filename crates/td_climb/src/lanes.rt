@@ -10,8 +10,8 @@ use std::alloc::{AllocError, Global};
 use td_circuit::{Circuit, Gate};
 
 /// How many events the gates of a circuit may read in one simulation, since they may double from
-/// gate to gate. So many take some 0.2 s, and in a circuit of 200,000 gates are 40 at each input of
-/// a gate with two.
+/// gate to gate. This number takes some 0.2 s. In a circuit of 200,000 gates, it is 40 events at
+/// each input of a gate with two.
 const EVENTS: usize = 1 << 24;
 
 /// Room for the simulation of 64 pairs at once, used again for the next ones. What it says of a pair

@@ -28,8 +28,8 @@ fn drawn(draws: &mut Draws, inputs: usize) -> Flip
     }
 }
 
-/// How many inputs differ in a lane once a bit is flipped where so many differ now, if its pair
-/// stays admitted.
+/// How many inputs differ in a lane once a bit is flipped, where `flips` inputs differ now, if its
+/// pair stays admitted.
 fn flips_after(admit: &Admit, pairs: &Pairs, flip: Flip, lane: u32, flips: u32) -> Option<u32>
     requires { flip.input < length admit.now.held }
 {
@@ -45,7 +45,7 @@ fn flips_after(admit: &Admit, pairs: &Pairs, flip: Flip, lane: u32, flips: u32) 
     }
 }
 
-/// Draws a move of one to so many parts for a lane, whose pair differs at so many inputs, and makes
+/// Draws a move of one to `parts` parts for a lane whose pair differs at `flips` inputs, and makes
 /// it: an input at which the pair wouldn't stay admitted keeps its bits. The error is out of
 /// memory.
 pub fn draw_move(
@@ -95,9 +95,9 @@ pub fn follow(pairs: &mut Pairs, moves: &[Move], lane: u32, lanes: u64, flips: u
     flips
 }
 
-/// Draws another pair for lanes that have one, which differs at so many inputs, and answers at how
-/// many the new one does: for each input in order whether its bits are flipped. An input at which
-/// the pair wouldn't stay admitted keeps its own.
+/// Draws another pair for lanes that have one, which differs at `flips` inputs. It draws for each
+/// input in order whether its bits are flipped. An input at which the pair wouldn't stay admitted
+/// keeps its own. Answers at how many inputs the new pair differs.
 pub fn draw_pair(
     admit: &Admit,
     pairs: &mut Pairs,

@@ -75,7 +75,7 @@ fn join_nets(join: Join, rooms: &Rooms, nets: &[u32], part: &mut Waves) -> Resul
     Ok(())
 }
 
-/// Joins so many parts two by two, and answers how many are left. The error is out of memory.
+/// Joins `count` parts two by two, and answers how many are left. The error is out of memory.
 fn join_parts(
     join: Join,
     parts: &mut [Waves],

@@ -14,8 +14,8 @@ use td_domain::Admit;
 pub const WIDTH: u32 = LANES / 2;
 
 /// How many batches in a row a walk may have nothing later before it goes on from a pair that is
-/// drawn: so many, and two for each input where those are more, since a pair with many inputs needs
-/// many moves that gain nothing.
+/// drawn. A pair with many inputs needs many moves that gain nothing, so it is two for each input
+/// where that is more.
 const PATIENCE: usize = 20;
 
 /// How a walk moves.
@@ -28,7 +28,8 @@ pub struct Gait {
 }
 
 impl Gait {
-    /// The gait of a walk in a circuit with so many inputs, whose moves change so many at most.
+    /// The gait of a walk in a circuit with this number of inputs, whose moves change `parts` at
+    /// most.
     pub fn new(parts: usize, inputs: usize) -> Self {
         Gait {
             parts,
@@ -54,7 +55,7 @@ pub struct Walk {
 }
 
 impl Walk {
-    /// A walk from a pair that differs at so many inputs, in the lanes from a first one on.
+    /// A walk from a pair that differs at `flips` inputs, in the lanes from a first one on.
     pub fn new(first: u32, gait: Gait, flips: u32) -> Self {
         let lanes = (u64::MAX >> WIDTH).rotate_left(first);
         Walk {

@@ -46,7 +46,7 @@ impl Waves {
         Ok(())
     }
 
-    /// Makes room for so many events, over those that there are. The error is out of memory.
+    /// Makes room for `count` more events than there are. The error is out of memory.
     pub fn make_room(&mut self, count: usize) -> Result<(), AllocError> {
         self.events.resize(count, BLANK)
     }
@@ -59,7 +59,7 @@ impl Waves {
     }
 }
 
-/// So many waves without events. The error is out of memory.
+/// This number of waves without events. The error is out of memory.
 pub fn quiet(alloc: Global, count: usize) -> Result<Vec<Waves>, AllocError> {
     let mut all = Vec::new(alloc);
     for _ in 0..count {

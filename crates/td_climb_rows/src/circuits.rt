@@ -21,7 +21,7 @@ pub fn circuit_of(alloc: Global, text: &str) -> Option<Circuit> {
     }
 }
 
-/// Moments for so many inputs, half of them 0 and the others up to a limit.
+/// Moments for this number of inputs, half of them 0 and the others up to a limit.
 fn random_moments(
     alloc: Global,
     inputs: usize,

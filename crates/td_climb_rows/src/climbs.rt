@@ -12,7 +12,7 @@ use td_domain::{Admit, Cube, Pair, Trit};
 use td_event_sim::{Scratch, delay_of};
 use td_search::representative;
 
-/// So many trits that follow from a number, two of three of them free.
+/// `count` trits that follow from a number, two of three of them free.
 fn random_trits(alloc: Global, count: usize, seed: u64) -> Result<Vec<Trit>, AllocError>
     ensures { IfOk result (λ trits. length trits.items ≡ count) }
 {
@@ -29,7 +29,7 @@ fn random_trits(alloc: Global, count: usize, seed: u64) -> Result<Vec<Trit>, All
     Ok(trits)
 }
 
-/// Which of so many inputs are held: one of four.
+/// Which of `count` inputs are held: one of four.
 fn random_holds(alloc: Global, count: usize, seed: u64) -> Result<Vec<bool>, AllocError>
     ensures { IfOk result (λ held. length held.items ≡ count) }
 {
@@ -84,7 +84,7 @@ struct Reached {
     said: u64,
 }
 
-/// The pair to which a climb leads that tries so many pairs in each of two calls, if one is
+/// The pair to which a climb leads that tries this number of pairs in each of two calls, if one is
 /// admitted.
 fn met(
     alloc: Global,
@@ -183,7 +183,7 @@ fn climbs_stay_admitted(rt: HostRuntime) -> Result<(), Fail> {
     Ok(())
 }
 
-/// The greatest delay that the queue has of any pair of a circuit with so many inputs.
+/// The greatest delay that the queue has of any pair of a circuit with this number of inputs.
 fn worst(alloc: Global, circuit: &Circuit) -> Result<u64, AllocError> {
     let mut worst = 0;
     let inputs = circuit.input_count();

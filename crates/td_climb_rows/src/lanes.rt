@@ -11,7 +11,7 @@ use td_circuit::Circuit;
 use td_climb::{LANES, Lanes, Pairs};
 use td_event_sim::{Scratch, delay_of};
 
-/// So many words that follow from a number. Most have few bits set in common with none: each is
+/// `count` words that follow from a number. Most have few bits set in common with none: each is
 /// drawn, or the same in all lanes.
 fn words(alloc: Global, count: usize, seed: u64) -> Result<Vec<u64>, AllocError> {
     let mut seed = seed;
@@ -103,8 +103,8 @@ fn lanes_say_what_the_queue_says(rt: HostRuntime) -> Result<(), Fail> {
     Ok(())
 }
 
-/// A netlist of so many stages, each of which doubles the events: its output changes where what it
-/// reads does, and once more after a delay that is half of that of the stage before.
+/// A netlist of this number of stages. Each stage doubles the events: its output changes where what
+/// it reads does, and once more after a delay that is half of that of the stage before.
 fn doubling_text(alloc: Global, stages: u32) -> Result<String, AllocError> {
     let mut text = format!(in alloc; "module t (w0, w{stages});\ninput w0;\noutput w{stages};\n")?;
     let mut delay = 1u64;
@@ -123,7 +123,7 @@ fn doubling_text(alloc: Global, stages: u32) -> Result<String, AllocError> {
     Ok(text)
 }
 
-/// Whether the lanes come to the end of a netlist of so many stages that double the events.
+/// Whether the lanes come to the end of a netlist of this number of stages that double the events.
 fn ends(alloc: Global, stages: u32) -> Result<Option<bool>, AllocError> {
     let text = doubling_text(alloc, stages)?;
     let Some(circuit) = circuit_of(alloc, &text) else {

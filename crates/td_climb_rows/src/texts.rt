@@ -47,7 +47,7 @@ fn terminals(kind: u64, seed: u64) -> u64 {
     }
 }
 
-/// A terminal that reads one of so many nets, or now and then a constant.
+/// A terminal that reads one of `nets` nets, or now and then a constant.
 fn terminal(alloc: Global, nets: u64, seed: u64) -> Result<String, AllocError> {
     match random(seed, 24) {
         0 => Ok(format!(in alloc; ",1'b0")?),
@@ -81,7 +81,7 @@ fn gate_text(alloc: Global, place: u64, scale: u64, seed: u64) -> Result<String,
     Ok(text)
 }
 
-/// The names of so many nets from a first one on.
+/// The names of `count` nets from a first one on.
 fn names(alloc: Global, first: u64, count: u64) -> Result<String, AllocError> {
     let mut text = format!(in alloc; "w{first}")?;
     for place in 1..count {

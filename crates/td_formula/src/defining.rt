@@ -143,7 +143,7 @@ impl Formula {
         self.name_window(net, gate, 0, true)
     }
 
-    // A net's last level is its target's, a delay behind the last change of either.
+    // A net's last level is its target's, a delay after the last change of either.
     fn define_end(
         &mut self,
         gate: &Gate,

@@ -28,7 +28,7 @@ fn inverse_of(level: Level) -> Level {
     }
 }
 
-/// How many rows are named at once for a gate with so many inputs.
+/// How many rows are named at once for a gate with this number of inputs.
 pub fn row_count(kind: Kind, inputs: usize) -> u64 {
     match controlling_level(kind) {
         Some(_) => {
@@ -48,8 +48,9 @@ pub fn row_count(kind: Kind, inputs: usize) -> u64 {
     }
 }
 
-/// A row of a gate with so many inputs. Where the gate has a controlling level, row 0 has no input
-/// there, and row j the j-th alone, the others unknown; else bit k of the row's number is input k.
+/// A row of a gate with this number of inputs. Where the gate has a controlling level, row 0 has no
+/// input there, and row j the j-th alone, the others unknown; else bit k of the row's number is
+/// input k.
 pub fn row(
     alloc: Global,
     kind: Kind,
@@ -92,7 +93,7 @@ pub fn strongest_row(
     row(alloc, kind, levels.len(), number)
 }
 
-// Whether a gate of this kind may have so many inputs.
+// Whether a gate of this kind may have this number of inputs.
 fn takes(kind: Kind, inputs: usize) -> bool
     ensures { result ≡ true → TakesInputs kind inputs }
 {

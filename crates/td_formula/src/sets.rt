@@ -123,7 +123,7 @@ impl Sets {
         }
     }
 
-    /// The first place at which a wire is at the level that a variable says: that behind its
+    /// The first place at which a wire is at the level that a variable says: the place after its
     /// moment, and 0 for number 0.
     pub fn place(&self, variable: WireVariable) -> u64 {
         match self.moment(variable) {

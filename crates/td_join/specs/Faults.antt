@@ -15,7 +15,7 @@ use Rattle.td_join.specs.declared.fault.JoinFault.{JoinFault}
 use Rattle.td_join.specs.declared.fault.JoinFault.TheVariants as fault
 use Rattle.td_join.specs.Joining.{pins_of, with_pins, has_none, zeros, ones, AreKnownAt, IsJoined}
 
--- what a certificate differs in from the first one, where it is told so
+-- a certificate differs from the first one in what the fault says
 abbrev pub IsUnlike : Certificate → Certificate → ℕ → JoinFault → Type 0
 IsUnlike first other place (fault.OtherCircuit this that) =
     (this ≡ 0) × (that ≡ place) × ((first.gates ≢ other.gates) ⊎ (inputs_of first.question ≢ inputs_of other.question))
@@ -24,7 +24,7 @@ IsUnlike first other place (fault.OtherFlips this that) = (this ≡ 0) × (that 
 IsUnlike first other place (fault.OtherMoments this that) = (this ≡ 0) × (that ≡ place) × (first.question.moments ≢ other.question.moments)
 IsUnlike first other place fault = ⊥
 
--- the first certificate, and another one that differs from it as told
+-- the first certificate, and another one that differs from it as the fault says
 pub record IsUnlikeIn (certificates : List Certificate) (told : JoinFault) : Type 0 where
   pub first : Certificate
   pub other : Certificate
@@ -43,12 +43,12 @@ pub data IsOutside (pins cube : List Trit) : Type 0 where
   lengths : length cube ≢ length pins → IsOutside pins cube
   bits : (position : ℕ) (t : Trit) → slice_get pins position ≡ Some t → t ≢ Free → slice_get cube position ≢ Some t → IsOutside pins cube
 
--- the certificate of this place is told to be outside, and is
+-- the fault says that the certificate of this place is outside, and it is
 abbrev pub IsOutsideAt : Certificate → List Trit → ℕ → JoinFault → Type 0
 IsOutsideAt c pins place (fault.Outside this) = (this ≡ place) × IsOutside pins (pins_of c)
 IsOutsideAt c pins place fault = ⊥
 
--- one of the certificates is outside, as told
+-- one of the certificates is outside, as the fault says
 pub record IsOutsideIn (certificates : List Certificate) (pins : List Trit) (told : JoinFault) : Type 0 where
   pub certificate : Certificate
   pub place : ℕ
@@ -113,7 +113,8 @@ pub record IsGap (admit : Admitted) (certificates : List Certificate) (cube : Li
 abbrev pub IsUnjoinable : List Certificate → List Trit → Type 0
 IsUnjoinable certificates pins = (whole : Certificate) → ¬ IsJoined certificates pins whole
 
--- What a fault says of certificates that aren't joined with these pins. Nothing is said of want of memory.
+-- What a fault says of certificates that aren't joined with these pins. That memory ran out says
+-- nothing of them.
 abbrev pub IsJoinFault : List Certificate → List Trit → JoinFault → Type 0
 IsJoinFault certificates pins fault.OutOfMemory = Unit {0}
 IsJoinFault certificates pins fault.NoCertificate = certificates ≡ []

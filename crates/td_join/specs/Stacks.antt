@@ -19,7 +19,7 @@ use Rattle.td_join.specs.Steps.{certificates_of, IsPlaced, AreInOrder, AreAllIns
 abbrev pub members : Group → List Certificate
 members group = certificates_of group.parts.items
 
--- the groups of a stack, the last of which comes first, are joined to these trees, one behind another
+-- the groups of a stack, its last one first, are joined to these trees, one after another
 abbrev pub AreAllJoined : Admitted → List Group → List Node → Type 0
 AreAllJoined admit [] nodes = nodes ≡ []
 AreAllJoined admit (group ∷ groups) nodes =
@@ -62,7 +62,7 @@ IsTreeFault admit certificates (fault.Crossed this that) = IsCrossed certificate
 IsTreeFault admit certificates (fault.Gap cube) = IsGap admit certificates cube
 IsTreeFault admit certificates fault = ⊥
 
--- the certificate is of a circuit with so many gates, and of this question but for its pins
+-- the certificate is of a circuit with this number of gates, and of this question but for its pins
 pub record IsOfQuestion (gates : ℕ) (question : Question) (c : Certificate) : Type 0 where
   pub gates_are : gates ≡ c.gates
   pub held : question.admit.held ≡ c.question.admit.held

@@ -32,7 +32,7 @@ certificates_of parts = map certificate_of parts
 abbrev pub IsPlaced : List Certificate → Part → Type 0
 IsPlaced certificates p = slice_get certificates p.place ≡ Some p.certificate
 
--- each part's place is below those of the parts behind it
+-- each part's place is below those of the parts after it
 abbrev pub AreInOrder : List Part → Type 0
 AreInOrder parts = AllPairs (λ p q. p.place < q.place) parts
 
@@ -100,8 +100,8 @@ IsStuck admit cube parts fault.OutOfMemory = Unit {0}
 IsStuck admit cube parts (fault.Gap gap) = (gap ≡ cube) × (parts ≡ []) × HasAdmitted admit cube
 IsStuck admit cube parts fault = IsClash parts fault × IsUncutIn cube parts × (¬ IsJoinable admit cube (certificates_of parts))
 
--- all pairs are admitted and all inputs change at moment 0, and a leaf of the certificate that is told says that no admitted pair lies in
--- its cube
+-- all pairs are admitted and all inputs change at moment 0, and a leaf of the certificate that the
+-- fault names says that no admitted pair lies in its cube
 pub record IsFalseNoneIn (certificates : List Certificate) (question : Question) (told : JoinFault) : Type 0 where
   pub certificate : Certificate
   pub place : ℕ

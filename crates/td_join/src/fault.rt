@@ -4,7 +4,7 @@ use std::alloc::{AllocError, AllocFailed};
 use td_domain::Cube;
 use thiserror::Error;
 
-/// Why certificates aren't joined. Certificates are told by their places, from 0.
+/// Why certificates aren't joined. The faults name certificates by their places, from 0.
 #[derive(Debug, Drop, Error)]
 pub enum JoinFault {
     /// A growth was refused.

@@ -32,7 +32,7 @@ fn widen(cube: &mut Cube, other: &Cube)
     }
 }
 
-/// The least cube that has the pins of all certificates. The error is want of memory.
+/// The least cube that has the pins of all certificates. The error is out of memory.
 #[tactic(auto, using(crate::proofs::Widening::hull_at_end))]
 pub fn hull(
     alloc: Global,

@@ -87,7 +87,8 @@ fn alike_first(certificates: &[Certificate]) -> Result<&Certificate, JoinFault>
     Ok(first)
 }
 
-/// The question of the whole: that of the first certificate, with these pins. The error is want of memory.
+/// The question of the whole: that of the first certificate, with these pins. The error is out of
+/// memory.
 fn question_with(alloc: Global, first: &Certificate, pins: Cube) -> Result<Question, AllocError>
     requires { length pins ≡ length (pins_of first.now) }
     ensures { IfOk result (λ question. question ≡ with_pins first.now.question pins) }

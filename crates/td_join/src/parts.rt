@@ -34,7 +34,7 @@ impl Part {
     }
 }
 
-/// The certificates with their places. The error is want of memory.
+/// The certificates with their places. The error is out of memory.
 #[tactic(auto, using(crate::proofs::Parting::one_more, crate::proofs::Parting::placed_more))]
 pub fn numbered(alloc: Global, certificates: Vec<Certificate>) -> Result<Vec<Part>, AllocError>
     ensures all { IfOk result (λ parts. certificates_of parts.items ≡ certificates.items) }
@@ -87,7 +87,7 @@ pub fn common_position(group: &Group) -> Option<usize>
     None
 }
 
-/// The parts that have 0 at a position, and those that have 1. The error is want of memory.
+/// The parts that have 0 at a position, and those that have 1. The error is out of memory.
 fn sides(
     alloc: Global,
     parts: Vec<Part>,
@@ -108,7 +108,7 @@ fn sides(
     Ok((zeros, ones))
 }
 
-/// The two halves of a group at a position. The error is want of memory.
+/// The two halves of a group at a position. The error is out of memory.
 pub fn halves(alloc: Global, group: Group, position: usize) -> Result<(Group, Group), AllocError>
     requires { position < length group.cube }
     ensures low_cube { IfOk result (λ both. both.0.cube ≡ zero_side group.cube position) }

@@ -21,7 +21,8 @@ pub enum Step {
     Halves(usize, Group, Group),
 }
 
-/// The tree of a cube without a part. The error is want of memory, or that an admitted pair lies there.
+/// The tree of a cube without a part. The error is out of memory, or that an admitted pair lies
+/// there.
 fn empty_leaf(alloc: Global, admit: &Admit, cube: Cube) -> Result<Step, JoinFault>
     requires { length cube ≡ length admit.now.pins }
     ensures step { IfOk result (IsStep admit.now cube []) }
@@ -85,7 +86,7 @@ fn only_tree(alloc: Global, group: Group) -> Step
 
 /// What becomes of a group. Groups without a part are closed where no admitted pair lies in the cube.
 ///
-/// The error is want of memory, or why the group can't be joined.
+/// The error is out of memory, or why the group can't be joined.
 pub fn step_of(alloc: Global, admit: &Admit, group: Group) -> Result<Step, JoinFault>
     requires fit { length group.cube ≡ length admit.now.pins }
     requires order { AreInOrder group.parts.items }

@@ -40,7 +40,7 @@ impl Model for Fan {
 }
 
 impl Fan {
-    /// Room for the nets of a circuit. The error is want of memory.
+    /// Room for the nets of a circuit. The error is out of memory.
     pub fn new(alloc: Global, circuit: &Circuit) -> Result<Self, AllocError>
         ensures { IfOk result (λ fan. fan ≡ length (nets circuit.now)) }
     {

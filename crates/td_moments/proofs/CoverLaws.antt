@@ -131,7 +131,7 @@ taken_covers list m v levels covers none t differ = taken_has list m v t (levels
   | inr never ↦ never (ap (λ n. levels (suc n)) (sym here) ∙ to)
 ])
 
--- behind the greatest moment nothing changes
+-- after the greatest moment nothing changes
 pub quiet : (list : List Possible) (levels : ℕ → Bool) → Covers list levels → (t : ℕ) → greatest list < t → levels (suc t) ≡ levels t
 quiet list levels covers t late = elim (cases_bit (levels (suc t)) (levels t)) [
   | inl same ↦ same

@@ -141,7 +141,7 @@ target_has_from kind list (input ∷ inputs) t v =
 pub target_has : (kind : Kind) (inputs : List (List Possible)) (t : ℕ) (v : Bool) → may (found (target_of kind inputs) t) v ≡ may (caused kind inputs t) v
 target_has kind inputs t v = target_has_from kind [] inputs t v ∙ ap (λ b. b || may (caused kind inputs t) v) (may_none v)
 
--- what is put off to a moment stands so many steps before it
+-- what is put off to a moment stands `steps` steps before it
 pub put_off_has : (level : Bool) (steps : ℕ) (list : List Possible) (t : ℕ) → steps ≤ t → may (found list (t - steps)) level ≡ true
     → may (found (put_off level steps list) t) level ≡ true
 put_off_has level steps [] t low is = absurd (never level is)
@@ -257,7 +257,7 @@ gone_none false true v gone is = cc
 gone_none false false true gone is = cc
 gone_none false false false gone is = cc
 
--- no change is found behind the greatest moment
+-- no change is found after the greatest moment
 pub found_low : (list : List Possible) (t : ℕ) (v : Bool) → may (found list t) v ≡ true → t ≤ greatest list
 found_low [] t v is = absurd (never v is)
   where

@@ -7,7 +7,8 @@ use Rattle.td_moments.specs.declared.finding.Possible.{Possible}
 use Rattle.td_moments.specs.Directions.{no_change, may, either, common, turned, only_to}
 use Rattle.td_moments.specs.Moments.{found}
 
--- a possible change among those of another list, and behind it what the rest makes of what is left of that list
+-- a possible change among those of another list, and after it what the rest makes of what is left
+-- of that list
 abbrev pub merge_into : Possible → (List Possible → List Possible) → List Possible → List Possible
 merge_into one rest [] = one ∷ rest []
 merge_into one rest (other ∷ those) =
@@ -26,7 +27,7 @@ merge (one ∷ these) those = merge_into one (merge these) those
 abbrev pub turned_list : Kind → List Possible → List Possible
 turned_list kind input = map (λ possible. record { moment = possible.moment; to = turned kind possible.to }) input
 
--- how a gate's target may change, behind what some inputs have made of it
+-- how a gate's target may change, by these inputs and by what earlier ones have made of it
 abbrev pub target_from : Kind → List Possible → List (List Possible) → List Possible
 target_from kind list [] = list
 target_from kind list (input ∷ inputs) = target_from kind (merge list (turned_list kind input)) inputs
@@ -40,7 +41,7 @@ abbrev pub caused : Kind → List (List Possible) → ℕ → Directions
 caused kind [] t = no_change
 caused kind (input ∷ inputs) t = either (turned kind (found input t)) (caused kind inputs t)
 
--- the changes to one level, each so many steps later
+-- the changes to one level, each `steps` steps later
 abbrev pub put_off : Bool → ℕ → List Possible → List Possible
 put_off level steps [] = []
 put_off level steps (possible ∷ list) =

@@ -35,7 +35,8 @@ count_before (possible ∷ list) n = if nat_lt possible.moment n then suc (count
 abbrev pub nowhere : Possible
 nowhere = record { moment = 0; to = no_change }
 
--- The number of the latest of so many first moments at which a change is possible still, 0 where none is. The first moment has the number 1.
+-- The number of the latest moment at which a change is possible still, among this number of first
+-- moments. It is 0 where there is none. The first moment has the number 1.
 abbrev pub latest : List Possible → ℕ → ℕ
 latest list zero = 0
 latest list (suc count) = if is_gone (get_or list count nowhere).to then latest list count else suc count
@@ -44,7 +45,7 @@ latest list (suc count) = if is_gone (get_or list count nowhere).to then latest 
 abbrev pub number_at : List Possible → ℕ → ℕ
 number_at list place = latest list (count_before list place)
 
--- the place that a number stands for: 0, or the one behind its moment
+-- the place that a number stands for: 0, or the one after its moment
 abbrev pub place_of : List Possible → ℕ → ℕ
 place_of list zero = 0
 place_of list (suc count) = suc (get_or list count nowhere).moment

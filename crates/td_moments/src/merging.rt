@@ -59,7 +59,7 @@ pub fn turned(alloc: Global, kind: Kind, input: &[Possible]) -> Result<Vec<Possi
     Ok(list)
 }
 
-/// The changes to one level, each so many steps later. The error is out of memory.
+/// The changes to one level, each `steps` steps later. The error is out of memory.
 fn put_off(
     alloc: Global,
     list: &[Possible],
@@ -95,7 +95,7 @@ pub fn delayed(
     merged(alloc, &falls, &rises)
 }
 
-/// Whether a wire may change to this level so many steps before a moment.
+/// Whether a wire may change to this level `steps` steps before a moment.
 fn may_before(list: &[Possible], moment: u64, steps: u64, level: bool) -> bool
     requires { IsInOrder list.now }
     ensures { result ≡ (nat_le steps moment && may (found list.now (moment - steps)) level) }

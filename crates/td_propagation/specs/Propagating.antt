@@ -13,7 +13,7 @@ left_with Nothing literal = One literal
 left_with (One other) literal = if is_same other literal then One other else Several
 left_with Several literal = Several
 
--- what is left of literals behind others of which this is left
+-- what is left of literals and of those before them, where this is left of those before
 abbrev pub left_from : List Mark → Left → List Literal → Left
 left_from marks left [] = left
 left_from marks left (literal ∷ clause) =

@@ -66,7 +66,7 @@ impl Clauses {
     ghost use Rattle.td_propagation.specs.Following.{shown_by, AreTrue};
     ghost use Rattle.td_propagation.specs.Lists.{list_of, variables_of};
 
-    /// No clauses, over so many variables. The error is out of memory.
+    /// No clauses, over this number of variables. The error is out of memory.
     pub fn new(alloc: Global, variables: usize) -> Result<Clauses, AllocError>
         ensures none { IfOk result (λ clauses. list_of clauses ≡ []) }
         ensures variables { IfOk result (λ clauses. variables_of clauses ≡ variables) }

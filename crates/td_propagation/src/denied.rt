@@ -65,7 +65,7 @@ impl Mark {
     }
 }
 
-// Marks of so many variables of which nothing is taken.
+// Marks for this number of variables, where nothing is taken.
 fn no_marks(alloc: Global, variables: usize) -> Result<Vec<Mark>, AllocError>
     ensures { IfOk result (λ marks. marks.items ≡ replicate variables no_mark) }
 {
@@ -73,7 +73,7 @@ fn no_marks(alloc: Global, variables: usize) -> Result<Vec<Mark>, AllocError>
 }
 
 impl Denied {
-    /// No literals, of so many variables. The error is out of memory.
+    /// No literals, of this number of variables. The error is out of memory.
     pub fn new(alloc: Global, variables: usize) -> Result<Denied, AllocError>
         ensures { IfOk result (λ denied. denied.marks.items ≡ replicate variables no_mark) }
     {

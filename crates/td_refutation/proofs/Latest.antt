@@ -1,4 +1,4 @@
--- Latest: no output changes behind the greatest moment that is left.
+-- Latest: no output changes after the greatest moment that is left.
 use Rattle.std.proofs.Common.{◌≡◌, ℕ, zero, suc, ◌*◌, ◌<◌, ◌≤◌, max, List, [], ◌∷◌, length, map, refl, arith, Option, Some, None, ap, ◌∙◌, sym, inl, inr, Vec, Global}
 use Rattle.std.specs.Prelude.{slice_get, unwrap_or}
 use Rattle.std.specs.List.{AllByRecursion, Contains}

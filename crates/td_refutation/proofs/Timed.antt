@@ -37,7 +37,7 @@ use Rattle.td_moments.proofs.GateLaws.{Follows}
 use Rattle.td_refutation.specs.Lookups.{the_gate, no_gate}
 use Rattle.td_refutation.specs.Timing.{level_bits, target_bits}
 
--- an input's levels: one bit until its moment, and another behind it
+-- an input's levels: one bit until its moment, and another after it
 pub record IsInput (held : Bool) (p q : Trit) (moment : ℕ) (levels : ℕ → Bool) : Type 0 where
   pub a : Bool
   pub b : Bool

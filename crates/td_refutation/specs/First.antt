@@ -26,7 +26,7 @@ input_to first second = record { falls = allows first true && allows second fals
 abbrev pub input_list : Bool → Trit → Trit → ℕ → List Possible
 input_list held first second moment = if held then [] else once moment (input_to first second)
 
--- the sets of the inputs, behind others
+-- the sets of the inputs, after others
 abbrev pub inputs_from : List NetSets → List Bool → List Trit → List ℕ → List NetSets
 inputs_from sets (held ∷ others) (first ∷ second ∷ cube) (moment ∷ moments) =
     inputs_from (with_net sets (input_list held first second moment) []) others cube moments
@@ -37,7 +37,7 @@ abbrev pub with_gate : List NetSets → NumberedGate → List NetSets
 with_gate sets gate =
     with_net sets (delayed_of gate.delay (target_of gate.kind (levels_at sets gate.inputs))) (target_of gate.kind (levels_at sets gate.inputs))
 
--- the sets of the gates' outputs, behind others
+-- the sets of the gates' outputs, after others
 abbrev pub gates_from : List NetSets → List NumberedGate → List NetSets
 gates_from sets [] = sets
 gates_from sets (gate ∷ gates) = gates_from (with_gate sets gate) gates
@@ -50,7 +50,7 @@ constants = with_net (with_net [] [] []) [] []
 abbrev pub first_sets : Numbered → List Bool → List Trit → List NetSets
 first_sets circuit held cube = gates_from (inputs_from constants held cube circuit.moments) circuit.gates
 
--- so many variables, which aren't too many
+-- the count is the number of variables, and these aren't too many
 pub record IsCounted (count : ℕ) (sets : List NetSets) : Type 0 where
   pub is : count ≡ total sets
   pub few : count ≤ LIMIT

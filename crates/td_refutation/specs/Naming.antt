@@ -20,7 +20,7 @@ use Rattle.td_refutation.specs.declared.kind.StepKind.TheVariants.{Table, Window
 use Rattle.td_refutation.specs.Reading.{◌>>=◌, one, three, four, bit_of, moment_of}
 use Rattle.td_refutation.specs.Lookups.{gate_place, the_gate, net_number}
 
--- a gate, a place, and the trits behind them
+-- a gate, a place, and the trits after them
 abbrev pub table_parts : List ℕ → Result (ℕ × ℕ × List ℕ) Flaw
 table_parts (a ∷ b ∷ trits) = Ok (a, b, trits)
 table_parts numbers = Err WrongCount
@@ -32,7 +32,7 @@ is_trit number = nat_le number 2
 abbrev pub level_of_trit : ℕ → Level
 level_of_trit number = if number == 0 then Zero else (if number == 1 then One else X)
 
--- the levels of so many trits
+-- the levels of the trits, where there are `count`
 abbrev pub trits_of : List ℕ → ℕ → Result (List Level) Flaw
 trits_of trits count =
     if not (length trits == count)

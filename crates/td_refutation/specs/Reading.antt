@@ -18,7 +18,7 @@ abbrev pub Gives : {X Y : Type 0} → (X → Y) → Result X error.StepError →
 Gives view (Ok x) read = read ≡ Ok (view x)
 Gives view (Err e) read = Fails e read
 
--- a step's numbers, where there are so many
+-- a step's numbers, where there is one, or where there are three or four
 abbrev pub one : List ℕ → Result ℕ Flaw
 one (a ∷ []) = Ok a
 one numbers = Err WrongCount

@@ -26,7 +26,7 @@ lemma_of circuit sets clauses variables numbers = do
 abbrev pub possible : Bool → Result (Unit {0}) Flaw
 possible there = if there then Ok tt else Err NoSuchChange
 
--- The two literals of a cut: the net is at the level before the moment, or isn't behind it.
+-- The two literals of a cut: the net is at the level before the moment, or isn't after it.
 abbrev pub cut_literals : List NetSets → ℕ → ℕ → Bool → List Literal
 cut_literals sets net moment level = level_literal sets net moment level ∷ level_literal sets net (moment + 1) (not level) ∷ []
 

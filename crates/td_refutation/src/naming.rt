@@ -17,7 +17,7 @@ use td_domain::{Cube, Trit};
 use td_gates::{Level, eval};
 use td_propagation::Literal;
 
-/// A gate, a place, and the trits behind them.
+/// A gate, a place, and the trits after them.
 fn table_parts(numbers: &[u64]) -> Result<(u64, u64, &[u64]), StepError>
     ensures { Gives (λ parts. (parts.0, parts.1, parts.2.now)) result (table_parts numbers.now) }
 {
@@ -59,7 +59,7 @@ fn levels_of(alloc: Global, trits: &[u64]) -> Result<Vec<Level>, AllocError>
     Ok(levels)
 }
 
-/// The levels of so many trits.
+/// The levels of the trits. Their number has to be `count`.
 fn trits_of(alloc: Global, trits: &[u64], count: usize) -> Result<Vec<Level>, StepError>
     ensures { Gives (λ levels. levels.items) result (trits_of trits.now count) }
 {

@@ -14,8 +14,8 @@ pub enum Found {
     Open,
 }
 
-/// How long a question goes on: so many conflicts at each try, so many in the end of all questions,
-/// and so many tries.
+/// How long a question goes on: the most conflicts of each try, the count of all questions'
+/// conflicts at which it ends, and the most tries.
 #[derive(Clone, Copy, Debug, Drop)]
 pub struct Limits {
     pub each: u64,

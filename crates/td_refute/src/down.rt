@@ -10,8 +10,8 @@ use td_circuit::Circuit;
 const TRIES: u32 = 10_000;
 
 impl Search {
-    /// Asks at the outputs until no one can change later than in the best run, for so many
-    /// conflicts. Answers whether it came to that.
+    /// Asks at the outputs until no one can change later than in the best run, for at most
+    /// `conflicts` conflicts. Answers whether it came to that.
     pub fn ask_outputs(&mut self, asked: &Asked<'_>, conflicts: u64) -> Result<bool, AllocError> {
         let end = self
             .conflicts()

@@ -8,7 +8,7 @@ pub struct Effort {
     pub all: u64,
     /// Conflicts of the first questions at the outputs.
     pub first: u64,
-    /// Conflicts of the questions at the outputs behind a sweep.
+    /// Conflicts of the questions at the outputs after a sweep.
     pub middle: u64,
     /// Conflicts of a question of the first sweep.
     pub sweep: u64,

@@ -20,7 +20,7 @@ pub enum Act {
     },
 }
 
-/// What was done to the sets, where the solver of a round had so many clauses.
+/// What was done to the sets, where the solver of a round had `clauses` clauses.
 #[derive(Drop)]
 pub struct Event {
     pub round: usize,
@@ -44,7 +44,7 @@ impl Log {
         }
     }
 
-    /// Adds what was done where the solver of this round has so many clauses.
+    /// Adds what was done where the solver of this round has `clauses` clauses.
     pub fn add(&mut self, clauses: usize, act: Act) -> Result<(), AllocError> {
         self.events.push(Event {
             round: self.rounds.len(),

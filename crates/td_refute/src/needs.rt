@@ -194,8 +194,8 @@ impl Needs {
         acts
     }
 
-    // What the acts rest on that were done where the solver of a round had so many clauses. Answers
-    // how many acts were done before.
+    // Finds what the acts rest on that were done where the solver of a round had `clauses` clauses.
+    // Answers how many acts were done before.
     fn undo_acts(&mut self, past: &Past<'_>, clauses: usize, acts: usize) -> usize {
         for place in (0..acts).rev() {
             match past.search.log.events.get(place) {
@@ -298,9 +298,9 @@ impl Needs {
         }
     }
 
-    // What a clause of a round rests on, if it is used. So many of the round's named clauses are
-    // before the next one, and so many acts were done before. Answers how many named ones are before
-    // this one.
+    // Finds what a clause of a round rests on, if it is used. `named` of the round's named clauses
+    // are before the next one, and `acts` acts were done before. Answers how many named ones are
+    // before this one.
     fn explain(&mut self, past: &Past<'_>, clause: usize, named: usize, acts: usize) -> usize {
         let is_used = self.is_used(past.number, clause);
         if let Some(before) = named.checked_sub(1) {
@@ -329,7 +329,7 @@ impl Needs {
         }
     }
 
-    // What a named clause rests on that was given after so many acts.
+    // Finds what a named clause rests on that was given after `acts` acts.
     fn explain_named(&mut self, sets: &Sets, circuit: &Circuit, step: &Step, acts: usize) {
         let first = read(&step.numbers, 0, 0);
         match step.kind {

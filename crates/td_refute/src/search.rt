@@ -28,7 +28,7 @@ pub struct Search {
     pub spent: u64,
 }
 
-/// So many pairs and gates are run at most before the first sweep.
+/// How many pairs and gates are run at most before the first sweep.
 const RUNS: usize = 2_000_000;
 
 const MOST_PAIRS: usize = 4_000;

@@ -19,7 +19,7 @@ fn digits_of(number: u64) -> u64 {
     digits
 }
 
-/// How many bytes the line of a step has: its letter, its numbers behind a space each, and the end
+/// How many bytes the line of a step has: its letter, its numbers, each after a space, and the end
 /// of the line.
 pub fn bytes_of(step: &Step) -> u64 {
     let mut bytes = 2u64;

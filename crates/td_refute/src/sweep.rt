@@ -38,9 +38,10 @@ fn ways_of(alloc: Global, circuit: &Circuit) -> Result<Vec<u64>, AllocError> {
 }
 
 impl Search {
-    /// Asks at the nets of all gates in order, at each from its latest moment down while it is later
-    /// than in any run that was seen and can lead to an output later than the best. A try may meet
-    /// so many conflicts. Answers how many nets were left with an open question.
+    /// Asks at the nets of all gates in order. At each net it asks from the latest moment down,
+    /// while that is later than in any run that was seen and can lead to an output later than the
+    /// best. A try may meet at most `conflicts` conflicts. Answers how many nets were left with an
+    /// open question.
     pub fn sweep(&mut self, asked: &Asked<'_>, conflicts: u64) -> Result<u64, AllocError> {
         let ways = ways_of(self.alloc, asked.circuit())?;
         let limits = Limits {

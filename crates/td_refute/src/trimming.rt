@@ -104,7 +104,7 @@ impl Trimmed {
         self.add_acts(source, count)
     }
 
-    // Adds the acts that were done where the solver of a round had so many clauses.
+    // Adds the acts that were done where the solver of a round had `clauses` clauses.
     fn add_acts(&mut self, source: &Source<'_>, clauses: usize) -> Result<(), AllocError> {
         let first = self.acts;
         for place in first..source.search.log.events.len() {

@@ -23,11 +23,11 @@ learned literals hints = record { is_given = false; literals = literals; hints =
 abbrev pub literal_at : ℕ → Literal
 literal_at code = record { variable = code / 2; positive = code % 2 == 0 }
 
--- each variable is one of so many
+-- each variable is below this number
 abbrev pub IsOver : ℕ → List Literal → Type 0
 IsOver variables literals = All (λ literal. literal.variable < variables) literals
 
--- each hint is the number of an earlier clause, where so many are earlier
+-- each hint is below this number: it is the number of an earlier clause
 abbrev pub AreBefore : ℕ → List ℕ → Type 0
 AreBefore number hints = All (λ hint. hint < number) hints
 

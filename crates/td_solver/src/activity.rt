@@ -35,7 +35,8 @@ impl Activity {
         }
     }
 
-    /// Makes room for so many variables, the new ones in the heap. The error is out of memory.
+    /// Makes room for this number of variables, the new ones in the heap. The error is out of
+    /// memory.
     pub fn grow(&mut self, variables: u32) -> Result<(), AllocError> {
         let before = self.scores.len();
         self.scores.resize(variables as usize, 0)?;

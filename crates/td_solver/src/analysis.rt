@@ -43,7 +43,7 @@ impl Analysis {
         }
     }
 
-    /// Makes room for so many variables and levels. The error is out of memory.
+    /// Makes room for this number of variables and levels. The error is out of memory.
     pub fn grow(&mut self, variables: usize, levels: usize) -> Result<(), AllocError> {
         self.marks.grow(variables)?;
         self.levels.grow(levels)
@@ -78,8 +78,8 @@ impl Analysis {
         Ok(self.lesson(board))
     }
 
-    /// Finds which assumptions make one of them false, the one after so many others: the clause of
-    /// their negations, its own first. Where two assumptions are each other's negation, these two
+    /// Finds which assumptions make the one at this place false. It makes the clause of their
+    /// negations, that one's own first. Where two assumptions are each other's negation, these two
     /// are the clause, and no hint is needed. The error is out of memory.
     pub fn blame(
         &mut self,

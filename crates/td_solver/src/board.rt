@@ -66,7 +66,7 @@ impl Board {
         }
     }
 
-    /// Makes room for so many variables. The error is out of memory.
+    /// Makes room for this number of variables. The error is out of memory.
     pub fn grow(&mut self, variables: u32) -> Result<(), AllocError> {
         self.trail.grow(variables as usize)?;
         self.watches.grow((variables as usize).saturating_mul(2))

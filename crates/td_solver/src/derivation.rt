@@ -8,8 +8,8 @@ use crate::step::{ClauseNumber, Step};
 use std::alloc::{AllocError, Global};
 use td_propagation::Literal;
 
-/// The clauses that were given or learned, in this order, over so many variables. The hints of each
-/// are numbers of earlier ones.
+/// The clauses that were given or learned, in this order, over `variables` variables. The hints of
+/// each are numbers of earlier ones.
 #[derive(Drop)]
 pub struct Derivation {
     alloc: Global,
@@ -119,7 +119,7 @@ impl Derivation {
         Some((count - 1) as ClauseNumber)
     }
 
-    /// Sees to it that there are at least so many variables. The error is that these are too many,
+    /// Sees to it that there are at least `count` variables. The error is that these are too many,
     /// and then all is as before.
     pub fn grow_to(&mut self, count: u32) -> Result<(), AllocError>
         ensures ok { OnOk result (variables_of self.new ≡ max (variables_of self.old) count) }

@@ -38,7 +38,7 @@ pub struct Engine {
 }
 
 // Where a stretch without conflicts ends: at a clause whose literals are all false, at an
-// assumption that is false, the one after so many others, or where no variable is open.
+// assumption that is false, by its place, or where no variable is open.
 #[derive(Clone, Copy, Drop)]
 enum Stretch {
     Conflict(ClauseNumber),
@@ -468,7 +468,7 @@ impl Engine {
         Ok(())
     }
 
-    // Learns which assumptions make one false, the one after so many others.
+    // Learns which assumptions make the one at this place false.
     fn fail(
         &mut self,
         derivation: &mut Derivation,

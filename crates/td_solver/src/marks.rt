@@ -41,7 +41,7 @@ impl Marks {
         }
     }
 
-    /// Makes room for so many variables. The error is out of memory.
+    /// Makes room for this number of variables. The error is out of memory.
     pub fn grow(&mut self, variables: usize) -> Result<(), AllocError> {
         self.marks.resize(variables, Mark::Clear)?;
         self.marked.resize(variables, 0)
@@ -84,7 +84,7 @@ impl Levels {
         }
     }
 
-    /// Makes room for so many levels. The error is out of memory.
+    /// Makes room for this number of levels. The error is out of memory.
     pub fn grow(&mut self, levels: usize) -> Result<(), AllocError> {
         if self.turns.len() < levels {
             self.turns.resize(levels, 0)?;

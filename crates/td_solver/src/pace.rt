@@ -2,7 +2,7 @@
 
 // What an average of glues is multiplied by.
 const GLUE_UNIT: u64 = 1 << 32;
-// So many conflicts count in the two averages.
+// How many conflicts count in each of the two averages, the fast and the slow one.
 const FAST: u64 = 32;
 
 const SLOW: u64 = 4096;
@@ -60,7 +60,7 @@ impl Luby {
     }
 }
 
-// An average with one more glue, which counts for one part of so many.
+// An average with one more glue, which counts for one part of `parts`.
 fn averaged(average: u64, glue: u32, parts: u64) -> u64 {
     let parts = parts.max(1);
     let added = (glue as u64).saturating_mul(GLUE_UNIT) / parts;
@@ -98,7 +98,8 @@ impl Pace {
         self.left = 0;
     }
 
-    /// Counts a conflict, with which so many were met, and the glue of what was learned from it.
+    /// Counts a conflict, and the glue of what was learned from it. `conflicts` were met with this
+    /// one.
     pub fn count(&mut self, conflicts: u64, glue: u32) {
         self.since = self.since.saturating_add(1);
         self.fast = averaged(self.fast, glue, FAST);

@@ -21,11 +21,11 @@ pub struct Solver {
     // The clause that the last refuted question ended with.
     refutation: Option<ClauseNumber>,
     conflicts: u64,
-    // Whether a question ended for want of memory.
+    // Whether memory ran out in a question.
     is_broken: bool,
 }
 
-// The values of so many variables.
+// The values of this number of variables.
 fn values_of(alloc: Global, engine: &Engine, variables: u32) -> Result<Vec<bool>, AllocError>
     ensures { IfOk result (λ model. length model.items ≡ variables) }
 {
@@ -78,7 +78,7 @@ impl Solver {
         Ok(variable)
     }
 
-    /// Sees to it that there are at least so many variables. The error is that these are too many,
+    /// Sees to it that there are at least `count` variables. The error is that these are too many,
     /// and then all is as before.
     pub fn grow_to(&mut self, count: u32) -> Result<(), AllocError>
         ensures ok { OnOk result (variable_count self.new ≡ max (variable_count self.old) count) }

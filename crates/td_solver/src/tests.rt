@@ -293,7 +293,7 @@ fn answers_are_those_of_all_values(rt: HostRuntime) -> Result<(), Fail> {
     Ok(())
 }
 
-// So many pigeons, each in a hole, and no two in one.
+// Clauses of pigeons: each is in a hole, and no two are in one.
 fn pigeons(alloc: Global, solver: &mut Solver, pigeons: u32, holes: u32) -> Result<(), AllocError> {
     for pigeon in 0..pigeons {
         let mut some = Vec::new(alloc);
@@ -310,7 +310,7 @@ fn pigeons(alloc: Global, solver: &mut Solver, pigeons: u32, holes: u32) -> Resu
     Ok(())
 }
 
-// The answer for so many pigeons, how many conflicts it took, and how the lemmas are shown.
+// The answer for `count` pigeons, how many conflicts it took, and how the lemmas are shown.
 fn pigeons_in(alloc: Global, count: u32, holes: u32) -> Result<(Outcome, u64, Tally), AllocError> {
     let mut solver = Solver::new(alloc);
     let mut tally = Tally::none();

@@ -56,7 +56,7 @@ impl Trail {
         }
     }
 
-    /// Makes room for so many variables. The error is out of memory.
+    /// Makes room for this number of variables. The error is out of memory.
     pub fn grow(&mut self, variables: usize) -> Result<(), AllocError> {
         let cause = Cause {
             level: 0,
@@ -96,7 +96,7 @@ impl Trail {
         read(&self.values, code as usize, Value::Open)
     }
 
-    /// The literal that came to be true after so many others.
+    /// The literal that came to be true after `position` others.
     #[inline(always)]
     pub fn at(&self, position: usize) -> Code {
         read(&self.codes, position, 0)

@@ -36,7 +36,7 @@ impl Watches {
         }
     }
 
-    /// Makes room for so many literals. The error is out of memory.
+    /// Makes room for this number of literals. The error is out of memory.
     pub fn grow(&mut self, literals: usize) -> Result<(), AllocError> {
         for _ in self.lists.len()..literals {
             self.lists.push(Vec::new(self.alloc))?;
