@@ -143,7 +143,7 @@ fn settle_all(chain: &mut Chain, order: &mut Vec<Node>, lease: &Lease, states: &
     at
 }
 
-// Room for what a private tree leaves: places in the chain, and an empty vector for the numbers of its leaves. The error is want of memory.
+// Room for what a private tree leaves: places in the chain, and an empty vector for the numbers of its leaves. The error is out of memory.
 fn room_for(alloc: Global, chain: &mut Chain, subtree: &Subtree) -> Result<Vec<u32>, AllocError>
     requires { length subtree.now.states < 2 ^ 32 }
     ensures empty { IfOk result (λ room. room.items ≡ []) }
@@ -157,7 +157,7 @@ fn room_for(alloc: Global, chain: &mut Chain, subtree: &Subtree) -> Result<Vec<u
     Ok(room)
 }
 
-// The numbers of so many leaves from the first on, in an empty vector that has room for them.
+// The numbers of `count` leaves from the first on, in an empty vector that has room for them.
 fn list_numbers(chain: &Chain, first: u32, room: Vec<u32>, count: usize) -> Vec<u32>
     requires empty { room.items ≡ [] }
     requires roomy { count ≤ vec_capacity room }
@@ -175,7 +175,7 @@ fn list_numbers(chain: &Chain, first: u32, room: Vec<u32>, count: usize) -> Vec<
 
 impl Book {
     /// One open root with this cube, and nothing handled. The budget is how many nodes may be handled, at most 10,000,000.
-    /// The error is want of memory.
+    /// The error is out of memory.
     pub fn new(alloc: Global, root: Cube, workers: u32, budget: u64) -> Result<Book, AllocError>
         requires positions { length root < 2 ^ 32 }
         requires budget { budget ≤ 10000000 }
@@ -216,7 +216,7 @@ impl Book {
         self.order.len() as u64
     }
 
-    // Holds an open leaf for a worker. The error is want of memory, and then the book is as before. All room that the lease's
+    // Holds an open leaf for a worker. The error is out of memory, and then the book is as before. All room that the lease's
     // settlements need in the order is taken here.
     fn hold(&mut self, worker: u32, number: u32) -> Result<Lease, AllocError>
         requires leaf { (before : List Node) × (after : List Node) × (self.old.nodes ≡ before ++ node number State.Open ∷ after) }
@@ -240,7 +240,7 @@ impl Book {
     }
 
     /// The first open leaf, held from now on by this worker, below the number of workers, where the budget allows it. The
-    /// error is want of memory, and then the book is as before. All room that a close or release of the lease needs is
+    /// error is out of memory, and then the book is as before. All room that a close or release of the lease needs is
     /// taken here, and some of what a split or graft of it needs.
     pub fn claim(&mut self, worker: u32) -> Result<Claim, AllocError>
         requires { worker < self.old.workers }
@@ -265,7 +265,7 @@ impl Book {
     }
 
     /// The leaf of this number, held from now on by this worker, below the number of workers. `None` where it isn't an open
-    /// leaf, or where all of the budget is handled or allowed. The error is want of memory, and then the book is as before.
+    /// leaf, or where all of the budget is handled or allowed. The error is out of memory, and then the book is as before.
     /// All room that a close or release of the lease needs is taken here, and some of what a split or graft of it needs. Takes as many steps as the
     /// node lies deep.
     pub fn claim_id(&mut self, worker: u32, number: u32) -> Result<Option<Lease>, AllocError>

@@ -19,7 +19,7 @@ pub struct Probe {
 }
 
 /// A bound of a cube that is at most the cut where one of the domains has such a bound, asked in the order of what they cost.
-/// Else the strongest domain's bound. The error is want of memory.
+/// Else the strongest domain's bound. The error is out of memory.
 pub fn probe_of(
     alloc: Global,
     sheets: &mut Sheets,
