@@ -51,7 +51,7 @@ pub record TellsPart (text : List ℕ) (default : Delay) (netlist : Netlist) (ch
   pub sized : IsOfSize netlist part
   pub accepted : check ≡ true → HaveVerdict text default read Accepted
 
--- why a file's bytes tell no part, another verdict only where parts are checked; the refusal names
+-- why a file's bytes give no part, another verdict only where parts are checked; the refusal names
 -- the file
 abbrev pub TellsNoPart : List ℕ → Delay → Netlist → Bool → List ℕ → List ℕ → Refusal → Type 0
 TellsNoPart text default netlist check name read (refusal.BadPart told fault) =

@@ -146,7 +146,7 @@ impl<'a> Files for MemoryFiles<'a> {
     /// No file has this name, or the first one has more bytes than a reader gives.
     ghost fails = { λ files name. FailsOn files.files.now files.readable name };
 
-    /// No device fails here: only a writer fails, or memory runs out.
+    /// No device fails to make or to end a file. Only its writer fails, or memory runs out.
     ghost breaks = { λ _ _. ⊥ };
 
     /// Two names are of one file where they are the same.

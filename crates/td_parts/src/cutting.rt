@@ -57,7 +57,7 @@ impl Cutting {
         Ok(Cutting { parts, queue })
     }
 
-    /// Puts a half of the part of a place into its place. The error is out of memory.
+    /// Puts a half of the part at a place into that place. The error is out of memory.
     fn narrow<R: Rule>(
         &mut self,
         task: &Task<'_, R>,
@@ -80,7 +80,7 @@ impl Cutting {
         Ok(())
     }
 
-    /// Adds a half as one part more. The error is out of memory.
+    /// Adds a half as one more part. The error is out of memory.
     fn add<R: Rule>(
         &mut self,
         task: &Task<'_, R>,

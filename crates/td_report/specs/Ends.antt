@@ -51,7 +51,7 @@ status_of reason = Refused
 abbrev pub Tells : Output → Output → List ℕ → Type 0
 Tells old new line = Sent old new line ⊎ Failed old new line
 
--- the name of a written file in messages: standard output for `-`
+-- the name of a written file in messages: `stdout` for `-`
 abbrev pub IsWrittenAs : List ℕ → List ℕ → Type 0
 IsWrittenAs name told = ((name ≢ codes "-") × (told ≡ name)) ⊎ ((name ≡ codes "-") × (told ≡ codes "stdout"))
 

@@ -21,7 +21,8 @@ pub struct Below {
 }
 
 impl Below {
-    /// The root alone, open. All room that the lease's allowance needs is taken here. The error is out of memory.
+    /// The root alone, open. Takes all room that the lease's allowance needs. The error is out of
+    /// memory.
     pub fn new(alloc: Global, problem: &Problem<'_>, lease: &Lease) -> Result<Below, AllocError>
         requires { IsWithin (problem_of problem.now) lease.now.cube }
         ensures { IfOk result (IsBelow (problem_of problem.now) lease.now) }

@@ -29,8 +29,8 @@ use td_edges::{Edges, Signal};
 use td_gates::Level;
 use td_ternary::Possible;
 
-/// What is to be done with a cube under a cut: it is closed where edges, possible levels, or both at once have a bound that is at
-/// most the cut. Else it is split, or measured. The error is out of memory.
+/// What to do with a cube under a cut. It is closed where edges, possible levels, or both at once
+/// have a bound that is at most the cut. Else it is split, or measured. The error is out of memory.
 pub fn next_step(
     alloc: Global,
     scratch: &mut Scratch,
@@ -49,7 +49,8 @@ pub fn next_step(
     step
 }
 
-/// The strongest domain's bound of a cube, which with `lead` has edges. The error is out of memory.
+/// The strongest domain's bound of a cube. With `lead` that domain has edges. The error is out of
+/// memory.
 pub fn strongest_with_edges(
     alloc: Global,
     scratch: &mut Scratch,

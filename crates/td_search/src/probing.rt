@@ -25,8 +25,8 @@ pub trait Prober {
     fn scratch(&self, alloc: Global, circuit: &Circuit) -> Result<Self::Scratch, AllocError>
         ensures { IfOk result (λ scratch. is_for scratch circuit.now) };
 
-    /// A bound of a cube by some domain, by the strongest one where it is above the cut. The error is out of memory, and the
-    /// scratch may be used again.
+    /// A bound of a cube by some domain. Where it is above the cut, it is the strongest domain's.
+    /// The error is out of memory, and the scratch may be used again.
     fn bound(
         &self,
         scratch: &mut Self::Scratch,

@@ -111,8 +111,8 @@ fn has_open_end(signals: &[Signal], nets: &[u32], moment: u64) -> bool
     false
 }
 
-/// The bound of a cube by the domain of a sheet, which is taken there, where the domain has one that is at most the cut. The
-/// error is out of memory.
+/// The bound of a cube by the domain of a sheet, where the domain has one that is at most the cut.
+/// Takes the sheet to the cube. The error is out of memory.
 pub fn bound_within<D: Domain>(
     alloc: Global,
     circuit: &Circuit,

@@ -131,7 +131,7 @@ fn by_all<W: Watch, R: Threads + Wait + Sync>(
 }
 
 // How many of the remaining nodes the second tree handles: all of them where flips are limited,
-// since a refutation knows nothing of limits.
+// since a refutation knows nothing of flips.
 fn second_nodes(circuit: &Circuit, admit: &Admit, rest: u64) -> u64
     ensures { result ≤ rest }
 {
