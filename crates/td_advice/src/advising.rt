@@ -1,4 +1,4 @@
-//! Hints behind a run.
+//! Hints after a run.
 
 ghost use Rattle.std.specs.Prelude.{◌≡◌, IfSome};
 ghost use Rattle.td_advice.specs.Hinted.{AreLines, Hinted};
@@ -26,8 +26,9 @@ pub fn asks_hints<S: AsStr>(words: &[S]) -> bool {
     false
 }
 
-/// Tells, behind a run with these words that ended so, why it was refused or cut short, and what to do. The reason is looked for anew, in
-/// the words and the files. Of a run that was done, or for want of memory, nothing is told.
+/// After a run with these words and this ending, says why it was refused or cut short, and what to
+/// do. It looks for the reason again in the words and the files. It says nothing of a run that was
+/// done, or that ran out of memory.
 pub fn advise<S: AsStr, F: Files, R: Reasons, E: Sink>(
     alloc: Global,
     words: &[S],
@@ -44,7 +45,7 @@ pub fn advise<S: AsStr, F: Files, R: Reasons, E: Sink>(
     }
 }
 
-/// What is told of a run that ended so, where there is something to tell.
+/// What there is to say of a run with this ending, if anything.
 fn hint<S: AsStr, F: Files, R: Reasons>(
     alloc: Global,
     words: &[S],

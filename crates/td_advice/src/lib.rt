@@ -1,7 +1,8 @@
-//! What is told behind the line of a refusal, where hints are asked for: what it means, with the place in the file, and what to do.
+//! What a program prints after the line of a refusal, where hints are asked for: what it means,
+//! where in the file the fault is, and what to do.
 //!
-//! A run ends first, and tells what it tells. Then `advise` looks for the reason anew, in the words and the files, and tells more. What the
-//! run wrote stays as it is.
+//! A run ends first and prints its own output. Then `advise` looks for the reason again, in the
+//! words and the files, and prints more. What the run wrote stays as it is.
 #![tactic(auto)]
 
 pub mod advising;

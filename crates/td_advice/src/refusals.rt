@@ -124,7 +124,7 @@ fn not_joined(
     help(text, joins::advice(fault))
 }
 
-/// Appends what to do where a write fails, or memory runs out behind the answer.
+/// Appends what to do where a write fails, or where memory runs out after the answer.
 pub(crate) fn not_written(text: &mut Text) -> Result<(), AllocError> {
     text.push(b"a write failed, or memory ran out: the line above says which")?;
     help(

@@ -35,7 +35,7 @@ pub(crate) struct InputWord<'a> {
 }
 
 impl<'a> InputWord<'a> {
-    /// Whether it gives something for so many inputs.
+    /// Whether it gives something for that many inputs.
     fn is_good(&self, alloc: Global, inputs: usize) -> Result<bool, AllocError> {
         match self.items {
             Items::Levels => Ok(given::<Level>(alloc, self.word, inputs, Level::X)?.is_some()),
@@ -143,7 +143,7 @@ fn allowed(items: Items) -> &'static [u8] {
     }
 }
 
-/// Appends the name of a net, unless it has none, behind a space.
+/// Appends a space and the name of a net, or nothing where the net has no name.
 fn net_name(text: &mut Text, circuit: &Circuit, net: usize) -> Result<(), AllocError> {
     if net < 2 || circuit.net_count() <= net {
         return Ok(());

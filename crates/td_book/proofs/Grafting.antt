@@ -22,7 +22,7 @@ use Rattle.td_book.proofs.Covering.{only_leaf}
 abbrev pub leaf_cubes : List Leaf → List (List Trit)
 leaf_cubes leaves = map (λ l. l.cube) leaves
 
--- these leaves are open, and their cubes have so many positions
+-- these leaves are open, and their cubes have that many positions
 abbrev pub AreOpen : ℕ → List Leaf → Type 0
 AreOpen positions [] = Unit {0}
 AreOpen positions (l ∷ leaves) = (l.node.state ≡ Open) × (length l.cube ≡ positions) × AreOpen positions leaves

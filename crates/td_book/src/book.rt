@@ -143,7 +143,8 @@ fn settle_all(chain: &mut Chain, order: &mut Vec<Node>, lease: &Lease, states: &
     at
 }
 
-// Room for what a private tree leaves: places in the chain, and an empty vector for the numbers of its leaves. The error is want of memory.
+// Room for what a private tree leaves: places in the chain, and an empty vector for the numbers of
+// its leaves. The error is out of memory.
 fn room_for(alloc: Global, chain: &mut Chain, subtree: &Subtree) -> Result<Vec<u32>, AllocError>
     requires { length subtree.now.states < 2 ^ 32 }
     ensures empty { IfOk result (λ room. room.items ≡ []) }
@@ -157,7 +158,7 @@ fn room_for(alloc: Global, chain: &mut Chain, subtree: &Subtree) -> Result<Vec<u
     Ok(room)
 }
 
-// The numbers of so many leaves from the first on, in an empty vector that has room for them.
+// The numbers of `count` leaves from the first on, in an empty vector that has room for them.
 fn list_numbers(chain: &Chain, first: u32, room: Vec<u32>, count: usize) -> Vec<u32>
     requires empty { room.items ≡ [] }
     requires roomy { count ≤ vec_capacity room }
@@ -175,7 +176,7 @@ fn list_numbers(chain: &Chain, first: u32, room: Vec<u32>, count: usize) -> Vec<
 
 impl Book {
     /// One open root with this cube, and nothing handled. The budget is how many nodes may be handled, at most 10,000,000.
-    /// The error is want of memory.
+    /// The error is out of memory.
     pub fn new(alloc: Global, root: Cube, workers: u32, budget: u64) -> Result<Book, AllocError>
         requires positions { length root < 2 ^ 32 }
         requires budget { budget ≤ 10000000 }
@@ -216,8 +217,8 @@ impl Book {
         self.order.len() as u64
     }
 
-    // Holds an open leaf for a worker. The error is want of memory, and then the book is as before. All room that the lease's
-    // settlements need in the order is taken here.
+    // Holds an open leaf for a worker. Takes all room that the lease's settlements need in the
+    // order. The error is out of memory, and then the book is as before.
     fn hold(&mut self, worker: u32, number: u32) -> Result<Lease, AllocError>
         requires leaf { (before : List Node) × (after : List Node) × (self.old.nodes ≡ before ++ node number State.Open ∷ after) }
         requires left { handled self.old + allowed self.old < self.old.budget }
@@ -239,9 +240,10 @@ impl Book {
         })
     }
 
-    /// The first open leaf, held from now on by this worker, below the number of workers, where the budget allows it. The
-    /// error is want of memory, and then the book is as before. All room that a close or release of the lease needs is
-    /// taken here, and some of what a split or graft of it needs.
+    /// The first open leaf, where the budget allows it. This worker, below the number of workers,
+    /// holds it from now on. Takes all room that a close or release of the lease needs, and some of
+    /// what a split or graft of it needs. The error is out of memory, and then the book is as
+    /// before.
     pub fn claim(&mut self, worker: u32) -> Result<Claim, AllocError>
         requires { worker < self.old.workers }
         ensures ok { IfOk result (λ answer. Claimed self.old worker answer self.new) }
@@ -264,10 +266,11 @@ impl Book {
         Ok(Claim::Lease(self.hold(worker, number)?))
     }
 
-    /// The leaf of this number, held from now on by this worker, below the number of workers. `None` where it isn't an open
-    /// leaf, or where all of the budget is handled or allowed. The error is want of memory, and then the book is as before.
-    /// All room that a close or release of the lease needs is taken here, and some of what a split or graft of it needs. Takes as many steps as the
-    /// node lies deep.
+    /// The leaf of this number. This worker, below the number of workers, holds it from now on.
+    /// `None` where it isn't an open leaf, or where all of the budget is handled or allowed. Takes
+    /// all room that a close or release of the lease needs, and some of what a split or graft of it
+    /// needs. Takes as many steps as the node lies deep. The error is out of memory, and then the
+    /// book is as before.
     pub fn claim_id(&mut self, worker: u32, number: u32) -> Result<Option<Lease>, AllocError>
         requires { worker < self.old.workers }
         ensures ok { IfOk result (λ answer. ClaimedAt self.old worker number answer self.new) }

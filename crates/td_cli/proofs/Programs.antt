@@ -22,7 +22,7 @@ use Rattle.td_delivery.specs.Shown.{IsOutOfMemory, TellsText}
 use Rattle.td_cli.specs.Requests.{SearchRuns, RequestRuns, RequestEnds, ProgramEnds}
 use Rattle.td_delivery.proofs.Endings.{lifted, refused}
 
--- words that were refused: help or their fault was told, unless memory ran out
+-- words that were refused: the program wrote help or their fault, unless memory ran out
 pub refused_words : (disk : Disk) (words : List (List ℕ)) (error : Error) (status : Status) (old new : Streams)
     → HasKind (kinds_of words) error
     → (kind_of error ≡ kind.OutOfMemory → IsOutOfMemory status old new)
@@ -52,7 +52,7 @@ on_file_taking WereTaken disk name text held P H status old new taken = (
 )
 
 module _ (Told : Output → Output → Type 0) (P : Product → Type 0) (H : Refusal → Type 0) (b : List ℕ → Type 0) where
-  -- lines were told before a command ended
+  -- lines were written before a command ended
   pub behind : (steps : List FileStep) (status : Status) (old : Streams) (mid : Output) (new : Streams) → Told old.err mid
       → Ends P H b steps status (streams old.out mid) new → EndsBehind Told P H b steps status old new
   behind steps status old mid new told ends = record { mid = mid; told = told; ends = ends }
@@ -63,7 +63,7 @@ pub search_on_file : (WereTaken : List FileStep → Type 0) (disk : Disk) (asked
     → Takes WereTaken (λ steps. RequestRuns disk (request.Worst asked) steps status old new)
 search_on_file WereTaken disk asked text held status old new taken = (taken.0, taken.1, inr (text, held, taken.2))
 
--- a file that can't be read was told
+-- the program said that it can't read a file
 pub not_read : (disk : Disk) (file : Bor (List ℕ)) (P : Product → Type 0) (H : List ℕ → Refusal → Type 0) (b : List ℕ → Type 0)
     (fault : ReadFault) (status : Status) (out err_old err_new : Output)
     → (fault ≡ unread.Device → disk.fails file.now) → TellsUnread file fault status err_old err_new
@@ -74,7 +74,7 @@ not_read disk file P H b unread.Device status out err_old err_new fails told =
     refused P (HoldsOnFile disk file.now H) b (refusal.Unreadable file) status out err_old err_new
     (λ other. inl (file, refl, refl, fails refl)) told
 
--- a netlist that a search can't read was told
+-- the program said that a search can't read its netlist
 pub search_not_read : (disk : Disk) (file : Bor (List ℕ)) (b : List ℕ → Type 0) (fault : ReadFault) (status : Status) (out err_old err_new : Output)
     → (fault ≡ unread.Device → disk.fails file.now) → TellsUnread file fault status err_old err_new
     → Ends (λ product. ⊥) (IsUnreadable disk file.now) b [] status (streams out err_old) (streams out err_new)

@@ -33,7 +33,7 @@ use Rattle.td_report.specs.Outcomes.{IsCircuitOf, HasBadWord}
 use Rattle.td_report.proofs.Refusing.{bad_word}
 use Rattle.td_report.proofs.Vectors.{given-length}
 
--- the first bad word is the first with more words behind
+-- the first bad word is still the first with more words after these
 pub first_bad_more : (count : ℕ) (words more : VectorWords) (word : VectorWord) → IsFirstBad count words word → IsFirstBad count (words ++ more) word
 first_bad_more count [] more word bad = absurd bad
 first_bad_more count (given ∷ others) more word (inl bad) = inl bad

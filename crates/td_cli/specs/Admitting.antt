@@ -12,7 +12,8 @@ abbrev pub most_flips : ℕ → Option ℕ → ℕ
 most_flips inputs None = inputs
 most_flips inputs (Some flips) = min flips inputs
 
--- for so many inputs, the words admit the pairs of the cube of the two patterns that keep the held inputs and flip few enough
+-- for that many inputs, the words admit the pairs of the cube of the two patterns that keep the
+-- held inputs and flip few enough
 pub record AreAdmitted (inputs : ℕ) (words : QuestionWords) (admit : Admitted) : Type 0 where
   pub firsts : List Trit
   pub seconds : List Trit

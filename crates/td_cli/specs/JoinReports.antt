@@ -31,7 +31,7 @@ use Rattle.td_report.specs.JoinTexts.{first_place, second_place}
 abbrev pub pin_words : Option (List ℕ) → Option (List ℕ) → VectorWords
 pin_words first second = (vector.First, GivesTrits first) ∷ (vector.Second, GivesTrits second) ∷ []
 
--- the pins that the options give for so many inputs, none where both are left out
+-- the pins that the options give for that many inputs, none where both are left out
 abbrev pub ArePinned : ℕ → Option (List ℕ) → Option (List ℕ) → Option (List Trit) → Type 0
 ArePinned inputs first second None = (first ≡ None) × (second ≡ None)
 ArePinned inputs first second (Some pins) =
@@ -51,7 +51,8 @@ pub record TellsPart (text : List ℕ) (default : Delay) (netlist : Netlist) (ch
   pub sized : IsOfSize netlist part
   pub accepted : check ≡ true → HaveVerdict text default read Accepted
 
--- why a file's bytes tell no part, another verdict only where parts are checked; the file's name is told
+-- why a file's bytes give no part, another verdict only where parts are checked; the refusal names
+-- the file
 abbrev pub TellsNoPart : List ℕ → Delay → Netlist → Bool → List ℕ → List ℕ → Refusal → Type 0
 TellsNoPart text default netlist check name read (refusal.BadPart told fault) =
     (fault.kind ≢ certificate_kind.OutOfMemory) × (told.now ≡ name) × IsFault fault.kind fault.line read
@@ -105,8 +106,8 @@ pub record IsJoinReport (disk : Disk) (text : List ℕ) (default : Delay) (names
 
 -- ---- why nothing is joined
 
--- why parts aren't joined into a certificate with these pins, told by the files of the two that the fault tells; or what they are joined
--- into has too many nodes
+-- why parts aren't joined into a certificate with these pins: the fault, with the names of its two
+-- files; or what they are joined into has too many nodes
 abbrev pub IsUnjoinedFor : List (List ℕ) → List Certificate → List Trit → Refusal → Type 0
 IsUnjoinedFor names parts pins (refusal.NotJoined told one other) =
     (told ≢ fault.OutOfMemory) × IsJoinFault parts pins told

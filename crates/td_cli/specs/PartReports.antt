@@ -32,14 +32,15 @@ part_options words pins =
     pins_text pins ++ option_text (codes " --hold ") (words_of words.hold) ++ flips_text words.flips
     ++ option_text (codes " --at ") (words_of words.at)
 
--- its line: behind these the delays of gates that state none
+-- its line: after these the delays of gates that state none
 abbrev pub part_line : Delay → QuestionWords → List Trit → List ℕ
 part_line default words pins =
     part_options words pins ++ default_text (codes " --default-rise ") default.rise ++ default_text (codes " --default-fall ") default.fall ++ newline
 
--- The report has a line for each of at most so many cubes, at least one, and fewer only where a search would split none of them. They share
--- out the admitted pairs of what the words ask of the text: each lies in exactly one, and in each lies one. No cube has a pair that isn't one
--- of the pins.
+-- The report has a line for each cube. There are at most `parts` cubes, at least one, and fewer
+-- only where a search would split none of them. They share out the admitted pairs of what the words
+-- ask of the text: each pair lies in exactly one cube, and each cube has one. No cube has a pair
+-- that isn't one of the pins.
 pub record IsPartsReport (text : List ℕ) (default : Delay) (words : QuestionWords) (parts : ℕ) (report : List ℕ) : Type 0 where
   pub asked : Problem
   pub is_asked : IsAsked text default words asked

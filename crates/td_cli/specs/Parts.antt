@@ -1,4 +1,4 @@
--- Internal: how faults of a part's bytes are told.
+-- Internal: which reasons give the faults of a part's bytes.
 use Rattle.std.specs.Prelude.{◌≡◌, ◌≢◌, ℕ, List, [], get_or, ◌⊎◌}
 use Rattle.std.specs.Borrow.{Bor}
 use Rattle.td_certificate.specs.declared.fault.CertFault.{CertFault}
@@ -11,7 +11,7 @@ use Rattle.td_report.specs.JoinTexts.{first_place, second_place}
 use Rattle.td_report.specs.declared.refusal.Refusal.{Refusal}
 use Rattle.td_report.specs.declared.refusal.Refusal.TheVariants as refusal
 
--- the reason tells this fault of the text in the file of this name, or want of memory
+-- the reason gives this fault of the text in the file of this name, or says that memory ran out
 abbrev pub IsOfPart : Bor (List ℕ) → CertFault → Refusal → Type 0
 IsOfPart name fault reason =
     (reason ≡ refusal.OutOfMemory) ⊎ ((fault.kind ≢ certificate_kind.OutOfMemory) × (reason ≡ refusal.BadPart name fault))
@@ -23,7 +23,7 @@ unjudged name (check.Netlist fault) = refusal.Netlist fault
 unjudged name (check.Loop net) = refusal.Loop net
 unjudged name (check.Certificate fault) = refusal.BadPart name fault
 
--- the fault is told, by the names at its places
+-- the reason gives the fault, with the names at its places
 pub record TellsUnjoined (names : List (List ℕ)) (fault : JoinFault) (reason : Refusal) : Type 0 where
   pub one : Bor (List ℕ)
   pub other : Bor (List ℕ)
@@ -32,6 +32,6 @@ pub record TellsUnjoined (names : List (List ℕ)) (fault : JoinFault) (reason :
   pub other_is : other.now ≡ get_or names (second_place fault) []
   pub is : reason ≡ refusal.NotJoined fault one other
 
--- the reason tells this fault, or want of memory
+-- the reason gives this fault, or says that memory ran out
 abbrev pub IsOfUnjoined : List (List ℕ) → JoinFault → Refusal → Type 0
 IsOfUnjoined names fault reason = (reason ≡ refusal.OutOfMemory) ⊎ TellsUnjoined names fault reason

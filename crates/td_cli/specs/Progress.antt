@@ -1,4 +1,4 @@
--- What is told of a search while it goes on.
+-- What a program writes of a search while it goes on.
 use Rattle.std.specs.Prelude.{◌≡◌, ℕ, Bool, true, false, List, [], ◌∷◌, ◌++◌, ◌⊎◌, codes, decimal}
 use Rattle.td_text.specs.Output.{Output}
 use Rattle.td_gates.specs.declared.timing.Delay.{Delay}
@@ -16,13 +16,13 @@ progress_line progress =
     codes "nodes " ++ decimal progress.nodes ++ codes " low " ++ decimal progress.low ++ codes " high " ++ decimal progress.high
     ++ codes " open " ++ decimal progress.open ++ newline
 
--- a line was told of each of these, which are true of what is asked, and nothing else
+-- a line was written for each of these, which are true of what is asked, and nothing else
 abbrev pub TellsLines : Problem → List Progress → Output → Output → Type 0
 TellsLines asked [] old new = new ≡ old
 TellsLines asked (progress ∷ more) old new =
     (mid : Output) × IsTrueProgress asked progress × Tells old mid (progress_line progress) × TellsLines asked more mid new
 
--- lines were told of some progress
+-- lines were written of some progress
 abbrev pub TellsProgress : Problem → Output → Output → Type 0
 TellsProgress asked old new = (told : List Progress) × TellsLines asked told old new
 

@@ -1,4 +1,5 @@
--- Internal: what was told of a search one after another, which stands here since an impl block may name no proofs.
+-- Internal: reports of a search one after another. They stand here since an impl block may name no
+-- proofs.
 use Rattle.std.proofs.Common.{refl, subst}
 use Rattle.std.specs.Prelude.{List, [], ◌∷◌, ◌++◌}
 use Rattle.td_text.specs.Output.{Output}

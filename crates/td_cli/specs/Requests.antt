@@ -173,7 +173,7 @@ is_search other = false
 abbrev pub AsksSearch : List (List ℕ) → Type 0
 AsksSearch words = (asked : Request) × Asks words asked × (is_search asked ≡ true)
 
--- how a search of a text ends: lines of progress are told first, where they are asked for
+-- how a search of a text ends: lines of progress come first, where they are asked for
 abbrev pub SearchRuns : WorstRequest → List ℕ → (List ℕ → Type 0) → List FileStep → Status → Streams → Streams → Type 0
 SearchRuns asked text =
     EndsBehind (TellsSearch asked.progress text (delays asked.rise asked.fall) (words_in asked))
@@ -188,7 +188,8 @@ RequestRuns disk (request.Worst asked) steps status old new =
     ⊎ Reads disk asked.file.now (λ text. SearchRuns asked text disk.breaks steps status old new)
 RequestRuns disk other steps status old new = Ends (IsProductOf disk other) (HoldsOf disk other) disk.breaks steps status old new
 
--- how the command that is asked for ends: it would write one of its files over another, which is told and nothing else, or it runs
+-- how the command that is asked for ends: it would write one of its files over another, and says
+-- just that, or it runs
 abbrev pub RequestEnds : Disk → Request → List FileStep → Status → Streams → Streams → Type 0
 RequestEnds disk asked steps status old new =
     Ends (λ product. ⊥) (Overwrites disk asked) disk.breaks steps status old new
@@ -196,12 +197,12 @@ RequestEnds disk asked steps status old new =
 
 -- ---- the program
 
--- help or a fault was told, of a kind that there is to tell of the words
+-- the program wrote help or a fault, of a kind that fits the words
 abbrev pub TellsOf : List (List ℕ) → Status → Streams → Streams → Type 0
 TellsOf words status old new = (told : ErrorKind) × IsAmong told (kinds_of words) × TellsText told status old new
 
--- What the program wrote, by what the words ask for: where the program doesn't take them, help or their fault was told, and no
--- file was touched. Want of memory may be told in place of any.
+-- What the program wrote, by what the words ask for. Where the program doesn't take them, it wrote
+-- help or their fault, and touched no file. In place of any it may say that memory ran out.
 abbrev pub ProgramEnds : Disk → List (List ℕ) → List FileStep → Status → Streams → Streams → Type 0
 ProgramEnds disk words steps status old new =
     ((asked : Request) × Asks words asked × RequestEnds disk asked steps status old new)
@@ -210,7 +211,7 @@ ProgramEnds disk words steps status old new =
 abbrev pub bad_command_text : List ℕ
 bad_command_text = codes "tdelay: bad command line" ++ newline
 
--- the words can't be read, which was told: memory ran out, or a device failed
+-- the words can't be read, and the program said so: memory ran out, or a device failed
 abbrev pub RefusesWords : ReadFault → Status → Output → Output → Type 0
 RefusesWords unread.OutOfMemory status old new = (status ≡ Device) × Tells old new (refusal_text refusal.OutOfMemory)
 RefusesWords unread.Device status old new = (status ≡ BadCommand) × Tells old new bad_command_text

@@ -69,8 +69,8 @@ abbrev pub pair_in : Answer → Pair
 pair_in (answer.Exact time pair tree) = pair
 pair_in (answer.Between low high pair nodes why) = pair
 
--- The report and the certificate are those of an answer to what the words ask of the text, and the lines behind it and the dump are those of
--- its pair.
+-- The report and the certificate are those of an answer to what the words ask of the text. The
+-- lines after the report and the dump are those of its pair.
 pub record IsWorstReport (text : List ℕ) (default : Delay) (words : QuestionWords) (budget : ℕ) (path : Bool) (vcd : Option (List ℕ))
     (report : List ℕ) (certificate : Option Certificate) (dumps : List FileText) : Type 0 where
   pub asked : Problem

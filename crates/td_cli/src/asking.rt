@@ -24,7 +24,7 @@ pub struct QuestionWords<'a> {
     pub strategy: Method,
 }
 
-/// At how many inputs the two vectors may differ, of so many.
+/// At how many of these inputs the two vectors may differ.
 fn most_flips(inputs: usize, flips: Option<u64>) -> u32
     requires { inputs < 2 ^ 32 }
     ensures { result ≡ most_flips inputs flips }
@@ -36,7 +36,8 @@ fn most_flips(inputs: usize, flips: Option<u64>) -> u32
     }
 }
 
-/// The pairs that the words admit, for so many inputs, or the first word that gives nothing for them.
+/// The pairs that the words admit for that many inputs, or the first word that gives nothing for
+/// them.
 pub fn admit(
     alloc: Global,
     words: QuestionWords<'_>,

@@ -50,7 +50,8 @@ pub struct Joined {
     pub whole: Certificate,
 }
 
-/// The pins that two options give for so many inputs, none where both are left out; or the first that gives nothing for them.
+/// The pins that two options give for that many inputs: none where both are left out. Or the first
+/// option that gives nothing for them.
 fn pins_given(
     alloc: Global,
     first: Option<&str>,

@@ -31,8 +31,8 @@ use td_report::text::Text;
 use td_search::Problem;
 use td_text::Sink;
 
-/// The report of the parts of what the words ask, of which there are at most so many, at least 1: a line for each, with the options by which
-/// `worst` searches it.
+/// The report of the parts of what the words ask: a line for each part, with the options by which
+/// `worst` searches it. It has at most `parts` lines, at least 1.
 pub fn parts<'a>(
     alloc: Global,
     text: &'a [u8],

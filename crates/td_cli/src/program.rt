@@ -71,7 +71,7 @@ pub fn run_plain<S: AsStr, F: Files, O: Sink, E: Sink>(
         (streams (O.output out.old) (E.output err.old)) (streams (O.output out.new) (E.output err.new)))) }
     ensures search { IfNone result (AsksSearch (map S.text words.now)) }
     ensures untouched { IfNone result ((files.new ≡ files.old) × (out.new ≡ out.old) × (err.new ≡ err.old)) }
-    // Of a search nothing but want of memory is told.
+    // Where the words ask for a search, the only message is that memory ran out.
     ensures others { IfSome result (λ status. AsksSearch (map S.text words.now) → IsOutOfMemory status
         (streams (O.output out.old) (E.output err.old)) (streams (O.output out.new) (E.output err.new))) }
 {

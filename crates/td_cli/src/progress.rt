@@ -22,7 +22,8 @@ use td_report::text::Text;
 use td_search::Problem;
 use td_text::Sink;
 
-/// Writes a line for each thing that it is told. Where it can't be written, or memory is refused, the search goes on.
+/// Writes a line for each step of progress that it gets. Where it can't write the line, or memory
+/// is refused, the search goes on.
 #[derive(Drop)]
 pub struct ProgressLines<'e, E> {
     pub alloc: Global,

@@ -93,10 +93,11 @@ fn admit_in(
     Ok(Ok(admit))
 }
 
-/// The report of the search for the worst delay of what the words ask, by so many workers, from 1 to 64, which handles at most so
-/// many nodes. The budget is at most 10,000,000. Where they are asked for, the changes that lead to the last change of the given pair's run
-/// stand behind the report's other lines. The waves of that run too, where a name is given for their file. The watch is told how far the search
-/// has come.
+/// The report of the search for the worst delay of what the words ask. There are 1 to 64 workers,
+/// and they handle at most `budget` nodes. The budget is at most 10,000,000. Where the changes that
+/// lead to the last change of the given pair's run are asked for, they stand after the report's
+/// other lines. Where a name is given for a file of waves, the waves of that run are given too. The
+/// watch gets the progress of the search.
 pub fn worst<'a, 'v, W: Watch, R: Threads + Wait + Sync>(
     rt: &R,
     alloc: Global,
@@ -119,7 +120,7 @@ pub fn worst<'a, 'v, W: Watch, R: Threads + Wait + Sync>(
     // A certificate has a text.
     ensures spelled { IfOk result (λ found. IfSome found.certificate HasSpelling) }
     ensures has { IfOk result (λ found. IfSome found.dump HasRun) }
-    // What the watch was told, if anything, is true of what is asked.
+    // The progress that the watch got, if any, is true of what is asked.
     ensures told { (watch.new ≡ watch.old) ⊎ ((asked : Given) × IsAsked text.now default words.entry asked × W.told asked watch.old watch.new) }
 {
     let Asked { circuit, admit } = question_of(alloc, text, default, words)?;
@@ -174,7 +175,8 @@ fn found_of<'v>(
     })
 }
 
-/// The report of an answer, and behind it the changes that lead to the last change of its pair's run, where they are asked for.
+/// The report of an answer. After it come the changes that lead to the last change of its pair's
+/// run, where they are asked for.
 fn explained(
     alloc: Global,
     circuit: &Circuit,
@@ -306,7 +308,7 @@ fn pair_of(text: &mut Text, pair: &Pair, nodes: u64) -> Result<(), AllocError>
     text.number_between(b"\nnodes ", nodes, b"\n")
 }
 
-/// Appends bytes, and behind them what stands for a vector.
+/// Appends bytes, and after them the text of a vector.
 fn vector_behind(text: &mut Text, front: &[u8], levels: &[bool]) -> Result<(), AllocError>
     ensures { OnOk result (text.new ≡ text.old ++ (front.now ++ bits levels.now)) }
 {

@@ -152,7 +152,7 @@ module _ (P : Product → Type 0) (H : Refusal → Type 0) (b : List ℕ → Typ
     ends = ends.ends;
   })))
 
-  -- a reason that holds was told
+  -- the command gave a reason that holds
   pub refused : (reason : Refusal) (status : Status) (out err_old err_new : Output) → (reason ≢ refusal.OutOfMemory → H reason)
       → TellsReason reason status err_old err_new → Ends P H b [] status (streams out err_old) (streams out err_new)
   refused reason status out err_old err_new holds told = inr (inl (record {
@@ -206,7 +206,7 @@ module _ (P : Product → Type 0) (H : Refusal → Type 0) (b : List ℕ → Typ
   lost_file product steps status old new is sent loses ends =
       inr (inr (inr (record { product = product; is = is; sent = sent; loses = loses; ends = ends })))
 
--- why a file can't be read was told
+-- the command said why a file can't be read
 pub told_memory : (file : Bor (List ℕ)) (fault : ReadFault) (status : Status) (old new : Output) → fault ≡ unread.OutOfMemory
     → TellsReason refusal.OutOfMemory status old new → TellsUnread file fault status old new
 told_memory file fault status old new is told = subst (λ (f : ReadFault). TellsUnread file f status old new) (sym is) told
@@ -215,7 +215,7 @@ pub told_device : (file : Bor (List ℕ)) (fault : ReadFault) (status : Status) 
     → TellsReason (refusal.Unreadable file) status old new → TellsUnread file fault status old new
 told_device file fault status old new is told = subst (λ (f : ReadFault). TellsUnread file f status old new) (sym is) told
 
--- a file that can't be written was told by its name, or want of memory
+-- the command gave the name of a file that can't be written, or said that memory ran out
 pub told_unwritten : (name word : List ℕ) (fault : WriteFault) (old new : Output) → fault ≡ unwritten.Device → IsWrittenAs name word
     → (Tells old new (unwritten_text word) ⊎ Tells old new (refusal_text refusal.OutOfMemory)) → TellsUnwritten name fault old new
 told_unwritten name word fault old new is named (inl told) = inl (is, (word, named, told))

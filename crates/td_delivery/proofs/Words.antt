@@ -5,7 +5,7 @@ use Rattle.std.specs.Borrow.{Bor}
 use Rattle.std.proofs.lemmas.List.{take_all, get_or-map, length-map}
 use Rattle.std.proofs.lemmas.List.Elements.{Contains-get_or, All-map}
 
--- the text behind a word
+-- the text of a borrowed word
 abbrev pub now_of : Bor (List ℕ) → List ℕ
 now_of word = word.now
 

@@ -1,4 +1,4 @@
--- What is told of the words of a command line.
+-- What a program writes about the words of a command line.
 use Rattle.std.specs.Prelude.{◌≡◌, ℕ, List, ◌⊎◌, codes}
 use Rattle.clap.specs.declared.error.kind.ErrorKind.{ErrorKind}
 use Rattle.clap.specs.declared.error.kind.ErrorKind.TheVariants as kind
@@ -21,26 +21,26 @@ module _ (told_kind : ErrorKind) (text : List ℕ) (status : Status) (old new : 
     pub sent : Sent old.out new.out text
     pub silent : new.err ≡ old.err
 
-  -- standard output failed behind a beginning of help, which was told
+  -- standard output failed after a beginning of help, and the program said so
   pub record IsLostHelp : Type 0 where
     pub shown : IsShown told_kind
     pub ends : status ≡ Device
     pub broke : Failed old.out new.out text
     pub told : Tells old.err new.err (unwritten_text (codes "stdout"))
 
-  -- a fault of the command line was told
+  -- the program wrote a fault of the command line
   pub record IsMistake : Type 0 where
     pub mistake : ¬ IsShown told_kind
     pub ends : status ≡ BadCommand
     pub nothing : new.out ≡ old.out
     pub told : Tells old.err new.err text
 
--- the parser's text of this kind was told: help, or a fault of the command line
+-- the parser's text of this kind was written: help, or a fault of the command line
 abbrev pub TellsText : ErrorKind → Status → Streams → Streams → Type 0
 TellsText told_kind status old new =
     (text : List ℕ) × (IsHelp told_kind text status old new ⊎ (IsMistake told_kind text status old new ⊎ IsLostHelp told_kind text status old new))
 
--- nothing went out, and want of memory was told
+-- nothing went out, and the program said that memory ran out
 pub record IsOutOfMemory (status : Status) (old new : Streams) : Type 0 where
   pub ends : status ≡ Device
   pub nothing : new.out ≡ old.out

@@ -54,8 +54,8 @@ fn beside_files<'a>(
     beside_dump(report, dump)
 }
 
-/// Shows a report, and then writes a certificate and the waves of a run to files, where there are any to be written. Where one of these fails,
-/// it is told, and what is behind it isn't begun.
+/// Shows a report. Then writes a certificate and the waves of a run to files, where there are any
+/// to write. Where one of these fails, says so, and doesn't begin what comes after it.
 pub fn hand_over<F: Files, O: Sink, E: Sink>(
     alloc: Global,
     files: &mut F,
@@ -86,7 +86,8 @@ pub fn hand_over<F: Files, O: Sink, E: Sink>(
     ending
 }
 
-/// Writes a certificate to a new file, if there is one and a name is given for it. Where that fails, it is told.
+/// Writes a certificate to a new file, if there is one and a name is given for it. Says so where
+/// that fails.
 fn keep_certificate<F: Files, E: Sink>(
     alloc: Global,
     files: &mut F,
@@ -136,7 +137,7 @@ fn write_certificate<F: Files>(
     }
 }
 
-/// Writes the waves of a run to a new file, if there are any to be written. Where that fails, it is told.
+/// Writes the waves of a run to a new file, if there are any to write. Says so where that fails.
 fn keep_dump<F: Files, E: Sink>(
     alloc: Global,
     files: &mut F,
@@ -185,7 +186,7 @@ pub fn say<O: Sink, E: Sink>(report: &[u8], ending: Status, out: &mut O, err: &m
     }
 }
 
-/// Tells that a file can't be read, or want of memory.
+/// Says that a file can't be read, or that memory ran out.
 pub fn tell_unread<E: Sink>(alloc: Global, err: &mut E, file: &str, fault: ReadFault) -> Status
     ensures { TellsUnread file.entry fault result (E.output err.old) (E.output err.new) }
 {
@@ -195,7 +196,7 @@ pub fn tell_unread<E: Sink>(alloc: Global, err: &mut E, file: &str, fault: ReadF
     }
 }
 
-/// Tells that a file can't be written, or want of memory.
+/// Says that a file can't be written, or that memory ran out.
 fn tell_unwritten<E: Sink>(alloc: Global, err: &mut E, file: &str, fault: WriteFault) -> Status
     ensures ends { result ≡ Ended.Device }
     ensures told { TellsUnwritten file.now fault (E.output err.old) (E.output err.new) }
@@ -206,7 +207,7 @@ fn tell_unwritten<E: Sink>(alloc: Global, err: &mut E, file: &str, fault: WriteF
     }
 }
 
-/// Tells that a file can't be written that is told by this name, or want of memory.
+/// Says that a file, given by this name, can't be written, or that memory ran out.
 fn tell_unwritten_as<E: Sink>(alloc: Global, err: &mut E, name: &str) -> Status
     ensures ends { result ≡ Ended.Device }
     ensures told { Tells (E.output err.old) (E.output err.new) (unwritten_text name.now)
@@ -219,7 +220,7 @@ fn tell_unwritten_as<E: Sink>(alloc: Global, err: &mut E, name: &str) -> Status
     }
 }
 
-/// The name by which a file that is written is told: `-` is `stdout`.
+/// The name of a written file in messages: `stdout` for `-`.
 fn written_as(name: &str) -> &str
     ensures { IsWrittenAs name.now result.now }
 {
@@ -244,7 +245,7 @@ pub fn tell<E: Sink>(err: &mut E, line: &[u8], status: Status) -> Status
     }
 }
 
-/// Tells why a command was not carried out. Want of memory may be told in place of any reason.
+/// Says why a command was not carried out. In place of any reason it may say that memory ran out.
 pub fn tell_refusal<E: Sink>(alloc: Global, err: &mut E, refusal: &Refusal<'_>) -> Status
     ensures { TellsReason refusal.now result (E.output err.old) (E.output err.new) }
 {

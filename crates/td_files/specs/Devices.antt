@@ -1,4 +1,4 @@
--- What an error of the system's files is told as.
+-- Which fault an error of the system's files is.
 use Rattle.std.specs.Prelude.{◌≡◌, ◌↔◌}
 use Rattle.std.specs.declared.io.ErrorKind.{ErrorKind}
 use Rattle.std.specs.declared.io.ErrorKind.TheVariants.{OutOfMemory}
@@ -7,7 +7,7 @@ use Rattle.td_certificate.specs.declared.fault.WriteFault.TheVariants as unwritt
 use Rattle.td_files.specs.declared.disk.ReadFault.{ReadFault}
 use Rattle.td_files.specs.declared.disk.ReadFault.TheVariants as unread
 
--- want of memory where the system says so, and else a device's failure
+-- out of memory where the system says so, and else a device's failure
 abbrev pub IsReadFault : ErrorKind → ReadFault → Type 0
 IsReadFault kind fault = (fault ≡ unread.OutOfMemory) ↔ (kind ≡ OutOfMemory)
 

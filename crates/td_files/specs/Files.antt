@@ -33,7 +33,7 @@ AreWritten [] steps = steps ≡ []
 AreWritten (file ∷ files) steps =
     (first rest : List FileStep) × (steps ≡ first ++ rest) × IsWritten file first × AreWritten files rest
 
--- a writer took a beginning of a text, and where a device's failure is told it failed once
+-- a writer took a beginning of a text, and it failed once where the fault is a device's failure
 pub record HasBeginning (begun ended : Output) (text : List ℕ) (fault : WriteFault) : Type 0 where
   pub front : SentFront begun ended text
   pub failed : fault ≡ unwritten.Device → ended.failures ≡ one_more begun.failures
@@ -45,7 +45,7 @@ pub record IsBroken (file : FileText) (fault : WriteFault) (steps : List FileSte
   pub has : HasBeginning begun ended file.text fault
   pub are : steps ≡ Made file.name begun ∷ []
 
--- a device is told as the fault only where one may fail to make or to end the file
+-- the fault is a device's only where one may fail to make or to end the file
 abbrev pub MayBreak : Type 0 → WriteFault → Type 0
 MayBreak breaks fault = fault ≡ unwritten.Device → breaks
 

@@ -11,11 +11,13 @@ use Rattle.td_files.specs.Files.{FileStep, Made, Ended}
 abbrev pub bytes_of : List (Bor (List ℕ) × Bor (List ℕ)) → List ℕ → Option (List ℕ)
 bytes_of files name = option_map (λ file. file.1.now) (find (λ file. bytes_eq file.0.now name) files)
 
--- a read of this name gives these bytes, where readers give so many: the first file of the name has them, and no more than so many
+-- a read of this name gives these bytes, where readers give at most `readable` bytes: the first
+-- file of the name has them, and they are no more than that
 abbrev pub Reads : List (Bor (List ℕ) × Bor (List ℕ)) → ℕ → List ℕ → List ℕ → Type 0
 Reads files readable name bytes = (bytes_of files name ≡ Some bytes) × (length bytes ≤ readable)
 
--- a read of this name fails, where readers give so many bytes: no file has the name, or the first one of the name has more
+-- a read of this name fails, where readers give at most `readable` bytes: no file has the name, or
+-- the first one of the name has more
 abbrev pub FailsOn : List (Bor (List ℕ) × Bor (List ℕ)) → ℕ → List ℕ → Type 0
 FailsOn files readable name =
     (bytes_of files name ≡ None) ⊎ ((bytes : List ℕ) × (bytes_of files name ≡ Some bytes) × (readable < length bytes))

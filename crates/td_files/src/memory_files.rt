@@ -89,7 +89,7 @@ impl<'a> MemoryFiles<'a> {
         }
     }
 
-    /// The same files, of which a reader fails after so many bytes.
+    /// The same files, with readers that fail after that many bytes.
     pub fn reading(mut self, readable: usize) -> Self
         ensures { result ≡ record self.entry { readable = readable } }
     {
@@ -97,7 +97,7 @@ impl<'a> MemoryFiles<'a> {
         self
     }
 
-    /// The same files, of which a writer fails after so many bytes.
+    /// The same files, with writers that fail after that many bytes.
     pub fn writing(mut self, writable: usize) -> Self
         ensures { result ≡ record self.entry { writable = writable } }
     {
@@ -146,7 +146,7 @@ impl<'a> Files for MemoryFiles<'a> {
     /// No file has this name, or the first one has more bytes than a reader gives.
     ghost fails = { λ files name. FailsOn files.files.now files.readable name };
 
-    /// Only its writer fails, and want of memory.
+    /// No device fails to make or to end a file. Only its writer fails, or memory runs out.
     ghost breaks = { λ _ _. ⊥ };
 
     /// Two names are of one file where they are the same.

@@ -106,7 +106,8 @@ impl<'r, R: rt::Files + Input + Print + AllocGlobal> RealFiles<'r, R> {
         Err(io::Error::from(io::ErrorKind::AlreadyExists))
     }
 
-    /// A writer in the place of a file that is there, behind symbolic links, with the permissions of the old one.
+    /// A writer in the place of a file that is there, with the permissions of the old one. It
+    /// follows symbolic links.
     fn in_place(&self, alloc: Global, name: &str, old: &Metadata) -> io::Result<RealFile<R::File>> {
         let path = fs::canonicalize(self.rt, name)?;
         let writer = self.beside(alloc, path.into_string())?;

@@ -214,7 +214,7 @@ pub fn advice(kind: FaultKind<'_>) -> &'static [u8]
 /// What is wrong with a circuit that has a loop, before the name of a net on it.
 pub const LOOP_FRONT: &[u8] = b"net";
 
-/// What is wrong with a circuit that has a loop, behind the name of a net on it.
+/// What is wrong with a circuit that has a loop. It follows the name of a net on the loop.
 pub const LOOP_BACK: &[u8] = b"lies on a loop of gates, as in a latch or a ring oscillator";
 
 /// What to do about a loop.

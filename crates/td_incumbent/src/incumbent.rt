@@ -46,7 +46,7 @@ impl Model for Seat {
 }
 
 impl Incumbent {
-    /// The word at 0, and its seats, at least one. The error is want of memory.
+    /// The word at 0, and its seats, at least one. The error is out of memory.
     pub fn new(alloc: Global, seats: usize) -> Result<(Incumbent, Vec<Seat>), AllocError>
         requires { 0 < seats }
         ensures count { IfOk result (λ r. (r.0.seats ≡ seats) × (length r.1.items ≡ seats)) }

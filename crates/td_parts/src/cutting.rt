@@ -18,7 +18,7 @@ use std::alloc::{AllocError, Global};
 use td_domain::{Cube, Trit};
 use td_search::{Lead, Least, Own, Problem, Rule, Strategy, Task};
 
-/// The zero side and the one side of a cube at a free position. The error is want of memory.
+/// The zero side and the one side of a cube at a free position. The error is out of memory.
 fn sides(alloc: Global, cube: &Cube, position: usize) -> Result<(Cube, Cube), AllocError>
     requires { slice_get cube.now position ≡ Some Free }
     ensures low { IfOk result (λ both. both.0 ≡ zero_side cube.now position) }
@@ -39,7 +39,7 @@ pub struct Cutting {
 }
 
 impl Cutting {
-    /// The pins as one part. The error is want of memory.
+    /// The pins as one part. The error is out of memory.
     fn begin<R: Rule>(task: &Task<'_, R>, scratch: &mut R::Scratch) -> Result<Cutting, AllocError>
         requires scratch { R.is_for scratch.old task.now.problem.now.circuit.now }
         requires any { HasAdmitted task.now.problem.now.admit.now task.now.problem.now.admit.now.pins }
@@ -57,7 +57,7 @@ impl Cutting {
         Ok(Cutting { parts, queue })
     }
 
-    /// Puts a half of the part of a place into its place. The error is want of memory.
+    /// Puts a half of the part at a place into that place. The error is out of memory.
     fn narrow<R: Rule>(
         &mut self,
         task: &Task<'_, R>,
@@ -80,7 +80,7 @@ impl Cutting {
         Ok(())
     }
 
-    /// Adds a half as one part more. The error is want of memory.
+    /// Adds a half as one more part. The error is out of memory.
     fn add<R: Rule>(
         &mut self,
         task: &Task<'_, R>,
@@ -155,7 +155,8 @@ impl Cutting {
         None
     }
 
-    /// Halves parts until there are so many, or a search would split none. The error is want of memory.
+    /// Halves parts until there are `parts` of them, or a search would split none. The error is out
+    /// of memory.
     fn halve_until<R: Rule>(
         &mut self,
         task: &Task<'_, R>,
@@ -194,10 +195,11 @@ fn cut_pins<R: Rule>(task: &Task<'_, R>, parts: usize) -> Result<Vec<Cube>, Allo
     Ok(cubes)
 }
 
-/// Cuts the pins of a question into at most so many cubes (0 counts as 1), to be searched apart. The part whose strongest bound is
-/// greatest is halved, the first of several, at the position at which a search by the strategy would split it, until there are that many
-/// or a search would split no part. A cube without an admitted pair is left out, so that there is none at all where no pair is admitted.
-/// The error is out of memory.
+/// Cuts the pins of a question into at most `parts` cubes, to search apart. 0 counts as 1. Each
+/// step halves the first part with the greatest strongest bound, at the position at which a search
+/// by the strategy would split it. This ends with that many parts, or where a search would split no
+/// part. A cube without an admitted pair is left out, so the answer has no cube where no pair is
+/// admitted. The error is out of memory.
 pub fn cut(alloc: Global, problem: &Problem<'_>, parts: usize) -> Result<Vec<Cube>, AllocError>
     // Each admitted pair lies in exactly one of the cubes, and each cube has an admitted pair.
     ensures partition { IfOk result (λ cubes. IsPartition problem.now.admit.now cubes.items) }

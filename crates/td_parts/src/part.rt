@@ -17,7 +17,7 @@ pub struct Part {
 }
 
 impl Part {
-    /// The part of a cube. The error is want of memory, and the scratch may be used again.
+    /// The part of a cube. The error is out of memory, and the scratch may be used again.
     pub fn new<R: Rule>(
         task: &Task<'_, R>,
         scratch: &mut R::Scratch,
@@ -44,7 +44,7 @@ impl Part {
     }
 }
 
-/// The cubes of parts. The error is want of memory.
+/// The cubes of parts. The error is out of memory.
 pub fn cubes_of(alloc: Global, parts: Vec<Part>) -> Result<Vec<Cube>, AllocError>
     ensures { IfOk result (λ cubes. cubes.items ≡ cubes_of parts.items) }
 {

@@ -23,7 +23,7 @@ impl Queue {
         }
     }
 
-    /// Puts the place of a part with this bound into the queue. The error is want of memory.
+    /// Puts the place of a part with this bound into the queue. The error is out of memory.
     pub fn push(&mut self, bound: u64, place: usize) -> Result<(), AllocError>
         ensures { OnOk result (IsPermutation (place ∷ places_of self.old) (places_of self.new)) }
     {

@@ -203,7 +203,7 @@ none_more P xs behind place x at last never before k y here far = ⊎_elim
 
 -- ---- a walk over what was found
 
--- the leaves of a stack behind others, the next one last
+-- the leaves of a stack after others, the next one last
 abbrev pub piled : List OpenLeaf → List OpenLeaf → List OpenLeaf
 piled front [] = front
 piled front (leaf ∷ stack) = piled front stack ++ leaf ∷ []

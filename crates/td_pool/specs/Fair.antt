@@ -65,7 +65,8 @@ takes p number = record { deque = p.deque; hand = hand p.hand.put (p.hand.taken 
 abbrev pub fresh_other : Ports → Port
 fresh_other s = fresh s.own.deque
 
--- fresh users of the own deques of all seats but that at k, first of those behind it
+-- fresh users of the own deques of all seats but that at k: first those after it, then those before
+-- it
 abbrev pub ring : List Ports → ℕ → List Port
 ring seats k = map fresh_other (drop (k + 1) seats) ++ map fresh_other (take k seats)
 

@@ -29,7 +29,7 @@ abbrev pub IsSplit : List OpenLeaf → OpenLeaf → ℕ → ℕ → List OpenLea
 IsSplit rest leaf position bound leaves = (zero_number one_number : ℕ)
     × (leaves ≡ (rest ++ leaf_of one_number (one_side leaf.cube position) bound ∷ []) ++ leaf_of zero_number (zero_side leaf.cube position) bound ∷ [])
 
--- the leaf behind these was closed or split, as it was found of its cube
+-- the leaf after these was closed or split, as it was found of its cube
 abbrev pub IsSettled : List OpenLeaf → OpenLeaf → Finding → List OpenLeaf → Type 0
 IsSettled rest leaf (Closed mark bound) leaves = leaves ≡ rest
 IsSettled rest leaf (Split position bound delay) leaves = IsSplit rest leaf position bound leaves
@@ -44,7 +44,8 @@ AreSettled before (finding ∷ findings) after = (rest : List OpenLeaf) × (leaf
 abbrev pub BeginsAt : Evidence → OpenLeaf → Type 0
 BeginsAt evidence leaf = (leaf.number ≡ evidence.number) × (leaf.cube ≡ evidence.cube)
 
--- A leaf at which the evidence begins was taken out, and what the evidence leaves below it stands behind the others.
+-- A leaf at which the evidence begins was taken out, and what the evidence leaves below it stands
+-- after the others.
 pub record IsGrafted (before : List OpenLeaf) (evidence : Evidence) (after : List OpenLeaf) : Type 0 where
   pub place : ℕ
   pub leaf : OpenLeaf

@@ -19,7 +19,7 @@ pub record IsWorking (asked : Problem) (kept : Kept) (pieces : List Evidence) (p
   pub evidence : AllByRecursion (IsTrueEvidence asked) pieces
   pub part : 0 < parts
 
--- so many workers begin with this, and a part of the ledger for each, which counts nothing yet
+-- `workers` workers begin with this, and a part of the ledger for each, which counts nothing yet
 pub record IsCrew (asked : Problem) (incumbent : Shown) (workers : ℕ) (waiting : List Found) (shares counted : ℕ) : Type 0 where
   pub parts : shares ≡ workers
   pub amount : counted ≡ 0

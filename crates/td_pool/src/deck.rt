@@ -33,7 +33,7 @@ fn add_others(others: &mut Vec<Other>, decks: &[Deck]) -> Result<(), AllocError>
     Ok(())
 }
 
-// A side of each deck but this one: first of those behind it.
+// A side of each other deck: first those after this one, then those before it.
 fn others_of(alloc: Global, decks: &[Deck], but: usize) -> Result<Vec<Other>, AllocError>
     requires { but < length decks.now }
     ensures { IfOk result (λ others. others.items ≡ ring decks.now but) }
@@ -45,7 +45,8 @@ fn others_of(alloc: Global, decks: &[Deck], but: usize) -> Result<Vec<Other>, Al
 }
 
 impl Deck {
-    /// A deck for each worker. Each steals from the deques of all others, first of those behind it.
+    /// A deck for each worker. Each steals from the deques of all others, first from those after
+    /// it.
     pub fn deal(alloc: Global, workers: usize) -> Result<Vec<Deck>, AllocError>
         ensures workers { IfOk result (λ decks. length decks.items ≡ workers) }
         ensures dealt { IfOk result (λ decks. AreDealt decks.items) }

@@ -56,7 +56,7 @@ fn greatest_bound(leaves: &[OpenLeaf], low: u64) -> u64
     greatest
 }
 
-// The root of the tree, whose cube is that of the pins, with this bound. The error is want of memory.
+// The root of the tree, with this bound. Its cube is that of the pins. The error is out of memory.
 fn first_leaf(alloc: Global, admit: &Admit, bound: u64) -> Result<Vec<OpenLeaf>, AllocError>
     ensures { IfOk result (λ leaves. leaves.items ≡ leaf_of 0 admit.now.pins bound ∷ []) }
 {
@@ -100,7 +100,7 @@ fn drop_last(leaves: &mut Vec<OpenLeaf>)
 }
 
 // Splits the last leaf at a position of its cube. The sides get this bound and the next two numbers, and the zero side is the last
-// leaf then. The error is want of memory, and then the leaves are as before.
+// leaf then. The error is out of memory, and then the leaves are as before.
 fn split_last(
     alloc: Global,
     leaves: &mut Vec<OpenLeaf>,
@@ -135,7 +135,7 @@ fn split_last(
 }
 
 impl<L: Subject> Frontier<L> {
-    /// Nothing is split or closed yet, and what is left is kept. The error is want of memory.
+    /// Nothing is split or closed yet, and what is left is kept. The error is out of memory.
     pub fn new(alloc: Global, problem: &Problem<'_>, root: Root) -> Result<Frontier<L>, AllocError>
         requires asked { L.asked ≡ problem_of problem.now }
         requires root { IsRoot (problem_of problem.now) root }
@@ -238,7 +238,8 @@ impl<L: Subject> Frontier<L> {
         self.closed = self.closed.max(bound);
     }
 
-    // The last leaf is split at a free position of its cube, which has this bound. The error is want of memory.
+    // Splits the last leaf at a free position of its cube. The cube has this bound. The error is
+    // out of memory.
     fn halve_last(&mut self, position: usize, bound: u64) -> Result<(), AllocError>
         requires { (rest : List OpenLeaf) × (leaf : OpenLeaf) × (self.old.leaves.items ≡ rest ++ leaf ∷ []) × (slice_get leaf.cube position ≡ Some Free) × IsAbove L.asked leaf.cube bound }
         ensures { OnOk result ((rest : List OpenLeaf) (leaf : OpenLeaf) → self.old.leaves.items ≡ rest ++ leaf ∷ [] → IsSplit rest leaf position bound self.new.leaves.items) }
@@ -248,7 +249,7 @@ impl<L: Subject> Frontier<L> {
         done
     }
 
-    // The last leaf is closed or split, as it was found of its cube. The error is want of memory.
+    // Closes or splits the last leaf, as it was found of its cube. The error is out of memory.
     fn settle_last(&mut self, problem: &Problem<'_>, finding: Finding) -> Result<(), AllocError>
         requires asked { L.asked ≡ problem_of problem.now }
         requires last { (rest : List OpenLeaf) × (leaf : OpenLeaf) × (self.old.leaves.items ≡ rest ++ leaf ∷ []) × IsTrueOf (problem_of problem.now) leaf.cube finding }
@@ -266,8 +267,8 @@ impl<L: Subject> Frontier<L> {
         }
     }
 
-    /// What was found below a leaf that is left was done there in the shared tree. The error is want of memory: then more leaves are kept
-    /// than are left, so that the figures stay true.
+    /// Splits and closes below a leaf that is left what the shared tree split and closed there. The
+    /// error is out of memory. Then more leaves are kept than are left, so the figures stay true.
     pub fn settle(&mut self, problem: &Problem<'_>, evidence: &Evidence) -> Result<(), AllocError>
         requires asked { L.asked ≡ problem_of problem.now }
         requires evidence { IsTrueEvidence (problem_of problem.now) evidence.now }

@@ -1,4 +1,4 @@
-//! At how many nodes a watch is told how far a search has come.
+//! At how many nodes a watch gets the progress of a search.
 
 ghost use Rattle.std.specs.Prelude.{◌+◌, ◌<◌};
 
@@ -8,8 +8,8 @@ const MILESTONES: [u64; 13] = [
     5_000_000, 10_000_000,
 ];
 
-/// The first milestone above so many nodes: 1, 2 or 5 times 1,000, 10,000 and so on to 10,000,000. Behind the last one a number of nodes
-/// that no search comes to.
+/// The first milestone above `nodes`: 1, 2 or 5 times 1,000, 10,000 and so on to 10,000,000. After
+/// the last one, a number of nodes that no search comes to.
 pub fn milestone_above(nodes: u64) -> u64
     ensures { nodes < result + 1 }
 {

@@ -55,10 +55,11 @@ impl<L: Ledger> Promise<Report<L>> for Truthful {
     ghost kept_by = { λ promise report. IsTrueFound (problem_by promise.strategy promise.circuit.value promise.admit.value) report.found };
 }
 
-/// Searches by `least` for the worst delay of the admitted pairs of a circuit, by so many workers, from 1 to 64, of which this thread is
-/// one, and handles at most so many nodes. The budget is at most 10,000,000, and the pairs are of the circuit's inputs. With one worker
-/// and `Own` the figures and the number of nodes are those of `alone`, which is tested. A thread that can't be started only lowers the
-/// number of workers.
+/// Searches by `least` for the worst delay of the admitted pairs of a circuit. There are 1 to 64
+/// workers, this thread is one of them, and they handle at most `budget` nodes. The budget is at
+/// most 10,000,000, and the pairs are of the circuit's inputs. With one worker and `Own` the
+/// figures and the number of nodes are those of `alone`; a test compares them. A thread that can't
+/// be started only lowers the number of workers.
 ///
 /// # Errors
 ///
@@ -121,11 +122,13 @@ pub fn worst_by<P: Prober + Sync, D: Hints + Drop + Send, R: Threads + Wait + Sy
     search_by(rt, alloc, &problem, prober, decks, effort, &mut nobody)
 }
 
-/// Searches for the worst delay that is asked for, by so many workers, of which this thread is one, and tells a watch how far the search
-/// has come each time that the nodes handled have passed 1, 2 or 5 thousand, ten thousand and so on. This thread tells it, and only once
-/// it has handled what it was leased, so a milestone may be told somewhat later, with the nodes that are handled by then, and of several
-/// that were passed meanwhile only the last. With one worker that nobody watches the answer is that of `alone_by`, which asks no prober.
-/// A thread that can't be started only lowers the number of workers.
+/// Searches for the worst delay that is asked for. This thread is one of the workers. It reports
+/// the progress of the search to a watch each time that the nodes handled have passed 1, 2 or 5
+/// thousand, ten thousand and so on. It does so only once it has handled what it was leased, so the
+/// report may come after the milestone, with the nodes that are handled by then. Where several
+/// milestones were passed meanwhile, it reports only the last. With one worker that nobody watches
+/// the answer is that of `alone_by`, which asks no prober. A thread that can't be started only
+/// lowers the number of workers.
 ///
 /// # Errors
 ///
@@ -142,7 +145,7 @@ pub fn search<P: Prober + Sync, W: Watch, R: Threads + Wait + Sync>(
     // The certificate of an exact answer has a text within the limit.
     ensures text { IfOk result (CanBeWritten (problem_of problem.now)) }
     ensures fault { IfErr result (IsSearchFault (problem_of problem.now)) }
-    // All that the watch was told is true of what is asked.
+    // All progress that the watch got is true of what is asked.
     ensures told { W.told (problem_of problem.now) watch.old watch.new }
 {
     if effort.workers == 1 && !watch.is_looking() {
@@ -174,7 +177,7 @@ fn search_by<P: Prober + Sync, D: Hints + Drop + Send, W: Watch, R: Threads + Wa
     Ok(finish(alloc, problem, work, effort.budget))
 }
 
-// What so many workers find by the rule of the strategy. The error is out of memory before they begin.
+// What the workers find by the rule of the strategy. The error is out of memory before they begin.
 fn shared_work<P: Prober + Sync, D: Hints + Drop + Send, W: Watch, R: Threads + Wait + Sync>(
     rt: &R,
     alloc: Global,
@@ -209,7 +212,8 @@ fn shared_work<P: Prober + Sync, D: Hints + Drop + Send, W: Watch, R: Threads + 
     }
 }
 
-// What so many workers find by one rule, of which this thread is one. The error is out of memory before they begin.
+// What the workers find by one rule. This thread is one of them. The error is out of memory before
+// they begin.
 fn search_with<Q: Rule + Sync, D: Hints + Drop + Send, W: Watch, R: Threads + Wait + Sync>(
     rt: &R,
     task: &Task<'_, Q>,
@@ -273,7 +277,8 @@ fn search_all<
     Ok(handed_over(*alloc, problem, shared, all, first, root))
 }
 
-// What all workers find, and the watch is told meanwhile. The error is out of memory before they begin.
+// What all workers find. The watch gets the progress meanwhile. The error is out of memory before
+// they begin.
 fn found_watched<
     L: Subject + Send + Sync,
     Q: Rule + Sync,

@@ -181,7 +181,7 @@ impl<L: Subject> Shared<L> {
         left
     }
 
-    /// How far the search has come, where so many nodes are handled.
+    /// How far the search has come, where it has handled that many nodes.
     pub fn progress<R: MayWait>(&self, rt: &R, milestone: u64) -> Option<Progress>
         ensures { IfSome result (IsTrueProgress L.asked) }
     {

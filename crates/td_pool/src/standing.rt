@@ -29,7 +29,7 @@ pub struct Standing<L: Subject> {
 }
 
 impl<L: Subject> Standing<L> {
-    /// How far the search has come, where so many nodes are handled.
+    /// How far the search has come, where it has handled that many nodes.
     pub fn progress(&mut self, milestone: u64) -> Option<Progress>
         ensures { IfSome result (IsTrueProgress L.asked) }
     {

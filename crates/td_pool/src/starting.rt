@@ -42,7 +42,8 @@ pub fn first_best(alloc: Global, problem: &Problem<'_>, first: u64) -> Result<Be
     Ok(best)
 }
 
-/// The incumbent, and so many workers that know the pair that stands for the pins, which has this delay. The error is out of memory.
+/// The incumbent, and `workers` workers that know the pair that stands for the pins. That pair has
+/// this delay. The error is out of memory.
 pub fn starting_of(
     alloc: Global,
     problem: &Problem<'_>,

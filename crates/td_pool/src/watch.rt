@@ -1,4 +1,4 @@
-//! Who is told how far a search has come.
+//! Who gets the progress of a search.
 
 use td_search::Problem;
 
@@ -18,10 +18,12 @@ pub trait Watch: Drop {
     ghost use Rattle.td_search.specs.declared.strategy.Strategy.{Strategy};
     ghost use Rattle.td_pool.specs.Watched.{IsTrueProgress};
 
-    /// Between the two moments the watch was told of a search that is asked this, any number of times.
+    /// Between the two moments the watch got progress of a search that is asked this, any number of
+    /// times.
     ghost told: { Problem → Self → Self → Type 0 };
 
-    /// Whether it is to be told anything. A search keeps no account of what is left for a watch that doesn't look.
+    /// Whether it wants any progress. A search keeps no account of what is left for a watch that
+    /// doesn't look.
     fn is_looking(&self) -> bool;
 
     /// Tells how far the search has come. An admitted pair of the circuit has the lower figure as its delay, and none has a delay above
@@ -30,7 +32,7 @@ pub trait Watch: Drop {
         requires { IsTrueProgress (problem_of problem.now) progress }
         ensures { told (problem_of problem.now) self.old self.new };
 
-    /// It may be told nothing.
+    /// It may get nothing.
     ghost told_nothing: { (asked : Problem) (watch : Self) → told asked watch watch };
 
     /// And one thing after another.

@@ -129,7 +129,8 @@ fn begin(
     Ok((Below::new(alloc, problem, lease)?, lease.cube.copy(alloc)?))
 }
 
-// Tells a watch how far the search has come, where it has passed a milestone. The next one is after what was told.
+// Reports the progress of the search to a watch, where it has passed a milestone. The next
+// milestone is after the nodes that it reports.
 fn tell_progress<L: Subject, W: Watch, R: Wait>(
     rt: &R,
     problem: &Problem<'_>,

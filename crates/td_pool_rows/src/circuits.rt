@@ -38,7 +38,7 @@ pub struct Asked {
     pub admit: Admit,
 }
 
-/// The circuit of a netlist, and all its pairs. The error is want of memory, or a text that is refused.
+/// The circuit of a netlist, and all its pairs. The error is out of memory, or a text that is refused.
 pub fn asked_of(rt: &impl Abort, alloc: Global, netlist: &str) -> Result<Asked, AllocError>
     ensures { IfOk result (λ asked. length asked.admit.held ≡ length asked.circuit.netlist.inputs) }
 {
@@ -47,7 +47,7 @@ pub fn asked_of(rt: &impl Abort, alloc: Global, netlist: &str) -> Result<Asked, 
     Ok(Asked { circuit, admit })
 }
 
-// The circuit of a netlist. The error is want of memory, or a text that is refused.
+// The circuit of a netlist. The error is out of memory, or a text that is refused.
 fn circuit_of(alloc: Global, text: &str) -> Result<Circuit, AllocError> {
     let unit = Delay { rise: 1, fall: 1 };
     let Ok(netlist) = read(alloc, text.as_bytes(), unit) else {
@@ -117,7 +117,7 @@ fn as_told(answer: &Result<Answer, SearchFault>) -> Result<Told, Fail> {
     }
 }
 
-/// What a search of all pairs by so many workers comes to.
+/// What a search of all pairs by that many workers comes to.
 pub fn found<P: Prober + Sync, R: Threads + Wait + Sync + Abort>(
     rt: &R,
     alloc: Global,
@@ -139,7 +139,8 @@ pub fn found<P: Prober + Sync, R: Threads + Wait + Sync + Abort>(
     ))
 }
 
-/// What a search of all pairs by so many workers comes to, which with one goes without what workers share.
+/// What a search of all pairs by that many workers comes to. With one worker it goes without what
+/// workers share.
 pub fn found_with<R: Threads + Wait + Sync + Abort>(
     rt: &R,
     alloc: Global,

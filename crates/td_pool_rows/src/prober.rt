@@ -17,7 +17,7 @@ use td_search::{Own, Probe, Prober, Scratch};
 #[derive(Drop)]
 pub struct Watching {
     pub measured: AtomicU64,
-    /// How many calls there were, and the number of the one that is refused for want of memory, 0 for none.
+    /// How many calls there were, and the number of the call that runs out of memory, 0 for none.
     pub calls: AtomicU64,
     pub fails: u64,
     /// Whether the strongest bound is asked for in place of one under the cut.

@@ -46,7 +46,7 @@ fn end_of(answer: &Result<Answer, SearchFault>, delay: u64) -> End {
     }
 }
 
-/// How a search of these pairs by so many workers ends.
+/// How a search of these pairs by that many workers ends.
 fn searched<P: Prober + Sync, R: Threads + Wait + Sync + Abort>(
     rt: &R,
     alloc: Global,
@@ -84,7 +84,7 @@ fn refused_once(rt: HostRuntime) -> Result<(), Fail> {
     Ok(())
 }
 
-/// Searches by so many workers, and again where memory was refused: whether it is exact then.
+/// Searches by that many workers, and again where memory was refused: whether it is exact then.
 fn again<R: Threads + Wait + Sync + Abort>(
     rt: &R,
     alloc: Global,

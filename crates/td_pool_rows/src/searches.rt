@@ -14,7 +14,7 @@ use std::thread::Threads;
 use td_pool::Deck;
 use td_search::Own;
 
-/// What a search by so many workers comes to, and how many pairs were measured.
+/// What a search by that many workers comes to, and how many pairs it measured.
 fn counted<R: Threads + Wait + Sync + Abort>(
     rt: &R,
     alloc: Global,
@@ -109,7 +109,7 @@ fn numbers_refused(rt: HostRuntime) -> Result<(), Fail> {
     Ok(())
 }
 
-/// Decks for so many workers that count the numbers that they give.
+/// Decks for that many workers. They count the numbers that they give.
 fn counting<'a>(
     alloc: Global,
     workers: usize,

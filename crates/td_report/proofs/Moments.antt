@@ -77,7 +77,8 @@ module _ (word : List ℕ) (place : ℕ) (done : List ℕ) (number : Option ℕ)
   next_is : place < length word → read_on done number (get_or word place 0 ∷ drop (place + 1) word) ≡ read_on [] None word
   next_is inside = ap (read_on done number) (sym (drop_more word place 0 inside)) ∙ read.same
 
-  -- a comma behind no digit, another character, and an end behind no digit stop it
+  -- a comma without a digit before it, another character, and an end without a digit before it stop
+  -- it
   pub stopped_at_comma : place < length word → get_or word place 0 ≡ 44 → number ≡ None → read_on [] None word ≡ None
   stopped_at_comma inside comma none =
       sym (rw (eq-eqb _ _ comma) at (next_is inside))
@@ -221,7 +222,7 @@ not_read word none first others spells =
     let wrong : None ≡ Some (first ∷ others) = sym none ∙ spelled_read word [] first others spells in
     cc
 
--- the word gives no moments for so many inputs: it spells none, or others
+-- the word gives no moments for that many inputs: it spells none, or others
 pub no_moments : (count : ℕ) (word : List ℕ) → ¬ (count ≡ 0) → ((first : ℕ) (others : List ℕ) → ¬ SpellsMoments word (first ∷ others))
     → (moments : List ℕ) → ¬ ((length moments ≡ count) × SpellsMoments word moments)
 no_moments count word some none [] spells = some (sym spells.0)

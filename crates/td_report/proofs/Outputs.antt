@@ -77,7 +77,8 @@ line_added circuit numbering waves long i within initial text new name wave mome
 pub two_pushed : (old front name first new : List ℕ) → first ≡ old ++ front → new ≡ first ++ name → new ≡ old ++ (front ++ name)
 two_pushed old front name first new is_first is_new = rw (is_new, is_first, append_assoc old front name) refl
 
--- a text to which two words were appended in turn, each behind a text, with one between the second and what comes behind it
+-- a text to which two words were appended in turn, each after a text, with one between the second
+-- word and what comes after it
 pub two_words_pushed : (old a b c d e f first second new : List ℕ) → first ≡ old ++ (a ++ b) → second ≡ first ++ ((c ++ d) ++ e)
     → new ≡ second ++ f → new ≡ old ++ (a ++ ((((b ++ c) ++ d) ++ e) ++ f))
 two_words_pushed old a b c d e f first second new is_first is_second is_new =

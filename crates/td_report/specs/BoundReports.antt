@@ -38,7 +38,7 @@ pub record IsSoundBound (domain : BoundedBy) (setting : Setting) (cube : List Tr
   pub is : IsBoundBy domain setting cube bound
   pub sound : (moment : ℕ) → bound ≡ Some moment → IsUpperBoundIn setting cube moment
 
--- behind the report there are the bounds of the cube by edges, alone and with possible levels
+-- after the report come the bounds of the cube by edges, alone and with possible levels
 pub record EndsWithEdges (setting : Setting) (cube : List Trit) (report whole : List ℕ) : Type 0 where
   pub alone : Option ℕ
   pub together : Option ℕ

@@ -34,7 +34,7 @@ abbrev pub ending_of : Verdict → Status
 ending_of Accepted = status.Done
 ending_of other = status.Rejected
 
--- what is told of a certificate with this verdict
+-- the text for a certificate with this verdict
 abbrev pub verdict_text : Certificate → Verdict → List ℕ
 verdict_text certificate Accepted = accepted_text certificate
 verdict_text certificate other = refused_text other

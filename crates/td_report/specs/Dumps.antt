@@ -20,7 +20,7 @@ dump_files (Some dump) = file_of dump ∷ []
 abbrev pub HasRun : Dump → Type 0
 HasRun dump = IsRunFor dump.circuit dump.run
 
--- a dump's fault, told as a file's
+-- a dump's fault, as a fault of a file
 abbrev pub fault_of : VcdFault → WriteFault
 fault_of undumped.OutOfMemory = unwritten.OutOfMemory
 fault_of undumped.Device = unwritten.Device

@@ -47,39 +47,42 @@ status_of (refusal.NotJoined fault one other) = Rejected
 status_of refusal.TooLong = Rejected
 status_of reason = Refused
 
--- a line was told: all of it went out, or the writer failed behind a beginning of it
+-- a line was written: all of it went out, or the writer failed after a beginning of it
 abbrev pub Tells : Output → Output → List ℕ → Type 0
 Tells old new line = Sent old new line ⊎ Failed old new line
 
--- the name by which a file that is written is told: `-` is standard output
+-- the name of a written file in messages: `stdout` for `-`
 abbrev pub IsWrittenAs : List ℕ → List ℕ → Type 0
 IsWrittenAs name told = ((name ≢ codes "-") × (told ≡ name)) ⊎ ((name ≡ codes "-") × (told ≡ codes "stdout"))
 
--- it was told that a file can't be written; want of memory may be told in place of a device's failure
+-- a line says that a file can't be written; in place of a device's failure it may say that memory
+-- ran out
 abbrev pub TellsUnwritten : List ℕ → WriteFault → Output → Output → Type 0
 TellsUnwritten name fault old new =
     ((fault ≡ unwritten.Device) × ((word : List ℕ) × IsWrittenAs name word × Tells old new (unwritten_text word)))
     ⊎ Tells old new (refusal_text refusal.OutOfMemory)
 
--- a reason was told, or want of memory in its place
+-- a line gives a reason, or says in its place that memory ran out
 pub record TellsReason (reason : Refusal) (status : Status) (old new : Output) : Type 0 where
   pub told : Refusal
   pub which : (told ≡ reason) ⊎ (told ≡ refusal.OutOfMemory)
   pub tells : Tells old new (refusal_text told)
   pub ends : status ≡ status_of told
 
--- it was told that this file can't be read, or want of memory
+-- a line says that this file can't be read, or that memory ran out
 abbrev pub TellsUnread : Bor (List ℕ) → ReadFault → Status → Output → Output → Type 0
 TellsUnread file unread.OutOfMemory = TellsReason refusal.OutOfMemory
 TellsUnread file unread.Device = TellsReason (refusal.Unreadable file)
 
--- a report went out, with this ending; or standard output failed behind a beginning of it, which was told
+-- a report went out, with this ending; or standard output failed after a beginning of it, and a
+-- line says so
 abbrev pub Says : List ℕ → Status → Status → Streams → Streams → Type 0
 Says report ending status old new =
     (Sent old.out new.out report × (new.err ≡ old.err) × (status ≡ ending))
     ⊎ (Failed old.out new.out report × Tells old.err new.err (unwritten_text (codes "stdout")) × (status ≡ Device))
 
--- some of the files were written, the next was not, which was told, and those after it were not begun
+-- some of the files were written, the next was not, and a line says so; those after it were not
+-- begun
 pub record LosesOne (files : List FileText) (breaks : List ℕ → Type 0) (steps : List FileStep) (old new : Output) : Type 0 where
   pub before : List FileText
   pub lost : FileText
@@ -104,7 +107,8 @@ module _ (IsProduct : Product → Type 0) (Holds : Refusal → Type 0) (breaks :
     pub silent : new.err ≡ old.err
     pub ends : status ≡ product.ending
 
-  -- Nothing went out, and it was told why, for a reason that holds. Want of memory may be told in place of any.
+  -- Nothing went out, and a line says why, for a reason that holds. In place of any reason it may
+  -- say that memory ran out.
   pub record Refuses : Type 0 where
     pub reason : Refusal
     pub why : reason ≢ refusal.OutOfMemory → Holds reason
@@ -113,7 +117,7 @@ module _ (IsProduct : Product → Type 0) (Holds : Refusal → Type 0) (breaks :
     pub no_file : steps ≡ []
     pub ends : status ≡ status_of reason
 
-  -- standard output failed behind a beginning of the report, which was told, and no file was begun
+  -- standard output failed after a beginning of the report, a line says so, and no file was begun
   pub record LosesReport : Type 0 where
     pub product : Product
     pub is : IsProduct product
@@ -134,7 +138,7 @@ module _ (IsProduct : Product → Type 0) (Holds : Refusal → Type 0) (breaks :
   abbrev pub Ends : Type 0
   Ends = Finishes ⊎ (Refuses ⊎ (LosesReport ⊎ LosesFile))
 
--- lines were told on standard error, and behind them the command ended so
+-- lines were written to standard error, and after them the command ended like this
 pub record EndsBehind (Told : Output → Output → Type 0) (IsProduct : Product → Type 0) (Holds : Refusal → Type 0) (breaks : List ℕ → Type 0)
     (steps : List FileStep) (status : Status) (old new : Streams) : Type 0 where
   pub mid : Output

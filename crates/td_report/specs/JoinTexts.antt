@@ -1,4 +1,4 @@
--- How it is told why certificates aren't joined.
+-- The text that says why certificates aren't joined.
 use Rattle.std.specs.Prelude.{ℕ, List, ◌++◌, codes}
 use Rattle.td_join.specs.declared.fault.JoinFault.{JoinFault}
 use Rattle.td_join.specs.declared.fault.JoinFault.TheVariants as fault

@@ -26,7 +26,7 @@ abbrev pub IsOfLoop : BuildFault → Refusal → Type 0
 IsOfLoop build.OutOfMemory refused = refused ≡ refusal.OutOfMemory
 IsOfLoop (build.Loop name) refused = refused ≡ refusal.Loop name
 
--- the refusal tells this fault of a text, or want of memory
+-- the refusal gives this fault of a text, or says that memory ran out
 abbrev pub IsOfFault : Fault → Refusal → Type 0
 IsOfFault fault refused = (refused ≡ refusal.OutOfMemory) ⊎ ((fault.kind ≢ kind.OutOfMemory) × (refused ≡ refusal.Netlist fault))
 
@@ -48,8 +48,8 @@ pub record IsNetlistFault (text : List ℕ) (default : Delay) (fault : Fault) : 
   pub means_none : (netlist : Netlist) → ¬ Means text default netlist
   pub has : IsFaultIn text fault.kind fault.line
 
--- What holds where this is why a command with these words says nothing of a netlist's text: the text is judged first, then the
--- words in turn. Nothing is said of want of memory.
+-- What holds where this is why a command with these words says nothing of a netlist's text: it
+-- judges the text first, then the words in turn. Out of memory says nothing of the text.
 abbrev pub IsRefusedFor : List ℕ → Delay → VectorWords → Refusal → Type 0
 IsRefusedFor text default words refusal.OutOfMemory = Unit {0}
 IsRefusedFor text default words (refusal.Netlist fault) = IsNetlistFault text default fault

@@ -1,4 +1,5 @@
--- What is told of a pair beside a report: the dump of its run, and why it ends when it does.
+-- What a report says of a pair besides its lines: the dump of its run, and why it ends when it
+-- does.
 use Rattle.std.specs.Prelude.{◌≡◌, ℕ, List, [], map, Bool, true, false, Option, Some, None}
 use Rattle.td_gates.specs.Table.{level_from}
 use Rattle.td_gates.specs.Wave.{Wave}

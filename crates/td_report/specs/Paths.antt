@@ -1,4 +1,4 @@
--- Internal: what the functions behind `path` tell, by the numbers of the nets.
+-- Internal: what the functions that `path` calls say, by the numbers of the nets.
 use Rattle.std.specs.Prelude.{◌≡◌, ◌≢◌, ℕ, List, [], ◌∷◌, ◌++◌, codes, decimal, slice_get, Option, Some, None}
 use Rattle.std.specs.List.{flat_map, Contains}
 use Rattle.td_nets.specs.Netlist.{Name, Named}

@@ -9,7 +9,7 @@ use Rattle.td_run.specs.Runs.{NetWaves}
 use Rattle.td_report.specs.Reports.{head_lines}
 use Rattle.td_report.specs.PathReports.{TellsPath}
 
--- the head, and behind it why the output that is asked about changes last when it does
+-- the head, and after it why the output that is asked about changes last when it does
 abbrev pub ReportsPath : Numbered → NetWaves → Option (List ℕ) → List ℕ → Type 0
 ReportsPath circuit run output report =
     (lines : List ℕ) × (report ≡ head_lines circuit.netlist ++ lines) × TellsPath (setting circuit) (net_wave (nets circuit) run.waves) output lines

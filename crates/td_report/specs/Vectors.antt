@@ -21,7 +21,7 @@ level_character level.Zero = 48
 level_character level.One = 49
 level_character level.X = 120
 
--- the word spells a vector of so many symbols
+-- the word spells a vector of `count` symbols
 pub record SpellsVector {S : Type 0} (character : S → ℕ) (count : ℕ) (word : List ℕ) (symbols : List S) : Type 0 where
   pub fits : length symbols ≡ count
   pub spells : word ≡ vector_text character symbols
@@ -54,27 +54,28 @@ SpellsMoments word (moment ∷ []) = SpellsMoment word moment
 SpellsMoments word (moment ∷ next ∷ others) =
     (digits rest : List ℕ) × (word ≡ digits ++ 44 ∷ rest) × SpellsMoment digits moment × SpellsMoments rest (next ∷ others)
 
--- so many moments, which the word of an option spells, all of them 0 where the option is left out
+-- `count` moments, which the word of an option spells, all of them 0 where the option is left out
 abbrev pub AreMomentsOf : ℕ → Option (List ℕ) → List ℕ → Type 0
 AreMomentsOf count None moments = moments ≡ replicate count 0
 AreMomentsOf count (Some word) moments = (length moments ≡ count) × SpellsMoments word moments
 
 -- ---- words that give nothing
 
--- the words of a command that give something for each input, each with what it is for so many inputs to be given
+-- the words of a command that give something for each input, each with what it has to meet for a
+-- number of inputs
 abbrev pub VectorWords : Type 1
 VectorWords = List (VectorWord × (ℕ → Type 0))
 
--- the first of the words that gives nothing for so many inputs
+-- the first of the words that gives nothing for `count` inputs
 abbrev pub IsFirstBad : ℕ → VectorWords → VectorWord → Type 0
 IsFirstBad count [] word = ⊥
 IsFirstBad count (given ∷ others) word = ((word ≡ given.0) × ¬ given.1 count) ⊎ (given.1 count × IsFirstBad count others word)
 
--- the word spells a level for each of so many inputs
+-- the word spells a level for each of `count` inputs
 abbrev pub SpellsLevels : List ℕ → ℕ → Type 0
 SpellsLevels word count = (levels : List Level) × SpellsVector level_character count word levels
 
--- the option gives trits, a mask or moments for so many inputs
+-- the option gives trits, a mask or moments for `count` inputs
 abbrev pub GivesTrits : Option (List ℕ) → ℕ → Type 0
 GivesTrits word count = (trits : List Trit) × AreTrits count word trits
 

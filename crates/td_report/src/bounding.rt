@@ -159,7 +159,7 @@ fn push_edges(text: &mut Text, bounds: EdgeBounds) -> Result<(), AllocError>
     report::bound(text, b"n", bounds.together)
 }
 
-/// The report, and behind it the bounds by edges where they are asked for.
+/// The report, and after it the bounds by edges where they are asked for.
 fn with_edges(
     alloc: Global,
     circuit: &Circuit,

@@ -11,7 +11,8 @@ use std::alloc::{AllocError, Global};
 use td_circuit::Circuit;
 use td_domain::Pair;
 
-/// The report, and behind it the changes that lead to the last change of the pair's run, where they are asked for.
+/// The report. After it come the changes that lead to the last change of the pair's run, where they
+/// are asked for.
 pub fn with_chain(
     alloc: Global,
     circuit: &Circuit,

@@ -84,7 +84,7 @@ pub fn pair_dump<'a>(
     Ok(Some(Dump { name, circuit, run }))
 }
 
-/// A fault of a dump, told as a file's.
+/// A fault of a dump, as a fault of a file.
 fn fault_of(fault: VcdFault) -> WriteFault
     ensures { result ≡ fault_of fault }
 {

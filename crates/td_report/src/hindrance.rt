@@ -1,4 +1,4 @@
-//! How it is told why certificates aren't joined.
+//! The text that says why certificates aren't joined.
 
 ghost use Rattle.std.specs.Prelude.{◌≡◌, ◌++◌, [], OnOk, get_or, map};
 ghost use Rattle.td_report.specs.JoinTexts.{first_place, second_place, two_text, one_text, gap_text, unjoined_text};

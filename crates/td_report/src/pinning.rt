@@ -19,7 +19,7 @@ fn character(bit: Trit) -> &'static [u8]
     }
 }
 
-/// The position of an input's second bit behind that of its first, or of its first.
+/// The position of an input's second bit, or of its first, counted from its first.
 fn side(second: bool) -> usize
     ensures { result ≡ (if second then 1 else 0) }
 {

@@ -1,4 +1,4 @@
-//! Why a command was not carried out, and how that is told.
+//! Why a command was not carried out, and the text that says so.
 
 ghost use Rattle.std.specs.Prelude.{◌≡◌, ◌++◌, codes, OnOk};
 ghost use Rattle.td_report.specs.Refusals.{vector_word, number_and_name, token_text, fault_text, certificate_fault_text, unreadable_text, one_file_text, loop_text, certificate_text, bad_vector_text, too_long_text, bad_part_text, unaccepted_text, other_circuit_text, reason_text, refusal_text};

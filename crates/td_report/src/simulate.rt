@@ -132,7 +132,7 @@ pub fn circuit<'a>(alloc: Global, text: &'a [u8], default: Delay) -> Result<Circ
     }
 }
 
-/// The refusal of a netlist with a loop, or want of memory.
+/// The refusal of a netlist with a loop, or out of memory.
 fn looped<'a>(fault: BuildFault) -> Refusal<'a>
     ensures { IsOfLoop fault result }
 {
@@ -142,7 +142,7 @@ fn looped<'a>(fault: BuildFault) -> Refusal<'a>
     }
 }
 
-/// The refusal of a netlist's text, or want of memory.
+/// The refusal of a netlist's text, or out of memory.
 fn refused<'a>(fault: Fault<'a>) -> Refusal<'a>
     ensures { IsOfFault fault.entry result }
 {

@@ -68,7 +68,7 @@ impl Text {
         Ok(())
     }
 
-    /// Appends bytes and a word behind them.
+    /// Appends bytes and a word after them.
     pub fn word_behind(&mut self, front: &[u8], word: &str) -> Result<(), AllocError>
         ensures { OnOk result (self.new ≡ self.old ++ (front.now ++ word.now)) }
     {
@@ -89,7 +89,7 @@ impl Text {
         self.push(behind)
     }
 
-    /// Appends bytes and a number behind them.
+    /// Appends bytes and a number after them.
     pub fn number_behind(&mut self, front: &[u8], number: u64) -> Result<(), AllocError>
         ensures { OnOk result (self.new ≡ self.old ++ (front.now ++ decimal number)) }
     {

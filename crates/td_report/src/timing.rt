@@ -49,7 +49,7 @@ fn spelled(alloc: Global, word: &[u8]) -> Result<Option<Vec<u64>>, AllocError>
     Ok(Some(moments))
 }
 
-/// The moments for so many inputs that a word spells.
+/// The moments for that many inputs that a word spells.
 fn moments_in(alloc: Global, word: &str, count: usize) -> Result<Option<Vec<u64>>, AllocError>
     ensures some { IfOk result (λ found. IfSome found (λ moments. AreMomentsOf count (Some word.now) moments.items)) }
     ensures none { IfOk result (λ found. IfNone found ((moments : List ℕ) → ¬ AreMomentsOf count (Some word.now) moments)) }
@@ -71,7 +71,8 @@ fn moments_in(alloc: Global, word: &str, count: usize) -> Result<Option<Vec<u64>
     }
 }
 
-/// The moments for so many inputs that the word of an option spells, all of them 0 where the option is left out.
+/// The moments for that many inputs that the word of an option spells. All are 0 where the option
+/// is left out.
 pub fn moments(
     alloc: Global,
     word: Option<&str>,

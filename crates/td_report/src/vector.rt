@@ -82,7 +82,8 @@ fn symbols<S: Symbol>(alloc: Global, word: &[u8]) -> Result<Option<Vec<S>>, Allo
     Ok(Some(symbols))
 }
 
-/// The vector for so many inputs that a word spells: a character for each, or the word `none` where there are none.
+/// The vector for that many inputs that a word spells: a character for each input, or the word
+/// `none` where there are none.
 pub fn vector<S: Symbol>(
     alloc: Global,
     word: &str,
@@ -104,7 +105,7 @@ pub fn vector<S: Symbol>(
     }
 }
 
-/// So many symbols, each of them this one.
+/// That many symbols, each of them this one.
 fn repeated<S: Symbol + Copy>(alloc: Global, symbol: S, count: usize) -> Result<Vec<S>, AllocError>
     ensures { IfOk result (λ symbols. symbols.items ≡ replicate count symbol) }
 {
@@ -115,7 +116,8 @@ fn repeated<S: Symbol + Copy>(alloc: Global, symbol: S, count: usize) -> Result<
     Ok(symbols)
 }
 
-/// The symbols for so many inputs that the word of an option spells, each of them this one where the option is left out.
+/// The symbols for that many inputs that the word of an option spells. Each is this one where the
+/// option is left out.
 pub fn given<S: Symbol + Copy>(
     alloc: Global,
     word: Option<&str>,

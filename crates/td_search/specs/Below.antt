@@ -1,4 +1,4 @@
--- Internal: what is split and closed below a leaf before the book is told.
+-- Internal: what is split and closed below a leaf before the book knows of it.
 use Rattle.std.specs.Prelude.{◌≡◌, ◌<◌, ◌≤◌, ◌⊎◌, ◌++◌, ℕ, List, [], ◌∷◌, length, map, vec_capacity}
 use Rattle.std.specs.List.{AllByRecursion}
 use Rattle.td_domain.specs.declared.cubes.Trit.{Trit}

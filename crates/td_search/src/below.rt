@@ -1,4 +1,4 @@
-//! What is split and closed below a leaf before a book is told.
+//! What is split and closed below a leaf before a book knows of it.
 
 ghost use Rattle.std.specs.Prelude.{◌≡◌, ◌↔◌, false, List, IsTrue, IfOk, MatchOption};
 ghost use Rattle.td_domain.specs.declared.cubes.Trit.{Trit};
@@ -21,7 +21,8 @@ pub struct Below {
 }
 
 impl Below {
-    /// The root alone, open. All room that the lease's allowance needs is taken here. The error is want of memory.
+    /// The root alone, open. Takes all room that the lease's allowance needs. The error is out of
+    /// memory.
     pub fn new(alloc: Global, problem: &Problem<'_>, lease: &Lease) -> Result<Below, AllocError>
         requires { IsWithin (problem_of problem.now) lease.now.cube }
         ensures { IfOk result (IsBelow (problem_of problem.now) lease.now) }

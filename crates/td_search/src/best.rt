@@ -30,7 +30,7 @@ impl Model for Best {
 }
 
 impl Best {
-    /// Room for pairs with so many bits in each vector, at time 0. The error is want of memory.
+    /// Room for pairs with that many bits in each vector, at time 0. The error is out of memory.
     pub fn new(alloc: Global, inputs: usize) -> Result<Self, AllocError>
         ensures time { IfOk result (λ best. best.time ≡ 0) }
         ensures first { IfOk result (λ best. length best.pair.first ≡ inputs) }
@@ -83,7 +83,7 @@ impl Best {
         self.time = timed.time;
     }
 
-    /// A copy of the pair, with its delay. The error is want of memory.
+    /// A copy of the pair, with its delay. The error is out of memory.
     pub fn timed(&self, alloc: Global) -> Result<Timed, AllocError>
         ensures time { IfOk result (λ timed. timed.time ≡ self.now.time) }
         ensures pair { IfOk result (λ timed. timed.pair ≡ self.now.pair) }

@@ -72,8 +72,8 @@ impl Search {
         worked
     }
 
-    // Splits and closes below a leaf, depth first, zero side first, until nothing is left there or the allowance is used up. The book is
-    // told nothing. The error is out of memory.
+    // Splits and closes below a leaf, depth first, zero side first, until nothing is left there or
+    // the allowance is used up. The book learns nothing of it. The error is out of memory.
     fn work_below<R: Rule>(
         &mut self,
         task: &Task<'_, R>,

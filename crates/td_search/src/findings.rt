@@ -37,7 +37,7 @@ pub struct Trail {
 }
 
 impl Trail {
-    /// A trail of a tree with so many nodes. The error is want of memory.
+    /// A trail of a tree with that many nodes. The error is out of memory.
     pub fn new(alloc: Global, evidence: Vec<Evidence>, nodes: usize) -> Result<Trail, AllocError>
         ensures { IfOk result (λ trail. trail.evidence.items ≡ evidence.items) }
     {

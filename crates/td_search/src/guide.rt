@@ -17,7 +17,7 @@ pub struct Guide {
 }
 
 impl Guide {
-    /// The guide of a circuit, with the sheet of a cube. The error is want of memory.
+    /// The guide of a circuit, with the sheet of a cube. The error is out of memory.
     pub fn new(alloc: Global, circuit: &Circuit, cube: &Cube) -> Result<Guide, AllocError>
         requires { length cube.now ≡ 2 * length circuit.now.netlist.inputs }
         ensures guide { IfOk result (IsGuide circuit.now) }

@@ -29,8 +29,8 @@ use td_edges::{Edges, Signal};
 use td_gates::Level;
 use td_ternary::Possible;
 
-/// What is to be done with a cube under a cut: it is closed where edges, possible levels, or both at once have a bound that is at
-/// most the cut. Else it is split, or measured. The error is want of memory.
+/// What to do with a cube under a cut. It is closed where edges, possible levels, or both at once
+/// have a bound that is at most the cut. Else it is split, or measured. The error is out of memory.
 pub fn next_step(
     alloc: Global,
     scratch: &mut Scratch,
@@ -49,7 +49,8 @@ pub fn next_step(
     step
 }
 
-/// The strongest domain's bound of a cube, which with `lead` has edges. The error is want of memory.
+/// The strongest domain's bound of a cube. With `lead` that domain has edges. The error is out of
+/// memory.
 pub fn strongest_with_edges(
     alloc: Global,
     scratch: &mut Scratch,
@@ -68,7 +69,7 @@ pub fn strongest_with_edges(
     bound
 }
 
-/// The bound of a cube by edges, 0 where there is none. The error is want of memory.
+/// The bound of a cube by edges, 0 where there is none. The error is out of memory.
 pub fn edges_bound(
     alloc: Global,
     scratch: &mut Scratch,
@@ -87,7 +88,7 @@ pub fn edges_bound(
     Ok(bound)
 }
 
-/// The guide that is there, taken out, or a new one. The error is want of memory.
+/// The guide that is there, taken out, or a new one. The error is out of memory.
 fn taken_guide(
     alloc: Global,
     circuit: &Circuit,
@@ -173,8 +174,9 @@ pub fn bound_with_edges(circuit: &Circuit, edges: &Sheet<Edges>, possible: &Shee
     bound_together(circuit, edges, possible).unwrap_or(0)
 }
 
-/// The first output that changes last by edges, and the bound of the sheet's cube by them, where that output has no known level behind it.
-/// Then possible levels know no last moment of it, and the bound is the strongest domain's.
+/// The first output that changes last by edges, and the bound of the sheet's cube by them, where
+/// that output has no known level after that change. Then possible levels know no last moment of
+/// it, and the bound is the strongest domain's.
 fn open_output(circuit: &Circuit, edges: &Sheet<Edges>) -> Option<(u32, u64)>
     requires sheet { IsSheet edge_functions (λ signal. span_reach signal.changes) circuit.now edges.now }
     ensures output { IfSome result (λ found. found.0 < length (nets circuit.now)) }
@@ -187,7 +189,8 @@ fn open_output(circuit: &Circuit, edges: &Sheet<Edges>) -> Option<(u32, u64)>
     Some((output, bound))
 }
 
-/// The first of some nets that may change last at this moment, if it has no known level behind it.
+/// The first of some nets that may change last at this moment, if it has no known level after that
+/// change.
 fn open_end(signals: &[Signal], nets: &[u32], moment: u64) -> Option<u32>
     requires { All (λ net. net < length signals.now) nets.now }
     ensures net { IfSome result (λ net. net < length signals.now) }

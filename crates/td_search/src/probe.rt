@@ -18,8 +18,9 @@ pub struct Probe {
     pub bound: u64,
 }
 
-/// A bound of a cube that is at most the cut where one of the domains has such a bound, asked in the order of what they cost.
-/// Else the strongest domain's bound. The error is want of memory.
+/// A bound of a cube: one that is at most the cut where one of the domains has such a bound, else
+/// the strongest domain's. Asks the domains in the order of what they cost. The error is out of
+/// memory.
 pub fn probe_of(
     alloc: Global,
     sheets: &mut Sheets,

@@ -21,12 +21,12 @@ pub trait Prober {
     /// The scratch was made for this circuit.
     ghost is_for: { Self.Scratch → Numbered → Type 0 };
 
-    /// A scratch for this circuit. The error is want of memory.
+    /// A scratch for this circuit. The error is out of memory.
     fn scratch(&self, alloc: Global, circuit: &Circuit) -> Result<Self::Scratch, AllocError>
         ensures { IfOk result (λ scratch. is_for scratch circuit.now) };
 
-    /// A bound of a cube by some domain, by the strongest one where it is above the cut. The error is want of memory, and the
-    /// scratch may be used again.
+    /// A bound of a cube by some domain. Where it is above the cut, it is the strongest domain's.
+    /// The error is out of memory, and the scratch may be used again.
     fn bound(
         &self,
         scratch: &mut Self::Scratch,
@@ -40,7 +40,7 @@ pub trait Prober {
         ensures probe { IfOk result (IsProbe (setting circuit.now) cube.now cut) }
         ensures scratch { is_for scratch.new circuit.now };
 
-    /// The delay of a pair, in steps. The error is want of memory, and the scratch may be used again.
+    /// The delay of a pair, in steps. The error is out of memory, and the scratch may be used again.
     fn measure(
         &self,
         scratch: &mut Self::Scratch,

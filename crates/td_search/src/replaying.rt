@@ -226,7 +226,7 @@ impl Search {
         Ok(1)
     }
 
-    // The leaf of this number, where one is told, for a node that was split or closed.
+    // The leaf of this number, where one is given, for a node that was split or closed.
     fn lease_again(
         &mut self,
         problem: &Problem<'_>,

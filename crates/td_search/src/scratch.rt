@@ -22,7 +22,7 @@ pub struct Scratch {
 }
 
 impl Scratch {
-    /// The scratch of a circuit, with the sheets of a cube. The error is want of memory.
+    /// The scratch of a circuit, with the sheets of a cube. The error is out of memory.
     pub fn new(alloc: Global, circuit: &Circuit, cube: &Cube) -> Result<Scratch, AllocError>
         requires { length cube.now ≡ 2 * length circuit.now.netlist.inputs }
         ensures scratch { IfOk result (IsScratch circuit.now) }

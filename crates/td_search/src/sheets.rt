@@ -27,7 +27,7 @@ pub struct Sheets {
 }
 
 impl Sheets {
-    /// The sheets of a cube. The error is want of memory.
+    /// The sheets of a cube. The error is out of memory.
     pub fn new(alloc: Global, circuit: &Circuit, cube: &Cube) -> Result<Sheets, AllocError>
         requires { length cube.now ≡ 2 * length circuit.now.netlist.inputs }
         ensures sheets { IfOk result (AreSheets circuit.now) }
@@ -40,7 +40,7 @@ impl Sheets {
         })
     }
 
-    /// Takes both sheets to a cube and answers the strongest domain's bound of it. The error is want of memory.
+    /// Takes both sheets to a cube and answers the strongest domain's bound of it. The error is out of memory.
     pub fn strongest_of(
         &mut self,
         alloc: Global,
@@ -70,7 +70,7 @@ impl Sheets {
     }
 }
 
-/// The strongest domain's bound of a cube, in steps. The error is want of memory.
+/// The strongest domain's bound of a cube, in steps. The error is out of memory.
 pub fn strongest_bound(alloc: Global, circuit: &Circuit, cube: &Cube) -> Result<u64, AllocError>
     requires { length cube.now ≡ 2 * length circuit.now.netlist.inputs }
     ensures bound { IfOk result (λ bound. IsBoundBy Both (setting circuit.now) cube.now (Some bound)) }
@@ -79,8 +79,9 @@ pub fn strongest_bound(alloc: Global, circuit: &Circuit, cube: &Cube) -> Result<
     Ok(Sheets::new(alloc, circuit, cube)?.strongest(circuit))
 }
 
-/// The bound of a sheet's cube by arrival windows, where an output that may change as late as that has no known level behind it. Then
-/// possible levels know no last moment of that output, and the bound is the strongest domain's.
+/// The bound of a sheet's cube by arrival windows, where an output that may change as late as that
+/// has no known level after that change. Then possible levels know no last moment of that output,
+/// and the bound is the strongest domain's.
 pub fn open_bound(circuit: &Circuit, arrival: &Sheet<Arrival>) -> Option<u64>
     requires sheet { IsSheet arrival_functions (λ signal. span_reach signal.changes) circuit.now arrival.now }
     ensures bound { IfSome result (λ bound. IsBoundBy Both (setting circuit.now) arrival.now.cube (Some bound)) }
@@ -95,7 +96,8 @@ pub fn open_bound(circuit: &Circuit, arrival: &Sheet<Arrival>) -> Option<u64>
     }
 }
 
-/// Whether one of some nets may change last at this moment, and has no known level behind it.
+/// Whether one of some nets may change last at this moment, and has no known level after that
+/// change.
 fn has_open_end(signals: &[Signal], nets: &[u32], moment: u64) -> bool
     requires { All (λ net. net < length signals.now) nets.now }
     ensures { result ≡ true → HasOpenEnd arrival_last_of (λ signal. signal.finish) signals.now nets.now moment }
@@ -109,8 +111,8 @@ fn has_open_end(signals: &[Signal], nets: &[u32], moment: u64) -> bool
     false
 }
 
-/// The bound of a cube by the domain of a sheet, which is taken there, where the domain has one that is at most the cut. The
-/// error is want of memory.
+/// The bound of a cube by the domain of a sheet, where the domain has one that is at most the cut.
+/// Takes the sheet to the cube. The error is out of memory.
 pub fn bound_within<D: Domain>(
     alloc: Global,
     circuit: &Circuit,

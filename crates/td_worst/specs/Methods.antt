@@ -18,8 +18,9 @@ tree_of method.Auto = strategy.Least
 tree_of method.Lead = strategy.Lead
 tree_of method.Refute = strategy.Lead
 
--- The pair is admitted and has the lower figure, and no admitted pair has a delay above the upper one, so the worst delay lies
--- between the two. The trees that were searched had at most so many nodes as the budget says.
+-- The pair is admitted and has the lower figure, and no admitted pair has a delay above the upper
+-- one, so the worst delay lies between the two. The trees that were searched had at most as many
+-- nodes as the budget says.
 pub record IsBounded (asked : Problem) (budget low high : ℕ) (pair : Pair) (nodes : ℕ) : Type 0 where
   pub reached : has_delay asked pair low
   pub greatest : IsUpperBound asked.setting asked.admit high

@@ -73,8 +73,8 @@ impl Standing {
     }
 }
 
-/// What a refutation makes of an answer, of which nothing is to be made where it is exact. The solver meets at most so many
-/// conflicts as the budget says. Where memory runs out, what was known stands.
+/// What a refutation makes of an answer. An exact answer stays as it is. The solver meets at most
+/// as many conflicts as the budget says. Where memory runs out, what was known stands.
 pub fn refuted_further(alloc: Global, problem: &Problem<'_>, known: Answer, budget: u64) -> Answer
     requires some { 0 < budget }
     requires known { IsOutcome (problem_of problem.now) budget known }

@@ -24,9 +24,9 @@ const FIRST_NODES: u64 = 10_000;
 /// How many nodes of a tree as `Lead` has it `Auto` handles at most.
 const SECOND_NODES: u64 = 50_000;
 
-/// Searches for the worst delay of the admitted pairs of a circuit, by a method. The pairs are of the circuit's inputs. Trees have
-/// at most so many nodes as the budget of the effort says, and a solver meets at most so many conflicts. The watch is told how
-/// far a tree has come.
+/// Searches for the worst delay of the admitted pairs of a circuit, by a method. The pairs are of
+/// the circuit's inputs. Trees have at most as many nodes as the budget of the effort says, and a
+/// solver meets at most that many conflicts. The watch gets the progress of a tree.
 ///
 /// # Errors
 ///
@@ -46,7 +46,7 @@ pub fn worst<W: Watch, R: Threads + Wait + Sync>(
     // The certificate of an exact answer has a text within the limit.
     ensures text { IfOk result (CanBeWritten (problem_by (tree_of method) circuit.now admit.now)) }
     ensures fault { IfErr result (IsSearchFault (problem_by (tree_of method) circuit.now admit.now)) }
-    // All that the watch was told is true of what is asked.
+    // All progress that the watch got is true of what is asked.
     ensures told { W.told (problem_by (tree_of method) circuit.now admit.now) watch.old watch.new }
 {
     match method {
@@ -130,7 +130,8 @@ fn by_all<W: Watch, R: Threads + Wait + Sync>(
     Ok(refuted_further(alloc, &problem, known, effort.budget))
 }
 
-// How many nodes of so many the second tree handles: all of them where flips are limited, of which a refutation knows nothing.
+// How many of the remaining nodes the second tree handles: all of them where flips are limited,
+// since a refutation knows nothing of flips.
 fn second_nodes(circuit: &Circuit, admit: &Admit, rest: u64) -> u64
     ensures { result ≤ rest }
 {

@@ -20,7 +20,7 @@ fn main(rt: HostRuntime) -> ExitCode {
             let mut files = RealFiles::new(&rt);
             let mut out = WriterSink::new(rt.stdout());
             let status = run(&rt, alloc, words, &mut files, &mut out, &mut err);
-            // Hints stand behind all that the run wrote.
+            // Hints stand after all that the run wrote.
             if asks_hints(words) {
                 advise(
                     alloc,
