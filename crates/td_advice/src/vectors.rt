@@ -99,7 +99,7 @@ fn for_each(text: &mut Text, circuit: &Circuit) -> Result<(), AllocError> {
             return text.push(b" ..");
         }
         text.push(b" ")?;
-        text.name(circuit.name(input + 2))?;
+        text.name(circuit.name(circuit.net_of_input(input) as usize))?;
     }
     Ok(())
 }

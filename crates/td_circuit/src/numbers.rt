@@ -6,15 +6,15 @@ ghost use Rattle.std.specs.Prelude.{◌≡◌, ◌+◌, ◌^◌, ◌<◌, ◌≤
 /// outputs of the gates in topological order.
 pub type Net = u32;
 
-/// How many nets come before the first input.
-const CONSTANTS: u32 = 2;
+/// The net of the first input. The two constants come before it.
+pub const FIRST_INPUT: Net = 2;
 
 /// The net of an input, by its place.
 pub fn net_of_input(input: u32) -> Net
     requires { input + 2 < 2 ^ 32 }
     ensures { result ≡ input + 2 }
 {
-    input + CONSTANTS
+    input + FIRST_INPUT
 }
 
 /// The net of the first gate's output, where there are so many inputs.
@@ -22,5 +22,5 @@ pub fn first_gate(inputs: usize) -> Net
     requires { inputs ≤ 4096 }
     ensures { result ≡ inputs + 2 }
 {
-    inputs as u32 + CONSTANTS
+    inputs as u32 + FIRST_INPUT
 }

@@ -7,7 +7,7 @@ use crate::rooms::Rooms;
 use crate::targets::Targets;
 use crate::waves::{Event, Waves};
 use std::alloc::{AllocError, Global};
-use td_circuit::{Circuit, Gate};
+use td_circuit::{Circuit, FIRST_INPUT, Gate};
 
 /// How many events the gates of a circuit may read in one simulation, since they may double from
 /// gate to gate. This number takes some 0.2 s. In a circuit of 200,000 gates, it is 40 events at
@@ -77,8 +77,9 @@ impl Lanes {
         self.rooms.write(1, u64::MAX, 0, u64::MAX)?;
         for (input, moment) in circuit.moments().iter().enumerate() {
             let (first, second) = pairs.words(input);
+            let net = input.saturating_add(FIRST_INPUT as usize);
             self.rooms
-                .write(input.saturating_add(2), first, *moment, second)?;
+                .write(net, first, *moment, second)?;
         }
         Ok(())
     }

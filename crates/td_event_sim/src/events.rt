@@ -15,6 +15,7 @@ use crate::logic::Logic;
 use crate::queue::Queue;
 use crate::rules::Tally;
 use std::alloc::{AllocError, Global};
+use td_circuit::FIRST_INPUT;
 use td_gates::Level;
 
 /// The events of the nets of a circuit: at most one of each net, which turns its level.
@@ -81,7 +82,7 @@ impl Events {
         self.whens.fill(NEVER);
         for (input, level) in first.iter().enumerate() {
             let when = input_event(*level, second[input], moments[input]);
-            self.schedule((input + 2) as u32, when)?;
+            self.schedule((input + FIRST_INPUT as usize) as u32, when)?;
         }
         Ok(())
     }

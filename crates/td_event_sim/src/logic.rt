@@ -12,7 +12,7 @@ ghost use Rattle.td_event_sim.specs.Settling.{AreFirst, AreSettled};
 use crate::counts::{count, recount};
 use crate::rules::{Tally, tallies};
 use std::alloc::{AllocError, Global};
-use td_circuit::Circuit;
+use td_circuit::{Circuit, FIRST_INPUT};
 
 /// The levels of the nets of a circuit, and the tallies of its gates.
 #[derive(Drop)]
@@ -31,7 +31,7 @@ fn first_levels(levels: &mut [bool], vector: &[bool])
     levels[0] = false;
     levels[1] = true;
     for (i, level) in vector.iter().enumerate() {
-        levels[i + 2] = *level;
+        levels[i + FIRST_INPUT as usize] = *level;
     }
 }
 
@@ -46,7 +46,7 @@ pub fn settle(levels: &mut [bool], tallies: &mut [Tally], circuit: &Circuit, vec
     ensures rules { rules_of tallies.new ≡ rules_of tallies.old }
 {
     let gates = circuit.gates();
-    let first_output = vector.len() + 2;
+    let first_output = vector.len() + FIRST_INPUT as usize;
     first_levels(levels, vector);
     for (place, gate) in gates.iter().enumerate() {
         let count = count(levels, &gate.inputs);

@@ -5,7 +5,7 @@ use crate::rows::{level_of, row_count, strongest_row, target_of};
 use crate::table::small;
 use crate::variables::WireVariable;
 use std::alloc::AllocError;
-use td_circuit::{Circuit, Gate};
+use td_circuit::{Circuit, FIRST_INPUT, Gate};
 use td_solver::{ClauseNumber, Outcome};
 
 /// What became of a question: the clauses show that the net can't change so, by the lemma with a
@@ -54,7 +54,7 @@ impl Formula {
 
     /// The bit that the last model gives an input before its moment, or from there on.
     pub fn bit(&self, input: usize, is_second: bool) -> Option<bool> {
-        let net = small(input).saturating_add(2);
+        let net = small(input).saturating_add(FIRST_INPUT);
         let number = if is_second {
             self.sets.count(net, false)
         } else {

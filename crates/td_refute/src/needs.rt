@@ -3,7 +3,7 @@
 use crate::log::{Act, Log};
 use crate::search::Search;
 use std::alloc::{AllocError, Global};
-use td_circuit::{Circuit, Gate};
+use td_circuit::{Circuit, FIRST_INPUT, Gate};
 use td_formula::{Removed, Round, Sets, WireVariable, read, small, write_at};
 use td_gates::Level;
 use td_moments::Directions;
@@ -343,7 +343,7 @@ impl Needs {
             }
             StepKind::Fixed => {
                 let input = first / 2;
-                let net = small(input.saturating_add(2) as usize);
+                let net = small(input as usize).saturating_add(FIRST_INPUT);
                 let moment = read(circuit.moments(), input as usize, 0);
                 let spot = Spot {
                     net,
@@ -442,7 +442,7 @@ impl Needs {
 
 // The gate that drives a net.
 fn gate_of(circuit: &Circuit, net: u32) -> Option<&Gate> {
-    let first_output = circuit.input_count().saturating_add(2);
+    let first_output = circuit.first_gate() as usize;
     match (net as usize).checked_sub(first_output) {
         Some(place) => circuit.gates().get(place),
         None => None,
@@ -451,7 +451,7 @@ fn gate_of(circuit: &Circuit, net: u32) -> Option<&Gate> {
 
 // The net with a number in the order of the netlist.
 fn net_of(circuit: &Circuit, number: u64) -> u32 {
-    let first_output = (circuit.input_count() as u64).saturating_add(2);
+    let first_output = circuit.first_gate() as u64;
     match number.checked_sub(first_output) {
         Some(gate) => read(circuit.gate_outputs(), gate as usize, 0),
         None => small(number as usize),

@@ -96,7 +96,7 @@ impl Told {
         if !variable.is_target {
             return Ok(bit_of(self.level(variable.net, moment)));
         }
-        let first_output = circuit.input_count().saturating_add(2);
+        let first_output = circuit.first_gate() as usize;
         let Some(place) = (variable.net as usize).checked_sub(first_output) else {
             return Ok(Some(false));
         };

@@ -19,7 +19,7 @@ fn ways_of(alloc: Global, circuit: &Circuit) -> Result<Vec<u64>, AllocError> {
     for net in circuit.outputs() {
         write_at(&mut ways, *net as usize, 1);
     }
-    let first_output = circuit.input_count().saturating_add(2);
+    let first_output = circuit.first_gate() as usize;
     let gates = circuit.gates();
     for place in (0..gates.len()).rev() {
         let gate = &gates[place];
@@ -50,7 +50,7 @@ impl Search {
             tries: TRIES,
         };
         let mut open = 0u64;
-        let first_output = asked.circuit().input_count().saturating_add(2);
+        let first_output = asked.circuit().first_gate() as usize;
         for net in first_output..asked.circuit().net_count() {
             let number = small(net);
             self.take_again(asked, number)?;
@@ -78,7 +78,7 @@ impl Search {
     }
 
     fn has_narrowed_input(&self, circuit: &Circuit, net: u32) -> bool {
-        let first_output = circuit.input_count().saturating_add(2);
+        let first_output = circuit.first_gate() as usize;
         let Some(place) = (net as usize).checked_sub(first_output) else {
             return false;
         };

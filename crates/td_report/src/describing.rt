@@ -137,7 +137,8 @@ fn inputs(text: &mut Text, circuit: &Circuit) -> Result<(), AllocError>
 {
     let _gates = circuit.gates();
     for input in 0..circuit.input_count() {
-        place(text, b"input", input, circuit.name(input + 2))?;
+        let net = circuit.net_of_input(input) as usize;
+        place(text, b"input", input, circuit.name(net))?;
     }
     Ok(())
 }
