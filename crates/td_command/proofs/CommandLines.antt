@@ -34,7 +34,7 @@ third_of_plain true false true rest e = cc
 third_of_plain true false false rest e = refl
 
 module _ {E : Type 0} (width : ℕ) (A B : List ℕ → Result ℕ E → Type 0) where
-  -- what the parser of numbers of so many bits answers
+  -- what the parser of numbers of `width` bits answers
   abbrev pub Gives : List ℕ → Result ℕ E → Type 0
   Gives text read = ParsesUnsigned width 10 text read × A text read × B text read
 
@@ -48,7 +48,7 @@ module _ {E : Type 0} (width : ℕ) (A B : List ℕ → Result ℕ E → Type 0)
       go None e = let no : Some number ≡ None = none e in cc
       go (Some text) e = let read = value text e in (text, e, (read.0.0.0, sym read.0.1))
 
-  -- where none was read, the text is no number of so many bits
+  -- where none was read, the text is no number of `width` bits
   pub number_none : (id : Text) (rows : List Row) (result : Option ℕ)
       → ((text : Text) → one_of id rows ≡ Some text → ReadsOne Gives text result)
       → IfNone result ((number : ℕ) → number < 2 ^ width → ¬ HasNumber id rows number)

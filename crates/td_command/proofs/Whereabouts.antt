@@ -410,7 +410,7 @@ wants_same rows (rule ∷ rest) = ap (λ wants. (rule.required && not (is_given 
 abbrev moved_shape : Shape → Shape
 moved_shape shape = record shape { rules = map moved shape.rules }
 
--- what may fail behind the walk over the words
+-- what may fail after the walk over the words
 abbrev end_fault : Shape → Held → Bool → Kinds
 end_fault shape held has_subcommand =
     or_else (settle_fault shape.rules shape.args_override_self held)

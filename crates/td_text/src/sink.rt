@@ -30,7 +30,7 @@ pub trait Sink {
     fn write(&mut self, bytes: &[u8]) -> Result<usize, DeviceFault>
         ensures { WritesSome result (output self.old) (output self.new) bytes.now };
 
-    /// Writes all of the bytes, or fails behind some of them.
+    /// Writes all of the bytes, or fails after some of them.
     final fn write_all(&mut self, bytes: &[u8]) -> Result<(), DeviceFault>
     where
         Self: Sized,
