@@ -69,7 +69,7 @@ fn failing_reader(rt: HostRuntime) -> Result<(), Fail> {
     Ok(())
 }
 
-/// How the program ends where its words can't be read, and whether it tells this.
+/// How the program ends where its words can't be read, and whether it says this.
 fn refused(alloc: Global, fault: ReadFault, told: &[u8]) -> Result<(u8, bool), Fail> {
     let mut err = MemorySink::new(alloc, ROOM, 7)?;
     let status = refuse_words(&mut err, fault);

@@ -14,7 +14,7 @@ told_last : (app : App) (rules : List Rule) (rule : Rule) → told app (rules ++
 told_last app [] rule = refl
 told_last app (first ∷ rules) rule = told_last (with_rule app first) rules rule
 
--- what a list of arguments gives that takes one more
+-- a list of arguments that takes one more gives one more
 pub told_added : (old : List Rule) (items new : List Arg) (arg : Arg) → map rule_of items ≡ old → new ≡ items ++ arg ∷ []
     → TellsRule (rule_of arg) old (map rule_of new)
 told_added old items new arg seen added = λ (app : App).
@@ -37,7 +37,7 @@ offered_last : (app : App) (shapes : List Shape) (shape : Shape) → offering ap
 offered_last app [] shape = refl
 offered_last app (first ∷ shapes) shape = offered_last (with_subcommand app first) shapes shape
 
--- what a list of commands gives that takes one more
+-- a list of commands that takes one more gives one more
 pub offered_added : (old : List Shape) (commands new : List Command) (command : Command) (shape : Shape) → map shape_of commands ≡ old
     → new ≡ commands ++ command ∷ [] → shape_of command ≡ shape → OffersCommand shape old (map shape_of new)
 offered_added old commands new command shape seen added is = λ (app : App).

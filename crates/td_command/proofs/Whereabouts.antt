@@ -544,7 +544,7 @@ module _ (app : App) where
 -- ---- the program
 
 module _ (strategies : Listed) (named : texts_of strategies ≡ strategy_names) (words : List Text) where
-  -- what there is to tell of the words is the same
+  -- what there is to report of the words is the same
   pub faults_same : fault_of (program_of strategies) words ≡ fault_of program words
   faults_same =
       sym (built_same (built (program_of strategies)) nothing_held (argument_words program words))

@@ -358,7 +358,7 @@ CommandAsks name rows (request.Info asked) = (name ≡ codes "info") × AsksInfo
 abbrev pub EnteredAsks : Option (Text × List Row) → Request → Type 0
 EnteredAsks entered asked = (name : Text) × (rows : List Row) × (entered ≡ Some (name, rows)) × CommandAsks name rows asked
 
--- the kinds of what there is to tell of the words in place of a command: help, the version, or a fault of theirs; none where the
+-- the kinds of what there is to report of the words in place of a command: help, the version, or a fault of theirs; none where the
 -- program takes them
 abbrev pub kinds_of : List Text → Kinds
 kinds_of words = fault_of program words

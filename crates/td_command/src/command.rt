@@ -473,7 +473,7 @@ fn request_of<'a>(
 /// What the words of a command line ask for. The first is the program's name.
 pub fn parse<'a, S: AsStr>(alloc: Global, words: &'a [S]) -> Result<Request<'a>, Error>
     ensures asked { IfOk result (Asks (map S.text words.entry.now)) }
-    // The words are refused for a reason that they give, or because memory runs out.
+    // The words ask for help or the version or have a fault, or memory runs out.
     ensures fault { IfErr result (HasKind (kinds_of (map S.text words.entry.now))) }
 {
     match command(alloc)?.try_get_matches_from(words) {

@@ -211,7 +211,7 @@ impl<'a> Commands<'a> {
         self.join()
     }
 
-    /// The commands that check a certificate and tell of a netlist.
+    /// The commands that check a certificate and describe a netlist.
     fn looks(&mut self) -> Result<(), AllocError>
         ensures { OnOk result (OffersMore with_looks self.old self.new) }
     {

@@ -84,7 +84,7 @@ pub fn bits_of(alloc: Global, number: u32, count: usize) -> Result<Vec<bool>, Al
     Ok(bits)
 }
 
-/// How many numbers of `count` bits there are, up to 31 bits.
+/// How many numbers of `count` bits there are. The count is 31 at most.
 pub fn vectors_of(count: usize) -> u32 {
     let mut vectors = 1u32;
     for _ in 0..count {

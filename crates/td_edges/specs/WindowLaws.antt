@@ -102,7 +102,7 @@ early_all e span all (suc n) low = elim (cases_level (e (suc n)) (e n)) [
   | inr differ ↦ let late = (all n differ).0 in absurd (omega arith)
 ]
 
--- a moment after the earliest stays
+-- a moment after the earliest stays as it is
 after_stays : (earliest m t : ℕ) → earliest ≤ t → t < m → t < after_earliest earliest m
 after_stays earliest m t late low = rw (lt-ltb earliest m (omega arith)) low
 

@@ -341,7 +341,7 @@ port_step k s = port_at k s >>= λ p. behind symbol.Close p.0 p.1
 abbrev pub is_heading : Placed → Bool
 is_heading p = is_some (as_attribute p) || is_some (as_direction p)
 
--- the ports, of which there is one at least
+-- the ports: at least one
 unfoldable pub listed_at : Remainder → Result (grammar.Ports × Remainder) Fault
 listed_at s = next_at s >>= λ p.
     if is_heading p.0 then (many port_step s >>= λ ports. Ok (grammar.Declared ports.0, ports.1))

@@ -205,7 +205,7 @@ impl<'a> Parser<'a> {
         }
     }
 
-    /// The ports, of which there is one at least.
+    /// The ports: at least one.
     #[tactic(auto, unfolding(crate::specs::Parsing::listed_at))]
     fn listed(&mut self, alloc: Global) -> Result<Ports<'a>, Fault<'a>>
         ensures { Gives (λ p. (port_list_view p, self.new)) result (listed_at self.old) }

@@ -201,7 +201,7 @@ pub fn direction_of(placed: Placed<'_>) -> Option<Role>
     }
 }
 
-/// The fault that a token after the module is. A second module is outside the subset.
+/// The fault of a token after the module. A second module is outside the subset.
 fn second_refused<'a>(placed: Placed<'a>) -> Fault<'a>
     ensures kind { reported result.kind ≡ Some (second_refusal (placed_view placed.entry)).kind }
     ensures line { result.line ≡ placed.entry.line }
