@@ -68,7 +68,7 @@ closes_at control latest [] = latest
 closes_at control latest (signal ∷ signals) =
     min (if controls control signal.finish then latest_of latest signal.changes else latest) (closes_at control latest signals)
 
--- whether a departure from the start that lasts at most so long comes back too soon to be seen
+-- whether a departure from the start that lasts at most that long comes back too soon to be seen
 abbrev pub is_lost : Delay → Level → Level → ℕ → Bool
 is_lost delay Low Low width = nat_lt width delay.rise
 is_lost delay High High width = nat_lt width delay.fall

@@ -17,7 +17,7 @@ pub fn net_of_input(input: u32) -> Net
     input + FIRST_INPUT
 }
 
-/// The net of the first gate's output, where there are so many inputs.
+/// The net of the first gate's output, in a circuit with that many inputs.
 pub fn first_gate(inputs: usize) -> Net
     requires { inputs ≤ 4096 }
     ensures { result ≡ inputs + 2 }

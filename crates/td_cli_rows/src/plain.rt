@@ -35,7 +35,8 @@ fn needs_no_threads(rt: HostRuntime) -> Result<(), Fail> {
     Ok(())
 }
 
-/// A search isn't begun: its netlist isn't read, nothing is written, and the caller is told.
+/// A search doesn't begin without threads: it reads no netlist, writes nothing, and lets the caller
+/// know.
 #[test]
 fn searches_need_threads(rt: HostRuntime) -> Result<(), Fail> {
     let words = ["tdelay", "worst", "nowhere.v", "--cert", "out"];

@@ -19,7 +19,7 @@ pub struct Ended<'a> {
 /// How many bytes a stream takes that doesn't fail.
 pub const ROOM: usize = 1 << 16;
 
-/// Carries out a command over files in memory. Standard output takes so many bytes, some at a time.
+/// Carries out a command over files in memory. Standard output takes `room` bytes, some at a time.
 pub fn carried_out<'a, R: Threads + Wait + Sync>(
     rt: &R,
     alloc: Global,
@@ -46,7 +46,8 @@ pub const INVERTER: &[u8] =
 /// Two files that have it.
 pub const FILES: [(&str, &[u8]); 2] = [("inverter.v", INVERTER), ("-", INVERTER)];
 
-/// The status of a command whose reader fails after so many bytes, and whether that is told and nothing else is shown.
+/// The status of a command whose reader fails after `readable` bytes, and whether the command
+/// reports that and shows nothing else.
 fn failing_to_read<R: Threads + Wait + Sync>(
     rt: &R,
     alloc: Global,
@@ -68,14 +69,14 @@ fn failing_reader(rt: HostRuntime) -> Result<(), Fail> {
     Ok(())
 }
 
-/// How the program ends where its words can't be read, and whether it tells this.
+/// How the program ends where its words can't be read, and whether it says this.
 fn refused(alloc: Global, fault: ReadFault, told: &[u8]) -> Result<(u8, bool), Fail> {
     let mut err = MemorySink::new(alloc, ROOM, 7)?;
     let status = refuse_words(&mut err, fault);
     Ok((status.code(), err.bytes() == told))
 }
 
-/// What is told of words that can't be read, and how the program ends then.
+/// What the program says of words that it can't read, and how it ends then.
 #[test]
 fn words_that_cannot_be_read(rt: HostRuntime) -> Result<(), Fail> {
     let memory = refused(

@@ -35,7 +35,8 @@ fn is_given_up(steps: &[MemoryStep], name: &[u8]) -> bool {
     }
 }
 
-/// Whether a certificate was put under the one name, behind it waves under the other one, and nothing else was done.
+/// Whether the certificate was put under its name, then the waves under theirs, and nothing else
+/// was done.
 fn are_both(steps: &[MemoryStep], certificate: &[u8], waves: &[u8]) -> bool {
     match steps {
         [first, second, third, fourth] => {
@@ -45,7 +46,7 @@ fn are_both(steps: &[MemoryStep], certificate: &[u8], waves: &[u8]) -> bool {
     }
 }
 
-/// Carries out a command over the inverter, whose files take so many bytes.
+/// Carries out a command over the inverter, whose files take `room` bytes.
 fn over_files<R: Threads + Wait + Sync>(
     rt: &R,
     alloc: Global,
@@ -72,8 +73,8 @@ fn waves_behind_a_certificate(rt: HostRuntime) -> Result<(), Fail> {
     Ok(())
 }
 
-/// The status of a run whose files take so many bytes, whether it told this, and whether it gave up the file of this name and did
-/// nothing else.
+/// The status of a run whose files take `room` bytes, whether the run reports this text, and
+/// whether it gives up the file of this name and does nothing else.
 fn failing<R: Threads + Wait + Sync>(
     rt: &R,
     alloc: Global,

@@ -44,7 +44,7 @@ pub record IsKnown (command : List Rule) (rule : Rule) : Type 0 where
   pub kind : TakesOne rule ⊎ (TakesMore rule ⊎ (TakesNone rule ⊎ (action_of rule ≡ Help)))
   pub default : length rule.defaults ≤ 1
 
--- the row has a value that its rule took, and maybe more of them behind it
+-- the row has a value that its rule took, and maybe more of them after it
 pub record IsOfRule (command : List Rule) (row : Row) : Type 0 where
   pub rule : Rule
   pub value : Text
@@ -156,7 +156,7 @@ row_of_rule command rule source value found passes = record {
   reading = refl;
 }
 
--- a value joins the rows: it stands behind those of its id, or in a row of its own
+-- a value joins the rows: it follows those of its id, or has a row of its own
 pub joined : (command : List Rule) (rule : Rule) (source : ValueSource) (value : Text) (rows : List Row) → arg_by_id command rule.id ≡ Some rule
     → Passes rule value → AreOfRules command rows
     → AreOfRules command (with_values rule.id (reading_by rule) source (value ∷ []) rows)

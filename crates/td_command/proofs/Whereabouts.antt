@@ -410,7 +410,7 @@ wants_same rows (rule ∷ rest) = ap (λ wants. (rule.required && not (is_given 
 abbrev moved_shape : Shape → Shape
 moved_shape shape = record shape { rules = map moved shape.rules }
 
--- what may fail behind the walk over the words
+-- what may fail after the walk over the words
 abbrev end_fault : Shape → Held → Bool → Kinds
 end_fault shape held has_subcommand =
     or_else (settle_fault shape.rules shape.args_override_self held)
@@ -544,7 +544,7 @@ module _ (app : App) where
 -- ---- the program
 
 module _ (strategies : Listed) (named : texts_of strategies ≡ strategy_names) (words : List Text) where
-  -- what there is to tell of the words is the same
+  -- what there is to report of the words is the same
   pub faults_same : fault_of (program_of strategies) words ≡ fault_of program words
   faults_same =
       sym (built_same (built (program_of strategies)) nothing_held (argument_words program words))

@@ -1,4 +1,4 @@
--- The command line as the parser of command lines is told it, and what the words ask for.
+-- The command line in the form that the parser of command lines takes, and what the words ask for.
 use Rattle.std.specs.Prelude.{◌≡◌, ℕ, ◌≤◌, ◌<◌, ◌^◌, Bool, List, [], ◌∷◌, codes, length, map, pos, true, Option, Some, None, option_map}
 use Rattle.std.specs.Borrow.{Bor}
 use Rattle.std.specs.Str.Parse.{IsNumeral, digits_value, without_leading_plus}
@@ -20,7 +20,7 @@ use Rattle.td_command.specs.declared.command.InfoRequest.{InfoRequest}
 use Rattle.td_command.specs.declared.command.Request.{Request}
 use Rattle.td_command.specs.declared.command.Request.TheVariants as request
 
--- ---- what the parser is told
+-- ---- what the parser is given
 
 -- a word of its own, which has to be given
 abbrev pub needed : Text → Rule
@@ -47,7 +47,8 @@ needed_number id least most = record (option id) { parser = Some (Signed (pos le
 abbrev pub count_option : Text → Rule
 count_option id = record (option id) { parser = Some (Unsigned 0 18446744073709551615) }
 
--- a list of texts behind references, as the parser is told the names that an option may have
+-- a list of references to texts: the form in which the parser takes the names that an option may
+-- have
 abbrev pub Listed : Type 0
 Listed = Bor (List (Bor Text))
 
@@ -79,7 +80,7 @@ with_default app =
     with_rule (with_rule app (number_option (codes "default-rise") 1 1000000000 (codes "1")))
     (number_option (codes "default-fall") 1 1000000000 (codes "1"))
 
--- what all commands take: the delays of gates that state none, and whether hints stand behind a refusal
+-- what all commands take: the delays of gates that state none, and whether hints follow a refusal
 abbrev pub with_common : App → App
 with_common app = with_rule (with_default app) (flag (codes "hints"))
 
@@ -111,7 +112,8 @@ with_edges app = with_rule app (flag (codes "edges"))
 abbrev pub with_told : App → App
 with_told app = with_rule (with_rule app (flag (codes "path"))) (flag (codes "progress"))
 
--- the pairs that a search admits: those of a cube, where some inputs are held and only so many may flip
+-- the pairs that a search admits: those of a cube, where some inputs are held and the number of
+-- flips has a limit
 abbrev pub with_admitted : App → App
 with_admitted app = with_rule (with_rule (with_cube app) (option (codes "hold"))) (count_option (codes "flips"))
 
@@ -176,7 +178,8 @@ with_looks app = with_subcommand (with_subcommand app check_command.top) info_co
 abbrev pub named : App
 named = new_app (codes "tdelay")
 
--- the program, which has a version, before it is told its commands, of which one has to be given
+-- the program before it is given its commands: it has a version, and one of the commands has to be
+-- given
 abbrev pub bare : App
 bare = record named { top = record named.top { subcommand_required = true; has_version = true } }
 
@@ -187,13 +190,13 @@ program_of strategies = with_looks (with_questions strategies (with_bounds strat
 abbrev pub strategy_names : List Text
 strategy_names = codes "least" ∷ codes "lead" ∷ codes "refute" ∷ codes "auto" ∷ []
 
--- what the parser is told with the names of the strategies, wherever in memory they stand
+-- what the parser is given with the names of the strategies, wherever in memory they stand
 pub record IsOfStrategies (told_with : Listed → App) (told : App) : Type 0 where
   pub strategies : Listed
   pub named : texts_of strategies ≡ strategy_names
   pub is : told ≡ told_with strategies
 
--- a value behind a reference, of which nothing is said where it stands
+-- a reference to a value, which may stand anywhere
 abbrev pub behind : {X : Type 0} → X → Bor X
 behind x = record { ref_ptr = (0, 0); now = x }
 
@@ -355,7 +358,7 @@ CommandAsks name rows (request.Info asked) = (name ≡ codes "info") × AsksInfo
 abbrev pub EnteredAsks : Option (Text × List Row) → Request → Type 0
 EnteredAsks entered asked = (name : Text) × (rows : List Row) × (entered ≡ Some (name, rows)) × CommandAsks name rows asked
 
--- the kinds of what there is to tell of the words in place of a command: help, the version, or a fault of theirs; none where the
+-- the kinds of what there is to report of the words in place of a command: help, the version, or a fault of theirs; none where the
 -- program takes them
 abbrev pub kinds_of : List Text → Kinds
 kinds_of words = fault_of program words

@@ -1,4 +1,4 @@
-//! The arguments of the commands, as the parser of command lines is told them.
+//! The arguments of the commands, in the form that the parser of command lines takes.
 
 ghost use Rattle.std.specs.Prelude.{◌≡◌, [], codes, false, IfOk, OnOk};
 ghost use Rattle.clap.specs.Words.{app_of, new_app, rule_of, with_rule};

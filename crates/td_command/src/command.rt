@@ -89,7 +89,7 @@ pub struct WorstRequest<'a> {
     pub vcd: Option<&'a str>,
     /// Whether the chain of changes of the given pair is asked for too.
     pub path: bool,
-    /// Whether standard error is told how far the search is.
+    /// Whether the search reports on standard error how far it is.
     pub progress: bool,
     /// The delays of gates that state none.
     pub rise: u32,
@@ -310,7 +310,8 @@ fn effort(matches: &ArgMatches<'_>) -> Option<(u32, StrategyWord, u32)>
     Some((workers, strategy, budget))
 }
 
-/// What is told beside a search's answer: whether the chain of the given pair, and whether how far the search is.
+/// What a search reports beside its answer: whether it shows the chain of the given pair, and
+/// whether it shows how far it is.
 fn told(matches: &ArgMatches<'_>) -> Option<(bool, bool)>
     ensures { IsAnswered (λ told. HasFlag (codes "path") (rows_of (found_of matches.now)) told.0 × HasFlag (codes "progress") (rows_of (found_of matches.now)) told.1) result }
 {
@@ -472,7 +473,7 @@ fn request_of<'a>(
 /// What the words of a command line ask for. The first is the program's name.
 pub fn parse<'a, S: AsStr>(alloc: Global, words: &'a [S]) -> Result<Request<'a>, Error>
     ensures asked { IfOk result (Asks (map S.text words.entry.now)) }
-    // Words are refused for what there is to tell of them, or for want of memory.
+    // The words ask for help or the version or have a fault, or memory runs out.
     ensures fault { IfErr result (HasKind (kinds_of (map S.text words.entry.now))) }
 {
     match command(alloc)?.try_get_matches_from(words) {

@@ -1,4 +1,4 @@
-//! The commands, as the parser of command lines is told them.
+//! The commands, in the form that the parser of command lines takes.
 
 ghost use Rattle.std.specs.Prelude.{◌≡◌, [], codes, IfOk, OnOk};
 ghost use Rattle.clap.specs.Words.{app_of, new_app};
@@ -211,7 +211,7 @@ impl<'a> Commands<'a> {
         self.join()
     }
 
-    /// The commands that check a certificate and tell of a netlist.
+    /// The commands that check a certificate and describe a netlist.
     fn looks(&mut self) -> Result<(), AllocError>
         ensures { OnOk result (OffersMore with_looks self.old self.new) }
     {
@@ -237,7 +237,7 @@ impl<'a> Commands<'a> {
     }
 }
 
-/// The program before it is told its commands.
+/// The program before it is given its commands.
 fn bare<'a>(alloc: Global) -> Command<'a>
     ensures { app_of result ≡ bare }
 {
@@ -248,7 +248,7 @@ fn bare<'a>(alloc: Global) -> Command<'a>
         .subcommand_required(true)
 }
 
-/// The whole program, told where the names of the strategies stand.
+/// The whole program. It refers to the names of the strategies where they stand.
 fn program<'a>(alloc: Global, strategies: &'a [&'a str]) -> Result<Command<'a>, AllocError>
     ensures { IfOk result (λ new. app_of new ≡ program_of strategies.entry) }
 {

@@ -61,7 +61,7 @@ input_some Free Zero held f is = (false, false, tt, tt, (λ e. refl), some-same 
 input_some Free One held f is = (true, true, tt, tt, (λ e. refl), some-same 0 f is)
 input_some Free Free held f is = (false, false, tt, tt, (λ e. refl), some-same 0 f is)
 
--- and all bits of it have at least so many
+-- and all bits of it have at least that many
 input_all : (s t : Trit) (a b held : Bool) → Allows s a → Allows t b → (held ≡ true → a ≡ b)
     → (f : ℕ) × (input_flips s t held ≡ Some f) × (f ≤ flip_of a b)
 input_all Zero One true b held x y same = absurd x
@@ -155,7 +155,7 @@ module _ (admit : Admitted) (cube : List Trit) (size : length admit.pins ≡ 2 *
 
 -- ---- the loop over the inputs
 
--- what is left after so many inputs
+-- what is left after the first `i` inputs
 abbrev pub left_after : ℕ → List Bool → List Trit → List Trit → Option ℕ
 left_after i held pins cube = fewest_flips (drop i held) (drop (2 * i) pins) (drop (2 * i) cube)
 

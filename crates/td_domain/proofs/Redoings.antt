@@ -176,7 +176,7 @@ module _ {Sig : Type 0} (functions : Functions Sig) (reach : Sig → ℕ) (circu
       let step = redo-step law (take j cone) base signals (get_or cone j 0 - first) gate x stands can.count before are is in
       rw (after_is, next, take_push cone j (get_or cone j 0) there) (rw place.2 at step)
 
-  -- the same, where the gate is told by its place
+  -- the same, where the gate is given by its place
   pub redo-next-at : ((kind : Kind) (delay : Delay) (signals : List Sig) (moment : ℕ) → All (λ signal. reach signal ≤ moment) signals
       → reach (functions.gate_of kind delay signals) ≤ moment + max delay.rise delay.fall)
       → (cone : List ℕ) (j first : ℕ) (base signals after : List Sig)

@@ -37,6 +37,6 @@ pub record IsAdmitted (admit : Admitted) (pair : Pair) : Type 0 where
 abbrev pub HasAdmitted : Admitted → List Trit → Type 0
 HasAdmitted admit cube = (pair : Pair) × IsAdmitted admit pair × IsIn pair cube
 
--- for so many inputs: nothing is pinned or held, and all may differ
+-- for this number of inputs: nothing is pinned or held, and all may differ
 abbrev pub all_pairs : ℕ → Admitted
 all_pairs inputs = record { pins = replicate (2 * inputs) Free; held = replicate inputs false; flips = inputs }

@@ -8,8 +8,8 @@ use crate::cubes::{Cube, Trit};
 use std::alloc::{AllocError, Global};
 use std::marker::Model;
 
-/// Which pairs of vectors are admitted: those that lie in the pins, have equal bits at each held input, and differ at
-/// so many inputs at most.
+/// Which pairs of vectors are admitted: those that lie in the pins, have equal bits at each held
+/// input, and differ at `flips` inputs at most.
 #[derive(Debug, Drop)]
 pub struct Admit {
     pins: Cube,
@@ -29,8 +29,8 @@ impl Model for Admit {
 }
 
 impl Admit {
-    /// The pairs in these pins that keep each held input and differ at so many inputs at most. The pins have two
-    /// positions for each input.
+    /// The pairs in these pins that keep each held input and differ at `flips` inputs at most. The
+    /// pins have two positions for each input.
     pub fn new(pins: Cube, held: Vec<bool>, flips: u32) -> Self
         requires { length pins ≡ 2 * length held.items }
         ensures { result ≡ record { pins = pins; held = held.items; flips = flips } }
@@ -38,7 +38,7 @@ impl Admit {
         Admit { pins, held, flips }
     }
 
-    /// All pairs of vectors for so many inputs.
+    /// All pairs of vectors for this number of inputs.
     pub fn all(alloc: Global, inputs: usize) -> Result<Self, AllocError>
         requires { inputs < 2 ^ 32 }
         ensures { IfOk result (λ admit. admit ≡ all_pairs inputs) }

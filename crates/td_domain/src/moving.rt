@@ -10,9 +10,10 @@ use crate::sheet::Sheet;
 use std::alloc::{AllocError, Global};
 use td_circuit::Circuit;
 
-/// Takes a sheet of this circuit to a cube: narrowings are taken back until its cube allows all pairs of this one, and then
-/// it is narrowed. Where it was made for a cube that doesn't allow them, it is made anew. The error is want of memory: the
-/// sheet may be used again.
+/// Takes a sheet of this circuit to a cube. It takes back narrowings until the sheet's cube allows
+/// all pairs of this one, and then narrows the sheet. Where the sheet was made for a cube that
+/// doesn't allow them, it is made anew. Fails where memory runs out: the sheet may be used again
+/// then.
 pub fn move_to<D: Domain>(
     alloc: Global,
     circuit: &Circuit,
@@ -51,8 +52,9 @@ fn widen_to<D: Domain>(sheet: &mut Sheet<D>, cube: &Cube)
     }
 }
 
-/// Gives the sheet's cube the trits of this one, position by position, by narrowings. False where that can't be, since the sheet's cube
-/// doesn't allow all pairs of this one: some narrowings may have been made then. The error is want of memory.
+/// Gives the sheet's cube the trits of this one, position by position, by narrowings. Answers false
+/// where the sheet's cube doesn't allow all pairs of this one: some narrowings may have been made
+/// then. Fails where memory runs out.
 fn narrow_to<D: Domain>(
     circuit: &Circuit,
     sheet: &mut Sheet<D>,

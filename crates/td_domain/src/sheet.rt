@@ -55,7 +55,7 @@ impl<D: Domain> Model for Sheet<D> {
 }
 
 impl<D: Domain> Sheet<D> {
-    /// The sheet of a cube. The error is want of memory.
+    /// The sheet of a cube. Fails where memory runs out.
     pub fn new(alloc: Global, circuit: &Circuit, cube: &Cube) -> Result<Self, AllocError>
         requires { length cube.now ≡ 2 * length circuit.now.netlist.inputs }
         ensures sheet { IfOk result (IsSheet D.functions D.reach circuit.now) }
@@ -102,7 +102,7 @@ impl<D: Domain> Sheet<D> {
         self.redone
     }
 
-    /// Makes a free position known, in a sheet of this circuit. The error is want of memory.
+    /// Makes a free position known, in a sheet of this circuit. Fails where memory runs out.
     pub fn narrow(
         &mut self,
         circuit: &Circuit,

@@ -46,7 +46,8 @@ pub fn at(alloc: Global, mut circuit: Circuit, moments: &[u64]) -> Option<Circui
     Some(circuit)
 }
 
-/// Moments from 0 to 7 for so many inputs, half of them 0, that follow from a number.
+/// A moment from 0 to 7 for each of `inputs` inputs, about half of them 0. The moments follow from
+/// a number.
 fn random_moments(alloc: Global, inputs: usize, seed: u64) -> Result<Vec<u64>, AllocError> {
     let mut seed = seed;
     let mut moments = Vec::new(alloc);
@@ -57,8 +58,8 @@ fn random_moments(alloc: Global, inputs: usize, seed: u64) -> Result<Vec<u64>, A
     Ok(moments)
 }
 
-/// A circuit with so many inputs, from 1 to 3, that change at moments from 0 to 7, and so many gates whose delays are from 1 to 4. It
-/// follows from a number.
+/// A circuit that follows from a number. It has `inputs` inputs, from 1 to 3, which change at
+/// moments from 0 to 7, and `gates` gates, whose delays are from 1 to 4.
 pub fn generated(alloc: Global, inputs: u64, gates: u64, seed: u64) -> Option<Circuit> {
     let Ok(text) = generated_text(alloc, inputs, gates, seed) else {
         return None;
@@ -70,7 +71,7 @@ pub fn generated(alloc: Global, inputs: u64, gates: u64, seed: u64) -> Option<Ci
     at(alloc, circuit, &moments)
 }
 
-/// So many bits of a number, the least first.
+/// The `count` lowest bits of a number, the least first.
 pub fn bits_of(alloc: Global, number: u32, count: usize) -> Result<Vec<bool>, AllocError>
     ensures { IfOk result (λ bits. length bits.items ≡ count) }
 {
@@ -83,7 +84,7 @@ pub fn bits_of(alloc: Global, number: u32, count: usize) -> Result<Vec<bool>, Al
     Ok(bits)
 }
 
-/// How many numbers there are of so many bits, up to 31.
+/// How many numbers of `count` bits there are. The count is 31 at most.
 pub fn vectors_of(count: usize) -> u32 {
     let mut vectors = 1u32;
     for _ in 0..count {

@@ -71,7 +71,7 @@ fn check_reached<D: Domain>(
     Ok(())
 }
 
-/// Those behind the input: behind N1 N10 and N22, behind N2 N16, N22 and N23, and so on.
+/// The gates after each input: N10 and N22 after N1, N16, N22 and N23 after N2, and so on.
 #[test]
 fn gates_reached(rt: HostRuntime) -> Result<(), Fail> {
     let alloc = rt.alloc();

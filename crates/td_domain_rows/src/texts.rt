@@ -56,8 +56,8 @@ fn gate_text(alloc: Global, place: u64, seed: u64) -> Result<String, AllocError>
     }
 }
 
-/// The text of a module with so many inputs, from 1 to 3, and so many gates, each of which reads the net before its own. Its output
-/// is the last gate's.
+/// The text of a module with `inputs` inputs, from 1 to 3, and `gates` gates. Each gate reads the
+/// net before its own. The module's output is the last gate's.
 pub fn generated_text(
     alloc: Global,
     inputs: u64,

@@ -170,7 +170,7 @@ module _ (first second : Trit) (moment : ℕ) (wave : Wave) (is : IsInputWave fi
     ]
   ]
 
-  -- the level before the change isn't the level behind it
+  -- the level before the change isn't the level after it
   both_differ : (t : ℕ) → before wave (suc t) ≢ before wave t → t ≡ moment → level_from is.before ≢ level_from is.after
   both_differ t differ here same = differ (late (suc t) (omega arith) ∙ sym same ∙ sym (early t (omega arith)))
 
@@ -213,7 +213,7 @@ covers_constant one wave is = record {
   changes = λ t. is (suc t) ∙ sym (is t);
 }
 
--- behind the latest change a covered wave stays
+-- after the latest change a covered wave stays as it is
 quiet_by : (changes : Option Span) (wave : Wave) → ChangesWithin changes wave → (k : ℕ)
     → at wave (until_of X changes - 1 + k) ≡ at wave (until_of X changes - 1)
 quiet_by changes wave within zero = let same : until_of X changes - 1 + 0 ≡ until_of X changes - 1 = omega arith in rw same refl

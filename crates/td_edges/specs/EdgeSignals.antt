@@ -105,7 +105,8 @@ kept_by control out (signal ∷ later) span = kept_by control out later (raised 
 abbrev pub filtered : Delay → Level → Span → Span
 filtered delay finish span = limited (inverse_of finish) (until finish span - delay_to delay (inverse_of finish)) span
 
--- 6. No change comes before the earliest: of those to a level none is left where the moment for it isn't behind the earliest.
+-- 6. No change comes before the earliest: there is no change to a level where the moment for it
+-- isn't after the earliest.
 abbrev pub after_earliest : ℕ → ℕ → ℕ
 after_earliest earliest moment = if nat_lt earliest moment then moment else 0
 

@@ -38,8 +38,9 @@ abbrev pub parted : Parting → List Signal → Parting
 parted parts [] = parts
 parted parts (signal ∷ later) = parted (parted_with signal parts) later
 
--- Until when the parity changes to a level: until the others end, and behind that only with the input that changes last, which is then at
--- the level that makes the parity of it and of the others' finishes. Where these aren't known, until all changes of that input.
+-- Until when the parity changes to a level: until the others end. After that it changes only with
+-- the input that changes last. This input is then at the level that makes the parity of it and of
+-- the others' finishes. Where these finishes aren't known, until all changes of that input.
 abbrev pub parity_until : Parting → Level → ℕ
 parity_until parts level = max parts.others_until (until_of (odd parts.others_parity level) parts.latest.changes)
 

@@ -4,8 +4,8 @@ use Rattle.td_gates.specs.declared.primitives.Level.{Level}
 use Rattle.td_gates.specs.declared.primitives.Level.TheVariants.{Zero as Low, One as High, X}
 use Rattle.td_edges.specs.declared.signals.Span.{Span}
 
--- The moment before which all changes to a level come: the one behind the latest, 0 where there is none. An unknown
--- level stands for both.
+-- The moment before which all changes to a level come: the one after the latest, or 0 where there
+-- is none. An unknown level stands for both.
 abbrev pub until : Level → Span → ℕ
 until Low span = span.falls_until
 until High span = span.rises_until

@@ -320,7 +320,7 @@ settles Xnor levels some = absurd (nothing_controls levels some)
 settles Buf levels some = absurd (nothing_controls levels some)
 settles Not levels some = absurd (nothing_controls levels some)
 
--- an input with a known finish is there behind its last change to it
+-- an input with a known finish is at that level after its last change to it
 input_late : (signal : Signal) (wave : Wave) → Covers signal wave → signal.finish ≢ X → (n : ℕ) → until_of signal.finish signal.changes ≤ n
     → before wave n ≡ signal.finish
 input_late signal wave covered known n late = elim (cases_level (before wave n) signal.finish) [

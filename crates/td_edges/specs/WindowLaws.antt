@@ -50,7 +50,7 @@ turns e v n (suc k) away there = elim (cases_level (e (suc n)) v) [
       record { turn = rest.turn; later = omega (arith, rest.later); before = rest.before; after = rest.after }
 ]
 
--- levels that end at v change to v behind any place at which they aren't
+-- levels that end at v change to v after any place at which they aren't
 pub turns_to_end : (e : ℕ → Level) (v : Level) → v ≢ X → Ends v e → (n : ℕ) → e n ≢ v → Turns e v n
 turns_to_end e v known final n away =
     turns e v n final.from away (final.ends (n + final.from) (omega arith) known)
@@ -102,7 +102,7 @@ early_all e span all (suc n) low = elim (cases_level (e (suc n)) (e n)) [
   | inr differ ↦ let late = (all n differ).0 in absurd (omega arith)
 ]
 
--- a moment behind the earliest stays
+-- a moment after the earliest stays as it is
 after_stays : (earliest m t : ℕ) → earliest ≤ t → t < m → t < after_earliest earliest m
 after_stays earliest m t late low = rw (lt-ltb earliest m (omega arith)) low
 

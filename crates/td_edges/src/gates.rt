@@ -189,7 +189,7 @@ fn filtered(delay: Delay, finish: Level, span: Span) -> Span
     )
 }
 
-/// The moment, 0 where it isn't behind the earliest.
+/// The moment, or 0 where it doesn't come after the earliest.
 fn after_earliest(earliest: u64, moment: u64) -> u64
     ensures { result ≡ after_earliest earliest moment }
 {

@@ -10,7 +10,7 @@ pub record Cached : Type 0 where
   pub second : List Bool
   pub delay : Option ℕ
 
--- nothing was measured yet, with room for so many bits in each vector
+-- nothing was measured yet, with room for `inputs` bits in each vector
 pub record IsEmpty (inputs : ℕ) (cached : Cached) : Type 0 where
   pub first : length cached.first ≡ inputs
   pub second : length cached.second ≡ inputs

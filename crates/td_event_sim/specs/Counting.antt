@@ -22,7 +22,7 @@ AreListed first_output gates readers = (place : ℕ) (gate : NumberedGate) (net 
 abbrev pub AreNarrow : List NumberedGate → Type 0
 AreNarrow gates = (place : ℕ) (gate : NumberedGate) → slice_get gates place ≡ Some gate → length gate.inputs ≤ 1023
 
--- a count of 32 bits after so many inputs rose, or fell
+-- a count of 32 bits after this number of inputs rose, or fell
 abbrev pub recounted : Bool → ℕ → ℕ → ℕ
 recounted true inputs ones = (ones + inputs) % 2 ^ 32
 recounted false inputs ones = (ones + inputs * (2 ^ 32 - 1)) % 2 ^ 32

@@ -7,7 +7,7 @@ use Rattle.td_circuit.specs.Numbering.{NumberedGate}
 use Rattle.td_event_sim.specs.declared.rules.Rule.{Rule}
 use Rattle.td_event_sim.specs.declared.rules.Tally.{Tally}
 
--- whether the target of a gate with so many inputs, of which so many are at 1, is 1
+-- whether the target of a gate is 1, by the number of its inputs and the number of those at 1
 abbrev pub target_by : Kind → ℕ → ℕ → Bool
 target_by And inputs ones = ones == inputs
 target_by Nand inputs ones = not (ones == inputs)
@@ -22,7 +22,7 @@ target_by Not inputs ones = not (ones == inputs)
 abbrev pub is_met_by : Rule → ℕ → Bool
 is_met_by rule ones = cond rule.by_parity (ones % 2) ones == rule.wanted
 
--- whether the target by a rule is 1, where so many inputs are
+-- whether the target by a rule is 1, by the number of inputs at 1
 abbrev pub target_by_rule : Rule → ℕ → Bool
 target_by_rule rule ones = cond rule.is_negated (not (is_met_by rule ones)) (is_met_by rule ones)
 
@@ -47,7 +47,7 @@ abbrev pub IsTold : Rule → ℕ → ℕ → ℕ → List ℕ → List ℕ → T
 IsTold rule before after output outputs new_outputs =
     (new_outputs ≡ outputs ++ output ∷ []) ⊎ ((new_outputs ≡ outputs) × (target_by_rule rule before ≡ target_by_rule rule after))
 
--- each gate whose target by these counts is another one than by those before is told by its output
+-- the output of each gate is among these whose target by these counts isn't the one by those before
 abbrev pub AreTold : ℕ → List Rule → List ℕ → List ℕ → List ℕ → Type 0
 AreTold first_output rules ones new_ones outputs = (place : ℕ) (rule : Rule) → slice_get rules place ≡ Some rule
     → Contains outputs (first_output + place) ⊎ (target_by_rule rule (slice_index ones place) ≡ target_by_rule rule (slice_index new_ones place))

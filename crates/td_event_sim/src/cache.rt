@@ -71,7 +71,7 @@ fn is_same(left: &[bool], right: &[bool]) -> bool
 }
 
 impl Cache {
-    /// A cache for pairs with so many bits in each vector, in which none is held.
+    /// An empty cache for pairs whose vectors have `inputs` bits each.
     pub fn new(alloc: Global, inputs: usize) -> Result<Self, AllocError>
         ensures count { IfOk result (λ cache. length cache ≡ 16) }
         ensures each { IfOk result (All (IsEmpty inputs)) }

@@ -37,7 +37,8 @@ fn recounted(ones: u32, rises: bool) -> u32
     }
 }
 
-/// Adds a gate's output where its target may turn: so many of its inputs were at 1, and so many are.
+/// Adds a gate's output where its target may turn as the number of its inputs at 1 goes from
+/// `before` to `after`.
 fn tell(
     turned: &mut Vec<u32>,
     output: u32,

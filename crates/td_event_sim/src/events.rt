@@ -35,7 +35,7 @@ fn input_event(first: bool, second: bool, moment: u64) -> u64
 }
 
 impl Events {
-    /// None of so many nets has an event.
+    /// No event for any of `nets` nets.
     pub fn new(alloc: Global, nets: usize) -> Result<Self, AllocError>
         ensures whens { IfOk result (λ events. length events.whens.items ≡ nets) }
         ensures below { IfOk result (λ events. AreBelow nets events.queue) }

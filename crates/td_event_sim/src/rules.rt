@@ -53,7 +53,7 @@ impl Rule {
         counted == self.wanted
     }
 
-    /// Whether the target is 1, where so many inputs are.
+    /// Whether the target is 1, where `ones` inputs are at 1.
     pub fn target(&self, ones: u32) -> bool
         ensures { result ≡ target_by_rule self.now ones }
     {
@@ -64,8 +64,8 @@ impl Rule {
         }
     }
 
-    /// Whether the target may turn where so many inputs were at 1 and so many are: as many were as are wanted, or as many are, or only
-    /// their parity counts.
+    /// Whether the target may turn as the number of inputs at 1 goes from `before` to `after`: one
+    /// of the two is the number wanted, or only their parity counts.
     pub fn may_turn(&self, before: u32, after: u32) -> bool
         ensures { result ≡ false → target_by_rule self.now before ≡ target_by_rule self.now after }
     {

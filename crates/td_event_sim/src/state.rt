@@ -135,8 +135,8 @@ impl State {
         Ok(())
     }
 
-    /// The events of these nets that are due at a moment take place, and the outputs of the gates whose target may turn are told. The other
-    /// nets wait on.
+    /// Carries out the events of these nets that are due at a moment, and adds the outputs of the
+    /// gates whose target may turn. The other nets wait on.
     fn update(
         &mut self,
         turned: &mut Vec<u32>,

@@ -18,7 +18,7 @@ pub record IsHistory (kind : Kind) (delay : Delay) (ins : List Wave) (states : L
 abbrev pub Shows : List GateState → Wave → Type 0
 Shows states wave = (t : ℕ) (state : GateState) → slice_get states t ≡ Some state → before wave t ≡ state.level
 
--- for every number of moments there is a history of so many moments that shows the output
+-- for every number of moments there is a history of that many moments that shows the output
 pub record HasHistories (kind : Kind) (delay : Delay) (ins : List Wave) (out : Wave) : Type 0 where
   pub history : (moments : ℕ)
       → (states : List GateState) × (length states ≡ moments + 1) × IsHistory kind delay ins states × Shows states out

@@ -38,7 +38,7 @@ impl Delay {
     /// The greatest number of steps that a delay may have.
     pub const MAX: u32 = 1_000_000_000;
 
-    /// The delays of so many steps, where both are in range.
+    /// The delays of `rise` and `fall` steps, where both are in range.
     pub fn new(rise: u32, fall: u32) -> Option<Delay>
         ensures delay { IfSome result (λ delay. delay ≡ record { rise = rise; fall = fall }) }
         ensures in_range { IfSome result IsInRange }

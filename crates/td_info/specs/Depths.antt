@@ -23,7 +23,7 @@ pub record IsDepthAt (circuit : Numbered) (number depth : ℕ) : Type 0 where
   pub most : (gate : Gate) (others : List Gate) → WayTo circuit number gate others → suc (length others) ≤ depth
   pub reached : (depth ≡ 0) ⊎ ((gate : Gate) × (others : List Gate) × WayTo circuit number gate others × (suc (length others) ≡ depth))
 
--- the depths of the constants, the inputs and the outputs of the first gates, so many
+-- the depths of the constants, of the inputs and of the outputs of the first `place` gates
 pub record AreDepths (circuit : Numbered) (depths : List ℕ) (place : ℕ) : Type 0 where
   pub count : length depths ≡ first_output circuit + place
   pub each : (number depth : ℕ) → slice_get depths number ≡ Some depth → IsDepthAt circuit number depth

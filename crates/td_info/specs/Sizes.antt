@@ -10,7 +10,8 @@ abbrev pub ReadsFirst : Gate → List Gate → Type 0
 ReadsFirst gate [] = ⊤
 ReadsFirst gate (next ∷ others) = Reads gate next
 
--- a way through the netlist, told from its end: gates of the netlist, each of which reads the output of the next
+-- a way through the netlist, listed from its end: gates of the netlist, each of which reads the
+-- output of the next
 abbrev pub IsWay : Netlist → List Gate → Type 0
 IsWay netlist [] = ⊤
 IsWay netlist (gate ∷ others) = Contains netlist.gates gate × ReadsFirst gate others × IsWay netlist others
@@ -22,7 +23,7 @@ pub record IsDepth (netlist : Netlist) (depth : ℕ) : Type 0 where
   pub has : length way ≡ depth
   pub most : (other : List Gate) → IsWay netlist other → length other ≤ depth
 
--- a gate of the netlist takes so many steps to 1 or to 0
+-- a gate of the netlist takes this number of steps to 1 or to 0
 abbrev pub IsDelayIn : Netlist → ℕ → Type 0
 IsDelayIn netlist steps = (gate : Gate) × Contains netlist.gates gate × ((steps ≡ gate.delay.rise) ⊎ (steps ≡ gate.delay.fall))
 

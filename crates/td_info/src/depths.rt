@@ -9,8 +9,9 @@ ghost use Rattle.td_info.specs.Depths.{greatest, depths_at, AreDepths};
 use std::alloc::{AllocError, Global};
 use td_circuit::Circuit;
 
-/// The most gates on a way through the circuit, from an input or a constant to any net: each of them reads the output of the one before it.
-/// It is 0 where there are no gates. It takes one step for each terminal. The error is want of memory.
+/// The most gates on a way through the circuit, from an input or a constant to any net: each of
+/// them reads the output of the one before it. It is 0 where there are no gates. It takes one step
+/// for each terminal. Fails where memory runs out.
 pub fn depth(alloc: Global, circuit: &Circuit) -> Result<u32, AllocError>
     ensures { IfOk result (IsDepth circuit.now.netlist) }
 {

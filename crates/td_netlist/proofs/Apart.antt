@@ -17,7 +17,7 @@ use Rattle.td_netlist.proofs.Distinct.{distinct_nil, distinct_cons, distinct_hea
 
 -- ---- the bits of a name
 
--- a bit that stands among so many
+-- a bit that stands among the `n` from this place on
 record StandsAt (text : List ℕ) (r : Range) (place n : ℕ) (x : Name) : Type 0 where
   at : ℕ
   least : place ≤ at

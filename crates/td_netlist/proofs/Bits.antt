@@ -5,7 +5,7 @@ use Rattle.td_netlist.specs.declared.ranges.Range.{Range}
 use Rattle.td_nets.specs.Netlist.{Name}
 use Rattle.td_netlist.specs.Ranges.{width_of, bit_at, bits_from, bit_name, nets_of}
 
--- so many bits are still to come
+-- the bits that are still to come
 abbrev pub rest_of : List ℕ → Range → ℕ → List Name
 rest_of text r place = map (bit_name text) (bits_from r place (width_of (Some r) - place))
 

@@ -1,4 +1,5 @@
--- So many nets as are counted name by name are those of declared names and of plain names of terminals.
+-- The nets counted name by name are as many as those of declared names and of plain names of
+-- terminals.
 use Rattle.std.proofs.Common.{◌≡◌, ℕ, ◌≤◌, Bool, true, false, cond, List, [], ◌∷◌, ◌++◌, length, map, fold, None, refl, sym, ap, subst, ◌∙◌, arith, inl, inr}
 use Rattle.std.specs.Prelude.{sum_by}
 use Rattle.std.specs.List.{Contains, flat_map}

@@ -26,7 +26,7 @@ same_line (grammar.Level b) = refl
 
 -- ---- by what is known
 
--- The names of the declarations are known, and others behind them.
+-- The names of the declarations are known, and others after them.
 abbrev pub KnowsModule : grammar.Module → List Known → List Name → Type 0
 KnowsModule m ks others = AreKnown ks (all_names (declarations m) ++ others) (range_in m)
 

@@ -1,4 +1,4 @@
--- What stands in a list: behind another, joined, mapped, filtered.
+-- What stands in a list: one appended to another, joined, mapped, filtered.
 use Rattle.std.proofs.Common.{◌≡◌, zero, suc, Bool, true, false, cond, List, [], ◌∷◌, ◌++◌, map, filter, refl, sym, ap, ◌∙◌, subst, arith, ◌⊎◌, inl, inr}
 use Rattle.std.specs.List.{Contains, flat_map}
 

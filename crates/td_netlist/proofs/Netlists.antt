@@ -23,7 +23,7 @@ use Rattle.td_netlist.proofs.Walks.{fails_behind, fails_as}
 abbrev as_checked : {A : Type 0} → A → Result A Fault
 as_checked x = Ok x
 
--- where a check passes, its function fails for want of memory alone, which says nothing
+-- where a check passes, its function fails only where memory runs out, which says nothing
 unreported_by : {A B : Type 0} (k : Option FaultKind) (line : ℕ) (x : A) (s : Result B Fault)
     → MatchOption k (Unit {0}) (λ j. as_checked x ≡ Err (record { kind = j; line = line })) → MatchOption k (Unit {0}) (λ j. s ≡ Err (record { kind = j; line = line }))
 unreported_by None line x s e = tt

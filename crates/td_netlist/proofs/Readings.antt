@@ -58,7 +58,7 @@ fault_breaks m checked breaks f e = breaks_by m f.kind f.line (refused_by m chec
 ok_no_err : {Y : Type 0} (checked : Result Y Fault) (y : Y) (f : Fault) → checked ≡ Ok y → checked ≡ Err f → ⊥
 ok_no_err checked y f is e = cc
 
--- where the check passes, the function fails for want of memory alone
+-- where the check passes, the function fails only where memory runs out
 pub memory_breaks : {Y : Type 0} (m : grammar.Module) (checked : Result Y Fault) (y : Y) → checked ≡ Ok y → (f : Fault) → Fails f checked → UnlessMemory f.kind (IsNameFault f.kind f.line m)
 memory_breaks m checked y is f e = fault_breaks m checked (λ g other. absurd (ok_no_err checked y g is other)) f e
 
@@ -134,7 +134,7 @@ unreported_by syntax.DelayTooFine line y e = absurd cc
 unreported_by syntax.DelayTooLarge line y e = absurd cc
 unreported_by syntax.TooMany line y e = absurd cc
 
--- where the text has a syntax tree, reading it fails for want of memory alone
+-- where the text has a syntax tree, reading it fails only where memory runs out
 pub parse_memory : (e : syntax_fault.Fault) (m : grammar.Module) → syntax_faults.Fails e (Ok m) → kind_from e.kind ≡ kind.OutOfMemory
 parse_memory e m fails = unreported_by e.kind e.line m fails
 

@@ -8,7 +8,7 @@ use Rattle.td_netlist.specs.declared.fault.Fault.{Fault}
 use Rattle.td_netlist.specs.Faults.{fault, unless, ◌>>=◌}
 use Rattle.td_netlist.specs.Checks.{each}
 
--- ---- one step behind another
+-- ---- one step after another
 
 pub ok_both : {A B : Type 0} (r : Result A Fault) (f : A → Result B Fault) (y : B) → (r >>= f) ≡ Ok y → (x : A) × (r ≡ Ok x) × (f x ≡ Ok y)
 ok_both (Ok x) f y e = (x, refl, e)

@@ -1,4 +1,4 @@
--- The terminals of an instance on both sides of a place, which may lie behind the last.
+-- The terminals of an instance on both sides of a place, which may lie after the last.
 use Rattle.std.proofs.Common.{◌≡◌, ℕ, ◌<◌, Bool, true, false, List, length, map, take, drop, min, refl, sym, ap, ◌∙◌, arith}
 use Rattle.std.specs.Prelude.{nat_lt}
 use Rattle.std.proofs.Math.Nat.{min-eq_left, min-eq_right}

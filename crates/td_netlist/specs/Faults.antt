@@ -8,7 +8,7 @@ use Rattle.td_netlist.specs.declared.fault.Fault.{Fault}
 abbrev pub fault : FaultKind → ℕ → Fault
 fault k line = record { kind = k; line = line }
 
--- want of memory isn't a fault of the text
+-- running out of memory isn't a fault of the text
 abbrev pub reported : FaultKind → Option FaultKind
 reported kind.OutOfMemory = None
 reported k = Some k
@@ -30,7 +30,7 @@ abbrev pub unless : {A : Type 0} → Option FaultKind → ℕ → A → Result A
 unless None line x = Ok x
 unless (Some k) line x = Err (fault k line)
 
--- a fact about each kind other than want of memory
+-- a fact about each kind other than out of memory
 abbrev pub UnlessMemory : FaultKind → Type 0 → Type 0
 UnlessMemory kind.OutOfMemory P = Unit {0}
 UnlessMemory k P = P

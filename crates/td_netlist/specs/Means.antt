@@ -27,7 +27,7 @@ IsJoined none = ⊥
 pub record AreJoined (m : grammar.Module) : Type 0 where
   pub each : (t : grammar.Terminal) → Contains (terminals_in m) t → IsJoined (source_of m t)
 
--- So many nets at most are those of the declared names and of the plain names of terminals.
+-- The nets of the declared names and of the plain names of terminals are a million at most.
 pub record HasFewNets (m : grammar.Module) : Type 0 where
   pub nets : List Name
   pub few : length nets ≤ 1000000

@@ -101,7 +101,7 @@ pub record IsNameFaultIn (text : List ℕ) (k : FaultKind) (line : ℕ) : Type 0
   pub breaks : IsNameFault k line tree
   pub first : checked_at tree ≡ Err (fault k line)
 
--- What a fault says of a text: it is the text's first fault of tokens and grammar, or the text has none of these and it is the
--- first of names. Nothing is said of want of memory.
+-- What a fault says of a text: it is the text's first fault of tokens and grammar, or the text has
+-- none of these and it is the first of names. It says nothing where memory runs out.
 abbrev pub IsFaultIn : List ℕ → FaultKind → ℕ → Type 0
 IsFaultIn text k line = UnlessMemory k (IsFirstIn text k line ⊎ IsNameFaultIn text k line)

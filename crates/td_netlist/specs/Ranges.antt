@@ -27,7 +27,7 @@ bit_at r place = if nat_le r.left r.right then r.left + place else r.left - plac
 abbrev pub holds : Range → ℕ → Bool
 holds r bit = nat_le r.left bit && nat_le bit r.right || nat_le r.right bit && nat_le bit r.left
 
--- so many bits from this place on
+-- that many bits from this place on
 unfoldable pub bits_from : Range → ℕ → ℕ → List ℕ
 bits_from r place zero = []
 bits_from r place (suc n) = bit_at r place ∷ bits_from r (place + 1) n

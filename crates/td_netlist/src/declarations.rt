@@ -226,7 +226,8 @@ impl<'a> Lists<'a> {
         Ok(sides)
     }
 
-    /// The nets of the ports by direction, and the names of all declarations, behind those of the port list.
+    /// The nets of the ports by direction, and the names of all declarations, after those of the
+    /// port list.
     fn finished(
         mut self,
         alloc: Global,

@@ -62,7 +62,7 @@ pub enum FaultKind<'a> {
 }
 
 impl<'a> FaultKind<'a> {
-    /// The number by which programs tell this kind, from 0 for `OutOfMemory` to 15.
+    /// The number by which programs know this kind, from 0 for `OutOfMemory` to 15.
     pub fn number(self) -> u8
         ensures { result ≡ kind_number self.entry }
     {

@@ -36,7 +36,7 @@ impl<'a> Names<'a> {
         }
     }
 
-    /// Adds a name, and tells whether it is new.
+    /// Adds a name, and answers whether it is new.
     pub fn add(&mut self, name: NameRef<'a>) -> Result<bool, AllocFailed<NameRef<'a>>>
         ensures is_new { IfOk result (λ is_new. is_new ≡ not (is_in (name_ref_of name.entry) self.old)) }
         ensures added { OnOk result (self.new ≡ with_name self.old (name_ref_of name.entry)) }

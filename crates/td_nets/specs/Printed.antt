@@ -3,7 +3,7 @@ use Rattle.std.specs.Prelude.{ℕ, List, [], ◌++◌, Option, None, Some, codes
 use Rattle.td_nets.specs.Identifiers.{is_simple_identifier}
 use Rattle.td_nets.specs.Netlist.{Name}
 
--- `[i]` behind this, for the bit i
+-- `[i]` after this, for the bit i
 abbrev pub bit_text : List ℕ → Option ℕ → List ℕ
 bit_text before None = []
 bit_text before (Some i) = before ++ codes "[" ++ decimal i ++ codes "]"

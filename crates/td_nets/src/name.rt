@@ -14,7 +14,8 @@ pub struct Name {
     pub bit: Option<u32>,
 }
 
-/// Appends `[i]` for the bit i, behind these bytes; nothing where there is no bit. A beginning may stay behind a refused growth.
+/// Appends `[i]` for the bit i, after these bytes. Appends nothing where there is no bit. Where the
+/// vector can't grow, a beginning may stay in it.
 fn append_bit(before: &[u8], bit: Option<u32>, out: &mut Vec<u8>) -> Result<(), AllocError>
     ensures printed { OnOk result (out.new.items ≡ out.old.items ++ bit_text before.now bit) }
     ensures front { OnErr result (take (length out.old.items) out.new.items ≡ out.old.items) }
@@ -56,7 +57,7 @@ impl Name {
         }
     }
 
-    /// The same, where a beginning may stay behind a refused growth.
+    /// The same. Where the vector can't grow, a beginning may stay in it.
     fn append(&self, out: &mut Vec<u8>) -> Result<(), AllocError>
         ensures printed { OnOk result (out.new.items ≡ out.old.items ++ printed (name_of self.now)) }
         ensures front { OnErr result (take (length out.old.items) out.new.items ≡ out.old.items) }

@@ -73,8 +73,8 @@ fn links_back(
 /// is a change of a gate's output that the one before it caused, by the first terminal that changed then. There is none where the net never
 /// changes.
 ///
-/// It takes one step for each link and terminal, each a search in the changes of one net, and one for each gate of the circuit. The error
-/// is want of memory.
+/// It takes one step for each link and terminal, each a search in the changes of one net, and one
+/// for each gate of the circuit. Fails where memory runs out.
 pub fn chain_of(
     alloc: Global,
     circuit: &Circuit,
@@ -96,8 +96,9 @@ pub fn chain_of(
     Ok(Some(links))
 }
 
-/// The chain of changes that ends in the last change of the output that changes last, the first one of several. There is none where no
-/// output changes. The error is want of memory.
+/// The chain of changes that ends in the last change of the output that changes last. Of several
+/// such outputs it takes the first. There is none where no output changes. Fails where memory runs
+/// out.
 pub fn latest_chain(
     alloc: Global,
     circuit: &Circuit,

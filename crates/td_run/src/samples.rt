@@ -86,7 +86,7 @@ fn is_at(turns: &[Turn], place: usize, moment: u64) -> bool
     }
 }
 
-/// Adds a change, where it is to another level than this one. Answers the level behind it.
+/// Adds a change, where it goes to another level than this one. Answers the level after it.
 fn add_change(changes: &mut Vec<Change>, level: Level, change: Change) -> Result<Level, AllocError>
     ensures level { IfOk result (λ next. next ≡ change.level) }
     ensures changes { OnOk result (changes.new.items ≡ changes.old.items ++ changing level (change ∷ [])) }

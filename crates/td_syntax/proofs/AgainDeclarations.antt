@@ -44,7 +44,7 @@ bounds_again s r more h e =
     let d = mark_again symbol.RightBracket c.rest more c.tokens in
     record { rest = d.rest; gives = rw (a.gives, b.gives, c.gives, d.gives) refl; tokens = d.tokens }
 
--- what stands behind the range is a name
+-- what follows the range is a name
 range_again : (s : Remainder) (r : Option grammar.Range) (n : grammar.Name) (more : List Placed) → IsMaybeRange r → Begins s (grammar.optional grammar.range r ++ (grammar.name n ++ more)) → Reads (range_at s) r (grammar.name n ++ more)
 unfolding range_at
 range_again s None n more h e =
@@ -57,7 +57,7 @@ range_again s (Some r) n more h e =
 
 -- ---- wire
 
--- what may stand behind `wire`: a range or a name
+-- what may follow `wire`: a range or a name
 record NoStrength (text : List Placed) : Type 0 where
   first : Placed
   more : List Placed
@@ -301,7 +301,7 @@ named_again n ns s tail le e =
     let l = names_again symbol.Close refl (n ∷ ns) s (grammar.mark symbol.Semicolon ++ tail) le (omega arith) e in
     record { rest = l.rest; gives = rw (f.gives, heading, l.gives) refl; tokens = l.tokens }
 
--- behind the (
+-- after the (
 abbrev Listed : Remainder → grammar.Ports → List Placed → Type 0
 Listed s p tail = Reads (maybe_mark_at symbol.Close s >>= listed) p (grammar.mark symbol.Semicolon ++ tail)
 

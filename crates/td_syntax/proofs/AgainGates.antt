@@ -113,7 +113,7 @@ bit_again s digits more e =
     let b = mark_again symbol.RightBracket a.rest more a.tokens in
     record { rest = b.rest; gives = rw (a.gives, b.gives) refl; tokens = b.tokens }
 
--- what stands behind a terminal is no [
+-- what follows a terminal is no [
 selected_again : (t : grammar.Terminal) (s : Remainder) (u : Placed) (more : List Placed) → is_mark symbol.LeftBracket u.token ≡ false → Begins s (behind_base t ++ (u ∷ more)) → Reads (selected_at (base_of t) s) t (u ∷ more)
 unfolding selected_at base_of behind_base
 selected_again (grammar.Whole n) s u more other e =
@@ -125,7 +125,7 @@ selected_again (grammar.Select n digits) s u more other e =
     record { rest = b.rest; gives = rw (a.gives, b.gives) refl; tokens = b.tokens }
 selected_again (grammar.Level b) s u more other e = record { rest = s; gives = refl; tokens = e }
 
--- a terminal up to the mark behind it
+-- a terminal up to the mark after it
 record Reached (kind : Kind) (k : ℕ) (s : Remainder) (t : grammar.Terminal) (more : List Placed) : Type 0 where
   line : ℕ
   rest : Remainder

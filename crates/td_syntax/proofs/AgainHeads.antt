@@ -95,7 +95,7 @@ fronts_again k (f ∷ fs) s tail e =
     let b = fronts_again (k + 1) fs a.rest tail a.tokens in
     record { rest = b.rest; gives = rw (unrolled front_step fronts_shorten k s, a.gives, b.gives) refl; tokens = b.tokens }
 
--- ---- what stands behind the module
+-- ---- what follows the module
 
 abbrev Behinds : List Placed → Stop → ℕ → ℕ → Remainder
 Behinds ts stop line gates = record { stream = record { tokens = ts; stop = stop; line = line }; gates = gates }

@@ -45,7 +45,7 @@ reserved_plain l Attribute k e = let h : Attribute ≡ Reserved k = ap (λ (p : 
 reserved_plain l (Directs d w) k e = let h : Directs d [] ≡ Reserved k = ap (λ (p : Placed). p.token) e in absurd cc
 reserved_plain l (Outside w) k e = let h : Outside w ≡ Reserved k = ap (λ (p : Placed). p.token) e in absurd cc
 
--- the keyword in front, behind its attributes, as a step sees it
+-- the keyword in front, after its attributes, as a step sees it
 record Worded (tens k attributes : ℕ) (s : Remainder) (w : Keyword) (more : List Placed) : Type 0 where
   placed : Placed
   rest : Remainder

@@ -4,7 +4,7 @@ use Rattle.std.specs.Option.{option_map}
 use Rattle.td_syntax.specs.declared.attribute.Place.{Place}
 use Rattle.td_syntax.specs.Lexical.{closes, behind_byte, end_behind}
 
--- so many bytes further on
+-- that many bytes further on
 abbrev pub later : ℕ → Option ℕ → Option ℕ
 later i None = None
 later i (Some k) = Some (i + k)

@@ -12,7 +12,7 @@ use Rattle.td_syntax.proofs.SoundHeads.{attributes_shorten}
 abbrev pub ones : ℕ → List (Unit {0})
 ones n = replicate n tt
 
--- so many attributes before this moment, and those that are still to come
+-- `n` attributes before this moment, and those that are still to come
 abbrev pub Counted : ℕ → Remainder → Remainder → Type 0
 Counted n s begin = SoFar attribute_step attributes_shorten same (ones n) s (many attribute_step begin)
 

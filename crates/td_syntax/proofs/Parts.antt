@@ -1,4 +1,4 @@
--- What stands behind the parts of a `timescale is no longer than the text.
+-- What follows the parts of a `timescale is no longer than the text.
 use Rattle.std.proofs.Common.{◌≡◌, ℕ, suc, ◌+◌, ◌≤◌, Bool, true, false, cond, List, [], ◌∷◌, length, drop, min, Option, Some, None, Result, Ok, Err, refl, sym, subst, arith, length-drop}
 use Rattle.std.specs.Prelude.{◌==◌, nat_le, IfOk}
 use Rattle.std.specs.List.{prefix_len}

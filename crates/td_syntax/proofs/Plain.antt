@@ -5,8 +5,8 @@ use Rattle.td_syntax.specs.Grammar.{Statement, instance_gates}
 use Rattle.td_syntax.specs.Token as lexical
 use Rattle.td_syntax.specs.Token.{Placed, placed_on}
 
--- A token without what the grammar doesn't look at: lines, but those of names, the backslash of a name, and texts that are
--- told alone.
+-- A token without what the grammar doesn't look at: lines, but those of names, the backslash of a
+-- name, and texts that are only reported.
 abbrev pub plain_as : ℕ → lexical.Token → Placed
 plain_as line (lexical.Name w) = placed_on line (lexical.Name w)
 plain_as line (lexical.Escaped w) = placed_on line (lexical.Name (drop 1 w))

@@ -109,7 +109,7 @@ limited_takes s x e =
     let h = limited_is b.0.0 b.0.1 (as_whole b.0.0) x b.2 in
     (subst (λ (u : Remainder). Takes s (grammar.whole x.0) 0 u) h.1 (regrouped s _ _ 0 0 b.0.1 (wholes_classified.spelled b.0.0 x.0 h.0) refl (next_takes s b.0 b.1)), h.2)
 
--- what stands behind the [ of a range
+-- what follows the [ of a range
 abbrev pub bounds_text : grammar.Range → List Placed
 bounds_text r = grammar.whole r.left ++ grammar.mark symbol.Colon ++ grammar.whole r.right ++ grammar.mark symbol.RightBracket
 
@@ -148,7 +148,7 @@ range_takes s x e =
 
 -- ---- declarations
 
--- behind the word of the role
+-- after the word of the role
 abbrev pub declaration_rest : grammar.Declaration → List Placed
 declaration_rest d = grammar.wire_word d.wire ++ grammar.optional grammar.range d.range ++ grammar.separated grammar.name d.names ++ grammar.mark symbol.Semicolon
 
@@ -244,7 +244,7 @@ headed_takes first s x e =
     let t = header_takes s h.0 h.1 in
     subst (HasPort first s) (ok_is (grammar.Headed h.0.0, h.0.1) x h.2) (t.0, t.1, headed_if first h.0.0)
 
--- the same behind nothing
+-- the same after nothing
 headed_behind : (s mid : Remainder) (x : grammar.Port × Remainder) → Takes s [] 0 mid → headed_at mid ≡ Ok x → HasPort false s x
 headed_behind s mid x nothing e =
     let t = headed_takes false mid x e in

@@ -163,7 +163,7 @@ second_takes s x e =
           subst (λ (y : Bool × Remainder). Takes s (second_text y.0) 0 y.1) (ok_is (false, b.0.1) x t.1) (mark_taken symbol.Close s b.0 b.1 t.0)
     ]
 
--- what stands behind the `#(`
+-- what follows the `#(`
 abbrev pub inside : grammar.Delay → List Placed
 inside (grammar.Plain n) = grammar.number n
 inside (grammar.Single n) = grammar.number n ++ grammar.mark symbol.Close

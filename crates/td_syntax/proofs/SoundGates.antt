@@ -46,7 +46,7 @@ output_takes line (grammar.Whole n) s rest e = (count_takes line s rest e, tt)
 output_takes line (grammar.Select n digits) s rest e = (count_takes line s rest e, tt)
 output_takes line (grammar.Level b) s rest e = absurd (err_is_no_ok _ rest (sym e))
 
--- the gates that a terminal makes as it begins, and those that it makes behind a comma
+-- the gates that a terminal makes as it begins, and those that it makes after a comma
 abbrev pub first_gates : ℕ → ℕ
 first_gates k = cond (k == 0) 1 0
 
@@ -81,7 +81,7 @@ end_terminals_take k line s rest e = by (k == 0) refl e
     by true is e = absurd (err_is_no_ok _ rest (sym e))
     by false is e = (subst (λ (u : Remainder). Takes s [] 0 u) (ok_is s rest e) (takes_nothing s), positive k is)
 
--- what stands behind a terminal, by the step
+-- what follows a terminal, by the step
 abbrev TerminalEnd : Kind → ℕ → grammar.Terminal → Remainder → Step grammar.Terminal × Remainder → Type 0
 TerminalEnd kind k t s x = elim x.0 [
   | More m ↦ Takes s (grammar.mark symbol.Comma) (later_gates kind k) x.1 × (t ≡ m) × OutputIf (has_many_outputs kind && nat_lt 0 k) t
@@ -115,7 +115,7 @@ bit_takes s x e =
     subst (λ (y : List ℕ × Remainder). Takes s (grammar.whole y.0 ++ grammar.mark symbol.RightBracket) 0 y.1) (ok_is (a.0.0, b.0) x b.2)
     (takes_then s (grammar.whole a.0.0) 0 a.0.1 (grammar.mark symbol.RightBracket) 0 b.0 (whole_takes s a.0 a.1) (mark_takes symbol.RightBracket a.0.1 b.0 b.1))
 
--- what stands behind the name or constant of a terminal
+-- what follows the name or constant of a terminal
 pub record Selected (base : grammar.Terminal) (s : Remainder) (x : grammar.Terminal × Remainder) : Type 0 where
   pub behind : List Placed
   pub text : grammar.terminal base ++ behind ≡ grammar.terminal x.0
@@ -159,7 +159,7 @@ output_if : (b : Bool) (base t : grammar.Terminal) → (IsNet base → IsNet t) 
 output_if true base t net h = net h
 output_if false base t net h = tt
 
--- a terminal and what stands behind it
+-- a terminal and what follows it
 record Terminal (kind : Kind) (k : ℕ) (s : Remainder) (x : Step grammar.Terminal × Remainder) : Type 0 where
   terminal : grammar.Terminal
   mid : Remainder
@@ -341,7 +341,7 @@ instances_take kind s y e =
     let h = instances_hold kind 0 y.0 l.holds in
     (regrouped s _ _ _ _ y.1 refl (instances_count kind 0 y.0) l.takes, h.0, h.1)
 
--- behind the word of the kind
+-- after the word of the kind
 abbrev pub statement_rest : grammar.Statement → List Placed
 statement_rest g = grammar.delay g.delay ++ grammar.separated grammar.instance g.instances ++ grammar.mark symbol.Semicolon
 

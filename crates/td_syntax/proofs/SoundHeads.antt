@@ -217,7 +217,7 @@ fronts_take s y e =
     let all = all_takes front_step grammar.front Always zero_gates (grammar.word keyword.Module) fronts_sequence 0 s y e in
     regrouped s _ _ _ 0 y.1 refl (no_sum y.0) all.takes
 
--- ---- what stands behind it
+-- ---- what follows it
 
 abbrev BehindStep : Remainder → Step Directive × Remainder → Type 0
 BehindStep s x = elim x.0 [

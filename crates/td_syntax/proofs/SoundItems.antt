@@ -145,7 +145,7 @@ items_take tens s y e = all_takes (item_step tens) grammar.item (IsItem tens) it
 
 -- ---- the module
 
--- nothing stands behind this
+-- nothing follows this
 abbrev pub IsEnd : Remainder → Type 0
 IsEnd s = (s.stream.tokens ≡ []) × (s.stream.stop ≡ stop.End)
 
@@ -165,7 +165,7 @@ end_is : (s rest : Remainder) → end_at s ≡ Ok rest → IsEnd s × (s ≡ res
 unfolding end_at
 end_is s rest e = ended s rest (front_of s.stream) refl e
 
--- What is read as a module is spelled by it, and nothing stands behind it.
+-- What is read as a module is spelled by it, and nothing follows it.
 pub record TakesModule (s : Remainder) (m : grammar.Module) (rest : Remainder) : Type 0 where
   pub takes : Takes s (grammar.module_tokens m) (sum_by item_gates m.items) rest
   pub ports : ArePorts m.ports

@@ -16,7 +16,7 @@ use Rattle.td_syntax.specs.Faults.{Fault, refused, ◌>>=◌}
 use Rattle.td_syntax.specs.Readers.{Remainder, next_by, read_as, read_if, code_of, is_mark, as_name, Step, More, Final, Done, go_on, step_of, behind, next_at, take_at, maybe_at, name_at, mark_at, maybe_mark_at, many_within, many_from, separator_at}
 use Rattle.td_syntax.proofs.Lists.{left, Shortens}
 
--- s is the tokens of text, up to lines, and then those of rest, which counts so many gates more
+-- s is the tokens of text, up to lines, and then those of rest, which counts `gates` gates more
 pub record Takes (s : Remainder) (text : List Placed) (gates : ℕ) (rest : Remainder) : Type 0 where
   pub tokens : map plain s.stream.tokens ≡ text ++ map plain rest.stream.tokens
   pub stop : rest.stream.stop ≡ s.stream.stop
@@ -38,7 +38,7 @@ takes_then s x n t y m u p q = record {
 pub regrouped : (s : Remainder) (x y : List Placed) (n m : ℕ) (rest : Remainder) → x ≡ y → n ≡ m → Takes s x n rest → Takes s y m rest
 regrouped s x y n m rest e f t = record { tokens = rw (← e) t.tokens; stop = t.stop; counted = rw (← f) t.counted; within = t.within }
 
--- a part, another, and one behind it
+-- a part, another, and one after it
 pub then_two : (s : Remainder) (x : List Placed) (n : ℕ) (mid : Remainder) (y z : List Placed) (m : ℕ) (rest : Remainder) → Takes s x n mid → Takes mid (y ++ z) m rest → Takes s (x ++ y ++ z) (n + m) rest
 then_two s x n mid y z m rest p q = regrouped s (x ++ (y ++ z)) (x ++ y ++ z) (n + m) (n + m) rest (sym (append_assoc x y z)) refl (takes_then s x n mid (y ++ z) m rest p q)
 
@@ -255,7 +255,7 @@ behind_never {A} end a t rest e =
 text_is : {A : Type 0} (spell : A → List Placed) (end : Symbol) (a b : A) (m n : Bool) → a ≡ b → m ≡ n → spell a ++ separator_text end m ≡ spell b ++ separator_text end n
 text_is {A} spell end a b m n p q = ap (λ (x : A). spell x ++ separator_text end m) p ∙ ap (λ (y : Bool). spell b ++ separator_text end y) q
 
--- a member and the comma behind it
+-- a member and the comma after it
 pub behind_more : {A : Type 0} (spell : A → List Placed) (end : Symbol) (s : Remainder) (a : A) (n : ℕ) (t : Remainder) (b : A) (rest : Remainder) → Takes s (spell a) n t → behind end a t ≡ Ok (More b, rest)
     → (a ≡ b) × Takes s (spell b ++ grammar.mark symbol.Comma) n rest
 behind_more {A} spell end s a n t b rest first e =
@@ -293,7 +293,7 @@ gates_from g h k [] = 0
 gates_from g h k (a ∷ []) = h k a
 gates_from g h k (a ∷ b ∷ bs) = g k a + gates_from g h (k + 1) (b ∷ bs)
 
--- members with commas between them, and what stands behind them
+-- members with commas between them, and what follows them
 pub record TakesList {A : Type 0} (spell : A → List Placed) (P Q : ℕ → A → Type 0) (g h : ℕ → A → ℕ) (closing : List Placed) (k : ℕ) (s : Remainder) (xs : List A) (rest : Remainder) : Type 0 where
   pub takes : Takes s (grammar.separated spell xs ++ closing) (gates_from g h k xs) rest
   pub holds : AllFrom P Q k xs
@@ -340,7 +340,7 @@ module _ {A : Type 0} (step : ℕ → Remainder → Result (Step A × Remainder)
     by = λ k s a rest e. omega (arith, takes_length s (spell a ++ grammar.mark symbol.Comma) (g k a) rest (member.more k s a rest e).0, length-append (spell a) (grammar.mark symbol.Comma));
   }
 
--- ---- members one behind another
+-- ---- members one after another
 
 pub record SequenceTakes {A : Type 0} (step : ℕ → Remainder → Result (Step A × Remainder) Fault) (spell : A → List Placed) (P : A → Type 0) (g : A → ℕ) (closing : List Placed) : Type 0 where
   pub more : (k : ℕ) (s : Remainder) (a : A) (rest : Remainder) → step k s ≡ Ok (More a, rest) → Takes s (spell a) (g a) rest × P a

@@ -53,14 +53,14 @@ refusal (Outside w) = OutOfSubset w
 abbrev pub refused : Placed → Fault
 refused p = fault (refusal p.token) p.line
 
--- what stands behind the last token, where another is due
+-- what follows the last token, where another is due
 abbrev pub stopped : Stop → ℕ → Fault
 stopped stop.Cut line = fault UnexpectedEnd line
 stopped stop.Bad line = fault BadByte line
 stopped stop.Malformed line = fault Syntax line
 stopped stop.End line = fault UnexpectedEnd line
 
--- want of memory isn't a fault of the text
+-- running out of memory isn't a fault of the text
 abbrev pub reported : code_kind.FaultKind → Option FaultKind
 reported code.OutOfMemory = None
 reported code.BadByte = Some BadByte
@@ -80,7 +80,7 @@ abbrev pub Gives : {X Y : Type 0} → (X → Y) → Result X code_fault.Fault �
 Gives view (Ok x) read = read ≡ Ok (view x)
 Gives view (Err e) read = Fails e read
 
--- one reader behind another, up to the first fault
+-- one reader after another, up to the first fault
 infixl 10 ◌>>=◌
 abbrev pub ◌>>=◌ : {A B E : Type 0} → Result A E → (A → Result B E) → Result B E
 (Ok x) >>= f = f x

@@ -196,7 +196,7 @@ module_tokens m =
 abbrev pub IsBetween : ℕ → ℕ → ℕ → Type 0
 IsBetween low high n = (low ≤ n) × (n ≤ high)
 
--- the number so far with one more character behind it
+-- the number so far with one more character at its end
 abbrev pub with_digit : ℕ → ℕ → ℕ
 with_digit n d = if d == 95 then n else 10 * n + (d - 48)
 
@@ -207,24 +207,25 @@ decimal_value digits = fold with_digit 0 digits
 abbrev pub is_digit : ℕ → Bool
 is_digit d = not (d == 95)
 
--- the digits behind the point, without the _ between them
+-- the digits after the point, without the _ between them
 abbrev pub fraction_digits : Option (List ℕ) → List ℕ
 fraction_digits None = []
 fraction_digits (Some digits) = filter is_digit digits
 
 -- ---- steps
 
--- the number with so many of the digits behind it, and zeros where there are less
+-- the number with that many of the digits at its end, and zeros where there are fewer
 abbrev pub steps_behind : ℕ → ℕ → List ℕ → ℕ
 steps_behind n zero digits = n
 steps_behind n (suc tens) [] = steps_behind (10 * n) tens []
 steps_behind n (suc tens) (d ∷ ds) = steps_behind (with_digit n d) tens ds
 
--- A number of units, where a unit has 10 to the power of tens steps: its point moves so many places to the right.
+-- A number of units, where a unit has 10 to the power of `tens` steps: its point moves `tens`
+-- places to the right.
 abbrev pub steps_of : ℕ → Numeral → ℕ
 steps_of tens n = steps_behind (decimal_value n.whole) tens (fraction_digits n.fraction)
 
--- whether nothing but zeros stands behind the point then
+-- whether only zeros follow the point then
 abbrev pub is_whole : ℕ → Numeral → Bool
 is_whole tens n = list_all is_zero (drop tens (fraction_digits n.fraction))
 
@@ -290,7 +291,7 @@ has_many_outputs kinds.Buf = true
 has_many_outputs kinds.Not = true
 has_many_outputs k = false
 
--- how many of so many terminals are outputs; each makes a gate
+-- how many terminals are outputs, of this number of terminals; each makes a gate
 abbrev pub output_count : Kind → ℕ → ℕ
 output_count k terminals = if has_many_outputs k then terminals - 1 else 1
 

@@ -56,7 +56,7 @@ constant_of text =
     else (if bytes_eq text (codes "1'b1") || bytes_eq text (codes "1'B1") then Constant true text
     else Outside text)
 
--- a constant: a number of n bytes, the quote and the letters and digits behind it
+-- a constant: a number of n bytes, the quote and the letters and digits after it
 abbrev pub constant_at : ℕ → List ℕ → Piece
 constant_at n bytes =
     let m = n + 1 + prefix_len is_ascii_alphanumeric (drop 1 (drop n bytes)) in Found (constant_of (take m bytes)) m
@@ -78,7 +78,7 @@ number_at bytes = number_by bytes (numeral_at bytes)
 
 -- ---- escaped names
 
--- The bytes are those behind the backslash.
+-- The bytes are those after the backslash.
 unfoldable pub escaped_at : List ℕ → Piece
 escaped_at bs =
     let n = prefix_len is_printable bs in
@@ -87,19 +87,19 @@ escaped_at bs =
 
 -- ---- directives
 
--- the parts behind the word of a `timescale, and how many bytes the whole takes
+-- the parts after the word of a `timescale, and how many bytes the whole takes
 abbrev pub timescale_piece : List ℕ → List ℕ → Result (Directive × List ℕ) Unread → Piece
 timescale_piece word bytes (Ok x) = Found (Directs (Ok x.0) word) (length word + (length bytes - length x.1))
 timescale_piece word bytes (Err e) = Found (Directs (Err e) word) (length word + length bytes)
 
--- a directive by its word, which begins with the backquote, and the bytes behind it
+-- a directive by its word, which begins with the backquote, and the bytes after it
 unfoldable pub directive_of : List ℕ → List ℕ → Piece
 directive_of word bytes =
     if bytes_eq word (codes "`timescale") then timescale_piece word bytes (timescale_at bytes)
     else (if bytes_eq word (codes "`celldefine") || bytes_eq word (codes "`endcelldefine") then Found (Directs (Ok directive.Cells) word) (length word)
     else Found (Outside word) (length word))
 
--- The bytes are those behind the backquote.
+-- The bytes are those after the backquote.
 unfoldable pub directive_at : List ℕ → Piece
 directive_at bs =
     let n = prefix_len is_name_byte bs in
@@ -108,14 +108,14 @@ directive_at bs =
 
 -- ---- attributes
 
--- Whether this byte ends the attribute: the `)` behind a `*` that stands in no quoted text.
+-- Whether this byte ends the attribute: the `)` after a `*` that stands in no quoted text.
 abbrev pub closes : Place → ℕ → Bool
 closes place.Plain b = false
 closes place.Star b = b == 41
 closes place.Quoted b = false
 closes place.Escaped b = false
 
--- what stands behind this byte, in an attribute that it doesn't end
+-- the place after this byte, in an attribute that it doesn't end
 abbrev pub behind_byte : Place → ℕ → Place
 behind_byte place.Plain b = if b == 34 then place.Quoted else (if b == 42 then place.Star else place.Plain)
 behind_byte place.Star b = if b == 34 then place.Quoted else (if b == 42 then place.Star else place.Plain)
@@ -145,14 +145,14 @@ mark_of b =
     else (if b == 58 then Mark symbol.Colon
     else Outside (b ∷ [])))))))
 
--- A character by itself, an escaped name or a directive. The bytes are those behind it.
+-- A character by itself, an escaped name or a directive. The bytes are those after it.
 unfoldable pub char_at : ℕ → List ℕ → Piece
 char_at b bs =
     if b == 92 then escaped_at bs
     else (if b == 96 then directive_at bs
     else Found (mark_of b) 1)
 
--- A `(` begins an attribute where a `*` stands behind it. The bytes are those behind the `(`.
+-- A `(` begins an attribute where a `*` follows it. The bytes are those after the `(`.
 abbrev pub open_at : List ℕ → Piece
 open_at [] = Found (Mark symbol.Open) 1
 open_at (c ∷ bs) = if c == 42 then attribute_of (end_behind place.Plain bs) else Found (Mark symbol.Open) 1

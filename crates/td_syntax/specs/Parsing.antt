@@ -34,7 +34,7 @@ attribute_step k s = maybe_at as_attribute s >>= λ x. Ok (attribute_member x.0,
 unfoldable pub attributes_at : Remainder → Result (ℕ × Remainder) Fault
 attributes_at s = many attribute_step s >>= λ x. Ok (length x.0, x.1)
 
--- A directive that was in front on this line. Where its parts are cut, the text ends behind it.
+-- A directive that was in front on this line. Where its parts are cut, the text ends after it.
 unfoldable pub directive_at : ℕ → Result Directive Unread → Remainder → Result (Directive × Remainder) Fault
 directive_at line (Ok d) s = Ok (d, s)
 directive_at line (Err unread.Wrong) s = Err (fault Syntax line)
@@ -72,7 +72,7 @@ abbrev pub behind_by : ℕ → Remainder → Remainder → Option (Result Direct
 behind_by line s rest None = Ok (Done, s)
 behind_by line s rest (Some d) = directive_at line d rest >>= λ x. Ok (More x.0, x.1)
 
--- a directive behind the module, if one is in front
+-- a directive after the module, if one is in front
 unfoldable pub behind_step : ℕ → Remainder → Result (Step Directive × Remainder) Fault
 behind_step k s = if is_behind (front_of s.stream) then Ok (Done, s) else (next_at s >>= λ p. behind_by p.0.line s p.1 (as_directive p.0))
 
@@ -114,7 +114,7 @@ pair_at tens first x = elim x.0 [
   | false ↦ Ok (grammar.Single first, x.1)
 ]
 
--- behind #( stand one number or two
+-- one number or two follow #(
 unfoldable pub bracketed_at : ℕ → Remainder → Result (grammar.Delay × Remainder) Fault
 bracketed_at tens s = steps_at tens s >>= λ first. second_at first.1 >>= pair_at tens first.0
 
@@ -151,7 +151,7 @@ begin_terminal k line t s =
     if nat_lt k 1024 then (if k == 0 then output_at line t s else Ok s)
     else Err (fault TooMany line)
 
--- Behind a comma the terminal was no last one.
+-- The terminal before a comma isn't the last one.
 unfoldable pub more_terminals : Kind → ℕ → ℕ → grammar.Terminal → Remainder → Result Remainder Fault
 more_terminals kind k line t s = if has_many_outputs kind && nat_lt 0 k then output_at line t s else Ok s
 
@@ -180,7 +180,7 @@ base_by line (Outside w) = None
 abbrev pub as_base : Placed → Option grammar.Terminal
 as_base p = base_by p.line p.token
 
--- the number of a bit, behind its [
+-- the number of a bit, after its [
 unfoldable pub bit_at : Remainder → Result (List ℕ × Remainder) Fault
 bit_at s = whole_at s >>= λ digits. mark_at symbol.RightBracket digits.1 >>= λ rest. Ok (digits.0, rest)
 
@@ -190,7 +190,7 @@ selected_by n x = elim x.0 [
   | false ↦ Ok (grammar.Whole n, x.1)
 ]
 
--- a name may have a bit behind it
+-- a bit may follow a name
 unfoldable pub selected_at : grammar.Terminal → Remainder → Result (grammar.Terminal × Remainder) Fault
 selected_at (grammar.Whole n) s = maybe_mark_at symbol.LeftBracket s >>= selected_by n
 selected_at (grammar.Select n digits) s = Ok (grammar.Select n digits, s)
@@ -205,7 +205,7 @@ terminal_step kind k s = next_at s >>= λ p. terminal_by kind k p.0 p.1 (as_base
 
 -- ---- gates
 
--- a range behind the name of an instance is outside the subset
+-- a range after the name of an instance is outside the subset
 abbrev pub opening_refusal : Bool → Placed → Fault
 opening_refusal named p = if named && is_mark symbol.LeftBracket p.token then fault (OutOfSubset (codes "[")) p.line else refused p
 
@@ -223,7 +223,7 @@ instance_at kind s = do
 unfoldable pub instance_step : Kind → ℕ → Remainder → Result (Step grammar.Instance × Remainder) Fault
 instance_step kind k s = instance_at kind s >>= λ i. behind symbol.Semicolon i.0 i.1
 
--- behind the word of the kind
+-- after the word of the kind
 unfoldable pub statement_at : ℕ → ℕ → Kind → Remainder → Result (grammar.Statement × Remainder) Fault
 statement_at tens attributes kind s = do
   delay ← delay_at tens s
@@ -256,7 +256,7 @@ wired x = elim x.0 [
   | None ↦ Ok (false, x.1)
 ]
 
--- `wire` may stand behind `input` and `output`
+-- `wire` may follow `input` and `output`
 unfoldable pub wire_at : Role → Remainder → Result (Bool × Remainder) Fault
 wire_at role.Input s = maybe_at as_wire s >>= wired
 wire_at role.Output s = maybe_at as_wire s >>= wired
@@ -270,7 +270,7 @@ limited_from p rest (Some digits) = if nat_lt 1000000000 (decimal_value digits) 
 unfoldable pub limited_at : Remainder → Result (List ℕ × Remainder) Fault
 limited_at s = next_at s >>= λ p. limited_from p.0 p.1 (as_whole p.0)
 
--- behind the [ of a range
+-- after the [ of a range
 unfoldable pub bounds_at : Remainder → Result (grammar.Range × Remainder) Fault
 bounds_at s = do
   left ← limited_at s
@@ -288,7 +288,7 @@ range_by x = elim x.0 [
 unfoldable pub range_at : Remainder → Result (Option grammar.Range × Remainder) Fault
 range_at s = maybe_mark_at symbol.LeftBracket s >>= range_by
 
--- behind the word of the role
+-- after the word of the role
 unfoldable pub declaration_at : ℕ → Role → Remainder → Result (grammar.Declaration × Remainder) Fault
 declaration_at attributes r s = do
   wire ← wire_at r s
@@ -341,7 +341,7 @@ port_step k s = port_at k s >>= λ p. behind symbol.Close p.0 p.1
 abbrev pub is_heading : Placed → Bool
 is_heading p = is_some (as_attribute p) || is_some (as_direction p)
 
--- the ports, of which there is one at least
+-- the ports: at least one
 unfoldable pub listed_at : Remainder → Result (grammar.Ports × Remainder) Fault
 listed_at s = next_at s >>= λ p.
     if is_heading p.0 then (many port_step s >>= λ ports. Ok (grammar.Declared ports.0, ports.1))
@@ -400,7 +400,7 @@ end_by s (Behind stop.Bad line) = Err (stopped stop.Bad line)
 end_by s (Behind stop.Malformed line) = Err (stopped stop.Malformed line)
 end_by s (Next p) = Err (second_refusal p)
 
--- nothing stands behind the module
+-- nothing follows the module
 unfoldable pub end_at : Remainder → Result Remainder Fault
 end_at s = end_by s (front_of s.stream)
 

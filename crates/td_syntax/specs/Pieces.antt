@@ -36,13 +36,13 @@ abbrev pub ends_name : List ℕ → Bool
 ends_name [] = true
 ends_name (b ∷ bs) = is_blank b
 
--- an escaped name, by the bytes behind its backslash
+-- an escaped name, by the bytes after its backslash
 unfoldable pub escaped_in : List ℕ → Option Piece
 escaped_in bs =
     let n = prefix_len is_printable bs in
     if ends_name (drop n bs) then (if n == 0 then None else Some (Stands (Name (take n bs)) (n + 1))) else None
 
--- ---- comments, by the bytes behind their first slash
+-- ---- comments, by the bytes after their first slash
 
 -- the place of the first */, if there is one
 unfoldable pub comment_end : List ℕ → Option ℕ
@@ -59,7 +59,7 @@ comment_in (c ∷ bs) =
 
 -- ---- numbers and constants
 
--- a number and how many bytes it takes, unless no digit stands behind its point
+-- a number and how many bytes it takes, unless no digit follows its point
 unfoldable pub numeral_at : List ℕ → Option (Numeral × ℕ)
 numeral_at bytes =
     let n = prefix_len is_number_byte bytes in
@@ -74,7 +74,8 @@ constant_in text =
     if bytes_eq text (codes "1'b0") || bytes_eq text (codes "1'B0") then Some (Constant false [])
     else (if bytes_eq text (codes "1'b1") || bytes_eq text (codes "1'B1") then Some (Constant true []) else None)
 
--- A number stands by itself or, with a quote and the letters and digits behind that, begins a constant. It runs into no other letter and no `$`.
+-- A number stands by itself or, with a quote and the letters and digits after that, begins a
+-- constant. It runs into no other letter and no `$`.
 abbrev pub number_by : List ℕ → Option (Numeral × ℕ) → Option Piece
 number_by bytes None = None
 number_by bytes (Some x) =
@@ -92,18 +93,18 @@ attribute_end quoted (b ∷ []) = None
 attribute_end false (b ∷ c ∷ bs) = if b == 42 && c == 41 then Some 2 else option_map suc (attribute_end (b == 34) (c ∷ bs))
 attribute_end true (b ∷ c ∷ bs) = if b == 92 then option_map (λ n. n + 2) (attribute_end true bs) else option_map suc (attribute_end (not (b == 34)) (c ∷ bs))
 
--- a round bracket or an attribute, by the bytes behind the bracket
+-- a round bracket or an attribute, by the bytes after the bracket
 abbrev pub open_in : List ℕ → Option Piece
 open_in [] = Some (Stands (Mark symbol.Open) 1)
 open_in (c ∷ bs) = if c == 42 then option_map (λ n. Stands Attribute (n + 2)) (attribute_end false bs) else Some (Stands (Mark symbol.Open) 1)
 
--- a directive by its word, which begins with the backquote, and the bytes behind it
+-- a directive by its word, which begins with the backquote, and the bytes after it
 unfoldable pub directive_by : List ℕ → List ℕ → Option Piece
 directive_by word bytes =
     if bytes_eq word (codes "`timescale") then option_map (λ x. Stands (Directs (Ok x.0) []) (length word + (length bytes - length x.1))) (timescale_in bytes)
     else (if bytes_eq word (codes "`celldefine") || bytes_eq word (codes "`endcelldefine") then Some (Stands (Directs (Ok directive.Cells) []) (length word)) else None)
 
--- the same, by the bytes behind the backquote
+-- the same, by the bytes after the backquote
 unfoldable pub directive_in : List ℕ → Option Piece
 directive_in bs = let n = prefix_len is_name_byte bs in if begins is_letter bs then directive_by (96 ∷ take n bs) (drop n bs) else None
 

@@ -24,7 +24,7 @@ pub record Remainder : Type 0 where
 abbrev pub start : Stream → Remainder
 start s = record { stream = s; gates = 0 }
 
--- behind the token in front
+-- after the token in front
 abbrev pub behind_front : Remainder → Remainder
 behind_front s = record { stream = rest_of s.stream; gates = s.gates }
 

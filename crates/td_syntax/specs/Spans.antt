@@ -7,7 +7,8 @@ use Rattle.td_syntax.specs.declared.token.Directive.{Directive}
 use Rattle.td_syntax.specs.declared.token.Directive.TheVariants as directive
 use Rattle.td_syntax.specs.Bytes.{is_blank}
 
--- the number beside the first of these texts with which the bytes begin, and the bytes behind that text
+-- the number beside the first of these texts with which the bytes begin, and the bytes after that
+-- text
 unfoldable pub part_in : List (List ℕ × ℕ) → List ℕ → Option (ℕ × List ℕ)
 part_in [] bytes = None
 part_in (t ∷ ts) bytes = if bytes_eq (take (length t.0) bytes) t.0 then Some (t.1, drop (length t.0) bytes) else part_in ts bytes

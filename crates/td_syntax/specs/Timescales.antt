@@ -13,7 +13,7 @@ abbrev pub ◌>>=◌ : {A B : Type 0} → Result A Unread → (A → Result B Un
 (Ok x) >>= f = f x
 (Err e) >>= f = Err e
 
--- Each part gives its number and the bytes behind it.
+-- Each part gives its number and the bytes after it.
 
 -- 1, 10 or 100, as the number of its zeros
 unfoldable pub magnitude_at : List ℕ → Result (ℕ × List ℕ) Unread

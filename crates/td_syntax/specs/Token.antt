@@ -5,7 +5,8 @@ use Rattle.td_syntax.specs.declared.token.Symbol.{Symbol}
 use Rattle.td_syntax.specs.declared.token.Directive.{Directive}
 use Rattle.td_syntax.specs.declared.token.Unread.{Unread}
 
--- a number as written: the digits and underscores before its point, and those behind it where it has one
+-- a number as written: the digits and underscores before its point, and those after it where it has
+-- one
 pub record Numeral : Type 0 where
   pub whole : List ℕ
   pub fraction : Option (List ℕ)

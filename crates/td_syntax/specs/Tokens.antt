@@ -6,7 +6,7 @@ use Rattle.td_syntax.specs.Bytes.{newlines}
 use Rattle.td_syntax.specs.Token.{Placed, placed_on}
 use Rattle.td_syntax.specs.Lexical.{Space, Found, Last, piece_at}
 
--- The tokens of a text, and what stands behind them, on which line.
+-- The tokens of a text, and what follows them, on which line.
 pub record Stream : Type 0 where
   pub tokens : List Placed
   pub stop : Stop
@@ -39,7 +39,7 @@ tokens_within (suc pieces) line bytes =
 unfoldable pub tokens_of : ℕ → List ℕ → Stream
 tokens_of line bytes = tokens_within (suc (length bytes)) line bytes
 
--- what stands in front: the first token, or what stands behind the last, with its line
+-- what stands in front: the first token, or what follows the last, with its line
 pub data Front : Type 0 where
   Next : Placed → Front
   Behind : Stop → ℕ → Front

@@ -40,7 +40,8 @@ fn behind(place: Place, byte: u8) -> Place
     }
 }
 
-/// How many bytes of the text stand up to the end of the attribute, if it ends. The text is what stands behind the `(*`.
+/// How many bytes of the text there are up to the end of the attribute, if it ends. The text is
+/// what follows the `(*`.
 pub fn attribute_len(text: &[u8]) -> Option<usize>
     ensures place { result ≡ end_behind Plain text.now }
     ensures within { IfSome result (λ n. n ≤ length text.now) }

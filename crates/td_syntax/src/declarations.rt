@@ -27,7 +27,7 @@ fn is_heading(placed: Placed<'_>) -> bool
 impl<'a> Parser<'a> {
     // ---- declarations
 
-    /// Behind `wire` a strength or a delay is outside the subset.
+    /// After `wire`, a strength or a delay is outside the subset.
     #[tactic(auto, unfolding(crate::specs::Parsing::behind_wire))]
     fn behind_wire(&self) -> Result<(), Fault<'a>>
         ensures { Gives (λ _. self.now) result (behind_wire self.now) }
@@ -42,7 +42,7 @@ impl<'a> Parser<'a> {
         }
     }
 
-    /// Whether `wire` stands behind `input` or `output`.
+    /// Whether `wire` follows `input` or `output`.
     #[tactic(auto, unfolding(crate::specs::Parsing::wire_at))]
     fn wire(&mut self, role: Role) -> Result<bool, Fault<'a>>
         ensures { Gives (λ w. (w, self.new)) result (wire_at role self.old) }
@@ -78,7 +78,7 @@ impl<'a> Parser<'a> {
         }
     }
 
-    /// Behind the `[` of a range.
+    /// After the `[` of a range.
     #[tactic(auto, unfolding(crate::specs::Parsing::bounds_at))]
     fn bounds(&mut self) -> Result<Range<'a>, Fault<'a>>
         ensures { Gives (λ r. (range_view r, self.new)) result (bounds_at self.old) }
@@ -102,7 +102,7 @@ impl<'a> Parser<'a> {
         }
     }
 
-    /// Behind the word of the role.
+    /// After the word of the role.
     #[tactic(auto, unfolding(crate::specs::Parsing::declaration_at))]
     pub fn declaration(
         &mut self,
@@ -205,7 +205,7 @@ impl<'a> Parser<'a> {
         }
     }
 
-    /// The ports, of which there is one at least.
+    /// The ports: at least one.
     #[tactic(auto, unfolding(crate::specs::Parsing::listed_at))]
     fn listed(&mut self, alloc: Global) -> Result<Ports<'a>, Fault<'a>>
         ensures { Gives (λ p. (port_list_view p, self.new)) result (listed_at self.old) }

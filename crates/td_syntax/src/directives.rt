@@ -42,7 +42,8 @@ impl<'a> Parser<'a> {
         }
     }
 
-    /// What a directive says that was in front on this line. Where its parts are cut, the text ends behind it.
+    /// What a directive says that was in front on this line. Where its parts are cut, the text ends
+    /// after it.
     #[tactic(auto, unfolding(crate::specs::Parsing::directive_at))]
     pub fn directive(
         &mut self,
@@ -97,7 +98,7 @@ impl<'a> Parser<'a> {
         }
     }
 
-    /// Behind the module: a directive, if one is in front.
+    /// After the module: a directive, if one is in front.
     #[tactic(auto, unfolding(crate::specs::Parsing::behind_step))]
     fn behind_step(&mut self, place: usize) -> Result<Step<Directive>, Fault<'a>>
         ensures { Gives (λ x. (step_view (λ d. d) x, self.new)) result (behind_step place self.old) }
@@ -115,7 +116,7 @@ impl<'a> Parser<'a> {
         }
     }
 
-    /// The directives behind the module.
+    /// The directives after the module.
     pub fn directives(&mut self, alloc: Global) -> Result<Vec<Directive>, Fault<'a>>
         ensures { Gives (λ x. (x.items, self.new)) result (many behind_step self.old) }
     {

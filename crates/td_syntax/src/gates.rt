@@ -26,7 +26,7 @@ fn has_many_outputs(kind: Kind) -> bool
     matches!(kind, Kind::Buf | Kind::Not)
 }
 
-/// What stands in place of the `(` of an instance. A range behind its name is outside the subset.
+/// What stands in place of the `(` of an instance. A range after its name is outside the subset.
 fn opening_refused<'a>(named: bool, placed: Placed<'a>) -> Fault<'a>
     ensures kind { reported result.kind ≡ Some (opening_refusal named (placed_view placed.entry)).kind }
     ensures line { result.line ≡ placed.entry.line }
@@ -73,7 +73,7 @@ impl<'a> Parser<'a> {
         }
     }
 
-    /// The bracket behind two values. A third value is outside the subset.
+    /// The bracket after two values. A third value is outside the subset.
     #[tactic(auto, unfolding(crate::specs::Parsing::close_at))]
     fn close_delay(&mut self) -> Result<(), Fault<'a>>
         ensures { Gives (λ _. self.new) result (close_at self.old) }
@@ -88,7 +88,7 @@ impl<'a> Parser<'a> {
         }
     }
 
-    /// The value or values behind `#(`.
+    /// The value or values after `#(`.
     #[tactic(auto, unfolding(crate::specs::Parsing::bracketed_at))]
     fn bracketed(&mut self, tens: u8) -> Result<Delay<'a>, Fault<'a>>
         ensures { Gives (λ d. (delay_view d, self.new)) result (bracketed_at tens self.old) }
@@ -148,7 +148,7 @@ impl<'a> Parser<'a> {
         }
     }
 
-    /// Behind a comma the terminal was no last one, so one of `buf` and `not` is an output.
+    /// The terminal before a comma isn't the last one, so that of a `buf` or a `not` is an output.
     #[tactic(auto, unfolding(crate::specs::Parsing::more_terminals))]
     fn more_terminals(
         &mut self,
@@ -166,7 +166,7 @@ impl<'a> Parser<'a> {
         }
     }
 
-    /// What stands behind a terminal that began on this line.
+    /// What follows a terminal that began on this line.
     #[tactic(auto, unfolding(crate::specs::Parsing::terminal_end, crate::specs::Parsing::end_terminals))]
     fn terminal_end(
         &mut self,
@@ -190,7 +190,7 @@ impl<'a> Parser<'a> {
         }
     }
 
-    /// The number of a bit, behind its `[`.
+    /// The number of a bit, after its `[`.
     #[tactic(auto, unfolding(crate::specs::Parsing::bit_at))]
     fn bit(&mut self) -> Result<&'a [u8], Fault<'a>>
         ensures { Gives (λ n. (n.now, self.new)) result (bit_at self.old) }
@@ -200,7 +200,7 @@ impl<'a> Parser<'a> {
         Ok(digits)
     }
 
-    /// A name may have a bit behind it.
+    /// A bit may follow a name.
     #[tactic(auto, unfolding(crate::specs::Parsing::selected_at))]
     fn selected(&mut self, base: Terminal<'a>) -> Result<Terminal<'a>, Fault<'a>>
         ensures { Gives (λ t. (terminal_view t, self.new)) result (selected_at (terminal_view base.entry) self.old) }
@@ -230,7 +230,7 @@ impl<'a> Parser<'a> {
         self.terminal_end(kind, place, placed.line, terminal)
     }
 
-    /// Behind a `(`.
+    /// After a `(`.
     fn terminals(&mut self, alloc: Global, kind: Kind) -> Result<Vec<Terminal<'a>>, Fault<'a>>
         ensures { Gives (λ x. (map terminal_view x.items, self.new)) result (many (terminal_step kind) self.old) }
     {
@@ -305,7 +305,7 @@ impl<'a> Parser<'a> {
         }
     }
 
-    /// Behind the word of the kind.
+    /// After the word of the kind.
     #[tactic(auto, unfolding(crate::specs::Parsing::statement_at))]
     pub fn statement(
         &mut self,

@@ -77,7 +77,7 @@ impl<'a> Lexer<'a> {
         ahead.next()
     }
 
-    /// Takes the first token. What stands behind the last token stays.
+    /// Takes the first token. What follows the last token stays.
     pub fn next(&mut self) -> Front<'a>
         ensures front { front_view result ≡ front_of self.old }
         ensures rest { self.new ≡ rest_of self.old }

@@ -66,7 +66,7 @@ pub fn refused_name<'a>(placed: Placed<'a>) -> Fault<'a>
     }
 }
 
-/// What stands behind the last token, where another is due.
+/// What follows the last token, where another is due.
 fn stopped<'a>(stop: Stop, line: u32) -> Fault<'a>
     ensures kind { reported result.kind ≡ Some (stopped stop line).kind }
     ensures line { result.line ≡ line }
@@ -105,7 +105,7 @@ fn name_of<'a>(placed: Placed<'a>) -> Option<Name<'a>>
     }
 }
 
-/// The bytes behind the first one.
+/// The bytes after the first one.
 fn unescaped(text: &[u8]) -> &[u8]
     ensures { result.now ≡ drop 1 text.now }
 {
@@ -201,7 +201,7 @@ pub fn direction_of(placed: Placed<'_>) -> Option<Role>
     }
 }
 
-/// What a token behind the module is reported as. A second module is outside the subset.
+/// The fault of a token after the module. A second module is outside the subset.
 fn second_refused<'a>(placed: Placed<'a>) -> Fault<'a>
     ensures kind { reported result.kind ≡ Some (second_refusal (placed_view placed.entry)).kind }
     ensures line { result.line ≡ placed.entry.line }
@@ -353,7 +353,7 @@ impl<'a> Parser<'a> {
         }
     }
 
-    /// Takes a name of a list, and the comma or the mark that ends the list behind it.
+    /// Takes a name of a list, and after it the comma or the mark that ends the list.
     #[tactic(auto, unfolding(crate::specs::Readers::name_step))]
     pub fn name_step(&mut self, end: Symbol, place: usize) -> Result<Step<Name<'a>>, Fault<'a>>
         ensures { Gives (λ x. (step_view name_view x, self.new)) result (name_step end place self.old) }
@@ -366,7 +366,7 @@ impl<'a> Parser<'a> {
         }
     }
 
-    /// Names with commas between them, up to the mark behind them.
+    /// Names with commas between them, up to the mark after them.
     pub fn names(&mut self, alloc: Global, end: Symbol) -> Result<Vec<Name<'a>>, Fault<'a>>
         ensures { Gives (λ x. (names_view x.items, self.new)) result (names_at end self.old) }
     {
@@ -412,7 +412,7 @@ impl<'a> Parser<'a> {
         matches!(self.lexer.front(), Front::Behind(_, _))
     }
 
-    /// Nothing stands behind the module.
+    /// Nothing follows the module.
     #[tactic(auto, unfolding(crate::specs::Parsing::end_at))]
     pub fn end(&self) -> Result<(), Fault<'a>>
         ensures { Gives (λ _. self.now) result (end_at self.now) }

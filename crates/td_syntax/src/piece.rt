@@ -151,7 +151,7 @@ fn begins_quote(text: &[u8]) -> bool
     }
 }
 
-/// The number in front and how many bytes it takes, unless no digit stands behind its point.
+/// The number in front and how many bytes it takes, unless no digit follows its point.
 #[tactic(auto, unfolding(crate::specs::Pieces::numeral_at))]
 fn numeral(text: &[u8]) -> Option<(Number<'_>, usize)>
     ensures number { option_numeral_view result ≡ numeral_at text.now }
@@ -243,7 +243,7 @@ fn escaped_piece<'a>(text: &'a [u8], rest: &[u8]) -> Piece<'a>
     }
 }
 
-/// A directive by its word and the text behind that.
+/// A directive by its word and the text after that.
 #[tactic(auto, unfolding(crate::specs::Lexical::directive_of))]
 fn directive_of<'a>(word: &'a [u8], behind: &[u8]) -> Piece<'a>
     requires { length word.now + length behind.now ≤ 67108865 }
@@ -321,7 +321,7 @@ fn slash_piece<'a>(slash: &'a [u8], text: &'a [u8]) -> Piece<'a>
     }
 }
 
-/// An attribute. The text is what stands behind the `(*`.
+/// An attribute. The text is what follows the `(*`.
 fn attribute_piece(text: &[u8]) -> Piece<'_>
     requires { length text.now ≤ 67108865 }
     ensures { piece_view result ≡ attribute_of (end_behind Plain text.now) }
@@ -332,7 +332,7 @@ fn attribute_piece(text: &[u8]) -> Piece<'_>
     }
 }
 
-/// A bracket, or an attribute. The text is what stands behind the `(`.
+/// A bracket, or an attribute. The text is what follows the `(`.
 fn open_piece(text: &[u8]) -> Piece<'_>
     requires { length text.now ≤ 67108865 }
     ensures { piece_view result ≡ open_at text.now }

@@ -25,7 +25,7 @@ fn zero_len(text: &[u8]) -> usize
     text.iter().take_while(|b| **b == b'0').count()
 }
 
-/// The text behind the white space in front.
+/// The text after the white space in front.
 #[tactic(auto, unfolding(crate::specs::Spans::unblanked))]
 fn unblanked(text: &[u8]) -> &[u8]
     ensures { result.now ≡ unblanked text.now }
@@ -126,7 +126,7 @@ fn parts(text: &[u8]) -> Result<(Directive, &[u8]), Unread>
     }
 }
 
-/// The parts behind the word of the directive, and the text behind them.
+/// The parts after the word of the directive, and the text after them.
 pub fn timescale(text: &[u8]) -> Result<(Directive, &[u8]), Unread>
     ensures parts { directive_view result ≡ timescale_at text.now }
     ensures within { IfOk result (λ x. length x.1.now ≤ length text.now) }

@@ -22,12 +22,12 @@ pub enum Stop {
     Cut,
     /// A byte that no token may hold.
     Bad,
-    /// A backslash without a name, or a point of a number without a digit behind it.
+    /// A backslash without a name, or a point of a number without a digit after it.
     Malformed,
     End,
 }
 
-/// A number as written: its digits, and those behind its point. `_` may stand between them.
+/// A number as written: its digits, and those after its point. `_` may stand between them.
 #[derive(Clone, Copy, Debug)]
 pub struct Number<'a> {
     pub whole: &'a [u8],

@@ -86,7 +86,7 @@ none-left [] (b ∷ those) is = absurd (some_none b.moment is)
 none-left (a ∷ these) [] is = absurd (some_none a.moment is)
 none-left (a ∷ these) (b ∷ those) is = absurd (some_none (min a.moment b.moment) is)
 
--- less is left of one of them behind the next moment
+-- less is left of one of them after the next moment
 pub next-shorter : (m : ℕ) (rest other : List Change) → earlier (first_moment rest) (first_moment other) ≡ Some m
     → length (rest_behind m rest) + length (rest_behind m other) < length rest + length other
 next-shorter m [] [] is = absurd (none_some m is)
@@ -227,7 +227,7 @@ module _ (kind : Kind) (delay falling : Delay) (left right : Wave) where
         kept = kept-sample m (merge (moments (rest_behind m rest)) (moments (rest_behind m other))) _ target out now sample (rw all at merging.kept);
       }
 
-  -- both inputs are read up to behind the next moment
+  -- both inputs are read past the next moment
   pub merging-on : (m : ℕ) (rest other rest_on other_on : List Change) (level next level_on next_on target sample target_on : Level) (out changes : List Change) (now after : Outlook)
       → earlier (first_moment rest) (first_moment other) ≡ Some m → IsMerging rest other level next target out now
       → rest_on ≡ rest_behind m rest → other_on ≡ rest_behind m other → level_on ≡ level_behind m level rest → next_on ≡ level_behind m next other

@@ -53,7 +53,7 @@ insert-first : (t : ℕ) (us : List ℕ) → IsIncreasingFrom (suc t) us → ins
 insert-first t [] later = refl
 insert-first t (u ∷ us) later = rw (lt-ltb t u later.0) refl
 
--- a moment behind the first one
+-- a moment after the first one
 insert-behind : (t u : ℕ) (us : List ℕ) → u < t → insert t (u ∷ us) ≡ u ∷ insert t us
 insert-behind t u us after = rw (le-ltb t u (omega arith), ne_eqb t u (λ same. omega (arith, same))) refl
 
@@ -112,7 +112,7 @@ next_either a b these those left right = elim (cases_lt a.moment b.moment) [
   ]
 ]
 
--- the next moment of both is the first of all, and what is left is behind it
+-- the next moment of both is the first of all, and what is left comes after it
 pub merge-next : (n m : ℕ) (rest other : List Change) → IsIncreasingFrom n (moments rest) → IsIncreasingFrom n (moments other)
     → earlier (first_moment rest) (first_moment other) ≡ Some m → IsNext m rest other
 merge-next n m [] [] left right is = absurd (none_some m is)

@@ -13,12 +13,12 @@ abbrev pub first_moment : List Change → Option ℕ
 first_moment [] = None
 first_moment (change ∷ later) = Some change.moment
 
--- the level behind a moment, before which there is no change
+-- the level after a moment, before which there is no change
 abbrev pub level_behind : ℕ → Level → List Change → Level
 level_behind moment level [] = level
 level_behind moment level (change ∷ later) = if change.moment == moment then change.level else level
 
--- the changes behind a moment, before which there is none
+-- the changes after a moment, before which there is none
 abbrev pub rest_behind : ℕ → List Change → List Change
 rest_behind moment [] = []
 rest_behind moment (change ∷ later) = if change.moment == moment then later else change ∷ later

@@ -147,7 +147,8 @@ fn widen(changes: &mut Vec<Change>, start: Level, moment: u64) -> Result<(), All
     Ok(())
 }
 
-/// The signal with at most so many changes: of more the first stay, and from the next one on both levels are possible.
+/// The signal with at most `MAX_CHANGES` changes. Where it has more, the first ones stay, and from
+/// the next one on both levels are possible.
 fn capped(signal: Wave) -> Result<Wave, AllocError>
     ensures { IfOk result (λ wave. wave ≡ record { start = signal.start; changes = capped signal.start signal.changes }) }
 {

@@ -45,7 +45,7 @@ fn earlier(this: Option<u64>, that: Option<u64>) -> Option<u64>
     }
 }
 
-/// The signal is read up to behind this moment, before which it has no other change.
+/// Reads the signal past this moment, before which it has no other change.
 #[inline(always)]
 fn read(changes: &[Change], reading: Reading, moment: u64) -> Reading
     ensures level { result.level ≡ level_behind moment reading.level (drop reading.place changes.now) }

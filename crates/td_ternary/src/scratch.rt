@@ -47,7 +47,7 @@ impl Scratch {
         }
     }
 
-    /// Makes places for the room of so many more signals. The error is want of memory.
+    /// Makes places for the room of `signals` more signals. Fails where memory runs out.
     pub fn reserve(&mut self, signals: usize) -> Result<(), AllocError> {
         self.spare.reserve(signals)
     }

@@ -57,7 +57,7 @@ fn either(zero: Level, one: Level) -> Level
     }
 }
 
-/// The track of a level behind a moment: what is due by then takes place.
+/// The track of a level after a moment: what is due by then takes place.
 #[inline(always)]
 fn fired(track: Track, level: Level, target: Level, moment: u64) -> Track
     requires { moment < 2 ^ 64 - 1 }
@@ -73,7 +73,7 @@ fn fired(track: Track, level: Level, target: Level, moment: u64) -> Track
     }
 }
 
-/// Both levels behind a moment: what is due by then takes place.
+/// Both levels after a moment: what is due by then takes place.
 #[inline(always)]
 fn turned(now: Tracks, moment: u64) -> Tracks
     requires { moment < 2 ^ 64 - 1 }
@@ -141,8 +141,8 @@ pub fn finish(changes: &mut Vec<Change>, now: Tracks) -> Result<(), AllocError>
     Ok(())
 }
 
-/// The track of a level behind a change of the target: where the target may now be the level and couldn't be, or the other way
-/// round, an event is scheduled, or taken back.
+/// The track of a level after a change of the target. Where it changes whether the target may be
+/// the level, this schedules an event, or takes one back.
 #[inline(always)]
 fn driven(track: Track, level: Level, target: Level, delay: Delay, change: Change) -> Track
     requires { change.moment ≤ 2 ^ 63 }

@@ -1,4 +1,5 @@
--- What went out, and what is still to come: the bytes of a batch, and the rest of a text behind them.
+-- What went out, and what is still to come: the bytes of a batch, and the rest of a text after
+-- them.
 use Rattle.std.proofs.Common.{◌≡◌, ℕ, List, [], ◌++◌, refl, sym, ap, subst, ◌∙◌, append_assoc}
 use Rattle.std.proofs.lemmas.List.{append-nil}
 use Rattle.std.specs.Prelude.{Option}
@@ -23,14 +24,14 @@ pub room : (a b c : Output) (text batch rest kept : List ℕ) → SentTo a b tex
 room a b c text batch rest kept so_far now =
     SentTo-then a b c text (batch ++ rest) (kept ++ rest) so_far (SentTo-more b c batch kept rest now)
 
--- a part of the rest was put behind the batch
+-- a part of the rest was appended to the batch
 pub pushed : (a b : Output) (text batch part rest grown : List ℕ) → SentTo a b text (batch ++ (part ++ rest)) → grown ≡ batch ++ part
     → SentTo a b text (grown ++ rest)
 pushed a b text batch part rest grown so_far is =
     let same : batch ++ (part ++ rest) ≡ grown ++ rest = sym (append_assoc batch part rest) ∙ ap (λ (t : List ℕ). t ++ rest) (sym is) in
     subst (λ (t : List ℕ). SentTo a b text t) same so_far
 
--- nothing is left behind the batch
+-- nothing is left after the batch
 pub whole : (a b : Output) (text batch rest : List ℕ) → SentTo a b text (batch ++ rest) → rest ≡ [] → SentTo a b text batch
 whole a b text batch rest so_far none =
     subst (λ (t : List ℕ). SentTo a b text t) (ap (λ (t : List ℕ). batch ++ t) none ∙ append-nil batch) so_far
@@ -106,7 +107,7 @@ refused_part fault a b c text batch part rest so_far refused =
     let before : SentTo a b text ((batch ++ part) ++ rest) = subst (λ (t : List ℕ). SentTo a b text t) same so_far in
     refused_rest fault a b c text ((batch ++ part) ++ rest) before (refused_longer fault b c (batch ++ part) rest refused)
 
--- one turn of a loop: the batch is written if it is full, and the next part is put behind it
+-- one turn of a loop: the batch is written if it is full, and the next part is appended to it
 pub turn : (a b c : Output) (text batch rest kept part later grown : List ℕ) → SentTo a b text (batch ++ rest) → SentTo b c batch kept
     → rest ≡ part ++ later → grown ≡ kept ++ part → SentTo a c text (grown ++ later)
 turn a b c text batch rest kept part later grown so_far now split is =

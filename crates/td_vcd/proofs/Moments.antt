@@ -151,7 +151,7 @@ IsSortedFrom-sorted (event ∷ later) sorted = (omega arith, from event later so
         let up : first.moment ≤ next.moment = order 0 1 first (omega arith) (omega arith) in
         (omega (arith, up), from next others (λ i j d less within. order (suc i) (suc j) d (omega arith) (omega arith)))
 
--- the moments behind the line of a number, each of them once
+-- the moments after the line of a number, each of them once
 abbrev moments_from : ℕ → List Event → List ℕ
 moments_from n [] = []
 moments_from n (event ∷ later) =
@@ -231,7 +231,7 @@ early event later n (t ∷ moments) less increasing =
     ap (λ (es : List Event). (Number (number_of t) ∷ map event_line es) ++ flat_map (moment_lines (event ∷ later)) moments) none
     ∙ ap (λ (ls : List Line). moment_lines later t ++ ls) (early event later (suc t) moments (omega (arith, less, increasing.0)) increasing.1)
 
--- the lines behind a number: what is left of it, and then the later moments
+-- the lines after a number: what is left of it, and then the later moments
 grouped : (n : ℕ) (events : List Event) → IsSortedFrom n events
     → lines_from n events ≡ map event_line (numbered_so n events) ++ flat_map (moment_lines events) (moments_from n events)
 grouped n [] sorted = refl

@@ -82,7 +82,7 @@ events_small bound variable (wave ∷ others) small =
 
 -- ---- the parts of a dump
 
--- one more piece behind some
+-- one more piece after some
 piece : (b x y l p : List ℕ) → x ≡ b ++ l → y ≡ x ++ p → y ≡ b ++ (l ++ p)
 piece b x y l p so_far grown = grown ∙ ap (λ (t : List ℕ). t ++ p) so_far ∙ append_assoc b l p
 

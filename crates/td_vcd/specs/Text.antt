@@ -76,7 +76,7 @@ numbered line number (x ∷ others) = line number x ∷ numbered line (suc numbe
 abbrev pub dump_begins : List Line
 dump_begins = Keyword (codes "upscope $end") ∷ Keyword (codes "enddefinitions $end") ∷ Number 0 ∷ Keyword (codes "dumpvars") ∷ []
 
--- behind the settled levels
+-- after the settled levels
 abbrev pub dump_ends : List Line
 dump_ends = Keyword (codes "end") ∷ []
 

@@ -8,12 +8,12 @@ use Rattle.td_run.specs.Waves.{waves_of}
 use Rattle.td_vcd.specs.declared.events.Event.{Event}
 use Rattle.td_vcd.specs.Text.{Line, Number, text_of, numbered, declaration, start_line, number_of, event_line}
 
--- the lines of a change behind the line of this number
+-- the lines of a change after the line of this number
 abbrev pub event_lines : ℕ → Event → List Line
 event_lines number event =
     if number_of event.moment == number then event_line event ∷ [] else Number (number_of event.moment) ∷ event_line event ∷ []
 
--- the lines of changes behind the line of this number
+-- the lines of changes after the line of this number
 abbrev pub lines_from : ℕ → List Event → List Line
 lines_from number [] = []
 lines_from number (event ∷ later) = event_lines number event ++ lines_from (number_of event.moment) later
@@ -22,7 +22,7 @@ lines_from number (event ∷ later) = event_lines number event ++ lines_from (nu
 abbrev pub begins_text : List ℕ
 begins_text = codes "$upscope $end\n$enddefinitions $end\n#0\n$dumpvars\n"
 
--- the text behind the head, where the variables have these nets and the changes come in this order
+-- the text after the head, where the variables have these nets and the changes come in this order
 abbrev pub body_text : Numbered → NetWaves → List ℕ → List Event → List ℕ
 body_text circuit run numbers events =
     text_of (numbered declaration 0 (driven circuit.netlist))

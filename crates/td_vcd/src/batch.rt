@@ -120,7 +120,7 @@ impl Batch {
         self.byte(33 + rest as u8)
     }
 
-    /// Appends the line that tells how long a step takes.
+    /// Appends the line that says how long a step takes.
     pub fn timescale(&mut self, unit: Unit) -> Result<(), AllocError>
         ensures { OnOk result (self.new ≡ self.old ++ ended (timescale unit)) }
     {

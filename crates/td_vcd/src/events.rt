@@ -1,4 +1,4 @@
-//! The changes of the variables in the order in which a dump tells them.
+//! The changes of the variables in the order in which a dump has them.
 
 ghost use Rattle.std.specs.Prelude.{◌≡◌, ◌++◌, ◌<◌, ◌≤◌, length, map, IfOk, OnOk, IsPermutation};
 ghost use Rattle.std.specs.List.{All};

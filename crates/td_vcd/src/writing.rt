@@ -82,7 +82,8 @@ fn write_starts<W: Sink>(
     Ok(())
 }
 
-/// Appends a change behind the line of a number: the line of its own number, if it is another one, and its level.
+/// Appends a change after the line of a number: the line of its own number, if it is another one,
+/// and its level.
 fn push_event(batch: &mut Batch, number: u64, event: &Event) -> Result<(), AllocError>
     requires { event.now.moment ≤ 200001000000000 }
     ensures { OnOk result (batch.new ≡ batch.old ++ text_of (event_lines number event.now)) }
@@ -111,7 +112,7 @@ fn write_changes<W: Sink>(out: &mut W, batch: &mut Batch, events: &[Event]) -> R
     Ok(())
 }
 
-/// Writes the lines behind the head, which is what the batch has.
+/// Writes the lines after the head, which the batch holds.
 fn write_lines<W: Sink>(
     out: &mut W,
     mut batch: Batch,
@@ -140,8 +141,8 @@ fn write_lines<W: Sink>(
 /// Writes the waves of a circuit's run as a value change dump: a variable for each input and each gate's output, the settled levels
 /// under `#0`, and the changes of moment t under `#(t+1)`. A step is the circuit's unit.
 ///
-/// The error is want of memory, for the changes in their order or for the bytes that are gathered before a write, or a failure of the
-/// writer.
+/// It fails where memory runs out, for the changes in their order or for the bytes gathered before
+/// a write, or where the writer fails.
 pub fn write<W: Sink>(
     alloc: Global,
     out: &mut W,
