@@ -14,7 +14,8 @@ use td_report::status::Status;
 use td_report::text::Text;
 use td_text::Sink;
 
-/// Whether the words of a command line ask for hints. It says so of words that the command line's reader refuses, too.
+/// Whether the words of a command line ask for hints. It says so of words that the command line's
+/// reader refuses, too.
 pub fn asks_hints<S: AsStr>(words: &[S]) -> bool {
     for word in words {
         match word.as_str() {
@@ -37,11 +38,11 @@ pub fn advise<S: AsStr, F: Files, R: Reasons, E: Sink>(
     reasons: &R,
     err: &mut E,
 )
-    ensures told { Hinted (E.output err.old) (E.output err.new) }
+    ensures reported { Hinted (E.output err.old) (E.output err.new) }
     ensures stays { files.new ≡ files.old }
 {
     if let Some(text) = hint(alloc, words, ended, files, reasons) {
-        let _told = tell(err, text.bytes(), ended);
+        let _reported = tell(err, text.bytes(), ended);
     }
 }
 

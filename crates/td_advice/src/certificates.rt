@@ -45,7 +45,8 @@ impl<'a> Judging<'a> {
     }
 }
 
-/// What is joined: the netlist, its circuit, whether each part is checked, and the options that pin the whole.
+/// What is joined: the netlist, its circuit, whether each part is checked, and the options that pin
+/// the whole.
 #[derive(Drop)]
 pub(crate) struct Joining<'a> {
     pub(crate) alloc: Global,

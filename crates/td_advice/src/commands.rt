@@ -204,7 +204,8 @@ fn about_netlist<F: Files, R: Reasons>(
     }
 }
 
-/// Appends which word of a request gives nothing for the inputs of a circuit, and tells whether one does.
+/// Appends which word of a request gives nothing for the inputs of a circuit, and tells whether one
+/// does.
 fn bad_words(
     alloc: Global,
     text: &mut Text,

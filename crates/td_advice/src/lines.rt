@@ -43,8 +43,8 @@ pub fn help(text: &mut Text, advice: &[u8]) -> Result<(), AllocError>
     text.push(advice)
 }
 
-/// Appends, on a line of its own, the line of this number of a text, from 1 on, where there is one. Of a long one its beginning is
-/// shown, and `?` in place of what a terminal doesn't show.
+/// Appends, on a line of its own, the line of this number of a text, from 1 on, where there is one.
+/// Of a long one its beginning is shown, and `?` in place of what a terminal doesn't show.
 pub fn quote(text: &mut Text, bytes: &[u8], line: u32) -> Result<(), AllocError> {
     let mut number: u32 = 1;
     let mut shown = 0;

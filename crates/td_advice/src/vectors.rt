@@ -46,7 +46,8 @@ impl<'a> InputWord<'a> {
     }
 }
 
-/// Appends what is wrong with the first of these words that gives nothing for the inputs of a circuit, and tells whether there is one.
+/// Appends what is wrong with the first of these words that gives nothing for the inputs of a
+/// circuit, and tells whether there is one.
 pub(crate) fn first_bad(
     alloc: Global,
     text: &mut Text,

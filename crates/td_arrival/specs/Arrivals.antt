@@ -62,7 +62,8 @@ opens_at control earliest [] = earliest
 opens_at control earliest (signal ∷ signals) =
     max (if controls control signal.start then earliest_of signal.changes else 0) (opens_at control earliest signals)
 
--- An input that surely finishes at the controlling level keeps the target from its latest change on.
+-- An input that surely finishes at the controlling level keeps the target from its latest change
+-- on.
 abbrev pub closes_at : Option Level → ℕ → List Signal → ℕ
 closes_at control latest [] = latest
 closes_at control latest (signal ∷ signals) =

@@ -11,10 +11,10 @@ use std::alloc::AllocError;
 use td_domain::{controlling_level, is_control, level_of_two};
 use td_gates::{Counts, Delay, Kind, Level, eval_counts};
 
-/// The signal of the output of a gate whose inputs have the signals at these places. Those of a gate with more than three inputs are
-/// gathered in `room`, where what stands doesn't matter.
+/// The signal of the output of a gate whose inputs have the signals at these places. Those of a
+/// gate with more than three inputs are gathered in `space`, where what stands doesn't matter.
 pub fn output_at(
-    room: &mut Vec<Signal>,
+    space: &mut Vec<Signal>,
     kind: Kind,
     delay: Delay,
     all: &[Signal],
@@ -38,8 +38,8 @@ pub fn output_at(
             Ok(output(kind, delay, &three))
         }
         _ => {
-            pick(room, all, places)?;
-            Ok(output(kind, delay, room))
+            pick(space, all, places)?;
+            Ok(output(kind, delay, space))
         }
     }
 }
@@ -56,7 +56,8 @@ fn pick(signals: &mut Vec<Signal>, all: &[Signal], places: &[u32]) -> Result<(),
     Ok(())
 }
 
-/// The signal of the output of a gate whose one input has this signal. Such a gate is nearly always a buf or a not.
+/// The signal of the output of a gate whose one input has this signal. Such a gate is nearly always
+/// a buf or a not.
 fn output_of_one(kind: Kind, delay: Delay, signals: &[Signal; 1]) -> Signal
     requires takes { TakesInputs kind (length signals.now) }
     requires few { length signals.now ≤ 1024 }
@@ -70,8 +71,8 @@ fn output_of_one(kind: Kind, delay: Delay, signals: &[Signal; 1]) -> Signal
     }
 }
 
-/// The signal of the output of a gate whose two inputs have these signals. Most gates have two, so the kind is asked for once, and what
-/// follows is made for each kind.
+/// The signal of the output of a gate whose two inputs have these signals. Most gates have two, so
+/// the kind is asked for once, and what follows is made for each kind.
 fn output_of_two(kind: Kind, delay: Delay, one: &Signal, other: &Signal) -> Signal
     requires takes { TakesInputs kind 2 }
     requires within { All (λ signal. span_reach signal.changes + max delay.rise delay.fall < 10 ^ 15) (one.now ∷ other.now ∷ []) }
@@ -89,7 +90,8 @@ fn output_of_two(kind: Kind, delay: Delay, one: &Signal, other: &Signal) -> Sign
     }
 }
 
-/// The signal of the output of a gate with two inputs, of a kind that is known where this is called.
+/// The signal of the output of a gate with two inputs, of a kind that is known where this is
+/// called.
 #[inline(always)]
 fn output_by_levels(kind: Kind, delay: Delay, one: &Signal, other: &Signal) -> Signal
     requires takes { TakesInputs kind 2 }
@@ -102,7 +104,8 @@ fn output_by_levels(kind: Kind, delay: Delay, one: &Signal, other: &Signal) -> S
     output_between(kind, delay, start, finish, &signals)
 }
 
-/// The signal of the output of a gate whose inputs have these signals. For three inputs its loops are straight lines.
+/// The signal of the output of a gate whose inputs have these signals. For three inputs its loops
+/// are straight lines.
 #[inline(always)]
 fn output(kind: Kind, delay: Delay, signals: &[Signal]) -> Signal
     requires takes { TakesInputs kind (length signals.now) }
@@ -115,7 +118,8 @@ fn output(kind: Kind, delay: Delay, signals: &[Signal]) -> Signal
     output_between(kind, delay, start, finish, signals)
 }
 
-/// The signal of the output of a gate whose inputs have these signals, and whose levels at the start and at the finish are known.
+/// The signal of the output of a gate whose inputs have these signals, and whose levels at the
+/// start and at the finish are known.
 #[inline(always)]
 fn output_between(
     kind: Kind,

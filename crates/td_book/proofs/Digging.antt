@@ -94,7 +94,7 @@ next_is cube path (suc n) states allowance a b d c rest e = (omega arith, same_h
 pub dug_splits : (cube : List Trit) (path : List Turn) (left : ℕ) (states : List State) (allowance a b : ℕ) → IsDug cube path left states allowance a b → 0 < left → (p : ℕ) → slice_get cube p ≡ Some Free → p < length cube → length states < allowance
     → (cube' : List Trit) (path' : List Turn) (states' : List State) (a' b' : ℕ) → cube' ≡ set cube p Zero → path' ≡ path ++ turn p sides.Zero ∷ [] → states' ≡ states ++ Split p ∷ [] → a' ≡ a → b' ≡ b
     → (root_of cube' path' ≡ root_of cube path) × IsDug cube' path' (left + 1) states' allowance a' b'
-dug_splits cube path left states allowance a b d some p free low room cube' path' states' a' b' cube_is path_is states_is a_is b_is =
+dug_splits cube path left states allowance a b d some p free low space cube' path' states' a' b' cube_is path_is states_is a_is b_is =
     let t : Turn = turn p sides.Zero in
     let back : set cube' p Free ≡ cube = ap (λ (q : List Trit). set q p Free) cube_is ∙ (set_set cube p Zero Free ∙ set_same cube p Free free) in
     let root : root_of cube' path' ≡ root_of cube path = ap (root_of cube') path_is ∙ (root_snoc cube' path t ∙ ap (λ (q : List Trit). root_of q path) back) in
@@ -106,7 +106,7 @@ dug_splits cube path left states allowance a b d some p free low room cube' path
     let count : left ≡ suc (length (left_along cube path)) = d.count ∙ ap length (some_to_come left cube path some) in
     let longer : length states' ≡ length states + 1 = ap length states_is ∙ length-append states (Split p ∷ []) in
     let farther : length path' ≡ length path + 1 = ap length path_is ∙ length-append path (t ∷ []) in
-    let few = d.few in let short = d.short in let roomy = d.roomy in let roomy_path = d.roomy_path in (
+    let few = d.few in let short = d.short in let spacious = d.spacious in let spacious_path = d.spacious_path in (
       root,
       record {
         coming = ap (λ (l : List State). cubes_left l (root_of cube' path' ∷ [])) states_is
@@ -120,8 +120,8 @@ dug_splits cube path left states allowance a b d some p free low room cube' path
             (subst (λ (q : List Trit). FitAll (states ++ Split p ∷ []) (q ∷ [])) (sym root) (fit_snoc states (Split p) (root_of cube path ∷ []) cube (left_along cube path) d.fits was free));
         within = omega arith;
         short = omega arith;
-        roomy = omega arith;
-        roomy_path = omega arith;
+        spacious = omega arith;
+        spacious_path = omega arith;
       },
     )
 
@@ -129,13 +129,13 @@ pub dug_closes : (cube : List Trit) (path : List Turn) (left : ℕ) (states : Li
     → (cube' : List Trit) (path' : List Turn) (left' : ℕ) (states' : List State) (a' b' : ℕ) → left' + 1 ≡ left → states' ≡ states ++ Closed mark bound cut ∷ [] → a' ≡ a → b' ≡ b
     → AreWithin (length cube') path' → root_of cube' path' ≡ root_of cube path → to_come (length (left_along cube path)) cube' path' ≡ left_along cube path → length path' ≤ length path
     → IsDug cube' path' left' states' allowance a' b'
-dug_closes cube path left states allowance a b d some mark bound cut le room cube' path' left' states' a' b' left_is states_is a_is b_is turns root come nearer =
+dug_closes cube path left states allowance a b d some mark bound cut le space cube' path' left' states' a' b' left_is states_is a_is b_is turns root come nearer =
     let was : cubes_left states (root_of cube path ∷ []) ≡ cube ∷ left_along cube path = d.coming ∙ some_to_come left cube path some in
     let count : left ≡ suc (length (left_along cube path)) = d.count ∙ ap length (some_to_come left cube path some) in
     let left_along_is : left' ≡ length (left_along cube path) = omega arith in
     let come' : to_come left' cube' path' ≡ left_along cube path = ap (λ (n : ℕ). to_come n cube' path') left_along_is ∙ come in
     let longer : length states' ≡ length states + 1 = ap length states_is ∙ length-append states (Closed mark bound cut ∷ []) in
-    let few = d.few in let short = d.short in let roomy = d.roomy in let roomy_path = d.roomy_path in
+    let few = d.few in let short = d.short in let spacious = d.spacious in let spacious_path = d.spacious_path in
     record {
       coming = ap (λ (l : List State). cubes_left l (root_of cube' path' ∷ [])) states_is
           ∙ (ap (λ (q : List Trit). cubes_left (states ++ Closed mark bound cut ∷ []) (q ∷ [])) root
@@ -147,8 +147,8 @@ dug_closes cube path left states allowance a b d some mark bound cut le room cub
           (subst (λ (q : List Trit). FitAll (states ++ Closed mark bound cut ∷ []) (q ∷ [])) (sym root) (fit_snoc states (Closed mark bound cut) (root_of cube path ∷ []) cube (left_along cube path) d.fits was le));
       within = omega arith;
       short = omega arith;
-      roomy = omega arith;
-      roomy_path = omega arith;
+      spacious = omega arith;
+      spacious_path = omega arith;
     }
 
 -- The walk back: what it keeps of where it began.

@@ -79,7 +79,8 @@ next_of [] i s e = cc
 next_of (x ∷ xs) zero s e = let f : x ≡ s = cc in ap (λ (y : State). y ∷ xs) f
 next_of (x ∷ xs) (suc i) s e = next_of xs i s e ∙ ap (λ (k : ℕ). s ∷ drop k (x ∷ xs)) (let same : suc (i + 1) ≡ suc i + 1 = omega arith in same)
 
--- The leaves that are still to come, `at` the number of the first or of what follows them, once i of the states are made.
+-- The leaves that are still to come, `at` the number of the first or of what follows them, once i
+-- of the states are made.
 pub record IsSettling (top : List Trit) (start order : List Node) (root : Leaf) (all : List State) (i : ℕ) (nodes made : List Node) (at : ℕ) : Type 0 where
   pub leaves : List Leaf
   pub before : List Node
@@ -93,8 +94,8 @@ pub record IsSettling (top : List Trit) (start order : List Node) (root : Leaf) 
   pub goes_on : (workers budget : ℕ) (c : Board) → SettlesAll (board_of top workers budget nodes made) (settlements (drop i all) leaves (length nodes)) c
       → SettlesAll (board_of top workers budget start order) (settlements all (root ∷ []) (length start)) c
   pub left : leaves_left (drop i all) leaves (length nodes) ≡ leaves_left all (root ∷ []) (length start)
-  pub kept : (workers budget out room : ℕ) → IsBook (board_of top workers budget start order) out room → length order + length all + out ≤ budget → length order + length all + out ≤ room
-      → IsBook (board_of top workers budget nodes made) out room
+  pub kept : (workers budget out space : ℕ) → IsBook (board_of top workers budget start order) out space → length order + length all + out ≤ budget → length order + length all + out ≤ space
+      → IsBook (board_of top workers budget nodes made) out space
   pub long : length nodes ≤ length start + 2 * i
   pub long_order : length made ≡ length order + i
 
@@ -112,7 +113,7 @@ settling_starts top workers budget start order n cube all has wide fits = record
   fits = fits;
   goes_on = λ w b c h. h;
   left = refl;
-  kept = λ w b out room book fit roomy. book;
+  kept = λ w b out space book fit spacious. book;
   long = omega arith;
   long_order = omega arith;
 }
@@ -208,14 +209,14 @@ module _ (top : List Trit) (start order : List Node) (root : Leaf) (all : List S
           },
         )
 
-    book_then : (workers budget out room : ℕ) → IsBook (board_of top workers budget nodes made) out room → length order + length all + out ≤ budget → length order + length all + out ≤ room
-        → IsBook (board_of top workers budget nodes' made') out room
-    book_then workers budget out room book within roomy =
+    book_then : (workers budget out space : ℕ) → IsBook (board_of top workers budget nodes made) out space → length order + length all + out ≤ budget → length order + length all + out ≤ space
+        → IsBook (board_of top workers budget nodes' made') out space
+    book_then workers budget out space book within spacious =
         let f = fit x.leaf.cube s x.fits in
         let long = so_far.long_order in
         let counted : length made ≡ handled (board_of top workers budget nodes made) = book.kept.counted in
         let one = f.counted in let none = f.out in
-        book_after top workers budget out room nodes made so_far.before tail at Open x.is book refl s nodes' made' out room
+        book_after top workers budget out space nodes made so_far.before tail at Open x.is book refl s nodes' made' out space
         turned_here (noted ∙ ap (λ (l : List Node). made ++ l) (sym (f.order at))) f.cut f.has (λ h. once so_far.before (sides s (length nodes) ++ tail) s turned_here)
         (omega arith) (omega arith) (omega arith)
 
@@ -245,7 +246,7 @@ module _ (top : List Trit) (start order : List Node) (root : Leaf) (all : List S
       left = ap (leaves_left (drop (i + 1) all) leaves') longer
           ∙ (ap (λ (ls : List Leaf). leaves_left (s ∷ drop (i + 1) all) ls (length nodes)) (sym x.are)
           ∙ (ap (λ (l : List State). leaves_left l so_far.leaves (length nodes)) (sym (next_of all i s is_next)) ∙ so_far.left));
-      kept = λ workers budget out room book within roomy. book_then workers budget out room (so_far.kept workers budget out room book within roomy) within roomy;
+      kept = λ workers budget out space book within spacious. book_then workers budget out space (so_far.kept workers budget out space book within spacious) within spacious;
       long = let a = so_far.long in let b = longer in let few = few_sides s (length nodes) in omega arith;
       long_order = let a = so_far.long_order in let b = ap length noted in omega (arith, length-append made (node at s ∷ []));
     }

@@ -15,8 +15,9 @@ use Rattle.td_book.specs.Steps as steps
 abbrev pub fixed : List Trit → ℕ
 fixed cube = count_by (λ t. not (is_free t)) cube
 
--- How many nodes a lease of a leaf with this cube lets its worker handle, where so much of the budget is neither handled nor
--- allowed: 64, or what is left if that is less. Where there are several workers it is 1 while fewer than 8 positions are fixed.
+-- How many nodes a lease of a leaf with this cube lets its worker handle, where so much of the
+-- budget is neither handled nor allowed: 64, or what is left if that is less. Where there are
+-- several workers it is 1 while fewer than 8 positions are fixed.
 abbrev pub allowance : ℕ → List Trit → ℕ → ℕ
 allowance workers cube left = if nat_lt 1 workers && nat_lt (fixed cube) 8 then 1 else min 64 left
 
@@ -39,7 +40,8 @@ abbrev pub IsSplitFault : Board → Lease → SplitFault → Board → Type 0
 IsSplitFault b lease (OutOfMemory back) c = (back ≡ lease) × (c ≡ b)
 IsSplitFault b lease (Stranger back) c = (back ≡ lease) × IsStranger b lease c
 
--- a claim of the leaf of this number: a step, which leases it where it is open and the budget allows it
+-- a claim of the leaf of this number: a step, which leases it where it is open and the budget
+-- allows it
 abbrev pub ClaimedAt : Board → ℕ → ℕ → Option Lease → Board → Type 0
 ClaimedAt b worker number None c = ClaimsAt b worker number steps.Refused c
 ClaimedAt b worker number (Some lease) c = IsLease b worker number lease c

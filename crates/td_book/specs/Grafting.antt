@@ -10,13 +10,15 @@ use Rattle.td_book.specs.Board.{Board, Leaf, node, position_of}
 use Rattle.td_book.specs.Kept.{sides}
 use Rattle.td_book.specs.Steps.{Fits, Grafts}
 
--- The root's cube, how the nodes were split and closed, one after another, depth first, zero side first, and how many may be.
+-- The root's cube, how the nodes were split and closed, one after another, depth first, zero side
+-- first, and how many may be.
 pub record PrivateTree : Type 0 where
   pub cube : List Trit
   pub states : List State
   pub allowance : ℕ
 
--- the cubes that are left of these, once the first of them was split or closed so, and then the first that was left, and so on
+-- the cubes that are left of these, once the first of them was split or closed so, and then the
+-- first that was left, and so on
 abbrev pub cubes_left : List State → List (List Trit) → List (List Trit)
 cubes_left [] cubes = cubes
 cubes_left (s ∷ states) [] = []
@@ -36,7 +38,8 @@ abbrev pub open_sides : List Trit → State → ℕ → List Leaf
 open_sides cube (Split position) next = open_leaf (zero_side cube position) next ∷ open_leaf (one_side cube position) (next + 1) ∷ []
 open_sides cube _ next = []
 
--- These leaves, depth first, each as it was split or closed. The leaves that are opened get the numbers from `next` on.
+-- These leaves, depth first, each as it was split or closed. The leaves that are opened get the
+-- numbers from `next` on.
 abbrev pub settlements : List State → List Leaf → ℕ → List Leaf
 settlements [] leaves next = []
 settlements (s ∷ states) [] next = []
@@ -56,7 +59,8 @@ leaf_nodes leaves = map (λ l. l.node) leaves
 abbrev pub numbers : List Leaf → List ℕ
 numbers leaves = map (λ l. l.node.number) leaves
 
--- The splits and closes of the private tree are made on the board, below the lease, and `left` are the leaves that stay open.
+-- The splits and closes of the private tree are made on the board, below the lease, and `left` are
+-- the leaves that stay open.
 abbrev pub Grafted : Board → Lease → PrivateTree → List ℕ → Board → Type 0
 Grafted b lease tree left c =
     Grafts b lease (settlements tree.states (open_leaf lease.cube lease.number ∷ []) (length b.nodes)) c

@@ -31,7 +31,8 @@ pub struct Book {
     // The allowances that are out.
     allowed: u64,
     chain: Chain,
-    // The nodes that were split or closed, in that order, with room for as many more as the allowances that are out.
+    // The nodes that were split or closed, in that order, with room for as many more as the
+    // allowances that are out.
     order: Vec<Node>,
     // A place to read a node's cube into.
     cube: Vec<Trit>,
@@ -73,7 +74,8 @@ fn count_fixed(cube: &[Trit]) -> usize
     cube.iter().filter(|trit| !is_free(**trit)).count()
 }
 
-// How many nodes a lease of a leaf with this cube lets its worker handle, where so much of the budget is left.
+// How many nodes a lease of a leaf with this cube lets its worker handle, where so much of the
+// budget is left.
 fn allowance_of(workers: u32, cube: &[Trit], left: u64) -> u32
     requires { 0 < left }
     ensures is { result ≡ allowance workers cube.now left }
@@ -116,20 +118,21 @@ fn shows(chain: &Chain, cube: &mut [Trit], lease: &Lease) -> bool
     lease.cube.has_trits(cube)
 }
 
-// Splits and closes an open leaf of the chain, with the lease's number and cube, and what is opened below it, as the states
-// say, depth first. Answers the number of the leaf that comes next, or of the node that follows.
+// Splits and closes an open leaf of the chain, with the lease's number and cube, and what is opened
+// below it, as the states say, depth first. Answers the number of the leaf that comes next, or of
+// the node that follows.
 fn settle_all(chain: &mut Chain, order: &mut Vec<Node>, lease: &Lease, states: &[State]) -> u32
     requires place { Has (board_with chain.old) lease.now.number lease.now.cube State.Open }
     requires wide { length lease.now.cube ≡ length chain.old.cube }
     requires fits { FitAll states.now (lease.now.cube ∷ []) }
     requires small { length chain.old.nodes + 2 * length states.now < 2 ^ 32 }
-    requires room { length chain.old.nodes + 2 * length states.now ≤ chain.old.room }
+    requires space { length chain.old.nodes + 2 * length states.now ≤ chain.old.space }
     requires listed { length order.old.items + length states.now ≤ vec_capacity order.old }
     ensures cube { chain.new.cube ≡ chain.old.cube }
     ensures capacity { vec_capacity order.new ≡ vec_capacity order.old }
     ensures settled { (workers budget : ℕ) → SettlesAll (board_of chain.old.cube workers budget chain.old.nodes order.old.items) (settlements states.now (open_leaf lease.now.cube lease.now.number ∷ []) (length chain.old.nodes)) (board_of chain.old.cube workers budget chain.new.nodes order.new.items) }
     ensures next { (before : List Node) × (after : List Node) × (chain.new.nodes ≡ before ++ (leaf_nodes (leaves_left states.now (open_leaf lease.now.cube lease.now.number ∷ []) (length chain.old.nodes)) ++ after)) × (first_number (leaf_nodes (leaves_left states.now (open_leaf lease.now.cube lease.now.number ∷ []) (length chain.old.nodes)) ++ after) ≡ result) }
-    ensures kept { (workers budget out room : ℕ) → IsBook (board_of chain.old.cube workers budget chain.old.nodes order.old.items) out room → length order.old.items + length states.now + out ≤ budget → length order.old.items + length states.now + out ≤ room → IsBook (board_of chain.old.cube workers budget chain.new.nodes order.new.items) out room }
+    ensures kept { (workers budget out space : ℕ) → IsBook (board_of chain.old.cube workers budget chain.old.nodes order.old.items) out space → length order.old.items + length states.now + out ≤ budget → length order.old.items + length states.now + out ≤ space → IsBook (board_of chain.old.cube workers budget chain.new.nodes order.new.items) out space }
 {
     let mut at = lease.number;
     for state in states {
@@ -145,28 +148,28 @@ fn settle_all(chain: &mut Chain, order: &mut Vec<Node>, lease: &Lease, states: &
 
 // Room for what a private tree leaves: places in the chain, and an empty vector for the numbers of
 // its leaves. The error is out of memory.
-fn room_for(alloc: Global, chain: &mut Chain, subtree: &Subtree) -> Result<Vec<u32>, AllocError>
+fn space_for(alloc: Global, chain: &mut Chain, subtree: &Subtree) -> Result<Vec<u32>, AllocError>
     requires { length subtree.now.states < 2 ^ 32 }
-    ensures empty { IfOk result (λ room. room.items ≡ []) }
-    ensures roomy { IfOk result (λ room. length (cubes_left subtree.now.states (subtree.now.cube ∷ [])) ≤ vec_capacity room) }
+    ensures empty { IfOk result (λ space. space.items ≡ []) }
+    ensures spacious { IfOk result (λ space. length (cubes_left subtree.now.states (subtree.now.cube ∷ [])) ≤ vec_capacity space) }
     ensures cube { chain.new.cube ≡ chain.old.cube }
     ensures nodes { chain.new.nodes ≡ chain.old.nodes }
-    ensures room { OnOk result (length chain.old.nodes + 2 * length subtree.now.states ≤ chain.new.room) }
+    ensures space { OnOk result (length chain.old.nodes + 2 * length subtree.now.states ≤ chain.new.space) }
 {
-    let room = Vec::with_capacity(alloc, subtree.left())?;
+    let space = Vec::with_capacity(alloc, subtree.left())?;
     chain.reserve(2 * subtree.states().len())?;
-    Ok(room)
+    Ok(space)
 }
 
 // The numbers of `count` leaves from the first on, in an empty vector that has room for them.
-fn list_numbers(chain: &Chain, first: u32, room: Vec<u32>, count: usize) -> Vec<u32>
-    requires empty { room.items ≡ [] }
-    requires roomy { count ≤ vec_capacity room }
+fn list_numbers(chain: &Chain, first: u32, space: Vec<u32>, count: usize) -> Vec<u32>
+    requires empty { space.items ≡ [] }
+    requires spacious { count ≤ vec_capacity space }
     requires run { (before : List Node) × (leaves : List Leaf) × (after : List Node) × (chain.now.nodes ≡ before ++ (leaf_nodes leaves ++ after)) × (first_number (leaf_nodes leaves ++ after) ≡ first) × (length leaves ≡ count) }
     ensures { (before : List Node) (leaves : List Leaf) (after : List Node) → chain.now.nodes ≡ before ++ (leaf_nodes leaves ++ after) → first_number (leaf_nodes leaves ++ after) ≡ first → length leaves ≡ count → result.items ≡ numbers leaves }
 {
     let mut at = first;
-    let mut left = room;
+    let mut left = space;
     for _ in 0..count {
         left.push_reserved(at);
         at = chain.next(at);
@@ -175,8 +178,8 @@ fn list_numbers(chain: &Chain, first: u32, room: Vec<u32>, count: usize) -> Vec<
 }
 
 impl Book {
-    /// One open root with this cube, and nothing handled. The budget is how many nodes may be handled, at most 10,000,000.
-    /// The error is out of memory.
+    /// One open root with this cube, and nothing handled. The budget is how many nodes may be
+    /// handled, at most 10,000,000. The error is out of memory.
     pub fn new(alloc: Global, root: Cube, workers: u32, budget: u64) -> Result<Book, AllocError>
         requires positions { length root < 2 ^ 32 }
         requires budget { budget ≤ 10000000 }
@@ -285,8 +288,9 @@ impl Book {
         Ok(Some(self.hold(worker, number)?))
     }
 
-    /// Makes two open leaves of a held one, at a position that is free in its cube. Answers their numbers, that of the zero
-    /// side first. After a fault the book is as before, and the lease comes back.
+    /// Makes two open leaves of a held one, at a position that is free in its cube. Answers their
+    /// numbers, that of the zero side first. After a fault the book is as before, and the lease
+    /// comes back.
     pub fn split(&mut self, lease: Lease, position: usize) -> Result<(u32, u32), SplitFault>
         requires { slice_get lease.cube position ≡ Some Free }
         ensures ok { IfOk result (λ sides. Splits self.old lease position self.new × (sides.0 ≡ length self.old.nodes) × (sides.1 ≡ length self.old.nodes + 1)) }
@@ -309,8 +313,8 @@ impl Book {
         Ok((first, first + 1))
     }
 
-    /// Closes a held leaf with a bound of its cube, at most the cut. The lease comes back where the book doesn't show it,
-    /// and the book is as before. Takes no memory.
+    /// Closes a held leaf with a bound of its cube, at most the cut. The lease comes back where the
+    /// book doesn't show it, and the book is as before. Takes no memory.
     pub fn close(&mut self, lease: Lease, mark: Mark, bound: u64, cut: u64) -> Result<(), Stranger>
         requires { bound ≤ cut }
         ensures { MatchResult result (λ _. Closes self.old lease mark bound cut self.new) (λ fault. (fault.0 ≡ lease) × IsStranger self.old lease self.new) }
@@ -328,8 +332,8 @@ impl Book {
         Ok(())
     }
 
-    /// Opens a held leaf again. The lease comes back where the book doesn't show it, and the book is as before. Takes no
-    /// memory.
+    /// Opens a held leaf again. The lease comes back where the book doesn't show it, and the book
+    /// is as before. Takes no memory.
     pub fn release(&mut self, lease: Lease) -> Result<(), Stranger>
         ensures { MatchResult result (λ _. Releases self.old lease self.new) (λ fault. (fault.0 ≡ lease) × IsStranger self.old lease self.new) }
     {
@@ -341,9 +345,10 @@ impl Book {
         Ok(())
     }
 
-    /// Makes the splits and closes of a private tree below a held leaf, in its order: the leaves that it opened and didn't close
-    /// are open then. Answers their numbers, in the tree's order, and takes steps in the private tree's size. After a fault the
-    /// book is as before, and the lease and the private tree come back.
+    /// Makes the splits and closes of a private tree below a held leaf, in its order: the leaves
+    /// that it opened and didn't close are open then. Answers their numbers, in the tree's order,
+    /// and takes steps in the private tree's size. After a fault the book is as before, and the
+    /// lease and the private tree come back.
     pub fn graft(&mut self, lease: Lease, subtree: Subtree) -> Result<Vec<u32>, GraftFault>
         requires cube { subtree.cube ≡ lease.cube }
         requires some { 0 < length subtree.states }
@@ -354,14 +359,14 @@ impl Book {
         if !shows(&self.chain, &mut self.cube, &lease) {
             return Err(GraftFault::Stranger(lease, subtree));
         }
-        let Ok(room) = room_for(self.alloc, &mut self.chain, &subtree) else {
+        let Ok(space) = space_for(self.alloc, &mut self.chain, &subtree) else {
             return Err(GraftFault::OutOfMemory(lease, subtree));
         };
         let number = lease.number;
         self.chain.set(number, State::Open);
         let next = settle_all(&mut self.chain, &mut self.order, &lease, subtree.states());
         self.allowed -= u64::from(lease.allowance);
-        Ok(list_numbers(&self.chain, next, room, subtree.left()))
+        Ok(list_numbers(&self.chain, next, space, subtree.left()))
     }
 
     /// The root's cube and the tree, with held leaves as open. Takes no memory.

@@ -16,8 +16,8 @@ use std::alloc::AllocError;
 use std::sync::ledger;
 use std::sync::ledger::{Ledger, Share};
 
-/// A book, and a ledger whose total is the number of the book's settlements. Each worker has a share, and what it settles is
-/// added to that.
+/// A book, and a ledger whose total is the number of the book's settlements. Each worker has a
+/// share, and what it settles is added to that.
 #[derive(Drop)]
 pub struct Counted<L: Ledger> {
     pub book: Book,

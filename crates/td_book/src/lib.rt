@@ -1,5 +1,6 @@
-//! A tree of cubes whose leaves are open, held by a worker, or closed with a bound and a cut. Workers take its leaves one
-//! after another, split or close them, and what they did can be replayed.
+//! A tree of cubes whose leaves are open, held by a worker, or closed with a bound and a cut.
+//! Workers take its leaves one after another, split or close them, and what they did can be
+//! replayed.
 #![tactic(auto)]
 
 mod book;

@@ -1,4 +1,5 @@
-//! Books whose leaves are claimed, split, closed, released and grafted, and one that threads share. There are tests here, and nothing else.
+//! Books whose leaves are claimed, split, closed, released and grafted, and one that threads share.
+//! There are tests here, and nothing else.
 #![tactic(auto)]
 
 #[cfg(test)]

@@ -3,7 +3,7 @@
 ghost use Rattle.std.specs.Prelude.{◌≤◌};
 
 use crate::claims::free_book;
-use crate::steps::told;
+use crate::steps::reported;
 use std::alloc::{AllocError, Global};
 use std::process::Abort;
 use std::test::Fail;
@@ -11,7 +11,7 @@ use td_book::Book;
 use td_domain::{Cube, Trit};
 
 // The nodes of a book's tree, if they are the same in a vector that has their room.
-fn nodes_told(alloc: Global, book: Book) -> Result<String, AllocError> {
+fn nodes_reported(alloc: Global, book: Book) -> Result<String, AllocError> {
     let tree = book.into_tree();
     let nodes = tree.nodes(alloc)?;
     let again = tree.nodes_in(Vec::with_capacity(alloc, tree.len() as usize)?);
@@ -41,7 +41,7 @@ fn check(
     steps: &str,
     wanted: &str,
 ) -> Result<(), Fail> {
-    assert_eq!(rt; told(alloc, book, steps)?.as_str(), wanted);
+    assert_eq!(rt; reported(alloc, book, steps)?.as_str(), wanted);
     Ok(())
 }
 
@@ -84,7 +84,7 @@ done
 ",
     )?;
     assert_eq!(rt;
-        nodes_told(alloc, book)?.as_str(),
+        nodes_reported(alloc, book)?.as_str(),
         "[Node { number: 0, state: Split(1) }, Node { number: 1, state: Closed(Bound(Arrival), 3, 4) }, Node { number: 2, state: Closed(Empty, 3, 4) }]"
     );
     Ok(())
@@ -238,7 +238,8 @@ stranger 1 0 1 ..
     Ok(())
 }
 
-// The numbers of what a graft leaves open come in the tree's order: where zero sides alone are split, and where the zero sides are closed.
+// The numbers of what a graft leaves open come in the tree's order: where zero sides alone are
+// split, and where the zero sides are closed.
 #[test]
 fn the_numbers_in_the_trees_order(rt: HostRuntime) -> Result<(), Fail> {
     check_free(

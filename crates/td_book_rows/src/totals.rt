@@ -14,7 +14,7 @@ use td_book::{Claim, Counted, Lease, Mark};
 
 // What a thread has: one part of the ledger.
 #[derive(Drop)]
-struct Hand<L: Ledger> {
+struct History<L: Ledger> {
     share: Share<L>,
     ghost one_part: { share.parts ≡ 1 },
 }
@@ -23,7 +23,7 @@ struct Hand<L: Ledger> {
 #[derive(Drop)]
 struct Promised;
 
-impl<L: Ledger> Promise<Hand<L>> for Promised {
+impl<L: Ledger> Promise<History<L>> for Promised {
     ghost use Rattle.std.specs.Prelude.{⊤};
 
     ghost kept_by = { λ _ _. ⊤ };
@@ -96,12 +96,12 @@ fn close_one<L: Ledger, R: Wait>(
 fn work<L: Ledger, R: Wait>(
     rt: &R,
     book: &Mutex<Counted<L>>,
-    hand: Hand<L>,
+    history: History<L>,
     worker: u32,
-) -> Hand<L> {
-    let Hand { mut share } = hand;
+) -> History<L> {
+    let History { mut share } = history;
     let _closed = close_one(rt, book, &mut share, worker);
-    Hand { share }
+    History { share }
 }
 
 // The number of settlements, once all shares are merged.
@@ -126,15 +126,15 @@ fn audited<L: Ledger, R: Wait>(
 fn run_four<L: Ledger + Send + Sync, R: Threads + Wait + Sync>(
     rt: &R,
     book: &Mutex<Counted<L>>,
-    first: Hand<L>,
-    second: Hand<L>,
-    third: Hand<L>,
-    fourth: Hand<L>,
-) -> Result<(Hand<L>, Hand<L>, Hand<L>, Hand<L>), AllocError> {
+    first: History<L>,
+    second: History<L>,
+    third: History<L>,
+    fourth: History<L>,
+) -> Result<(History<L>, History<L>, History<L>, History<L>), AllocError> {
     thread::scope(
         thread::scope_env(),
         rt,
-        |scope| -> Result<(Hand<L>, Hand<L>, Hand<L>, Hand<L>), AllocError> {
+        |scope| -> Result<(History<L>, History<L>, History<L>, History<L>), AllocError> {
             let first = scope.spawn_with(Promised, move || work(rt, book, first, 0))?;
             let second = scope.spawn_with(Promised, move || work(rt, book, second, 1))?;
             let third = scope.spawn_with(Promised, move || work(rt, book, third, 2))?;
@@ -150,11 +150,11 @@ fn run_four<L: Ledger + Send + Sync, R: Threads + Wait + Sync>(
 }
 
 // One part of a share.
-fn part_of<L: Ledger>(all: &mut Share<L>) -> Hand<L>
+fn part_of<L: Ledger>(all: &mut Share<L>) -> History<L>
     requires { 1 < all.old.parts }
     ensures { all.new.parts + 1 ≡ all.old.parts }
 {
-    Hand {
+    History {
         share: all.split_off(1, 0),
     }
 }
@@ -176,7 +176,7 @@ fn totals<L: Ledger + Send + Sync, R: Threads + Wait + Sync>(
     let second = part_of(&mut all);
     let third = part_of(&mut all);
     let fourth = part_of(&mut all);
-    let first = Hand { share: all };
+    let first = History { share: all };
     let (one, two, three, four) = run_four(rt, &shared, first, second, third, fourth)?;
     Ok(Some(audited(rt, &shared, one.share, two.share, three.share, four.share)))
 }

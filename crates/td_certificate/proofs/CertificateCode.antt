@@ -19,7 +19,7 @@ use Rattle.td_certificate.proofs.Codes.{IsCode, IsCode-then, IsCode-done}
 use Rattle.td_certificate.proofs.FieldCodes.{IsLimit, Always, AtMost, IsFrom, number_text, number_code, number_from_code}
 use Rattle.td_certificate.proofs.VectorCodes.{cases, behind_word, number_behind_code, HasLength, vector_text, vector_behind_code, IsCode-as}
 use Rattle.td_certificate.proofs.VersionCode.{version_text, version_code}
-use Rattle.td_certificate.proofs.QuestionCodes.{IsTold, IsQuestion, question_code, some_inputs_of}
+use Rattle.td_certificate.proofs.QuestionCodes.{IsReported, IsQuestion, question_code, some_inputs_of}
 use Rattle.td_certificate.proofs.NodeCodes.{greatest_limit, IsPlain, MayStand, to_node, from_node, leaves_of}
 use Rattle.td_certificate.proofs.TreeCodes.{IsNamed, among, AreNodes, CanName, nodes_text, nodes_code}
 use Rattle.td_certificate.proofs.PlainReading.{behind_second}
@@ -265,7 +265,7 @@ any_plain (n ∷ nodes) = (tt, any_plain nodes)
 
 -- of a version, by its question and its tree
 record IsBy (v : Version) (q : Question) (tree : List Node) : Type 0 where
-  told : IsTold v q
+  reported : IsReported v q
   plain : AllByRecursion (IsPlain v) tree
   named : IsNamed (leaves_in v) tree
 
@@ -274,9 +274,9 @@ abbrev version_with : Bool → Bool → Question → Version
 version_with refuted edges q = if refuted then Fifth else (if edges then Fourth else version_of q)
 
 to_by : (v : Version) (q : Question) (tree : List Node) → IsBy v q tree → version_with (has_refuted tree) (has_edges tree) q ≡ v
-to_by First q tree u = rw (none_refuted tree (simple_unrefuted tree u.plain), none_have tree u.plain) u.told
-to_by Second q tree u = rw (none_refuted tree (simple_unrefuted tree u.plain), none_have tree u.plain) u.told
-to_by Third q tree u = rw (none_refuted tree (simple_unrefuted tree u.plain), none_have tree u.plain) u.told
+to_by First q tree u = rw (none_refuted tree (simple_unrefuted tree u.plain), none_have tree u.plain) u.reported
+to_by Second q tree u = rw (none_refuted tree (simple_unrefuted tree u.plain), none_have tree u.plain) u.reported
+to_by Third q tree u = rw (none_refuted tree (simple_unrefuted tree u.plain), none_have tree u.plain) u.reported
 to_by Fourth q tree u = rw (none_refuted tree u.plain, u.named) refl
 to_by Fifth q tree u = rw u.named refl
 
@@ -300,24 +300,24 @@ not_fifth q e = elim (question_early q) as (λ _. ⊥) [ early four five ↦ fiv
 
 -- nothing is refuted and nothing bounded by edges in a version before the fourth
 record IsBefore (v : Version) (q : Question) (tree : List Node) : Type 0 where
-  told : version_of q ≡ v
+  reported : version_of q ≡ v
   simple : AllByRecursion IsSimple tree
 
 is_before : (v : Version) (q : Question) (tree : List Node) → v ≢ Fourth → v ≢ Fifth → version_with (has_refuted tree) (has_edges tree) q ≡ v → IsBefore v q tree
 is_before v q tree four five e =
     cases (has_refuted tree) (λ k. absurd (five (sym (rw k at e))))
     (λ k. cases (has_edges tree) (λ h. absurd (four (sym (rw (k, h) at e))))
-    (λ h. record { told = rw (k, h) at e; simple = have_none tree h k }))
+    (λ h. record { reported = rw (k, h) at e; simple = have_none tree h k }))
 
 from_by : (v : Version) (q : Question) (tree : List Node) → version_with (has_refuted tree) (has_edges tree) q ≡ v → IsBy v q tree
-from_by First q tree e = let b = is_before First q tree (λ f. cc) (λ f. cc) e in record { told = b.told; plain = b.simple; named = tt }
-from_by Second q tree e = let b = is_before Second q tree (λ f. cc) (λ f. cc) e in record { told = b.told; plain = b.simple; named = tt }
-from_by Third q tree e = let b = is_before Third q tree (λ f. cc) (λ f. cc) e in record { told = b.told; plain = b.simple; named = tt }
+from_by First q tree e = let b = is_before First q tree (λ f. cc) (λ f. cc) e in record { reported = b.reported; plain = b.simple; named = tt }
+from_by Second q tree e = let b = is_before Second q tree (λ f. cc) (λ f. cc) e in record { reported = b.reported; plain = b.simple; named = tt }
+from_by Third q tree e = let b = is_before Third q tree (λ f. cc) (λ f. cc) e in record { reported = b.reported; plain = b.simple; named = tt }
 from_by Fourth q tree e =
     cases (has_refuted tree) (λ k. absurd (let f : Fifth ≡ Fourth = rw k at e in cc))
-    (λ k. cases (has_edges tree) (λ h. record { told = tt; plain = all_unrefuted tree k; named = h }) (λ h. absurd (not_fourth q (rw (k, h) at e))))
+    (λ k. cases (has_edges tree) (λ h. record { reported = tt; plain = all_unrefuted tree k; named = h }) (λ h. absurd (not_fourth q (rw (k, h) at e))))
 from_by Fifth q tree e =
-    cases (has_refuted tree) (λ k. record { told = tt; plain = any_plain tree; named = k })
+    cases (has_refuted tree) (λ k. record { reported = tt; plain = any_plain tree; named = k })
     (λ k. cases (has_edges tree) (λ h. absurd (let f : Fourth ≡ Fifth = rw (k, h) at e in cc)) (λ h. absurd (not_fifth q (rw (k, h) at e))))
 
 among_is : (v : Version) → among (leaves_in v) ≡ leaves_of v
@@ -331,7 +331,7 @@ to_version : (v : Version) (c : Certificate) → IsFromInputs v c → IsOfVersio
 to_version v c u =
     let nodes = u.rest.nodes in
     let each = are_plain v c.tree (subst (λ (l : Leaves). AllByRecursion (MayStand l) c.tree) (among_is v) nodes.each) in
-    let version : version_in c ≡ v = to_by v c.question c.tree (record { told = u.rest.question.version; plain = each.1; named = nodes.named }) in
+    let version : version_in c ≡ v = to_by v c.question c.tree (record { reported = u.rest.question.version; plain = each.1; named = nodes.named }) in
     record {
       has = record {
         inputs = u.inputs.0;
@@ -354,10 +354,10 @@ from_version v c u =
     let by = from_by v c.question c.tree u.version in
     let each = may_stand v c.tree (subst (λ (w : Version). AllByRecursion (IsNode w) c.tree) u.version u.has.nodes) by.plain in
     record {
-      inputs = (u.has.inputs, λ some. some_inputs_of v c.question u.has.pins u.has.flips u.has.count by.told some);
+      inputs = (u.has.inputs, λ some. some_inputs_of v c.question u.has.pins u.has.flips u.has.count by.reported some);
       rest = record {
         gates = u.has.gates;
-        question = record { version = by.told; inputs = refl; pins = u.has.pins; flips = u.has.flips; count = u.has.count; moments = u.has.moments };
+        question = record { version = by.reported; inputs = refl; pins = u.has.pins; flips = u.has.flips; count = u.has.count; moments = u.has.moments };
         time = u.has.time;
         first = u.has.first;
         second = u.has.second;

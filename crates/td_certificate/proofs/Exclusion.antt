@@ -1,4 +1,5 @@
--- A text is a spelling, a proper front of one, a spelling with more after it, or can't be read on: one of them alone.
+-- A text is a spelling, a proper front of one, a spelling with more after it, or can't be read on:
+-- one of them alone.
 use Rattle.std.proofs.Common.{◌≡◌, ℕ, ◌<◌, List, [], ◌∷◌, ◌++◌, length, Result, Ok, Err, Option, Some, ◌⊎◌, inl, inr, refl, sym, ap, ◌∙◌, append_assoc, arith}
 use Rattle.std.specs.Prelude.{IfOk, IfErr}
 use Rattle.std.proofs.lemmas.List.{append-nil}
@@ -7,7 +8,7 @@ use Rattle.td_certificate.specs.declared.fault.CertFaultKind.TheVariants as kind
 use Rattle.td_certificate.specs.declared.fault.CertFault.{CertFault}
 use Rattle.td_certificate.specs.declared.certificate.Certificate.{Certificate}
 use Rattle.td_certificate.specs.Spelling.{HasSpelling, Spells, spelling}
-use Rattle.td_certificate.specs.Faults.{IsWithinLimit, IsFront, HasMore, StopsAt, kind_in, IsFault, IsReadAs, IsTold}
+use Rattle.td_certificate.specs.Faults.{IsWithinLimit, IsFront, HasMore, StopsAt, kind_in, IsFault, IsReadAs, IsReported}
 use Rattle.td_certificate.proofs.Texts.{spells_once, stops_for}
 
 no_cons : {X : Type 0} (b : ℕ) (bs : List ℕ) → b ∷ bs ≡ [] → X
@@ -115,7 +116,7 @@ front_only kind.Syntax line text s within f = front-stops text line s f.1
 front_only kind.NumberTooLarge line text s within f = front-stops text line s f.1
 front_only kind.Version line text s within f = front-stops text line s f.1
 
-pub ends_only : (text : List ℕ) (result : Result Certificate CertFault) → IsAnswer text result → IsFront text → IsWithinLimit text → IsTold kind.UnexpectedEnd result
+pub ends_only : (text : List ℕ) (result : Result Certificate CertFault) → IsAnswer text result → IsFront text → IsWithinLimit text → IsReported kind.UnexpectedEnd result
 ends_only text (Ok d) a s within = spells-front text d a.0.0 s
 ends_only text (Err fault) a s within = front_only fault.kind fault.line text s within a.1
 
@@ -128,7 +129,7 @@ more_only kind.Syntax line at text s within f = more-stops text at line s f.1
 more_only kind.NumberTooLarge line at text s within f = more-stops text at line s f.1
 more_only kind.Version line at text s within f = more-stops text at line s f.1
 
-pub trailing_only : (text : List ℕ) (result : Result Certificate CertFault) → IsAnswer text result → (at : ℕ) → HasMore text at → IsWithinLimit text → IsTold kind.Trailing result
+pub trailing_only : (text : List ℕ) (result : Result Certificate CertFault) → IsAnswer text result → (at : ℕ) → HasMore text at → IsWithinLimit text → IsReported kind.Trailing result
 trailing_only text (Ok d) a at s within = spells-more text d at a.0.0 s
 trailing_only text (Err fault) a at s within = more_only fault.kind fault.line at text s within a.1
 
@@ -151,6 +152,6 @@ stop_only kind.Syntax that line text e within f = same_kind text kind.Syntax tha
 stop_only kind.NumberTooLarge that line text e within f = same_kind text kind.NumberTooLarge that f.2 e
 stop_only kind.Version that line text e within f = same_kind text kind.Version that f.2 e
 
-pub stops_only : (text : List ℕ) (result : Result Certificate CertFault) → IsAnswer text result → (that : CertFaultKind) → kind_in text ≡ Some that → IsWithinLimit text → IsTold that result
+pub stops_only : (text : List ℕ) (result : Result Certificate CertFault) → IsAnswer text result → (that : CertFaultKind) → kind_in text ≡ Some that → IsWithinLimit text → IsReported that result
 stops_only text (Ok d) a that e within = let s = stops_for text that e in spells-stops text d s.0 a.0.0 s.1
 stops_only text (Err fault) a that e within = stop_only fault.kind that fault.line text e within a.1

@@ -136,10 +136,10 @@ other_of behind e =
 
 -- ---- from the text to its first line
 
-because_reason : {A : Type 0} (why told : Reason) (read : Reading A) (rest : List ℕ) → because why read ≡ Err (Wrong told rest) → why ≡ told
-because_reason why told (Ok y) rest e = absurd (let h : done y ≡ wrong told rest = e in cc)
-because_reason {A} why told (Err Ends) rest e = absurd (let h : ends {A = A} ≡ wrong told rest = e in cc)
-because_reason {A} why told (Err (Wrong other this)) rest e = let h : wrong {A = A} why this ≡ wrong told rest = e in cc
+because_reason : {A : Type 0} (why reported : Reason) (read : Reading A) (rest : List ℕ) → because why read ≡ Err (Wrong reported rest) → why ≡ reported
+because_reason why reported (Ok y) rest e = absurd (let h : done y ≡ wrong reported rest = e in cc)
+because_reason {A} why reported (Err Ends) rest e = absurd (let h : ends {A = A} ≡ wrong reported rest = e in cc)
+because_reason {A} why reported (Err (Wrong other this)) rest e = let h : wrong {A = A} why this ≡ wrong reported rest = e in cc
 
 abbrev line_end : Unit {0} × List ℕ → Reading Version
 line_end word = because (version_reason word.1) (digit_at word.1)

@@ -114,7 +114,8 @@ letter_code here =
     IsCode-as (IsDomain here) (IsDomain here) (λ x. domain_byte x ∷ []) letter (letter_at here) (λ x v. v) (λ x v. v) (λ x v. letter_text x)
     (char_code (IsDomain here) (domain_of_byte here) domain_byte (domain_letter here))
 
--- no leaf of the first version is empty, none before the fifth is refuted, and the last one is a bound or refuted where it has to be
+-- no leaf of the first version is empty, none before the fifth is refuted, and the last one is a
+-- bound or refuted where it has to be
 abbrev pub IsTag : Leaves → Tag → Type 0
 IsTag leaves.First EmptyTag = ⊥
 IsTag leaves.First RefutedTag = ⊥

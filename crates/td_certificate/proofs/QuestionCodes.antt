@@ -258,16 +258,16 @@ pin_count (suc count) = ap suc (pin_count count)
 -- ---- questions
 
 -- a text of this version can ask the question: in the fourth and the fifth it can ask any
-abbrev pub IsTold : Version → Question → Type 0
-IsTold First q = version_of q ≡ First
-IsTold Second q = version_of q ≡ Second
-IsTold Third q = version_of q ≡ Third
-IsTold Fourth q = Unit {0}
-IsTold Fifth q = Unit {0}
+abbrev pub IsReported : Version → Question → Type 0
+IsReported First q = version_of q ≡ First
+IsReported Second q = version_of q ≡ Second
+IsReported Third q = version_of q ≡ Third
+IsReported Fourth q = Unit {0}
+IsReported Fifth q = Unit {0}
 
 -- what a text of this version can ask, of a circuit with `i` inputs
 pub record IsQuestion (v : Version) (i : ℕ) (q : Question) : Type 0 where
-  pub version : IsTold v q
+  pub version : IsReported v q
   pub inputs : inputs_of q ≡ i
   pub pins : length q.admit.pins ≡ 2 * i
   pub flips : q.admit.flips ≤ i
@@ -533,14 +533,14 @@ zero_or_some : {X : Type 0} (n : ℕ) → (n ≡ 0 → X) → (0 < n → X) → 
 zero_or_some zero f g = f refl
 zero_or_some (suc n) f g = g (omega arith)
 
-no_version : {X : Type 0} (v : Version) (q : Question) → has_inputs v ≡ true → IsTold v q → version_of q ≡ First → X
-no_version First q some told e = absurd cc
-no_version Second q some told e = absurd (let h : First ≡ Second = sym e ∙ told in cc)
-no_version Third q some told e = absurd (let h : First ≡ Third = sym e ∙ told in cc)
-no_version Fourth q some told e = absurd cc
-no_version Fifth q some told e = absurd cc
+no_version : {X : Type 0} (v : Version) (q : Question) → has_inputs v ≡ true → IsReported v q → version_of q ≡ First → X
+no_version First q some reported e = absurd cc
+no_version Second q some reported e = absurd (let h : First ≡ Second = sym e ∙ reported in cc)
+no_version Third q some reported e = absurd (let h : First ≡ Third = sym e ∙ reported in cc)
+no_version Fourth q some reported e = absurd cc
+no_version Fifth q some reported e = absurd cc
 
 pub some_inputs_of : (v : Version) (q : Question) → length q.admit.pins ≡ 2 * inputs_of q → q.admit.flips ≤ inputs_of q → length q.moments ≡ inputs_of q
-    → IsTold v q → has_inputs v ≡ true → 0 < inputs_of q
-some_inputs_of v q pins flips count told some =
-    zero_or_some (inputs_of q) (λ none. no_version v q some told (none_first q pins flips count none)) (λ is. is)
+    → IsReported v q → has_inputs v ≡ true → 0 < inputs_of q
+some_inputs_of v q pins flips count reported some =
+    zero_or_some (inputs_of q) (λ none. no_version v q some reported (none_first q pins flips count none)) (λ is. is)

@@ -13,7 +13,7 @@ use Rattle.td_certificate.specs.declared.question.Version.{Version}
 use Rattle.td_certificate.specs.declared.question.Version.TheVariants.{First, Second, Third, Fourth, Fifth}
 use Rattle.td_certificate.specs.Spelling.{greatest}
 use Rattle.td_certificate.specs.Reading.{Wrong, Reading, ◌>>=◌, literal, taken, begins_number, front_number, is_version, version_reason, because, version_of_digit, digit_at, version_at, certificate_at}
-use Rattle.td_certificate.specs.Faults.{NoDigit, IsOther, VersionsAreTold, kind_of, kind_in}
+use Rattle.td_certificate.specs.Faults.{NoDigit, IsOther, VersionsAreReported, kind_of, kind_in}
 use Rattle.td_certificate.proofs.FieldCodes.{range_digit, digit_range, literal_code}
 use Rattle.td_certificate.proofs.VectorCodes.{cases, option_cases}
 
@@ -138,8 +138,8 @@ kind_either : (within : Bool) → kind_of (cond within reason.Version NumberTooL
 kind_either true = refl
 kind_either false = refl
 
-pub versions_are_told : VersionsAreTold
-versions_are_told n later other small none =
+pub versions_are_reported : VersionsAreReported
+versions_are_reported n later other small none =
     let w = written n small in
     let s = shape_stops n (decimal n) later other w.shape in
     kind_first (codes "tdelay-cert " ++ decimal n ++ later) s.0 (version_reason (decimal n ++ later)) (version_stops (decimal n ++ later) s.0 s.1)

@@ -59,8 +59,8 @@ pub record HasDelay (setting : Setting) (cube : List Trit) (delay : ℕ) : Type 
   pub is_in : IsIn pair cube
   pub is : IsDelayOfBits setting pair.first pair.second delay
 
--- What a leaf says is true of the cube: its number is at least its domain's bound, or the delay of the pair, or no admitted
--- pair lies there, or its steps show its bound.
+-- What a leaf says is true of the cube: its number is at least its domain's bound, or the delay of
+-- the pair, or no admitted pair lies there, or its steps show its bound.
 abbrev pub IsOfCube : Setting → Admitted → List Trit → Node → Type 0
 IsOfCube setting admit cube (node.Split position) = Unit {0}
 IsOfCube setting admit cube (node.Bound domain bound) = IsBounded domain setting cube bound
@@ -100,7 +100,8 @@ IsReached netlist c = IsDelayOfBits (setting_of netlist c) c.pair.first c.pair.s
 abbrev pub lines_in : Certificate → List Line
 lines_in c = lines_from (c.question.admit.pins ∷ []) c.tree
 
--- The certificate is accepted: it is of this circuit, its pair is admitted and has its time, and its lines are good.
+-- The certificate is accepted: it is of this circuit, its pair is admitted and has its time, and
+-- its lines are good.
 pub record Accepts (netlist : Netlist) (c : Certificate) : Type 0 where
   pub size : IsOfSize netlist c
   pub admitted : IsAdmitted c.question.admit c.pair
@@ -108,7 +109,8 @@ pub record Accepts (netlist : Netlist) (c : Certificate) : Type 0 where
   pub tree : IsTree c.tree
   pub good : AllByRecursion (IsGood (setting_of netlist c) c.question.admit c.time) (lines_in c)
 
--- the time of a certificate that is accepted of a netlist without a loop is the worst delay of the admitted pairs
+-- the time of a certificate that is accepted of a netlist without a loop is the worst delay of the
+-- admitted pairs
 abbrev pub AcceptedIsWorst : Type 0
 AcceptedIsWorst = (netlist : Netlist) (c : Certificate) → IsWellFormed netlist → (¬ Loop netlist) → AreMoments netlist c.question.moments
     → Accepts netlist c → IsWorst (setting_of netlist c) c.question.admit c.time

@@ -73,8 +73,8 @@ IsOther number = (version : Version) → number ≢ version_number version
 
 -- A first line with a number of no version, of at most 64 digits, is reported as another version,
 -- or as a number too large, whatever follows the number.
-abbrev pub VersionsAreTold : Type 0
-VersionsAreTold = (n : ℕ) (later : List ℕ) → IsOther n → n < 10 ^ 64 → NoDigit later
+abbrev pub VersionsAreReported : Type 0
+VersionsAreReported = (n : ℕ) (later : List ℕ) → IsOther n → n < 10 ^ 64 → NoDigit later
     → kind_in (codes "tdelay-cert " ++ decimal n ++ later) ≡ Some (if nat_le n greatest then kind.Version else kind.NumberTooLarge)
 
 -- the first line has the number of no version
@@ -106,6 +106,6 @@ IsReadAs c (Ok read) = read ≡ c
 IsReadAs c (Err fault) = fault.kind ≡ kind.OutOfMemory
 
 -- memory aside, the result is this kind of fault
-abbrev pub IsTold : CertFaultKind → Result Certificate CertFault → Type 0
-IsTold k (Ok read) = ⊥
-IsTold k (Err fault) = (fault.kind ≡ k) ⊎ (fault.kind ≡ kind.OutOfMemory)
+abbrev pub IsReported : CertFaultKind → Result Certificate CertFault → Type 0
+IsReported k (Ok read) = ⊥
+IsReported k (Err fault) = (fault.kind ≡ k) ⊎ (fault.kind ≡ kind.OutOfMemory)

@@ -16,12 +16,14 @@ IsShort (node.Point time) = time < 10 ^ 15
 IsShort node.Empty = Unit {0}
 IsShort (node.Refuted refuted) = ⊥
 
--- A tree of at most 10,000,000 lines with numbers below 10 ^ 15, as a search gives, has a text within the limit.
+-- A tree of at most 10,000,000 lines with numbers below 10 ^ 15, as a search gives, has a text
+-- within the limit.
 abbrev pub SearchedTextsFit : Type 0
 SearchedTextsFit = (c : Certificate) → HasSpelling c → c.time < 10 ^ 15 → AllByRecursion IsShort c.tree → length c.tree ≤ 10000000
     → IsWithinLimit (spelling c)
 
--- A tree of one leaf whose steps have at most 268,000,000 bytes, as a search by refutation gives, has a text within the limit.
+-- A tree of one leaf whose steps have at most 268,000,000 bytes, as a search by refutation gives,
+-- has a text within the limit.
 abbrev pub RefutedTextsFit : Type 0
 RefutedTextsFit = (c : Certificate) (refuted : Refuted) → HasSpelling c → c.time < 10 ^ 15 → c.tree ≡ node.Refuted refuted ∷ []
     → length (steps_text refuted.steps) ≤ 268000000 → IsWithinLimit (spelling c)

@@ -76,14 +76,15 @@ front_number number (b ∷ rest) = if is_ascii_digit b then front_number (10 * n
 
 -- the number, or none where it passes the most
 abbrev pub IsUpTo : ℕ → ℕ → Option ℕ → Type 0
-IsUpTo most number (Some told) = (told ≡ number) × (number ≤ most)
+IsUpTo most number (Some reported) = (reported ≡ number) × (number ≤ most)
 IsUpTo most number None = most < number
 
 -- one of the versions has this number
 abbrev pub is_version : ℕ → Bool
 is_version number = number == 1 || (number == 2 || (number == 3 || (number == 4 || number == 5)))
 
--- Why no version stands here: another number is another version, or passes the greatest; with no other it is the syntax.
+-- Why no version stands here: another number is another version, or passes the greatest; with no
+-- other it is the syntax.
 unfoldable pub version_reason : List ℕ → Reason
 version_reason behind =
     if begins_number behind && not (is_version (front_number 0 behind)) then (
@@ -121,7 +122,8 @@ version_at bytes = do
 
 -- ---- the question
 
--- In the second and the third version there is at least one input: without inputs all pairs are admitted and nothing changes later.
+-- In the second and the third version there is at least one input: without inputs all pairs are
+-- admitted and nothing changes later.
 abbrev pub has_inputs : Version → Bool
 has_inputs First = false
 has_inputs Second = true
@@ -276,7 +278,8 @@ node_at here bytes = do
   tag ← tag_at here bytes
   behind_tag here tag.0 tag.1
 
--- the leaves of a tree, by the version: in the fourth one of them is bounded by edges, in the fifth one is refuted
+-- the leaves of a tree, by the version: in the fourth one of them is bounded by edges, in the fifth
+-- one is refuted
 abbrev pub leaves_in : Version → Leaves
 leaves_in First = leaves.First
 leaves_in Second = leaves.Later

@@ -18,7 +18,8 @@ use Rattle.td_certificate.specs.Text.{row, bits, node_line, trit, first_trits, s
 abbrev pub inputs : Certificate → ℕ
 inputs c = inputs_of c.question
 
--- the version of its text: the fifth where a leaf is refuted, the fourth where one is bounded by edges, else that of the question
+-- the version of its text: the fifth where a leaf is refuted, the fourth where one is bounded by
+-- edges, else that of the question
 abbrev pub version_in : Certificate → Version
 version_in c = if has_refuted c.tree then Fifth else (if has_edges c.tree then Fourth else version_of c.question)
 
@@ -89,7 +90,8 @@ spelling c = text_of (head_lines c ++ map node_line c.tree)
 abbrev pub latest : ℕ
 latest = 1000000000
 
--- a node of a text of this version: numbers up to the greatest, and leaves without an admitted pair only from the second version on
+-- a node of a text of this version: numbers up to the greatest, and leaves without an admitted pair
+-- only from the second version on
 abbrev pub IsNode : Version → Node → Type 0
 IsNode version (node.Split position) = position ≤ greatest
 IsNode version (node.Bound domain bound) = bound ≤ greatest
@@ -97,8 +99,8 @@ IsNode version (node.Point time) = time ≤ greatest
 IsNode version node.Empty = version ≢ First
 IsNode version (node.Refuted refuted) = IsRefutedText refuted
 
--- its numbers are within their limits, there are two pins, a moment and a bit of each vector for each input, and its nodes are
--- one tree's
+-- its numbers are within their limits, there are two pins, a moment and a bit of each vector for
+-- each input, and its nodes are one tree's
 pub record HasSpelling (c : Certificate) : Type 0 where
   pub inputs : inputs_of c.question ≤ 4096
   pub gates : c.gates ≤ 200000

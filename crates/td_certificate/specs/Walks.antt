@@ -15,8 +15,8 @@ pub record Line : Type 0 where
   pub cube : List Trit
   pub node : Node
 
--- The lines of these nodes, where the trees still to come have these cubes: on the zero side of a split its position is 0, on the
--- one side 1.
+-- The lines of these nodes, where the trees still to come have these cubes: on the zero side of a
+-- split its position is 0, on the one side 1.
 abbrev pub lines_from : List (List Trit) → List Node → List Line
 lines_from [] nodes = []
 lines_from (cube ∷ cubes) [] = []

@@ -13,8 +13,8 @@ use std::alloc::{AllocError, Global};
 use td_circuit::LATEST;
 use td_domain::{Admit, Cube, Trit};
 
-/// The greatest number of flips in a text of this version. With all inputs where nothing is pinned or held, all pairs are
-/// admitted, which the second version doesn't say.
+/// The greatest number of flips in a text of this version. With all inputs where nothing is pinned
+/// or held, all pairs are admitted, which the second version doesn't say.
 fn most_flips(version: Version, pins: &Cube, held: &[bool]) -> u64
     ensures { result ≡ most_flips version pins.now held.now }
 {

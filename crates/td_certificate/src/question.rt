@@ -7,9 +7,9 @@ ghost use Rattle.td_certificate.specs.Questions.{inputs_of, is_free, holds_none,
 use std::marker::Model;
 use td_domain::{Admit, Cube, Trit};
 
-/// The versions of a certificate's text. The first is about all pairs of vectors, with all inputs changing at moment 0; in
-/// the second pairs are restricted; in the third an input changes later. In the fourth a leaf is bounded by edges, and in the fifth one
-/// is refuted, whatever is asked.
+/// The versions of a certificate's text. The first is about all pairs of vectors, with all inputs
+/// changing at moment 0; in the second pairs are restricted; in the third an input changes later.
+/// In the fourth a leaf is bounded by edges, and in the fifth one is refuted, whatever is asked.
 #[derive(Clone, Copy, Debug, PartialEq, Eq, Drop)]
 pub enum Version {
     First,
@@ -34,8 +34,8 @@ impl Version {
     }
 }
 
-/// What is asked of a circuit: which pairs of vectors are admitted, and for each input the moment at which it takes its
-/// second level, in steps.
+/// What is asked of a circuit: which pairs of vectors are admitted, and for each input the moment
+/// at which it takes its second level, in steps.
 #[derive(Debug, Drop)]
 pub struct Question {
     admit: Admit,

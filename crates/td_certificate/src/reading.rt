@@ -6,7 +6,7 @@ ghost use Rattle.td_certificate.specs.Spelling.{Spells};
 ghost use Rattle.td_certificate.specs.Tails.{tree_at, answer_at};
 ghost use Rattle.td_certificate.specs.declared.certificate.Certificate.{Certificate as Contents};
 ghost use Rattle.td_certificate.specs.declared.fault.CertFaultKind.{CertFaultKind as Kind};
-ghost use Rattle.td_certificate.specs.Faults.{IsFault, kind_of, kind_in, IsWithinLimit, IsFront, HasMore, IsReadAs, IsTold, line_behind};
+ghost use Rattle.td_certificate.specs.Faults.{IsFault, kind_of, kind_in, IsWithinLimit, IsFront, HasMore, IsReadAs, IsReported, line_behind};
 
 use crate::asking::question;
 use crate::certificate::Certificate;
@@ -37,7 +37,8 @@ fn begins_number(bytes: &[u8]) -> bool
     }
 }
 
-/// The number of the digits in front of these bytes, none where it passes the greatest of a certificate.
+/// The number of the digits in front of these bytes, none where it passes the greatest of a
+/// certificate.
 fn front_number(bytes: &[u8]) -> Option<u64>
     ensures { IsUpTo (10 ^ 18) (front_number 0 bytes.now) result }
 {
@@ -271,9 +272,9 @@ pub fn read(alloc: Global, text: &[u8]) -> Result<Certificate, CertFault>
     // Unless memory runs out, a text that spells a certificate is read as this certificate, and
     // each other text gives its fault.
     ensures only { (c : Contents) → Spells c text.now → IsWithinLimit text.now → IsReadAs c result }
-    ensures ends { IsFront text.now → IsWithinLimit text.now → IsTold CertFaultKind.UnexpectedEnd result }
-    ensures trailing { (line : ℕ) → HasMore text.now line → IsWithinLimit text.now → IsTold CertFaultKind.Trailing result }
-    ensures stops { (kind : Kind) → kind_in text.now ≡ Some kind → IsWithinLimit text.now → IsTold kind result }
+    ensures ends { IsFront text.now → IsWithinLimit text.now → IsReported CertFaultKind.UnexpectedEnd result }
+    ensures trailing { (line : ℕ) → HasMore text.now line → IsWithinLimit text.now → IsReported CertFaultKind.Trailing result }
+    ensures stops { (kind : Kind) → kind_in text.now ≡ Some kind → IsWithinLimit text.now → IsReported kind result }
 {
     read_whole(alloc, text)
 }

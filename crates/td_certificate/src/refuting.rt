@@ -21,7 +21,8 @@ struct Inside {
     bound: u64,
 }
 
-/// A bound that steps are to show. The steps are kept as the text of their lines, which is the smallest form.
+/// A bound that steps are to show. The steps are kept as the text of their lines, which is the
+/// smallest form.
 #[derive(Debug, Drop)]
 pub struct Refuted {
     inside: Box<Inside>,
@@ -49,7 +50,8 @@ impl Refuted {
         Ok(Refuted { inside })
     }
 
-    /// The bound that these steps are to show; none where a number of theirs is above 10^18. The error is out of memory.
+    /// The bound that these steps are to show; none where a number of theirs is above 10^18. The
+    /// error is out of memory.
     pub fn of_steps(
         alloc: Global,
         steps: &[Step],
@@ -117,7 +119,8 @@ impl<'a> Model for Steps<'a> {
 }
 
 impl<'a> Steps<'a> {
-    /// Takes the next step: its kind, and its numbers in place of those that are there. The error is out of memory.
+    /// Takes the next step: its kind, and its numbers in place of those that are there. The error
+    /// is out of memory.
     pub fn next(&mut self, numbers: &mut Vec<u64>) -> Result<Option<StepKind>, AllocError>
         ensures { IfOk result (IsNext self.old self.new numbers.new.items) }
     {

@@ -8,7 +8,8 @@ use crate::refuting::Refuted;
 use std::fmt;
 use std::marker::Model;
 
-/// The domain that bounds a leaf: arrival windows, possible levels, or both at once; edges, or edges and possible levels at once.
+/// The domain that bounds a leaf: arrival windows, possible levels, or both at once; edges, or
+/// edges and possible levels at once.
 #[derive(Clone, Copy, Debug, PartialEq, Eq, Drop)]
 pub enum BoundedBy {
     Arrival,
@@ -30,8 +31,9 @@ impl BoundedBy {
     }
 }
 
-/// A node of a tree: a split at a position of its cube, a leaf with a domain's bound of its cube, a leaf of one pair with
-/// that pair's delay, a leaf in whose cube no admitted pair lies, or a leaf with a bound that steps show. Bounds and delays are in steps.
+/// A node of a tree: a split at a position of its cube, a leaf with a domain's bound of its cube, a
+/// leaf of one pair with that pair's delay, a leaf in whose cube no admitted pair lies, or a leaf
+/// with a bound that steps show. Bounds and delays are in steps.
 #[derive(Debug, Drop)]
 pub enum Node {
     Split(u64),
@@ -84,7 +86,8 @@ impl fmt::Display for BoundedBy {
     }
 }
 
-/// A tree, kept as its nodes in the order of their lines: the node of a split, then its zero side, then its one side.
+/// A tree, kept as its nodes in the order of their lines: the node of a split, then its zero side,
+/// then its one side.
 #[derive(Debug, Drop)]
 pub struct Tree {
     nodes: Vec<Node>,

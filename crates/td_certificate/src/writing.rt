@@ -98,8 +98,8 @@ fn push_moments(text: &mut String, moments: &[u64]) -> Result<(), AllocError>
     Ok(())
 }
 
-/// Puts the lines that tell a question at the end, as they stand in a certificate's text of this version. In the first version
-/// there are none.
+/// Puts the lines that tell a question at the end, as they stand in a certificate's text of this
+/// version. In the first version there are none.
 pub fn push_question(
     text: &mut String,
     version: Version,
@@ -175,7 +175,8 @@ fn make_room<W: Sink>(out: &mut W, batch: &mut String) -> Result<(), DeviceFault
     Ok(())
 }
 
-/// Writes the batch and the lines of a leaf that is refuted, but for that of its bound, which is left in the batch.
+/// Writes the batch and the lines of a leaf that is refuted, but for that of its bound, which is
+/// left in the batch.
 fn write_refuted<W: Sink>(
     out: &mut W,
     batch: &mut String,
@@ -193,7 +194,8 @@ fn write_refuted<W: Sink>(
     Ok(())
 }
 
-/// Puts a node's line at the end of the batch. Of the lines of a leaf that is refuted all but the last are written.
+/// Puts a node's line at the end of the batch. Of the lines of a leaf that is refuted all but the
+/// last are written.
 fn write_node<W: Sink>(out: &mut W, batch: &mut String, node: &Node) -> Result<(), WriteFault>
     ensures ok { OnOk result (SentTo (W.output out.old) (W.output out.new) (string_bytes batch.old ++ ended (node_line node.now)) (string_bytes batch.new)) }
     ensures err { IfErr result (λ fault. StopsIn fault (W.output out.old) (W.output out.new) (string_bytes batch.old ++ ended (node_line node.now))) }

@@ -3,7 +3,7 @@ pub mod Points
 pub mod Turning
 pub mod StepLaws
 pub mod Lines
-pub mod Told
+pub mod Reported
 pub mod Texts
 pub mod Written
 pub mod PairCubes

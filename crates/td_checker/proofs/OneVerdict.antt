@@ -22,7 +22,7 @@ use Rattle.td_certificate.proofs.Texts.{spells_once}
 use Rattle.td_certificate.proofs.VectorCodes.{cases, none_not, some_is}
 use Rattle.td_checker.specs.declared.verdict.Verdict.{Verdict}
 use Rattle.td_checker.specs.declared.verdict.Verdict.TheVariants as verdict
-use Rattle.td_checker.specs.Verdicts.{Flaw, Misplaced, NotOnePair, WrongNumber, NotEmpty, AboveTime, TooLarge, BadStep, SaysEmpty, IsWrong, IsLargeLeaf, HasBadStep, HasFlaw, line_total, told_at, IsGoodIn, HasAdmittedPair, IsFirstBad, IsVerdict, OneVerdict}
+use Rattle.td_checker.specs.Verdicts.{Flaw, Misplaced, NotOnePair, WrongNumber, NotEmpty, AboveTime, TooLarge, BadStep, SaysEmpty, IsWrong, IsLargeLeaf, HasBadStep, HasFlaw, line_total, reported_at, IsGoodIn, HasAdmittedPair, IsFirstBad, IsVerdict, OneVerdict}
 use Rattle.td_checker.specs.Checks.{TextsHaveOneVerdict}
 
 -- a leaf's number is wrong only where it isn't so of its cube
@@ -153,11 +153,11 @@ one_bad netlist c this that line other none h k =
     let found = one_place (setting_of netlist c) c.question.admit c.time (lines_in c) h.place k.place h.bad k.bad this that
     (all_plain c h.place h.bad none h.stands) (all_plain c k.place k.bad none k.stands) h.stands k.stands h.good_before k.good_before h.has k.has in
     let same : h.bad ≡ k.bad = some_is h.bad k.bad (sym h.stands ∙ ap (slice_get (lines_in c)) found.1 ∙ k.stands) in
-    let told : line_total (take h.place (lines_in c)) + told_at this h.bad.node ≡ line_total (take k.place (lines_in c)) + told_at that k.bad.node =
-    ap (λ (p : ℕ). line_total (take p (lines_in c)) + told_at this h.bad.node) found.1
-    ∙ ap (λ (f : Flaw). line_total (take k.place (lines_in c)) + told_at f h.bad.node) found.0
-    ∙ ap (λ (l : Line). line_total (take k.place (lines_in c)) + told_at that l.node) same in
-    (found.0, h.line_is ∙ ap (λ (n : ℕ). 1 + length (head_lines c) + n) told ∙ sym k.line_is)
+    let reported : line_total (take h.place (lines_in c)) + reported_at this h.bad.node ≡ line_total (take k.place (lines_in c)) + reported_at that k.bad.node =
+    ap (λ (p : ℕ). line_total (take p (lines_in c)) + reported_at this h.bad.node) found.1
+    ∙ ap (λ (f : Flaw). line_total (take k.place (lines_in c)) + reported_at f h.bad.node) found.0
+    ∙ ap (λ (l : Line). line_total (take k.place (lines_in c)) + reported_at that l.node) same in
+    (found.0, h.line_is ∙ ap (λ (n : ℕ). 1 + length (head_lines c) + n) reported ∙ sym k.line_is)
 
 -- where all lines are good, none is bad
 not_bad : {X : Type 0} (netlist : Netlist) (c : Certificate) (flaw : Flaw) (line : ℕ) → has_refuted c.tree ≡ false → Accepts netlist c → IsFirstBad netlist c flaw line → X
@@ -176,57 +176,57 @@ verdict_of AboveTime line = verdict.LeafAboveTime line
 verdict_of TooLarge line = verdict.LeafBound line
 verdict_of (BadStep place why) line = verdict.BadStep line why
 
-data Told (netlist : Netlist) (c : Certificate) (told : Verdict) : Type 0 where
-  other_circuit : told ≡ verdict.OtherCircuit → (¬ IsOfSize netlist c) → Told netlist c told
-  not_admitted : told ≡ verdict.PairNotAdmitted → IsOfSize netlist c → (¬ HasAdmittedPair c) → Told netlist c told
-  pair_time : told ≡ verdict.PairTime → IsOfSize netlist c → HasAdmittedPair c → (¬ IsReached netlist c) → Told netlist c told
-  bad_line : (flaw : Flaw) (line : ℕ) → told ≡ verdict_of flaw line → IsFirstBad netlist c flaw line → Told netlist c told
-  all_good : told ≡ verdict.Accepted → Accepts netlist c → Told netlist c told
+data Reported (netlist : Netlist) (c : Certificate) (reported : Verdict) : Type 0 where
+  other_circuit : reported ≡ verdict.OtherCircuit → (¬ IsOfSize netlist c) → Reported netlist c reported
+  not_admitted : reported ≡ verdict.PairNotAdmitted → IsOfSize netlist c → (¬ HasAdmittedPair c) → Reported netlist c reported
+  pair_time : reported ≡ verdict.PairTime → IsOfSize netlist c → HasAdmittedPair c → (¬ IsReached netlist c) → Reported netlist c reported
+  bad_line : (flaw : Flaw) (line : ℕ) → reported ≡ verdict_of flaw line → IsFirstBad netlist c flaw line → Reported netlist c reported
+  all_good : reported ≡ verdict.Accepted → Accepts netlist c → Reported netlist c reported
 
-told_as : (netlist : Netlist) (c : Certificate) (told : Verdict) → IsVerdict netlist c told → Told netlist c told
-told_as netlist c verdict.Accepted is = all_good refl is
-told_as netlist c verdict.PairTime is = pair_time refl is.0 is.1 is.2
-told_as netlist c (verdict.LeafBound line) (inl is) = bad_line WrongNumber line refl is
-told_as netlist c (verdict.LeafBound line) (inr is) = bad_line TooLarge line refl is
-told_as netlist c (verdict.BadStep line why) is = bad_line (BadStep is.0 why) line refl is.1
-told_as netlist c (verdict.LeafAboveTime line) is = bad_line AboveTime line refl is
-told_as netlist c (verdict.BadPosition line) is = bad_line Misplaced line refl is
-told_as netlist c (verdict.NotAPoint line) is = bad_line NotOnePair line refl is
-told_as netlist c verdict.OtherCircuit is = other_circuit refl is
-told_as netlist c verdict.PairNotAdmitted is = not_admitted refl is.0 is.1
-told_as netlist c (verdict.LeafNotEmpty line) is = bad_line NotEmpty line refl is
+reported_as : (netlist : Netlist) (c : Certificate) (reported : Verdict) → IsVerdict netlist c reported → Reported netlist c reported
+reported_as netlist c verdict.Accepted is = all_good refl is
+reported_as netlist c verdict.PairTime is = pair_time refl is.0 is.1 is.2
+reported_as netlist c (verdict.LeafBound line) (inl is) = bad_line WrongNumber line refl is
+reported_as netlist c (verdict.LeafBound line) (inr is) = bad_line TooLarge line refl is
+reported_as netlist c (verdict.BadStep line why) is = bad_line (BadStep is.0 why) line refl is.1
+reported_as netlist c (verdict.LeafAboveTime line) is = bad_line AboveTime line refl is
+reported_as netlist c (verdict.BadPosition line) is = bad_line Misplaced line refl is
+reported_as netlist c (verdict.NotAPoint line) is = bad_line NotOnePair line refl is
+reported_as netlist c verdict.OtherCircuit is = other_circuit refl is
+reported_as netlist c verdict.PairNotAdmitted is = not_admitted refl is.0 is.1
+reported_as netlist c (verdict.LeafNotEmpty line) is = bad_line NotEmpty line refl is
 
-one_told : (netlist : Netlist) (c : Certificate) (this that : Verdict) → has_refuted c.tree ≡ false → Told netlist c this → Told netlist c that → this ≡ that
-one_told netlist c this that none (other_circuit e no_size) (other_circuit f _) = e ∙ sym f
-one_told netlist c this that none (other_circuit e no_size) (not_admitted f size _) = absurd (no_size size)
-one_told netlist c this that none (other_circuit e no_size) (pair_time f size _ _) = absurd (no_size size)
-one_told netlist c this that none (other_circuit e no_size) (bad_line _ _ f bad) = absurd (no_size bad.size)
-one_told netlist c this that none (other_circuit e no_size) (all_good f accepts) = absurd (no_size accepts.size)
-one_told netlist c this that none (not_admitted e size barred) (other_circuit f no_size) = absurd (no_size size)
-one_told netlist c this that none (not_admitted e size barred) (not_admitted f _ _) = e ∙ sym f
-one_told netlist c this that none (not_admitted e size barred) (pair_time f _ admitted _) = absurd (barred admitted)
-one_told netlist c this that none (not_admitted e size barred) (bad_line _ _ f bad) = absurd (barred bad.admitted)
-one_told netlist c this that none (not_admitted e size barred) (all_good f accepts) = absurd (barred accepts.admitted)
-one_told netlist c this that none (pair_time e size admitted missed) (other_circuit f no_size) = absurd (no_size size)
-one_told netlist c this that none (pair_time e size admitted missed) (not_admitted f _ barred) = absurd (barred admitted)
-one_told netlist c this that none (pair_time e size admitted missed) (pair_time f _ _ _) = e ∙ sym f
-one_told netlist c this that none (pair_time e size admitted missed) (bad_line _ _ f bad) = absurd (missed bad.reached)
-one_told netlist c this that none (pair_time e size admitted missed) (all_good f accepts) = absurd (missed accepts.reached)
-one_told netlist c this that none (bad_line _ _ e bad) (other_circuit f no_size) = absurd (no_size bad.size)
-one_told netlist c this that none (bad_line _ _ e bad) (not_admitted f size barred) = absurd (barred bad.admitted)
-one_told netlist c this that none (bad_line _ _ e bad) (pair_time f size admitted missed) = absurd (missed bad.reached)
-one_told netlist c this that none (bad_line flaw line e bad) (bad_line other place f also) =
+one_reported : (netlist : Netlist) (c : Certificate) (this that : Verdict) → has_refuted c.tree ≡ false → Reported netlist c this → Reported netlist c that → this ≡ that
+one_reported netlist c this that none (other_circuit e no_size) (other_circuit f _) = e ∙ sym f
+one_reported netlist c this that none (other_circuit e no_size) (not_admitted f size _) = absurd (no_size size)
+one_reported netlist c this that none (other_circuit e no_size) (pair_time f size _ _) = absurd (no_size size)
+one_reported netlist c this that none (other_circuit e no_size) (bad_line _ _ f bad) = absurd (no_size bad.size)
+one_reported netlist c this that none (other_circuit e no_size) (all_good f accepts) = absurd (no_size accepts.size)
+one_reported netlist c this that none (not_admitted e size barred) (other_circuit f no_size) = absurd (no_size size)
+one_reported netlist c this that none (not_admitted e size barred) (not_admitted f _ _) = e ∙ sym f
+one_reported netlist c this that none (not_admitted e size barred) (pair_time f _ admitted _) = absurd (barred admitted)
+one_reported netlist c this that none (not_admitted e size barred) (bad_line _ _ f bad) = absurd (barred bad.admitted)
+one_reported netlist c this that none (not_admitted e size barred) (all_good f accepts) = absurd (barred accepts.admitted)
+one_reported netlist c this that none (pair_time e size admitted missed) (other_circuit f no_size) = absurd (no_size size)
+one_reported netlist c this that none (pair_time e size admitted missed) (not_admitted f _ barred) = absurd (barred admitted)
+one_reported netlist c this that none (pair_time e size admitted missed) (pair_time f _ _ _) = e ∙ sym f
+one_reported netlist c this that none (pair_time e size admitted missed) (bad_line _ _ f bad) = absurd (missed bad.reached)
+one_reported netlist c this that none (pair_time e size admitted missed) (all_good f accepts) = absurd (missed accepts.reached)
+one_reported netlist c this that none (bad_line _ _ e bad) (other_circuit f no_size) = absurd (no_size bad.size)
+one_reported netlist c this that none (bad_line _ _ e bad) (not_admitted f size barred) = absurd (barred bad.admitted)
+one_reported netlist c this that none (bad_line _ _ e bad) (pair_time f size admitted missed) = absurd (missed bad.reached)
+one_reported netlist c this that none (bad_line flaw line e bad) (bad_line other place f also) =
     let same = one_bad netlist c flaw other line place none bad also in
     e ∙ ap (λ x. verdict_of x line) same.0 ∙ ap (verdict_of other) same.1 ∙ sym f
-one_told netlist c this that none (bad_line flaw line e bad) (all_good f accepts) = not_bad netlist c flaw line none accepts bad
-one_told netlist c this that none (all_good e accepts) (other_circuit f no_size) = absurd (no_size accepts.size)
-one_told netlist c this that none (all_good e accepts) (not_admitted f size barred) = absurd (barred accepts.admitted)
-one_told netlist c this that none (all_good e accepts) (pair_time f size admitted missed) = absurd (missed accepts.reached)
-one_told netlist c this that none (all_good e accepts) (bad_line flaw line f bad) = not_bad netlist c flaw line none accepts bad
-one_told netlist c this that none (all_good e accepts) (all_good f also) = e ∙ sym f
+one_reported netlist c this that none (bad_line flaw line e bad) (all_good f accepts) = not_bad netlist c flaw line none accepts bad
+one_reported netlist c this that none (all_good e accepts) (other_circuit f no_size) = absurd (no_size accepts.size)
+one_reported netlist c this that none (all_good e accepts) (not_admitted f size barred) = absurd (barred accepts.admitted)
+one_reported netlist c this that none (all_good e accepts) (pair_time f size admitted missed) = absurd (missed accepts.reached)
+one_reported netlist c this that none (all_good e accepts) (bad_line flaw line f bad) = not_bad netlist c flaw line none accepts bad
+one_reported netlist c this that none (all_good e accepts) (all_good f also) = e ∙ sym f
 
 pub one_verdict : OneVerdict
-one_verdict netlist c this that none h k = one_told netlist c this that none (told_as netlist c this h) (told_as netlist c that k)
+one_verdict netlist c this that none h k = one_reported netlist c this that none (reported_as netlist c this h) (reported_as netlist c that k)
 
 pub texts_have_one_verdict : TextsHaveOneVerdict
 texts_have_one_verdict netlist_text default text this that plain h k =

@@ -94,10 +94,10 @@ has_delay given cube pair delay asked point is_in is only =
 pub is_asked : (P : ℕ → Type 0) (found asked : ℕ) → P found → ((other : ℕ) → P other → other ≡ found) → IsTrue (nat_eq found asked) ↔ P asked
 is_asked P found asked is only = (λ same. subst P (eqb-true found asked same) is, λ holds. eq-eqb found asked (sym (only asked holds)))
 
-pub told_delay : (given : Setting) (cube : List Trit) (pair : Pair) (delay asked : ℕ) → IsPoint cube → IsIn pair cube
+pub reported_delay : (given : Setting) (cube : List Trit) (pair : Pair) (delay asked : ℕ) → IsPoint cube → IsIn pair cube
     → IsDelayOfBits given pair.first pair.second delay
     → ((other : ℕ) → IsDelayOfBits given pair.first pair.second other → other ≡ delay)
     → IsTrue (nat_eq delay asked) ↔ HasDelay given cube asked
-told_delay given cube pair delay asked point is_in is only =
+reported_delay given cube pair delay asked point is_in is only =
     let one = has_delay given cube pair delay asked point is_in is only in
     (λ same. one.0 (eqb-true delay asked same), λ has. eq-eqb delay asked (one.1 has))

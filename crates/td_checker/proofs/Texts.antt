@@ -40,7 +40,7 @@ use Rattle.td_checker.specs.declared.verdict.Checked.{Checked}
 use Rattle.td_checker.specs.declared.verdict.CheckFault.{CheckFault}
 use Rattle.td_checker.specs.declared.verdict.CheckFault.TheVariants as fault
 use Rattle.td_checker.specs.Verdicts.{IsVerdict, line_count, line_total}
-use Rattle.td_checker.specs.Checks.{HasCircuit, HaveVerdict, IsCheckFault, IsCertificateFault, IsToldAs, TellsWorst, IsUnrefuted}
+use Rattle.td_checker.specs.Checks.{HasCircuit, HaveVerdict, IsCheckFault, IsCertificateFault, IsReportedAs, TellsWorst, IsUnrefuted}
 use Rattle.td_checker.proofs.OneVerdict.{texts_have_one_verdict}
 
 -- ---- a text is at least as long as its lines are many
@@ -101,40 +101,40 @@ spelled_fault kind.Syntax line text c spells within other is = spells-stops text
 spelled_fault kind.NumberTooLarge line text c spells within other is = spells-stops text c line spells is.1
 spelled_fault kind.Version line text c spells within other is = spells-stops text c line spells is.1
 
-pub refused : (text : List ℕ) (default : Delay) (result : Result Netlist Fault) (told : Fault) → result ≡ Err told
+pub refused : (text : List ℕ) (default : Delay) (result : Result Netlist Fault) (reported : Fault) → result ≡ Err reported
     → ((netlist : Netlist) → Means text default netlist → IsUnlessMemory result netlist)
-    → IsFaultIn text told.kind told.line → told.kind ≢ netlist_kind.OutOfMemory
-    → (certificate : List ℕ) → IsCheckFault text default certificate (fault.Netlist told)
-refused text default result told is only has other certificate = (
+    → IsFaultIn text reported.kind reported.line → reported.kind ≢ netlist_kind.OutOfMemory
+    → (certificate : List ℕ) → IsCheckFault text default certificate (fault.Netlist reported)
+refused text default result reported is only has other certificate = (
   other,
   λ netlist means. other (subst (λ (r : Result Netlist Fault). IsUnlessMemory r netlist) is (only netlist means)),
   has,
 )
 
 -- texts that have a verdict have no fault
-fault_is_memory : (netlist_text : List ℕ) (default : Delay) (text : List ℕ) (told : CheckFault) (v : Verdict)
-    → IsCheckFault netlist_text default text told → HaveVerdict netlist_text default text v → told ≡ fault.OutOfMemory
+fault_is_memory : (netlist_text : List ℕ) (default : Delay) (text : List ℕ) (reported : CheckFault) (v : Verdict)
+    → IsCheckFault netlist_text default text reported → HaveVerdict netlist_text default text v → reported ≡ fault.OutOfMemory
 fault_is_memory netlist_text default text fault.OutOfMemory v is have = refl
-fault_is_memory netlist_text default text (fault.Netlist told) v is have = absurd (is.1 have.netlist have.circuit.means)
+fault_is_memory netlist_text default text (fault.Netlist reported) v is have = absurd (is.1 have.netlist have.circuit.means)
 fault_is_memory netlist_text default text (fault.Loop name) v is have =
     let same : is.0 ≡ have.netlist = one_netlist netlist_text default is.0 have.netlist is.1 have.circuit.means in
     let loop : LiesOnLoop have.netlist (name_of name) = subst (λ (n : Netlist). LiesOnLoop n (name_of name)) same is.2 in
     absurd (have.circuit.acyclic loop.0)
-fault_is_memory netlist_text default text (fault.Certificate told) v is have =
-    spelled_fault told.kind told.line text have.certificate have.spells have.within is.2 is.3
+fault_is_memory netlist_text default text (fault.Certificate reported) v is have =
+    spelled_fault reported.kind reported.line text have.certificate have.spells have.within is.2 is.3
 
-pub told_only : (netlist_text : List ℕ) (default : Delay) (text : List ℕ) (result : Result Checked CheckFault)
-    → IfOk result (λ told. HaveVerdict netlist_text default text told.verdict) → IfErr result (λ told. IsCheckFault netlist_text default text told)
-    → (v : Verdict) → IsUnrefuted text → HaveVerdict netlist_text default text v → IsToldAs v result
-told_only netlist_text default text (Ok told) found fails v plain have = texts_have_one_verdict netlist_text default text told.verdict v plain found have
-told_only netlist_text default text (Err told) found fails v plain have = fault_is_memory netlist_text default text told v fails have
+pub reported_only : (netlist_text : List ℕ) (default : Delay) (text : List ℕ) (result : Result Checked CheckFault)
+    → IfOk result (λ reported. HaveVerdict netlist_text default text reported.verdict) → IfErr result (λ reported. IsCheckFault netlist_text default text reported)
+    → (v : Verdict) → IsUnrefuted text → HaveVerdict netlist_text default text v → IsReportedAs v result
+reported_only netlist_text default text (Ok reported) found fails v plain have = texts_have_one_verdict netlist_text default text reported.verdict v plain found have
+reported_only netlist_text default text (Err reported) found fails v plain have = fault_is_memory netlist_text default text reported v fails have
 
-pub certificate_fault : (netlist_text : List ℕ) (default : Delay) (text : List ℕ) (netlist : Netlist) (told : CheckFault)
-    → HasCircuit netlist_text default netlist → IsCertificateFault text told → IsCheckFault netlist_text default text told
+pub certificate_fault : (netlist_text : List ℕ) (default : Delay) (text : List ℕ) (netlist : Netlist) (reported : CheckFault)
+    → HasCircuit netlist_text default netlist → IsCertificateFault text reported → IsCheckFault netlist_text default text reported
 certificate_fault netlist_text default text netlist fault.OutOfMemory circuit is = tt
-certificate_fault netlist_text default text netlist (fault.Netlist told) circuit is = absurd is
+certificate_fault netlist_text default text netlist (fault.Netlist reported) circuit is = absurd is
 certificate_fault netlist_text default text netlist (fault.Loop name) circuit is = absurd is
-certificate_fault netlist_text default text netlist (fault.Certificate told) circuit is = (netlist, circuit, is.0, is.1)
+certificate_fault netlist_text default text netlist (fault.Certificate reported) circuit is = (netlist, circuit, is.0, is.1)
 
 pub have_verdict : (netlist_text : List ℕ) (default : Delay) (text : List ℕ) (netlist : Netlist) (c : Certificate) (v : Verdict)
     → HasCircuit netlist_text default netlist → Spells c text × IsWithinLimit text → IsVerdict netlist c v

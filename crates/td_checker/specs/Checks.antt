@@ -20,13 +20,14 @@ use Rattle.td_checker.specs.declared.verdict.CheckFault.{CheckFault}
 use Rattle.td_checker.specs.declared.verdict.CheckFault.TheVariants as fault
 use Rattle.td_checker.specs.Verdicts.{IsVerdict}
 
--- the netlist's text, with this delay for gates that state none, means this netlist, which has no loop
+-- the netlist's text, with this delay for gates that state none, means this netlist, which has no
+-- loop
 pub record HasCircuit (text : List ℕ) (default : Delay) (netlist : Netlist) : Type 0 where
   pub means : Means text default netlist
   pub acyclic : ¬ Loop netlist
 
--- The texts have this verdict: the netlist's means a netlist without a loop, the certificate's spells a certificate within
--- its limit, and the verdict is that of both.
+-- The texts have this verdict: the netlist's means a netlist without a loop, the certificate's
+-- spells a certificate within its limit, and the verdict is that of both.
 pub record HaveVerdict (netlist_text : List ℕ) (default : Delay) (text : List ℕ) (verdict : Verdict) : Type 0 where
   pub netlist : Netlist
   pub circuit : HasCircuit netlist_text default netlist
@@ -40,19 +41,19 @@ pub record HaveVerdict (netlist_text : List ℕ) (default : Delay) (text : List 
 -- nothing of them.
 abbrev pub IsCheckFault : List ℕ → Delay → List ℕ → CheckFault → Type 0
 IsCheckFault netlist_text default text fault.OutOfMemory = Unit {0}
-IsCheckFault netlist_text default text (fault.Netlist told) =
-    (told.kind ≢ netlist_kind.OutOfMemory) × ((netlist : Netlist) → ¬ Means netlist_text default netlist)
-    × IsFaultIn netlist_text told.kind told.line
+IsCheckFault netlist_text default text (fault.Netlist reported) =
+    (reported.kind ≢ netlist_kind.OutOfMemory) × ((netlist : Netlist) → ¬ Means netlist_text default netlist)
+    × IsFaultIn netlist_text reported.kind reported.line
 IsCheckFault netlist_text default text (fault.Loop name) =
     (netlist : Netlist) × Means netlist_text default netlist × LiesOnLoop netlist (name_of name)
-IsCheckFault netlist_text default text (fault.Certificate told) =
+IsCheckFault netlist_text default text (fault.Certificate reported) =
     (netlist : Netlist) × HasCircuit netlist_text default netlist
-    × (told.kind ≢ certificate_kind.OutOfMemory) × IsFault told.kind told.line text
+    × (reported.kind ≢ certificate_kind.OutOfMemory) × IsFault reported.kind reported.line text
 
 -- memory aside, the result is this verdict
-abbrev pub IsToldAs : Verdict → Result Checked CheckFault → Type 0
-IsToldAs verdict (Ok told) = told.verdict ≡ verdict
-IsToldAs verdict (Err told) = told ≡ fault.OutOfMemory
+abbrev pub IsReportedAs : Verdict → Result Checked CheckFault → Type 0
+IsReportedAs verdict (Ok reported) = reported.verdict ≡ verdict
+IsReportedAs verdict (Err reported) = reported ≡ fault.OutOfMemory
 
 -- no leaf of the certificate that the text spells is refuted by steps
 abbrev pub IsUnrefuted : List ℕ → Type 0
@@ -63,8 +64,9 @@ abbrev pub TextsHaveOneVerdict : Type 0
 TextsHaveOneVerdict = (netlist_text : List ℕ) (default : Delay) (text : List ℕ) (this that : Verdict) → IsUnrefuted text
     → HaveVerdict netlist_text default text this → HaveVerdict netlist_text default text that → this ≡ that
 
--- The time of the certificate that the text spells is the worst delay of the netlist that the netlist's text means, over the
--- pairs that the certificate admits and with its moments of the inputs.
+-- The time of the certificate that the text spells is the worst delay of the netlist that the
+-- netlist's text means, over the pairs that the certificate admits and with its moments of the
+-- inputs.
 abbrev pub TellsWorst : List ℕ → Delay → List ℕ → Type 0
 TellsWorst netlist_text default text = (netlist : Netlist) (certificate : Certificate) → Means netlist_text default netlist
     → Spells certificate text → IsWorst (setting_of netlist certificate) certificate.question.admit certificate.time
@@ -72,6 +74,6 @@ TellsWorst netlist_text default text = (netlist : Netlist) (certificate : Certif
 -- what a fault says of the certificate's text alone
 abbrev pub IsCertificateFault : List ℕ → CheckFault → Type 0
 IsCertificateFault text fault.OutOfMemory = Unit {0}
-IsCertificateFault text (fault.Netlist told) = ⊥
+IsCertificateFault text (fault.Netlist reported) = ⊥
 IsCertificateFault text (fault.Loop name) = ⊥
-IsCertificateFault text (fault.Certificate told) = (told.kind ≢ certificate_kind.OutOfMemory) × IsFault told.kind told.line text
+IsCertificateFault text (fault.Certificate reported) = (reported.kind ≢ certificate_kind.OutOfMemory) × IsFault reported.kind reported.line text

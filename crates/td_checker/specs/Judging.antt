@@ -15,7 +15,7 @@ use Rattle.td_checker.specs.declared.verdict.Verdict.{Verdict}
 use Rattle.td_checker.specs.declared.verdict.Verdict.TheVariants as verdict
 use Rattle.td_checker.specs.declared.judging.Judged as code_judged
 use Rattle.td_checker.specs.declared.judging.Judged.TheVariants as judged
-use Rattle.td_checker.specs.Verdicts.{Flaw, Misplaced, NotOnePair, WrongNumber, NotEmpty, AboveTime, TooLarge, BadStep, HasFlaw, line_count, line_total, told_at}
+use Rattle.td_checker.specs.Verdicts.{Flaw, Misplaced, NotOnePair, WrongNumber, NotEmpty, AboveTime, TooLarge, BadStep, HasFlaw, line_count, line_total, reported_at}
 
 -- the flaw; where it is a step's, `at` says at which of its node's lines
 abbrev pub flaw_of : code_flaw.Flaw → ℕ → Flaw
@@ -38,12 +38,12 @@ wrong_flaw _ = code.WrongNumber
 -- the line, which is one of the text, is good, or has this flaw
 abbrev pub IsJudgedLine : Setting → Admitted → ℕ → Line → Option code_flaw.Flaw → Type 0
 IsJudgedLine setting admit most line None = IsGood setting admit most line
-IsJudgedLine setting admit most line (Some flaw) = HasFlaw setting admit most (flaw_of flaw 0) line × (told_at (flaw_of flaw 0) line.node ≡ 0)
+IsJudgedLine setting admit most line (Some flaw) = HasFlaw setting admit most (flaw_of flaw 0) line × (reported_at (flaw_of flaw 0) line.node ≡ 0)
 
 -- the line has this flaw, and `at` says at which of its node's lines
 pub record IsFlawed (setting : Setting) (admit : Admitted) (most : ℕ) (line : Line) (flaw : Flaw) (at : ℕ) : Type 0 where
   pub has : HasFlaw setting admit most flaw line
-  pub at_is : at ≡ told_at flaw line.node
+  pub at_is : at ≡ reported_at flaw line.node
   pub inside : at < line_count line.node
 
 -- the line is good, and takes this number of the text's lines
@@ -63,24 +63,24 @@ pub record IsBadAt (setting : Setting) (admit : Admitted) (most : ℕ) (lines : 
   pub stands : slice_get lines place ≡ Some bad
   pub good_before : AllByRecursion (IsGood setting admit most) (take place lines)
   pub has : HasFlaw setting admit most flaw bad
-  pub before_is : before ≡ line_total (take place lines) + told_at flaw bad.node
+  pub before_is : before ≡ line_total (take place lines) + reported_at flaw bad.node
 
 -- a flaw of the code's, at whatever line a step's is
-pub record IsFoundBad (setting : Setting) (admit : Admitted) (most : ℕ) (lines : List Line) (told : BadLine) : Type 0 where
+pub record IsFoundBad (setting : Setting) (admit : Admitted) (most : ℕ) (lines : List Line) (reported : BadLine) : Type 0 where
   pub at : ℕ
-  pub bad : IsBadAt setting admit most lines (flaw_of told.flaw at) told.before
+  pub bad : IsBadAt setting admit most lines (flaw_of reported.flaw at) reported.before
 
 -- the lines are good, or this is the first bad one
 abbrev pub AreJudged : Setting → Admitted → ℕ → List Line → Option BadLine → Type 0
 AreJudged setting admit most lines None = AllByRecursion (IsGood setting admit most) lines
-AreJudged setting admit most lines (Some told) = IsFoundBad setting admit most lines told
+AreJudged setting admit most lines (Some reported) = IsFoundBad setting admit most lines reported
 
 -- the verdict that tells this flaw of a line
-abbrev pub told_as : code_flaw.Flaw → ℕ → Verdict
-told_as code.Misplaced line = verdict.BadPosition line
-told_as code.NotOnePair line = verdict.NotAPoint line
-told_as code.WrongNumber line = verdict.LeafBound line
-told_as code.NotEmpty line = verdict.LeafNotEmpty line
-told_as code.AboveTime line = verdict.LeafAboveTime line
-told_as code.TooLarge line = verdict.LeafBound line
-told_as (code.BadStep why) line = verdict.BadStep line why
+abbrev pub reported_as : code_flaw.Flaw → ℕ → Verdict
+reported_as code.Misplaced line = verdict.BadPosition line
+reported_as code.NotOnePair line = verdict.NotAPoint line
+reported_as code.WrongNumber line = verdict.LeafBound line
+reported_as code.NotEmpty line = verdict.LeafNotEmpty line
+reported_as code.AboveTime line = verdict.LeafAboveTime line
+reported_as code.TooLarge line = verdict.LeafBound line
+reported_as (code.BadStep why) line = verdict.BadStep line why

@@ -116,14 +116,14 @@ last_line (node.Refuted refuted) = 1 + length refuted.steps
 last_line n = 0
 
 -- at which of a node's lines a flaw is reported, counted from 0
-abbrev pub told_at : Flaw → Node → ℕ
-told_at TooLarge n = 0
-told_at (BadStep place why) n = 1 + place
-told_at Misplaced n = 0
-told_at NotOnePair n = 0
-told_at NotEmpty n = 0
-told_at WrongNumber n = last_line n
-told_at AboveTime n = last_line n
+abbrev pub reported_at : Flaw → Node → ℕ
+reported_at TooLarge n = 0
+reported_at (BadStep place why) n = 1 + place
+reported_at Misplaced n = 0
+reported_at NotOnePair n = 0
+reported_at NotEmpty n = 0
+reported_at WrongNumber n = last_line n
+reported_at AboveTime n = last_line n
 
 -- the flaw of a line of this certificate, and a good line of it, for this netlist
 abbrev pub HasFlawIn : Netlist → Certificate → Flaw → Line → Type 0
@@ -136,8 +136,8 @@ IsGoodIn netlist c = IsGood (setting_of netlist c) c.question.admit c.time
 abbrev pub HasAdmittedPair : Certificate → Type 0
 HasAdmittedPair c = IsAdmitted c.question.admit c.pair
 
--- The certificate is of this circuit and its pair is admitted and has its time, and this line of the text is the first bad one:
--- it has this flaw, and those before it in the tree are good.
+-- The certificate is of this circuit and its pair is admitted and has its time, and this line of
+-- the text is the first bad one: it has this flaw, and those before it in the tree are good.
 pub record IsFirstBad (netlist : Netlist) (c : Certificate) (flaw : Flaw) (line : ℕ) : Type 0 where
   pub size : IsOfSize netlist c
   pub admitted : HasAdmittedPair c
@@ -148,7 +148,7 @@ pub record IsFirstBad (netlist : Netlist) (c : Certificate) (flaw : Flaw) (line 
   pub stands : slice_get (lines_in c) place ≡ Some bad
   pub good_before : AllByRecursion (IsGoodIn netlist c) (take place (lines_in c))
   pub has : HasFlawIn netlist c flaw bad
-  pub line_is : line ≡ 1 + length (head_lines c) + (line_total (take place (lines_in c)) + told_at flaw bad.node)
+  pub line_is : line ≡ 1 + length (head_lines c) + (line_total (take place (lines_in c)) + reported_at flaw bad.node)
 
 -- ---- the verdict
 

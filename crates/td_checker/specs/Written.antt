@@ -14,14 +14,16 @@ use Rattle.td_certificate.specs.Accepts.{Accepts}
 use Rattle.td_checker.specs.declared.verdict.Verdict.TheVariants as verdict
 use Rattle.td_checker.specs.Checks.{HaveVerdict}
 
--- the certificate can be written, what is written is within the limit, and the verdict on it is Accepted
+-- the certificate can be written, what is written is within the limit, and the verdict on it is
+-- Accepted
 pub record IsAcceptedAsWritten (netlist_text : List ℕ) (default : Delay) (c : Certificate) : Type 0 where
   pub has : HasSpelling c
   pub within : IsWithinLimit (spelling c)
   pub verdict : HaveVerdict netlist_text default (spelling c) verdict.Accepted
 
--- A certificate that is accepted of the netlist that a text means, with a moment for each input, no more flips than inputs, and a
--- tree of at most 10,000,000 lines of which none is a step's, as an exact answer of a search gives it, is accepted as it is written.
+-- A certificate that is accepted of the netlist that a text means, with a moment for each input, no
+-- more flips than inputs, and a tree of at most 10,000,000 lines of which none is a step's, as an
+-- exact answer of a search gives it, is accepted as it is written.
 abbrev pub AcceptedIsWritten : Type 0
 AcceptedIsWritten = (netlist_text : List ℕ) (default : Delay) (netlist : Netlist) (c : Certificate) → Means netlist_text default netlist
     → IsAcyclic netlist → AreMoments netlist c.question.moments → c.question.admit.flips ≤ inputs_of c.question → Accepts netlist c

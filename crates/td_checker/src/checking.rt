@@ -9,10 +9,10 @@ ghost use Rattle.td_certificate.specs.Accepts.{lines_in, IsOfSize};
 ghost use Rattle.td_certificate.specs.Faults.{IsWithinLimit};
 ghost use Rattle.td_certificate.specs.Spelling.{head_lines, HasSpelling, Spells};
 ghost use Rattle.td_event_sim.specs.Scratch.{IsFor};
-ghost use Rattle.td_checker.specs.Judging.{AreJudged, told_as};
+ghost use Rattle.td_checker.specs.Judging.{AreJudged, reported_as};
 ghost use Rattle.td_checker.specs.Verdicts.{IsVerdict, line_total};
-ghost use Rattle.td_checker.specs.declared.verdict.Verdict.{Verdict as Told};
-ghost use Rattle.td_checker.specs.Checks.{HaveVerdict, HasCircuit, IsCheckFault, IsCertificateFault, IsToldAs, TellsWorst, IsUnrefuted};
+ghost use Rattle.td_checker.specs.declared.verdict.Verdict.{Verdict as Reported};
+ghost use Rattle.td_checker.specs.Checks.{HaveVerdict, HasCircuit, IsCheckFault, IsCertificateFault, IsReportedAs, TellsWorst, IsUnrefuted};
 
 use crate::admitting::is_admitted;
 use crate::judging::{Flaw, Judged, judge};
@@ -89,8 +89,8 @@ fn first_line(certificate: &Certificate) -> u32
 }
 
 /// The verdict that tells this flaw of a line.
-fn told_of(flaw: Flaw, line: u32) -> Verdict
-    ensures { result ≡ told_as flaw line }
+fn reported_of(flaw: Flaw, line: u32) -> Verdict
+    ensures { result ≡ reported_as flaw line }
 {
     match flaw {
         Flaw::Misplaced => Verdict::BadPosition(line),
@@ -127,7 +127,7 @@ fn is_reached(
 }
 
 /// The verdict on a certificate of the size of a circuit that has the certificate's moments.
-#[tactic(auto, using(crate::proofs::Told::bad_told, crate::proofs::Told::accepted_told, crate::proofs::Told::first_fits, crate::proofs::Told::second_fits, crate::proofs::Told::pins_fit, crate::proofs::Told::held_fit, crate::proofs::Told::is_tree))]
+#[tactic(auto, using(crate::proofs::Reported::bad_reported, crate::proofs::Reported::accepted_reported, crate::proofs::Reported::first_fits, crate::proofs::Reported::second_fits, crate::proofs::Reported::pins_fit, crate::proofs::Reported::held_fit, crate::proofs::Reported::is_tree))]
 fn verdict_of_lines(
     alloc: Global,
     circuit: &Circuit,
@@ -147,7 +147,7 @@ fn verdict_of_lines(
         return Ok(Verdict::PairTime);
     }
     match first_bad(alloc, &mut scratch, circuit, certificate)? {
-        Some(bad) => Ok(told_of(bad.flaw, first_line(certificate) + bad.before as u32)),
+        Some(bad) => Ok(reported_of(bad.flaw, first_line(certificate) + bad.before as u32)),
         None => Ok(Verdict::Accepted),
     }
 }
@@ -227,7 +227,7 @@ fn verdict_of_texts<'a>(
     default: Delay,
     certificate: &[u8],
 ) -> Result<Checked, CheckFault<'a>>
-    ensures told { IfOk result (λ checked. HaveVerdict netlist.now default certificate.now checked.verdict) }
+    ensures reported { IfOk result (λ checked. HaveVerdict netlist.now default certificate.now checked.verdict) }
     ensures spelled { IfOk result (λ checked. Spells checked.certificate certificate.now) }
     ensures fault { IfErr result (λ fault. IsCheckFault netlist.now default certificate.now fault) }
     ensures worst { IfOk result (λ checked. checked.verdict ≡ Verdict.Accepted → TellsWorst netlist.now default certificate.now) }
@@ -241,12 +241,13 @@ fn verdict_of_texts<'a>(
     })
 }
 
-/// The verdict on a certificate's text, for a netlist's text in which gates that state no delay have the default one.
+/// The verdict on a certificate's text, for a netlist's text in which gates that state no delay
+/// have the default one.
 ///
 /// # Errors
 ///
-/// The first that is there of a fault of the netlist's text, a loop of the netlist and a fault of the certificate's text.
-/// `OutOfMemory` where a growth was refused.
+/// The first that is there of a fault of the netlist's text, a loop of the netlist and a fault of
+/// the certificate's text. `OutOfMemory` where a growth was refused.
 pub fn check<'a>(
     alloc: Global,
     netlist: &'a [u8],
@@ -255,12 +256,12 @@ pub fn check<'a>(
 ) -> Result<Checked, CheckFault<'a>>
     // The verdict is the one on the two texts. The certificate is the one that the second text
     // spells. A fault is one of theirs.
-    ensures told { IfOk result (λ checked. HaveVerdict netlist.now default certificate.now checked.verdict) }
+    ensures reported { IfOk result (λ checked. HaveVerdict netlist.now default certificate.now checked.verdict) }
     ensures spelled { IfOk result (λ checked. Spells checked.certificate certificate.now) }
     ensures fault { IfErr result (λ fault. IsCheckFault netlist.now default certificate.now fault) }
 
     // Unless memory runs out, texts that have a verdict get it, where no leaf is refuted by steps.
-    ensures only { (verdict : Told) → IsUnrefuted certificate.now → HaveVerdict netlist.now default certificate.now verdict → IsToldAs verdict result }
+    ensures only { (verdict : Reported) → IsUnrefuted certificate.now → HaveVerdict netlist.now default certificate.now verdict → IsReportedAs verdict result }
 
     // An accepted time is the worst delay of the admitted pairs.
     ensures worst { IfOk result (λ checked. checked.verdict ≡ Verdict.Accepted → TellsWorst netlist.now default certificate.now) }

@@ -27,7 +27,8 @@ pub enum Flaw {
     Misplaced,
     /// A leaf of one pair where something is free.
     NotOnePair,
-    /// A bound less than the domain's or of a domain that gives none, or a time that isn't the pair's delay.
+    /// A bound less than the domain's or of a domain that gives none, or a time that isn't the
+    /// pair's delay.
     WrongNumber,
     /// An admitted pair lies in the cube of a leaf that says that none does.
     NotEmpty,

@@ -14,8 +14,8 @@ pub fn texts_have_one_verdict()
     ensures { TextsHaveOneVerdict }
 {}
 
-/// A certificate that is accepted, as an exact answer of a search gives it, can be written; its text is within the limit,
-/// and the verdict on that text is `Accepted`.
+/// A certificate that is accepted, as an exact answer of a search gives it, can be written; its
+/// text is within the limit, and the verdict on that text is `Accepted`.
 pub fn accepted_is_written()
     ensures { AcceptedIsWritten }
 {}

@@ -11,17 +11,18 @@ use td_nets::Name;
 use td_refutation::Flaw as StepFlaw;
 use thiserror::Error;
 
-/// The verdict on a certificate: the first that applies of another circuit, a pair that isn't admitted, a pair without the
-/// time, and, line by line in the tree, a bad position, a leaf of one pair with something free, a step that isn't good, a wrong number or
-/// a leaf `none` whose cube holds an admitted pair, and a number above the time. Lines are those of the text, from 1.
+/// The verdict on a certificate: the first that applies of another circuit, a pair that isn't
+/// admitted, a pair without the time, and, line by line in the tree, a bad position, a leaf of one
+/// pair with something free, a step that isn't good, a wrong number or a leaf `none` whose cube
+/// holds an admitted pair, and a number above the time. Lines are those of the text, from 1.
 #[derive(Clone, Copy, Debug, PartialEq, Eq, Drop)]
 pub enum Verdict {
     /// The certificate's time is the circuit's worst delay over the admitted pairs.
     Accepted,
     /// The pair's delay isn't the time.
     PairTime,
-    /// A bound less than the domain's or of a domain that gives none, a time that isn't the pair's delay, or a bound that steps don't
-    /// show, or of sets with too many variables.
+    /// A bound less than the domain's or of a domain that gives none, a time that isn't the pair's
+    /// delay, or a bound that steps don't show, or of sets with too many variables.
     LeafBound(u32),
     /// The number of a leaf is above the time.
     LeafAboveTime(u32),
@@ -102,8 +103,8 @@ pub struct Checked {
     pub certificate: Certificate,
 }
 
-/// Why two texts have no verdict: the first that is there of a fault of the netlist's text, a loop and a fault of the
-/// certificate's text.
+/// Why two texts have no verdict: the first that is there of a fault of the netlist's text, a loop
+/// and a fault of the certificate's text.
 #[derive(Debug, Drop, Error)]
 pub enum CheckFault<'a> {
     /// A growth was refused.

@@ -11,8 +11,8 @@ use std::alloc::{AllocError, Global};
 use td_certificate::Node;
 use td_domain::{Cube, Trit};
 
-/// A place in a tree: the cube of a node, and the positions of the splits above it, the lowest one last. Which side of a
-/// split this is can be read off the cube, so no other cube is kept.
+/// A place in a tree: the cube of a node, and the positions of the splits above it, the lowest one
+/// last. Which side of a split this is can be read off the cube, so no other cube is kept.
 #[derive(Drop)]
 pub struct Walk {
     pub cube: Cube,
@@ -67,7 +67,8 @@ impl Walk {
         Ok(())
     }
 
-    /// Goes from a leaf to the one side of the lowest split at whose zero side it stands, if there is one.
+    /// Goes from a leaf to the one side of the lowest split at whose zero side it stands, if there
+    /// is one.
     #[tactic(auto, using(crate::proofs::Turning::turned, crate::proofs::Turning::freed, crate::proofs::Turning::emptied, crate::proofs::Turning::inside_turned, crate::proofs::Turning::inside_freed, crate::proofs::Turning::below))]
     fn leave(&mut self)
         requires inside { AreInside (length self.old.cube) (reverse self.old.path.items) }

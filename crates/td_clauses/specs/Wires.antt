@@ -26,7 +26,8 @@ between_from list start level low zero = []
 between_from list start level low (suc count) =
     moment_literals (get_or list low nowhere).to (start + (low + 1)) level ++ between_from list start level (low + 1) count
 
--- a literal of this level for each moment from one place on and below another at which a change is possible still
+-- a literal of this level for each moment from one place on and below another at which a change is
+-- possible still
 abbrev pub between : WireSet → ℕ → ℕ → Bool → List Literal
 between wire first last level =
     between_from wire.list wire.start level (count_before wire.list first) (count_before wire.list last - count_before wire.list first)

@@ -28,7 +28,8 @@ fn push_moment(
     Ok(())
 }
 
-/// Adds a literal of this level for each of the moments in a range at which a change is possible still. The error is out of memory.
+/// Adds a literal of this level for each of the moments in a range at which a change is possible
+/// still. The error is out of memory.
 fn push_range(
     list: &[Possible],
     start: u32,
@@ -60,8 +61,8 @@ fn any_range(list: &[Possible], level: bool, low: usize, high: usize) -> bool
     false
 }
 
-/// Adds a literal of this level for each moment of a wire from one place on and below another at which a change is possible still. The error is out of
-/// memory.
+/// Adds a literal of this level for each moment of a wire from one place on and below another at
+/// which a change is possible still. The error is out of memory.
 fn push_wire(
     wire: &Wire,
     first: u64,
@@ -87,8 +88,8 @@ fn any_wire(wire: &Wire, first: u64, last: u64, level: bool) -> bool
     any_range(changes.list(), level, low, high)
 }
 
-/// Adds a literal of this level for each moment of a target from one place on and below another at which a change is possible still. The error is out of
-/// memory.
+/// Adds a literal of this level for each moment of a target from one place on and below another at
+/// which a change is possible still. The error is out of memory.
 pub fn push_target(
     nets: &[NetSets],
     net: usize,

@@ -44,8 +44,8 @@ pub fn target_changes(
     Ok(target)
 }
 
-/// Adds the sets of a net with these possible changes of its level and its target, and answers how many variables there are now; `None` where these are too
-/// many. The error is out of memory.
+/// Adds the sets of a net with these possible changes of its level and its target, and answers how
+/// many variables there are now; `None` where these are too many. The error is out of memory.
 pub fn add_net(
     nets: &mut Vec<NetSets>,
     variables: usize,

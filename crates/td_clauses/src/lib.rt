@@ -1,4 +1,5 @@
-//! Current sets of a circuit's wires, and the clauses about them that have names: each is true of every run that the sets cover.
+//! Current sets of a circuit's wires, and the clauses about them that have names: each is true of
+//! every run that the sets cover.
 #![tactic(auto)]
 
 mod between;

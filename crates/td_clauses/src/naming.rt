@@ -9,7 +9,8 @@ use std::alloc::{AllocError, Global};
 use td_gates::Level;
 use td_propagation::Literal;
 
-/// For each input whose level is known the literal that says that it isn't there at a place. The error is out of memory.
+/// For each input whose level is known the literal that says that it isn't there at a place. The
+/// error is out of memory.
 fn input_literals(
     alloc: Global,
     nets: &[NetSets],
@@ -32,7 +33,8 @@ fn input_literals(
     Ok(clause)
 }
 
-/// Table: with its inputs at these levels, of which some may be unknown, the gate's target is at this level at a place. The error is out of memory.
+/// Table: with its inputs at these levels, of which some may be unknown, the gate's target is at
+/// this level at a place. The error is out of memory.
 pub fn table(
     alloc: Global,
     nets: &[NetSets],
@@ -92,7 +94,8 @@ pub fn hold(
     Ok(clause)
 }
 
-/// Order: with the net at a level at one place, and no change away from it possible before another, it is there at that one too. The error is out of memory.
+/// Order: with the net at a level at one place, and no change away from it possible before another,
+/// it is there at that one too. The error is out of memory.
 pub fn order(
     alloc: Global,
     nets: &[NetSets],

@@ -35,7 +35,8 @@ fn caused(nets: &[NetSets], kind: Kind, inputs: &[u32], moment: u64) -> Directio
     to
 }
 
-/// What is left of a target's possible changes by those of the nets that its gate reads. The error is out of memory.
+/// What is left of a target's possible changes by those of the nets that its gate reads. The error
+/// is out of memory.
 fn target_left(
     alloc: Global,
     nets: &[NetSets],
@@ -56,7 +57,8 @@ fn target_left(
     Ok(left)
 }
 
-/// What is left of a target by what the nets that its gate reads may do. The error is out of memory.
+/// What is left of a target by what the nets that its gate reads may do. The error is out of
+/// memory.
 fn target_again(
     alloc: Global,
     nets: &[NetSets],
@@ -112,8 +114,9 @@ fn net_again(
     }
 }
 
-/// Takes the sets of the gate that drives a net again: its target's by those of the nets that it reads, and then its output's by its target's. The error is
-/// out of memory, and then all is as before.
+/// Takes the sets of the gate that drives a net again: its target's by those of the nets that it
+/// reads, and then its output's by its target's. The error is out of memory, and then all is as
+/// before.
 pub fn again(
     alloc: Global,
     nets: &mut [NetSets],

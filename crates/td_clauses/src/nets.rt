@@ -6,7 +6,8 @@ ghost use Rattle.td_clauses.specs.Nets.{level_literal, target_literal};
 use crate::wire::Wire;
 use td_propagation::Literal;
 
-/// The wires of a net: its level, and the target of the gate that drives it. A constant's and an input's target never changes.
+/// The wires of a net: its level, and the target of the gate that drives it. A constant's and an
+/// input's target never changes.
 #[derive(Drop)]
 pub struct NetSets {
     pub level: Wire,

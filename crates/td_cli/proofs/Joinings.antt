@@ -60,16 +60,16 @@ pub bad_part : (text : List ℕ) (default : Delay) (netlist : Netlist) (check : 
     → IsFault fault.kind fault.line read → IsOfPart name fault reason → TellsNoPart text default netlist check name.now read reason
 bad_part text default netlist check name read fault reason is (inl memory) =
     subst (λ (r : Refusal). TellsNoPart text default netlist check name.now read r) (sym memory) tt
-bad_part text default netlist check name read fault reason is (inr told) =
-    subst (λ (r : Refusal). TellsNoPart text default netlist check name.now read r) (sym told.1) (told.0, refl, is)
+bad_part text default netlist check name read fault reason is (inr reported) =
+    subst (λ (r : Refusal). TellsNoPart text default netlist check name.now read r) (sym reported.1) (reported.0, refl, is)
 
 -- why a certificate wasn't judged
 pub not_judged : (text : List ℕ) (default : Delay) (netlist : Netlist) (checked : Bool) (name : Bor (List ℕ)) (read : List ℕ) (fault : CheckFault)
     → IsCheckFault text default read fault → TellsNoPart text default netlist checked name.now read (unjudged name fault)
 not_judged text default netlist checked name read check.OutOfMemory is = tt
-not_judged text default netlist checked name read (check.Netlist told) is = record { told = is.0; means_none = is.1; has = is.2 }
+not_judged text default netlist checked name read (check.Netlist reported) is = record { reported = is.0; means_none = is.1; has = is.2 }
 not_judged text default netlist checked name read (check.Loop net) is = is
-not_judged text default netlist checked name read (check.Certificate told) is = (is.2, refl, is.3)
+not_judged text default netlist checked name read (check.Certificate reported) is = (is.2, refl, is.3)
 
 module _ (disk : Disk) (text : List ℕ) (default : Delay) (netlist : Netlist) (check : Bool) where
   -- all files were read

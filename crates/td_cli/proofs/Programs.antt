@@ -28,7 +28,7 @@ pub refused_words : (disk : Disk) (words : List (List ℕ)) (error : Error) (sta
     → (kind_of error ≡ kind.OutOfMemory → IsOutOfMemory status old new)
     → (IsOutOfMemory status old new ⊎ TellsText (kind_of error) status old new)
     → ProgramEnds disk words [] status old new
-refused_words disk words error status old new (inl ran_out) memory told = inr (refl, inr (memory ran_out))
+refused_words disk words error status old new (inl ran_out) memory reported = inr (refl, inr (memory ran_out))
 refused_words disk words error status old new (inr among) memory (inl ran_out) = inr (refl, inr ran_out)
 refused_words disk words error status old new (inr among) memory (inr text) = inr (refl, inl (kind_of error, among, text))
 
@@ -51,11 +51,11 @@ on_file_taking WereTaken disk name text held P H status old new taken = (
   on_file disk name text held P H disk.breaks disk.breaks (λ name may. may) taken.0 status old new taken.2,
 )
 
-module _ (Told : Output → Output → Type 0) (P : Product → Type 0) (H : Refusal → Type 0) (b : List ℕ → Type 0) where
+module _ (Reported : Output → Output → Type 0) (P : Product → Type 0) (H : Refusal → Type 0) (b : List ℕ → Type 0) where
   -- lines were written before a command ended
-  pub behind : (steps : List FileStep) (status : Status) (old : Streams) (mid : Output) (new : Streams) → Told old.err mid
-      → Ends P H b steps status (streams old.out mid) new → EndsBehind Told P H b steps status old new
-  behind steps status old mid new told ends = record { mid = mid; told = told; ends = ends }
+  pub behind : (steps : List FileStep) (status : Status) (old : Streams) (mid : Output) (new : Streams) → Reported old.err mid
+      → Ends P H b steps status (streams old.out mid) new → EndsBehind Reported P H b steps status old new
+  behind steps status old mid new reported ends = record { mid = mid; reported = reported; ends = ends }
 
 -- what a search of a text does, said of the file that was read as it
 pub search_on_file : (WereTaken : List FileStep → Type 0) (disk : Disk) (asked : WorstRequest) (text : List ℕ) → disk.holds asked.file.now text
@@ -68,21 +68,21 @@ pub not_read : (disk : Disk) (file : Bor (List ℕ)) (P : Product → Type 0) (H
     (fault : ReadFault) (status : Status) (out err_old err_new : Output)
     → (fault ≡ unread.Device → disk.fails file.now) → TellsUnread file fault status err_old err_new
     → Ends P (HoldsOnFile disk file.now H) b [] status (streams out err_old) (streams out err_new)
-not_read disk file P H b unread.OutOfMemory status out err_old err_new fails told =
-    refused P (HoldsOnFile disk file.now H) b refusal.OutOfMemory status out err_old err_new (λ other. absurd (other refl)) told
-not_read disk file P H b unread.Device status out err_old err_new fails told =
+not_read disk file P H b unread.OutOfMemory status out err_old err_new fails reported =
+    refused P (HoldsOnFile disk file.now H) b refusal.OutOfMemory status out err_old err_new (λ other. absurd (other refl)) reported
+not_read disk file P H b unread.Device status out err_old err_new fails reported =
     refused P (HoldsOnFile disk file.now H) b (refusal.Unreadable file) status out err_old err_new
-    (λ other. inl (file, refl, refl, fails refl)) told
+    (λ other. inl (file, refl, refl, fails refl)) reported
 
 -- the program said that a search can't read its netlist
 pub search_not_read : (disk : Disk) (file : Bor (List ℕ)) (b : List ℕ → Type 0) (fault : ReadFault) (status : Status) (out err_old err_new : Output)
     → (fault ≡ unread.Device → disk.fails file.now) → TellsUnread file fault status err_old err_new
     → Ends (λ product. ⊥) (IsUnreadable disk file.now) b [] status (streams out err_old) (streams out err_new)
-search_not_read disk file b unread.OutOfMemory status out err_old err_new fails told =
-    refused (λ product. ⊥) (IsUnreadable disk file.now) b refusal.OutOfMemory status out err_old err_new (λ other. absurd (other refl)) told
-search_not_read disk file b unread.Device status out err_old err_new fails told =
+search_not_read disk file b unread.OutOfMemory status out err_old err_new fails reported =
+    refused (λ product. ⊥) (IsUnreadable disk file.now) b refusal.OutOfMemory status out err_old err_new (λ other. absurd (other refl)) reported
+search_not_read disk file b unread.Device status out err_old err_new fails reported =
     refused (λ product. ⊥) (IsUnreadable disk file.now) b (refusal.Unreadable file) status out err_old err_new
-    (λ other. (file, refl, refl, fails refl)) told
+    (λ other. (file, refl, refl, fails refl)) reported
 
 -- how a command ends, by what was asked
 pub asked_as : (WereTaken : List FileStep → Type 0) (disk : Disk) (asked other : Request) (status : Status) (old new : Streams) → other ≡ asked
@@ -98,5 +98,5 @@ runs_apart WereTaken disk asked status old new keeps taken = (taken.0, taken.1, 
 -- a command that would overwrite a file is refused
 pub refused_over : (disk : Disk) (asked : Request) (reason : Refusal) (status : Status) (out err_old err_new : Output) → Overwrites disk asked reason
     → TellsReason reason status err_old err_new → RequestEnds disk asked [] status (streams out err_old) (streams out err_new)
-refused_over disk asked reason status out err_old err_new over told =
-    inl (refused (λ product. ⊥) (Overwrites disk asked) disk.breaks reason status out err_old err_new (λ other. over) told)
+refused_over disk asked reason status out err_old err_new over reported =
+    inl (refused (λ product. ⊥) (Overwrites disk asked) disk.breaks reason status out err_old err_new (λ other. over) reported)

@@ -38,14 +38,16 @@ ArePinned inputs first second (Some pins) =
     ¬ ((first ≡ None) × (second ≡ None))
     × (firsts seconds : List Trit) × AreTrits inputs first firsts × AreTrits inputs second seconds × (pins ≡ weave firsts seconds)
 
--- the pins of the whole: those that are given, or else the least cube that has the pins of all parts
+-- the pins of the whole: those that are given, or else the least cube that has the pins of all
+-- parts
 abbrev pub whole_pins : Option (List Trit) → List Certificate → List Trit
 whole_pins None parts = hull parts
 whole_pins (Some pins) parts = pins
 
 -- ---- the parts
 
--- For a netlist, a file's bytes spell this certificate, which is of a circuit of its size, and accepted where that is asked for.
+-- For a netlist, a file's bytes spell this certificate, which is of a circuit of its size, and
+-- accepted where that is asked for.
 pub record TellsPart (text : List ℕ) (default : Delay) (netlist : Netlist) (check : Bool) (read : List ℕ) (part : Certificate) : Type 0 where
   pub spells : Spells part read
   pub sized : IsOfSize netlist part
@@ -54,12 +56,12 @@ pub record TellsPart (text : List ℕ) (default : Delay) (netlist : Netlist) (ch
 -- why a file's bytes give no part, another verdict only where parts are checked; the refusal names
 -- the file
 abbrev pub TellsNoPart : List ℕ → Delay → Netlist → Bool → List ℕ → List ℕ → Refusal → Type 0
-TellsNoPart text default netlist check name read (refusal.BadPart told fault) =
-    (fault.kind ≢ certificate_kind.OutOfMemory) × (told.now ≡ name) × IsFault fault.kind fault.line read
-TellsNoPart text default netlist check name read (refusal.Unaccepted told verdict) =
-    (check ≡ true) × (told.now ≡ name) × (verdict ≢ Accepted) × HaveVerdict text default read verdict
-TellsNoPart text default netlist check name read (refusal.OtherCircuit told) =
-    (told.now ≡ name) × (part : Certificate) × Spells part read × ¬ IsOfSize netlist part
+TellsNoPart text default netlist check name read (refusal.BadPart reported fault) =
+    (fault.kind ≢ certificate_kind.OutOfMemory) × (reported.now ≡ name) × IsFault fault.kind fault.line read
+TellsNoPart text default netlist check name read (refusal.Unaccepted reported verdict) =
+    (check ≡ true) × (reported.now ≡ name) × (verdict ≢ Accepted) × HaveVerdict text default read verdict
+TellsNoPart text default netlist check name read (refusal.OtherCircuit reported) =
+    (reported.now ≡ name) × (part : Certificate) × Spells part read × ¬ IsOfSize netlist part
 TellsNoPart text default netlist check name read other = HasNoCircuit text default other
 
 -- the file of this name was read as this part
@@ -77,7 +79,8 @@ HasNoPart disk text default netlist check names reason =
 
 -- ---- what is joined
 
--- the text means a netlist without a loop, the files hold parts of a question about it, and the options give the pins of the whole
+-- the text means a netlist without a loop, the files hold parts of a question about it, and the
+-- options give the pins of the whole
 pub record IsToJoin (disk : Disk) (text : List ℕ) (default : Delay) (names : List (List ℕ)) (check : Bool) (first second : Option (List ℕ))
     (netlist : Netlist) (parts : List Certificate) (pins : List Trit) : Type 0 where
   pub circuit : HasCircuit text default netlist
@@ -90,8 +93,9 @@ pub record IsToJoin (disk : Disk) (text : List ℕ) (default : Delay) (names : L
 abbrev pub most_nodes : ℕ
 most_nodes = 10000000
 
--- The parts are joined into one certificate, which has a text and not too many nodes, and the report tells its time, its pair and the number of
--- its nodes, as that of a search does. Where each part is accepted of a netlist, so is the whole.
+-- The parts are joined into one certificate, which has a text and not too many nodes, and the
+-- report tells its time, its pair and the number of its nodes, as that of a search does. Where each
+-- part is accepted of a netlist, so is the whole.
 pub record IsJoinReport (disk : Disk) (text : List ℕ) (default : Delay) (names : List (List ℕ)) (check : Bool) (first second : Option (List ℕ))
     (report : List ℕ) (whole : Certificate) : Type 0 where
   pub netlist : Netlist
@@ -109,9 +113,9 @@ pub record IsJoinReport (disk : Disk) (text : List ℕ) (default : Delay) (names
 -- why parts aren't joined into a certificate with these pins: the fault, with the names of its two
 -- files; or what they are joined into has too many nodes
 abbrev pub IsUnjoinedFor : List (List ℕ) → List Certificate → List Trit → Refusal → Type 0
-IsUnjoinedFor names parts pins (refusal.NotJoined told one other) =
-    (told ≢ fault.OutOfMemory) × IsJoinFault parts pins told
-    × (one.now ≡ get_or names (first_place told) []) × (other.now ≡ get_or names (second_place told) [])
+IsUnjoinedFor names parts pins (refusal.NotJoined reported one other) =
+    (reported ≢ fault.OutOfMemory) × IsJoinFault parts pins reported
+    × (one.now ≡ get_or names (first_place reported) []) × (other.now ≡ get_or names (second_place reported) [])
 IsUnjoinedFor names parts pins refusal.TooLong = (whole : Certificate) × IsJoined parts pins whole × (most_nodes < length whole.tree)
 IsUnjoinedFor names parts pins other = ⊥
 
@@ -124,7 +128,8 @@ pub record IsNotJoined (disk : Disk) (text : List ℕ) (default : Delay) (names 
   pub to_join : IsToJoin disk text default names check first second netlist parts pins
   pub unjoined : IsUnjoinedFor names parts pins reason
 
--- why `join` has no report: the netlist's text or an option is bad, or a file tells no part, or the parts aren't joined
+-- why `join` has no report: the netlist's text or an option is bad, or a file tells no part, or the
+-- parts aren't joined
 abbrev pub HasNoJoin : Disk → List ℕ → Delay → List (List ℕ) → Bool → Option (List ℕ) → Option (List ℕ) → Refusal → Type 0
 HasNoJoin disk text default names check first second reason =
     IsRefusedFor text default (pin_words first second) reason

@@ -26,7 +26,8 @@ flips_text (Some flips) = codes " --flips " ++ decimal flips
 abbrev pub default_text : List ℕ → ℕ → List ℕ
 default_text name steps = if steps == 1 then [] else (name ++ decimal steps)
 
--- the options of one part: its pins, and what else the question says of its pairs and of the moments
+-- the options of one part: its pins, and what else the question says of its pairs and of the
+-- moments
 abbrev pub part_options : QuestionWords → List Trit → List ℕ
 part_options words pins =
     pins_text pins ++ option_text (codes " --hold ") (words_of words.hold) ++ flips_text words.flips

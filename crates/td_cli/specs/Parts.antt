@@ -27,7 +27,7 @@ unjudged name (check.Certificate fault) = refusal.BadPart name fault
 pub record TellsUnjoined (names : List (List ℕ)) (fault : JoinFault) (reason : Refusal) : Type 0 where
   pub one : Bor (List ℕ)
   pub other : Bor (List ℕ)
-  pub told : fault ≢ join.OutOfMemory
+  pub reported : fault ≢ join.OutOfMemory
   pub one_is : one.now ≡ get_or names (first_place fault) []
   pub other_is : other.now ≡ get_or names (second_place fault) []
   pub is : reason ≡ refusal.NotJoined fault one other

@@ -10,7 +10,8 @@ use Rattle.td_report.specs.Reports.{newline}
 use Rattle.td_cli.specs.WorstReports.{IsAsked}
 use Rattle.td_report.specs.Ends.{Tells}
 
--- how many nodes are handled, a delay of an admitted pair, a figure above which none is, and how many leaves are left
+-- how many nodes are handled, a delay of an admitted pair, a figure above which none is, and how
+-- many leaves are left
 abbrev pub progress_line : Progress → List ℕ
 progress_line progress =
     codes "nodes " ++ decimal progress.nodes ++ codes " low " ++ decimal progress.low ++ codes " high " ++ decimal progress.high
@@ -24,9 +25,10 @@ TellsLines asked (progress ∷ more) old new =
 
 -- lines were written of some progress
 abbrev pub TellsProgress : Problem → Output → Output → Type 0
-TellsProgress asked old new = (told : List Progress) × TellsLines asked told old new
+TellsProgress asked old new = (reported : List Progress) × TellsLines asked reported old new
 
--- what standard error gets while a search goes on: lines of progress where they are asked for, and else nothing
+-- what standard error gets while a search goes on: lines of progress where they are asked for, and
+-- else nothing
 abbrev pub TellsSearch : Bool → List ℕ → Delay → QuestionWords → Output → Output → Type 0
 TellsSearch false text default words old new = new ≡ old
 TellsSearch true text default words old new =

@@ -180,8 +180,8 @@ SearchRuns asked text =
     (IsWorstProduct text (delays asked.rise asked.fall) (words_in asked) asked.budget asked.path (words_of asked.certificate) (words_of asked.vcd))
     (HasNoAnswer text (delays asked.rise asked.fall) (words_in asked))
 
--- How the command that is asked for ends, once it is known that no file of it is written over another. A search that can't read its netlist tells
--- that and nothing before it.
+-- How the command that is asked for ends, once it is known that no file of it is written over
+-- another. A search that can't read its netlist tells that and nothing before it.
 abbrev pub RequestRuns : Disk → Request → List FileStep → Status → Streams → Streams → Type 0
 RequestRuns disk (request.Worst asked) steps status old new =
     Ends (λ product. ⊥) (IsUnreadable disk asked.file.now) disk.breaks steps status old new
@@ -199,7 +199,7 @@ RequestEnds disk asked steps status old new =
 
 -- the program wrote help or a fault, of a kind that fits the words
 abbrev pub TellsOf : List (List ℕ) → Status → Streams → Streams → Type 0
-TellsOf words status old new = (told : ErrorKind) × IsAmong told (kinds_of words) × TellsText told status old new
+TellsOf words status old new = (reported : ErrorKind) × IsAmong reported (kinds_of words) × TellsText reported status old new
 
 -- What the program wrote, by what the words ask for. Where the program doesn't take them, it wrote
 -- help or their fault, and touched no file. In place of any it may say that memory ran out.

@@ -58,7 +58,8 @@ abbrev pub certificate_in : Problem → Answer → Option Certificate
 certificate_in asked (answer.Exact time pair tree) = Some (certificate_of asked time pair tree)
 certificate_in asked (answer.Between low high pair nodes why) = None
 
--- what the words of a search ask of a text: the setting, which pairs of its inputs are admitted, and the strategy of the first tree
+-- what the words of a search ask of a text: the setting, which pairs of its inputs are admitted,
+-- and the strategy of the first tree
 pub record IsAsked (text : List ℕ) (default : Delay) (words : QuestionWords) (asked : Problem) : Type 0 where
   pub is_setting : IsSetting text default (words_of words.at) asked.setting
   pub admits : AreAdmitted (length asked.setting.netlist.inputs) words asked.admit

@@ -9,8 +9,8 @@ use td_domain::{Admit, Cube, Trit};
 use td_report::vector::{VectorWord, given};
 use td_worst::Method;
 
-/// What a search is asked, and by which strategy it goes: the words say which pairs of vectors are admitted and when inputs change, and
-/// each may be left out.
+/// What a search is asked, and by which strategy it goes: the words say which pairs of vectors are
+/// admitted and when inputs change, and each may be left out.
 #[derive(Clone, Copy)]
 pub struct QuestionWords<'a> {
     pub first: Option<&'a str>,
@@ -44,8 +44,8 @@ pub fn admit(
     inputs: usize,
 ) -> Result<Result<Admit, VectorWord>, AllocError>
     requires { inputs < 2 ^ 32 }
-    ensures admitted { IfOk result (λ told. IfOk told (AreAdmitted inputs words.entry)) }
-    ensures bad { IfOk result (λ told. IfErr told (IsFirstBad inputs (pair_words words.entry))) }
+    ensures admitted { IfOk result (λ reported. IfOk reported (AreAdmitted inputs words.entry)) }
+    ensures bad { IfOk result (λ reported. IfErr reported (IsFirstBad inputs (pair_words words.entry))) }
 {
     let Some(firsts) = given(alloc, words.first, inputs, Trit::Free)? else {
         return Ok(Err(VectorWord::First));

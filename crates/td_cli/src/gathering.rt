@@ -4,7 +4,7 @@ ghost use Rattle.std.specs.Prelude.{◌≡◌, ◌≢◌, ℕ, Bool, List, true,
 ghost use Rattle.td_nets.specs.Netlist.{Netlist};
 ghost use Rattle.td_gates.specs.declared.timing.Delay.{Delay as Default};
 ghost use Rattle.td_certificate.specs.Spelling.{Spells};
-ghost use Rattle.td_checker.specs.declared.verdict.Verdict.TheVariants as Told;
+ghost use Rattle.td_checker.specs.declared.verdict.Verdict.TheVariants as Reported;
 ghost use Rattle.td_checker.specs.Checks.{HaveVerdict};
 ghost use Rattle.td_delivery.specs.Disks.{disk_of, HoldsOnFile};
 ghost use Rattle.td_cli.specs.JoinReports.{TellsPart, TellsNoPart, GivesPart, AreParts, HasNoPart};
@@ -61,7 +61,7 @@ fn accepted_part<'a>(
     bytes: &[u8],
 ) -> Result<Certificate, Refusal<'a>>
     ensures spelled { IfOk result (λ part. Spells part bytes.now) }
-    ensures accepted { IfOk result (λ part. HaveVerdict text.now default bytes.now Told.Accepted) }
+    ensures accepted { IfOk result (λ part. HaveVerdict text.now default bytes.now Reported.Accepted) }
     ensures refusal { IfErr result (λ reason. (netlist : Netlist) → TellsNoPart text.now default netlist true name.now bytes.now reason) }
 {
     let checked = match check(alloc, text, default, bytes) {
@@ -84,7 +84,7 @@ fn judged_part<'a>(
     bytes: &[u8],
 ) -> Result<Certificate, Refusal<'a>>
     ensures spelled { IfOk result (λ part. Spells part bytes.now) }
-    ensures accepted { IfOk result (λ part. is_checked ≡ true → HaveVerdict text.now default bytes.now Told.Accepted) }
+    ensures accepted { IfOk result (λ part. is_checked ≡ true → HaveVerdict text.now default bytes.now Reported.Accepted) }
     ensures refusal { IfErr result (λ reason. (netlist : Netlist) → TellsNoPart text.now default netlist is_checked name.now bytes.now reason) }
 {
     if is_checked {
@@ -137,7 +137,8 @@ fn part_in<'a, F: Files>(
     }
 }
 
-/// The parts of a question about a circuit that the files of these names hold, in order; each of them accepted where that is asked for.
+/// The parts of a question about a circuit that the files of these names hold, in order; each of
+/// them accepted where that is asked for.
 pub fn parts_in<'a, F: Files>(
     alloc: Global,
     files: &mut F,

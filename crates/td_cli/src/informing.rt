@@ -40,7 +40,8 @@ pub fn run_info<F: Files, O: Sink, E: Sink>(
     }
 }
 
-/// Carries out `info` on bytes that were read: the report goes to `out`, why there is none to `err`.
+/// Carries out `info` on bytes that were read: the report goes to `out`, why there is none to
+/// `err`.
 pub fn carry_out_info<O: Sink, E: Sink>(
     alloc: Global,
     text: &[u8],

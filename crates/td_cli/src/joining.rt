@@ -58,8 +58,8 @@ fn pins_given(
     second: Option<&str>,
     inputs: usize,
 ) -> Result<Result<Option<Cube>, VectorWord>, AllocError>
-    ensures pinned { IfOk result (λ told. IfOk told (ArePinned inputs (words_of first.entry) (words_of second.entry))) }
-    ensures bad { IfOk result (λ told. IfErr told (IsFirstBad inputs (pin_words (words_of first.entry) (words_of second.entry)))) }
+    ensures pinned { IfOk result (λ reported. IfOk reported (ArePinned inputs (words_of first.entry) (words_of second.entry))) }
+    ensures bad { IfOk result (λ reported. IfErr reported (IsFirstBad inputs (pin_words (words_of first.entry) (words_of second.entry)))) }
 {
     if first.is_none() && second.is_none() {
         return Ok(Ok(None));
@@ -136,8 +136,9 @@ fn report_of(alloc: Global, circuit: &Circuit, whole: &Certificate) -> Result<Te
     Ok(text)
 }
 
-/// What the parts of a question about a text's netlist are joined into: the parts that the files of these names hold, each of them accepted
-/// where that is asked for. Two options give the pins of the whole; where both are left out they are the least that have the pins of all parts.
+/// What the parts of a question about a text's netlist are joined into: the parts that the files of
+/// these names hold, each of them accepted where that is asked for. Two options give the pins of
+/// the whole; where both are left out they are the least that have the pins of all parts.
 pub fn join_files<'a, F: Files>(
     alloc: Global,
     files: &mut F,
@@ -200,8 +201,9 @@ pub fn run_join<F: Files, O: Sink, E: Sink>(
     }
 }
 
-/// Carries out `join` on a netlist's bytes that were read: the report goes to `out`, unless the certificate does, and then the certificate to the file of the name `name`; why
-/// there is none goes to `err`.
+/// Carries out `join` on a netlist's bytes that were read: the report goes to `out`, unless the
+/// certificate does, and then the certificate to the file of the name `name`; why there is none
+/// goes to `err`.
 pub fn carry_out_join<F: Files, O: Sink, E: Sink>(
     alloc: Global,
     files: &mut F,

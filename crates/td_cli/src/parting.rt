@@ -186,7 +186,8 @@ fn words_in<'a>(request: &PartsRequest<'a>) -> QuestionWords<'a>
     }
 }
 
-/// Carries out `parts` on bytes that were read, with at least 1 part: the report goes to `out`, why there is none to `err`.
+/// Carries out `parts` on bytes that were read, with at least 1 part: the report goes to `out`, why
+/// there is none to `err`.
 pub fn carry_out_parts<O: Sink, E: Sink>(
     alloc: Global,
     text: &[u8],

@@ -39,8 +39,8 @@ use td_report::status::Status;
 use td_text::Sink;
 use td_worst::Method;
 
-/// Carries out the command that the words ask for: what it answers goes to `out`, why it was refused to `err`. The first
-/// word is the program's name.
+/// Carries out the command that the words ask for: what it answers goes to `out`, why it was
+/// refused to `err`. The first word is the program's name.
 pub fn run<R: Threads + Wait + Sync, S: AsStr, F: Files, O: Sink, E: Sink>(
     rt: &R,
     alloc: Global,
@@ -58,8 +58,8 @@ pub fn run<R: Threads + Wait + Sync, S: AsStr, F: Files, O: Sink, E: Sink>(
     }
 }
 
-/// As `run`, without threads, for each command but the search: `None` where the words ask for `worst`, and then nothing is read or
-/// written.
+/// As `run`, without threads, for each command but the search: `None` where the words ask for
+/// `worst`, and then nothing is read or written.
 pub fn run_plain<S: AsStr, F: Files, O: Sink, E: Sink>(
     alloc: Global,
     words: &[S],
@@ -112,8 +112,8 @@ fn run_search<R: Threads + Wait + Sync, S: AsStr, F: Files, O: Sink, E: Sink>(
     }
 }
 
-/// Tells on `err` that the words of the command line can't be read: memory ran out, or a device failed, as where a word isn't
-/// text in UTF-8.
+/// Tells on `err` that the words of the command line can't be read: memory ran out, or a device
+/// failed, as where a word isn't text in UTF-8.
 pub fn refuse_words<E: Sink>(err: &mut E, fault: ReadFault) -> Status
     ensures { RefusesWords fault result (E.output err.old) (E.output err.new) }
 {
@@ -410,8 +410,8 @@ fn check_file<F: Files, O: Sink, E: Sink>(
     }
 }
 
-/// Carries out `sim` on bytes that were read: the report goes to `out`, unless the waves do, and then the waves to the file of the name `vcd`; why
-/// there is none goes to `err`.
+/// Carries out `sim` on bytes that were read: the report goes to `out`, unless the waves do, and
+/// then the waves to the file of the name `vcd`; why there is none goes to `err`.
 pub fn carry_out_sim<F: Files, O: Sink, E: Sink>(
     alloc: Global,
     files: &mut F,
@@ -444,7 +444,8 @@ pub fn carry_out_sim<F: Files, O: Sink, E: Sink>(
     }
 }
 
-/// Carries out `path` on bytes that were read: the report goes to `out`, why there is none to `err`.
+/// Carries out `path` on bytes that were read: the report goes to `out`, why there is none to
+/// `err`.
 pub fn carry_out_path<O: Sink, E: Sink>(
     alloc: Global,
     text: &[u8],
@@ -466,7 +467,8 @@ pub fn carry_out_path<O: Sink, E: Sink>(
     }
 }
 
-/// Carries out `bound` on bytes that were read: the report goes to `out`, why there is none to `err`.
+/// Carries out `bound` on bytes that were read: the report goes to `out`, why there is none to
+/// `err`.
 pub fn carry_out_bound<O: Sink, E: Sink>(
     alloc: Global,
     text: &[u8],
@@ -488,7 +490,8 @@ pub fn carry_out_bound<O: Sink, E: Sink>(
     }
 }
 
-/// Carries out `check` on bytes that were read: the report goes to `out`, why there is none to `err`.
+/// Carries out `check` on bytes that were read: the report goes to `out`, why there is none to
+/// `err`.
 pub fn carry_out_check<O: Sink, E: Sink>(
     alloc: Global,
     text: &[u8],
@@ -506,9 +509,11 @@ pub fn carry_out_check<O: Sink, E: Sink>(
     }
 }
 
-/// Carries out `worst` on bytes that were read, with 1 to 64 workers and a budget of at most 10,000,000 nodes: the report goes to `out`, unless a file does, then the
-/// certificate of an exact answer to the file of this name, and then the waves of the given pair to that of the name `vcd`; why
-/// there is none goes to `err`, and before that, where it is asked for, lines that tell how far the search has come.
+/// Carries out `worst` on bytes that were read, with 1 to 64 workers and a budget of at most
+/// 10,000,000 nodes: the report goes to `out`, unless a file does, then the certificate of an exact
+/// answer to the file of this name, and then the waves of the given pair to that of the name `vcd`;
+/// why there is none goes to `err`, and before that, where it is asked for, lines that tell how far
+/// the search has come.
 pub fn carry_out_worst<R: Threads + Wait + Sync, F: Files, O: Sink, E: Sink>(
     rt: &R,
     alloc: Global,

@@ -52,9 +52,9 @@ fn push_progress(text: &mut Text, progress: Progress) -> Result<(), AllocError>
 impl<'e, E: Sink> Watch for ProgressLines<'e, E> {
     ghost use Rattle.std.proofs.Common.{◌≡◌, refl, ◌∙◌};
     ghost use Rattle.td_cli.specs.Progress.{TellsProgress};
-    ghost use Rattle.td_cli.specs.ProgressLaws.{told_nothing, told_both, told_alike};
+    ghost use Rattle.td_cli.specs.ProgressLaws.{reported_nothing, reported_both, reported_alike};
 
-    ghost told = { λ asked first last. TellsProgress asked (E.output first.err.now) (E.output last.err.now) × (first.err.ghost_name ≡ last.err.ghost_name) };
+    ghost reported = { λ asked first last. TellsProgress asked (E.output first.err.now) (E.output last.err.now) × (first.err.ghost_name ≡ last.err.ghost_name) };
 
     fn is_looking(&self) -> bool {
         true
@@ -67,11 +67,11 @@ impl<'e, E: Sink> Watch for ProgressLines<'e, E> {
         let _status = tell(self.err, line.bytes(), Status::Done);
     }
 
-    ghost told_nothing = { λ asked lines. (told_nothing asked (E.output lines.err.now), refl) };
+    ghost reported_nothing = { λ asked lines. (reported_nothing asked (E.output lines.err.now), refl) };
 
-    ghost told_both = { λ asked first then last one two. (told_both asked (E.output first.err.now) (E.output then.err.now) (E.output last.err.now) one.0 two.0, one.1 ∙ two.1) };
+    ghost reported_both = { λ asked first then last one two. (reported_both asked (E.output first.err.now) (E.output then.err.now) (E.output last.err.now) one.0 two.0, one.1 ∙ two.1) };
 
-    ghost told_alike = { λ asked strategy first last one. (told_alike asked strategy (E.output first.err.now) (E.output last.err.now) one.0, one.1) };
+    ghost reported_alike = { λ asked strategy first last one. (reported_alike asked strategy (E.output first.err.now) (E.output last.err.now) one.0, one.1) };
 }
 
 /// Does nothing, but this use of a reference that came back ties it to the one that was lent.
@@ -79,7 +79,8 @@ fn take_back<E>(err: &mut E)
     ensures { err.new ≡ err.old }
 {}
 
-/// As `worst`, with a line on standard error each time that the nodes handled have passed 1, 2 or 5 thousand, ten thousand and so on.
+/// As `worst`, with a line on standard error each time that the nodes handled have passed 1, 2 or 5
+/// thousand, ten thousand and so on.
 fn watched<'a, 'v, R: Threads + Wait + Sync, E: Sink>(
     rt: &R,
     alloc: Global,
@@ -100,7 +101,7 @@ fn watched<'a, 'v, R: Threads + Wait + Sync, E: Sink>(
     ensures refusal { IfErr result (λ refusal. HasNoAnswer text.now default words.entry refusal) }
     ensures spelled { IfOk result (λ found. IfSome found.certificate HasSpelling) }
     ensures has { IfOk result (λ found. IfSome found.dump HasRun) }
-    ensures told { TellsSearch true text.now default words.entry (E.output err.old) (E.output err.new) }
+    ensures reported { TellsSearch true text.now default words.entry (E.output err.old) (E.output err.new) }
 {
     let mut lines = ProgressLines { alloc, err };
     let found = worst(
@@ -133,7 +134,7 @@ pub fn searched<'a, 'v, R: Threads + Wait + Sync, E: Sink>(
     ensures refusal { IfErr result (λ refusal. HasNoAnswer text.now default words.entry refusal) }
     ensures spelled { IfOk result (λ found. IfSome found.certificate HasSpelling) }
     ensures has { IfOk result (λ found. IfSome found.dump HasRun) }
-    ensures told { TellsSearch progress text.now default words.entry (E.output err.old) (E.output err.new) }
+    ensures reported { TellsSearch progress text.now default words.entry (E.output err.old) (E.output err.new) }
 {
     if progress {
         return watched(

@@ -35,8 +35,8 @@ use td_report::timing::moments;
 use td_report::vector::VectorWord;
 use td_search::{Answer, Cause, SearchFault, Strategy, certificate_of};
 
-/// The report of a search, the certificate of an exact answer, and the waves of the given pair's run where a name is given for
-/// their file.
+/// The report of a search, the certificate of an exact answer, and the waves of the given pair's
+/// run where a name is given for their file.
 #[derive(Drop)]
 pub struct Found<'v> {
     pub report: Text,
@@ -69,16 +69,17 @@ pub fn question_of<'a>(
     Ok(Asked { circuit, admit })
 }
 
-/// Gives a circuit the moments of the words, and tells which pairs of its inputs they admit; or the first word that gives nothing for its inputs.
+/// Gives a circuit the moments of the words, and tells which pairs of its inputs they admit; or the
+/// first word that gives nothing for its inputs.
 fn admit_in(
     alloc: Global,
     circuit: &mut Circuit,
     words: QuestionWords<'_>,
 ) -> Result<Result<Admit, VectorWord>, AllocError>
     requires { length circuit.old.netlist.inputs < 2 ^ 32 }
-    ensures asked { IfOk result (λ told. IfOk told (λ admit. (text : List ℕ) (default : Default) → IsCircuitOf text default circuit.old
+    ensures asked { IfOk result (λ reported. IfOk reported (λ admit. (text : List ℕ) (default : Default) → IsCircuitOf text default circuit.old
         → IsAsked text default words.entry (problem_by (tree_of words.entry.strategy) circuit.new admit))) }
-    ensures bad { IfOk result (λ told. IfErr told (λ word. (text : List ℕ) (default : Default) → IsCircuitOf text default circuit.old
+    ensures bad { IfOk result (λ reported. IfErr reported (λ word. (text : List ℕ) (default : Default) → IsCircuitOf text default circuit.old
         → HasBadWord text default (question_words words.entry) word)) }
 {
     let inputs = circuit.input_count();
@@ -113,7 +114,8 @@ pub fn worst<'a, 'v, W: Watch, R: Threads + Wait + Sync>(
     requires some { 0 < workers }
     requires few { workers ≤ 64 }
     requires modest { budget ≤ 10000000 }
-    // The report and the certificate are those of an answer of the search, and the waves those of its pair's run.
+    // The report and the certificate are those of an answer of the search, and the waves those of
+    // its pair's run.
     ensures report { IfOk result (λ found.
         IsWorstReport text.now default words.entry budget path (words_of vcd.entry) found.report found.certificate (dump_files found.dump)) }
     ensures refusal { IfErr result (λ refusal. HasNoAnswer text.now default words.entry refusal) }
@@ -121,7 +123,7 @@ pub fn worst<'a, 'v, W: Watch, R: Threads + Wait + Sync>(
     ensures spelled { IfOk result (λ found. IfSome found.certificate HasSpelling) }
     ensures has { IfOk result (λ found. IfSome found.dump HasRun) }
     // The progress that the watch got, if any, is true of what is asked.
-    ensures told { (watch.new ≡ watch.old) ⊎ ((asked : Given) × IsAsked text.now default words.entry asked × W.told asked watch.old watch.new) }
+    ensures reported { (watch.new ≡ watch.old) ⊎ ((asked : Given) × IsAsked text.now default words.entry asked × W.reported asked watch.old watch.new) }
 {
     let Asked { circuit, admit } = question_of(alloc, text, default, words)?;
     let moments = Vec::from_slice(alloc, circuit.moments())?;
@@ -211,7 +213,8 @@ fn unanswered<'a>(fault: SearchFault) -> Refusal<'a>
     }
 }
 
-/// The certificate of an exact answer. At no more inputs than there are may bits differ, and the moments are the circuit's.
+/// The certificate of an exact answer. At no more inputs than there are may bits differ, and the
+/// moments are the circuit's.
 fn certificate(
     circuit: &Circuit,
     admit: Admit,

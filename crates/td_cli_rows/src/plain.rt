@@ -6,8 +6,8 @@ use std::test::*;
 use td_cli::{MemoryFiles, run_plain};
 use td_text::MemorySink;
 
-/// The status of a command that is carried out without threads, none where it isn't, and whether it writes this to standard output and
-/// nothing else.
+/// The status of a command that is carried out without threads, none where it isn't, and whether it
+/// writes this to standard output and nothing else.
 fn without_threads(
     alloc: Global,
     words: &[&str],

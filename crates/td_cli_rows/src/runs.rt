@@ -19,16 +19,16 @@ pub struct Ended<'a> {
 /// How many bytes a stream takes that doesn't fail.
 pub const ROOM: usize = 1 << 16;
 
-/// Carries out a command over files in memory. Standard output takes `room` bytes, some at a time.
+/// Carries out a command over files in memory. Standard output takes `space` bytes, some at a time.
 pub fn carried_out<'a, R: Threads + Wait + Sync>(
     rt: &R,
     alloc: Global,
     words: &[&str],
     files: MemoryFiles<'a>,
-    room: usize,
+    space: usize,
 ) -> Result<Ended<'a>, Fail> {
     let mut files = files;
-    let mut out = MemorySink::new(alloc, room, 7)?;
+    let mut out = MemorySink::new(alloc, space, 7)?;
     let mut err = MemorySink::new(alloc, ROOM, 7)?;
     let status = run(rt, alloc, words, &mut files, &mut out, &mut err);
     Ok(Ended {
@@ -56,8 +56,8 @@ fn failing_to_read<R: Threads + Wait + Sync>(
     let words = ["tdelay", "sim", "inverter.v", "0", "1"];
     let files = MemoryFiles::new(alloc, &FILES).reading(readable);
     let ended = carried_out(rt, alloc, &words, files, ROOM)?;
-    let is_told = ended.err.bytes() == b"tdelay: cannot read inverter.v\n".as_slice();
-    Ok((ended.status, is_told && ended.out.bytes().is_empty()))
+    let is_reported = ended.err.bytes() == b"tdelay: cannot read inverter.v\n".as_slice();
+    Ok((ended.status, is_reported && ended.out.bytes().is_empty()))
 }
 
 /// A file whose reader fails after each number of bytes.
@@ -70,10 +70,10 @@ fn failing_reader(rt: HostRuntime) -> Result<(), Fail> {
 }
 
 /// How the program ends where its words can't be read, and whether it says this.
-fn refused(alloc: Global, fault: ReadFault, told: &[u8]) -> Result<(u8, bool), Fail> {
+fn refused(alloc: Global, fault: ReadFault, reported: &[u8]) -> Result<(u8, bool), Fail> {
     let mut err = MemorySink::new(alloc, ROOM, 7)?;
     let status = refuse_words(&mut err, fault);
-    Ok((status.code(), err.bytes() == told))
+    Ok((status.code(), err.bytes() == reported))
 }
 
 /// What the program says of words that it can't read, and how it ends then.

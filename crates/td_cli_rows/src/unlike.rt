@@ -1,4 +1,5 @@
-//! No certificate, and certificates of two circuits, which the program refuses of each file before they are joined.
+//! No certificate, and certificates of two circuits, which the program refuses of each file before
+//! they are joined.
 
 use std::alloc::Global;
 use std::test::*;

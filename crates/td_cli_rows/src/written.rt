@@ -46,18 +46,19 @@ fn are_both(steps: &[MemoryStep], certificate: &[u8], waves: &[u8]) -> bool {
     }
 }
 
-/// Carries out a command over the inverter, whose files take `room` bytes.
+/// Carries out a command over the inverter, whose files take `space` bytes.
 fn over_files<R: Threads + Wait + Sync>(
     rt: &R,
     alloc: Global,
     words: &[&str],
-    room: usize,
+    space: usize,
 ) -> Result<Ended<'static>, Fail> {
-    let files = MemoryFiles::new(alloc, &FILES).writing(room);
+    let files = MemoryFiles::new(alloc, &FILES).writing(space);
     carried_out(rt, alloc, words, files, ROOM)
 }
 
-/// The status of a search that writes a certificate and waves, whether it reports, and whether it put them there in this order.
+/// The status of a search that writes a certificate and waves, whether it reports, and whether it
+/// put them there in this order.
 fn writing_both<R: Threads + Wait + Sync>(rt: &R, alloc: Global) -> Result<(u8, bool, bool), Fail> {
     let words = ["tdelay", "worst", "inverter.v", "--cert", "c", "--vcd", "o"];
     let ended = over_files(rt, alloc, &words, ROOM)?;
@@ -73,32 +74,33 @@ fn waves_behind_a_certificate(rt: HostRuntime) -> Result<(), Fail> {
     Ok(())
 }
 
-/// The status of a run whose files take `room` bytes, whether the run reports this text, and
+/// The status of a run whose files take `space` bytes, whether the run reports this text, and
 /// whether it gives up the file of this name and does nothing else.
 fn failing<R: Threads + Wait + Sync>(
     rt: &R,
     alloc: Global,
     words: &[&str],
-    room: usize,
+    space: usize,
     name: &[u8],
-    told: &[u8],
+    reported: &[u8],
 ) -> Result<(u8, bool, bool), Fail> {
-    let ended = over_files(rt, alloc, words, room)?;
-    let is_told = ended.err.bytes() == told;
+    let ended = over_files(rt, alloc, words, space)?;
+    let is_reported = ended.err.bytes() == reported;
     Ok((
         ended.status,
-        is_told,
+        is_reported,
         is_given_up(ended.files.steps(), name),
     ))
 }
 
-/// A certificate whose writer fails after each number of bytes isn't put under its name, and where it fails, the waves are not begun.
+/// A certificate whose writer fails after each number of bytes isn't put under its name, and where
+/// it fails, the waves are not begun.
 #[test]
 fn failing_certificates(rt: HostRuntime) -> Result<(), Fail> {
     let words = ["tdelay", "worst", "inverter.v", "--cert", "c", "--vcd", "o"];
-    let told = b"tdelay: cannot write c\n".as_slice();
-    for room in 0..CERTIFICATE.len() {
-        let said = failing(&rt, rt.alloc(), &words, room, b"c", told)?;
+    let reported = b"tdelay: cannot write c\n".as_slice();
+    for space in 0..CERTIFICATE.len() {
+        let said = failing(&rt, rt.alloc(), &words, space, b"c", reported)?;
         assert_eq!(rt; said, (5, true, true));
     }
     Ok(())

@@ -169,8 +169,8 @@ impl Climb {
         Ok(is_whole)
     }
 
-    /// Makes a move in each lane and simulates the pairs. Answers whether the lanes came to the end.
-    /// The error is out of memory.
+    /// Makes a move in each lane and simulates the pairs. Answers whether the lanes came to the
+    /// end. The error is out of memory.
     fn simulate_moves(&mut self, circuit: &Circuit, admit: &Admit) -> Result<bool, AllocError>
         ensures { self.new ≡ self.old }
     {

@@ -59,7 +59,7 @@ impl Delaying {
             }
         };
         self.find_changes(target, after)?;
-        output.make_room(target.events.len().saturating_mul(2))?;
+        output.make_space(target.events.len().saturating_mul(2))?;
         let count = shift(
             &self.changes,
             target.start,

@@ -53,7 +53,7 @@ pub fn negated(kind: Kind) -> u64 {
 /// As `join`. Each way to join has a copy of its own, in which it is known.
 #[inline(always)]
 fn join_by(join: Join, one: &Waves, other: &Waves, joined: &mut Waves) -> Result<(), AllocError> {
-    joined.make_room(one.events.len().saturating_add(other.events.len()))?;
+    joined.make_space(one.events.len().saturating_add(other.events.len()))?;
     let count = merge(join, one, other, &mut joined.events);
     joined.events.truncate(count);
     joined.start = join.levels(one.start, other.start);

@@ -14,8 +14,8 @@ use td_circuit::{Circuit, FIRST_INPUT, Gate};
 /// each input of a gate with two.
 const EVENTS: usize = 1 << 24;
 
-/// Room for the simulation of 64 pairs at once, used again for the next ones. What it says of a pair
-/// is meant to be what its run says, but nothing of that is proved.
+/// Room for the simulation of 64 pairs at once, used again for the next ones. What it says of a
+/// pair is meant to be what its run says, but nothing of that is proved.
 #[derive(Debug, Drop)]
 pub struct Lanes {
     rooms: Rooms,
@@ -78,8 +78,7 @@ impl Lanes {
         for (input, moment) in circuit.moments().iter().enumerate() {
             let (first, second) = pairs.words(input);
             let net = input.saturating_add(FIRST_INPUT as usize);
-            self.rooms
-                .write(net, first, *moment, second)?;
+            self.rooms.write(net, first, *moment, second)?;
         }
         Ok(())
     }

@@ -58,8 +58,8 @@ impl Rooms {
         levels: u64,
     ) -> Result<(), AllocError> {
         if let Some(place) = self.places.get(net) {
-            if let Some(room) = self.waves.get_mut(*place) {
-                room.write(start, moment, levels)?;
+            if let Some(space) = self.waves.get_mut(*place) {
+                space.write(start, moment, levels)?;
             }
         }
         Ok(())
@@ -68,8 +68,8 @@ impl Rooms {
     /// Puts waves into the room of a net, and hands back those that stood there.
     pub fn exchange(&mut self, net: usize, waves: &mut Waves) {
         if let Some(place) = self.places.get(net) {
-            if let Some(room) = self.waves.get_mut(*place) {
-                mem::swap(room, waves);
+            if let Some(space) = self.waves.get_mut(*place) {
+                mem::swap(space, waves);
             }
         }
     }

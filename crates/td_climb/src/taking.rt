@@ -5,8 +5,9 @@ ghost use Rattle.td_domain.specs.PairBits.{AreAdmitted};
 use crate::pairs::Pairs;
 use td_domain::{Admit, Bits};
 
-/// Gives an admitted pair the bits of the pair in a lane, if that is admitted. Else it gives some of them, and the pair
-/// stays admitted. Inputs whose bits are equal come first, so that never more inputs differ than in the end.
+/// Gives an admitted pair the bits of the pair in a lane, if that is admitted. Else it gives some
+/// of them, and the pair stays admitted. Inputs whose bits are equal come first, so that never more
+/// inputs differ than in the end.
 pub fn take(bits: &mut Bits, admit: &Admit, pairs: &Pairs, lane: u32)
     requires { AreAdmitted admit.now bits.old }
     ensures { AreAdmitted admit.now bits.new }

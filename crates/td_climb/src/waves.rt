@@ -47,7 +47,7 @@ impl Waves {
     }
 
     /// Makes room for `count` more events than there are. The error is out of memory.
-    pub fn make_room(&mut self, count: usize) -> Result<(), AllocError> {
+    pub fn make_space(&mut self, count: usize) -> Result<(), AllocError> {
         self.events.resize(count, BLANK)
     }
 

@@ -8,4 +8,4 @@ pub mod Choices
 pub mod Filled
 pub mod Taken
 pub mod Whereabouts
-pub mod Told
+pub mod Reported

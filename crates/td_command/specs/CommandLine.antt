@@ -109,8 +109,8 @@ abbrev pub with_edges : App → App
 with_edges app = with_rule app (flag (codes "edges"))
 
 -- whether the chain of the given pair is asked for too, and how far the search is
-abbrev pub with_told : App → App
-with_told app = with_rule (with_rule app (flag (codes "path"))) (flag (codes "progress"))
+abbrev pub with_reported : App → App
+with_reported app = with_rule (with_rule app (flag (codes "path"))) (flag (codes "progress"))
 
 -- the pairs that a search admits: those of a cube, where some inputs are held and the number of
 -- flips has a limit
@@ -147,7 +147,7 @@ bound_command = with_common (with_edges (with_moments (with_cube (with_rule (new
 
 abbrev pub worst_command : Listed → App
 worst_command strategies =
-    with_common (with_told (with_vcd (with_search strategies (with_moments (with_admitted (with_rule (new_app (codes "worst")) (needed (codes "FILE"))))))))
+    with_common (with_reported (with_vcd (with_search strategies (with_moments (with_admitted (with_rule (new_app (codes "worst")) (needed (codes "FILE"))))))))
 
 abbrev pub parts_command : Listed → App
 parts_command strategies =
@@ -191,10 +191,10 @@ abbrev pub strategy_names : List Text
 strategy_names = codes "least" ∷ codes "lead" ∷ codes "refute" ∷ codes "auto" ∷ []
 
 -- what the parser is given with the names of the strategies, wherever in memory they stand
-pub record IsOfStrategies (told_with : Listed → App) (told : App) : Type 0 where
+pub record IsOfStrategies (reported_with : Listed → App) (reported : App) : Type 0 where
   pub strategies : Listed
   pub named : texts_of strategies ≡ strategy_names
-  pub is : told ≡ told_with strategies
+  pub is : reported ≡ reported_with strategies
 
 -- a reference to a value, which may stand anywhere
 abbrev pub behind : {X : Type 0} → X → Bor X
@@ -358,12 +358,13 @@ CommandAsks name rows (request.Info asked) = (name ≡ codes "info") × AsksInfo
 abbrev pub EnteredAsks : Option (Text × List Row) → Request → Type 0
 EnteredAsks entered asked = (name : Text) × (rows : List Row) × (entered ≡ Some (name, rows)) × CommandAsks name rows asked
 
--- the kinds of what there is to report of the words in place of a command: help, the version, or a fault of theirs; none where the
--- program takes them
+-- the kinds of what there is to report of the words in place of a command: help, the version, or a
+-- fault of theirs; none where the program takes them
 abbrev pub kinds_of : List Text → Kinds
 kinds_of words = fault_of program words
 
--- The program takes the words of the command line, of which the first is its name, and they ask for this.
+-- The program takes the words of the command line, of which the first is its name, and they ask for
+-- this.
 pub record Asks (words : List Text) (asked : Request) : Type 0 where
   pub taken : kinds_of words ≡ []
   pub asks : EnteredAsks (subcommand_of program words) asked

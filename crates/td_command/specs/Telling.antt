@@ -3,13 +3,13 @@ use Rattle.std.specs.Prelude.{◌≡◌, List, [], ◌∷◌}
 use Rattle.clap.specs.Words.{App, Rule, Shape, with_rule, with_subcommand}
 
 -- a command that is given arguments in turn
-abbrev pub told : App → List Rule → App
-told app [] = app
-told app (rule ∷ rules) = told (with_rule app rule) rules
+abbrev pub reported : App → List Rule → App
+reported app [] = app
+reported app (rule ∷ rules) = reported (with_rule app rule) rules
 
 -- any command with the later list of arguments is that command with the earlier list, changed so
 abbrev pub TellsMore : (App → App) → List Rule → List Rule → Type 0
-TellsMore change before behind = (app : App) → told app behind ≡ change (told app before)
+TellsMore change before behind = (app : App) → reported app behind ≡ change (reported app before)
 
 -- the later arguments are the earlier ones and one more
 abbrev pub TellsRule : Rule → List Rule → List Rule → Type 0

@@ -3,8 +3,8 @@
 ghost use Rattle.std.specs.Prelude.{◌≡◌, [], codes, false, IfOk, OnOk};
 ghost use Rattle.clap.specs.Words.{app_of, new_app, rule_of, with_rule};
 ghost use Rattle.td_command.specs.CommandLine.{needed, needed_words, needed_number, option, number_option, count_option, name_option, flag};
-ghost use Rattle.td_command.specs.CommandLine.{with_pair, out_letter, with_common, with_default, with_letter, workers_letter, with_moments, with_vcd, with_output, with_cube, with_edges, with_told, with_admitted, with_parts, with_strategy, with_search, with_joined};
-ghost use Rattle.td_command.specs.Telling.{told, TellsMore, TellsRule};
+ghost use Rattle.td_command.specs.CommandLine.{with_pair, out_letter, with_common, with_default, with_letter, workers_letter, with_moments, with_vcd, with_output, with_cube, with_edges, with_reported, with_admitted, with_parts, with_strategy, with_search, with_joined};
+ghost use Rattle.td_command.specs.Telling.{reported, TellsMore, TellsRule};
 
 use crate::help::{FREE_HELP, WHOLE_HELP};
 use clap::builder::ValueParser;
@@ -180,7 +180,7 @@ impl<'a> Arguments<'a> {
         about: &'a str,
         examples: &'a str,
     ) -> Result<Command<'a>, AllocError>
-        ensures { IfOk result (λ command. app_of command ≡ told (new_app name.entry.now) self.entry) }
+        ensures { IfOk result (λ command. app_of command ≡ reported (new_app name.entry.now) self.entry) }
     {
         Command::new(self.alloc, name)
             .about(about)
@@ -220,7 +220,8 @@ impl<'a> Arguments<'a> {
         )
     }
 
-    /// What all commands take: the delay of gates that state none, and whether hints stand after a refusal.
+    /// What all commands take: the delay of gates that state none, and whether hints stand after a
+    /// refusal.
     pub(crate) fn common(&mut self) -> Result<(), AllocError>
         ensures { OnOk result (TellsMore with_common self.old self.new) }
     {
@@ -302,8 +303,8 @@ impl<'a> Arguments<'a> {
     }
 
     /// Whether the chain of the given pair is asked for, and how far the search is, as flags.
-    pub(crate) fn told(&mut self) -> Result<(), AllocError>
-        ensures { OnOk result (TellsMore with_told self.old self.new) }
+    pub(crate) fn reported(&mut self) -> Result<(), AllocError>
+        ensures { OnOk result (TellsMore with_reported self.old self.new) }
     {
         self.flag(
             "path",

@@ -312,8 +312,8 @@ fn effort(matches: &ArgMatches<'_>) -> Option<(u32, StrategyWord, u32)>
 
 /// What a search reports beside its answer: whether it shows the chain of the given pair, and
 /// whether it shows how far it is.
-fn told(matches: &ArgMatches<'_>) -> Option<(bool, bool)>
-    ensures { IsAnswered (λ told. HasFlag (codes "path") (rows_of (found_of matches.now)) told.0 × HasFlag (codes "progress") (rows_of (found_of matches.now)) told.1) result }
+fn reported(matches: &ArgMatches<'_>) -> Option<(bool, bool)>
+    ensures { IsAnswered (λ reported. HasFlag (codes "path") (rows_of (found_of matches.now)) reported.0 × HasFlag (codes "progress") (rows_of (found_of matches.now)) reported.1) result }
 {
     let path = flag_given(matches, "path")?;
     let progress = flag_given(matches, "progress")?;
@@ -326,7 +326,7 @@ fn worst_of<'a>(matches: &ArgMatches<'a>) -> Option<Request<'a>>
     let file = matches.get_str("FILE")?;
     let flips = count(matches, "flips")?;
     let (workers, strategy, budget) = effort(matches)?;
-    let (path, progress) = told(matches)?;
+    let (path, progress) = reported(matches)?;
     let default = default(matches)?;
     Some(Request::Worst(WorstRequest {
         file,

@@ -3,7 +3,7 @@
 ghost use Rattle.std.specs.Prelude.{◌≡◌, [], codes, IfOk, OnOk};
 ghost use Rattle.clap.specs.Words.{app_of, new_app};
 ghost use Rattle.td_command.specs.CommandLine.{sim_command, path_command, bound_command, worst_command, parts_command, join_command, check_command, info_command, bare, program_of, IsOfStrategies, with_runs, with_bounds, with_questions, with_looks};
-ghost use Rattle.td_command.specs.Telling.{told, offering, OffersMore, OffersCommand};
+ghost use Rattle.td_command.specs.Telling.{reported, offering, OffersMore, OffersCommand};
 
 use crate::arguments::Arguments;
 use crate::help::{
@@ -14,8 +14,8 @@ use clap::Command;
 use std::alloc::{AllocError, Global};
 use std::marker::Model;
 
-/// The commands of the program, in order. A contract sees what the parser knows of each, which is plain: no argument of
-/// a command is one of the program too.
+/// The commands of the program, in order. A contract sees what the parser knows of each, which is
+/// plain: no argument of a command is one of the program too.
 #[derive(Drop)]
 struct Commands<'a> {
     alloc: Global,
@@ -52,7 +52,7 @@ impl<'a> Commands<'a> {
         examples: &'a str,
         arguments: Arguments<'a>,
     ) -> Result<(), AllocError>
-        ensures { OnOk result (OffersCommand (told (new_app name.entry.now) arguments.entry).top self.old self.new) }
+        ensures { OnOk result (OffersCommand (reported (new_app name.entry.now) arguments.entry).top self.old self.new) }
     {
         let command = arguments.command(name, about, examples)?;
         self.list.push(command)?;
@@ -114,7 +114,7 @@ impl<'a> Commands<'a> {
         let mut arguments = Arguments::new(self.alloc);
         arguments.searched(strategies)?;
         arguments.vcd()?;
-        arguments.told()?;
+        arguments.reported()?;
         arguments.common()?;
         self.add(
             "worst",

@@ -46,7 +46,7 @@ lost_more b c more files steps old new loses = record {
   written = loses.written;
   fault = loses.fault;
   left = left_more (b loses.lost.name) (c loses.lost.name) (more loses.lost.name) loses.lost loses.fault loses.rest loses.left;
-  told = loses.told;
+  reported = loses.reported;
 }
 
 pub one_written : (file : FileText) (steps : List FileStep) → IsWritten file steps → AreWritten (file ∷ []) steps
@@ -54,7 +54,7 @@ one_written file steps written = (steps, [], sym (append-nil steps), written, re
 
 pub one_lost : (file : FileText) (fault : WriteFault) (b : List ℕ → Type 0) (steps : List FileStep) (old new : Output)
     → IsLeft (b file.name) file fault steps → TellsUnwritten file.name fault old new → LosesOne (file ∷ []) b steps old new
-one_lost file fault b steps old new left told = record {
+one_lost file fault b steps old new left reported = record {
   before = [];
   lost = file;
   after = [];
@@ -65,7 +65,7 @@ one_lost file fault b steps old new left told = record {
   written = refl;
   fault = fault;
   left = left;
-  told = told;
+  reported = reported;
 }
 
 pub both_written : (files more : List FileText) (steps later : List FileStep) → AreWritten files steps → AreWritten more later
@@ -93,7 +93,7 @@ lost_before files more b steps old new loses = record {
   written = loses.written;
   fault = loses.fault;
   left = loses.left;
-  told = loses.told;
+  reported = loses.reported;
 }
 
 -- the first files were written, and one of those after them was not
@@ -112,7 +112,7 @@ lost_behind files more b c steps later old then new written same breaks here =
       written = both_written files loses.before steps loses.done written loses.written;
       fault = loses.fault;
       left = loses.left;
-      told = subst (λ (before : Output). TellsUnwritten loses.lost.name loses.fault before new) same loses.told;
+      reported = subst (λ (before : Output). TellsUnwritten loses.lost.name loses.fault before new) same loses.reported;
     }
 
 module _ (P : Product → Type 0) (H : Refusal → Type 0) (b : List ℕ → Type 0) where
@@ -131,7 +131,7 @@ module _ (P : Product → Type 0) (H : Refusal → Type 0) (b : List ℕ → Typ
   lifted Q K c says holds breaks steps status old new (inr (inl ends)) = inr (inl (record {
     reason = ends.reason;
     why = λ other. holds ends.reason (ends.why other);
-    told = ends.told;
+    reported = ends.reported;
     nothing = ends.nothing;
     no_file = ends.no_file;
     ends = ends.ends;
@@ -140,7 +140,7 @@ module _ (P : Product → Type 0) (H : Refusal → Type 0) (b : List ℕ → Typ
     product = ends.product;
     is = says ends.product ends.is;
     broke = ends.broke;
-    told = ends.told;
+    reported = ends.reported;
     no_file = ends.no_file;
     ends = ends.ends;
   })))
@@ -155,16 +155,16 @@ module _ (P : Product → Type 0) (H : Refusal → Type 0) (b : List ℕ → Typ
   -- the command gave a reason that holds
   pub refused : (reason : Refusal) (status : Status) (out err_old err_new : Output) → (reason ≢ refusal.OutOfMemory → H reason)
       → TellsReason reason status err_old err_new → Ends P H b [] status (streams out err_old) (streams out err_new)
-  refused reason status out err_old err_new holds told = inr (inl (record {
-    reason = told.told;
-    why = λ other. elim told.which [
+  refused reason status out err_old err_new holds reported = inr (inl (record {
+    reason = reported.reported;
+    why = λ other. elim reported.which [
       | inl same ↦ subst H (sym same) (holds (λ memory. other (same ∙ memory)))
       | inr memory ↦ absurd (other memory)
     ];
-    told = told.tells;
+    reported = reported.tells;
     nothing = refl;
     no_file = refl;
-    ends = told.ends;
+    ends = reported.ends;
   }))
 
   -- a report was said, and no file is due
@@ -183,7 +183,7 @@ module _ (P : Product → Type 0) (H : Refusal → Type 0) (b : List ℕ → Typ
     product = record { report = report; files = []; ending = ending };
     is = is;
     broke = subst (λ (it : List ℕ). Failed old.out new.out it) same lost.0;
-    told = lost.1;
+    reported = lost.1;
     no_file = refl;
     ends = lost.2;
   })))
@@ -197,8 +197,8 @@ module _ (P : Product → Type 0) (H : Refusal → Type 0) (b : List ℕ → Typ
   -- the report didn't go out
   pub lost_report : (product : Product) (status : Status) (old new : Streams) → P product → Failed old.out new.out product.report
       → Tells old.err new.err (unwritten_text (codes "stdout")) → status ≡ Device → Ends P H b [] status old new
-  lost_report product status old new is broke told ends =
-      inr (inr (inl (record { product = product; is = is; broke = broke; told = told; no_file = refl; ends = ends })))
+  lost_report product status old new is broke reported ends =
+      inr (inr (inl (record { product = product; is = is; broke = broke; reported = reported; no_file = refl; ends = ends })))
 
   -- the report went out, and then a file was not written
   pub lost_file : (product : Product) (steps : List FileStep) (status : Status) (old new : Streams) → P product → Sent old.out new.out product.report
@@ -207,19 +207,19 @@ module _ (P : Product → Type 0) (H : Refusal → Type 0) (b : List ℕ → Typ
       inr (inr (inr (record { product = product; is = is; sent = sent; loses = loses; ends = ends })))
 
 -- the command said why a file can't be read
-pub told_memory : (file : Bor (List ℕ)) (fault : ReadFault) (status : Status) (old new : Output) → fault ≡ unread.OutOfMemory
+pub reported_memory : (file : Bor (List ℕ)) (fault : ReadFault) (status : Status) (old new : Output) → fault ≡ unread.OutOfMemory
     → TellsReason refusal.OutOfMemory status old new → TellsUnread file fault status old new
-told_memory file fault status old new is told = subst (λ (f : ReadFault). TellsUnread file f status old new) (sym is) told
+reported_memory file fault status old new is reported = subst (λ (f : ReadFault). TellsUnread file f status old new) (sym is) reported
 
-pub told_device : (file : Bor (List ℕ)) (fault : ReadFault) (status : Status) (old new : Output) → fault ≡ unread.Device
+pub reported_device : (file : Bor (List ℕ)) (fault : ReadFault) (status : Status) (old new : Output) → fault ≡ unread.Device
     → TellsReason (refusal.Unreadable file) status old new → TellsUnread file fault status old new
-told_device file fault status old new is told = subst (λ (f : ReadFault). TellsUnread file f status old new) (sym is) told
+reported_device file fault status old new is reported = subst (λ (f : ReadFault). TellsUnread file f status old new) (sym is) reported
 
 -- the command gave the name of a file that can't be written, or said that memory ran out
-pub told_unwritten : (name word : List ℕ) (fault : WriteFault) (old new : Output) → fault ≡ unwritten.Device → IsWrittenAs name word
+pub reported_unwritten : (name word : List ℕ) (fault : WriteFault) (old new : Output) → fault ≡ unwritten.Device → IsWrittenAs name word
     → (Tells old new (unwritten_text word) ⊎ Tells old new (refusal_text refusal.OutOfMemory)) → TellsUnwritten name fault old new
-told_unwritten name word fault old new is named (inl told) = inl (is, (word, named, told))
-told_unwritten name word fault old new is named (inr told) = inr told
+reported_unwritten name word fault old new is named (inl reported) = inl (is, (word, named, reported))
+reported_unwritten name word fault old new is named (inr reported) = inr reported
 
 -- ---- files
 
@@ -290,10 +290,10 @@ one_kept WereTaken file due err is taken = (
 pub one_not_kept : (WereTaken : List FileStep → Type 0) (file : FileText) (due : List FileText) (fault : WriteFault) (b : List ℕ → Type 0)
     (old new : Output) → due ≡ file ∷ [] → Takes WereTaken (IsLeft (b file.name) file fault) → TellsUnwritten file.name fault old new
     → Takes WereTaken (λ steps. LosesOne due b steps old new)
-one_not_kept WereTaken file due fault b old new is taken told = (
+one_not_kept WereTaken file due fault b old new is taken reported = (
   taken.0,
   taken.1,
-  subst (λ (them : List FileText). LosesOne them b taken.0 old new) (sym is) (one_lost file fault b taken.0 old new taken.2 told),
+  subst (λ (them : List FileText). LosesOne them b taken.0 old new) (sym is) (one_lost file fault b taken.0 old new taken.2 reported),
 )
 
 pub due_certificate : (word : Option (Bor (List ℕ))) (name : Bor (List ℕ)) (given : Option Certificate) (certificate : Certificate) → word ≡ Some name

@@ -9,7 +9,8 @@ abbrev pub GoesOut : List FileText → Type 0
 GoesOut [] = ⊥
 GoesOut (file ∷ files) = (file.name ≡ codes "-") ⊎ GoesOut files
 
--- what is shown beside such files: the report, unless a file goes to standard output, which then holds the file alone
+-- what is shown beside such files: the report, unless a file goes to standard output, which then
+-- holds the file alone
 abbrev pub IsBeside : List FileText → List ℕ → List ℕ → Type 0
 IsBeside files report shown = (¬ GoesOut files × (shown ≡ report)) ⊎ (GoesOut files × (shown ≡ []))
 

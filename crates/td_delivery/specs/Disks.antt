@@ -4,8 +4,9 @@ use Rattle.std.specs.Borrow.{Bor}
 use Rattle.td_report.specs.declared.refusal.Refusal.{Refusal}
 use Rattle.td_report.specs.declared.refusal.Refusal.TheVariants as refusal
 
--- what is known of files: the bytes that a read of a name may give, which names a device may fail to read, of which it may fail to
--- make or end a file, and what may be answered where it is asked whether two names are of one file
+-- what is known of files: the bytes that a read of a name may give, which names a device may fail
+-- to read, of which it may fail to make or end a file, and what may be answered where it is asked
+-- whether two names are of one file
 pub record Disk : Type 1 where
   pub holds : List ℕ → List ℕ → Type 0
   pub fails : List ℕ → Type 0

@@ -21,9 +21,10 @@ pub record IsOverwritten (disk : Disk) (out file : Option (List ℕ)) (reason : 
   pub out_is : out ≡ Some written.now
   pub file_is : file ≡ Some lost.now
   pub one : disk.is_one written.now lost.now true
-  pub told : reason ≡ refusal.OneFile written lost
+  pub reported : reason ≡ refusal.OneFile written lost
 
--- the name under which a file is read: standard input has two, of which `-` may be that of a file to be written too
+-- the name under which a file is read: standard input has two, of which `-` may be that of a file
+-- to be written too
 abbrev pub IsReadAs : List ℕ → List ℕ → Type 0
 IsReadAs name read = ((name ≢ codes "-") × (read ≡ name)) ⊎ ((name ≡ codes "-") × (read ≡ codes "stdin"))
 

@@ -11,37 +11,37 @@ use Rattle.td_report.specs.Ends.{Streams, Tells}
 
 -- a kind of text that goes to standard output
 abbrev pub IsShown : ErrorKind → Type 0
-IsShown told = (told ≡ kind.DisplayHelp) ⊎ (told ≡ kind.DisplayVersion)
+IsShown reported = (reported ≡ kind.DisplayHelp) ⊎ (reported ≡ kind.DisplayVersion)
 
-module _ (told_kind : ErrorKind) (text : List ℕ) (status : Status) (old new : Streams) where
+module _ (reported_kind : ErrorKind) (text : List ℕ) (status : Status) (old new : Streams) where
   -- help went out
   pub record IsHelp : Type 0 where
-    pub shown : IsShown told_kind
+    pub shown : IsShown reported_kind
     pub ends : status ≡ Done
     pub sent : Sent old.out new.out text
     pub silent : new.err ≡ old.err
 
   -- standard output failed after a beginning of help, and the program said so
   pub record IsLostHelp : Type 0 where
-    pub shown : IsShown told_kind
+    pub shown : IsShown reported_kind
     pub ends : status ≡ Device
     pub broke : Failed old.out new.out text
-    pub told : Tells old.err new.err (unwritten_text (codes "stdout"))
+    pub reported : Tells old.err new.err (unwritten_text (codes "stdout"))
 
   -- the program wrote a fault of the command line
   pub record IsMistake : Type 0 where
-    pub mistake : ¬ IsShown told_kind
+    pub mistake : ¬ IsShown reported_kind
     pub ends : status ≡ BadCommand
     pub nothing : new.out ≡ old.out
-    pub told : Tells old.err new.err text
+    pub reported : Tells old.err new.err text
 
 -- the parser's text of this kind was written: help, or a fault of the command line
 abbrev pub TellsText : ErrorKind → Status → Streams → Streams → Type 0
-TellsText told_kind status old new =
-    (text : List ℕ) × (IsHelp told_kind text status old new ⊎ (IsMistake told_kind text status old new ⊎ IsLostHelp told_kind text status old new))
+TellsText reported_kind status old new =
+    (text : List ℕ) × (IsHelp reported_kind text status old new ⊎ (IsMistake reported_kind text status old new ⊎ IsLostHelp reported_kind text status old new))
 
 -- nothing went out, and the program said that memory ran out
 pub record IsOutOfMemory (status : Status) (old new : Streams) : Type 0 where
   pub ends : status ≡ Device
   pub nothing : new.out ≡ old.out
-  pub told : Tells old.err new.err (refusal_text refusal.OutOfMemory)
+  pub reported : Tells old.err new.err (refusal_text refusal.OutOfMemory)

@@ -11,8 +11,8 @@ use td_command::{JoinRequest, Request, SimRequest, WorstRequest};
 use td_files::Files;
 use td_report::refusal::Refusal;
 
-/// Why a command isn't carried out that would write one of its files over another: the netlist or a part's certificate that it reads, or the other
-/// file that it writes.
+/// Why a command isn't carried out that would write one of its files over another: the netlist or a
+/// part's certificate that it reads, or the other file that it writes.
 pub fn overwriting<'a, F: Files>(files: &mut F, request: &Request<'a>) -> Option<Refusal<'a>>
     ensures some { IfSome result (λ reason. Overwrites (disk_of (F.holds files.old) (F.fails files.old) (F.breaks files.old) (F.is_one files.old)) request.now reason) }
     ensures none { IfNone result (KeepsFiles (disk_of (F.holds files.old) (F.fails files.old) (F.breaks files.old) (F.is_one files.old)) request.now) }
@@ -39,7 +39,8 @@ fn over_netlist<'a, F: Files>(files: &mut F, request: &SimRequest<'a>) -> Option
     over(files, request.vcd, Some(read_as(request.file)))
 }
 
-/// The certificate or the waves of `worst` in place of its netlist, or the waves in place of the certificate.
+/// The certificate or the waves of `worst` in place of its netlist, or the waves in place of the
+/// certificate.
 fn over_another<'a, F: Files>(files: &mut F, request: &WorstRequest<'a>) -> Option<Refusal<'a>>
     ensures some { IfSome result (λ reason. Overwrites (disk_of (F.holds files.old) (F.fails files.old) (F.breaks files.old) (F.is_one files.old)) (Asked.Worst request.now) reason) }
     ensures none { IfNone result (KeepsFiles (disk_of (F.holds files.old) (F.fails files.old) (F.breaks files.old) (F.is_one files.old)) (Asked.Worst request.now)) }

@@ -36,7 +36,8 @@ fn beside_dump<'a>(report: &'a Text, dump: &Option<Dump<'_>>) -> &'a [u8]
     }
 }
 
-/// What is shown beside the files of a search: the report, unless one of them goes to standard output.
+/// What is shown beside the files of a search: the report, unless one of them goes to standard
+/// output.
 fn beside_files<'a>(
     report: &'a Text,
     name: Option<&str>,
@@ -114,7 +115,8 @@ fn keep_certificate<F: Files, E: Sink>(
     }
 }
 
-/// Writes a certificate to a new file. It has its name once it is whole; where its writer fails, the name is as it was.
+/// Writes a certificate to a new file. It has its name once it is whole; where its writer fails,
+/// the name is as it was.
 fn write_certificate<F: Files>(
     alloc: Global,
     files: &mut F,
@@ -159,7 +161,8 @@ fn keep_dump<F: Files, E: Sink>(
     }
 }
 
-/// Writes the waves of a run to a new file. It has its name once it is whole; where its writer fails, the name is as it was.
+/// Writes the waves of a run to a new file. It has its name once it is whole; where its writer
+/// fails, the name is as it was.
 fn write_waves<F: Files>(alloc: Global, files: &mut F, dump: &Dump<'_>) -> Result<(), WriteFault>
     requires { HasRun dump.now }
     ensures written { OnOk result (Takes (F.did files.old files.new) (IsWritten (file_of dump.now))) }
@@ -199,7 +202,7 @@ pub fn tell_unread<E: Sink>(alloc: Global, err: &mut E, file: &str, fault: ReadF
 /// Says that a file can't be written, or that memory ran out.
 fn tell_unwritten<E: Sink>(alloc: Global, err: &mut E, file: &str, fault: WriteFault) -> Status
     ensures ends { result ≡ Ended.Device }
-    ensures told { TellsUnwritten file.now fault (E.output err.old) (E.output err.new) }
+    ensures reported { TellsUnwritten file.now fault (E.output err.old) (E.output err.new) }
 {
     match fault {
         WriteFault::OutOfMemory => tell(err, b"tdelay: out of memory\n", Status::Device),
@@ -210,7 +213,7 @@ fn tell_unwritten<E: Sink>(alloc: Global, err: &mut E, file: &str, fault: WriteF
 /// Says that a file, given by this name, can't be written, or that memory ran out.
 fn tell_unwritten_as<E: Sink>(alloc: Global, err: &mut E, name: &str) -> Status
     ensures ends { result ≡ Ended.Device }
-    ensures told { Tells (E.output err.old) (E.output err.new) (unwritten_text name.now)
+    ensures reported { Tells (E.output err.old) (E.output err.new) (unwritten_text name.now)
         ⊎ Tells (E.output err.old) (E.output err.new) (refusal_text Reason.OutOfMemory) }
 {
     let mut text = Text::new(alloc);
@@ -237,7 +240,7 @@ fn unwritten_line(text: &mut Text, file: &str) -> Result<(), AllocError>
 /// Tells a line on standard error, where a failure is ignored.
 pub fn tell<E: Sink>(err: &mut E, line: &[u8], status: Status) -> Status
     ensures status { result ≡ status }
-    ensures told { Tells (E.output err.old) (E.output err.new) line.now }
+    ensures reported { Tells (E.output err.old) (E.output err.new) line.now }
 {
     match err.write_all(line) {
         Ok(()) => status,
@@ -260,7 +263,7 @@ pub fn tell_refusal<E: Sink>(alloc: Global, err: &mut E, refusal: &Refusal<'_>) 
 pub fn tell_error<O: Sink, E: Sink>(alloc: Global, error: Error, out: &mut O, err: &mut E) -> Status
     ensures memory { kind_of error ≡ Kind.OutOfMemory → IsOutOfMemory result
         (streams (O.output out.old) (E.output err.old)) (streams (O.output out.new) (E.output err.new)) }
-    ensures told { IsOutOfMemory result (streams (O.output out.old) (E.output err.old)) (streams (O.output out.new) (E.output err.new))
+    ensures reported { IsOutOfMemory result (streams (O.output out.old) (E.output err.old)) (streams (O.output out.new) (E.output err.new))
         ⊎ TellsText (kind_of error) result (streams (O.output out.old) (E.output err.old)) (streams (O.output out.new) (E.output err.new)) }
 {
     if error.kind() == ErrorKind::OutOfMemory {

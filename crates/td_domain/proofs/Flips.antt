@@ -276,10 +276,10 @@ all_are_admitted inputs pair f s = record {
 
 -- ---- what the code's test says, where the struct's inside is seen as the admitted pairs
 
-pub told_some : (inside now : Admitted) (cube : List Trit) (held : List Bool) (found : Option ℕ) (n : ℕ) → inside ≡ now
+pub reported_some : (inside now : Admitted) (cube : List Trit) (held : List Bool) (found : Option ℕ) (n : ℕ) → inside ≡ now
     → length inside.pins ≡ 2 * length inside.held → held ≡ inside.held → found ≡ fewest_flips held inside.pins cube → found ≡ Some n
     → IsTrue (nat_le n inside.flips) ↔ HasAdmitted now cube
-told_some inside now cube held found n view size same is some =
+reported_some inside now cube held found n view size same is some =
     let fewest : fewest_flips inside.held inside.pins cube ≡ Some n =
     ap (λ xs. fewest_flips xs inside.pins cube) (sym same) ∙ sym is ∙ some in
     subst (λ (a : Admitted). IsTrue (nat_le n inside.flips) ↔ HasAdmitted a cube) view (
@@ -287,10 +287,10 @@ told_some inside now cube held found n view size same is some =
       (λ has. le-leb n inside.flips (few_enough inside cube size n fewest has)),
     )
 
-pub told_none : (inside now : Admitted) (cube : List Trit) (held : List Bool) (found : Option ℕ) → inside ≡ now
+pub reported_none : (inside now : Admitted) (cube : List Trit) (held : List Bool) (found : Option ℕ) → inside ≡ now
     → length inside.pins ≡ 2 * length inside.held → held ≡ inside.held → found ≡ fewest_flips held inside.pins cube → found ≡ None
     → IsTrue false ↔ HasAdmitted now cube
-told_none inside now cube held found view size same is none =
+reported_none inside now cube held found view size same is none =
     let fewest : fewest_flips inside.held inside.pins cube ≡ None =
     ap (λ xs. fewest_flips xs inside.pins cube) (sym same) ∙ sym is ∙ none in
     subst (λ (a : Admitted). IsTrue false ↔ HasAdmitted a cube) view (

@@ -1,5 +1,5 @@
--- Each setting without a loop has one worst delay over its admitted pairs: the greatest over all pairs of lists of bits that are
--- admitted.
+-- Each setting without a loop has one worst delay over its admitted pairs: the greatest over all
+-- pairs of lists of bits that are admitted.
 use Rattle.std.proofs.Common.{◌≡◌, ℕ, zero, suc, ◌*◌, ◌≤◌, Bool, true, false, List, [], ◌∷◌, length, map, refl, arith, ◌⊎◌, inl, inr, ◌∙◌}
 use Rattle.std.proofs.lemmas.Bool.{cases_lt}
 use Rattle.std.proofs.lemmas.List.{length-map}

@@ -12,7 +12,8 @@ common One One = Some One
 common One Free = Some One
 common this that = None
 
--- the fewest flips of an input with bits that these trits allow: bits that differ are a flip, and none where the input is held
+-- the fewest flips of an input with bits that these trits allow: bits that differ are a flip, and
+-- none where the input is held
 abbrev pub input_flips : Trit → Trit → Bool → Option ℕ
 input_flips Zero One held = if held then None else Some 1
 input_flips One Zero held = if held then None else Some 1
@@ -28,7 +29,8 @@ abbrev pub sum_of : Option ℕ → Option ℕ → Option ℕ
 sum_of (Some a) (Some b) = Some (a + b)
 sum_of a b = None
 
--- the fewest flips of a pair in both cubes that keeps the held inputs, none where there is no such pair
+-- the fewest flips of a pair in both cubes that keeps the held inputs, none where there is no such
+-- pair
 abbrev pub fewest_flips : List Bool → List Trit → List Trit → Option ℕ
 fewest_flips [] [] [] = Some 0
 fewest_flips (held ∷ others) (u ∷ v ∷ pins) (p ∷ q ∷ cube) = sum_of (common_flips held u v p q) (fewest_flips others pins cube)

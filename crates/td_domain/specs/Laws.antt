@@ -11,8 +11,8 @@ abbrev pub AllAdmitted : Type 0
 AllAdmitted = (inputs : ℕ) (pair : Pair) → length pair.first ≡ inputs → length pair.second ≡ inputs
     → IsAdmitted (all_pairs inputs) pair
 
--- a setting without a loop has exactly one worst delay over the admitted pairs, where there is an admitted pair, of pins with two positions
--- for each input
+-- a setting without a loop has exactly one worst delay over the admitted pairs, where there is an
+-- admitted pair, of pins with two positions for each input
 abbrev pub OneWorst : Type 0
 OneWorst = (setting : Setting) (admit : Admitted) → IsAcyclic setting.netlist → AreMoments setting.netlist setting.moments
     → length admit.pins ≡ 2 * length setting.netlist.inputs → (pair : Pair) → IsAdmitted admit pair

@@ -17,9 +17,9 @@ pub record Page (Sig : Type 0) : Type 0 where
   pub cube : List Trit
   pub signals : List Sig
 
--- What is seen of a sheet: its cube and signals, those before the narrowings that still stand, the latest first, how many
--- gates the input of the latest narrowing reaches, the numbers of the outputs, and by input the gates that it reaches, where they
--- are known.
+-- What is seen of a sheet: its cube and signals, those before the narrowings that still stand, the
+-- latest first, how many gates the input of the latest narrowing reaches, the numbers of the
+-- outputs, and by input the gates that it reaches, where they are known.
 pub record Shown (Sig : Type 0) : Type 0 where
   pub cube : List Trit
   pub signals : List Sig
@@ -68,7 +68,8 @@ module _ {Sig : Type 0} (functions : Functions Sig) (reach : Sig → ℕ) (circu
     pub count : length page.signals ≡ length (nets circuit)
     pub front : AreFirstSignals functions reach circuit page.cube page.signals
 
-  -- it is a sheet of the circuit: its signals are those of its cube, and so it was before each narrowing that still stands
+  -- it is a sheet of the circuit: its signals are those of its cube, and so it was before each
+  -- narrowing that still stands
   pub record IsSheet (sheet : Shown Sig) : Type 0 where
     pub numbering : IsNumbering circuit
     pub fit : AreMoments circuit.netlist circuit.moments

@@ -12,8 +12,8 @@ use crate::domain::Domain;
 use std::alloc::{AllocError, Global};
 use td_circuit::Circuit;
 
-/// A moment after which no output changes for any pair of the cube: the greatest last moment of the outputs' signals,
-/// `None` where the domain knows none for some output, and 0 without outputs.
+/// A moment after which no output changes for any pair of the cube: the greatest last moment of the
+/// outputs' signals, `None` where the domain knows none for some output, and 0 without outputs.
 pub fn bound<D: Domain>(
     alloc: Global,
     circuit: &Circuit,
@@ -30,8 +30,8 @@ pub fn bound<D: Domain>(
     Ok(greatest_last::<D>(&signals, circuit.outputs()))
 }
 
-/// The signals of all nets, by number: those of the constants, those of the inputs by their trits and moments, and
-/// those of the gates' outputs in topological order.
+/// The signals of all nets, by number: those of the constants, those of the inputs by their trits
+/// and moments, and those of the gates' outputs in topological order.
 pub fn signals<D: Domain>(
     alloc: Global,
     circuit: &Circuit,

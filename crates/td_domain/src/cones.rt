@@ -8,7 +8,8 @@ ghost use Rattle.td_domain.specs.Cones.{IsCone};
 use std::alloc::{AllocError, Global};
 use td_circuit::Circuit;
 
-/// The outputs of the gates that read a constant or an input, directly or through other gates, in topological order.
+/// The outputs of the gates that read a constant or an input, directly or through other gates, in
+/// topological order.
 pub fn cone(alloc: Global, circuit: &Circuit, net: usize) -> Result<Vec<u32>, AllocError>
     requires { net < first_output circuit.now }
     ensures { IfOk result (λ cone. IsCone circuit.now net cone.items) }

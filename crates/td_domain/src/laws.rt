@@ -7,8 +7,8 @@ pub fn all_admitted()
     ensures { AllAdmitted }
 {}
 
-/// A netlist without a loop, with a moment for each input, has exactly one worst delay over the admitted pairs, where
-/// there is one and the pins have two positions for each input.
+/// A netlist without a loop, with a moment for each input, has exactly one worst delay over the
+/// admitted pairs, where there is one and the pins have two positions for each input.
 pub fn one_worst()
     ensures { OneWorst }
 {}

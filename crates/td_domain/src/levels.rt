@@ -1,12 +1,13 @@
-//! What gates make of levels: the table of those with two inputs, which most have, in straight lines and without a list of levels, and the
-//! level of an input that settles the output by itself.
+//! What gates make of levels: the table of those with two inputs, which most have, in straight
+//! lines and without a list of levels, and the level of an input that settles the output by itself.
 
 ghost use Rattle.std.specs.Prelude.{◌≡◌, [], ◌∷◌};
 ghost use Rattle.td_gates.specs.Table.{table, and_of, or_of, xor_of, controlling, controls};
 
 use td_gates::{Kind, Level};
 
-/// The output level of a gate whose two inputs are at these levels; of a buf or a not, which have one input, by the first.
+/// The output level of a gate whose two inputs are at these levels; of a buf or a not, which have
+/// one input, by the first.
 #[inline(always)]
 pub fn level_of_two(kind: Kind, first: Level, second: Level) -> Level
     ensures { result ≡ table kind (first ∷ second ∷ []) }

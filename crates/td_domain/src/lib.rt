@@ -1,5 +1,5 @@
-//! Cubes of pairs of vectors, admitted pairs, domains of signals, the bound that a domain gives of a cube, and
-//! sheets: the signals of a cube that is narrowed and widened.
+//! Cubes of pairs of vectors, admitted pairs, domains of signals, the bound that a domain gives of
+//! a cube, and sheets: the signals of a cube that is narrowed and widened.
 #![tactic(auto)]
 
 mod admits;

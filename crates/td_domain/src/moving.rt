@@ -32,8 +32,9 @@ pub fn move_to<D: Domain>(
     Ok(())
 }
 
-/// Takes back narrowings until the sheet's cube allows all pairs of this one, or none stands. Positions at which it doesn't are counted
-/// once, and counted down where a narrowing is taken back.
+/// Takes back narrowings until the sheet's cube allows all pairs of this one, or none stands.
+/// Positions at which it doesn't are counted once, and counted down where a narrowing is taken
+/// back.
 fn widen_to<D: Domain>(sheet: &mut Sheet<D>, cube: &Cube)
     ensures { (circuit : Numbered) → IsSheet D.functions D.reach circuit sheet.old
         → IsSheet D.functions D.reach circuit sheet.new }
@@ -92,7 +93,8 @@ fn agreeing(one: &Cube, other: &Cube, from: usize) -> usize
     from.max(end)
 }
 
-/// Gives a position of the sheet's cube this trit, where it is another, by a narrowing. False where no narrowing does that.
+/// Gives a position of the sheet's cube this trit, where it is another, by a narrowing. False where
+/// no narrowing does that.
 #[inline(always)]
 fn narrow_at<D: Domain>(
     circuit: &Circuit,
@@ -122,7 +124,8 @@ fn narrow_at<D: Domain>(
     }
 }
 
-/// At how many positions a cube is known and another has another trit. It looks at all positions, so that several are compared at once.
+/// At how many positions a cube is known and another has another trit. It looks at all positions,
+/// so that several are compared at once.
 fn misfits(wide: &Cube, cube: &Cube) -> u32 {
     let mut count: u32 = 0;
     for position in 0..wide.len().min(cube.len()) {

@@ -15,7 +15,8 @@ use crate::undoing::{Replaced, put, undo};
 use std::alloc::AllocError;
 use td_circuit::{Circuit, Net};
 
-/// A cube with one more position known than the signals at hand are of, and the outputs that the position's input reaches.
+/// A cube with one more position known than the signals at hand are of, and the outputs that the
+/// position's input reaches.
 #[derive(Clone, Copy)]
 pub struct Narrower<'a> {
     pub cube: &'a Cube,
@@ -23,9 +24,10 @@ pub struct Narrower<'a> {
     pub cone: &'a [Net],
 }
 
-/// Makes the signals of the narrower cube from those of the same cube with the position free, and answers what it replaced.
-/// Only gates that read a changed signal are evaluated; `changed` has a mark for each net, and `spare` is an empty list for what
-/// is replaced. The error is out of memory: the signals are then as before.
+/// Makes the signals of the narrower cube from those of the same cube with the position free, and
+/// answers what it replaced. Only gates that read a changed signal are evaluated; `changed` has a
+/// mark for each net, and `spare` is an empty list for what is replaced. The error is out of
+/// memory: the signals are then as before.
 pub fn redo<D: Domain>(
     scratch: &mut D::Scratch,
     circuit: &Circuit,
@@ -70,7 +72,7 @@ pub fn redo<D: Domain>(
     match redo_gates::<D>(scratch, circuit, cone, signals, changed, &mut replaced) {
         Ok(()) => Ok(replaced),
         Err(error) => {
-            let _room = undo::<D>(scratch, signals, replaced);
+            let _space = undo::<D>(scratch, signals, replaced);
             Err(error)
         }
     }
@@ -89,7 +91,7 @@ fn redo_gates<D: Domain>(
     requires marks { length changed.old ≡ length signals.old }
     requires settled { AreSettled D.functions circuit.now changed.old signals.old }
     requires within { AreWithin (length signals.old) replaced.old.items }
-    requires room { vec_len replaced.old + length cone.now ≤ vec_capacity replaced.old }
+    requires space { vec_len replaced.old + length cone.now ≤ vec_capacity replaced.old }
     ensures redone { OnOk result (AreAllRedone D.functions D.reach circuit.now cone.now signals.old signals.new) }
     ensures undone { undone signals.new replaced.new.items ≡ undone signals.old replaced.old.items }
     ensures within { AreWithin (length signals.old) replaced.new.items }
@@ -106,8 +108,9 @@ fn redo_gates<D: Domain>(
     Ok(())
 }
 
-/// Evaluates the gate at a place anew, where it reads a changed signal. Its output is marked where its signal has changed. A narrowing
-/// calls it for each gate that its input reaches, so it stands in their loop.
+/// Evaluates the gate at a place anew, where it reads a changed signal. Its output is marked where
+/// its signal has changed. A narrowing calls it for each gate that its input reaches, so it stands
+/// in their loop.
 #[inline(always)]
 fn redo_gate<D: Domain>(
     scratch: &mut D::Scratch,
@@ -123,7 +126,7 @@ fn redo_gate<D: Domain>(
     requires marks { length changed.old ≡ length signals.old }
     requires settled { AreSettled D.functions circuit.now changed.old signals.old }
     requires within { AreWithin (length signals.old) replaced.old.items }
-    requires room { vec_len replaced.old < vec_capacity replaced.old }
+    requires space { vec_len replaced.old < vec_capacity replaced.old }
     ensures gate { OnOk result ((gate : NumberedGate) → slice_get circuit.now.gates place ≡ Some gate
         → signals.new ≡ set signals.old (first_output circuit.now + place) (D.functions.gate_of gate.kind gate.delay (filter_map (slice_get signals.old) gate.inputs))) }
     ensures settled { OnOk result (AreSettled D.functions circuit.now changed.new signals.new) }
@@ -131,7 +134,7 @@ fn redo_gate<D: Domain>(
     ensures within { AreWithin (length signals.old) replaced.new.items }
     ensures len { length signals.new ≡ length signals.old }
     ensures marks { length changed.new ≡ length changed.old }
-    ensures room { vec_len replaced.new ≤ vec_len replaced.old + 1 }
+    ensures space { vec_len replaced.new ≤ vec_len replaced.old + 1 }
     ensures capacity { vec_capacity replaced.new ≡ vec_capacity replaced.old }
 {
     let gates = circuit.gates();
@@ -159,7 +162,7 @@ fn evaluate<D: Domain>(
     requires marks { length changed.old ≡ length signals.old }
     requires settled { AreSettled D.functions circuit.now changed.old signals.old }
     requires within { AreWithin (length signals.old) replaced.old.items }
-    requires room { vec_len replaced.old < vec_capacity replaced.old }
+    requires space { vec_len replaced.old < vec_capacity replaced.old }
     ensures gate { OnOk result ((gate : NumberedGate) → slice_get circuit.now.gates place ≡ Some gate
         → signals.new ≡ set signals.old (first_output circuit.now + place) (D.functions.gate_of gate.kind gate.delay (filter_map (slice_get signals.old) gate.inputs))) }
     ensures settled { OnOk result (AreSettled D.functions circuit.now changed.new signals.new) }
@@ -167,7 +170,7 @@ fn evaluate<D: Domain>(
     ensures within { AreWithin (length signals.old) replaced.new.items }
     ensures len { length signals.new ≡ length signals.old }
     ensures marks { length changed.new ≡ length changed.old }
-    ensures room { vec_len replaced.new ≤ vec_len replaced.old + 1 }
+    ensures space { vec_len replaced.new ≤ vec_len replaced.old + 1 }
     ensures capacity { vec_capacity replaced.new ≡ vec_capacity replaced.old }
 {
     let gates = circuit.gates();

@@ -15,7 +15,7 @@ use crate::cones::cone;
 use crate::cubes::{Cube, Trit};
 use crate::domain::Domain;
 use crate::redoing::{Narrower, redo};
-use crate::undoing::{Narrowing, Replaced, put_aside, taken_room, undo};
+use crate::undoing::{Narrowing, Replaced, put_aside, taken_space, undo};
 use std::alloc::{AllocError, Global};
 use std::marker::Model;
 use std::mem;
@@ -37,9 +37,10 @@ pub struct Sheet<D: Domain> {
     changed: Vec<bool>,
     // The room of narrowings that were taken back, to be used again.
     spare: Vec<Vec<Replaced<D::Sig>>>,
-    // Room for signals, and how many of these can be released by taking back all narrowings that still stand.
+    // Room for signals, and how many of these can be released by taking back all narrowings that
+    // still stand.
     scratch: D::Scratch,
-    standing: usize,
+    releasable: usize,
 }
 
 impl<D: Domain> Model for Sheet<D> {
@@ -74,7 +75,7 @@ impl<D: Domain> Sheet<D> {
             changed: vec![in alloc; false; circuit.net_count()]?,
             spare: Vec::new(alloc),
             scratch: D::scratch(alloc),
-            standing: 0,
+            releasable: 0,
         })
     }
 
@@ -94,8 +95,8 @@ impl<D: Domain> Sheet<D> {
         &self.signals
     }
 
-    /// How many gates the input of the latest narrowing reaches, 0 after `new` and after `widen`. Of these only those were evaluated
-    /// that read a changed signal.
+    /// How many gates the input of the latest narrowing reaches, 0 after `new` and after `widen`.
+    /// Of these only those were evaluated that read a changed signal.
     pub fn redone(&self) -> u32
         ensures { result ≡ self.now.redone }
     {
@@ -120,10 +121,10 @@ impl<D: Domain> Sheet<D> {
         self.narrowings.reserve(1)?;
         self.spare.reserve(self.narrowings.len().saturating_add(1))?;
         let cone = taken_cone(self.alloc, circuit, &mut self.cones, input)?;
-        let most = cone.len().saturating_add(self.standing);
+        let most = cone.len().saturating_add(self.releasable);
         D::reserve(&mut self.scratch, most.saturating_add(1))?;
         self.cube.set(position, known(bit));
-        let room = taken_room(self.alloc, &mut self.spare);
+        let space = taken_space(self.alloc, &mut self.spare);
         let redone = redo::<D>(
             &mut self.scratch,
             circuit,
@@ -134,13 +135,13 @@ impl<D: Domain> Sheet<D> {
             },
             &mut self.signals,
             &mut self.changed,
-            room,
+            space,
         );
         let count = cone.len() as u32;
         self.cones[input] = kept(circuit, cone);
         match redone {
             Ok(replaced) => {
-                self.standing = self.standing.saturating_add(replaced.len());
+                self.releasable = self.releasable.saturating_add(replaced.len());
                 self.narrowings
                     .push_reserved(Narrowing { position, replaced });
                 self.redone = count;
@@ -171,9 +172,9 @@ impl<D: Domain> Sheet<D> {
         self.redone = 0;
         match self.narrowings.pop() {
             Some(narrowing) => {
-                self.standing = self.standing.saturating_sub(narrowing.replaced.len());
-                let room = undo::<D>(&mut self.scratch, &mut self.signals, narrowing.replaced);
-                put_aside(&mut self.spare, room);
+                self.releasable = self.releasable.saturating_sub(narrowing.replaced.len());
+                let space = undo::<D>(&mut self.scratch, &mut self.signals, narrowing.replaced);
+                put_aside(&mut self.spare, space);
                 self.cube.set(narrowing.position, Trit::Free);
                 true
             }
@@ -181,8 +182,8 @@ impl<D: Domain> Sheet<D> {
         }
     }
 
-    /// The bound of the cube: a moment after which no output changes for any pair of it, `None` where the domain knows none
-    /// for some output, and 0 without outputs.
+    /// The bound of the cube: a moment after which no output changes for any pair of it, `None`
+    /// where the domain knows none for some output, and 0 without outputs.
     pub fn bound(&self) -> Option<u64>
         ensures bound { (circuit : Numbered) → IsSheet D.functions D.reach circuit self.now
             → IsBound D.functions (setting circuit) self.now.cube result }
@@ -227,12 +228,13 @@ fn taken_cone(
     }
 }
 
-/// The gates that an input reaches, where they are few enough to be kept: as many for all inputs together as 64 for each net.
+/// The gates that an input reaches, where they are few enough to be kept: as many for all inputs
+/// together as 64 for each net.
 fn kept(circuit: &Circuit, cone: Vec<u32>) -> Option<Vec<u32>>
     ensures { (other : Vec ℕ) → result ≡ Some other → other ≡ cone }
 {
-    let room = circuit.net_count().saturating_mul(64);
-    if cone.len().saturating_mul(circuit.input_count()) <= room {
+    let space = circuit.net_count().saturating_mul(64);
+    if cone.len().saturating_mul(circuit.input_count()) <= space {
         Some(cone)
     } else {
         None

@@ -11,7 +11,8 @@ use crate::domain::Domain;
 use crate::sheet::Sheet;
 use td_circuit::Circuit;
 
-/// The bound of a cube by two domains together (`Both`), from a sheet of each of them with this cube.
+/// The bound of a cube by two domains together (`Both`), from a sheet of each of them with this
+/// cube.
 pub fn bound_together<A: Domain, B: Domain>(
     circuit: &Circuit,
     first: &Sheet<A>,

@@ -1,4 +1,5 @@
-//! The event queue, sheets and sinks, and calls that no command makes. There are tests here, and nothing else.
+//! The event queue, sheets and sinks, and calls that no command makes. There are tests here, and
+//! nothing else.
 #![tactic(auto)]
 
 #[cfg(test)]

@@ -1,4 +1,5 @@
-//! The delays of all pairs of generated circuits by one queue of events, those of each circuit in one scratch.
+//! The delays of all pairs of generated circuits by one queue of events, those of each circuit in
+//! one scratch.
 
 ghost use Rattle.std.specs.Prelude.{◌≡◌, length};
 ghost use Rattle.td_event_sim.specs.Scratch.{IsFor};
@@ -24,7 +25,8 @@ fn by_queue(scratch: &mut Scratch, circuit: &Circuit, pair: &Pair) -> Result<u64
     }
 }
 
-/// Whether a pair has the same delay by waves, by the queue, and by the queue once more, which held it then.
+/// Whether a pair has the same delay by waves, by the queue, and by the queue once more, which held
+/// it then.
 fn agrees(
     alloc: Global,
     scratch: &mut Scratch,
@@ -72,7 +74,8 @@ fn all_agree(alloc: Global, circuit: &Circuit) -> Result<bool, AllocError> {
     Ok(agree)
 }
 
-/// Moments that are 256 apart from input to input, so that their events stand in one slot of the queue.
+/// Moments that are 256 apart from input to input, so that their events stand in one slot of the
+/// queue.
 fn apart(alloc: Global, inputs: usize) -> Result<Vec<u64>, AllocError> {
     let mut moments = Vec::new(alloc);
     for input in 0..inputs {

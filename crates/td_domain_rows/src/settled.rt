@@ -6,8 +6,8 @@ use std::test::*;
 use td_gates::Level;
 use td_run::settle;
 
-/// Under a at 0 the inverter's output b is 1, and y, which is 1 only where a and b are, is 0. The constants come first, then inputs and
-/// gates.
+/// Under a at 0 the inverter's output b is 1, and y, which is 1 only where a and b are, is 0. The
+/// constants come first, then inputs and gates.
 #[test]
 fn a_lost_pulse_settled(rt: HostRuntime) -> Result<(), Fail> {
     let alloc = rt.alloc();

@@ -37,7 +37,8 @@ fn keyword(number: u64) -> &'static str {
     }
 }
 
-/// A gate whose output is the net of this number. It reads the net before and, where it takes two inputs, one of all before.
+/// A gate whose output is the net of this number. It reads the net before and, where it takes two
+/// inputs, one of all before.
 fn gate_text(alloc: Global, place: u64, seed: u64) -> Result<String, AllocError> {
     let rises = next(seed);
     let falls = next(rises);

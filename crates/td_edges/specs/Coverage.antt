@@ -7,7 +7,8 @@ use Rattle.td_edges.specs.declared.signals.Span.{Span}
 use Rattle.td_edges.specs.declared.signals.Signal.{Signal}
 use Rattle.td_edges.specs.Spans.{until}
 
--- the wave changes no sooner than the earliest moment, to each level only before that level's moment, and never where there is no span
+-- the wave changes no sooner than the earliest moment, to each level only before that level's
+-- moment, and never where there is no span
 abbrev pub ChangesWithin : Option Span → Wave → Type 0
 ChangesWithin None wave = (t : ℕ) → at wave t ≡ before wave t
 ChangesWithin (Some span) wave = (t : ℕ) → at wave t ≢ before wave t → (span.earliest ≤ t) × (t < until (at wave t) span)

@@ -14,8 +14,8 @@ use Rattle.td_edges.specs.declared.signals.Signal.{Signal}
 use Rattle.td_edges.specs.Spans.{until, until_of, earliest_of, moving}
 use Rattle.td_edges.specs.Parting.{parity_span}
 
--- An input changes to a level at its moment or never, and surely never where it surely starts at that level, or surely finishes
--- at the other one.
+-- An input changes to a level at its moment or never, and surely never where it surely starts at
+-- that level, or surely finishes at the other one.
 abbrev pub input_until : Level → Level → ℕ → Level → ℕ
 input_until start finish moment level =
     if level_eq start level || level_eq finish (inverse_of level) then 0 else moment + 1
@@ -60,8 +60,8 @@ hull (signal ∷ signals) = around signal.changes (hull signals)
 abbrev pub turned : Span → Span
 turned span = record { earliest = span.earliest; falls_until = span.rises_until; rises_until = span.falls_until }
 
--- 2. The target changes to a level only where some input changes to it, to the other level at a gate that negates. A parity changes with
--- any input.
+-- 2. The target changes to a level only where some input changes to it, to the other level at a
+--    gate that negates. A parity changes with any input.
 abbrev pub target_span : Kind → List Signal → Span → Span
 target_span And signals span = span
 target_span Or signals span = span
@@ -86,12 +86,14 @@ limited Low moment span = record span { falls_until = min span.falls_until momen
 limited High moment span = record span { rises_until = min span.rises_until moment }
 limited X moment span = span
 
--- 3. An input that surely finishes at the controlling level keeps the target from its latest change to that level on.
+-- 3. An input that surely finishes at the controlling level keeps the target from its latest change
+--    to that level on.
 abbrev pub capped : Option Level → Level → Signal → Span → Span
 capped control out signal span =
     if controls control signal.finish then limited out (until_of signal.finish signal.changes) span else span
 
--- 4. An input that surely starts at the controlling level keeps the target until its earliest change.
+-- 4. An input that surely starts at the controlling level keeps the target until its earliest
+--    change.
 abbrev pub raised : Option Level → Signal → Span → Span
 raised control signal span =
     if controls control signal.start then record span { earliest = max span.earliest (earliest_of signal.changes) } else span
@@ -101,7 +103,8 @@ abbrev pub kept_by : Option Level → Level → List Signal → Span → Span
 kept_by control out [] span = span
 kept_by control out (signal ∷ later) span = kept_by control out later (raised control signal (capped control out signal span))
 
--- 5. A change away from the finish is seen only where the change back comes no sooner than the delay of the former.
+-- 5. A change away from the finish is seen only where the change back comes no sooner than the
+--    delay of the former.
 abbrev pub filtered : Delay → Level → Span → Span
 filtered delay finish span = limited (inverse_of finish) (until finish span - delay_to delay (inverse_of finish)) span
 
@@ -121,7 +124,8 @@ timely span = record {
 abbrev pub never_changes : Level → Level → Span → Bool
 never_changes start finish span = until finish span == 0 || until (inverse_of start) span == 0
 
--- 8. Changes come later by the delay to their level, and the first one leads away from the start. Where none come, none do.
+-- 8. Changes come later by the delay to their level, and the first one leads away from the start.
+--    Where none come, none do.
 abbrev pub put_off : ℕ → ℕ → ℕ
 put_off steps moment = if nat_lt 0 moment then moment + steps else 0
 

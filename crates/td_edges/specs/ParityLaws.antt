@@ -138,7 +138,8 @@ xor-odds parity (level ∷ levels) boolean =
     ap (λ l. odd parity l) (xor-cons level levels boolean) ∙ sym (odd-assoc parity level (xor_of levels))
     ∙ xor-odds (odd parity level) levels boolean.1
 
--- what the parts say of a parity: it is that of one wave, which the last signal covers, and of the others
+-- what the parts say of a parity: it is that of one wave, which the last signal covers, and of the
+-- others
 pub record IsParted (parts : Parting) (e : ℕ → Level) : Type 0 where
   pub wave : Wave
   pub covered : Covers parts.latest wave

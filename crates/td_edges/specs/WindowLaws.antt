@@ -1,4 +1,5 @@
--- Internal: what the delay of a gate makes of the changes of its target. These proofs stand here for EdgeLaws.
+-- Internal: what the delay of a gate makes of the changes of its target. These proofs stand here
+-- for EdgeLaws.
 use Rattle.std.proofs.Common.{◌≡◌, ◌≢◌, ℕ, zero, suc, ◌+◌, ◌-◌, ◌<◌, ◌≤◌, true, refl, arith, subst, ◌∙◌, sym, Option, Some, None, inl, inr}
 use Rattle.std.specs.Prelude.{◌==◌}
 use Rattle.std.proofs.lemmas.Bool.{cases_lt, cases_eq, lt-ltb, ne_eqb, cases_Bool, or_cases}
@@ -88,7 +89,8 @@ until_zero Low t span low = omega arith
 until_zero High t span low = omega arith
 until_zero X t span low = omega arith
 
--- the target's levels over time: Boolean, the first and the last as known, all changes within the span
+-- the target's levels over time: Boolean, the first and the last as known, all changes within the
+-- span
 pub record IsTarget (e : ℕ → Level) (start finish : Level) (span : Span) : Type 0 where
   pub boolean : (n : ℕ) → e n ≢ X
   pub starts : Agrees start (e 0)

@@ -11,7 +11,8 @@ use std::alloc::{AllocError, Global};
 use td_domain::{Domain, Trit};
 use td_gates::{Delay, Kind, Level};
 
-/// The domain of edges: of each net, from which level to which, not before which moment, and until when to 0 and to 1.
+/// The domain of edges: of each net, from which level to which, not before which moment, and until
+/// when to 0 and to 1.
 pub struct Edges;
 
 impl Domain for Edges {

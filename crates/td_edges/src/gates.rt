@@ -133,7 +133,8 @@ fn limited(level: Level, moment: u64, span: Span) -> Span
     }
 }
 
-/// The span where an input that surely finishes at the controlling level keeps the target from its last change to it on.
+/// The span where an input that surely finishes at the controlling level keeps the target from its
+/// last change to it on.
 fn capped(control: Option<Level>, out: Level, signal: &Signal, span: Span) -> Span
     ensures { result ≡ capped control out signal.now span }
 {
@@ -144,7 +145,8 @@ fn capped(control: Option<Level>, out: Level, signal: &Signal, span: Span) -> Sp
     }
 }
 
-/// The span where an input that surely starts at the controlling level keeps the target until its earliest change.
+/// The span where an input that surely starts at the controlling level keeps the target until its
+/// earliest change.
 fn raised(control: Option<Level>, signal: &Signal, span: Span) -> Span
     ensures { result ≡ raised control signal.now span }
 {

@@ -7,8 +7,8 @@ ghost use Rattle.td_edges.specs.Parting.{odd, no_parts, parted_with, parted, par
 use crate::signals::{Signal, Span, until_of};
 use td_gates::Level;
 
-/// The input that is the last to change, until when the others change, and the parity of their finishes, negated for `xnor`, x where it
-/// isn't known.
+/// The input that is the last to change, until when the others change, and the parity of their
+/// finishes, negated for `xnor`, x where it isn't known.
 #[derive(Clone, Copy, Debug, PartialEq, Eq, Drop)]
 pub struct Parting {
     pub latest: Signal,

@@ -5,8 +5,8 @@ ghost use Rattle.td_edges.specs.Spans.{until, until_of, earliest_of, moving};
 
 use td_gates::Level;
 
-/// When changes come: none before the earliest moment, and each change to a level before that level's moment, which is 0
-/// where no change to it comes.
+/// When changes come: none before the earliest moment, and each change to a level before that
+/// level's moment, which is 0 where no change to it comes.
 #[derive(Clone, Copy, Debug, PartialEq, Eq, Drop)]
 pub struct Span {
     pub earliest: u64,
@@ -14,7 +14,8 @@ pub struct Span {
     pub rises_until: u64,
 }
 
-/// The levels at the start and at the finish, where they are known (else x), and when changes may come, if any may.
+/// The levels at the start and at the finish, where they are known (else x), and when changes may
+/// come, if any may.
 #[derive(Clone, Copy, Debug, PartialEq, Eq, Drop)]
 pub struct Signal {
     pub start: Level,

@@ -121,7 +121,8 @@ input_of moments first second net t = input_state (bit_at first (net - 2)) (bit_
 abbrev output_of : Numbered → List Wave → ℕ → ℕ → GateState
 output_of circuit waves net t = gate_state waves (slice_get circuit.gates (net - first_output circuit)) t
 
--- the state of a net before a moment: a constant keeps its level, an input has its event, and a gate obeys the scheduling rule
+-- the state of a net before a moment: a constant keeps its level, an input has its event, and a
+-- gate obeys the scheduling rule
 abbrev pub net_state : Numbered → List ℕ → List Bool → List Bool → List Wave → ℕ → ℕ → GateState
 net_state circuit moments first second waves net t =
     choose (nat_lt net 2) (nat_lt net (first_output circuit)) (constant_of waves net t) (input_of moments first second net t) (output_of circuit waves net t)

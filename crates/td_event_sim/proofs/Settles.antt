@@ -1,4 +1,5 @@
--- Settled levels by bits are the starts of the run's waves, and what the run's inputs and constants do.
+-- Settled levels by bits are the starts of the run's waves, and what the run's inputs and constants
+-- do.
 use Rattle.std.proofs.Common.{◌≡◌, ◌≢◌, ℕ, zero, suc, ◌+◌, ◌<◌, Bool, false, List, [], ◌∷◌, length, map, get_or, set, refl, arith, inl, inr, sym, ap, ◌∙◌, Some, get_or-set_same, get_or-set_other}
 use Rattle.std.specs.Prelude.{slice_get, nat_lt, if◌then◌else◌, ◌%◌, ◌==◌, count_by, not}
 use Rattle.std.specs.List.{All, Contains, list_all, list_any}

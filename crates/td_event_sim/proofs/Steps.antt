@@ -37,7 +37,8 @@ steady-stays d t target level (Some event) steady =
     let apart : target ≢ level = λ e. steady.1 (sym e) in
     rw (level_eq-other target level apart, steady.0, level_eq-same target)
 
--- an evaluation makes a state steady, where an event that is scheduled isn't to the output's own level
+-- an evaluation makes a state steady, where an event that is scheduled isn't to the output's own
+-- level
 pub evaluated-steady : (d : Delay) (t : ℕ) (target level : Level) (event : Option Change)
     → ((change : Change) → event ≡ Some change → change.level ≢ level) → IsSteady target (evaluated d t target (state_of level event))
 evaluated-steady d t target level None apart = elim (cases_level target level) [

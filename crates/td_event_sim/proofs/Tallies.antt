@@ -13,7 +13,7 @@ use Rattle.td_event_sim.specs.declared.rules.Rule.{Rule}
 use Rattle.td_event_sim.specs.declared.rules.Tally.{Tally}
 use Rattle.td_event_sim.specs.Bits.{bit_at, target_of}
 use Rattle.td_event_sim.specs.Counting.{recounted, AreCounted, AreRecounted}
-use Rattle.td_event_sim.specs.Rules.{target_by_rule, IsRuleOf, ones_of, rules_of, AreRules, IsTold, AreTold}
+use Rattle.td_event_sim.specs.Rules.{target_by_rule, IsRuleOf, ones_of, rules_of, AreRules, IsReported, AreReported}
 use Rattle.td_event_sim.proofs.Ones.{recount-more, target-by}
 
 -- another count in the place of a gate's
@@ -81,29 +81,29 @@ target-is gate rule levels ones is count = is.target ones ∙ target-by gate.kin
 
 -- ---- the gates whose target turns
 
-still-told : (rule : Rule) (before after output : ℕ) (outputs new_outputs : List ℕ) → IsTold rule before after output outputs new_outputs
+still-reported : (rule : Rule) (before after output : ℕ) (outputs new_outputs : List ℕ) → IsReported rule before after output outputs new_outputs
     → (other : ℕ) → Contains outputs other → Contains new_outputs other
-still-told rule before after output outputs new_outputs (inl added) other found = rw added (Contains-append_left outputs (output ∷ []) other found)
-still-told rule before after output outputs new_outputs (inr same) other found = rw same.0 found
+still-reported rule before after output outputs new_outputs (inl added) other found = rw added (Contains-append_left outputs (output ∷ []) other found)
+still-reported rule before after output outputs new_outputs (inr same) other found = rw same.0 found
 
 -- one gate is counted anew
-pub told-one : (first : ℕ) (rules : List Rule) (begun ones outputs new_outputs : List ℕ) (place after : ℕ) (rule : Rule) → place < length ones
-    → slice_get rules place ≡ Some rule → IsTold rule (get_or ones place 0) after (first + place) outputs new_outputs
-    → AreTold first rules begun ones outputs → AreTold first rules begun (set ones place after) new_outputs
-told-one first rules begun ones outputs new_outputs place after rule inside at step all other other_rule at_other = elim (cases_eq other place) [
-  | inl here ↦ told_here here step (all other other_rule at_other)
+pub reported-one : (first : ℕ) (rules : List Rule) (begun ones outputs new_outputs : List ℕ) (place after : ℕ) (rule : Rule) → place < length ones
+    → slice_get rules place ≡ Some rule → IsReported rule (get_or ones place 0) after (first + place) outputs new_outputs
+    → AreReported first rules begun ones outputs → AreReported first rules begun (set ones place after) new_outputs
+reported-one first rules begun ones outputs new_outputs place after rule inside at step all other other_rule at_other = elim (cases_eq other place) [
+  | inl here ↦ reported_here here step (all other other_rule at_other)
   | inr apart ↦ elim (all other other_rule at_other) [
-    | inl found ↦ inl (still-told rule (get_or ones place 0) after (first + place) outputs new_outputs step (first + other) found)
+    | inl found ↦ inl (still-reported rule (get_or ones place 0) after (first + place) outputs new_outputs step (first + other) found)
     | inr same ↦ inr (same ∙ ap (target_by_rule other_rule) (sym (get_or-set_other ones place other after 0 apart)))
   ]
 ]
   where
-    told_here : other ≡ place → IsTold rule (get_or ones place 0) after (first + place) outputs new_outputs
+    reported_here : other ≡ place → IsReported rule (get_or ones place 0) after (first + place) outputs new_outputs
         → Contains outputs (first + other) ⊎ (target_by_rule other_rule (get_or begun other 0) ≡ target_by_rule other_rule (get_or ones other 0))
         → Contains new_outputs (first + other) ⊎ (target_by_rule other_rule (get_or begun other 0) ≡ target_by_rule other_rule (get_or (set ones place after) other 0))
-    told_here here (inl added) was = inl (rw (here, added) (Contains-append_right outputs ((first + place) ∷ []) (first + place) (0, omega arith, refl)))
-    told_here here (inr same) (inl found) = inl (rw same.0 found)
-    told_here here (inr same) (inr stays) =
+    reported_here here (inl added) was = inl (rw (here, added) (Contains-append_right outputs ((first + place) ∷ []) (first + place) (0, omega arith, refl)))
+    reported_here here (inr same) (inl found) = inl (rw same.0 found)
+    reported_here here (inr same) (inr stays) =
         let rule_is : rule ≡ other_rule = sym (slice_get-get rules place rule rule at) ∙ slice_get-get rules place other_rule rule (rw here at at_other) in
         inr (
         stays ∙ ap (λ (n : ℕ). target_by_rule other_rule (get_or ones n 0)) here

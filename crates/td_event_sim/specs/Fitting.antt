@@ -5,7 +5,8 @@ use Rattle.td_event_sim.specs.Queue.{AreBelow}
 use Rattle.td_event_sim.specs.Rules.{AreRules, rules_of}
 use Rattle.td_event_sim.specs.declared.state.State.{State}
 
--- there is a level, a latest change and an event for each net, and a tally with its rule for each gate; only nets wait
+-- there is a level, a latest change and an event for each net, and a tally with its rule for each
+-- gate; only nets wait
 pub record FitsCircuit (circuit : Numbered) (state : State) : Type 0 where
   pub levels : length state.logic.levels.items ≡ length (nets circuit)
   pub tallies : length state.logic.tallies.items ≡ length circuit.gates
@@ -15,7 +16,7 @@ pub record FitsCircuit (circuit : Numbered) (state : State) : Type 0 where
   pub queue : AreBelow (length (nets circuit)) state.events.queue
 
 -- there is as much as there was, and the rules are the same
-pub record HasSameRoom (old new : State) : Type 0 where
+pub record HasSameSpace (old new : State) : Type 0 where
   pub levels : length new.logic.levels.items ≡ length old.logic.levels.items
   pub rules : rules_of new.logic.tallies.items ≡ rules_of old.logic.tallies.items
   pub latest : length new.latest.items ≡ length old.latest.items

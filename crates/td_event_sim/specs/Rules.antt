@@ -43,11 +43,11 @@ AreRules gates rules = (place : ℕ) (gate : NumberedGate) (rule : Rule) → sli
     → IsRuleOf gate rule
 
 -- a gate's output is added to these, or its target by one count is that by the other
-abbrev pub IsTold : Rule → ℕ → ℕ → ℕ → List ℕ → List ℕ → Type 0
-IsTold rule before after output outputs new_outputs =
+abbrev pub IsReported : Rule → ℕ → ℕ → ℕ → List ℕ → List ℕ → Type 0
+IsReported rule before after output outputs new_outputs =
     (new_outputs ≡ outputs ++ output ∷ []) ⊎ ((new_outputs ≡ outputs) × (target_by_rule rule before ≡ target_by_rule rule after))
 
 -- the output of each gate is among these whose target by these counts isn't the one by those before
-abbrev pub AreTold : ℕ → List Rule → List ℕ → List ℕ → List ℕ → Type 0
-AreTold first_output rules ones new_ones outputs = (place : ℕ) (rule : Rule) → slice_get rules place ≡ Some rule
+abbrev pub AreReported : ℕ → List Rule → List ℕ → List ℕ → List ℕ → Type 0
+AreReported first_output rules ones new_ones outputs = (place : ℕ) (rule : Rule) → slice_get rules place ≡ Some rule
     → Contains outputs (first_output + place) ⊎ (target_by_rule rule (slice_index ones place) ≡ target_by_rule rule (slice_index new_ones place))

@@ -19,8 +19,8 @@ wave_at waves net = slice_index_or waves net (constant X)
 abbrev pub gate_before : List Wave → NumberedGate → ℕ → GateState
 gate_before waves gate t = state_before gate.kind gate.delay (waves_of waves gate.inputs) t
 
--- A run of a circuit by the numbers of its nets, with a level and an event of each net before each moment, as far as the simulator
--- needs it.
+-- A run of a circuit by the numbers of its nets, with a level and an event of each net before each
+-- moment, as far as the simulator needs it.
 pub record IsRunBy (circuit : Numbered) (waves : List Wave) (states : ℕ → ℕ → GateState) : Type 0 where
   pub count : length (nets circuit) ≡ first_output circuit + length circuit.gates
   pub levels : (net t : ℕ) → net < length (nets circuit) → before (wave_at waves net) t ≡ (states net t).level

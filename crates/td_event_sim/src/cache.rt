@@ -1,4 +1,5 @@
-//! The delays of pairs that were measured before. One side of each split of a search stands for the pair of the whole.
+//! The delays of pairs that were measured before. One side of each split of a search stands for the
+//! pair of the whole.
 
 ghost use Rattle.std.specs.Prelude.{◌≡◌, ◌≢◌, ℕ, ◌<◌, true, false, None, Some, length, set, slice_get, IfOk, IfSome};
 ghost use Rattle.std.specs.List.{All};
@@ -27,7 +28,8 @@ impl Model for Entry {
     ghost view = { λ entry. record { first = entry.first.items; second = entry.second.items; delay = entry.delay } };
 }
 
-/// The delays of some pairs. Each pair has one place, which it shares with others: there the one that was put last is held.
+/// The delays of some pairs. Each pair has one place, which it shares with others: there the one
+/// that was put last is held.
 #[derive(Drop)]
 pub struct Cache {
     entries: Vec<Entry>,

@@ -4,7 +4,7 @@ ghost use Rattle.std.specs.Prelude.{◌≡◌, ℕ, ◌+◌, ◌-◌, ◌<◌, �
 ghost use Rattle.std.specs.List.{All};
 ghost use Rattle.td_event_sim.specs.Bits.{bit_at};
 ghost use Rattle.td_event_sim.specs.Counting.{AreRecounted, recounted};
-ghost use Rattle.td_event_sim.specs.Rules.{AreTold, IsTold, ones_of, rules_of};
+ghost use Rattle.td_event_sim.specs.Rules.{AreReported, IsReported, ones_of, rules_of};
 ghost use Rattle.td_event_sim.specs.Scratch.{AreNets};
 
 use crate::rules::{Rule, Tally};
@@ -46,7 +46,7 @@ fn tell(
     before: u32,
     after: u32,
 ) -> Result<(), AllocError>
-    ensures told { OnOk result (IsTold rule.now before after output turned.old.items turned.new.items) }
+    ensures reported { OnOk result (IsReported rule.now before after output turned.old.items turned.new.items) }
     ensures outputs { (first end : ℕ) → first ≤ output → output < end → AreNets first end turned.old.items → AreNets first end turned.new.items }
 {
     if rule.may_turn(before, after) {
@@ -55,7 +55,8 @@ fn tell(
     Ok(())
 }
 
-/// Counts a net that rose, or fell, for the gates that read it, and adds the outputs of those whose target may turn.
+/// Counts a net that rose, or fell, for the gates that read it, and adds the outputs of those whose
+/// target may turn.
 pub fn recount(
     tallies: &mut [Tally],
     turned: &mut Vec<u32>,
@@ -66,8 +67,8 @@ pub fn recount(
     requires { AreNets first_output (first_output + length tallies.old) readers.now }
     ensures counts { OnOk result (AreRecounted first_output readers.now rises (ones_of tallies.old) (ones_of tallies.new)) }
     ensures rules { rules_of tallies.new ≡ rules_of tallies.old }
-    ensures told { (begun : List ℕ) → AreTold first_output (rules_of tallies.old) begun (ones_of tallies.old) turned.old.items
-        → OnOk result (AreTold first_output (rules_of tallies.old) begun (ones_of tallies.new) turned.new.items) }
+    ensures reported { (begun : List ℕ) → AreReported first_output (rules_of tallies.old) begun (ones_of tallies.old) turned.old.items
+        → OnOk result (AreReported first_output (rules_of tallies.old) begun (ones_of tallies.new) turned.new.items) }
     ensures outputs { AreNets first_output (first_output + length tallies.old) turned.old.items
         → AreNets first_output (first_output + length tallies.old) turned.new.items }
 {

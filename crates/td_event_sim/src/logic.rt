@@ -5,7 +5,7 @@ ghost use Rattle.std.specs.List.{All};
 ghost use Rattle.td_circuit.specs.Numbering.{nets};
 ghost use Rattle.td_event_sim.specs.Bits.{bit_at};
 ghost use Rattle.td_event_sim.specs.Counting.{AreCounted, StayCounted};
-ghost use Rattle.td_event_sim.specs.Rules.{AreRules, AreTold, ones_of, rules_of};
+ghost use Rattle.td_event_sim.specs.Rules.{AreRules, AreReported, ones_of, rules_of};
 ghost use Rattle.td_event_sim.specs.Scratch.{AreNets};
 ghost use Rattle.td_event_sim.specs.Settling.{AreFirst, AreSettled};
 
@@ -68,7 +68,8 @@ impl Logic {
         Ok(Logic { levels, tallies })
     }
 
-    /// Turns the level of a net, counts it for the gates that read it, and adds the outputs of those whose target may turn.
+    /// Turns the level of a net, counts it for the gates that read it, and adds the outputs of
+    /// those whose target may turn.
     pub fn turn(
         &mut self,
         turned: &mut Vec<u32>,
@@ -83,8 +84,8 @@ impl Logic {
         ensures counted { OnOk result (StayCounted first_output (map (λ outputs. outputs.items) readers.now) self.old.levels.items self.new.levels.items
             (ones_of self.old.tallies.items) (ones_of self.new.tallies.items)) }
         ensures rules { rules_of self.new.tallies.items ≡ rules_of self.old.tallies.items }
-        ensures told { (begun : List ℕ) → AreTold first_output (rules_of self.old.tallies.items) begun (ones_of self.old.tallies.items) turned.old.items
-            → OnOk result (AreTold first_output (rules_of self.old.tallies.items) begun (ones_of self.new.tallies.items) turned.new.items) }
+        ensures reported { (begun : List ℕ) → AreReported first_output (rules_of self.old.tallies.items) begun (ones_of self.old.tallies.items) turned.old.items
+            → OnOk result (AreReported first_output (rules_of self.old.tallies.items) begun (ones_of self.new.tallies.items) turned.new.items) }
         ensures outputs { AreNets first_output (first_output + length self.old.tallies.items) turned.old.items
             → AreNets first_output (first_output + length self.old.tallies.items) turned.new.items }
     {

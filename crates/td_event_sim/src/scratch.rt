@@ -27,9 +27,9 @@ pub struct Scratch {
 
 impl Model for Scratch {
     ghost use Rattle.std.specs.Prelude.{map};
-    ghost use Rattle.td_event_sim.specs.Scratch.{Room};
+    ghost use Rattle.td_event_sim.specs.Scratch.{Space};
 
-    ghost Value = { Room };
+    ghost Value = { Space };
 
     ghost view = { λ inside. record {
       readers = map (λ outputs. outputs.items) inside.readers.items;
@@ -65,9 +65,9 @@ impl Scratch {
     }
 }
 
-/// The delay of a pair of vectors: the latest moment at which an output changes, 0 where none does. It takes time in the number of
-/// events, which may double from gate to gate, and memory in the size of the circuit. The error is out of memory, and the scratch may be
-/// used again.
+/// The delay of a pair of vectors: the latest moment at which an output changes, 0 where none does.
+/// It takes time in the number of events, which may double from gate to gate, and memory in the
+/// size of the circuit. The error is out of memory, and the scratch may be used again.
 pub fn delay_of(scratch: &mut Scratch, circuit: &Circuit, pair: &Pair) -> Result<u64, AllocError>
     requires scratch { IsFor circuit.now scratch.old }
     requires first_fits { length pair.now.first ≡ length circuit.now.netlist.inputs }

@@ -1,4 +1,5 @@
-//! The simulation of a pair: events take place moment by moment, and after each the gates whose target may have turned are evaluated.
+//! The simulation of a pair: events take place moment by moment, and after each the gates whose
+//! target may have turned are evaluated.
 
 ghost use Rattle.std.specs.Prelude.{◌≡◌, ℕ, ◌+◌, ◌-◌, ◌^◌, ◌<◌, ◌≤◌, List, length, map, slice_index, OnOk, IfOk};
 ghost use Rattle.std.specs.List.{All};
@@ -8,13 +9,13 @@ ghost use Rattle.td_circuit.specs.Numbering.{nets, first_output as first_output_
 ghost use Rattle.td_event_sim.specs.Cached.{IsTheDelay};
 ghost use Rattle.td_event_sim.specs.Counting.{AreCounted, StayCounted};
 ghost use Rattle.td_event_sim.specs.Earliest.{IsFrom};
-ghost use Rattle.td_event_sim.specs.Fitting.{FitsCircuit, HasSameRoom};
+ghost use Rattle.td_event_sim.specs.Fitting.{FitsCircuit, HasSameSpace};
 ghost use Rattle.td_event_sim.specs.Latest.{greatest_at};
 ghost use Rattle.td_event_sim.specs.Moment.{AreWaiting, AreWaitingBut, AreUpdated};
 ghost use Rattle.td_event_sim.specs.Passing.{IsPassed};
 ghost use Rattle.td_event_sim.specs.Queue.{Waits, AreBelow};
 ghost use Rattle.td_event_sim.specs.Reached.{HasReached};
-ghost use Rattle.td_event_sim.specs.Rules.{AreTold, ones_of, rules_of};
+ghost use Rattle.td_event_sim.specs.Rules.{AreReported, ones_of, rules_of};
 ghost use Rattle.td_event_sim.specs.Scratch.{AreNets, AreReadersOf};
 ghost use Rattle.td_event_sim.specs.State.{IsRunBy, IsStateBefore};
 
@@ -93,7 +94,8 @@ impl State {
         Ok(())
     }
 
-    /// The event of a net takes place where it is due, and the net waits on where it has a later one.
+    /// The event of a net takes place where it is due, and the net waits on where it has a later
+    /// one.
     fn pass(
         &mut self,
         turned: &mut Vec<u32>,
@@ -113,9 +115,9 @@ impl State {
         ensures passed { OnOk result (IsPassed moment net self.old self.new) }
         ensures counted { OnOk result (StayCounted first_output (map (λ outputs. outputs.items) readers.now) self.old.logic.levels.items self.new.logic.levels.items
             (ones_of self.old.logic.tallies.items) (ones_of self.new.logic.tallies.items)) }
-        ensures room { HasSameRoom self.old self.new }
-        ensures told { (begun : List ℕ) → AreTold first_output (rules_of self.old.logic.tallies.items) begun (ones_of self.old.logic.tallies.items) turned.old.items
-            → OnOk result (AreTold first_output (rules_of self.old.logic.tallies.items) begun (ones_of self.new.logic.tallies.items) turned.new.items) }
+        ensures space { HasSameSpace self.old self.new }
+        ensures reported { (begun : List ℕ) → AreReported first_output (rules_of self.old.logic.tallies.items) begun (ones_of self.old.logic.tallies.items) turned.old.items
+            → OnOk result (AreReported first_output (rules_of self.old.logic.tallies.items) begun (ones_of self.new.logic.tallies.items) turned.new.items) }
         ensures outputs { AreNets first_output (first_output + length self.old.logic.tallies.items) turned.old.items
             → AreNets first_output (first_output + length self.old.logic.tallies.items) turned.new.items }
         ensures from { IsFrom (moment + 1) self.new.events.queue.firsts }
@@ -159,8 +161,8 @@ impl State {
             self.old.latest.items self.new.latest.items) }
         ensures counted { OnOk result (StayCounted first_output (map (λ outputs. outputs.items) readers.now) self.old.logic.levels.items self.new.logic.levels.items
             (ones_of self.old.logic.tallies.items) (ones_of self.new.logic.tallies.items)) }
-        ensures room { HasSameRoom self.old self.new }
-        ensures told { OnOk result (AreTold first_output (rules_of self.old.logic.tallies.items) (ones_of self.old.logic.tallies.items) (ones_of self.new.logic.tallies.items) turned.new.items) }
+        ensures space { HasSameSpace self.old self.new }
+        ensures reported { OnOk result (AreReported first_output (rules_of self.old.logic.tallies.items) (ones_of self.old.logic.tallies.items) (ones_of self.new.logic.tallies.items) turned.new.items) }
         ensures outputs { OnOk result (AreNets first_output (first_output + length self.old.logic.tallies.items) turned.new.items) }
         ensures waiting { OnOk result (AreWaiting self.new.events.queue self.new.events.whens.items) }
         ensures from { IsFrom (moment + 1) self.new.events.queue.firsts }
@@ -226,7 +228,8 @@ impl State {
         ensures delay { IfOk result (IsTheDelay circuit.now pair.now.first pair.now.second) }
         ensures fits { FitsCircuit circuit.now self.new }
     {
-        // For the prover: these calls say that the gates are in order, and that each input has a moment.
+        // For the prover: these calls say that the gates are in order, and that each input has a
+        // moment.
         let _gates = circuit.gates();
         let _moments = circuit.moments();
         self.start(circuit, pair)?;

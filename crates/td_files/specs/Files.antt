@@ -4,8 +4,9 @@ use Rattle.td_text.specs.Output.{Output, Sent, SentFront, one_more}
 use Rattle.td_certificate.specs.declared.fault.WriteFault.{WriteFault}
 use Rattle.td_certificate.specs.declared.fault.WriteFault.TheVariants as unwritten
 
--- A new file was begun for a name, with a writer of its own, and what has the name stayed as it was. The writing ended: what the
--- writer took is the file of this name now, in place of the one that had it.
+-- A new file was begun for a name, with a writer of its own, and what has the name stayed as it
+-- was. The writing ended: what the writer took is the file of this name now, in place of the one
+-- that had it.
 pub data FileStep : Type 0 where
   Made : (name : List ℕ) (begun : Output) → FileStep
   Ended : (name : List ℕ) (output : Output) → FileStep
@@ -38,7 +39,8 @@ pub record HasBeginning (begun ended : Output) (text : List ℕ) (fault : WriteF
   pub front : SentFront begun ended text
   pub failed : fault ≡ unwritten.Device → ended.failures ≡ one_more begun.failures
 
--- the file was begun, its writer took a beginning of the text and no more, and nothing was put under the name
+-- the file was begun, its writer took a beginning of the text and no more, and nothing was put
+-- under the name
 pub record IsBroken (file : FileText) (fault : WriteFault) (steps : List FileStep) : Type 0 where
   pub begun : Output
   pub ended : Output
@@ -49,8 +51,8 @@ pub record IsBroken (file : FileText) (fault : WriteFault) (steps : List FileSte
 abbrev pub MayBreak : Type 0 → WriteFault → Type 0
 MayBreak breaks fault = fault ≡ unwritten.Device → breaks
 
--- A file was not written, and what has its name is as it was: it was not begun, or it couldn't be put under its name, or its
--- writer took a beginning of the text alone.
+-- A file was not written, and what has its name is as it was: it was not begun, or it couldn't be
+-- put under its name, or its writer took a beginning of the text alone.
 abbrev pub IsLeft : Type 0 → FileText → WriteFault → List FileStep → Type 0
 IsLeft breaks file fault steps =
     (MayBreak breaks fault × ((steps ≡ []) ⊎ ((begun : Output) × (steps ≡ Made file.name begun ∷ [])))) ⊎ IsBroken file fault steps

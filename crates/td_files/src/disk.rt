@@ -62,15 +62,16 @@ pub trait Files {
         ensures answer { is_one self.old one.now other.now result }
         ensures stays { self.new ≡ self.old };
 
-    /// A writer of a new file for this name. What has the name stays as it is until the writing is closed.
+    /// A writer of a new file for this name. What has the name stays as it is until the writing is
+    /// closed.
     fn create(&mut self, alloc: Global, name: &str) -> Result<Self::Writer, WriteFault>
         ensures made { IfOk result (λ writer. did self.old self.new (Made name.now (Self.Writer.output writer) ∷ [])) }
         ensures devices { (other : List ℕ) → breaks self.new other → breaks self.old other }
         ensures fault { IfErr result (λ fault. fault ≡ Unwritten.Device → breaks self.old name.now) }
         ensures stays { OnErr result (did self.old self.new []) };
 
-    /// Ends the writing of a file: what its writer took is the file of this name now, in place of the one that had it. Where
-    /// that fails, the name is as it was.
+    /// Ends the writing of a file: what its writer took is the file of this name now, in place of
+    /// the one that had it. Where that fails, the name is as it was.
     fn close(&mut self, alloc: Global, name: &str, writer: Self::Writer) -> Result<(), WriteFault>
         ensures ended { OnOk result (did self.old self.new (Ended name.now (Self.Writer.output writer) ∷ [])) }
         ensures devices { (other : List ℕ) → breaks self.new other → breaks self.old other }

@@ -1,7 +1,8 @@
-//! The files and streams that a program reads and writes: what is promised of any (`Files`), files in memory, and those of the system.
+//! The files and streams that a program reads and writes: what is promised of any (`Files`), files
+//! in memory, and those of the system.
 //!
-//! Of the system's own files and streams no contract can say what they give and take: `real_files` and `writer` are where trust in the
-//! operating system begins, and are short enough to be read.
+//! Of the system's own files and streams no contract can say what they give and take: `real_files`
+//! and `writer` are where trust in the operating system begins, and are short enough to be read.
 #![tactic(auto)]
 
 mod disk;

@@ -32,8 +32,9 @@ struct Place {
     target: String,
 }
 
-/// A writer of a file of the system. A file is written beside the one whose place it takes; what isn't a file, as a device or a
-/// pipe, is written as it is, and so is standard output, whose name is `-`.
+/// A writer of a file of the system. A file is written beside the one whose place it takes; what
+/// isn't a file, as a device or a pipe, is written as it is, and so is standard output, whose name
+/// is `-`.
 #[derive(Drop)]
 pub enum RealWriter<F, P> {
     File(RealFile<F>),
@@ -212,8 +213,8 @@ fn write_fault_of(error: io::Error) -> WriteFault
 impl<'r, R: rt::Files + Input + Print + AllocGlobal> Files for RealFiles<'r, R> {
     ghost use Rattle.std.specs.Prelude.{⊤};
 
-    /// Of the system's files nothing is known: what a name holds, which devices fail, which names are of one file, and what was
-    /// done to them.
+    /// Of the system's files nothing is known: what a name holds, which devices fail, which names
+    /// are of one file, and what was done to them.
     ghost holds = { λ _ _ _. ⊤ };
 
     ghost fails = { λ _ _. ⊤ };

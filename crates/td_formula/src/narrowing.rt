@@ -37,8 +37,8 @@ impl Formula {
         }
     }
 
-    /// Takes the sets of the gate that drives a net again, by those of its inputs. Answers what went
-    /// out of them. The error is out of memory.
+    /// Takes the sets of the gate that drives a net again, by those of its inputs. Answers what
+    /// went out of them. The error is out of memory.
     pub fn again(&mut self, circuit: &Circuit, net: u32) -> Result<Vec<Removed>, AllocError> {
         let mut removed = Vec::new(self.alloc);
         let Some(place) = (net as usize).checked_sub(self.first_output) else {

@@ -8,8 +8,8 @@ use std::alloc::{AllocError, Global};
 use td_domain::controlling_level;
 use td_gates::{Kind, Level, eval};
 
-/// Up to how many inputs all rows of a gate are named at once, where it has a controlling level, and
-/// where it has none. The rows of a wider gate are named as models break them.
+/// Up to how many inputs all rows of a gate are named at once, where it has a controlling level,
+/// and where it has none. The rows of a wider gate are named as models break them.
 const MOST_CONTROLLED: usize = 64;
 
 const MOST_OTHERS: usize = 8;

@@ -38,7 +38,8 @@ leaving_advice way.Directive = codes "run a preprocessor first"
 leaving_advice way.Attribute = codes "remove it"
 leaving_advice way.Other = codes "remove it, or synthesise it: see docs/FROM-RTL.md"
 
--- The text says what is wrong. Of a token at which a text leaves the subset it is one of the sentences for that; which one is tested.
+-- The text says what is wrong. Of a token at which a text leaves the subset it is one of the
+-- sentences for that; which one is tested.
 abbrev pub IsSentence : FaultKind → List ℕ → Type 0
 IsSentence kind.OutOfMemory text = text ≡ codes "memory ran out"
 IsSentence kind.BadByte text = text ≡ codes "a byte that no word may hold: a control character, or a letter that isn't ASCII"

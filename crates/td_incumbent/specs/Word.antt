@@ -5,9 +5,9 @@ use lib.ListN.{get_elem?}
 use Rattle.atomic_table.specs.Table.{State, Me, Step}
 use Rattle.td_incumbent.specs.declared.view.View.{View}
 
--- A view that stands for no seat is spent.
--- The word is at least what each view has seen and offered, and it is 0 or the offer of an unspent view.
--- A view stands for seats below `seats`, and no two stand for the same one.
+-- A view that stands for no seat is spent. The word is at least what each view has seen and
+-- offered, and it is 0 or the offer of an unspent view. A view stands for seats below `seats`, and
+-- no two stand for the same one.
 pub record IsGreatest (seats word : ℕ) (views : List View) : Type 0 where
   pub above : (i : ℕ) (v : View) → get_elem? views i ≡ some v → (v.seen ≤ word) × (v.offer ≤ word)
   pub offered : (word ≡ 0) ⊎ ((i : ℕ) × (v : View) × (get_elem? views i ≡ some v) × (v.seats ≢ []) × (v.offer ≡ word))

@@ -71,8 +71,8 @@ impl Incumbent {
         self.table.shared.load::<Look>(&mut seat.seat, 0)
     }
 
-    /// The word becomes the greater of itself and the offer.
-    /// The answer is the word afterwards, at least the offer and what this seat, one of this incumbent, has seen.
+    /// The word becomes the greater of itself and the offer. The answer is the word afterwards, at
+    /// least the offer and what this seat, one of this incumbent, has seen.
     pub fn raise(&self, seat: &mut Seat, offer: u64) -> u64
         requires { seat.old.table ≡ self.now.table }
         ensures seen { seat.old.seen ≤ result }
@@ -93,7 +93,8 @@ impl Incumbent {
             .fetch_max::<Raise>(&mut seat.seat, 0, offer)
     }
 
-    /// The first seat, which from now on stands for the second too, with the greater of their offers. Both are of this incumbent.
+    /// The first seat, which from now on stands for the second too, with the greater of their
+    /// offers. Both are of this incumbent.
     pub fn join(&self, first: Seat, second: Seat) -> Seat
         requires first { first.table ≡ self.now.table }
         requires second { second.table ≡ self.now.table }

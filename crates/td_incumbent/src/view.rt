@@ -12,7 +12,8 @@ pub struct View {
     pub seats: LinkedList<u64>,
 }
 
-/// The rule of the word, which holds between any two steps: it is the greatest offer, 0 without one.
+/// The rule of the word, which holds between any two steps: it is the greatest offer, 0 without
+/// one.
 pub struct Greatest;
 
 impl TableRule<u8, View, u64> for Greatest {
@@ -52,7 +53,8 @@ impl Split<View> for Deal {
     ghost right = { dealt_view };
 }
 
-/// Puts what a second view has seen, offered and stands for to a first, and leaves the second spent.
+/// Puts what a second view has seen, offered and stands for to a first, and leaves the second
+/// spent.
 pub struct Both;
 
 impl Join<View> for Both {

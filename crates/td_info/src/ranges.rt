@@ -14,7 +14,8 @@ pub struct Range {
     pub greatest: u32,
 }
 
-/// The least and the greatest delay of the circuit's gates, to 1 or to 0, in steps. There is none where there are no gates.
+/// The least and the greatest delay of the circuit's gates, to 1 or to 0, in steps. There is none
+/// where there are no gates.
 pub fn range_of(circuit: &Circuit) -> Option<Range>
     ensures { HasRange circuit.now.netlist result }
 {

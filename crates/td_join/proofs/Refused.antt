@@ -1,4 +1,5 @@
--- Where all pairs are admitted, no certificate is accepted that has a leaf without an admitted pair.
+-- Where all pairs are admitted, no certificate is accepted that has a leaf without an admitted
+-- pair.
 use Rattle.std.proofs.Common.{◌≡◌, ◌*◌, ℕ, Bool, true, false, List, [], ◌∷◌, length, set, refl, sym, ap, subst, ◌∙◌, arith}
 use Rattle.std.specs.Prelude.{◌==◌, ◌&&◌, ◌||◌}
 use Rattle.std.specs.List.{AllByRecursion, list_all}

@@ -1,4 +1,5 @@
--- Certificates that can be joined can be halved at each position that is free in the cube and known in all of them.
+-- Certificates that can be joined can be halved at each position that is free in the cube and known
+-- in all of them.
 use Rattle.std.proofs.Common.{◌≡◌, ◌≢◌, ℕ, Bool, true, List, [], ◌∷◌, ◌++◌, set, Some, Option, refl, sym, ap, subst, ◌∙◌, arith, inl, inr}
 use Rattle.std.specs.Prelude.{slice_get, filter}
 use Rattle.std.proofs.lemmas.Bool.{cases_order}

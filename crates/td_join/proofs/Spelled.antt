@@ -166,7 +166,7 @@ pub spelled_together : (certificates : List Certificate) (pins : List Trit) (who
     → length whole.question.admit.pins ≡ 2 * inputs_of whole.question
     → (version_of whole.question ≡ First → All (λ c. has_none c.tree ≡ false) certificates) → IsTree whole.tree
     → All HasSpelling certificates → HasSpelling whole
-spelled_together certificates pins whole joined fits told tree all =
+spelled_together certificates pins whole joined fits reported tree all =
     let from : Certificate = joined.pair.certificate in
     let alike = All-contains (IsAlike whole) certificates from joined.alike joined.pair.among in
     let given = All-contains HasSpelling certificates from all joined.pair.among in
@@ -188,7 +188,7 @@ spelled_together certificates pins whole joined fits told tree all =
           (λ other long none first. none (each_has whole.question.admit other (all_admitted whole.question (asked first)) fits long))
           (All-from_contains (λ c. AllByRecursion (IsNode (version_in whole)) c.tree) certificates (λ c has.
           nodes_in (version_in c) (version_in whole) c.tree
-          (λ first. All-contains (λ d. has_none d.tree ≡ false) certificates c (told (asked first)) has)
+          (λ first. All-contains (λ d. has_none d.tree ≡ false) certificates c (reported (asked first)) has)
           (All-contains HasSpelling certificates c all has).nodes))
           joined.tree;
       tree = tree;

@@ -241,8 +241,8 @@ module _ (certificates : List Certificate) (admit : Admitted) where
   in_no_part [] c e has = absurd (omega (arith, has.1))
   in_no_part (p ∷ parts) c e has = absurd cc
 
-  pub tree_fault : (group : Group) (told : JoinFault) → IsGroup certificates admit group → IsStuck admit group.cube group.parts.items told
-      → IsTreeFault admit certificates told
+  pub tree_fault : (group : Group) (reported : JoinFault) → IsGroup certificates admit group → IsStuck admit group.cube group.parts.items reported
+      → IsTreeFault admit certificates reported
   tree_fault group fault.OutOfMemory known stuck = tt
   tree_fault group (fault.Gap gap) known stuck =
       let there = subst (λ (x : List Trit). HasAdmitted admit x) (sym stuck.0) stuck.2 in

@@ -59,32 +59,32 @@ module _ (certificates : List Certificate) (gates : ℕ) (question : Question) (
       ∙ ap (λ (x : List Trit). same_pairs c.question.admit x) joined.pins_are ∙ sym mine in
       none (whole.tree, subst (λ (a : Admitted). AreJoined a question.admit.pins certificates whole.tree) same joined.tree)
 
-  pub told : (fault : JoinFault) → IsTreeFault question.admit certificates fault → IsJoinFault certificates question.admit.pins fault
-  told fault.OutOfMemory h = tt
-  told (fault.Overlap this that) h = (h.0, unjoinable h.1)
-  told (fault.Crossed this that) h = (h.0, unjoinable h.1)
-  told (fault.Gap cube) h =
+  pub reported : (fault : JoinFault) → IsTreeFault question.admit certificates fault → IsJoinFault certificates question.admit.pins fault
+  reported fault.OutOfMemory h = tt
+  reported (fault.Overlap this that) h = (h.0, unjoinable h.1)
+  reported (fault.Crossed this that) h = (h.0, unjoinable h.1)
+  reported (fault.Gap cube) h =
       let f = first_of in
       (f.0, f.1, subst (λ (a : Admitted). IsGap a certificates cube) (of_first f.0 (slice_get-Contains certificates 0 f.0 f.1)) h)
-  told fault.NoCertificate h = absurd h
-  told (fault.OtherCircuit this that) h = absurd h
-  told (fault.OtherHold this that) h = absurd h
-  told (fault.OtherFlips this that) h = absurd h
-  told (fault.OtherMoments this that) h = absurd h
-  told (fault.Outside this) h = absurd h
-  told (fault.FalseNone this) h = absurd h
+  reported fault.NoCertificate h = absurd h
+  reported (fault.OtherCircuit this that) h = absurd h
+  reported (fault.OtherHold this that) h = absurd h
+  reported (fault.OtherFlips this that) h = absurd h
+  reported (fault.OtherMoments this that) h = absurd h
+  reported (fault.Outside this) h = absurd h
+  reported (fault.FalseNone this) h = absurd h
 
   same_question : (this that : Question) → this.admit ≡ record that.admit { pins = this.admit.pins } → this.moments ≡ that.moments
       → this ≡ with_pins that this.admit.pins
   same_question this that admit moments = rw (admit, moments) refl
 
-  pub false_none : All HasFit certificates → (told : JoinFault) → IsFalseNoneIn certificates question told → IsJoinFault certificates question.admit.pins told
-  false_none fit told h =
+  pub false_none : All HasFit certificates → (reported : JoinFault) → IsFalseNoneIn certificates question reported → IsJoinFault certificates question.admit.pins reported
+  false_none fit reported h =
       let c = h.certificate in
       let has = slice_get-Contains certificates h.place c h.at in
       let mine = All-contains (IsOfQuestion gates question) certificates c alike has in
       let first = All-contains (IsOfQuestion gates question) certificates first_of.0 alike (slice_get-Contains certificates 0 first_of.0 first_of.1) in
-      subst (λ (f : JoinFault). IsJoinFault certificates question.admit.pins f) (sym h.told_is) (record {
+      subst (λ (f : JoinFault). IsJoinFault certificates question.admit.pins f) (sym h.reported_is) (record {
         first = first_of.0;
         certificate = c;
         first_at = first_of.1;

@@ -23,8 +23,8 @@ part_of_side cube pins position bit within at part = record {
   keeps = λ k t e known. elim (order k position) [
     | same i ↦
         let here : slice_get (set cube position bit) position ≡ Some t = subst (λ (n : ℕ). slice_get (set cube position bit) n ≡ Some t) i e in
-        let told : bit ≡ t = same_trits bit t (sym (slice_get-set_same cube position bit within) ∙ here) in
-        subst (λ (n : ℕ). slice_get pins n ≡ Some t) (sym i) (subst (λ (x : Trit). slice_get pins position ≡ Some x) told at)
+        let reported : bit ≡ t = same_trits bit t (sym (slice_get-set_same cube position bit within) ∙ here) in
+        subst (λ (n : ℕ). slice_get pins n ≡ Some t) (sym i) (subst (λ (x : Trit). slice_get pins position ≡ Some x) reported at)
     | apart differ ↦ part.keeps k t (sym (slice_get-set_other cube position bit k differ) ∙ e) known
   ];
 }
@@ -109,7 +109,8 @@ pub are_within : (cube : List Trit) (parts : List Part) → All (λ c. IsInside 
 are_within cube parts all = All-from_contains (λ p. IsInside cube (pins_of p.certificate)) parts
     (λ p has. All-contains (λ c. IsInside cube (pins_of c)) (certificates_of parts) p.certificate all (has_member parts p has))
 
--- a certificate of the parts stands among those that are joined, and its pins are a part of the cube
+-- a certificate of the parts stands among those that are joined, and its pins are a part of the
+-- cube
 pub member : (certificates : List Certificate) (cube : List Trit) (parts : List Part) → All (IsPlaced certificates) parts → AreAllInside cube parts
     → (c : Certificate) → Contains (certificates_of parts) c → Contains certificates c × IsInside cube (pins_of c)
 member certificates cube parts placed all c has =

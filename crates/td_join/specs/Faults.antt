@@ -25,13 +25,13 @@ IsUnlike first other place (fault.OtherMoments this that) = (this ≡ 0) × (tha
 IsUnlike first other place fault = ⊥
 
 -- the first certificate, and another one that differs from it as the fault says
-pub record IsUnlikeIn (certificates : List Certificate) (told : JoinFault) : Type 0 where
+pub record IsUnlikeIn (certificates : List Certificate) (reported : JoinFault) : Type 0 where
   pub first : Certificate
   pub other : Certificate
   pub place : ℕ
   pub first_at : slice_get certificates 0 ≡ Some first
   pub other_at : slice_get certificates place ≡ Some other
-  pub unlike : IsUnlike first other place told
+  pub unlike : IsUnlike first other place reported
 
 -- the cube is a part of the pins: it has as many positions, and each bit that is known in them
 pub record IsInside (pins cube : List Trit) : Type 0 where
@@ -49,14 +49,15 @@ IsOutsideAt c pins place (fault.Outside this) = (this ≡ place) × IsOutside pi
 IsOutsideAt c pins place fault = ⊥
 
 -- one of the certificates is outside, as the fault says
-pub record IsOutsideIn (certificates : List Certificate) (pins : List Trit) (told : JoinFault) : Type 0 where
+pub record IsOutsideIn (certificates : List Certificate) (pins : List Trit) (reported : JoinFault) : Type 0 where
   pub certificate : Certificate
   pub place : ℕ
   pub at : slice_get certificates place ≡ Some certificate
-  pub outside : IsOutsideAt certificate pins place told
+  pub outside : IsOutsideAt certificate pins place reported
 
--- All pairs of the whole are admitted and all inputs change at moment 0, and a leaf of the certificate of this place says that no
--- admitted pair lies in its cube. So it is accepted of no netlist.
+-- All pairs of the whole are admitted and all inputs change at moment 0, and a leaf of the
+-- certificate of this place says that no admitted pair lies in its cube. So it is accepted of no
+-- netlist.
 pub record IsFalseNone (certificates : List Certificate) (pins : List Trit) (place : ℕ) : Type 0 where
   pub first : Certificate
   pub certificate : Certificate
@@ -75,8 +76,9 @@ pub record IsOverlap (certificates : List Certificate) (this that : ℕ) : Type 
   pub differ : this ≢ that
   pub shares : HasAdmitted one.question.admit (pins_of other)
 
--- The certificates at two places, other ones, are of a group of certificates whose pins are parts of one cube of the pins, and nowhere can it
--- be halved so that each of the group lies in one half. A certificate with a pair in the cube is one of the group.
+-- The certificates at two places, other ones, are of a group of certificates whose pins are parts
+-- of one cube of the pins, and nowhere can it be halved so that each of the group lies in one half.
+-- A certificate with a pair in the cube is one of the group.
 pub record IsCrossed (certificates : List Certificate) (pins : List Trit) (this that : ℕ) : Type 0 where
   pub cube : List Trit
   pub group : List Certificate
@@ -92,7 +94,8 @@ pub record IsCrossed (certificates : List Certificate) (pins : List Trit) (this 
   pub all : (c : Certificate) (pair : Pair) → Contains certificates c → IsIn pair (pins_of c) → IsIn pair cube → Contains group c
   pub uncut : (position : ℕ) → slice_get cube position ≡ Some Free → ¬ AreKnownAt position group
 
--- A cube that has certificates is halved at a position that is known in each of them, and so are its halves. One that has none is left.
+-- A cube that has certificates is halved at a position that is known in each of them, and so are
+-- its halves. One that has none is left.
 pub data IsLeftEmpty : List Trit → List Certificate → List Trit → Type 0 where
   bare : (cube : List Trit) → IsLeftEmpty cube [] cube
   in_zero : (cube left : List Trit) (certificates : List Certificate) (position : ℕ) → certificates ≢ [] → slice_get cube position ≡ Some Free
@@ -100,8 +103,8 @@ pub data IsLeftEmpty : List Trit → List Certificate → List Trit → Type 0 w
   in_one : (cube left : List Trit) (certificates : List Certificate) (position : ℕ) → certificates ≢ [] → slice_get cube position ≡ Some Free
       → AreKnownAt position certificates → IsLeftEmpty (one_side cube position) (ones position certificates) left → IsLeftEmpty cube certificates left
 
--- An admitted pair lies in this cube, which is a part of the pins that halvings leave without a certificate, and no pair of the cube lies in
--- the pins of a certificate.
+-- An admitted pair lies in this cube, which is a part of the pins that halvings leave without a
+-- certificate, and no pair of the cube lies in the pins of a certificate.
 pub record IsGap (admit : Admitted) (certificates : List Certificate) (cube : List Trit) : Type 0 where
   pub admitted : HasAdmitted admit cube
   pub fits : length cube ≡ length admit.pins

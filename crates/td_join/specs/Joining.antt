@@ -45,7 +45,8 @@ is_known (Some Zero) = true
 is_known (Some One) = true
 is_known other = false
 
--- the certificates whose pins have 0 at a position, those whose pins have 1, and whether each has one of the two
+-- the certificates whose pins have 0 at a position, those whose pins have 1, and whether each has
+-- one of the two
 abbrev pub zeros : ℕ → List Certificate → List Certificate
 zeros position certificates = filter (λ c. is_zero (slice_get (pins_of c) position)) certificates
 
@@ -55,9 +56,10 @@ ones position certificates = filter (λ c. is_one (slice_get (pins_of c) positio
 abbrev pub AreKnownAt : ℕ → List Certificate → Type 0
 AreKnownAt position certificates = All (λ c. is_known (slice_get (pins_of c) position) ≡ true) certificates
 
--- The certificates are joined to a tree of the cube. One certificate of this cube has its own tree. Where no admitted pair lies in the
--- cube, no certificate gives a leaf that says so. Where there is a certificate, a position that is free in the cube and known in each
--- gives a split over the trees of its two sides: those with 0 there are joined on the zero side, those with 1 on the one side.
+-- The certificates are joined to a tree of the cube. One certificate of this cube has its own tree.
+-- Where no admitted pair lies in the cube, no certificate gives a leaf that says so. Where there is
+-- a certificate, a position that is free in the cube and known in each gives a split over the trees
+-- of its two sides: those with 0 there are joined on the zero side, those with 1 on the one side.
 pub data AreJoined (admit : Admitted) : List Trit → List Certificate → List Node → Type 0 where
   alone : (c : Certificate) → AreJoined admit (pins_of c) (c ∷ []) c.tree
   missing : (cube : List Trit) → (¬ HasAdmitted admit cube) → AreJoined admit cube [] (node.Empty ∷ [])
@@ -80,8 +82,9 @@ pub record HasPair (certificates : List Certificate) (time : ℕ) (pair : Pair) 
   pub time_is : certificate.time ≡ time
   pub pair_is : certificate.pair ≡ pair
 
--- The certificates are joined into one with these pins. It is of the same circuit and question but for the pins, its tree is
--- theirs joined, and its time the greatest of theirs, with a pair of one that has it.
+-- The certificates are joined into one with these pins. It is of the same circuit and question but
+-- for the pins, its tree is theirs joined, and its time the greatest of theirs, with a pair of one
+-- that has it.
 pub record IsJoined (certificates : List Certificate) (pins : List Trit) (whole : Certificate) : Type 0 where
   pub alike : All (IsAlike whole) certificates
   pub pins_are : pins_of whole ≡ pins

@@ -25,9 +25,10 @@ AreAllJoined admit [] nodes = nodes ≡ []
 AreAllJoined admit (group ∷ groups) nodes =
     (front : List Node) × (tree : List Node) × AreAllJoined admit groups front × AreJoined admit group.cube (members group) tree × (nodes ≡ front ++ tree)
 
--- What is known of a group of some certificates in these pins: where all can be joined, so can it; each certificate with a pair in its
--- cube is one of it; its cube is a part of the pins, and its certificates' pins are parts of the cube; a cube that halvings leave
--- in it without a certificate is one that they leave in the pins; and its parts come in order.
+-- What is known of a group of some certificates in these pins: where all can be joined, so can it;
+-- each certificate with a pair in its cube is one of it; its cube is a part of the pins, and its
+-- certificates' pins are parts of the cube; a cube that halvings leave in it without a certificate
+-- is one that they leave in the pins; and its parts come in order.
 pub record IsGroup (certificates : List Certificate) (admit : Admitted) (group : Group) : Type 0 where
   pub joinable : IsJoinable admit admit.pins certificates → IsJoinable admit group.cube (members group)
   pub all : (c : Certificate) (pair : Pair) → Contains certificates c → IsIn pair (pins_of c) → IsIn pair group.cube → Contains (members group) c
@@ -53,8 +54,9 @@ abbrev pub weights : List Group → ℕ
 weights [] = 0
 weights (group ∷ groups) = most_nodes group.cube + weights groups
 
--- What a fault says of certificates that aren't joined in these pins: they can't be. An admitted pair lies in two of them, or no position
--- parts those of a cube; or an admitted pair lies in a cube of the pins and in no certificate's.
+-- What a fault says of certificates that aren't joined in these pins: they can't be. An admitted
+-- pair lies in two of them, or no position parts those of a cube; or an admitted pair lies in a
+-- cube of the pins and in no certificate's.
 abbrev pub IsTreeFault : Admitted → List Certificate → JoinFault → Type 0
 IsTreeFault admit certificates fault.OutOfMemory = Unit {0}
 IsTreeFault admit certificates (fault.Overlap this that) = IsOverlap certificates this that × (¬ IsJoinable admit admit.pins certificates)

@@ -102,10 +102,10 @@ IsStuck admit cube parts fault = IsClash parts fault × IsUncutIn cube parts × 
 
 -- all pairs are admitted and all inputs change at moment 0, and a leaf of the certificate that the
 -- fault names says that no admitted pair lies in its cube
-pub record IsFalseNoneIn (certificates : List Certificate) (question : Question) (told : JoinFault) : Type 0 where
+pub record IsFalseNoneIn (certificates : List Certificate) (question : Question) (reported : JoinFault) : Type 0 where
   pub certificate : Certificate
   pub place : ℕ
   pub at : slice_get certificates place ≡ Some certificate
-  pub told_is : told ≡ fault.FalseNone place
+  pub reported_is : reported ≡ fault.FalseNone place
   pub all : version_of question ≡ First
   pub none : has_none certificate.tree ≡ true

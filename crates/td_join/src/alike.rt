@@ -43,7 +43,8 @@ fn alike(first: &Certificate, place: usize, other: &Certificate) -> Result<(), J
     Ok(())
 }
 
-/// Whether all certificates are as the first one. The error says which isn't, and what it differs in.
+/// Whether all certificates are as the first one. The error says which isn't, and what it differs
+/// in.
 pub fn all_alike(first: &Certificate, certificates: &[Certificate]) -> Result<(), JoinFault>
     requires { slice_get certificates.now 0 ≡ Some first.now }
     ensures ok { OnOk result (All (IsAlike first.now) certificates.now) }

@@ -31,13 +31,15 @@ pub enum JoinFault {
     /// An admitted pair lies in the pins of both.
     #[error("a pair in both")]
     Overlap(usize, usize),
-    /// Both lie in a cube that can't be halved so that each certificate there lies in one of the halves.
+    /// Both lie in a cube that can't be halved so that each certificate there lies in one of the
+    /// halves.
     #[error("no position parts them")]
     Crossed(usize, usize),
     /// An admitted pair lies in this cube, and none that a certificate admits.
     #[error("a part is missing")]
     Gap(Cube),
-    /// All pairs are admitted and all inputs change at moment 0, and a leaf of this one says that no admitted pair lies in its cube.
+    /// All pairs are admitted and all inputs change at moment 0, and a leaf of this one says that
+    /// no admitted pair lies in its cube.
     #[error("a leaf without a pair")]
     FalseNone(usize),
 }

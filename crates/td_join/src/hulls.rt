@@ -61,7 +61,8 @@ fn is_pinned_otherwise(pinned: Trit, trit: Trit) -> bool
     }
 }
 
-/// Whether the cube isn't a part of the pins: it has another number of positions, or at one of them not the bit that is pinned.
+/// Whether the cube isn't a part of the pins: it has another number of positions, or at one of them
+/// not the bit that is pinned.
 #[tactic(auto, using(crate::proofs::Widening::outside_by_length))]
 fn is_outside(cube: &Cube, pins: &Cube) -> bool
     ensures outside { IsTrue result → IsOutside pins.now cube.now }

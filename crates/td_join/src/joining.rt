@@ -3,7 +3,7 @@
 ghost use Rattle.std.specs.Prelude.{◌≡◌, ◌<◌, ◌≤◌, List, IfOk, IfErr, All, length, slice_get, Some};
 ghost use Rattle.td_nets.specs.Netlist.{Netlist};
 ghost use Rattle.td_domain.specs.declared.cubes.Trit.{Trit};
-ghost use Rattle.td_certificate.specs.declared.certificate.Certificate.{Certificate as Told};
+ghost use Rattle.td_certificate.specs.declared.certificate.Certificate.{Certificate as Reported};
 ghost use Rattle.td_certificate.specs.Accepts.{Accepts};
 ghost use Rattle.td_certificate.specs.Spelling.{HasSpelling};
 ghost use Rattle.td_certificate.specs.Trees.{IsTree};
@@ -26,7 +26,7 @@ use td_domain::{Admit, Cube};
 fn greatest(certificates: &[Certificate]) -> usize
     requires { 0 < length certificates.now }
     ensures within { result < length certificates.now }
-    ensures greatest { (worst : Told) → slice_get certificates.now result ≡ Some worst → All (λ c. c.time ≤ worst.time) certificates.now }
+    ensures greatest { (worst : Reported) → slice_get certificates.now result ≡ Some worst → All (λ c. c.time ≤ worst.time) certificates.now }
 {
     let mut greatest = 0;
     for (place, certificate) in certificates.iter().enumerate() {
@@ -102,21 +102,21 @@ fn question_with(alloc: Global, first: &Certificate, pins: Cube) -> Result<Quest
     Ok(Question::new(Admit::new(pins, held, flips), moments))
 }
 
-/// Joins certificates of parts of one question into one certificate, whose pins are these, two for each input. What lies in the
-/// pins and in no certificate's has to be without an admitted pair.
+/// Joins certificates of parts of one question into one certificate, whose pins are these, two for
+/// each input. What lies in the pins and in no certificate's has to be without an admitted pair.
 ///
 /// # Errors
 ///
-/// One that is there of: no certificate; one that isn't as the first; one whose pins aren't a part of these; a leaf of one that
-/// says that no admitted pair lies in its cube, where all pairs are admitted; what keeps them from being joined. `OutOfMemory` where a
-/// growth was refused.
+/// One that is there of: no certificate; one that isn't as the first; one whose pins aren't a part
+/// of these; a leaf of one that says that no admitted pair lies in its cube, where all pairs are
+/// admitted; what keeps them from being joined. `OutOfMemory` where a growth was refused.
 pub fn join_in(
     alloc: Global,
     certificates: Vec<Certificate>,
     pins: &Cube,
 ) -> Result<Certificate, JoinFault>
-    // They are joined into one with these pins. Where a netlist accepts each of them, it accepts the whole, and where each has a
-    // text, the whole has one.
+    // They are joined into one with these pins. Where a netlist accepts each of them, it accepts
+    // the whole, and where each has a text, the whole has one.
     ensures joined { IfOk result (IsJoined certificates.items pins.now) }
     ensures accepted { IfOk result (λ whole. (netlist : Netlist) → All (Accepts netlist) certificates.items → Accepts netlist whole) }
     ensures spelled { IfOk result (λ whole. All HasSpelling certificates.items → HasSpelling whole) }

@@ -30,8 +30,8 @@ fn is_of_all(question: &Question) -> bool
     matches!(question.version(), Version::First)
 }
 
-/// Where all pairs are admitted and all inputs change at moment 0: whether no leaf says that no admitted pair lies in its cube. The
-/// error says whose does.
+/// Where all pairs are admitted and all inputs change at moment 0: whether no leaf says that no
+/// admitted pair lies in its cube. The error says whose does.
 pub fn without_false_none(
     question: &Question,
     certificates: &[Certificate],

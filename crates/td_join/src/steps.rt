@@ -84,7 +84,8 @@ fn only_tree(alloc: Global, group: Group) -> Step
     }
 }
 
-/// What becomes of a group. Groups without a part are closed where no admitted pair lies in the cube.
+/// What becomes of a group. Groups without a part are closed where no admitted pair lies in the
+/// cube.
 ///
 /// The error is out of memory, or why the group can't be joined.
 pub fn step_of(alloc: Global, admit: &Admit, group: Group) -> Result<Step, JoinFault>

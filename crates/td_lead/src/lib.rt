@@ -1,8 +1,8 @@
 //! Pairs with their delays, and the position at which a cube is split.
 #![tactic(auto)]
 
-mod fan;
+mod fan_in;
 mod timed;
 
-pub use fan::Fan;
+pub use fan_in::FanIn;
 pub use timed::Timed;

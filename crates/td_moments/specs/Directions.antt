@@ -34,7 +34,8 @@ reversed to = record { falls = to.rises; rises = to.falls }
 abbrev pub both_ways : Directions → Directions
 both_ways to = record { falls = to.falls || to.rises; rises = to.falls || to.rises }
 
--- How a gate's target may change where an input may change so: a gate that negates changes to the other level, and a parity to either.
+-- How a gate's target may change where an input may change so: a gate that negates changes to the
+-- other level, and a parity to either.
 abbrev pub turned : Kind → Directions → Directions
 turned And to = to
 turned Or to = to

@@ -22,8 +22,8 @@ found (possible ∷ list) t = if possible.moment == t then either possible.to (f
 abbrev pub may_change : List Possible → ℕ → Bool → Bool
 may_change list t level = may (found list t) level
 
--- Levels by place, place n just before moment n: a change at moment t leads from place t to place t + 1.
--- The list covers them if each change stands in it.
+-- Levels by place, place n just before moment n: a change at moment t leads from place t to place t
+-- + 1. The list covers them if each change stands in it.
 abbrev pub Covers : List Possible → (ℕ → Bool) → Type 0
 Covers list levels = (t : ℕ) → levels (suc t) ≢ levels t → may_change list t (levels (suc t)) ≡ true
 

@@ -81,7 +81,8 @@ impl Changes {
         Ok(Changes { list })
     }
 
-    /// What is left of an output's changes where this is how its target may change. The error is out of memory.
+    /// What is left of an output's changes where this is how its target may change. The error is
+    /// out of memory.
     pub fn kept_behind(
         &self,
         alloc: Global,
@@ -109,7 +110,8 @@ impl Changes {
         &self.list
     }
 
-    /// The number of the latest moment below a place at which a change is possible still, 0 where there is none. The first moment has the number 1.
+    /// The number of the latest moment below a place at which a change is possible still, 0 where
+    /// there is none. The first moment has the number 1.
     pub fn number_at(&self, place: u64) -> usize
         ensures number { result ≡ number_at self.now place }
         ensures within { result ≤ length self.now }

@@ -49,7 +49,8 @@ pub fn found(list: &[Possible], moment: u64) -> Directions
     }
 }
 
-/// The number of the latest of the first moments at which a change is possible still, 0 where none is. The first moment has the number 1.
+/// The number of the latest of the first moments at which a change is possible still, 0 where none
+/// is. The first moment has the number 1.
 fn latest(list: &[Possible], count: usize) -> usize
     requires { count ≤ length list.now }
     ensures number { result ≡ latest list.now count }
@@ -65,7 +66,8 @@ fn latest(list: &[Possible], count: usize) -> usize
     0
 }
 
-/// The number of the latest moment below a place at which a change is possible still, 0 where there is none.
+/// The number of the latest moment below a place at which a change is possible still, 0 where there
+/// is none.
 pub fn number_at(list: &[Possible], place: u64) -> usize
     requires { IsInOrder list.now }
     ensures number { result ≡ number_at list.now place }

@@ -114,7 +114,8 @@ fn delayed_found(target: &[Possible], delay: Delay, moment: u64) -> Directions
     }
 }
 
-/// What is left of an output's possible changes where its target may change so. The error is out of memory.
+/// What is left of an output's possible changes where its target may change so. The error is out of
+/// memory.
 pub fn kept_behind(
     alloc: Global,
     list: &[Possible],

@@ -1,4 +1,5 @@
--- What the checks of declarations say: of the port list, of each declaration, of the ports by direction.
+-- What the checks of declarations say: of the port list, of each declaration, of the ports by
+-- direction.
 use Rattle.std.proofs.Common.{◌≡◌, ℕ, Bool, true, false, cond, List, [], ◌∷◌, ◌++◌, map, filter, Option, None, Some, Ok, Err, refl, sym, ap, subst, ◌∙◌, inl, inr}
 use Rattle.std.specs.Prelude.{is_some, find}
 use Rattle.std.specs.List.{Contains, sum_by}

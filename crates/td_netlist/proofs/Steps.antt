@@ -1,4 +1,5 @@
--- A walk of checks through a list: what it keeps, where it stops, and a walk through lists in lists.
+-- A walk of checks through a list: what it keeps, where it stops, and a walk through lists in
+-- lists.
 use Rattle.std.proofs.Common.{◌≡◌, List, [], ◌∷◌, ◌++◌, map, Option, None, Some, Result, Ok, Err, refl, sym, ap, subst, ◌∙◌, append_assoc, ◌⊎◌, inl, inr, ℕ}
 use Rattle.std.specs.List.{flat_map, AllByRecursion}
 use Rattle.std.proofs.lemmas.List.{append-nil}

@@ -1,5 +1,5 @@
--- Which fault of names is reported: the checks of a module in the order of its text, with the first fault. What a text means
--- doesn't rest on them.
+-- Which fault of names is reported: the checks of a module in the order of its text, with the first
+-- fault. What a text means doesn't rest on them.
 use Rattle.std.specs.Prelude.{ℕ, ◌+◌, List, [], ◌∷◌, ◌++◌, map, find, Option, None, Some, is_some, Bool, true, false, not, ◌&&◌, ◌==◌, nat_lt, Result, Ok, Err, if◌then◌else◌}
 use Rattle.std.specs.List.{sum_by}
 use Rattle.std.specs.Str.{bytes_eq}

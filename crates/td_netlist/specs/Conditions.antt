@@ -1,4 +1,5 @@
--- Internal: the conditions on the names of a module as the checks keep them, in place of the nets and drivers of the netlist.
+-- Internal: the conditions on the names of a module as the checks keep them, in place of the nets
+-- and drivers of the netlist.
 use Rattle.std.specs.Prelude.{◌≤◌}
 use Rattle.std.specs.List.{Contains}
 use Rattle.td_syntax.specs.Grammar as grammar

@@ -8,8 +8,8 @@ use Rattle.td_nets.specs.Netlist.{Name, Netlist}
 use Rattle.td_nets.specs.WellFormed.{IsDistinct, IsWellFormed}
 use Rattle.td_netlist.specs.Module.{names_of, Declared, declarations, declared_names, is_direction, is_wire, ports, range_in, nets_named, Source, Joins, source_of, terminals_in, netlist_in}
 
--- Each port is listed once and has one direction, no other name has one, no name is a wire twice, and what is declared
--- twice has one range.
+-- Each port is listed once and has one direction, no other name has one, no name is a wire twice,
+-- and what is declared twice has one range.
 pub record AreDeclared (m : grammar.Module) : Type 0 where
   pub listed_once : IsDistinct (names_of (ports m))
   pub directed_once : IsDistinct (names_of (declared_names is_direction m))
@@ -34,8 +34,9 @@ pub record HasFewNets (m : grammar.Module) : Type 0 where
   pub declared : (d : Declared) → Contains (declarations m) d → (net : Name) → Contains (nets_named m d.name) net → Contains nets net
   pub plain : (n : grammar.Name) → Contains (terminals_in m) (grammar.Whole n) → (net : Name) → Contains (nets_named m n) net → Contains nets net
 
--- The text, with this delay for gates that state none, means the netlist: a syntax tree spells the text's tokens, its
--- names are declared and joined to nets, and the netlist that it lists is well-formed.
+-- The text, with this delay for gates that state none, means the netlist: a syntax tree spells the
+-- text's tokens, its names are declared and joined to nets, and the netlist that it lists is
+-- well-formed.
 pub record Means (text : List ℕ) (default : Delay) (netlist : Netlist) : Type 0 where
   pub tree : grammar.Module
   pub parses : Parses text tree

@@ -163,8 +163,8 @@ inputs_of p = drop (output_count p.kind (length p.terminals)) p.terminals
 abbrev pub terminals_in : grammar.Module → List grammar.Terminal
 terminals_in m = flat_map (λ p. p.terminals) (primitives m)
 
--- The delay in steps that is stated, or the default. One value serves for both changes, and of two the first is the rise
--- delay.
+-- The delay in steps that is stated, or the default. One value serves for both changes, and of two
+-- the first is the rise delay.
 abbrev pub delay_of : ℕ → Delay → Option grammar.Delay → Delay
 delay_of tens default None = default
 delay_of tens default (Some (grammar.Plain n)) = record { rise = steps_of tens n; fall = steps_of tens n }

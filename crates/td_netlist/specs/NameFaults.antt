@@ -1,4 +1,5 @@
--- Which fault is reported of a text whose tokens are those of a module: what is wrong with a name or terminal on its line.
+-- Which fault is reported of a text whose tokens are those of a module: what is wrong with a name
+-- or terminal on its line.
 use Rattle.std.specs.Prelude.{◌≡◌, ℕ, ◌<◌, ◌⊎◌, List, ◌∷◌, ◌++◌, Err}
 use Rattle.std.specs.List.{Contains}
 use Rattle.td_syntax.specs.Grammar as grammar
@@ -93,8 +94,8 @@ IsNameFault kind.UnknownBit line m = UnjoinedOn line m NoBit
 IsNameFault kind.WidthNotOne line m = UnjoinedOn line m NotOne
 IsNameFault k line m = ⊥
 
--- The grammar derives the text, and a name or terminal on that line breaks the condition, as the first one in the order of the
--- checks.
+-- The grammar derives the text, and a name or terminal on that line breaks the condition, as the
+-- first one in the order of the checks.
 pub record IsNameFaultIn (text : List ℕ) (k : FaultKind) (line : ℕ) : Type 0 where
   pub tree : grammar.Module
   pub parses : Parses text tree

@@ -1,4 +1,5 @@
--- Which fault of names is reported: nets with the lines that name them, and how many nets and inputs there are.
+-- Which fault of names is reported: nets with the lines that name them, and how many nets and
+-- inputs there are.
 use Rattle.std.specs.Prelude.{ℕ, List, [], ◌∷◌, ◌++◌, map, fold, sum_by}
 use Rattle.std.specs.List.{flat_map}
 use Rattle.td_syntax.specs.Grammar as grammar

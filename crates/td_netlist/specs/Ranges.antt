@@ -15,7 +15,8 @@ abbrev pub IsLimited : Option Range → Type 0
 IsLimited None = Unit {0}
 IsLimited (Some r) = (r.left ≤ 1000000000) × (r.right ≤ 1000000000)
 
--- how many bits a name has: one without a range, else those from number to number, both counted (one of the two differences is 0)
+-- how many bits a name has: one without a range, else those from number to number, both counted
+-- (one of the two differences is 0)
 abbrev pub width_of : Option Range → ℕ
 width_of None = 1
 width_of (Some r) = suc (r.left - r.right + (r.right - r.left))

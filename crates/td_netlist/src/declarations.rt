@@ -39,7 +39,8 @@ pub struct Ported<'a> {
     lists: Lists<'a>,
 }
 
-/// The bits of the ports by direction, in the order of the port list. An output has the line of its direction.
+/// The bits of the ports by direction, in the order of the port list. An output has the line of its
+/// direction.
 #[derive(Drop)]
 pub struct Sides<'a> {
     pub inputs: Vec<NameRef<'a>>,

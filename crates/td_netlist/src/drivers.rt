@@ -102,7 +102,8 @@ fn whole<'a>(name: Placed<'a>, range: Option<Range>) -> Result<NetRef<'a>, Fault
     }
 }
 
-/// The net of a bit of a name with this range. A bit above the greatest number of a range is in none.
+/// The net of a bit of a name with this range. A bit above the greatest number of a range is in
+/// none.
 fn select<'a>(
     name: Placed<'a>,
     digits: &[u8],

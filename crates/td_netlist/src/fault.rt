@@ -111,7 +111,8 @@ impl<'a> FaultKind<'a> {
     }
 }
 
-/// The first fault of a text, and the line of the name or token that it is about. Lines count from 1.
+/// The first fault of a text, and the line of the name or token that it is about. Lines count from
+/// 1.
 #[derive(Clone, Copy, Debug, Error)]
 #[error("{kind} at line {line}")]
 pub struct Fault<'a> {

@@ -73,8 +73,8 @@ fn owned_net(alloc: Global, net: NetRef<'_>) -> Result<Net, AllocError>
     }
 }
 
-/// How the delays of a module are taken: a unit has 10 to the power of `tens` steps, and a gate that states no delay has
-/// the default one.
+/// How the delays of a module are taken: a unit has 10 to the power of `tens` steps, and a gate
+/// that states no delay has the default one.
 #[derive(Clone, Copy, Debug)]
 pub struct Timing {
     pub tens: u8,

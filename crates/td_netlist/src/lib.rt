@@ -1,4 +1,5 @@
-//! Reads structural Verilog: from the bytes of a text to the netlist of gate primitives that it means.
+//! Reads structural Verilog: from the bytes of a text to the netlist of gate primitives that it
+//! means.
 #![tactic(auto)]
 
 mod declarations;

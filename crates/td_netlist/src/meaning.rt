@@ -89,7 +89,8 @@ fn unit(fronts: &[Front]) -> Unit
     unit
 }
 
-/// How the names of a text are hashed: by a seed in which all its bytes have a part, so that they can't be chosen to collide.
+/// How the names of a text are hashed: by a seed in which all its bytes have a part, so that they
+/// can't be chosen to collide.
 fn hashing_of(text: &[u8]) -> SeededState
     ensures { start_of result ≡ seeded (finish (write initial text.now)) }
 {
@@ -98,7 +99,8 @@ fn hashing_of(text: &[u8]) -> SeededState
     SeededState::with_seed(digest.finish())
 }
 
-/// The netlist of a module whose checks pass: of its ports by direction, of what is known of its names, and of its instances.
+/// The netlist of a module whose checks pass: of its ports by direction, of what is known of its
+/// names, and of its instances.
 fn listed<'a>(
     alloc: Global,
     source: &Module<'a>,
@@ -174,23 +176,25 @@ fn netlist<'a>(
     from_instances(alloc, hashing, source, default, &instances)
 }
 
-/// Reads a netlist: the one that the text means, where a gate that states no delay has the default one.
+/// Reads a netlist: the one that the text means, where a gate that states no delay has the default
+/// one.
 ///
-/// The text is structural Verilog, as IEEE 1364-2005 defines it in clauses 3, 4, 7, 12 and 19: one module of gate
-/// primitives. Names that aren't declared are scalar nets. The netlist keeps names of its own, so that the text need
-/// not outlive it.
+/// The text is structural Verilog, as IEEE 1364-2005 defines it in clauses 3, 4, 7, 12 and 19: one
+/// module of gate primitives. Names that aren't declared are scalar nets. The netlist keeps names
+/// of its own, so that the text need not outlive it.
 ///
 /// # Errors
 ///
-/// The first fault of the first pass that has one: of tokens and grammar from the front; of declarations, ports and
-/// drivers; of nets without a driver. `OutOfMemory` where a growth was refused.
+/// The first fault of the first pass that has one: of tokens and grammar from the front; of
+/// declarations, ports and drivers; of nets without a driver. `OutOfMemory` where a growth was
+/// refused.
 pub fn read<'a>(alloc: Global, text: &'a [u8], default: Delay) -> Result<Netlist, Fault<'a>>
     // What is read is what the text means.
     ensures found { IfOk result (λ n. Means text.now default n) }
     // What the text means is read, unless memory runs out.
     ensures only { (n : netlist.Netlist) → Means text.now default n → IsUnlessMemory result n }
-    // A fault is the first one of tokens and grammar, or there is none of these and it is the first of names: a name or terminal
-    // on that line breaks the condition.
+    // A fault is the first one of tokens and grammar, or there is none of these and it is the first
+    // of names: a name or terminal on that line breaks the condition.
     ensures fault { IfErr result (λ e. IsFaultIn text.now e.kind e.line) }
 {
     let module = parse(alloc, text)?;

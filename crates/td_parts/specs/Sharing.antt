@@ -27,7 +27,8 @@ pub record AreShares (admit : Admitted) (cubes : List (List Trit)) : Type 0 wher
 abbrev pub IsFreeIn : List (List Trit) → ℕ → ℕ → Type 0
 IsFreeIn cubes place position = (cube : List Trit) → slice_get cubes place ≡ Some cube → slice_get cube position ≡ Some Free
 
--- the parts share out the pairs, may be split where they say and nowhere else, and the queue has places of parts alone
+-- the parts share out the pairs, may be split where they say and nowhere else, and the queue has
+-- places of parts alone
 pub record IsCutting (strategy : Strategy) (given : Setting) (admit : Admitted) (cutting : Cutting) : Type 0 where
   pub shares : AreShares admit (cubes_of cutting.parts.items)
   pub splits : All (IsTruePart strategy given) cutting.parts.items

@@ -16,7 +16,8 @@ pub record IsSplit (strategy : Strategy) (given : Setting) (cube : List Trit) (s
   pub bound : IsBoundBy (strongest strategy) given cube (Some split.bound)
   pub some : 0 < split.bound
 
--- where the part may be split, the position is free in it, and where it may not, a search would not split it
+-- where the part may be split, the position is free in it, and where it may not, a search would not
+-- split it
 abbrev pub IsTruePart : Strategy → Setting → Part → Type 0
 IsTruePart strategy given part = MatchOption part.split (IsWhole strategy given part.cube) (λ split. slice_get part.cube split.position ≡ Some Free)
 

@@ -101,8 +101,8 @@ impl Cutting {
         Ok(())
     }
 
-    /// Halves the part of a place at a position that is free in it. A half without an admitted pair is left out. The error is want of
-    /// memory.
+    /// Halves the part of a place at a position that is free in it. A half without an admitted pair
+    /// is left out. The error is want of memory.
     fn halve<R: Rule>(
         &mut self,
         task: &Task<'_, R>,
@@ -135,7 +135,8 @@ impl Cutting {
         Ok(())
     }
 
-    /// The place of the part that is halved next, and the position at which it is. None where a search would split no part.
+    /// The place of the part that is halved next, and the position at which it is. None where a
+    /// search would split no part.
     fn next(&mut self) -> Option<(usize, usize)>
         requires splits { All IsSplitFree self.old.parts.items }
         requires queued { AreBelow (length self.old.parts.items) self.old.queue }

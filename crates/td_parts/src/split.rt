@@ -9,15 +9,16 @@ use std::alloc::AllocError;
 use td_domain::Cube;
 use td_search::{Rule, Step, Task};
 
-/// The position at which a search splits a cube, and the strongest domain's bound of the cube, in steps.
+/// The position at which a search splits a cube, and the strongest domain's bound of the cube, in
+/// steps.
 #[derive(Clone, Copy, Debug, Drop)]
 pub struct Split {
     pub position: usize,
     pub bound: u64,
 }
 
-/// Where a search by the strategy would split a cube: nowhere if nothing is free in it, or if some domain bounds it by 0. The error is
-/// out of memory, and the scratch may be used again.
+/// Where a search by the strategy would split a cube: nowhere if nothing is free in it, or if some
+/// domain bounds it by 0. The error is out of memory, and the scratch may be used again.
 pub fn split_of<R: Rule>(
     task: &Task<'_, R>,
     scratch: &mut R::Scratch,

@@ -33,13 +33,15 @@ link_of nets link = record {
   cause = link.cause;
 }
 
--- the links are the chain that ends in the last change of this net; where there are none it never changes
+-- the links are the chain that ends in the last change of this net; where there are none it never
+-- changes
 abbrev pub Explains : Numbered → NetWaves → ℕ → Option (Vec code.Link) → Type 0
 Explains circuit run net None = (net_wave (nets circuit) run.waves (net_at (nets circuit) net)).changes ≡ []
 Explains circuit run net (Some links) =
     IsChain (setting circuit) (net_wave (nets circuit) run.waves) (net_at (nets circuit) net) (map (link_of (nets circuit)) links.items)
 
--- the output's last change is the latest of all outputs, and no output before it changes last at that moment
+-- the output's last change is the latest of all outputs, and no output before it changes last at
+-- that moment
 pub record IsLatest (netlist : Netlist) (waves : Net → Wave) (output : Name) : Type 0 where
   pub place : ℕ
   pub is_output : slice_get netlist.outputs place ≡ Some output

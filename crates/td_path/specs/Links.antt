@@ -8,7 +8,8 @@ use Rattle.td_nets.specs.Netlist.{Name, Net, Named, Gate, Netlist}
 use Rattle.td_circuit.specs.Settings.{Setting}
 use Rattle.td_path.specs.declared.links.Cause.{Cause}
 
--- a net, a moment, the levels before it and from then on, and what caused the change, none for that of an input
+-- a net, a moment, the levels before it and from then on, and what caused the change, none for that
+-- of an input
 pub record Link : Type 0 where
   pub net : Net
   pub moment : ℕ
@@ -32,8 +33,9 @@ pub record IsOfInput (setting : Setting) (waves : Net → Wave) (link : Link) : 
   pub moment : slice_get setting.moments place ≡ Some link.moment
   pub cause : link.cause ≡ None
 
--- A gate's output changes, since the gate's target changed to that level just the delay to it before. The earlier link is of the net of the
--- terminal that is the cause, and the nets of the terminals before that one didn't change there.
+-- A gate's output changes, since the gate's target changed to that level just the delay to it
+-- before. The earlier link is of the net of the terminal that is the cause, and the nets of the
+-- terminals before that one didn't change there.
 pub record IsCausedBy (netlist : Netlist) (waves : Net → Wave) (earlier later : Link) : Type 0 where
   pub change : IsChange waves later
   pub cause : Cause

@@ -77,7 +77,8 @@ pub record LeadsFrom (circuit : Numbered) (run : NetWaves) (net moment : ℕ) (l
   pub begins : IsOfInput (setting circuit) (net_wave (nets circuit) run.waves) link
   pub leads : LeadsOn circuit.netlist (net_wave (nets circuit) run.waves) link others (net_at (nets circuit) net) moment
 
--- Halfway, at the change of a net at a moment: whatever link is that change, these links, the latest first, lead on from it.
+-- Halfway, at the change of a net at a moment: whatever link is that change, these links, the
+-- latest first, lead on from it.
 pub record IsWalking (circuit : Numbered) (run : NetWaves) (net moment number now : ℕ) (links : List code.Link) : Type 0 where
   pub below : number < length (nets circuit)
   pub changes : ChangesAt (wave_at run.waves number) now

@@ -69,9 +69,9 @@ fn links_back(
     Ok(links)
 }
 
-/// The chain of changes that ends in the last change of a net: the first is a change of an input at its moment, and each other one
-/// is a change of a gate's output that the one before it caused, by the first terminal that changed then. There is none where the net never
-/// changes.
+/// The chain of changes that ends in the last change of a net: the first is a change of an input at
+/// its moment, and each other one is a change of a gate's output that the one before it caused, by
+/// the first terminal that changed then. There is none where the net never changes.
 ///
 /// It takes one step for each link and terminal, each a search in the changes of one net, and one
 /// for each gate of the circuit. Fails where memory runs out.

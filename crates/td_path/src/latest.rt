@@ -29,7 +29,8 @@ fn latest_moment(run: &Run, nets: &[u32]) -> u64
     latest
 }
 
-/// The first of these nets that changes last at the latest moment of all, none where none of them changes.
+/// The first of these nets that changes last at the latest moment of all, none where none of them
+/// changes.
 pub fn latest_net(run: &Run, nets: &[u32]) -> Option<u32>
     requires { All (λ net. net < length run.now.waves) nets.now }
     ensures { IsFirstAt run.now.waves nets.now (latest_change (waves_of run.now.waves nets.now)) result }

@@ -2,8 +2,9 @@
 
 use td_gates::{Kind, Level};
 
-/// What made a gate's output change: the gate, by its place among the netlist's, and its kind; the terminal, by its place among the
-/// gate's; and the delay to the new level, in steps, after which the output changed.
+/// What made a gate's output change: the gate, by its place among the netlist's, and its kind; the
+/// terminal, by its place among the gate's; and the delay to the new level, in steps, after which
+/// the output changed.
 #[derive(Clone, Copy, Debug, PartialEq, Eq, Drop)]
 pub struct Cause {
     pub gate: usize,
@@ -12,8 +13,8 @@ pub struct Cause {
     pub delay: u64,
 }
 
-/// A change of a net, by its number: the moment in steps, the level before it and the level from then on. An input's change has no
-/// cause.
+/// A change of a net, by its number: the moment in steps, the level before it and the level from
+/// then on. An input's change has no cause.
 #[derive(Clone, Copy, Debug, PartialEq, Eq, Drop)]
 pub struct Link {
     pub net: u32,

@@ -1,50 +1,51 @@
 -- What the users of a deque put and take.
 use Rattle.std.specs.Prelude.{◌≡◌, ℕ, ◌+◌, ◌≤◌, ◌==◌, List, [], ◌∷◌, ◌++◌, map, take, drop, slice_get, slice_set, Some, count_by, sum_by}
-use Rattle.td_pool.specs.declared.hand.Hand.{Hand}
+use Rattle.td_pool.specs.declared.history.History.{History}
 
-abbrev pub hand : List ℕ → List ℕ → Hand
-hand put taken = record { put = put; taken = taken }
+abbrev pub history : List ℕ → List ℕ → History
+history put taken = record { put = put; taken = taken }
 
-abbrev pub empty_hand : Hand
-empty_hand = hand [] []
+abbrev pub empty_history : History
+empty_history = history [] []
 
 abbrev pub times : ℕ → List ℕ → ℕ
 times x xs = count_by (λ y. x == y) xs
 
 -- how often these users put, and took, the number
-abbrev pub times_put : ℕ → List Hand → ℕ
-times_put x hands = sum_by (λ h. times x h.put) hands
+abbrev pub times_put : ℕ → List History → ℕ
+times_put x histories = sum_by (λ h. times x h.put) histories
 
-abbrev pub times_taken : ℕ → List Hand → ℕ
-times_taken x hands = sum_by (λ h. times x h.taken) hands
+abbrev pub times_taken : ℕ → List History → ℕ
+times_taken x histories = sum_by (λ h. times x h.taken) histories
 
 -- these users put nothing
-abbrev pub PutNothing : List Hand → Type 0
+abbrev pub PutNothing : List History → Type 0
 PutNothing [] = Unit {0}
-PutNothing (h ∷ hands) = (h.put ≡ []) × PutNothing hands
+PutNothing (h ∷ histories) = (h.put ≡ []) × PutNothing histories
 
 -- the first user alone puts
-abbrev pub OwnerPuts : List Hand → Type 0
+abbrev pub OwnerPuts : List History → Type 0
 OwnerPuts [] = ⊥
 OwnerPuts (owner ∷ guests) = PutNothing guests
 
--- the rule: the owner of a deque alone puts, and each number was taken, or is in the deque, as often as it was put
-pub record IsFair (items : List ℕ) (hands : List Hand) : Type 0 where
-  pub owner : OwnerPuts hands
-  pub balanced : (x : ℕ) → times_put x hands ≡ times_taken x hands + times x items
+-- the rule: the owner of a deque alone puts, and each number was taken, or is in the deque, as
+-- often as it was put
+pub record IsFair (items : List ℕ) (histories : List History) : Type 0 where
+  pub owner : OwnerPuts histories
+  pub balanced : (x : ℕ) → times_put x histories ≡ times_taken x histories + times x items
 
 -- each number that this user took was put by it, at least as often
-abbrev pub TookItsOwn : Hand → Type 0
+abbrev pub TookItsOwn : History → Type 0
 TookItsOwn h = (x : ℕ) → times x h.taken ≤ times x h.put
 
 -- under the rule no number was taken more often than it was put
 abbrev pub TakenWasPut : Type 0
-TakenWasPut = (items : List ℕ) (hands : List Hand) (x : ℕ) → IsFair items hands → times_taken x hands ≤ times_put x hands
+TakenWasPut = (items : List ℕ) (histories : List History) (x : ℕ) → IsFair items histories → times_taken x histories ≤ times_put x histories
 
 -- a user of the deque of this identity, and what it has put and taken
 pub record Port : Type 0 where
   pub deque : ℕ × ℕ
-  pub hand : Hand
+  pub history : History
 
 -- a worker's own deque, and those of others
 pub record Ports : Type 0 where
@@ -53,13 +54,13 @@ pub record Ports : Type 0 where
 
 -- a user who put and took nothing yet
 abbrev pub fresh : ℕ × ℕ → Port
-fresh deque = record { deque = deque; hand = empty_hand }
+fresh deque = record { deque = deque; history = empty_history }
 
 abbrev pub puts : Port → ℕ → Port
-puts p number = record { deque = p.deque; hand = hand (p.hand.put ++ number ∷ []) p.hand.taken }
+puts p number = record { deque = p.deque; history = history (p.history.put ++ number ∷ []) p.history.taken }
 
 abbrev pub takes : Port → ℕ → Port
-takes p number = record { deque = p.deque; hand = hand p.hand.put (p.hand.taken ++ number ∷ []) }
+takes p number = record { deque = p.deque; history = history p.history.put (p.history.taken ++ number ∷ []) }
 
 -- a fresh user of a seat's own deque
 abbrev pub fresh_other : Ports → Port

@@ -15,8 +15,8 @@ use Rattle.td_pool.specs.declared.leaf.OpenLeaf.{OpenLeaf}
 abbrev pub IsWithin : Pair → ℕ → OpenLeaf → Type 0
 IsWithin pair top leaf = IsIn pair leaf.cube → leaf.bound ≤ top
 
--- A pair's delay is no greater than `closed` or than the bound of a leaf in which the pair lies: a figure that is no less than these is
--- no less than the delay.
+-- A pair's delay is no greater than `closed` or than the bound of a leaf in which the pair lies: a
+-- figure that is no less than these is no less than the delay.
 abbrev pub IsCover : Problem → ℕ → List OpenLeaf → Type 0
 IsCover asked closed leaves = (pair : Pair) (delay top : ℕ) → has_delay asked pair delay → closed ≤ top → AllByRecursion (IsWithin pair top) leaves → delay ≤ top
 
@@ -54,8 +54,8 @@ pub record IsGrafted (before : List OpenLeaf) (evidence : Evidence) (after : Lis
   pub settled : AreSettled ((take place before ++ drop (place + 1) before) ++ leaf ∷ []) evidence.findings.items after
 
 -- as the evidence says, where it begins at one of these leaves, else as before
-abbrev pub AreToldOf : List OpenLeaf → Evidence → List OpenLeaf → Type 0
-AreToldOf before evidence after = IsGrafted before evidence after
+abbrev pub AreReportedOf : List OpenLeaf → Evidence → List OpenLeaf → Type 0
+AreReportedOf before evidence after = IsGrafted before evidence after
     ⊎ (((place : ℕ) (leaf : OpenLeaf) → slice_get before place ≡ Some leaf → ¬ BeginsAt evidence leaf) × (after ≡ before))
 
 abbrev pub bounds_of : List OpenLeaf → List ℕ

@@ -82,7 +82,7 @@ impl Deck {
 
     /// Takes a number from the own deque.
     pub fn pop(&mut self) -> Option<u32>
-        ensures { MatchOption result (self.new ≡ self.old) (λ number. (self.new ≡ record self.old { own = takes self.old.own number }) × TookItsOwn self.new.own.hand) }
+        ensures { MatchOption result (self.new ≡ self.old) (λ number. (self.new ≡ record self.old { own = takes self.old.own number }) × TookItsOwn self.new.own.history) }
     {
         self.own.pop()
     }

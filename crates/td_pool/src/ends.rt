@@ -3,14 +3,14 @@
 ghost use Rattle.std.specs.Prelude.{◌≡◌, IfOk, MatchResult, MatchOption};
 ghost use Rattle.td_pool.specs.Fair.{fresh, puts, takes, TookItsOwn};
 
-use crate::hand::{Fair, Hand, Pops, Puts, Takes};
+use crate::history::{Fair, History, Pops, Puts, Takes};
 use crossbeam_deque::{Pass, Steal, Stealer, Worker};
 use std::alloc::{AllocError, Global};
 use std::marker::Model;
 
-type Owner = Worker<u32, Global, Hand, Fair>;
+type Owner = Worker<u32, Global, History, Fair>;
 
-type Thief = Stealer<u32, Global, Hand, Fair>;
+type Thief = Stealer<u32, Global, History, Fair>;
 
 /// The side of a deque that its owner uses.
 #[derive(Drop)]
@@ -25,7 +25,7 @@ impl Model for Own {
 
     ghost Value = { Port };
 
-    ghost view = { λ own. record { deque = (worker_deque own.owner).0; hand = worker_view own.owner } };
+    ghost view = { λ own. record { deque = (worker_deque own.owner).0; history = worker_view own.owner } };
 
     ghost invariant = { λ own. worker_port own.owner ≡ 0 };
 }
@@ -34,7 +34,7 @@ impl Model for Own {
 #[derive(Drop)]
 pub struct Other {
     thief: Thief,
-    pass: Pass<u32, Hand>,
+    pass: Pass<u32, History>,
 }
 
 impl Model for Other {
@@ -44,7 +44,7 @@ impl Model for Other {
 
     ghost Value = { Port };
 
-    ghost view = { λ other. record { deque = (stealer_deque other.thief).0; hand = known other.pass } };
+    ghost view = { λ other. record { deque = (stealer_deque other.thief).0; history = known other.pass } };
 
     ghost invariant = { λ other. IsPassOf (stealer_deque other.thief) other.pass };
 }
@@ -76,7 +76,7 @@ impl Own {
 
     /// Takes the number that was put in last, if one is left.
     pub fn pop(&mut self) -> Option<u32>
-        ensures { MatchOption result (self.new ≡ self.old) (λ number. (self.new ≡ takes self.old number) × TookItsOwn self.new.hand) }
+        ensures { MatchOption result (self.new ≡ self.old) (λ number. (self.new ≡ takes self.old number) × TookItsOwn self.new.history) }
     {
         self.owner.pop_as::<Pops>()
     }

@@ -4,7 +4,8 @@ use std::sync::ledger::{Ledger, Share};
 use td_incumbent::Seat;
 use td_search::{Best, Evidence};
 
-/// What a worker has found: its evidence, its best pair with the greatest delay that it offered, 0 without one, and its seat.
+/// What a worker has found: its evidence, its best pair with the greatest delay that it offered, 0
+/// without one, and its seat.
 #[derive(Drop)]
 pub struct Found {
     pub evidence: Vec<Evidence>,
@@ -12,14 +13,16 @@ pub struct Found {
     pub seat: Seat,
 }
 
-/// What a worker hands back: what it has found, and its share of the ledger, which counts what it settled.
+/// What a worker hands back: what it has found, and its share of the ledger, which counts what it
+/// settled.
 #[derive(Drop)]
 pub struct Report<L: Ledger> {
     pub found: Found,
     pub share: Share<L>,
 }
 
-/// What all workers begin with: for each a deck and what it has found so far, and their share of the ledger.
+/// What all workers begin with: for each a deck and what it has found so far, and their share of
+/// the ledger.
 #[derive(Drop)]
 pub struct Crew<D, L: Ledger> {
     pub decks: Vec<D>,

@@ -7,7 +7,7 @@ ghost use Rattle.td_search.specs.CutShort.{greatest_of};
 ghost use Rattle.td_search.specs.Findings.{IsTrueOf, IsTrueEvidence};
 ghost use Rattle.td_search.specs.Problems.{problem_of, IsAbove};
 ghost use Rattle.td_pool.specs.declared.leaf.OpenLeaf.{OpenLeaf};
-ghost use Rattle.td_pool.specs.Frontiers.{AreToldOf, BeginsAt, IsCover, IsSplit, IsSettled, leaf_of, bounds_of};
+ghost use Rattle.td_pool.specs.Frontiers.{AreReportedOf, BeginsAt, IsCover, IsSplit, IsSettled, leaf_of, bounds_of};
 ghost use Rattle.td_search.specs.Roots.{IsRoot};
 ghost use Rattle.td_pool.specs.Watched.{IsFound};
 
@@ -18,8 +18,8 @@ use std::marker::PhantomData;
 use td_domain::{Admit, Trit};
 use td_search::{Evidence, Finding, Problem, Root};
 
-/// What is known of the delays of a search's admitted pairs, and the leaves that are left of its tree, in which all pairs lie that may
-/// have a greater delay than was found.
+/// What is known of the delays of a search's admitted pairs, and the leaves that are left of its
+/// tree, in which all pairs lie that may have a greater delay than was found.
 #[derive(Drop)]
 pub struct Frontier<L: Subject> {
     alloc: Global,
@@ -99,8 +99,9 @@ fn drop_last(leaves: &mut Vec<OpenLeaf>)
     let _dropped = leaves.pop();
 }
 
-// Splits the last leaf at a position of its cube. The sides get this bound and the next two numbers, and the zero side is the last
-// leaf then. The error is out of memory, and then the leaves are as before.
+// Splits the last leaf at a position of its cube. The sides get this bound and the next two
+// numbers, and the zero side is the last leaf then. The error is out of memory, and then the leaves
+// are as before.
 fn split_last(
     alloc: Global,
     leaves: &mut Vec<OpenLeaf>,
@@ -272,7 +273,7 @@ impl<L: Subject> Frontier<L> {
     pub fn settle(&mut self, problem: &Problem<'_>, evidence: &Evidence) -> Result<(), AllocError>
         requires asked { L.asked ≡ problem_of problem.now }
         requires evidence { IsTrueEvidence (problem_of problem.now) evidence.now }
-        ensures { OnOk result (AreToldOf self.old.leaves.items evidence.now self.new.leaves.items) }
+        ensures { OnOk result (AreReportedOf self.old.leaves.items evidence.now self.new.leaves.items) }
     {
         let Some(place) = place_of(&self.leaves, evidence) else {
             return Ok(());

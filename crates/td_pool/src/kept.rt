@@ -7,7 +7,8 @@ use td_incumbent::{Incumbent, Seat};
 use td_lead::Timed;
 use td_search::{Best, Keeper, Problem};
 
-/// A worker's best pair, and its seat at the incumbent of the search, by which it offers the pair's delay and sees that of the others.
+/// A worker's best pair, and its seat at the incumbent of the search, by which it offers the pair's
+/// delay and sees that of the others.
 #[derive(Drop)]
 pub struct Kept<'a> {
     pub incumbent: &'a Incumbent,

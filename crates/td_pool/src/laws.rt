@@ -1,4 +1,5 @@
-//! What the rule of a deque says, and what a delay that was found says of the worst one. These functions run nothing.
+//! What the rule of a deque says, and what a delay that was found says of the worst one. These
+//! functions run nothing.
 
 ghost use Rattle.td_pool.specs.Fair.{TakenWasPut};
 ghost use Rattle.td_pool.specs.Watched.{FoundIsAtMostWorst};

@@ -2,7 +2,8 @@
 
 use td_domain::Cube;
 
-/// A leaf that is open or held: its number in the shared tree, its cube, and a bound of that in steps.
+/// A leaf that is open or held: its number in the shared tree, its cube, and a bound of that in
+/// steps.
 #[derive(Debug, Drop)]
 pub struct OpenLeaf {
     pub number: u32,

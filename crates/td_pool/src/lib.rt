@@ -1,22 +1,23 @@
-//! The search of a circuit by several workers, and a last thread that trusts no more than their evidence.
+//! The search of a circuit by several workers, and a last thread that trusts no more than their
+//! evidence.
 #![tactic(auto)]
 
+mod borrowed;
 mod deck;
 mod effort;
 mod ends;
 mod found;
 mod frontier;
-mod hand;
 mod hints;
+mod history;
 mod kept;
 pub mod laws;
 mod leaf;
-mod lent;
 mod milestones;
 mod pool;
 mod shared;
-mod standing;
 mod starting;
+mod state;
 mod subject;
 mod watch;
 mod working;

@@ -14,15 +14,15 @@ ghost use Rattle.td_search.specs.Written.{CanBeWritten};
 ghost use Rattle.td_pool.specs.Truth.{IsTrueFound, IsStarting};
 ghost use Rattle.td_pool.specs.Working.{IsCrew, IsTruthful, IsWorking};
 
+use crate::borrowed::{Borrowed, take_back};
 use crate::deck::Deck;
 use crate::effort::Effort;
 use crate::found::{Crew, Found, Report, Start};
 use crate::hints::Hints;
 use crate::kept::Kept;
-use crate::lent::{Lent, take_back};
 use crate::shared::Shared;
-use crate::standing::Standing;
 use crate::starting::{first_best, shared_of, starting_of};
+use crate::state::State;
 use crate::subject::Subject;
 use crate::watch::{Unwatched, Watch};
 use crate::working::{Worker, work};
@@ -63,8 +63,8 @@ impl<L: Ledger> Promise<Report<L>> for Truthful {
 ///
 /// # Errors
 ///
-/// `NoPair` where no pair is admitted. `OutOfMemory` where a growth was refused before the first pair was measured and the cube
-/// of the pins bounded, or for what the workers share.
+/// `NoPair` where no pair is admitted. `OutOfMemory` where a growth was refused before the first
+/// pair was measured and the cube of the pins bounded, or for what the workers share.
 pub fn worst<P: Prober + Sync, R: Threads + Wait + Sync>(
     rt: &R,
     alloc: Global,
@@ -87,8 +87,9 @@ pub fn worst<P: Prober + Sync, R: Threads + Wait + Sync>(
     worst_by(rt, alloc, circuit, admit, prober, decks, workers, budget)
 }
 
-/// As `worst`, where the workers tell each other by these, one for each worker, which leaves may be open. Nothing is asked of the
-/// numbers that come out: the book decides which leaf a worker handles.
+/// As `worst`, where the workers tell each other by these, one for each worker, which leaves may be
+/// open. Nothing is asked of the numbers that come out: the book decides which leaf a worker
+/// handles.
 ///
 /// # Errors
 ///
@@ -146,7 +147,7 @@ pub fn search<P: Prober + Sync, W: Watch, R: Threads + Wait + Sync>(
     ensures text { IfOk result (CanBeWritten (problem_of problem.now)) }
     ensures fault { IfErr result (IsSearchFault (problem_of problem.now)) }
     // All progress that the watch got is true of what is asked.
-    ensures told { W.told (problem_of problem.now) watch.old watch.new }
+    ensures reported { W.reported (problem_of problem.now) watch.old watch.new }
 {
     if effort.workers == 1 && !watch.is_looking() {
         return alone_by(alloc, problem, effort.budget);
@@ -155,7 +156,8 @@ pub fn search<P: Prober + Sync, W: Watch, R: Threads + Wait + Sync>(
     search_by(rt, alloc, problem, prober, decks, effort, watch)
 }
 
-// As `search`, where the workers tell each other by these, one for each worker, which leaves may be open.
+// As `search`, where the workers tell each other by these, one for each worker, which leaves may be
+// open.
 fn search_by<P: Prober + Sync, D: Hints + Drop + Send, W: Watch, R: Threads + Wait + Sync>(
     rt: &R,
     alloc: Global,
@@ -168,7 +170,7 @@ fn search_by<P: Prober + Sync, D: Hints + Drop + Send, W: Watch, R: Threads + Wa
     ensures answer { IfOk result (IsAnswer (problem_of problem.now) effort.budget) }
     ensures text { IfOk result (CanBeWritten (problem_of problem.now)) }
     ensures fault { IfErr result (IsSearchFault (problem_of problem.now)) }
-    ensures told { W.told (problem_of problem.now) watch.old watch.new }
+    ensures reported { W.reported (problem_of problem.now) watch.old watch.new }
 {
     if !problem.admit.any(problem.admit.pins()) {
         return Err(SearchFault::NoPair);
@@ -189,7 +191,7 @@ fn shared_work<P: Prober + Sync, D: Hints + Drop + Send, W: Watch, R: Threads + 
 ) -> Result<SharedWork, AllocError>
     requires any { HasAdmitted problem.now.admit.now problem.now.admit.now.pins }
     ensures work { IfOk result (IsShared (problem_of problem.now)) }
-    ensures told { W.told (problem_of problem.now) watch.old watch.new }
+    ensures reported { W.reported (problem_of problem.now) watch.old watch.new }
 {
     match problem.strategy {
         Strategy::Least => {
@@ -223,7 +225,7 @@ fn search_with<Q: Rule + Sync, D: Hints + Drop + Send, W: Watch, R: Threads + Wa
 ) -> Result<SharedWork, AllocError>
     requires any { HasAdmitted task.now.problem.now.admit.now task.now.problem.now.admit.now.pins }
     ensures work { IfOk result (IsShared (problem_of task.now.problem.now)) }
-    ensures told { W.told (problem_of task.now.problem.now) watch.old watch.new }
+    ensures reported { W.reported (problem_of task.now.problem.now) watch.old watch.new }
 {
     let root = first_root(task)?;
     let blank = Blank::new(u64::from(effort.workers));
@@ -261,7 +263,7 @@ fn search_all<
     requires blank { blank.parts ≡ L.parts }
     requires parts { blank.parts ≡ effort.workers }
     ensures work { IfOk result (IsShared (problem_of task.now.problem.now)) }
-    ensures told { W.told (problem_of task.now.problem.now) watch.old watch.new }
+    ensures reported { W.reported (problem_of task.now.problem.now) watch.old watch.new }
 {
     let Task { alloc, problem, .. } = task;
     let first = first_best(*alloc, problem, root.first)?;
@@ -297,10 +299,10 @@ fn found_watched<
     requires some { 0 < workers }
     requires crew { IsCrew (problem_of task.now.problem.now) shared.now.incumbent workers crew.found.items crew.share.parts crew.share.amount }
     ensures reports { IfOk result (λ all. AllByRecursion (λ report. IsTrueFound (problem_of task.now.problem.now) report.found) all.items) }
-    ensures told { W.told (problem_of task.now.problem.now) watch.old watch.new }
+    ensures reported { W.reported (problem_of task.now.problem.now) watch.old watch.new }
 {
-    let (all, lent) = found_by_all(rt, task, shared, crew, workers, Lent { watch });
-    let Lent { watch } = lent;
+    let (all, borrowed) = found_by_all(rt, task, shared, crew, workers, Borrowed { watch });
+    let Borrowed { watch } = borrowed;
     take_back(watch);
     all
 }
@@ -320,8 +322,8 @@ fn handed_over<L: Subject>(
     ensures { IsShared (problem_of problem.now) result }
 {
     let (evidence, best) = gather(alloc, problem, all, first);
-    let Shared { standing, .. } = shared;
-    let Standing { book, .. } = standing.into_inner();
+    let Shared { state, .. } = shared;
+    let State { book, .. } = state.into_inner();
     SharedWork {
         partial: book.into_book().into_tree(),
         evidence,
@@ -330,8 +332,8 @@ fn handed_over<L: Subject>(
     }
 }
 
-// What all workers found: this thread, and another one for each further worker, where a thread can be made. The watch, which this thread
-// tells how far the search has come, comes back.
+// What all workers found: this thread, and another one for each further worker, where a thread can
+// be made. The watch, which this thread tells how far the search has come, comes back.
 fn found_by_all<
     L: Subject + Send + Sync,
     Q: Rule + Sync,
@@ -350,7 +352,7 @@ fn found_by_all<
     requires some { 0 < workers }
     requires crew { IsCrew (problem_of task.now.problem.now) shared.now.incumbent workers crew.found.items crew.share.parts crew.share.amount }
     ensures reports { IfOk result.0 (λ all. AllByRecursion (λ report. IsTrueFound (problem_of task.now.problem.now) report.found) all.items) }
-    ensures told { W.told (problem_of task.now.problem.now) watch result.1 }
+    ensures reported { W.reported (problem_of task.now.problem.now) watch result.1 }
 {
     let Crew {
         decks,
@@ -375,10 +377,10 @@ fn found_by_all<
             requires found { AllByRecursion (IsStarting (problem_of task.now.problem.now) shared.now.incumbent) found.items }
             requires handles { handles.items ≡ [] }
             requires all { all.items ≡ [] }
-            requires handles_room { workers ≤ vec_capacity handles }
-            requires all_room { workers ≤ vec_capacity all }
+            requires handles_space { workers ≤ vec_capacity handles }
+            requires all_space { workers ≤ vec_capacity all }
             ensures reports { AllByRecursion (λ report. IsTrueFound (problem_of task.entry.now.problem.now) report.found) result.0.items }
-            ensures told { W.told (problem_of task.entry.now.problem.now) watch result.1 }
+            ensures reported { W.reported (problem_of task.entry.now.problem.now) watch result.1 }
         {
             let mut watch = watch;
             let mut handles = handles;
@@ -474,7 +476,8 @@ fn next_found<L: Subject>(
     Some(found)
 }
 
-// What this thread finds as the first worker, in a vector that has room for it and more. Nothing where it has nothing to begin with.
+// What this thread finds as the first worker, in a vector that has room for it and more. Nothing
+// where it has nothing to begin with.
 fn with_first<L: Subject, Q: Rule, D: Hints + Drop, W: Watch, R: Wait>(
     rt: &R,
     task: &Task<'_, Q>,
@@ -487,11 +490,11 @@ fn with_first<L: Subject, Q: Rule, D: Hints + Drop, W: Watch, R: Wait>(
     requires found { IfSome start.found (IsStarting (problem_of task.now.problem.now) shared.now.incumbent) }
     requires part { 0 < start.share.parts }
     requires all { all.items ≡ [] }
-    requires room { 0 < vec_capacity all }
+    requires space { 0 < vec_capacity all }
     ensures reports { AllByRecursion (λ report. IsTrueFound (problem_of task.now.problem.now) report.found) result.items }
     ensures few { length result.items ≤ 1 }
-    ensures room { vec_capacity result ≡ vec_capacity all }
-    ensures told { W.told (problem_of task.now.problem.now) watch.old watch.new }
+    ensures space { vec_capacity result ≡ vec_capacity all }
+    ensures reported { W.reported (problem_of task.now.problem.now) watch.old watch.new }
 {
     let mut all = all;
     let Start { deck, found, share } = start;
@@ -516,7 +519,7 @@ fn join_all<L: Subject, R: Threads>(
 ) -> Vec<Report<L>>
     requires handles { AllByRecursion (λ handle. IsTruthful problem.now handle.promise) handles.items }
     requires all { AllByRecursion (λ report. IsTrueFound (problem_of problem.now) report.found) all.items }
-    requires room { length all.items + length handles.items ≤ vec_capacity all }
+    requires space { length all.items + length handles.items ≤ vec_capacity all }
     ensures { AllByRecursion (λ report. IsTrueFound (problem_of problem.now) report.found) result.items }
 {
     let mut all = all;
@@ -526,7 +529,8 @@ fn join_all<L: Subject, R: Threads>(
     all
 }
 
-// The evidence of all workers, and the best of their pairs and this one. Of evidence that memory is refused for nothing is kept.
+// The evidence of all workers, and the best of their pairs and this one. Of evidence that memory is
+// refused for nothing is kept.
 fn gather<L: Subject>(
     alloc: Global,
     problem: &Problem<'_>,
@@ -567,7 +571,8 @@ fn better(problem: &Problem<'_>, best: Best, other: Best) -> Best
     }
 }
 
-// The evidence of both. The second is dropped where memory is refused: its nodes are then handled anew.
+// The evidence of both. The second is dropped where memory is refused: its nodes are then handled
+// anew.
 fn joined(problem: &Problem<'_>, evidence: Vec<Evidence>, more: Vec<Evidence>) -> Vec<Evidence>
     requires evidence { AllByRecursion (IsTrueEvidence (problem_of problem.now)) evidence.items }
     requires more { AllByRecursion (IsTrueEvidence (problem_of problem.now)) more.items }

@@ -8,7 +8,7 @@ ghost use Rattle.td_pool.specs.Watched.{IsTrueProgress};
 ghost use Rattle.td_pool.specs.Working.{IsTrueWork};
 
 use crate::hints::Hints;
-use crate::standing::{Standing, Work};
+use crate::state::{State, Work};
 use crate::subject::Subject;
 use crate::watch::Progress;
 use std::sync::ledger::Share;
@@ -18,10 +18,11 @@ use td_domain::{Cube, Trit};
 use td_incumbent::Incumbent;
 use td_search::Problem;
 
-/// The book of the search and what is left of it, what wakes those that wait for an open leaf, and the best time.
+/// The book of the search and what is left of it, what wakes those that wait for an open leaf, and
+/// the best time.
 #[derive(Drop)]
 pub struct Shared<L: Subject> {
-    pub standing: Mutex<Standing<L>>,
+    pub state: Mutex<State<L>>,
     pub moved: Condvar,
     pub incumbent: Incumbent,
 }
@@ -76,7 +77,8 @@ fn turn_with<L: Subject>(book: &mut Counted<L>, problem: &Problem<'_>, lease: Le
     Turn::End
 }
 
-// What a worker of this search is to do next, by the book alone. Of the book under the lock nothing is known.
+// What a worker of this search is to do next, by the book alone. Of the book under the lock nothing
+// is known.
 fn next_turn<L: Subject>(book: &mut Counted<L>, problem: &Problem<'_>, worker: u32) -> Turn
     ensures { IsTurn (problem_of problem.now) result }
 {
@@ -133,7 +135,8 @@ fn hint_from<D: Hints>(deck: &mut D) -> Option<u32> {
 }
 
 impl<L: Subject> Shared<L> {
-    /// The next leaf for this worker, and none where it is to end. A number from its deck comes first, then the first open leaf.
+    /// The next leaf for this worker, and none where it is to end. A number from its deck comes
+    /// first, then the first open leaf.
     pub fn lease<D: Hints, R: MayWait>(
         &self,
         rt: &R,
@@ -145,13 +148,13 @@ impl<L: Subject> Shared<L> {
     {
         for _ in rt.forever() {
             let hint = hint_from(deck);
-            let mut standing = self.standing.lock(rt);
-            match turn_of(&mut standing.book, problem, worker, hint) {
+            let mut state = self.state.lock(rt);
+            match turn_of(&mut state.book, problem, worker, hint) {
                 Turn::Work(lease) => return Some(lease),
-                Turn::Seek => drop(standing),
+                Turn::Seek => drop(state),
                 Turn::Wait => {
-                    let standing = self.moved.wait(rt, standing);
-                    drop(standing);
+                    let state = self.moved.wait(rt, state);
+                    drop(state);
                 }
                 Turn::End => return None,
             }
@@ -159,9 +162,10 @@ impl<L: Subject> Shared<L> {
         None
     }
 
-    /// Tells the book what was split and closed below a leaf, under one hold, with the evidence of it and a delay of an admitted pair that
-    /// was found, and wakes those that wait. Where nothing was, or memory runs out, the leaf is opened again. Answers the numbers of the
-    /// leaves that are left open there, in the tree's order, and none where the worker is to end.
+    /// Tells the book what was split and closed below a leaf, under one hold, with the evidence of
+    /// it and a delay of an admitted pair that was found, and wakes those that wait. Where nothing
+    /// was, or memory runs out, the leaf is opened again. Answers the numbers of the leaves that
+    /// are left open there, in the tree's order, and none where the worker is to end.
     pub fn graft<R: MayWait>(
         &self,
         rt: &R,
@@ -174,9 +178,9 @@ impl<L: Subject> Shared<L> {
         requires part { 0 < mine.old.parts }
         ensures { mine.new.parts ≡ mine.old.parts }
     {
-        let mut standing = self.standing.lock(rt);
-        let left = standing.graft(problem, work, mine);
-        drop(standing);
+        let mut state = self.state.lock(rt);
+        let left = state.graft(problem, work, mine);
+        drop(state);
         self.moved.notify_all();
         left
     }
@@ -185,15 +189,15 @@ impl<L: Subject> Shared<L> {
     pub fn progress<R: MayWait>(&self, rt: &R, milestone: u64) -> Option<Progress>
         ensures { IfSome result (IsTrueProgress L.asked) }
     {
-        let mut standing = self.standing.lock(rt);
-        standing.progress(milestone)
+        let mut state = self.state.lock(rt);
+        state.progress(milestone)
     }
 
     /// Opens a leaf again, inside the lock, and wakes those that wait.
     pub fn release<R: MayWait>(&self, rt: &R, lease: Lease) {
-        let mut standing = self.standing.lock(rt);
-        let _opened = standing.book.release(lease);
-        drop(standing);
+        let mut state = self.state.lock(rt);
+        let _opened = state.book.release(lease);
+        drop(state);
         self.moved.notify_all();
     }
 }

@@ -12,7 +12,7 @@ use crate::effort::Effort;
 use crate::found::Found;
 use crate::frontier::Frontier;
 use crate::shared::Shared;
-use crate::standing::Standing;
+use crate::state::State;
 use crate::subject::Subject;
 use crate::watch::Watch;
 use std::alloc::{AllocError, Global};
@@ -60,7 +60,8 @@ pub fn starting_of(
     Ok((incumbent, found))
 }
 
-// For each seat a worker that knows the pair that stands for the pins, which has this delay. The error is out of memory.
+// For each seat a worker that knows the pair that stands for the pins, which has this delay. The
+// error is out of memory.
 fn fresh_of(
     alloc: Global,
     problem: &Problem<'_>,
@@ -80,7 +81,8 @@ fn fresh_of(
     Ok(all)
 }
 
-// A worker that knows the pair that stands for the pins, which has this delay, and offers it. The error is out of memory.
+// A worker that knows the pair that stands for the pins, which has this delay, and offers it. The
+// error is out of memory.
 fn fresh(
     alloc: Global,
     problem: &Problem<'_>,
@@ -104,8 +106,8 @@ fn fresh(
     })
 }
 
-/// What the workers share at the beginning: the book of one open root, with a ledger of nothing, and what is left for a watch that looks.
-/// The error is out of memory.
+/// What the workers share at the beginning: the book of one open root, with a ledger of nothing,
+/// and what is left for a watch that looks. The error is out of memory.
 pub fn shared_of<L: Subject, W: Watch>(
     alloc: Global,
     problem: &Problem<'_>,
@@ -126,7 +128,7 @@ pub fn shared_of<L: Subject, W: Watch>(
     let book = Book::new(alloc, pins, effort.workers, effort.budget)?;
     let frontier = frontier_of::<L, W>(alloc, problem, root, watch)?;
     Ok(Shared {
-        standing: Mutex::new(Standing {
+        state: Mutex::new(State {
             book: Counted::new(book, ledger),
             frontier,
         }),

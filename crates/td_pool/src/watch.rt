@@ -2,8 +2,9 @@
 
 use td_search::Problem;
 
-/// How far a search has come: how many nodes were split or closed, the greatest delay that it has found of an admitted pair, a figure
-/// that no admitted pair's delay is above, and how many leaves are left. Delays are in steps.
+/// How far a search has come: how many nodes were split or closed, the greatest delay that it has
+/// found of an admitted pair, a figure that no admitted pair's delay is above, and how many leaves
+/// are left. Delays are in steps.
 #[derive(Clone, Copy, Debug, PartialEq, Eq, Drop)]
 pub struct Progress {
     pub nodes: u64,
@@ -20,26 +21,26 @@ pub trait Watch: Drop {
 
     /// Between the two moments the watch got progress of a search that is asked this, any number of
     /// times.
-    ghost told: { Problem → Self → Self → Type 0 };
+    ghost reported: { Problem → Self → Self → Type 0 };
 
     /// Whether it wants any progress. A search keeps no account of what is left for a watch that
     /// doesn't look.
     fn is_looking(&self) -> bool;
 
-    /// Tells how far the search has come. An admitted pair of the circuit has the lower figure as its delay, and none has a delay above
-    /// the upper one.
+    /// Tells how far the search has come. An admitted pair of the circuit has the lower figure as
+    /// its delay, and none has a delay above the upper one.
     fn passed(&mut self, problem: &Problem<'_>, progress: Progress)
         requires { IsTrueProgress (problem_of problem.now) progress }
-        ensures { told (problem_of problem.now) self.old self.new };
+        ensures { reported (problem_of problem.now) self.old self.new };
 
     /// It may get nothing.
-    ghost told_nothing: { (asked : Problem) (watch : Self) → told asked watch watch };
+    ghost reported_nothing: { (asked : Problem) (watch : Self) → reported asked watch watch };
 
     /// And one thing after another.
-    ghost told_both: { (asked : Problem) (first then last : Self) → told asked first then → told asked then last → told asked first last };
+    ghost reported_both: { (asked : Problem) (first then last : Self) → reported asked first then → reported asked then last → reported asked first last };
 
     /// By whichever strategy the search goes.
-    ghost told_alike: { (asked : Problem) (strategy : Strategy) (first last : Self) → told asked first last → told (record asked { strategy = strategy }) first last };
+    ghost reported_alike: { (asked : Problem) (strategy : Strategy) (first last : Self) → reported asked first last → reported (record asked { strategy = strategy }) first last };
 }
 
 /// Nobody watches.
@@ -49,7 +50,7 @@ pub struct Unwatched;
 impl Watch for Unwatched {
     ghost use Rattle.std.specs.Prelude.{⊤};
 
-    ghost told = { λ _ _ _. ⊤ };
+    ghost reported = { λ _ _ _. ⊤ };
 
     fn is_looking(&self) -> bool {
         false
@@ -57,9 +58,9 @@ impl Watch for Unwatched {
 
     fn passed(&mut self, _problem: &Problem<'_>, _progress: Progress) {}
 
-    ghost told_nothing = { λ _ _. tt };
+    ghost reported_nothing = { λ _ _. tt };
 
-    ghost told_both = { λ _ _ _ _ _ _. tt };
+    ghost reported_both = { λ _ _ _ _ _ _. tt };
 
-    ghost told_alike = { λ _ _ _ _ _. tt };
+    ghost reported_alike = { λ _ _ _ _ _. tt };
 }

@@ -11,7 +11,7 @@ use crate::hints::Hints;
 use crate::kept::Kept;
 use crate::milestones::milestone_above;
 use crate::shared::Shared;
-use crate::standing::Work;
+use crate::state::Work;
 use crate::subject::Subject;
 use crate::watch::Watch;
 use std::alloc::{AllocError, Global};
@@ -21,7 +21,8 @@ use td_book::Lease;
 use td_domain::Cube;
 use td_search::{Below, Evidence, Problem, Rule, Task, climb, find};
 
-/// A worker: its number, where it finds hints, its best pair, its evidence, and its share of the ledger.
+/// A worker: its number, where it finds hints, its best pair, its evidence, and its share of the
+/// ledger.
 #[derive(Drop)]
 pub struct Worker<'a, D, L: Ledger> {
     pub number: u32,
@@ -31,8 +32,8 @@ pub struct Worker<'a, D, L: Ledger> {
     pub share: Share<L>,
 }
 
-// Splits and closes below a leaf, depth first, zero side first, until nothing is left there, the allowance is used up, or memory runs
-// out: then it answers false.
+// Splits and closes below a leaf, depth first, zero side first, until nothing is left there, the
+// allowance is used up, or memory runs out: then it answers false.
 fn work_below<R: Rule>(
     task: &Task<'_, R>,
     scratch: &mut R::Scratch,
@@ -61,16 +62,17 @@ fn work_below<R: Rule>(
     true
 }
 
-// Puts the numbers of these open leaves into the worker's own place, the last one first, so that it takes the first one first. Of a
-// number that is refused nothing is kept: the book has the leaf.
+// Puts the numbers of these open leaves into the worker's own place, the last one first, so that it
+// takes the first one first. Of a number that is refused nothing is kept: the book has the leaf.
 fn tell<D: Hints>(deck: &mut D, opened: &[u32]) {
     for number in opened.iter().rev() {
-        let _told = deck.push(*number);
+        let _reported = deck.push(*number);
     }
 }
 
-// Handles a leaf, and as much below it as its lease allows, and tells the book under one hold of the lock, then the worker's deck. What
-// was found becomes evidence. No lock is held meanwhile. Answers whether the worker may go on: not at out of memory.
+// Handles a leaf, and as much below it as its lease allows, and tells the book under one hold of
+// the lock, then the worker's deck. What was found becomes evidence. No lock is held meanwhile.
+// Answers whether the worker may go on: not at out of memory.
 fn handle<L: Subject, Q: Rule, D: Hints, R: Wait>(
     rt: &R,
     task: &Task<'_, Q>,
@@ -112,7 +114,8 @@ fn handle<L: Subject, Q: Rule, D: Hints, R: Wait>(
     ample
 }
 
-// A private tree below a leaf, a copy of its cube, and room for the evidence. The error is out of memory.
+// A private tree below a leaf, a copy of its cube, and room for the evidence. The error is out of
+// memory.
 fn begin(
     alloc: Global,
     problem: &Problem<'_>,
@@ -122,7 +125,7 @@ fn begin(
     requires within { IsWithin (problem_of problem.now) lease.now.cube }
     ensures below { IfOk result (λ begun. IsBelow (problem_of problem.now) lease.now begun.0) }
     ensures cube { IfOk result (λ begun. begun.1 ≡ lease.now.cube) }
-    ensures room { IfOk result (λ begun. length evidence.new.items < vec_capacity evidence.new) }
+    ensures space { IfOk result (λ begun. length evidence.new.items < vec_capacity evidence.new) }
     ensures evidence { evidence.new.items ≡ evidence.old.items }
 {
     evidence.reserve(1)?;
@@ -139,7 +142,7 @@ fn tell_progress<L: Subject, W: Watch, R: Wait>(
     watch: &mut W,
 )
     requires asked { L.asked ≡ problem_of problem.now }
-    ensures { W.told (problem_of problem.now) watch.old watch.new }
+    ensures { W.reported (problem_of problem.now) watch.old watch.new }
 {
     if !watch.is_looking() {
         return;
@@ -151,8 +154,8 @@ fn tell_progress<L: Subject, W: Watch, R: Wait>(
     watch.passed(problem, progress);
 }
 
-/// Handles leaves until the book gives none or memory runs out, and tells a watch of each milestone that the search has passed when the
-/// worker has handled a leaf. All that it hands back is true.
+/// Handles leaves until the book gives none or memory runs out, and tells a watch of each milestone
+/// that the search has passed when the worker has handled a leaf. All that it hands back is true.
 pub fn work<L: Subject, Q: Rule, D: Hints + Drop, W: Watch, R: Wait>(
     rt: &R,
     task: &Task<'_, Q>,
@@ -163,7 +166,7 @@ pub fn work<L: Subject, Q: Rule, D: Hints + Drop, W: Watch, R: Wait>(
     requires asked { L.asked ≡ problem_of task.now.problem.now }
     requires worker { IsWorking (problem_of task.now.problem.now) worker.kept worker.evidence.items worker.share.parts }
     ensures found { IsTrueFound (problem_of task.now.problem.now) result.found }
-    ensures told { W.told (problem_of task.now.problem.now) watch.old watch.new }
+    ensures reported { W.reported (problem_of task.now.problem.now) watch.old watch.new }
 {
     let mut worker = worker;
     work_on(rt, task, shared, &mut worker, watch);
@@ -216,7 +219,7 @@ fn work_on<L: Subject, Q: Rule, D: Hints, W: Watch, R: Wait>(
     requires asked { L.asked ≡ problem_of task.now.problem.now }
     requires worker { IsWorking (problem_of task.now.problem.now) worker.old.kept worker.old.evidence.items worker.old.share.parts }
     ensures worker { IsWorking (problem_of task.now.problem.now) worker.new.kept worker.new.evidence.items worker.new.share.parts }
-    ensures told { W.told (problem_of task.now.problem.now) watch.old watch.new }
+    ensures reported { W.reported (problem_of task.now.problem.now) watch.old watch.new }
 {
     let Ok(mut scratch) = begun(task, &mut worker.kept, worker.number) else {
         return;
@@ -248,7 +251,7 @@ fn handle_all<L: Subject, Q: Rule, D: Hints, W: Watch, R: Wait>(
     requires scratch { Q.is_for scratch.old task.now.problem.now.circuit.now }
     requires worker { IsWorking (problem_of task.now.problem.now) worker.old.kept worker.old.evidence.items worker.old.share.parts }
     ensures worker { IsWorking (problem_of task.now.problem.now) worker.new.kept worker.new.evidence.items worker.new.share.parts }
-    ensures told { W.told (problem_of task.now.problem.now) watch.old watch.new }
+    ensures reported { W.reported (problem_of task.now.problem.now) watch.old watch.new }
 {
     for _ in rt.forever() {
         let Some(lease) = shared.lease(rt, task.problem, worker.number, &mut worker.deck) else {

@@ -38,7 +38,8 @@ pub struct Asked {
     pub admit: Admit,
 }
 
-/// The circuit of a netlist, and all its pairs. The error is out of memory, or a text that is refused.
+/// The circuit of a netlist, and all its pairs. The error is out of memory, or a text that is
+/// refused.
 pub fn asked_of(rt: &impl Abort, alloc: Global, netlist: &str) -> Result<Asked, AllocError>
     ensures { IfOk result (λ asked. length asked.admit.held ≡ length asked.circuit.netlist.inputs) }
 {
@@ -70,10 +71,10 @@ fn all_of(rt: &impl Abort, alloc: Global, circuit: &Circuit) -> Result<Admit, Al
     Ok(admit)
 }
 
-/// What a search came to: the two figures around the worst delay, whether it is exact, the number of its nodes, and how many leaves of its
-/// tree are bounded by both domains at once.
+/// What a search came to: the two figures around the worst delay, whether it is exact, the number
+/// of its nodes, and how many leaves of its tree are bounded by both domains at once.
 #[derive(Clone, Copy, Drop)]
-pub struct Told {
+pub struct Reported {
     pub low: u64,
     pub high: u64,
     pub is_exact: bool,
@@ -90,9 +91,9 @@ fn by_both(tree: &Tree) -> usize {
 }
 
 // What an answer says.
-fn as_told(answer: &Result<Answer, SearchFault>) -> Result<Told, Fail> {
+fn as_reported(answer: &Result<Answer, SearchFault>) -> Result<Reported, Fail> {
     match answer {
-        Ok(Answer::Exact { time, tree, .. }) => Ok(Told {
+        Ok(Answer::Exact { time, tree, .. }) => Ok(Reported {
             low: *time,
             high: *time,
             is_exact: true,
@@ -106,7 +107,7 @@ fn as_told(answer: &Result<Answer, SearchFault>) -> Result<Told, Fail> {
                 nodes,
                 ..
             },
-        ) => Ok(Told {
+        ) => Ok(Reported {
             low: *low,
             high: *high,
             is_exact: false,
@@ -125,10 +126,10 @@ pub fn found<P: Prober + Sync, R: Threads + Wait + Sync + Abort>(
     prober: &P,
     workers: u32,
     budget: u64,
-) -> Result<Told, Fail> {
+) -> Result<Reported, Fail> {
     assert!(rt; 0 < workers && workers <= 64 && budget <= 10_000_000);
     let asked = asked_of(rt, alloc, netlist)?;
-    as_told(&worst(
+    as_reported(&worst(
         rt,
         alloc,
         &asked.circuit,
@@ -147,7 +148,7 @@ pub fn found_with<R: Threads + Wait + Sync + Abort>(
     netlist: &str,
     workers: u32,
     budget: u64,
-) -> Result<Told, Fail> {
+) -> Result<Reported, Fail> {
     assert!(rt; 0 < workers && workers <= 64 && budget <= 10_000_000);
     let asked = asked_of(rt, alloc, netlist)?;
     let problem = Problem {
@@ -156,7 +157,7 @@ pub fn found_with<R: Threads + Wait + Sync + Abort>(
         strategy: Strategy::Least,
     };
     let effort = Effort { workers, budget };
-    as_told(&search(rt, alloc, &problem, &Own, effort, &mut Unwatched))
+    as_reported(&search(rt, alloc, &problem, &Own, effort, &mut Unwatched))
 }
 
 /// What a search of all pairs by a worker for each of these decks comes to.
@@ -166,11 +167,11 @@ pub fn found_by<D: Hints + Drop + Send, R: Threads + Wait + Sync + Abort>(
     netlist: &str,
     decks: Vec<D>,
     workers: u32,
-) -> Result<Told, Fail> {
+) -> Result<Reported, Fail> {
     assert!(rt; 0 < workers && workers <= 64);
     assert!(rt; decks.len() == workers as usize);
     let asked = asked_of(rt, alloc, netlist)?;
-    as_told(&worst_by(
+    as_reported(&worst_by(
         rt,
         alloc,
         &asked.circuit,
@@ -188,8 +189,8 @@ pub fn found_alone(
     alloc: Global,
     netlist: &str,
     budget: u64,
-) -> Result<Told, Fail> {
+) -> Result<Reported, Fail> {
     assert!(rt; budget <= 10_000_000);
     let asked = asked_of(rt, alloc, netlist)?;
-    as_told(&alone(alloc, &asked.circuit, &asked.admit, budget))
+    as_reported(&alone(alloc, &asked.circuit, &asked.admit, budget))
 }

@@ -12,8 +12,9 @@ use td_circuit::Circuit;
 use td_domain::{Cube, Pair, Trit};
 use td_search::{Own, Probe, Prober, Scratch};
 
-/// Counts the pairs that are measured, and passes all on. One call may be refused, the first bound of a cube with one fixed position may wait
-/// until another such cube was bounded, and each cube's strongest bound may be asked for, whatever the cut.
+/// Counts the pairs that are measured, and passes all on. One call may be refused, the first bound
+/// of a cube with one fixed position may wait until another such cube was bounded, and each cube's
+/// strongest bound may be asked for, whatever the cut.
 #[derive(Drop)]
 pub struct Watching {
     pub measured: AtomicU64,
@@ -22,7 +23,8 @@ pub struct Watching {
     pub fails: u64,
     /// Whether the strongest bound is asked for in place of one under the cut.
     pub strongest: bool,
-    /// Whether the first bound waits, how many bounds began, how many ended, and whether nothing came while it waited.
+    /// Whether the first bound waits, how many bounds began, how many ended, and whether nothing
+    /// came while it waited.
     pub waits: bool,
     pub begun: AtomicU64,
     pub bounded: AtomicU64,

@@ -1,5 +1,6 @@
-//! Searches where memory is refused. What a prober refuses is refused wherever these tests run. Of other growths none is, unless
-//! `rt try --test --fail-alloc N` refuses the Nth, in an unproved build; the tests pass then too.
+//! Searches where memory is refused. What a prober refuses is refused wherever these tests run. Of
+//! other growths none is, unless `rt try --test --fail-alloc N` refuses the Nth, in an unproved
+//! build; the tests pass then too.
 
 use crate::circuits::{Asked, RECONVERGENT, SLOW_ARM, asked_of};
 use crate::prober::Watching;
@@ -64,7 +65,8 @@ fn searched<P: Prober + Sync, R: Threads + Wait + Sync + Abort>(
     )
 }
 
-/// Without the root's delay or bound there is no answer; any other that is refused is found in one thread at the end.
+/// Without the root's delay or bound there is no answer; any other that is refused is found in one
+/// thread at the end.
 #[test]
 fn refused_once(rt: HostRuntime) -> Result<(), Fail> {
     let alloc = rt.alloc();

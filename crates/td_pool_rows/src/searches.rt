@@ -1,7 +1,7 @@
 //! Searches of worked circuits, by one worker and by more.
 
 use crate::circuits::{
-    LOST, RECONVERGENT, SLOW_ARM, Told, WIDE, found, found_alone, found_by, found_with,
+    LOST, RECONVERGENT, Reported, SLOW_ARM, WIDE, found, found_alone, found_by, found_with,
 };
 use crate::decks::{Passing, Refusing};
 use crate::prober::Watching;
@@ -21,35 +21,45 @@ fn counted<R: Threads + Wait + Sync + Abort>(
     netlist: &str,
     workers: u32,
     prober: Watching,
-) -> Result<(Told, u64), Fail> {
-    let told = found(rt, alloc, netlist, &prober, workers, 1_000_000)?;
-    Ok((told, prober.measured.load(Ordering::SeqCst)))
+) -> Result<(Reported, u64), Fail> {
+    let reported = found(rt, alloc, netlist, &prober, workers, 1_000_000)?;
+    Ok((reported, prober.measured.load(Ordering::SeqCst)))
 }
 
-/// The root's pair is measured, and a pair for each node that is handled, by a worker and not once more. One worker measures 32 pairs and 10.
+/// The root's pair is measured, and a pair for each node that is handled, by a worker and not once
+/// more. One worker measures 32 pairs and 10.
 #[test]
 fn probes_counted(rt: HostRuntime) -> Result<(), Fail> {
     let alloc = rt.alloc();
     for workers in 1..5 {
-        let (told, measured) = counted(&rt, alloc, RECONVERGENT, workers, Watching::new(0, false))?;
-        assert!(&rt; (told.is_exact, told.low, told.nodes, measured) == (true, 3, 31, 32));
-        let (told, measured) = counted(&rt, alloc, SLOW_ARM, workers, Watching::new(0, false))?;
-        assert!(&rt; told.is_exact && told.low == 5 && told.nodes >= 9);
-        assert_eq!(&rt; measured, told.nodes.saturating_add(1));
+        let (reported, measured) = counted(
+            &rt,
+            alloc,
+            RECONVERGENT,
+            workers,
+            Watching::new(0, false),
+        )?;
+        assert!(&rt;
+            (reported.is_exact, reported.low, reported.nodes, measured) == (true, 3, 31, 32)
+        );
+        let (reported, measured) = counted(&rt, alloc, SLOW_ARM, workers, Watching::new(0, false))?;
+        assert!(&rt; reported.is_exact && reported.low == 5 && reported.nodes >= 9);
+        assert_eq!(&rt; measured, reported.nodes.saturating_add(1));
         assert!(&rt; workers > 1 || measured == 10);
     }
     Ok(())
 }
 
-/// What workers found is taken over at the end: where a worker had the strongest bound of a leaf, the tree has it, though a search in one
-/// thread closes each leaf of a slow arm by one domain, which is enough.
+/// What workers found is taken over at the end: where a worker had the strongest bound of a leaf,
+/// the tree has it, though a search in one thread closes each leaf of a slow arm by one domain,
+/// which is enough.
 #[test]
 fn evidence_taken_over(rt: HostRuntime) -> Result<(), Fail> {
     for workers in 1..5 {
         let prober = Watching::new(0, false).with_the_strongest();
-        let (told, measured) = counted(&rt, rt.alloc(), SLOW_ARM, workers, prober)?;
-        assert!(&rt; told.is_exact && told.low == 5 && told.by_both >= 1);
-        assert_eq!(&rt; measured, told.nodes.saturating_add(1));
+        let (reported, measured) = counted(&rt, rt.alloc(), SLOW_ARM, workers, prober)?;
+        assert!(&rt; reported.is_exact && reported.low == 5 && reported.by_both >= 1);
+        assert_eq!(&rt; measured, reported.nodes.saturating_add(1));
     }
     Ok(())
 }
@@ -58,8 +68,8 @@ fn evidence_taken_over(rt: HostRuntime) -> Result<(), Fail> {
 #[test]
 fn two_probes_at_once(rt: HostRuntime) -> Result<(), Fail> {
     let prober = Watching::new(0, true);
-    let told = found(&rt, rt.alloc(), LOST, &prober, 2, 1_000_000)?;
-    assert!(&rt; (told.is_exact, told.low, told.nodes) == (true, 0, 7));
+    let reported = found(&rt, rt.alloc(), LOST, &prober, 2, 1_000_000)?;
+    assert!(&rt; (reported.is_exact, reported.low, reported.nodes) == (true, 0, 7));
     assert_eq!(&rt; prober.missed.load(Ordering::SeqCst), 0);
     assert_eq!(&rt; prober.bounded.load(Ordering::SeqCst), 2);
     Ok(())
@@ -68,10 +78,12 @@ fn two_probes_at_once(rt: HostRuntime) -> Result<(), Fail> {
 #[test]
 fn one_worker_answers_as_alone(rt: HostRuntime) -> Result<(), Fail> {
     for budget in 0..10 {
-        let told = found(&rt, rt.alloc(), SLOW_ARM, &Own, 1, budget)?;
+        let reported = found(&rt, rt.alloc(), SLOW_ARM, &Own, 1, budget)?;
         let wanted = found_alone(&rt, rt.alloc(), SLOW_ARM, budget)?;
-        assert!(&rt; (told.low, told.high, told.nodes) == (wanted.low, wanted.high, wanted.nodes));
-        assert!(&rt; told.is_exact == wanted.is_exact && told.is_exact == (budget == 9));
+        assert!(&rt;
+            (reported.low, reported.high, reported.nodes) == (wanted.low, wanted.high, wanted.nodes)
+        );
+        assert!(&rt; reported.is_exact == wanted.is_exact && reported.is_exact == (budget == 9));
     }
     Ok(())
 }
@@ -79,8 +91,8 @@ fn one_worker_answers_as_alone(rt: HostRuntime) -> Result<(), Fail> {
 #[test]
 fn one_and_two_workers_by_strategy(rt: HostRuntime) -> Result<(), Fail> {
     for workers in 1..3 {
-        let told = found_with(&rt, rt.alloc(), RECONVERGENT, workers, 1_000_000)?;
-        assert!(&rt; (told.is_exact, told.low, told.nodes) == (true, 3, 31));
+        let reported = found_with(&rt, rt.alloc(), RECONVERGENT, workers, 1_000_000)?;
+        assert!(&rt; (reported.is_exact, reported.low, reported.nodes) == (true, 3, 31));
         let cut = found_with(&rt, rt.alloc(), RECONVERGENT, workers, 5)?;
         assert!(&rt; !cut.is_exact && cut.low <= 3 && cut.high >= 3 && cut.nodes == 5);
     }
@@ -92,7 +104,7 @@ fn without_numbers<R: Threads + Wait + Sync + Abort>(
     rt: &R,
     alloc: Global,
     workers: u32,
-) -> Result<Told, Fail> {
+) -> Result<Reported, Fail> {
     let mut decks = Vec::new(alloc);
     for _ in 0..workers {
         decks.push(Refusing)?;
@@ -103,8 +115,8 @@ fn without_numbers<R: Threads + Wait + Sync + Abort>(
 #[test]
 fn numbers_refused(rt: HostRuntime) -> Result<(), Fail> {
     for workers in 1..5 {
-        let told = without_numbers(&rt, rt.alloc(), workers)?;
-        assert!(&rt; (told.is_exact, told.low, told.nodes) == (true, 3, 2047));
+        let reported = without_numbers(&rt, rt.alloc(), workers)?;
+        assert!(&rt; (reported.is_exact, reported.low, reported.nodes) == (true, 3, 2047));
     }
     Ok(())
 }
@@ -126,13 +138,14 @@ fn counting<'a>(
 fn numbers_given(rt: HostRuntime) -> Result<(), Fail> {
     let given = AtomicU64::new(0);
     let decks = counting(rt.alloc(), 1, &given)?;
-    let told = found_by(&rt, rt.alloc(), WIDE, decks, 1)?;
-    assert!(&rt; (told.is_exact, told.low, told.nodes) == (true, 3, 2047));
+    let reported = found_by(&rt, rt.alloc(), WIDE, decks, 1)?;
+    assert!(&rt; (reported.is_exact, reported.low, reported.nodes) == (true, 3, 2047));
     assert!(&rt; given.load(Ordering::SeqCst) >= 1);
     Ok(())
 }
 
-/// What another steals and the owner takes, once it has put two numbers, and what is left to steal: as digits, 0 for nothing.
+/// What another steals and the owner takes, once it has put two numbers, and what is left to steal:
+/// as digits, 0 for nothing.
 fn taken(mut one: Deck, mut other: Deck) -> [u32; 3] {
     if one.push(5).is_err() || one.push(6).is_err() {
         return [0; 3];

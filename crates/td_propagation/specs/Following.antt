@@ -39,7 +39,8 @@ follow_at (Some Nothing) rest = Shown
 follow_at (Some (One literal)) rest = rest
 follow_at (Some Several) rest = HintOpen
 
--- Where hints lead, with these literals taken to be false: the first that leaves nothing shows it, and each before leaves one.
+-- Where hints lead, with these literals taken to be false: the first that leaves nothing shows it,
+-- and each before leaves one.
 abbrev pub follow : List (Vec Literal Global) → List Mark → List ℕ → Outcome
 follow clauses marks [] = NotShown
 follow clauses marks (hint ∷ hints) =

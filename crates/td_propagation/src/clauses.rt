@@ -8,7 +8,8 @@ use crate::left::Left;
 use crate::literal::Literal;
 use std::alloc::{AllocError, Global};
 
-/// What hints lead to: a clause that is false, a hint that is no clause's, one that leaves several literals, or no clause that is false.
+/// What hints lead to: a clause that is false, a hint that is no clause's, one that leaves several
+/// literals, or no clause that is false.
 #[derive(Clone, Copy, Debug, PartialEq, Eq, Drop)]
 pub enum Outcome {
     Shown,

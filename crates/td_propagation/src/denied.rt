@@ -116,7 +116,8 @@ impl Denied {
         }
     }
 
-    /// Takes a literal to be false. One whose variable there isn't is left out. The error is out of memory.
+    /// Takes a literal to be false. One whose variable there isn't is left out. The error is out of
+    /// memory.
     pub fn deny(&mut self, literal: Literal) -> Result<(), AllocError>
         ensures marks { OnOk result (self.new.marks.items ≡ denied self.old.marks.items literal) }
         ensures len { length self.new.marks.items ≡ length self.old.marks.items }

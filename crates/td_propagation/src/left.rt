@@ -2,8 +2,8 @@
 
 use crate::literal::Literal;
 
-/// What is left of a clause whose literals are taken one by one, without those that are taken to be false: nothing, one literal, which may have come more
-/// than once, or several.
+/// What is left of a clause whose literals are taken one by one, without those that are taken to be
+/// false: nothing, one literal, which may have come more than once, or several.
 #[derive(Clone, Copy, Debug, PartialEq, Eq, Drop)]
 pub enum Left {
     Nothing,

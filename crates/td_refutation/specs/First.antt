@@ -18,7 +18,8 @@ allows Zero bit = not bit
 allows One bit = bit
 allows Free bit = true
 
--- to which levels an input may change at its moment: to one that its second trit allows, where its first allows the other one
+-- to which levels an input may change at its moment: to one that its second trit allows, where its
+-- first allows the other one
 abbrev pub input_to : Trit → Trit → Directions
 input_to first second = record { falls = allows first true && allows second false; rises = allows first false && allows second true }
 
@@ -46,7 +47,8 @@ gates_from sets (gate ∷ gates) = gates_from (with_gate sets gate) gates
 abbrev pub constants : List NetSets
 constants = with_net (with_net [] [] []) [] []
 
--- The first sets of a cube: the constants never change, an input at its moment as its trits allow, and each gate by its rule, in the circuit's order.
+-- The first sets of a cube: the constants never change, an input at its moment as its trits allow,
+-- and each gate by its rule, in the circuit's order.
 abbrev pub first_sets : Numbered → List Bool → List Trit → List NetSets
 first_sets circuit held cube = gates_from (inputs_from constants held cube circuit.moments) circuit.gates
 

@@ -26,8 +26,9 @@ literal_from None name number = Err NoSuchLiteral
 literal_from (Some sets) name number =
     if name / 2 % 2 == 0 then literal_number sets.level number (name % 2 == 0) else literal_number sets.target number (name % 2 == 0)
 
--- The literal with two numbers: four times its net, and 2 more for the target in place of the level, and 1 more where it says that the variable
--- is 0; and the variable's number among the wire's.
+-- The literal with two numbers: four times its net, and 2 more for the target in place of the
+-- level, and 1 more where it says that the variable is 0; and the variable's number among the
+-- wire's.
 abbrev pub literal_of : Numbered → List NetSets → ℕ → ℕ → Result Literal Flaw
 literal_of circuit nets name number = net_number circuit (name / 4) >>= λ net. literal_from (slice_get nets net) name number
 

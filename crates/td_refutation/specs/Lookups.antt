@@ -19,7 +19,8 @@ gate_from inputs gates (Some net) =
     then Err NoSuchGate
     else (if nat_lt (net - 2) inputs then Err NoSuchGate else (if nat_lt (net - 2 - inputs) gates then Ok (net, net - 2 - inputs) else Err NoSuchGate))
 
--- the net that a gate drives, which has this number in the netlist's order, and the gate's place in the circuit's order
+-- the net that a gate drives, which has this number in the netlist's order, and the gate's place in
+-- the circuit's order
 abbrev pub gate_place : Numbered → ℕ → Result (ℕ × ℕ) Flaw
 gate_place circuit gate = gate_from (length circuit.netlist.inputs) (length circuit.gates) (slice_get circuit.gate_outputs gate)
 
@@ -27,7 +28,8 @@ abbrev pub net_from : Option ℕ → Result ℕ Flaw
 net_from None = Err NoSuchNet
 net_from (Some net) = Ok net
 
--- the net with a number: the constants, the inputs, and then the outputs of the gates in the netlist's order
+-- the net with a number: the constants, the inputs, and then the outputs of the gates in the
+-- netlist's order
 abbrev pub net_number : Numbered → ℕ → Result ℕ Flaw
 net_number circuit number =
     if nat_lt number 2

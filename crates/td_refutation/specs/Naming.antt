@@ -75,7 +75,8 @@ hold_clause circuit nets numbers = do
   back ← back_of it.3 (steps_to (the_gate circuit gate.1).delay level)
   Ok (hold_literals nets gate.0 moment level back)
 
--- whether no change of a net to a level is possible between two places, of which the first is the lesser
+-- whether no change of a net to a level is possible between two places, of which the first is the
+-- lesser
 abbrev pub kept_between : List NetSets → ℕ → Bool → ℕ → ℕ → Result Bool Flaw
 kept_between nets net level first last =
     if not (nat_lt first last) || any_between (net_at nets net).level first last (not level) then Err NoSuchClause else Ok level

@@ -1,4 +1,5 @@
--- Timing: the levels of a circuit's nets and of its gates' targets in a run, by number and place. Place n is just before moment n.
+-- Timing: the levels of a circuit's nets and of its gates' targets in a run, by number and place.
+-- Place n is just before moment n.
 use Rattle.std.specs.Prelude.{ℕ, ◌-◌, nat_lt, Bool, false, map, get_or, if◌then◌else◌}
 use Rattle.td_gates.specs.declared.primitives.Level.TheVariants.{One}
 use Rattle.td_gates.specs.Table.{level_eq}

@@ -25,7 +25,8 @@ pub record Step : Type 0 where
 abbrev pub step_of : code.Step → Step
 step_of step = record { kind = step.kind; numbers = step.numbers.items }
 
--- Each of these steps is good where those before it were done, and they lead from the first sets and clauses to the last ones.
+-- Each of these steps is good where those before it were done, and they lead from the first sets
+-- and clauses to the last ones.
 abbrev pub AreDone : Numbered → List Trit → ℕ → List Step → List NetSets → List (Vec Literal Global) → List NetSets → List (Vec Literal Global) → Type 0
 AreDone circuit cube variables [] sets clauses sets' clauses' = (sets' ≡ sets) × (clauses' ≡ clauses)
 AreDone circuit cube variables (step ∷ steps) sets clauses sets' clauses' =

@@ -53,7 +53,8 @@ fn input_changes(
     }
 }
 
-/// Adds the sets of the inputs, and answers how many variables there are now; `None` where these are too many. The error is out of memory.
+/// Adds the sets of the inputs, and answers how many variables there are now; `None` where these
+/// are too many. The error is out of memory.
 fn add_inputs(
     alloc: Global,
     circuit: &Circuit,
@@ -101,7 +102,8 @@ fn gate_changes(
     Ok((level, target))
 }
 
-/// Adds the sets of the gates' outputs, and answers how many variables there are now; `None` where these are too many. The error is out of memory.
+/// Adds the sets of the gates' outputs, and answers how many variables there are now; `None` where
+/// these are too many. The error is out of memory.
 fn add_gates(
     alloc: Global,
     gates: &[Gate],
@@ -123,7 +125,8 @@ fn add_gates(
     Ok(Some(count))
 }
 
-/// Adds the sets of a constant, and answers how many variables there are now. The error is out of memory.
+/// Adds the sets of a constant, and answers how many variables there are now. The error is out of
+/// memory.
 fn add_constant(
     alloc: Global,
     sets: &mut Vec<NetSets>,
@@ -136,7 +139,8 @@ fn add_constant(
     add_net(sets, variables, Changes::none(alloc), Changes::none(alloc))
 }
 
-/// The first sets of a cube, and how many variables they have; `None` where these are too many. The error is out of memory.
+/// The first sets of a cube, and how many variables they have; `None` where these are too many. The
+/// error is out of memory.
 pub fn first_sets(
     alloc: Global,
     circuit: &Circuit,

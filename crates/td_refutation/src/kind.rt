@@ -9,7 +9,8 @@ pub enum StepKind {
     Window,
     /// Adds the clause that a gate's target had a level that its output changes to.
     Hold,
-    /// Adds the clause that a net keeps a level that no change possible between two places leads away from.
+    /// Adds the clause that a net keeps a level that no change possible between two places leads
+    /// away from.
     Order,
     /// Adds the clause of a bit that the cube fixes.
     Fixed,

@@ -2,7 +2,8 @@
 
 ghost use Rattle.td_refutation.specs.Whole.{RefutedIsBounded};
 
-/// Where steps are accepted from a setting and a cube with a bound, no admitted pair of the cube has a delay above it.
+/// Where steps are accepted from a setting and a cube with a bound, no admitted pair of the cube
+/// has a delay above it.
 pub fn refuted_is_bounded()
     ensures { RefutedIsBounded }
 {}

@@ -41,8 +41,9 @@ fn literal_number(wire: &Wire, number: u64, positive: bool) -> Result<Literal, S
     }
 }
 
-/// The literal with these two numbers: four times its net, and 2 more for the target in place of the level, and 1 more where it says that the variable is 0; and
-/// the variable's number among the wire's.
+/// The literal with these two numbers: four times its net, and 2 more for the target in place of
+/// the level, and 1 more where it says that the variable is 0; and the variable's number among the
+/// wire's.
 fn literal_of(
     circuit: &Circuit,
     nets: &[NetSets],

@@ -1,4 +1,5 @@
-//! Refutations: steps that show that no admitted pair of a cube changes an output later than a moment.
+//! Refutations: steps that show that no admitted pair of a cube changes an output later than a
+//! moment.
 #![tactic(auto)]
 
 mod first;

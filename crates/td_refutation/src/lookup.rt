@@ -1,5 +1,5 @@
-//! Gates and nets by the numbers that steps name them by: gates in the order of the netlist; the constants, the inputs, and then the gates' outputs in that
-//! order.
+//! Gates and nets by the numbers that steps name them by: gates in the order of the netlist; the
+//! constants, the inputs, and then the gates' outputs in that order.
 
 ghost use Rattle.std.specs.Prelude.{◌≡◌, ◌<◌, ◌≤◌, length, IfOk};
 ghost use Rattle.td_gates.specs.Table.{TakesInputs};

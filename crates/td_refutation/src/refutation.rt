@@ -17,7 +17,8 @@ use td_clauses::{NetSets, again, cut};
 use td_domain::{Admit, Cube};
 use td_propagation::Clauses;
 
-/// The sets of possible changes that steps have left of a cube's first sets, and the clauses that they have added.
+/// The sets of possible changes that steps have left of a cube's first sets, and the clauses that
+/// they have added.
 #[derive(Drop)]
 pub struct Refutation {
     sets: Vec<NetSets>,
@@ -141,8 +142,8 @@ impl Refutation {
         }
     }
 
-    /// The first sets of a cube, and no clauses: what each run of an admitted pair of the cube meets. `None` where the sets have more than `LIMIT` variables. The
-    /// error is out of memory.
+    /// The first sets of a cube, and no clauses: what each run of an admitted pair of the cube
+    /// meets. `None` where the sets have more than `LIMIT` variables. The error is out of memory.
     pub fn new(
         alloc: Global,
         circuit: &Circuit,
@@ -155,7 +156,8 @@ impl Refutation {
         ensures few { IfOk result (λ made. IfSome made (λ refutation. variables_of refutation ≤ LIMIT)) }
         ensures sound { IfOk result (λ made. IfSome made (λ refutation. Refutes circuit.now admit.now cube.now (sets_of refutation) (clauses_of refutation))) }
     {
-        // For the prover: these calls say that the gates are in order, and that each input has a moment.
+        // For the prover: these calls say that the gates are in order, and that each input has a
+        // moment.
         let _gates = circuit.gates();
         let _moments = circuit.moments();
         let Some((sets, variables)) = first_sets(alloc, circuit, admit.held(), cube)? else {
@@ -165,7 +167,8 @@ impl Refutation {
         Ok(Some(Refutation { sets, clauses }))
     }
 
-    /// Does a step of the refutation of a cube. A step that isn't good changes nothing, and the error says why it isn't.
+    /// Does a step of the refutation of a cube. A step that isn't good changes nothing, and the
+    /// error says why it isn't.
     pub fn step(
         &mut self,
         alloc: Global,
@@ -182,18 +185,21 @@ impl Refutation {
         ensures variables { variables_of self.new ≡ variables_of self.old }
         ensures sound { (admit : Admitted) → length admit.held ≡ length circuit.now.netlist.inputs → Refutes circuit.now admit cube.now (sets_of self.old) (clauses_of self.old) → Refutes circuit.now admit cube.now (sets_of self.new) (clauses_of self.new) }
     {
-        // For the prover: these calls say that the gates are in order, and that each input has a moment.
+        // For the prover: these calls say that the gates are in order, and that each input has a
+        // moment.
         let _gates = circuit.gates();
         let _moments = circuit.moments();
         self.do_step(alloc, circuit, cube, kind, numbers)
     }
 
-    /// The greatest moment at which an output may change still, 0 where none may. No admitted pair of the cube has a greater delay.
+    /// The greatest moment at which an output may change still, 0 where none may. No admitted pair
+    /// of the cube has a greater delay.
     pub fn bound(&self, circuit: &Circuit) -> u64
         ensures bound { result ≡ latest_of (sets_of self.now) circuit.now.outputs }
         ensures sound { (admit : Admitted) (cube : List Trit) → length cube ≡ 2 * length circuit.now.netlist.inputs → Refutes circuit.now admit cube (sets_of self.now) (clauses_of self.now) → IsUpperBoundOf (setting circuit.now) admit cube result }
     {
-        // For the prover: these calls say that the gates are in order, and that each input has a moment.
+        // For the prover: these calls say that the gates are in order, and that each input has a
+        // moment.
         let _gates = circuit.gates();
         let _moments = circuit.moments();
         latest_of(&self.sets, circuit.outputs())
@@ -207,7 +213,8 @@ fn cut_at(sets: &mut Vec<NetSets>, net: usize, moment: u64, level: bool)
     cut(sets, net, moment, level);
 }
 
-// Takes the sets of the gate at a place again, which drives a net. The error is out of memory, and then all is as before.
+// Takes the sets of the gate at a place again, which drives a net. The error is out of memory, and
+// then all is as before.
 fn again_at(
     alloc: Global,
     circuit: &Circuit,

@@ -18,7 +18,8 @@ pub struct Step {
     pub numbers: Vec<u64>,
 }
 
-/// Why a refutation isn't accepted: out of memory, sets with too many variables, or a step that isn't good, by its place.
+/// Why a refutation isn't accepted: out of memory, sets with too many variables, or a step that
+/// isn't good, by its place.
 #[derive(Clone, Copy, Debug, PartialEq, Eq, Drop)]
 pub enum Refusal {
     OutOfMemory,
@@ -37,7 +38,8 @@ impl From<std::alloc::AllocError> for Refusal {
     }
 }
 
-/// The bound that the steps of a refutation show: no admitted pair of the cube has a greater delay. Else why they aren't accepted.
+/// The bound that the steps of a refutation show: no admitted pair of the cube has a greater delay.
+/// Else why they aren't accepted.
 pub fn refuted(
     alloc: Global,
     circuit: &Circuit,

@@ -4,7 +4,7 @@ ghost use Rattle.std.specs.Prelude.{◌≡◌, length, IfOk};
 ghost use Rattle.td_domain.specs.Admits.{IsAdmitted};
 ghost use Rattle.td_domain.specs.PairBits.{AreAdmitted};
 
-use crate::runs::Told;
+use crate::runs::Reported;
 use std::alloc::{AllocError, Global};
 use std::marker::Model;
 use td_circuit::Circuit;
@@ -94,13 +94,13 @@ impl<'a> Asked<'a> {
     }
 
     /// The run of an admitted pair. The error is out of memory.
-    pub fn run(&self, alloc: Global, pair: &Pair) -> Result<Told, AllocError>
+    pub fn run(&self, alloc: Global, pair: &Pair) -> Result<Reported, AllocError>
         requires { IsAdmitted self.now.admit pair.now }
     {
         let circuit = self.circuit();
         let admit = self.admit();
         let _pins = admit.pins();
-        Told::of(alloc, circuit, pair)
+        Reported::of(alloc, circuit, pair)
     }
 }
 

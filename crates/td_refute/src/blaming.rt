@@ -1,7 +1,7 @@
 //! Which variables a model gives a wrong value for want of clauses.
 
 use crate::asked::Asked;
-use crate::runs::Told;
+use crate::runs::Reported;
 use crate::search::Search;
 use std::alloc::AllocError;
 use td_formula::{WireVariable, read, write_at};
@@ -12,7 +12,7 @@ impl Search {
     pub fn blame(
         &mut self,
         asked: &Asked<'_>,
-        run: &Told,
+        run: &Reported,
         before: WireVariable,
         there: WireVariable,
     ) -> Result<bool, AllocError> {
@@ -51,7 +51,7 @@ impl Search {
     fn blame_one(
         &mut self,
         asked: &Asked<'_>,
-        run: &Told,
+        run: &Reported,
         number: u32,
         todo: &mut Vec<u32>,
         wanting: &mut Vec<u32>,

@@ -12,7 +12,7 @@ use td_run::{Run, Wave, waves};
 
 /// The run of a pair, with a wave for each net.
 #[derive(Drop)]
-pub struct Told {
+pub struct Reported {
     run: Run,
     nets: usize,
     ghost fits: { length run.waves ≡ nets },
@@ -36,11 +36,11 @@ fn levels_of(alloc: Global, bits: &[bool]) -> Result<Vec<Level>, AllocError>
     Ok(levels)
 }
 
-impl Told {
+impl Reported {
     ghost use Rattle.std.specs.Prelude.{◌≡◌, length};
 
     /// The run of a pair. The error is out of memory.
-    pub fn of(alloc: Global, circuit: &Circuit, pair: &Pair) -> Result<Told, AllocError>
+    pub fn of(alloc: Global, circuit: &Circuit, pair: &Pair) -> Result<Reported, AllocError>
         requires first { length pair.now.first ≡ length circuit.now.netlist.inputs }
         requires second { length pair.now.second ≡ length circuit.now.netlist.inputs }
     {
@@ -48,7 +48,7 @@ impl Told {
         let second = levels_of(alloc, pair.second())?;
         let run = waves(alloc, circuit, &first, &second)?;
         let nets = circuit.net_count();
-        Ok(Told { run, nets })
+        Ok(Reported { run, nets })
     }
 
     // The wave of a net, if there is such a net.

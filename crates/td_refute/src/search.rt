@@ -3,7 +3,7 @@
 use crate::asked::{Asked, Bit};
 use crate::effort::Effort;
 use crate::log::{Act, Log};
-use crate::runs::Told;
+use crate::runs::Reported;
 use std::alloc::{AllocError, Global};
 use td_circuit::Circuit;
 use td_climb::Draws;
@@ -119,7 +119,7 @@ impl Search {
     }
 
     /// Looks at the run of an admitted pair with these bits, and keeps it where it is the best.
-    pub fn look(&mut self, asked: &Asked<'_>, bits: Vec<Bit>) -> Result<Told, AllocError> {
+    pub fn look(&mut self, asked: &Asked<'_>, bits: Vec<Bit>) -> Result<Reported, AllocError> {
         let pair = asked.pair(self.alloc, &bits)?;
         let run = asked.run(self.alloc, &pair)?;
         for net in 0..self.seen.len() {

@@ -26,12 +26,12 @@ are_waves [] waves are = tt
 are_waves (name ∷ names) waves are = (are (Named name), are_waves names waves are)
 
 pub sim_says : DumpsOfTextsSay → FilesOfSimSay
-sim_says say text default from to at name report files told = (
-  dump told.setting.netlist (variable_waves told.setting.netlist told.waves),
-  told.dumped,
-  say text default told.setting.netlist (variable_waves told.setting.netlist told.waves) told.is_setting.means
-      (are_waves (driven told.setting.netlist) told.waves told.runs.are_waves)
-      (length-map (driven told.setting.netlist) (λ (name : Name). told.waves (Named name))),
+sim_says say text default from to at name report files reported = (
+  dump reported.setting.netlist (variable_waves reported.setting.netlist reported.waves),
+  reported.dumped,
+  say text default reported.setting.netlist (variable_waves reported.setting.netlist reported.waves) reported.is_setting.means
+      (are_waves (driven reported.setting.netlist) reported.waves reported.runs.are_waves)
+      (length-map (driven reported.setting.netlist) (λ (name : Name). reported.waves (Named name))),
 )
 
 pub pair_says : DumpsOfTextsSay → FilesOfPairsSay

@@ -22,7 +22,7 @@ refused-fits text default fault refused is only has =
     let P : Refusal → Type 0 = λ r. HasNoCircuit text default r in
     elim is [
       | inl memory ↦ subst P (sym memory) tt
-      | inr other ↦ subst P (sym other.1) (record { told = other.0; means_none = λ netlist means. other.0 (only netlist means); has = has })
+      | inr other ↦ subst P (sym other.1) (record { reported = other.0; means_none = λ netlist means. other.0 (only netlist means); has = has })
     ]
 
 pub looped-fits : (text : List ℕ) (default : Delay) (netlist : Netlist) → Means text default netlist → (fault : BuildFault) (refused : Refusal)

@@ -33,7 +33,8 @@ bounds_text netlist arrivals possibles together =
 abbrev pub edges_text : Option ℕ → Option ℕ → List ℕ
 edges_text alone together = bound_line (codes "e") alone ++ bound_line (codes "n") together
 
--- the bound that a domain gives of a cube: where it is a moment, no pair of the cube has a greater delay
+-- the bound that a domain gives of a cube: where it is a moment, no pair of the cube has a greater
+-- delay
 pub record IsSoundBound (domain : BoundedBy) (setting : Setting) (cube : List Trit) (bound : Option ℕ) : Type 0 where
   pub is : IsBoundBy domain setting cube bound
   pub sound : (moment : ℕ) → bound ≡ Some moment → IsUpperBoundIn setting cube moment
@@ -51,8 +52,8 @@ abbrev pub HasEdges : Bool → Setting → List Trit → List ℕ → List ℕ �
 HasEdges false setting cube report whole = whole ≡ report
 HasEdges true setting cube report whole = EndsWithEdges setting cube report whole
 
--- The text and the last option give a setting, the other two options give trits for its inputs, and the report has the bounds
--- of their cube, those by edges where they are asked for.
+-- The text and the last option give a setting, the other two options give trits for its inputs, and
+-- the report has the bounds of their cube, those by edges where they are asked for.
 pub record IsBoundReport (text : List ℕ) (default : Delay) (first second at : Option (List ℕ)) (edges : Bool) (report : List ℕ) : Type 0 where
   pub setting : Setting
   pub is_setting : IsSetting text default at setting

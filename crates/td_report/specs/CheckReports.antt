@@ -11,8 +11,8 @@ use Rattle.td_report.specs.declared.status.Status.{Status}
 use Rattle.td_report.specs.declared.status.Status.TheVariants as status
 use Rattle.td_report.specs.Reports.{newline}
 
--- the time of a certificate that is accepted, and the lines of its text that tell what it is about, which the first version of
--- the text hasn't
+-- the time of a certificate that is accepted, and the lines of its text that tell what it is about,
+-- which the first version of the text hasn't
 abbrev pub accepted_text : Certificate → List ℕ
 accepted_text certificate = codes "accepted " ++ decimal certificate.time ++ newline ++ question_text (version_in certificate) certificate.question
 
@@ -39,8 +39,9 @@ abbrev pub verdict_text : Certificate → Verdict → List ℕ
 verdict_text certificate Accepted = accepted_text certificate
 verdict_text certificate other = refused_text other
 
--- The two texts have a verdict, by which the program ends, and the report tells it. An accepted time is the worst delay of
--- the pairs that the certificate admits, in the netlist that its text means, with the certificate's moments.
+-- The two texts have a verdict, by which the program ends, and the report tells it. An accepted
+-- time is the worst delay of the pairs that the certificate admits, in the netlist that its text
+-- means, with the certificate's moments.
 pub record IsCheckReport (text : List ℕ) (default : Delay) (certificate_text : List ℕ) (ending : Status) (report : List ℕ) : Type 0 where
   pub verdict : Verdict
   pub has : HaveVerdict text default certificate_text verdict

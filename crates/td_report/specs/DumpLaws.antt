@@ -19,7 +19,8 @@ use Rattle.td_report.specs.Reports.{IsSimReport}
 abbrev pub NamesOfTexts : Type 0
 NamesOfTexts = (text : List ℕ) (default : Delay) (netlist : Netlist) → Means text default netlist → HasNamesOnOneLine netlist
 
--- read back, a dump of a wave for each driven net of the netlist that a text means says exactly these waves
+-- read back, a dump of a wave for each driven net of the netlist that a text means says exactly
+-- these waves
 abbrev pub DumpsOfTextsSay : Type 0
 DumpsOfTextsSay = (text : List ℕ) (default : Delay) (netlist : Netlist) (waves : List Wave) → Means text default netlist
     → AllByRecursion IsWave waves → length waves ≡ length (driven netlist) → Says (dump netlist waves) waves
@@ -31,10 +32,11 @@ IsFileOf name waves files = (text : List ℕ) × (files ≡ record { name = name
 -- the file that `sim` writes says exactly the waves of the run that its report tells
 abbrev pub FilesOfSimSay : Type 0
 FilesOfSimSay = (text : List ℕ) (default : Delay) (from to : List ℕ) (at : Option (List ℕ)) (name report : List ℕ) (files : List FileText)
-    → (told : IsSimReport text default from to at (Some name) report files)
-    → IsFileOf name (variable_waves told.setting.netlist told.waves) files
+    → (reported : IsSimReport text default from to at (Some name) report files)
+    → IsFileOf name (variable_waves reported.setting.netlist reported.waves) files
 
--- the file of a pair's dump says exactly the waves of the pair's run, where the netlist is that of a text
+-- the file of a pair's dump says exactly the waves of the pair's run, where the netlist is that of
+-- a text
 abbrev pub FilesOfPairsSay : Type 0
 FilesOfPairsSay = (text : List ℕ) (default : Delay) (setting : Setting) (pair : Pair) (name : List ℕ) (files : List FileText)
     → Means text default setting.netlist → (dumped : IsDumpOf setting pair (Some name) files)

@@ -13,8 +13,8 @@ use Rattle.td_report.specs.declared.refusal.Refusal.TheVariants as refusal
 use Rattle.td_files.specs.Files.{FileStep, FileText, AreWritten, IsLeft}
 use Rattle.td_report.specs.Refusals.{refusal_text, unwritten_text}
 
--- what a command says: its report, the texts for files in the order in which they are written, and how it ends once all that
--- is out
+-- what a command says: its report, the texts for files in the order in which they are written, and
+-- how it ends once all that is out
 pub record Product : Type 0 where
   pub report : List ℕ
   pub files : List FileText
@@ -53,7 +53,7 @@ Tells old new line = Sent old new line ⊎ Failed old new line
 
 -- the name of a written file in messages: `stdout` for `-`
 abbrev pub IsWrittenAs : List ℕ → List ℕ → Type 0
-IsWrittenAs name told = ((name ≢ codes "-") × (told ≡ name)) ⊎ ((name ≡ codes "-") × (told ≡ codes "stdout"))
+IsWrittenAs name reported = ((name ≢ codes "-") × (reported ≡ name)) ⊎ ((name ≡ codes "-") × (reported ≡ codes "stdout"))
 
 -- a line says that a file can't be written; in place of a device's failure it may say that memory
 -- ran out
@@ -64,10 +64,10 @@ TellsUnwritten name fault old new =
 
 -- a line gives a reason, or says in its place that memory ran out
 pub record TellsReason (reason : Refusal) (status : Status) (old new : Output) : Type 0 where
-  pub told : Refusal
-  pub which : (told ≡ reason) ⊎ (told ≡ refusal.OutOfMemory)
-  pub tells : Tells old new (refusal_text told)
-  pub ends : status ≡ status_of told
+  pub reported : Refusal
+  pub which : (reported ≡ reason) ⊎ (reported ≡ refusal.OutOfMemory)
+  pub tells : Tells old new (refusal_text reported)
+  pub ends : status ≡ status_of reported
 
 -- a line says that this file can't be read, or that memory ran out
 abbrev pub TellsUnread : Bor (List ℕ) → ReadFault → Status → Output → Output → Type 0
@@ -94,7 +94,7 @@ pub record LosesOne (files : List FileText) (breaks : List ℕ → Type 0) (step
   pub written : AreWritten before done
   pub fault : WriteFault
   pub left : IsLeft (breaks lost.name) lost fault rest
-  pub told : TellsUnwritten lost.name fault old new
+  pub reported : TellsUnwritten lost.name fault old new
 
 module _ (IsProduct : Product → Type 0) (Holds : Refusal → Type 0) (breaks : List ℕ → Type 0)
     (steps : List FileStep) (status : Status) (old new : Streams) where
@@ -112,7 +112,7 @@ module _ (IsProduct : Product → Type 0) (Holds : Refusal → Type 0) (breaks :
   pub record Refuses : Type 0 where
     pub reason : Refusal
     pub why : reason ≢ refusal.OutOfMemory → Holds reason
-    pub told : Tells old.err new.err (refusal_text reason)
+    pub reported : Tells old.err new.err (refusal_text reason)
     pub nothing : new.out ≡ old.out
     pub no_file : steps ≡ []
     pub ends : status ≡ status_of reason
@@ -122,7 +122,7 @@ module _ (IsProduct : Product → Type 0) (Holds : Refusal → Type 0) (breaks :
     pub product : Product
     pub is : IsProduct product
     pub broke : Failed old.out new.out product.report
-    pub told : Tells old.err new.err (unwritten_text (codes "stdout"))
+    pub reported : Tells old.err new.err (unwritten_text (codes "stdout"))
     pub no_file : steps ≡ []
     pub ends : status ≡ Device
 
@@ -139,8 +139,8 @@ module _ (IsProduct : Product → Type 0) (Holds : Refusal → Type 0) (breaks :
   Ends = Finishes ⊎ (Refuses ⊎ (LosesReport ⊎ LosesFile))
 
 -- lines were written to standard error, and after them the command ended like this
-pub record EndsBehind (Told : Output → Output → Type 0) (IsProduct : Product → Type 0) (Holds : Refusal → Type 0) (breaks : List ℕ → Type 0)
+pub record EndsBehind (Reported : Output → Output → Type 0) (IsProduct : Product → Type 0) (Holds : Refusal → Type 0) (breaks : List ℕ → Type 0)
     (steps : List FileStep) (status : Status) (old new : Streams) : Type 0 where
   pub mid : Output
-  pub told : Told old.err mid
+  pub reported : Reported old.err mid
   pub ends : Ends IsProduct Holds breaks steps status (streams old.out mid) new

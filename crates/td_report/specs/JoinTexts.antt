@@ -37,7 +37,8 @@ one_text one why = codes "tdelay: " ++ one ++ codes ": " ++ why
 unfoldable pub gap_text : List ℕ → List ℕ
 gap_text pins = codes "tdelay: no part for " ++ pins
 
--- the line, but for its end, that tells why certificates aren't joined, those of these two files where it tells two
+-- the line, but for its end, that tells why certificates aren't joined, those of these two files
+-- where it tells two
 abbrev pub unjoined_text : JoinFault → List ℕ → List ℕ → List ℕ
 unjoined_text fault.OutOfMemory one other = codes "tdelay: out of memory"
 unjoined_text fault.NoCertificate one other = codes "tdelay: no certificate"

@@ -44,7 +44,7 @@ pub record HasBadWord (text : List ℕ) (default : Delay) (words : VectorWords) 
 
 -- the text means no netlist, and has the fault
 pub record IsNetlistFault (text : List ℕ) (default : Delay) (fault : Fault) : Type 0 where
-  pub told : fault.kind ≢ kind.OutOfMemory
+  pub reported : fault.kind ≢ kind.OutOfMemory
   pub means_none : (netlist : Netlist) → ¬ Means text default netlist
   pub has : IsFaultIn text fault.kind fault.line
 
@@ -83,7 +83,8 @@ refusal_of (check.Netlist fault) = refusal.Netlist fault
 refusal_of (check.Loop name) = refusal.Loop name
 refusal_of (check.Certificate fault) = refusal.Certificate fault
 
--- what holds where this is why two texts have no verdict: the netlist's is judged first, then the certificate's
+-- what holds where this is why two texts have no verdict: the netlist's is judged first, then the
+-- certificate's
 abbrev pub HasNoVerdict : List ℕ → Delay → List ℕ → Refusal → Type 0
 HasNoVerdict text default certificate_text reason =
     (fault : CheckFault) × IsCheckFault text default certificate_text fault × (reason ≡ refusal_of fault)

@@ -18,7 +18,8 @@ IsDumpOf setting pair (Some name) files =
     (waves : Net → Wave) × Runs setting (map level_from pair.first) (map level_from pair.second) waves
     × (files ≡ file_for (Some name) (dump setting.netlist (variable_waves setting.netlist waves)))
 
--- where it is asked for, the lines tell why the output that changes last in the pair's run does so when it does
+-- where it is asked for, the lines tell why the output that changes last in the pair's run does so
+-- when it does
 abbrev pub TellsPair : Bool → Setting → Pair → List ℕ → Type 0
 TellsPair false setting pair lines = lines ≡ []
 TellsPair true setting pair lines =

@@ -58,15 +58,16 @@ pub record IsNamedSo (netlist : Netlist) (word : List ℕ) (output : Name) : Typ
   pub is_output : Contains netlist.outputs output
   pub spelled : printed output ≡ word
 
--- The lines tell why the output of this name changes last when it does. Where none is named, it is the one that changes last, the first of
--- several; where no output changes, the lines tell that.
+-- The lines tell why the output of this name changes last when it does. Where none is named, it is
+-- the one that changes last, the first of several; where no output changes, the lines tell that.
 abbrev pub TellsPath : Setting → (Net → Wave) → Option (List ℕ) → List ℕ → Type 0
 TellsPath setting waves (Some word) lines = (output : Name) × IsNamedSo setting.netlist word output × TellsOutput setting waves output lines
 TellsPath setting waves None lines =
     (((output : Name) → Contains setting.netlist.outputs output → (waves (Named output)).changes ≡ []) × (lines ≡ time_line 0))
     ⊎ ((output : Name) × IsLatest setting.netlist waves output × TellsChain setting waves output lines)
 
--- The text and the option give a setting, the two words are vectors of its inputs, and the report has the head and the lines of their run.
+-- The text and the option give a setting, the two words are vectors of its inputs, and the report
+-- has the head and the lines of their run.
 pub record IsPathReport (text : List ℕ) (default : Delay) (from to : List ℕ) (at output : Option (List ℕ)) (report : List ℕ) : Type 0 where
   pub setting : Setting
   pub is_setting : IsSetting text default at setting

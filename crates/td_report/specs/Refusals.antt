@@ -28,7 +28,7 @@ vector_word vector.At = codes "at"
 
 -- the number and the name of a fault of a netlist's text
 abbrev pub number_and_name : FaultKind → List ℕ
-number_and_name told = decimal (kinds.kind_number told) ++ codes " " ++ kinds.kind_name told
+number_and_name reported = decimal (kinds.kind_number reported) ++ codes " " ++ kinds.kind_name reported
 
 -- the token at which a text leaves the subset, in round brackets
 abbrev pub token_text : FaultKind → List ℕ

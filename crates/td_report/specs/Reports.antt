@@ -52,15 +52,15 @@ sim_text netlist waves =
     ++ output_lines netlist waves
     ++ time_line (latest_change (map (λ name. waves (Named name)) netlist.outputs))
 
--- The text means a netlist without a loop, and the option gives a moment for each of its inputs, all of them 0 where it is
--- left out.
+-- The text means a netlist without a loop, and the option gives a moment for each of its inputs,
+-- all of them 0 where it is left out.
 pub record IsSetting (text : List ℕ) (default : Delay) (at : Option (List ℕ)) (setting : Setting) : Type 0 where
   pub means : Means text default setting.netlist
   pub acyclic : ¬ Loop setting.netlist
   pub moments : AreMomentsOf (length setting.netlist.inputs) at setting.moments
 
--- The text and the option give a setting, the two words are vectors of its inputs, the report is that of their run, and where a
--- name is given for its waves, their dump is the one file.
+-- The text and the option give a setting, the two words are vectors of its inputs, the report is
+-- that of their run, and where a name is given for its waves, their dump is the one file.
 pub record IsSimReport (text : List ℕ) (default : Delay) (from to : List ℕ) (at vcd : Option (List ℕ)) (report : List ℕ)
     (files : List FileText) : Type 0 where
   pub setting : Setting

@@ -10,7 +10,8 @@ use Rattle.td_run.specs.Runs.{NetWaves, output_waves}
 use Rattle.td_report.specs.Reports.{IsSetting}
 use Rattle.td_report.specs.Vectors.{level_character, SpellsVector}
 
--- the circuit is that of the text, with the moments of the option, and the run is that of the vectors which the two words spell
+-- the circuit is that of the text, with the moments of the option, and the run is that of the
+-- vectors which the two words spell
 pub record IsSimulation (text : List ℕ) (default : Delay) (from to : List ℕ) (at : Option (List ℕ)) (circuit : Numbered) (run : NetWaves)
     : Type 0 where
   pub is_setting : IsSetting text default at (setting circuit)

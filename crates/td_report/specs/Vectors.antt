@@ -13,7 +13,8 @@ use Rattle.td_report.specs.declared.vector.VectorWord.{VectorWord}
 abbrev pub words_of : Option (Bor (List ℕ)) → Option (List ℕ)
 words_of word = option_map (λ word. word.now) word
 
--- ---- vectors and masks: the characters of trits and of inputs that are held are those of a certificate
+-- ---- vectors and masks: the characters of trits and of inputs that are held are those of a
+-- certificate
 
 -- 0, 1 and x
 abbrev pub level_character : Level → ℕ

@@ -24,9 +24,10 @@ use td_edges::Edges;
 use td_gates::Delay;
 use td_ternary::Possible;
 
-/// The report of the bounds of a cube, which is given by trits for the first vector and for the second, all free where
-/// left out, with the moments of an option: by arrival windows, by possible levels, and by both at once. Where they are asked
-/// for, by edges too, and by edges and possible levels at once.
+/// The report of the bounds of a cube, which is given by trits for the first vector and for the
+/// second, all free where left out, with the moments of an option: by arrival windows, by possible
+/// levels, and by both at once. Where they are asked for, by edges too, and by edges and possible
+/// levels at once.
 pub fn bounds<'a>(
     alloc: Global,
     text: &'a [u8],
@@ -43,15 +44,15 @@ pub fn bounds<'a>(
         HasNoBounds text.now default (words_of first.entry) (words_of second.entry) (words_of at.entry) refusal) }
 {
     let mut circuit = circuit(alloc, text, default)?;
-    let told = bounds_in(alloc, &mut circuit, first, second, at, edges)?;
-    match told {
+    let reported = bounds_in(alloc, &mut circuit, first, second, at, edges)?;
+    match reported {
         Ok(report) => Ok(report),
         Err(word) => Err(Refusal::BadVector(word)),
     }
 }
 
-/// The report of the bounds of a cube of a circuit's pairs, with the moments of an option; or the first word that gives nothing for the circuit's
-/// inputs.
+/// The report of the bounds of a cube of a circuit's pairs, with the moments of an option; or the
+/// first word that gives nothing for the circuit's inputs.
 fn bounds_in(
     alloc: Global,
     circuit: &mut Circuit,
@@ -60,9 +61,9 @@ fn bounds_in(
     at: Option<&str>,
     edges: bool,
 ) -> Result<Result<Text, VectorWord>, AllocError>
-    ensures report { IfOk result (λ told. IfOk told (λ report. (text : List ℕ) (default : Default) → IsCircuitOf text default circuit.old
+    ensures report { IfOk result (λ reported. IfOk reported (λ report. (text : List ℕ) (default : Default) → IsCircuitOf text default circuit.old
         → IsBoundReport text default (words_of first.entry) (words_of second.entry) (words_of at.entry) edges report)) }
-    ensures bad { IfOk result (λ told. IfErr told (λ word. (text : List ℕ) (default : Default) → IsCircuitOf text default circuit.old
+    ensures bad { IfOk result (λ reported. IfErr reported (λ word. (text : List ℕ) (default : Default) → IsCircuitOf text default circuit.old
         → HasNoBounds text default (words_of first.entry) (words_of second.entry) (words_of at.entry) (Reason.BadVector word))) }
 {
     let inputs = circuit.input_count();

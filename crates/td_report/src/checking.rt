@@ -2,7 +2,7 @@
 
 ghost use Rattle.std.specs.Prelude.{◌≡◌, ◌++◌, IfOk, IfErr, OnOk};
 ghost use Rattle.td_certificate.specs.Spelling.{version_in, question_text};
-ghost use Rattle.td_checker.specs.declared.verdict.Verdict.TheVariants as Told;
+ghost use Rattle.td_checker.specs.declared.verdict.Verdict.TheVariants as Reported;
 ghost use Rattle.td_report.specs.CheckReports.{accepted_text, refusing_text, refused_text, place_text, verdict_text, ending_of, IsCheckReport};
 ghost use Rattle.td_report.specs.Outcomes.{HasNoVerdict, refusal_of};
 

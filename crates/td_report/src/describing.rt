@@ -16,8 +16,9 @@ use td_gates::Delay;
 use td_info::{Range, depth, range_of};
 use td_nets::Name;
 
-/// The report that tells what is in a netlist: the module's name, the unit of a step, how many inputs, outputs and gates there are and how many
-/// gates the default delay serves, the depth, the least and the greatest delay, and the inputs and the outputs in order.
+/// The report that tells what is in a netlist: the module's name, the unit of a step, how many
+/// inputs, outputs and gates there are and how many gates the default delay serves, the depth, the
+/// least and the greatest delay, and the inputs and the outputs in order.
 pub fn info<'a>(alloc: Global, text: &'a [u8], default: Delay) -> Result<Text, Refusal<'a>>
     ensures report { IfOk result (IsInfoReport text.now default) }
     ensures refusal { IfErr result (HasNoCircuit text.now default) }
@@ -54,7 +55,8 @@ fn push_netlist(
     outputs(text, circuit)
 }
 
-/// Appends the lines of the module's name, the unit of a step, and how many inputs, outputs and gates there are.
+/// Appends the lines of the module's name, the unit of a step, and how many inputs, outputs and
+/// gates there are.
 fn push_head(alloc: Global, text: &mut Text, circuit: &Circuit) -> Result<(), AllocError>
     ensures { OnOk result (text.new ≡ text.old ++ (module_line circuit.now.netlist.name ++ unit_line circuit.now.netlist.unit
         ++ size_lines circuit.now.netlist ++ defaulted_line circuit.now.netlist.defaulted)) }

@@ -23,9 +23,10 @@ use td_nets::Name;
 use td_path::{Cause, Link, chain_of, latest_chain};
 use td_run::Run;
 
-/// The report that tells why an output changes last when it does, in the run of a pair of vectors whose inputs change at the moments of an
-/// option: the changes that lead to its last change, from that of an input on. The output is that of a name, as the report of `sim` has
-/// it, or the one that changes last.
+/// The report that tells why an output changes last when it does, in the run of a pair of vectors
+/// whose inputs change at the moments of an option: the changes that lead to its last change, from
+/// that of an input on. The output is that of a name, as the report of `sim` has it, or the one
+/// that changes last.
 pub fn path<'a>(
     alloc: Global,
     text: &'a [u8],
@@ -39,14 +40,15 @@ pub fn path<'a>(
     ensures refusal { IfErr result (HasNoPath text.now default from.now to.now (words_of at.entry) (words_of output.entry)) }
 {
     let simulation = simulated_run(alloc, text, default, from, to, at)?;
-    let told = path_in(alloc, &simulation.circuit, &simulation.run, output)?;
-    match told {
+    let reported = path_in(alloc, &simulation.circuit, &simulation.run, output)?;
+    match reported {
         Some(report) => Ok(report),
         None => Err(Refusal::NoOutput),
     }
 }
 
-/// The report on a run, of the output of this name or of the one that changes last; none where no output has the name.
+/// The report on a run, of the output of this name or of the one that changes last; none where no
+/// output has the name.
 fn path_in(
     alloc: Global,
     circuit: &Circuit,
@@ -54,8 +56,8 @@ fn path_in(
     output: Option<&str>,
 ) -> Result<Option<Text>, AllocError>
     requires { IsRunFor circuit.now run.now }
-    ensures told { IfOk result (λ told. IfSome told (ReportsPath circuit.now run.now (words_of output.entry))) }
-    ensures none { IfOk result (λ told. IfNone told (HasNoneNamed circuit.now (words_of output.entry))) }
+    ensures reported { IfOk result (λ reported. IfSome reported (ReportsPath circuit.now run.now (words_of output.entry))) }
+    ensures none { IfOk result (λ reported. IfNone reported (HasNoneNamed circuit.now (words_of output.entry))) }
 {
     match output {
         None => latest_path(alloc, circuit, run),
@@ -66,8 +68,8 @@ fn path_in(
 /// The report on the output of a run that changes last.
 fn latest_path(alloc: Global, circuit: &Circuit, run: &Run) -> Result<Option<Text>, AllocError>
     requires { IsRunFor circuit.now run.now }
-    ensures told { IfOk result (λ told. IfSome told (ReportsPath circuit.now run.now None)) }
-    ensures is { IfOk result (λ told. IfNone told ⊥) }
+    ensures reported { IfOk result (λ reported. IfSome reported (ReportsPath circuit.now run.now None)) }
+    ensures is { IfOk result (λ reported. IfNone reported ⊥) }
 {
     let mut report = Text::new(alloc);
     report::head(&mut report, circuit)?;
@@ -83,8 +85,8 @@ fn named_path(
     word: &str,
 ) -> Result<Option<Text>, AllocError>
     requires { IsRunFor circuit.now run.now }
-    ensures told { IfOk result (λ told. IfSome told (ReportsPath circuit.now run.now (Some word.now))) }
-    ensures none { IfOk result (λ told. IfNone told (HasNoneNamed circuit.now (Some word.now))) }
+    ensures reported { IfOk result (λ reported. IfSome reported (ReportsPath circuit.now run.now (Some word.now))) }
+    ensures none { IfOk result (λ reported. IfNone reported (HasNoneNamed circuit.now (Some word.now))) }
 {
     let mut report = Text::new(alloc);
     report::head(&mut report, circuit)?;

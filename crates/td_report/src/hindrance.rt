@@ -56,7 +56,8 @@ pub fn name_at<'a>(names: &[&'a str], place: usize) -> &'a str
     }
 }
 
-/// Appends the line, but for its end, that tells why certificates aren't joined: those of the two files, where it tells two.
+/// Appends the line, but for its end, that tells why certificates aren't joined: those of the two
+/// files, where it tells two.
 pub fn tell_unjoined(
     text: &mut Text,
     fault: &JoinFault,

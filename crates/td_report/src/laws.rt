@@ -24,7 +24,8 @@ pub fn files_of_sim_say()
     dumps_of_texts_say();
 }
 
-/// The file of a pair's dump says exactly the waves of the pair's run, where the netlist is that of a text.
+/// The file of a pair's dump says exactly the waves of the pair's run, where the netlist is that of
+/// a text.
 pub fn files_of_pairs_say()
     ensures { FilesOfPairsSay }
 {

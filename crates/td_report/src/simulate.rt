@@ -34,8 +34,8 @@ pub struct Simulated<'v> {
     pub dump: Option<Dump<'v>>,
 }
 
-/// The report of the run of a pair of vectors, whose inputs change at the moments of an option: when each output changes last.
-/// Its waves too, where a name is given for their file.
+/// The report of the run of a pair of vectors, whose inputs change at the moments of an option:
+/// when each output changes last. Its waves too, where a name is given for their file.
 pub fn sim<'a, 'v>(
     alloc: Global,
     text: &'a [u8],
@@ -65,7 +65,8 @@ pub struct Simulation {
     pub run: Run,
 }
 
-/// The circuit of a netlist's text, with the moments of an option, and its run under a pair of vectors.
+/// The circuit of a netlist's text, with the moments of an option, and its run under a pair of
+/// vectors.
 pub fn simulated_run<'a>(
     alloc: Global,
     text: &'a [u8],
@@ -88,7 +89,8 @@ pub fn simulated_run<'a>(
     Ok(Simulation { circuit, run })
 }
 
-/// The run of a circuit under a pair of vectors, with the moments of an option; or the first word that gives nothing for the circuit's inputs.
+/// The run of a circuit under a pair of vectors, with the moments of an option; or the first word
+/// that gives nothing for the circuit's inputs.
 fn run_in(
     alloc: Global,
     circuit: &mut Circuit,
@@ -96,10 +98,10 @@ fn run_in(
     to: &str,
     at: Option<&str>,
 ) -> Result<Result<Run, VectorWord>, AllocError>
-    ensures is { IfOk result (λ told. IfOk told (λ run. (text : List ℕ) (default : Default) → IsCircuitOf text default circuit.old
+    ensures is { IfOk result (λ reported. IfOk reported (λ run. (text : List ℕ) (default : Default) → IsCircuitOf text default circuit.old
         → IsSimulation text default from.now to.now (words_of at.entry) circuit.new run)) }
-    ensures has { IfOk result (λ told. IfOk told (IsRunFor circuit.new)) }
-    ensures bad { IfOk result (λ told. IfErr told (λ word. (text : List ℕ) (default : Default) → IsCircuitOf text default circuit.old
+    ensures has { IfOk result (λ reported. IfOk reported (IsRunFor circuit.new)) }
+    ensures bad { IfOk result (λ reported. IfErr reported (λ word. (text : List ℕ) (default : Default) → IsCircuitOf text default circuit.old
         → HasNoReport text default from.now to.now (words_of at.entry) (Reason.BadVector word))) }
 {
     let inputs = circuit.input_count();

@@ -8,7 +8,8 @@ ghost use Rattle.td_report.specs.Vectors.{words_of, SpellsMoments, AreMomentsOf}
 use std::alloc::{AllocError, Global};
 use td_circuit::LATEST;
 
-/// The number whose digits are those of the number so far and this character, if that is a moment at which an input may change.
+/// The number whose digits are those of the number so far and this character, if that is a moment
+/// at which an input may change.
 fn next_number(number: Option<u64>, character: u8) -> Option<u64>
     requires { unwrap_or number 0 ≤ 1000000000 }
     ensures { SomeIff result ((digit_value character < 10) × (unwrap_or number 0 * 10 + digit_value character ≤ 1000000000))

@@ -1,5 +1,6 @@
--- The last level of a net by possible levels: where another domain doesn't know how a net finishes, both levels stay possible there. That
--- domain says the finish of a gate's output by the gate's table.
+-- The last level of a net by possible levels: where another domain doesn't know how a net finishes,
+-- both levels stay possible there. That domain says the finish of a gate's output by the gate's
+-- table.
 use Rattle.std.proofs.Common.{◌≡◌, ℕ, zero, suc, ◌+◌, ◌≤◌, max, Bool, List, [], ◌∷◌, ◌++◌, length, map, take, drop, refl, arith, inl, inr, sym, ap, ◌∙◌}
 use Rattle.std.specs.Prelude.{nat_le}
 use Rattle.std.proofs.lemmas.Bool.{cases_Bool}

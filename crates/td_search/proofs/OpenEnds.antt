@@ -1,5 +1,5 @@
--- Where an output that may change as late as any by one domain has no known finish there, possible levels know no last moment of it, and the
--- bound of both domains at once is that of the one.
+-- Where an output that may change as late as any by one domain has no known finish there, possible
+-- levels know no last moment of it, and the bound of both domains at once is that of the one.
 use Rattle.std.proofs.Common.{◌≡◌, ◌≢◌, ℕ, zero, suc, ◌+◌, ◌-◌, ◌*◌, ◌^◌, ◌<◌, ◌≤◌, max, min, Bool, true, false, List, [], ◌∷◌, ◌++◌, length, map, refl, arith, inl, inr, sym, ap, subst, ◌∙◌, Some, None, Option, get_or, length-append}
 use Rattle.std.specs.Prelude.{slice_get, filter_map}
 use Rattle.std.specs.List.{All, AllByRecursion}

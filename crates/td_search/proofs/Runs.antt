@@ -1,5 +1,5 @@
--- An honest run of one worker leads to a settled tree: the best is raised first, and then each node is claimed and split or
--- closed, in the tree's order.
+-- An honest run of one worker leads to a settled tree: the best is raised first, and then each node
+-- is claimed and split or closed, in the tree's order.
 use Rattle.std.proofs.Common.{◌≡◌, ℕ, zero, suc, ◌+◌, ◌<◌, ◌≤◌, max, List, [], ◌∷◌, ◌++◌, length, map, refl, sym, ap, subst, ◌∙◌, cond, append_assoc, arith}
 use Rattle.std.specs.Prelude.{Contains, Some, slice_get, count_by, sum_by}
 use Rattle.std.proofs.lemmas.List.{append-nil}
@@ -134,7 +134,7 @@ module _ (IsDelay : Pair → ℕ → Type 0) (IsBoundOf : List Trit → ℕ → 
   lease_of n cube = record { worker = 0; number = n; cube = cube; allowance = 1 }
 
   module _ (done : List Node) (n : ℕ) (ns : List ℕ) (order : List Node) (seen : ℕ → ℕ) (cube : List Trit) (rest : List (List Trit))
-      (cubes : cubes_after (top ∷ []) done ≡ cube ∷ rest) (none : out done ≡ 0) (room : count done < budget) (saw : seen 0 ≡ best) where
+      (cubes : cubes_after (top ∷ []) done ≡ cube ∷ rest) (none : out done ≡ 0) (space : count done < budget) (saw : seen 0 ≡ best) where
     abbrev before : World
     before = world (done ++ node n Open ∷ opened ns) order seen
 
@@ -232,7 +232,7 @@ module _ (IsDelay : Pair → ℕ → Type 0) (IsBoundOf : List Trit → ℕ → 
       → Settled places states → cubes_after (top ∷ []) done ≡ cubes_of places → length ns ≡ length places → out done ≡ 0
       → count done + count_states states ≤ budget → seen 0 ≡ best
       → LeadsOn (world (done ++ opened ns) order seen) (shapes done ++ map shape states)
-  leads_on [] [] done [] order seen settled cubes long none room saw = record {
+  leads_on [] [] done [] order seen settled cubes long none space saw = record {
     events = [];
     end = world (done ++ []) order seen;
     run = refl;
@@ -241,11 +241,11 @@ module _ (IsDelay : Pair → ℕ → Type 0) (IsBoundOf : List Trit → ℕ → 
     wide = λ lease position has. absurd (let lt = has.1 in omega arith);
     no_graft = λ lease done has. let lt = has.1 in omega arith;
   }
-  leads_on [] [] done (n ∷ ns) order seen settled cubes long none room saw = absurd (omega arith)
-  leads_on [] (place ∷ places) done ns order seen settled cubes long none room saw = absurd settled
-  leads_on (s ∷ states) [] done ns order seen settled cubes long none room saw = absurd settled
-  leads_on (s ∷ states) (place ∷ places) done [] order seen settled cubes long none room saw = absurd (omega arith)
-  leads_on (Open ∷ states) (place ∷ places) done (n ∷ ns) order seen settled cubes long none room saw =
+  leads_on [] [] done (n ∷ ns) order seen settled cubes long none space saw = absurd (omega arith)
+  leads_on [] (place ∷ places) done ns order seen settled cubes long none space saw = absurd settled
+  leads_on (s ∷ states) [] done ns order seen settled cubes long none space saw = absurd settled
+  leads_on (s ∷ states) (place ∷ places) done [] order seen settled cubes long none space saw = absurd (omega arith)
+  leads_on (Open ∷ states) (place ∷ places) done (n ∷ ns) order seen settled cubes long none space saw =
       let x : Node = node n Open in
       let more = counted Open states in
       let one = passed_count done x in
@@ -253,7 +253,7 @@ module _ (IsDelay : Pair → ℕ → Type 0) (IsBoundOf : List Trit → ℕ → 
       let l = leads_on states places (done ++ x ∷ []) ns order seen settled.1 (passed_cubes done x place.cube (cubes_of places) cubes) (omega arith) (omega arith) (omega arith) saw in
       subst (λ (l : List Node). LeadsOn (world l order seen) (shapes done ++ Open ∷ map shape states)) (glue done x (opened ns))
       (subst (LeadsOn (world ((done ++ x ∷ []) ++ opened ns) order seen)) (passed_shapes done x (map shape states)) l)
-  leads_on (Held w a ∷ states) (place ∷ places) done (n ∷ ns) order seen settled cubes long none room saw =
+  leads_on (Held w a ∷ states) (place ∷ places) done (n ∷ ns) order seen settled cubes long none space saw =
       let x : Node = node n Open in
       let more = counted (Held w a) states in
       let one = passed_count done x in
@@ -261,7 +261,7 @@ module _ (IsDelay : Pair → ℕ → Type 0) (IsBoundOf : List Trit → ℕ → 
       let l = leads_on states places (done ++ x ∷ []) ns order seen settled.1 (passed_cubes done x place.cube (cubes_of places) cubes) (omega arith) (omega arith) (omega arith) saw in
       subst (λ (l : List Node). LeadsOn (world l order seen) (shapes done ++ Open ∷ map shape states)) (glue done x (opened ns))
       (subst (LeadsOn (world ((done ++ x ∷ []) ++ opened ns) order seen)) (passed_shapes done x (map shape states)) l)
-  leads_on (Closed mark bound cut ∷ states) (place ∷ places) done (n ∷ ns) order seen settled cubes long none room saw =
+  leads_on (Closed mark bound cut ∷ states) (place ∷ places) done (n ∷ ns) order seen settled cubes long none space saw =
       let x : Node = node n (Closed mark bound best) in
       let more = counted (Closed mark bound cut) states in
       let one = passed_count done x in
@@ -274,7 +274,7 @@ module _ (IsDelay : Pair → ℕ → Type 0) (IsBoundOf : List Trit → ℕ → 
       (closes done n ns order seen place.cube (cubes_of places) cubes none (omega arith) saw mark bound settled.0.0 settled.0.1)
       (λ lease position e. cc) (λ lease position e. cc) (λ lease grafted e. cc) (λ lease grafted e. cc)
       (subst (LeadsOn t) (passed_shapes done x (map shape states)) l)
-  leads_on (Split position ∷ states) (place ∷ places) done (n ∷ ns) order seen settled cubes long none room saw =
+  leads_on (Split position ∷ states) (place ∷ places) done (n ∷ ns) order seen settled cubes long none space saw =
       let x : Node = node n (Split position) in
       let more = counted (Split position) states in
       let one = passed_count done x in

@@ -14,8 +14,9 @@ use Rattle.td_search.specs.Problems.{Problem, IsPart}
 abbrev pub IsWithin : Problem → List Trit → Type 0
 IsWithin asked cube = (length cube ≡ length asked.admit.pins) × IsPart cube asked.admit.pins
 
--- What was split and closed below a leaf is what was found there, one after another, and all of it is true. What comes next is a
--- part of the pins. There is room for as many findings as the lease allows.
+-- What was split and closed below a leaf is what was found there, one after another, and all of it
+-- is true. What comes next is a part of the pins. There is room for as many findings as the lease
+-- allows.
 pub record IsBelow (asked : Problem) (lease : Lease) (below : Below) : Type 0 where
   pub cube : below.subtree.cube ≡ lease.cube
   pub allowance : below.subtree.allowance ≡ lease.allowance
@@ -23,7 +24,7 @@ pub record IsBelow (asked : Problem) (lease : Lease) (below : Below) : Type 0 wh
   pub found : AreTrue asked (lease.cube ∷ []) below.findings.items
   pub coming : AllByRecursion (IsWithin asked) (cubes_left below.subtree.states (below.subtree.cube ∷ []))
   pub few : length below.subtree.states ≤ lease.allowance
-  pub room : lease.allowance ≤ vec_capacity below.findings
+  pub space : lease.allowance ≤ vec_capacity below.findings
 
 -- this cube comes next, and the allowance lets it be split or closed
 pub record IsComing (asked : Problem) (lease : Lease) (below : Below) (cube : List Trit) : Type 0 where

@@ -14,6 +14,7 @@ pub record Found : Type 0 where
 abbrev pub IsKept : Problem → Found → Type 0
 IsKept asked best = has_delay asked best.pair best.time × (asked.strategy ≡ Lead → IsReached asked best.time)
 
--- the pair is admitted and has the delay, which is no less than that of the pair that stands for the pins
+-- the pair is admitted and has the delay, which is no less than that of the pair that stands for
+-- the pins
 abbrev pub IsBest : Problem → Found → Type 0
 IsBest asked best = has_delay asked best.pair best.time × IsReached asked best.time

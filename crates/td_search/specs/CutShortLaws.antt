@@ -17,7 +17,8 @@ shape (Closed mark bound cut) = Closed mark bound bound
 shape _ = Open
 
 module _ (IsDelay : Pair → ℕ → Type 0) (IsBoundOf : List Trit → ℕ → Type 0) (SplitsAbove : List Trit → ℕ → Type 0) where
-  -- where nothing was handled, a search is cut short with the delay of a pair and the greater of it and the root's bound
+  -- where nothing was handled, a search is cut short with the delay of a pair and the greater of it
+  -- and the root's bound
   abbrev pub CutShortAtOnce : Type 0
   CutShortAtOnce = (root : List Trit) (pair : Pair) (delay bound : ℕ) → IsIn pair root → IsDelay pair delay → IsBoundOf root bound
       → IsCutShort IsDelay IsBoundOf SplitsAbove root pair delay (max bound delay) 0
@@ -26,13 +27,14 @@ module _ (IsDelay : Pair → ℕ → Type 0) (IsBoundOf : List Trit → ℕ → 
   abbrev pub AreAbove : Type 0
   AreAbove = (cube : List Trit) (bound : ℕ) (pair : Pair) (delay : ℕ) → IsBoundOf cube bound → IsIn pair cube → IsDelay pair delay → delay ≤ bound
 
-  -- Where bounds are above the pairs of their cubes, no pair of the root is above the upper figure of a search that was cut short, and the lower
-  -- is the delay of its pair.
+  -- Where bounds are above the pairs of their cubes, no pair of the root is above the upper figure
+  -- of a search that was cut short, and the lower is the delay of its pair.
   abbrev pub CutShortIsBetween : Type 0
   CutShortIsBetween = AreAbove → (root : List Trit) (pair : Pair) (low high count : ℕ) → IsCutShort IsDelay IsBoundOf SplitsAbove root pair low high count
       → IsDelay pair low × (low ≤ high) × ((other : Pair) (delay : ℕ) → IsIn other root → IsDelay other delay → delay ≤ high)
 
-  -- an honest run leads to this tree with this best, and splits only cubes that had to be split, in its grafts too
+  -- an honest run leads to this tree with this best, and splits only cubes that had to be split, in
+  -- its grafts too
   pub record IsLedTo (root : List Trit) (low : ℕ) (states : List State) : Type 0 where
     pub workers : ℕ
     pub budget : ℕ

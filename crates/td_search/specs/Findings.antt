@@ -14,8 +14,9 @@ use Rattle.td_search.specs.Deciding.{IsMarked}
 use Rattle.td_search.specs.Problems.{Problem, has_bound, IsAbove}
 use Rattle.td_search.specs.Splitting.{splits_above}
 
--- What was found is true of a cube: a bound is its mark's, and at least each delay of the cube's pairs. A cube that was split has
--- the strongest domain's bound, and may be split above a delay that is less.
+-- What was found is true of a cube: a bound is its mark's, and at least each delay of the cube's
+-- pairs. A cube that was split has the strongest domain's bound, and may be split above a delay
+-- that is less.
 abbrev pub IsTrueOf : Problem → List Trit → Finding → Type 0
 IsTrueOf asked cube (Closed mark bound) = IsMarked asked cube mark bound × IsAbove asked cube bound
 IsTrueOf asked cube (Split position bound delay) =
@@ -40,7 +41,8 @@ IsTrueEvidence asked evidence = AreTrue asked (evidence.cube ∷ []) evidence.fi
 abbrev pub IsTrueTrail : Problem → Trail → Type 0
 IsTrueTrail asked trail = All (IsTrueEvidence asked) trail.evidence.items
 
--- it shows what was done also where this is the best time: a bound is at most the best, and a delay above which a cube was split too
+-- it shows what was done also where this is the best time: a bound is at most the best, and a delay
+-- above which a cube was split too
 abbrev pub IsUsable : ℕ → Finding → Type 0
 IsUsable best (Closed mark bound) = bound ≤ best
 IsUsable best (Split position bound delay) = delay ≤ best

@@ -6,10 +6,10 @@ use Rattle.td_arrival.specs.Arrivals.{arrival_functions}
 use Rattle.td_arrival.specs.Coverage.{span_reach}
 use Rattle.td_ternary.specs.Possibles.{possible_functions, last_change}
 use Rattle.td_event_sim.specs.Scratch.{IsFor}
-use Rattle.td_search.specs.declared.guide.Guide.{Guide}
+use Rattle.td_search.specs.declared.branching.Branching.{Branching}
 use Rattle.td_search.specs.declared.sheets.Sheets.{Sheets}
 use Rattle.td_search.specs.declared.scratch.Scratch.{Scratch}
-use Rattle.td_search.specs.Guided.{IsGuide}
+use Rattle.td_search.specs.Branchings.{IsBranching}
 
 -- the sheets are of this circuit
 abbrev pub AreSheets : Numbered → Sheets → Type 0
@@ -20,4 +20,4 @@ AreSheets circuit sheets =
 -- the scratch is for this circuit, and so is its guide, if it has one
 abbrev pub IsScratch : Numbered → Scratch → Type 0
 IsScratch circuit scratch =
-    IsFor circuit scratch.events × AreSheets circuit scratch.sheets × ((guide : Guide) → scratch.guide ≡ Some guide → IsGuide circuit guide)
+    IsFor circuit scratch.events × AreSheets circuit scratch.sheets × ((branching : Branching) → scratch.branching ≡ Some branching → IsBranching circuit branching)

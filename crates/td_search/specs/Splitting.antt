@@ -15,8 +15,9 @@ pub record IsReached (asked : Problem) (delay : ℕ) : Type 0 where
   pub stands : has_delay asked (representative asked.admit asked.admit.pins) first
   pub no_less : first ≤ delay
 
--- The cube may be split if its bound is above this delay: with `least` that of its own representative, with `lead` one that some
--- admitted pair has, found or not, and that is no less than that of the pair that stands for the pins.
+-- The cube may be split if its bound is above this delay: with `least` that of its own
+-- representative, with `lead` one that some admitted pair has, found or not, and that is no less
+-- than that of the pair that stands for the pins.
 abbrev pub splits_by : Strategy → Problem → List Trit → ℕ → Type 0
 splits_by Least asked cube delay = has_delay asked (representative asked.admit cube) delay
 splits_by Lead asked cube delay = IsReached asked delay

@@ -11,7 +11,8 @@ use crate::rule::Rule;
 use crate::task::Task;
 use std::alloc::AllocError;
 
-/// The delay of the pair that stands for the pins, and the strongest domain's bound of them. The error is out of memory.
+/// The delay of the pair that stands for the pins, and the strongest domain's bound of them. The
+/// error is out of memory.
 pub fn root_of<R: Rule>(task: &Task<'_, R>, scratch: &mut R::Scratch) -> Result<Root, AllocError>
     requires scratch { R.is_for scratch.old task.now.problem.now.circuit.now }
     requires any { HasAdmitted task.now.problem.now.admit.now task.now.problem.now.admit.now.pins }
@@ -29,8 +30,8 @@ pub fn root_of<R: Rule>(task: &Task<'_, R>, scratch: &mut R::Scratch) -> Result<
     Ok(Root { first, bound })
 }
 
-/// What a worker of this number does before its first node: it climbs, if the strategy says so, and offers the pair to which that
-/// led. The error is out of memory.
+/// What a worker of this number does before its first node: it climbs, if the strategy says so, and
+/// offers the pair to which that led. The error is out of memory.
 pub fn climb<R: Rule, K: Keeper>(
     task: &Task<'_, R>,
     scratch: &mut R::Scratch,

@@ -44,7 +44,8 @@ impl Below {
         self.subtree.next()
     }
 
-    /// Splits or closes the leaf that comes next as it was found of its cube, if that is usable under this cut. Answers whether it is.
+    /// Splits or closes the leaf that comes next as it was found of its cube, if that is usable
+    /// under this cut. Answers whether it is.
     pub fn settle(
         &mut self,
         problem: &Problem<'_>,

@@ -13,7 +13,8 @@ use std::marker::Model;
 use td_domain::{Admit, Cube, Pair};
 use td_lead::Timed;
 
-/// A pair and its delay in steps. Its room was taken once, so that a better pair takes its place without memory.
+/// A pair and its delay in steps. Its room was taken once, so that a better pair takes its place
+/// without memory.
 #[derive(Drop)]
 pub struct Best {
     time: u64,
@@ -43,7 +44,8 @@ impl Best {
         })
     }
 
-    /// Puts the pair that stands for the pins, which has this delay, in the place of the pair. Takes no memory.
+    /// Puts the pair that stands for the pins, which has this delay, in the place of the pair.
+    /// Takes no memory.
     pub fn begin(&mut self, problem: &Problem<'_>, first: u64)
         requires first_fits { length self.old.pair.first ≡ length problem.now.admit.now.held }
         requires second_fits { length self.old.pair.second ≡ length problem.now.admit.now.held }

@@ -1,4 +1,5 @@
-//! What a search does with the leaf that comes next: it splits and closes below it in a private tree, and then tells its book.
+//! What a search does with the leaf that comes next: it splits and closes below it in a private
+//! tree, and then tells its book.
 
 ghost use Rattle.std.specs.Prelude.{◌≡◌, ◌≤◌, IfOk};
 ghost use Rattle.td_search.specs.Below.{IsBelow, IsWithin};
@@ -31,8 +32,8 @@ impl Search {
         }
     }
 
-    // Handles the first leaf that is open, if the book gives one, and as much below it as its lease allows. The error is out of
-    // memory.
+    // Handles the first leaf that is open, if the book gives one, and as much below it as its lease
+    // allows. The error is out of memory.
     fn handle_next<R: Rule>(
         &mut self,
         task: &Task<'_, R>,
@@ -51,8 +52,8 @@ impl Search {
         Ok(true)
     }
 
-    // Splits and closes below a leaf in a private tree, and then in the book what is found to be usable there. The error is out of
-    // memory.
+    // Splits and closes below a leaf in a private tree, and then in the book what is found to be
+    // usable there. The error is out of memory.
     fn handle<R: Rule>(
         &mut self,
         task: &Task<'_, R>,
@@ -102,8 +103,8 @@ impl Search {
         Ok(())
     }
 
-    /// What is found of a cube under the best, or under the delay of the pair that stands for it where that is measured and is greater:
-    /// then that is the best. The error is out of memory.
+    /// What is found of a cube under the best, or under the delay of the pair that stands for it
+    /// where that is measured and is greater: then that is the best. The error is out of memory.
     pub fn find<R: Rule>(
         &mut self,
         task: &Task<'_, R>,

@@ -15,8 +15,9 @@ use std::alloc::AllocError;
 use td_book::Mark;
 use td_domain::Cube;
 
-/// What is found of a cube: it is closed or split as the rule says, under the cut that the keeper knows. A pair that is measured is
-/// offered to the keeper. The error is out of memory, and the scratch may be used again.
+/// What is found of a cube: it is closed or split as the rule says, under the cut that the keeper
+/// knows. A pair that is measured is offered to the keeper. The error is out of memory, and the
+/// scratch may be used again.
 pub fn find<R: Rule, K: Keeper>(
     task: &Task<'_, R>,
     scratch: &mut R::Scratch,
@@ -44,7 +45,8 @@ pub fn find<R: Rule, K: Keeper>(
     }
 }
 
-// As `find`, of a cube in which an admitted pair lies: the pair that stands for it is measured first.
+// As `find`, of a cube in which an admitted pair lies: the pair that stands for it is measured
+// first.
 fn find_measured<R: Rule, K: Keeper>(
     task: &Task<'_, R>,
     scratch: &mut R::Scratch,

@@ -14,14 +14,14 @@ use td_domain::Cube;
 pub enum Finding {
     /// A bound of the cube, for a leaf that was closed.
     Closed(Mark, u64),
-    /// For a cube that was split the position, the strongest domain's bound, and a delay above which it may be split, such as with
-    /// `least` that of its representative.
+    /// For a cube that was split the position, the strongest domain's bound, and a delay above
+    /// which it may be split, such as with `least` that of its representative.
     Split(u32, u64, u64),
 }
 
-/// What a worker found below a leaf that it held: the leaf's number in the shared tree and its cube, and what was found of the
-/// nodes that were split or closed there, one after another, depth first, zero side first. The number only helps to find the
-/// evidence again.
+/// What a worker found below a leaf that it held: the leaf's number in the shared tree and its
+/// cube, and what was found of the nodes that were split or closed there, one after another, depth
+/// first, zero side first. The number only helps to find the evidence again.
 #[derive(Debug, Drop)]
 pub struct Evidence {
     pub number: u32,

@@ -1,4 +1,5 @@
-//! The end of a shared search: what its workers found is done again, and what is left is handled in one thread.
+//! The end of a shared search: what its workers found is done again, and what is left is handled in
+//! one thread.
 
 ghost use Rattle.std.specs.Prelude.{◌≡◌, ◌≤◌, ◌<◌, ◌^◌};
 ghost use Rattle.std.specs.List.{All};
@@ -25,8 +26,8 @@ use crate::task::Task;
 use std::alloc::{AllocError, Global};
 use td_book::{Node, Partial, State};
 
-/// What a shared search hands over once its workers have ended: its tree, what they found, the strongest domain's bound of the pins, and
-/// the best pair of all workers.
+/// What a shared search hands over once its workers have ended: its tree, what they found, the
+/// strongest domain's bound of the pins, and the best pair of all workers.
 #[derive(Drop)]
 pub struct SharedWork {
     pub partial: Partial,
@@ -35,9 +36,10 @@ pub struct SharedWork {
     pub best: Best,
 }
 
-/// What a shared search found that has ended: its tree is done again as far as the evidence, the bound of the pins and the best pair
-/// show it, and the nodes that are left open are handled in one thread, as `alone_by` handles them, until the budget is handled.
-/// Nothing of the tree is trusted. The budget is at most 10,000,000.
+/// What a shared search found that has ended: its tree is done again as far as the evidence, the
+/// bound of the pins and the best pair show it, and the nodes that are left open are handled in one
+/// thread, as `alone_by` handles them, until the budget is handled. Nothing of the tree is trusted.
+/// The budget is at most 10,000,000.
 pub fn finish(alloc: Global, problem: &Problem<'_>, work: SharedWork, budget: u64) -> Answer
     requires modest { budget ≤ 10000000 }
     requires work { IsShared (problem_of problem.now) work }

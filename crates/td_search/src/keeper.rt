@@ -14,8 +14,8 @@ use crate::problem::Problem;
 use td_domain::Cube;
 use td_lead::Timed;
 
-/// Who keeps the incumbent of a search: one thread its best pair, or one of several workers its own, beside the greatest delay
-/// that all of them have found.
+/// Who keeps the incumbent of a search: one thread its best pair, or one of several workers its
+/// own, beside the greatest delay that all of them have found.
 pub trait Keeper {
     /// What is kept is true of what is asked.
     ghost keeps: { Problem → Self → Type 0 };
@@ -42,8 +42,8 @@ pub trait Keeper {
         ensures keeps { keeps (problem_of problem.now) self.new }
         ensures kept { time_of self.new ≡ time_of self.old };
 
-    /// Keeps the pair that stands for a cube, which has this delay, where that is greater than the cut. Takes no memory, so that
-    /// a better pair is never lost.
+    /// Keeps the pair that stands for a cube, which has this delay, where that is greater than the
+    /// cut. Takes no memory, so that a better pair is never lost.
     fn offer(&mut self, problem: &Problem<'_>, cube: &Cube, time: u64)
         requires keeps { keeps (problem_of problem.now) self.old }
         requires positions { length cube.now ≡ 2 * length problem.now.admit.now.held }

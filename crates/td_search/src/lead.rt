@@ -15,15 +15,17 @@ use td_climb::{Climb, tries_for};
 use td_domain::{Cube, Pair};
 use td_lead::Timed;
 
-/// The first worker climbs by lanes before its first node. Each cube is bounded by edges and possible levels, points are measured,
-/// and a cube is split where the most nets on the way to its latest output change with the bit.
+/// The first worker climbs by lanes before its first node. Each cube is bounded by edges and
+/// possible levels, points are measured, and a cube is split where the most nets on the way to its
+/// latest output change with the bit.
 #[derive(Clone, Copy, Debug, Drop)]
 pub struct Lead;
 
 /// The seed of a climb.
 const SEED: u64 = 1;
 
-// The admitted pair to which a climb leads from another one. Out of memory, a climb ends where it stands.
+// The admitted pair to which a climb leads from another one. Out of memory, a climb ends where it
+// stands.
 fn climbed(
     alloc: Global,
     problem: &Problem<'_>,

@@ -10,13 +10,13 @@ ghost use Rattle.td_domain.specs.Sheets.{IsSheet};
 ghost use Rattle.td_edges.specs.EdgeSignals.{edge_functions, last_of as edges_last_of};
 ghost use Rattle.td_edges.specs.Coverage.{span_reach};
 ghost use Rattle.td_ternary.specs.Possibles.{possible_functions, last_change};
-ghost use Rattle.td_search.specs.Guided.{IsGuide};
+ghost use Rattle.td_search.specs.Branchings.{IsBranching};
 ghost use Rattle.td_search.specs.Deciding.{IsStep};
 ghost use Rattle.td_search.specs.OpenEnds.{HasOpenEnd};
 ghost use Rattle.td_search.specs.Sheeted.{AreSheets, IsScratch};
 ghost use Rattle.td_search.specs.declared.strategy.Strategy.TheVariants.{Lead};
 
-use crate::guide::Guide;
+use crate::branching::Branching;
 use crate::scratch::Scratch;
 use crate::sheets::{Sheets, bound_within};
 use crate::step::Step;
@@ -43,9 +43,16 @@ pub fn next_step(
     ensures step { IfOk result (IsStep Lead (setting circuit.now) cube.now cut) }
     ensures scratch { IsScratch circuit.now scratch.new }
 {
-    let mut guide = taken_guide(alloc, circuit, cube, &mut scratch.guide)?;
-    let step = step_by(alloc, &mut scratch.sheets, &mut guide, circuit, cube, cut);
-    scratch.guide = Some(guide);
+    let mut branching = taken_branching(alloc, circuit, cube, &mut scratch.branching)?;
+    let step = step_by(
+        alloc,
+        &mut scratch.sheets,
+        &mut branching,
+        circuit,
+        cube,
+        cut,
+    );
+    scratch.branching = Some(branching);
     step
 }
 
@@ -63,9 +70,9 @@ pub fn strongest_with_edges(
     ensures small { IfOk result (λ bound. bound < 10 ^ 15) }
     ensures scratch { IsScratch circuit.now scratch.new }
 {
-    let mut guide = taken_guide(alloc, circuit, cube, &mut scratch.guide)?;
-    let bound = moved_strongest(alloc, &mut scratch.sheets, &mut guide, circuit, cube);
-    scratch.guide = Some(guide);
+    let mut branching = taken_branching(alloc, circuit, cube, &mut scratch.branching)?;
+    let bound = moved_strongest(alloc, &mut scratch.sheets, &mut branching, circuit, cube);
+    scratch.branching = Some(branching);
     bound
 }
 
@@ -80,29 +87,29 @@ pub fn edges_bound(
     requires positions { length cube.now ≡ 2 * length circuit.now.netlist.inputs }
     ensures scratch { IsScratch circuit.now scratch.new }
 {
-    let mut guide = taken_guide(alloc, circuit, cube, &mut scratch.guide)?;
-    let moved = move_to(alloc, circuit, &mut guide.edges, cube);
-    let bound = guide.edges.bound().unwrap_or(0);
-    scratch.guide = Some(guide);
+    let mut branching = taken_branching(alloc, circuit, cube, &mut scratch.branching)?;
+    let moved = move_to(alloc, circuit, &mut branching.edges, cube);
+    let bound = branching.edges.bound().unwrap_or(0);
+    scratch.branching = Some(branching);
     moved?;
     Ok(bound)
 }
 
 /// The guide that is there, taken out, or a new one. The error is out of memory.
-fn taken_guide(
+fn taken_branching(
     alloc: Global,
     circuit: &Circuit,
     cube: &Cube,
-    guide: &mut Option<Guide>,
-) -> Result<Guide, AllocError>
-    requires guide { (there : Guide) → guide.old ≡ Some there → IsGuide circuit.now there }
+    branching: &mut Option<Branching>,
+) -> Result<Branching, AllocError>
+    requires branching { (there : Branching) → branching.old ≡ Some there → IsBranching circuit.now there }
     requires positions { length cube.now ≡ 2 * length circuit.now.netlist.inputs }
-    ensures taken { IfOk result (IsGuide circuit.now) }
-    ensures guide { (there : Guide) → guide.new ≡ Some there → IsGuide circuit.now there }
+    ensures taken { IfOk result (IsBranching circuit.now) }
+    ensures branching { (there : Branching) → branching.new ≡ Some there → IsBranching circuit.now there }
 {
-    match mem::replace(guide, None) {
+    match mem::replace(branching, None) {
         Some(there) => Ok(there),
-        None => Guide::new(alloc, circuit, cube),
+        None => Branching::new(alloc, circuit, cube),
     }
 }
 
@@ -110,56 +117,60 @@ fn taken_guide(
 fn step_by(
     alloc: Global,
     sheets: &mut Sheets,
-    guide: &mut Guide,
+    branching: &mut Branching,
     circuit: &Circuit,
     cube: &Cube,
     cut: u64,
 ) -> Result<Step, AllocError>
     requires sheets { AreSheets circuit.now sheets.old }
-    requires guide { IsGuide circuit.now guide.old }
+    requires branching { IsBranching circuit.now branching.old }
     requires positions { length cube.now ≡ 2 * length circuit.now.netlist.inputs }
     ensures step { IfOk result (IsStep Lead (setting circuit.now) cube.now cut) }
     ensures sheets { AreSheets circuit.now sheets.new }
-    ensures guide { IsGuide circuit.now guide.new }
+    ensures branching { IsBranching circuit.now branching.new }
 {
-    if let Some(bound) = bound_within(alloc, circuit, &mut guide.edges, cube, cut)? {
+    if let Some(bound) = bound_within(alloc, circuit, &mut branching.edges, cube, cut)? {
         return Ok(Step::Close(BoundedBy::Edges, bound));
     }
-    if let Some((output, bound)) = open_output(circuit, &guide.edges) {
+    if let Some((output, bound)) = open_output(circuit, &branching.edges) {
         if bound > cut {
-            return Ok(open_step(circuit, guide, cube, output, bound));
+            return Ok(open_step(circuit, branching, cube, output, bound));
         }
     }
     if let Some(bound) = bound_within(alloc, circuit, &mut sheets.possible, cube, cut)? {
         return Ok(Step::Close(BoundedBy::Possible, bound));
     }
-    let bound = bound_with_edges(circuit, &guide.edges, &sheets.possible);
+    let bound = bound_with_edges(circuit, &branching.edges, &sheets.possible);
     if bound <= cut {
         return Ok(Step::Close(BoundedBy::EdgesAndPossible, bound));
     }
-    let output = latest_output(circuit, guide.edges.signals(), sheets.possible.signals());
-    Ok(open_step(circuit, guide, cube, output, bound))
+    let output = latest_output(
+        circuit,
+        branching.edges.signals(),
+        sheets.possible.signals(),
+    );
+    Ok(open_step(circuit, branching, cube, output, bound))
 }
 
 /// As `strongest_with_edges`.
 fn moved_strongest(
     alloc: Global,
     sheets: &mut Sheets,
-    guide: &mut Guide,
+    branching: &mut Branching,
     circuit: &Circuit,
     cube: &Cube,
 ) -> Result<u64, AllocError>
     requires sheets { AreSheets circuit.now sheets.old }
-    requires guide { IsGuide circuit.now guide.old }
+    requires branching { IsBranching circuit.now branching.old }
     requires positions { length cube.now ≡ 2 * length circuit.now.netlist.inputs }
     ensures bound { IfOk result (λ bound. IsBoundBy EdgesAndPossible (setting circuit.now) cube.now (Some bound)) }
     ensures small { IfOk result (λ bound. bound < 10 ^ 15) }
     ensures sheets { AreSheets circuit.now sheets.new }
-    ensures guide { IsGuide circuit.now guide.new }
+    ensures branching { IsBranching circuit.now branching.new }
 {
-    move_to(alloc, circuit, &mut guide.edges, cube)?;
+    move_to(alloc, circuit, &mut branching.edges, cube)?;
     move_to(alloc, circuit, &mut sheets.possible, cube)?;
-    Ok(bound_with_edges(circuit, &guide.edges, &sheets.possible))
+    Ok(bound_with_edges(circuit, &branching.edges, &sheets.possible))
 }
 
 /// The bound of the cube of both sheets by edges and possible levels at once. There always is one.
@@ -209,25 +220,32 @@ fn open_end(signals: &[Signal], nets: &[u32], moment: u64) -> Option<u32>
 }
 
 /// What is to be done with a cube whose bound is above the cut, by the output that changes last.
-fn open_step(circuit: &Circuit, guide: &mut Guide, cube: &Cube, output: u32, bound: u64) -> Step
-    requires guide { IsGuide circuit.now guide.old }
+fn open_step(
+    circuit: &Circuit,
+    branching: &mut Branching,
+    cube: &Cube,
+    output: u32,
+    bound: u64,
+) -> Step
+    requires branching { IsBranching circuit.now branching.old }
     requires output { output < length (nets circuit.now) }
     requires positions { length cube.now ≡ 2 * length circuit.now.netlist.inputs }
     requires bound { IsBoundBy EdgesAndPossible (setting circuit.now) cube.now (Some bound) }
     requires small { bound < 10 ^ 15 }
     ensures step { (cut : ℕ) → cut < bound → IsStep Lead (setting circuit.now) cube.now cut result }
-    ensures guide { IsGuide circuit.now guide.new }
+    ensures branching { IsBranching circuit.now branching.new }
 {
-    let position = guide
-        .fan
-        .position(circuit, guide.edges.signals(), cube, output);
+    let position = branching
+        .fan_in
+        .position(circuit, branching.edges.signals(), cube, output);
     match position {
         Some(position) => Step::Split(position, bound),
         None => Step::Measure,
     }
 }
 
-/// The output that changes last by these signals, the first one of several, and a constant where there is no output.
+/// The output that changes last by these signals, the first one of several, and a constant where
+/// there is no output.
 fn latest_output(circuit: &Circuit, edges: &[Signal], possible: &[<Possible as Domain>::Sig]) -> u32
     requires edges { length edges.now ≡ length (nets circuit.now) }
     requires possible { length possible.now ≡ length (nets circuit.now) }
@@ -238,8 +256,8 @@ fn latest_output(circuit: &Circuit, edges: &[Signal], possible: &[<Possible as D
     latest_of(edges, possible, circuit.outputs())
 }
 
-/// Of some nets the one that changes last by these signals, the first one of several, and the first net of all where there is
-/// none.
+/// Of some nets the one that changes last by these signals, the first one of several, and the first
+/// net of all where there is none.
 fn latest_of(edges: &[Signal], possible: &[<Possible as Domain>::Sig], nets: &[u32]) -> u32
     requires some { 0 < length edges.now }
     requires possible { length possible.now ≡ length edges.now }

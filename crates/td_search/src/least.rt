@@ -21,7 +21,8 @@ pub struct Bench<S> {
     pub pair: Pair,
 }
 
-/// The pair that stands for each cube is measured, and each cube bounded, by a prober. A cube is split at its least free position.
+/// The pair that stands for each cube is measured, and each cube bounded, by a prober. A cube is
+/// split at its least free position.
 #[derive(Drop)]
 pub struct Least<'a, P> {
     pub prober: &'a P,

@@ -13,7 +13,8 @@ use td_circuit::Circuit;
 use td_domain::{Cube, Pair};
 use td_event_sim::delay_of;
 
-/// What measures pairs and bounds cubes of a circuit, for any number of workers at a time. What it answers is true of the circuit.
+/// What measures pairs and bounds cubes of a circuit, for any number of workers at a time. What it
+/// answers is true of the circuit.
 pub trait Prober {
     /// What a worker uses again for each call.
     type Scratch: Drop + Send;
@@ -40,7 +41,8 @@ pub trait Prober {
         ensures probe { IfOk result (IsProbe (setting circuit.now) cube.now cut) }
         ensures scratch { is_for scratch.new circuit.now };
 
-    /// The delay of a pair, in steps. The error is out of memory, and the scratch may be used again.
+    /// The delay of a pair, in steps. The error is out of memory, and the scratch may be used
+    /// again.
     fn measure(
         &self,
         scratch: &mut Self::Scratch,
@@ -55,7 +57,8 @@ pub trait Prober {
         ensures scratch { is_for scratch.new circuit.now };
 }
 
-/// The product's own prober: it measures by one queue of events and bounds by sheets, as the search in one thread does.
+/// The product's own prober: it measures by one queue of events and bounds by sheets, as the search
+/// in one thread does.
 #[derive(Clone, Copy, Debug, Drop)]
 pub struct Own;
 

@@ -26,11 +26,12 @@ fn is_free_at(cube: &Cube, position: usize) -> bool
     position < cube.len() && cube.trit(position) == Trit::Free
 }
 
-/// Splits or closes the next node of a private tree as it was found of its cube, if that is usable under this best time: a bound is
-/// at most the best, and so is the delay above which a cube was split. Answers whether it is.
+/// Splits or closes the next node of a private tree as it was found of its cube, if that is usable
+/// under this best time: a bound is at most the best, and so is the delay above which a cube was
+/// split. Answers whether it is.
 pub fn dig_by(problem: &Problem<'_>, subtree: &mut Subtree, finding: Finding, best: u64) -> bool
     requires next { (cube : List Trit) × (rest : List (List Trit)) × (cubes_left subtree.old.states (subtree.old.cube ∷ []) ≡ cube ∷ rest) × IsTrueOf (problem_of problem.now) cube finding }
-    requires room { length subtree.old.states < subtree.old.allowance }
+    requires space { length subtree.old.states < subtree.old.allowance }
     ensures usable { IsTrue result ↔ IsUsable best finding }
     ensures done { IsTrue result → subtree.new ≡ record subtree.old { states = subtree.old.states ++ state_of best finding ∷ [] } }
     ensures same { result ≡ false → subtree.new ≡ subtree.old }
@@ -43,7 +44,8 @@ pub fn dig_by(problem: &Problem<'_>, subtree: &mut Subtree, finding: Finding, be
     true
 }
 
-// Splits and closes as many nodes of a private tree as were found and are usable under this best time. Answers how many.
+// Splits and closes as many nodes of a private tree as were found and are usable under this best
+// time. Answers how many.
 fn dig_again(problem: &Problem<'_>, subtree: &mut Subtree, findings: &[Finding], best: u64) -> usize
     requires states { subtree.old.states ≡ [] }
     requires found { AreTrue (problem_of problem.now) (subtree.old.cube ∷ []) findings.now }
@@ -79,7 +81,8 @@ fn pass(coming: &mut Vec<Option<u32>>, state: State) -> Result<usize, AllocError
     Ok(1)
 }
 
-/// A node of a tree that is done again: its number in this search, if it is there, and what was done with it.
+/// A node of a tree that is done again: its number in this search, if it is there, and what was
+/// done with it.
 #[derive(Clone, Copy, Drop)]
 struct Again {
     number: Option<u32>,
@@ -87,9 +90,10 @@ struct Again {
 }
 
 impl Search {
-    /// Splits and closes again the nodes of a tree, in its order, where there is evidence of them for this search. A split
-    /// without is done again where its cube is found anew to have a bound above the best. Other nodes stay open, and what is
-    /// below them is passed. The error is out of memory, and then the nodes that are left stay open.
+    /// Splits and closes again the nodes of a tree, in its order, where there is evidence of them
+    /// for this search. A split without is done again where its cube is found anew to have a bound
+    /// above the best. Other nodes stay open, and what is below them is passed. The error is out of
+    /// memory, and then the nodes that are left stay open.
     pub fn replay<R: Rule>(
         &mut self,
         task: &Task<'_, R>,
@@ -104,7 +108,8 @@ impl Search {
         ensures kept { self.old.best.time ≤ self.new.best.time }
         ensures scratch { R.is_for scratch.new task.now.problem.now.circuit.now }
     {
-        // By their numbers in this search the trees that come next, the first of them last. Those that are passed have none.
+        // By their numbers in this search the trees that come next, the first of them last. Those
+        // that are passed have none.
         let mut coming = Vec::with_capacity(task.alloc, 1)?;
         coming.push_reserved(Some(0));
         let mut done = 0;
@@ -122,8 +127,8 @@ impl Search {
         Ok(())
     }
 
-    // Does a node again, and with evidence also what comes below it, and puts what is left below before the trees that come.
-    // Answers how many nodes of the tree were done or passed.
+    // Does a node again, and with evidence also what comes below it, and puts what is left below
+    // before the trees that come. Answers how many nodes of the tree were done or passed.
     fn replay_node<R: Rule>(
         &mut self,
         task: &Task<'_, R>,
@@ -178,7 +183,8 @@ impl Search {
         self.replay_anew(task, scratch, again, coming)
     }
 
-    // As `replay_node`, of a node whose evidence isn't usable: it is leased once more, and done again as one without evidence.
+    // As `replay_node`, of a node whose evidence isn't usable: it is leased once more, and done
+    // again as one without evidence.
     fn replay_anew<R: Rule>(
         &mut self,
         task: &Task<'_, R>,
@@ -244,7 +250,8 @@ impl Search {
         }
     }
 
-    // Splits and closes below a leaf what there is evidence of, and answers how many nodes that were; none where nothing of it is usable.
+    // Splits and closes below a leaf what there is evidence of, and answers how many nodes that
+    // were; none where nothing of it is usable.
     fn graft_again(
         &mut self,
         alloc: Global,
@@ -267,8 +274,9 @@ impl Search {
         Ok(Some(count))
     }
 
-    /// Splits and closes below a held leaf what was found there, as far as it is usable under the best. Answers how many nodes that are,
-    /// and the numbers of the leaves that stay open. Where none is, or memory runs out, the leaf is open again.
+    /// Splits and closes below a held leaf what was found there, as far as it is usable under the
+    /// best. Answers how many nodes that are, and the numbers of the leaves that stay open. Where
+    /// none is, or memory runs out, the leaf is open again.
     pub fn graft_found(
         &mut self,
         alloc: Global,
@@ -304,8 +312,8 @@ impl Search {
         }
     }
 
-    // Splits a leaf where its cube is found to have a bound above the best, and answers the numbers of its sides. Where it hasn't, or
-    // memory runs out, the leaf stays open.
+    // Splits a leaf where its cube is found to have a bound above the best, and answers the numbers
+    // of its sides. Where it hasn't, or memory runs out, the leaf stays open.
     fn split_again<R: Rule>(
         &mut self,
         task: &Task<'_, R>,
@@ -338,7 +346,8 @@ impl Search {
         }
     }
 
-    // The strongest domain's bound of a cube, where the cube is found to be split. The error is out of memory.
+    // The strongest domain's bound of a cube, where the cube is found to be split. The error is out
+    // of memory.
     fn bound_above<R: Rule>(
         &mut self,
         task: &Task<'_, R>,

@@ -17,8 +17,9 @@ use std::alloc::{AllocError, Global};
 use td_domain::Cube;
 use td_lead::Timed;
 
-/// One strategy, for any number of workers at a time: how a worker begins, and what it does with a node of the tree. What it
-/// answers is true of the problem. Where memory runs out, the error is `AllocError`, and the scratch may be used again.
+/// One strategy, for any number of workers at a time: how a worker begins, and what it does with a
+/// node of the tree. What it answers is true of the problem. Where memory runs out, the error is
+/// `AllocError`, and the scratch may be used again.
 pub trait Rule {
     /// What a worker uses again for each node.
     type Scratch: Drop + Send;
@@ -37,7 +38,8 @@ pub trait Rule {
     fn scratch(&self, alloc: Global, problem: &Problem<'_>) -> Result<Self::Scratch, AllocError>
         ensures { IfOk result (λ scratch. is_for scratch problem.now.circuit.now) };
 
-    /// The pair to which a worker of this number climbs from the best one, before its first node, if the strategy climbs.
+    /// The pair to which a worker of this number climbs from the best one, before its first node,
+    /// if the strategy climbs.
     fn climb(
         &self,
         alloc: Global,
@@ -80,8 +82,9 @@ pub trait Rule {
         ensures small { IfOk result (λ bound. bound < 10 ^ 15) }
         ensures scratch { is_for scratch.new problem.now.circuit.now };
 
-    /// What is to be done with a cube under a cut: it is closed where a domain that the strategy asks has a bound that is at most
-    /// the cut. Else it is split, or measured where nothing is free in it.
+    /// What is to be done with a cube under a cut: it is closed where a domain that the strategy
+    /// asks has a bound that is at most the cut. Else it is split, or measured where nothing is
+    /// free in it.
     fn step(
         &self,
         alloc: Global,

@@ -3,7 +3,7 @@
 ghost use Rattle.std.specs.Prelude.{◌≡◌, ◌*◌, length, IfOk};
 ghost use Rattle.td_search.specs.Sheeted.{IsScratch};
 
-use crate::guide::Guide;
+use crate::branching::Branching;
 use crate::representatives::no_bits;
 use crate::sheets::Sheets;
 use std::alloc::{AllocError, Global};
@@ -11,14 +11,14 @@ use td_circuit::Circuit;
 use td_domain::{Cube, Pair};
 use td_event_sim::Scratch as Events;
 
-/// Room to measure pairs of a circuit and for the pair itself, a sheet of each domain of `least`, and what `lead` needs beside, once it
-/// was asked for.
+/// Room to measure pairs of a circuit and for the pair itself, a sheet of each domain of `least`,
+/// and what `lead` needs beside, once it was asked for.
 #[derive(Drop)]
 pub struct Scratch {
     pub events: Events,
     pub pair: Pair,
     pub sheets: Sheets,
-    pub guide: Option<Guide>,
+    pub branching: Option<Branching>,
 }
 
 impl Scratch {
@@ -35,7 +35,7 @@ impl Scratch {
             events,
             pair: no_bits(alloc),
             sheets,
-            guide: None,
+            branching: None,
         })
     }
 }

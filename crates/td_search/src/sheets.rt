@@ -40,7 +40,8 @@ impl Sheets {
         })
     }
 
-    /// Takes both sheets to a cube and answers the strongest domain's bound of it. The error is out of memory.
+    /// Takes both sheets to a cube and answers the strongest domain's bound of it. The error is out
+    /// of memory.
     pub fn strongest_of(
         &mut self,
         alloc: Global,

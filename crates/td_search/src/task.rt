@@ -6,7 +6,8 @@ use crate::problem::Problem;
 use crate::rule::Rule;
 use std::alloc::Global;
 
-/// What those who work on a search have in common: where memory comes from, what is asked, and the rule of its strategy.
+/// What those who work on a search have in common: where memory comes from, what is asked, and the
+/// rule of its strategy.
 #[derive(Drop)]
 pub struct Task<'a, R: Rule> {
     pub alloc: Global,

@@ -19,7 +19,8 @@ given literals = record { is_given = true; literals = literals; hints = [] }
 abbrev pub learned : List Literal → List ℕ → Line
 learned literals hints = record { is_given = false; literals = literals; hints = hints }
 
--- the literal that the search holds as this number: twice the variable, and one more for the negation
+-- the literal that the search holds as this number: twice the variable, and one more for the
+-- negation
 abbrev pub literal_at : ℕ → Literal
 literal_at code = record { variable = code / 2; positive = code % 2 == 0 }
 

@@ -183,8 +183,8 @@ impl Arena {
         if self.wasted <= self.literals.len() / 4 {
             return Ok(());
         }
-        let room = self.literals.len().saturating_sub(self.wasted);
-        let mut literals = Vec::with_capacity(self.alloc, room)?;
+        let space = self.literals.len().saturating_sub(self.wasted);
+        let mut literals = Vec::with_capacity(self.alloc, space)?;
         for place in 0..self.headers.len() {
             let header = read(&self.headers, place, Header::none());
             let moved = header.moved(&self.literals, &mut literals)?;

@@ -229,7 +229,8 @@ separator_takes end s x e =
           subst (λ (y : Bool × Remainder). Takes s (separator_text end y.0) 0 y.1) (ok_is (false, b.0.1) x t.1) (mark_taken end s b.0 b.1 t.0)
     ]
 
--- What a step of a list with commas takes, and what its members keep. The gates and the facts may depend on a member's number.
+-- What a step of a list with commas takes, and what its members keep. The gates and the facts may
+-- depend on a member's number.
 pub record MemberTakes {A : Type 0} (step : ℕ → Remainder → Result (Step A × Remainder) Fault) (spell : A → List Placed) (P Q : ℕ → A → Type 0) (g h : ℕ → A → ℕ) (closing : List Placed) : Type 0 where
   pub more : (k : ℕ) (s : Remainder) (a : A) (rest : Remainder) → step k s ≡ Ok (More a, rest) → Takes s (spell a ++ grammar.mark symbol.Comma) (g k a) rest × P k a
   pub final : (k : ℕ) (s : Remainder) (a : A) (rest : Remainder) → step k s ≡ Ok (Final a, rest) → Takes s (spell a ++ closing) (h k a) rest × Q k a

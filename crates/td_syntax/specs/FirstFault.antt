@@ -1,4 +1,5 @@
--- Which fault of tokens and grammar is reported: the first one that a reader meets from the front. What a text is doesn't rest on this.
+-- Which fault of tokens and grammar is reported: the first one that a reader meets from the front.
+-- What a text is doesn't rest on this.
 use Rattle.std.specs.Prelude.{ℕ, List, length, Result, Ok, Err, nat_lt, if◌then◌else◌}
 use Rattle.td_syntax.specs.Tokens.{tokens_of}
 use Rattle.td_syntax.specs.Grammar.{Module}

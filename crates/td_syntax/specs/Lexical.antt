@@ -1,4 +1,5 @@
--- Which fault of tokens is reported: what stands at the front of any text, also where it is no token of the grammar or none at all.
+-- Which fault of tokens is reported: what stands at the front of any text, also where it is no
+-- token of the grammar or none at all.
 use Rattle.std.specs.Prelude.{ℕ, suc, ◌+◌, ◌-◌, ◌<◌, ◌≤◌, List, [], ◌∷◌, length, take, drop, Option, None, Some, Bool, ◌||◌, ◌==◌, if◌then◌else◌, codes, true, false, Result, Ok, Err}
 use Rattle.std.specs.List.{prefix_len, position_or_len, list_any}
 use Rattle.std.specs.Option.{option_map}
@@ -21,7 +22,8 @@ use Rattle.td_syntax.specs.Timescales.{timescale_at}
 use Rattle.td_nets.specs.Letters.{is_letter, is_name_byte}
 use Rattle.td_syntax.specs.Bytes.{is_blank, is_run_byte, is_printable, is_newline, is_quote, begins}
 
--- A piece of a text and how many bytes it takes: white space or a comment, a token, or what nothing comes after.
+-- A piece of a text and how many bytes it takes: white space or a comment, a token, or what nothing
+-- comes after.
 pub data Piece : Type 0 where
   Space : ℕ → Piece
   Found : Token → ℕ → Piece

@@ -1,5 +1,5 @@
--- Which fault of tokens and grammar is reported: reading a module from the tokens in front, up to the first fault. Each reader gives
--- what it read and what is left.
+-- Which fault of tokens and grammar is reported: reading a module from the tokens in front, up to
+-- the first fault. Each reader gives what it read and what is left.
 use Rattle.std.specs.Prelude.{ℕ, ◌+◌, List, [], drop, length, Option, None, Some, is_some, Bool, true, false, not, Result, Ok, Err, ◌==◌, ◌&&◌, ◌||◌, nat_lt, if◌then◌else◌, codes}
 use Rattle.td_gates.specs.declared.primitives.Kind.{Kind}
 use Rattle.td_nets.specs.declared.keyword.Keyword.{Keyword}

@@ -1,5 +1,6 @@
--- What stands at the front of a text: white space, a comment or a token of the grammar, each the longest that begins there. Nothing stands there
--- where that one runs into what it may not: a number into a letter, an attribute that isn't closed into the end of the text.
+-- What stands at the front of a text: white space, a comment or a token of the grammar, each the
+-- longest that begins there. Nothing stands there where that one runs into what it may not: a
+-- number into a letter, an attribute that isn't closed into the end of the text.
 use Rattle.std.specs.Prelude.{ℕ, suc, ◌+◌, ◌-◌, List, [], ◌∷◌, length, take, drop, Option, None, Some, Bool, ◌||◌, ◌&&◌, ◌==◌, if◌then◌else◌, codes, true, false, not, Ok}
 use Rattle.std.specs.List.{prefix_len, position_or_len, list_any}
 use Rattle.std.specs.Option.{option_map}
@@ -85,8 +86,8 @@ number_by bytes (Some x) =
 
 -- ---- attributes and directives
 
--- How many bytes stand up to the next *), with it, that stands in no text in double quotes. There a backslash takes the next byte
--- with it.
+-- How many bytes stand up to the next *), with it, that stands in no text in double quotes. There a
+-- backslash takes the next byte with it.
 unfoldable pub attribute_end : Bool → List ℕ → Option ℕ
 attribute_end quoted [] = None
 attribute_end quoted (b ∷ []) = None

@@ -1,4 +1,5 @@
--- The parts of a `timescale: two spans of time with a slash between them, white space free between the parts.
+-- The parts of a `timescale: two spans of time with a slash between them, white space free between
+-- the parts.
 use Rattle.std.specs.Prelude.{ℕ, ◌+◌, List, [], ◌∷◌, length, take, drop, Option, None, Some, nat_le, if◌then◌else◌, codes}
 use Rattle.std.specs.List.{prefix_len}
 use Rattle.std.specs.Option.{option_and_then, option_map}

@@ -10,7 +10,8 @@ abbrev pub token_on : ℕ → Token → Placed
 token_on line (Name w) = placed_on line (Name w)
 token_on line t = placed_on 0 t
 
--- The bytes, which begin on this line, have these tokens: white space and comments stand between them.
+-- The bytes, which begin on this line, have these tokens: white space and comments stand between
+-- them.
 pub data Lexes : ℕ → List ℕ → List Placed → Type 0 where
   end : {line : ℕ} → Lexes line [] []
   gap : {line n : ℕ} {bytes : List ℕ} {tokens : List Placed} → piece_in bytes ≡ Some (Gap n) → Lexes (line + newlines (take n bytes)) (drop n bytes) tokens → Lexes line bytes tokens

@@ -1,4 +1,5 @@
--- Which fault of a `timescale is reported: its parts one after another, up to the first that can't be read.
+-- Which fault of a `timescale is reported: its parts one after another, up to the first that can't
+-- be read.
 use Rattle.std.specs.Prelude.{ℕ, ◌+◌, List, [], ◌∷◌, drop, Option, None, Some, ◌==◌, nat_le, min, if◌then◌else◌, Result, Ok, Err}
 use Rattle.std.specs.List.{prefix_len}
 use Rattle.td_syntax.specs.declared.token.Directive.{Directive}
@@ -20,7 +21,8 @@ unfoldable pub magnitude_at : List ℕ → Result (ℕ × List ℕ) Unread
 magnitude_at [] = Err Short
 magnitude_at (b ∷ bs) = let n = min (prefix_len is_zero bs) 2 in if b == 49 then Ok (n, drop n bs) else Err Wrong
 
--- the units with two letters, by the first one, as the number of zeros that they have in femtoseconds
+-- the units with two letters, by the first one, as the number of zeros that they have in
+-- femtoseconds
 abbrev pub letter_exponent : ℕ → Option ℕ
 letter_exponent b =
     if b == 109 then Some 12

@@ -11,8 +11,9 @@ pub record Numeral : Type 0 where
   pub whole : List ℕ
   pub fraction : Option (List ℕ)
 
--- A token without where it lies in memory. Escaped names with their backslash, directives that can't be read, tokens outside
--- the subset, and the texts of tokens are for faults alone: no module has them.
+-- A token without where it lies in memory. Escaped names with their backslash, directives that
+-- can't be read, tokens outside the subset, and the texts of tokens are for faults alone: no module
+-- has them.
 pub data Token : Type 0 where
   Name : List ℕ → Token
   Reserved : Keyword → Token
@@ -24,7 +25,8 @@ pub data Token : Type 0 where
   Escaped : List ℕ → Token
   Outside : List ℕ → Token
 
--- a token, and the line of its first byte (0 for all but names, where lines of no other tokens are asked about)
+-- a token, and the line of its first byte (0 for all but names, where lines of no other tokens are
+-- asked about)
 pub record Placed : Type 0 where
   pub token : Token
   pub line : ℕ

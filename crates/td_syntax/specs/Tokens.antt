@@ -18,15 +18,16 @@ ends line stop = record { tokens = []; stop = stop; line = line }
 abbrev pub with_token : Placed → Stream → Stream
 with_token t s = record { tokens = t ∷ s.tokens; stop = s.stop; line = s.line }
 
--- A comment or an attribute that is cut short is reported at the line of the end, another stop where it stands.
+-- A comment or an attribute that is cut short is reported at the line of the end, another stop
+-- where it stands.
 abbrev pub stop_line : ℕ → List ℕ → Stop → ℕ
 stop_line line bytes Cut = line + newlines bytes
 stop_line line bytes Bad = line
 stop_line line bytes Malformed = line
 stop_line line bytes End = line
 
--- The tokens of the bytes, which begin on this line: white space and comments stand between them. No more than that many pieces are
--- looked at.
+-- The tokens of the bytes, which begin on this line: white space and comments stand between them.
+-- No more than that many pieces are looked at.
 unfoldable pub tokens_within : ℕ → ℕ → List ℕ → Stream
 tokens_within zero line bytes = ends line End
 tokens_within (suc pieces) line bytes =

@@ -41,7 +41,8 @@ fn opening_refused<'a>(named: bool, placed: Placed<'a>) -> Fault<'a>
 impl<'a> Parser<'a> {
     // ---- delays
 
-    /// A whole number of steps, from 1 to the greatest delay, where a unit has 10 to the power of `tens` steps.
+    /// A whole number of steps, from 1 to the greatest delay, where a unit has 10 to the power of
+    /// `tens` steps.
     #[tactic(auto, unfolding(crate::specs::Parsing::steps_at))]
     fn steps(&mut self, tens: u8) -> Result<Number<'a>, Fault<'a>>
         ensures { Gives (λ n. (numeral_view n, self.new)) result (steps_at tens self.old) }

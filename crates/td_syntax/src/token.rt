@@ -34,8 +34,8 @@ pub struct Number<'a> {
     pub fraction: Option<&'a [u8]>,
 }
 
-/// What a `timescale sets: the unit of delays and the step of time, each as the power of ten of a femtosecond that it
-/// is, from 0 to 17. The step is not greater than the unit.
+/// What a `timescale sets: the unit of delays and the step of time, each as the power of ten of a
+/// femtosecond that it is, from 0 to 17. The step is not greater than the unit.
 #[derive(Clone, Copy, Debug, PartialEq, Eq)]
 pub struct Timescale {
     pub unit: u8,
@@ -71,9 +71,11 @@ pub enum Token<'a> {
     Constant(bool, &'a [u8]),
     Mark(Symbol),
     Attribute,
-    /// What a directive says and its word. Parts that can't be read matter only where a directive may stand.
+    /// What a directive says and its word. Parts that can't be read matter only where a directive
+    /// may stand.
     Directive(Result<Directive, Unread>, &'a [u8]),
-    /// What the subset leaves out: another reserved word, another constant or directive, a number that runs into letters, another character.
+    /// What the subset leaves out: another reserved word, another constant or directive, a number
+    /// that runs into letters, another character.
     Outside(&'a [u8]),
 }
 
@@ -84,7 +86,8 @@ pub struct Placed<'a> {
     pub line: u32,
 }
 
-/// What stands in front of the rest of a text: a token, or what no token comes after, with its line.
+/// What stands in front of the rest of a text: a token, or what no token comes after, with its
+/// line.
 #[derive(Clone, Copy, Debug)]
 pub enum Front<'a> {
     Next(Placed<'a>),

@@ -1,4 +1,5 @@
--- How possible levels are computed: a level is possible where a buffer that is driven by "the target may be it" is at 1.
+-- How possible levels are computed: a level is possible where a buffer that is driven by "the
+-- target may be it" is at 1.
 use Rattle.std.proofs.Common.{◌≡◌, ◌≢◌, ℕ, zero, suc, ◌+◌, ◌-◌, ◌<◌, ◌≤◌, max, Bool, true, false, List, [], ◌∷◌, ◌++◌, length, refl, arith, ap, ◌∙◌, sym, inl, inr, append-nil}
 use Rattle.std.specs.Prelude.{not, ◌&&◌, ◌||◌, filter_map, slice_get}
 use Rattle.std.specs.List.{All, AllByRecursion}

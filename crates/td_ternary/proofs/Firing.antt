@@ -51,7 +51,8 @@ delivered-fired : (d : Delay) (o : Level) (event : Change) (changes : List Chang
 delivered-fired d o event [] rising = refl
 delivered-fired d o event (change ∷ later) rising = rw (le-leb event.moment change.moment rising.0) refl
 
--- from a moment on, the wave is what the prospect makes of the changes of the target that are left, whose level is this so far
+-- from a moment on, the wave is what the prospect makes of the changes of the target that are left,
+-- whose level is this so far
 pub record IsFollowed (wanted : Level) (d : Delay) (wave : Wave) (n : ℕ) (level : Level) (rest : List Change) (target output : Level) (scheduled : Option Change) : Type 0 where
   pub shows : (t : ℕ) → n ≤ t → at wave t ≡ level_after output (delivered d output scheduled (turns wanted target rest)) t
   pub ready : IsReady n output scheduled

@@ -1,4 +1,5 @@
--- Internal: signals that are read from moment to moment, and what a gate's output makes of its target where that is read.
+-- Internal: signals that are read from moment to moment, and what a gate's output makes of its
+-- target where that is read.
 use Rattle.std.specs.Prelude.{ℕ, ◌==◌, List, [], ◌∷◌, Option, Some, None, if◌then◌else◌}
 use Rattle.td_gates.specs.declared.primitives.Level.{Level}
 use Rattle.td_gates.specs.declared.primitives.Kind.{Kind}
@@ -32,7 +33,8 @@ shifted falling rising sample target now =
 abbrev pub shifting : Change → Level → Outlook → List Change
 shifting sample target now = if level_eq sample.level target then [] else settling (Some sample.moment) now
 
--- the kind of a gate with two inputs that makes of a level beside a 1 what a gate of this kind makes of the level alone
+-- the kind of a gate with two inputs that makes of a level beside a 1 what a gate of this kind
+-- makes of the level alone
 abbrev pub beside_one : Kind → Kind
 beside_one And = And
 beside_one Or = And

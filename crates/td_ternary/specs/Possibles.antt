@@ -46,9 +46,9 @@ abbrev pub held_for : (ℕ → Bool) → ℕ → ℕ → Bool
 held_for test zero t = true
 held_for test (suc d) t = test (t - d) && held_for test d t
 
--- Whether a level is possible, place by place, where `may` says whether the target may be that level. It comes where the
--- target may have been that level all the while that it takes to come, and stays unless the target surely was the other
--- level all the while that it takes to go.
+-- Whether a level is possible, place by place, where `may` says whether the target may be that
+-- level. It comes where the target may have been that level all the while that it takes to come,
+-- and stays unless the target surely was the other level all the while that it takes to go.
 abbrev pub is_possible : (ℕ → Bool) → ℕ → ℕ → ℕ → Bool
 is_possible may coming going zero = may 0
 is_possible may coming going (suc t) =
@@ -84,7 +84,8 @@ abbrev pub widened : Level → List Change → List Change → List Change
 widened start first [] = first
 widened start first (change ∷ later) = first ++ change_at change.moment (last_level start first) X
 
--- at most 512 changes: of more the first 511 stay, and from the moment of the 512th on both levels are possible
+-- at most 512 changes: of more the first 511 stay, and from the moment of the 512th on both levels
+-- are possible
 abbrev pub capped : Level → List Change → List Change
 capped start changes =
     if nat_le (length changes) 512 then changes else widened start (take 511 changes) (drop 511 changes)
@@ -97,7 +98,8 @@ gate_signal kind delay signals = record {
       (changes_below (possible kind delay signals) (last_input signals + max delay.rise delay.fall + 1));
 }
 
--- none where the last level stands for both, else the moment of the last change, 0 where there is none
+-- none where the last level stands for both, else the moment of the last change, 0 where there is
+-- none
 abbrev pub last_of : Wave → Option ℕ
 last_of signal = if level_eq (last_level signal.start signal.changes) X then None else Some (last_change signal.changes)
 

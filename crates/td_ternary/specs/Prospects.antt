@@ -9,8 +9,8 @@ use Rattle.td_run.specs.Waves.{event_for}
 use Rattle.td_ternary.specs.Possibles.{change_at}
 use Rattle.td_ternary.specs.Turning.{may_be, either}
 
--- What is known of one level over time: whether the target and the output may be it, 1 where they may, else 0, and the change of
--- the output that is scheduled.
+-- What is known of one level over time: whether the target and the output may be it, 1 where they
+-- may, else 0, and the change of the output that is scheduled.
 pub record Prospect : Type 0 where
   pub target : Level
   pub output : Level

@@ -55,30 +55,31 @@ fn uncapped(
     ensures shows { IfOk result (λ wave. (n : ℕ) → before wave n ≡ possible kind delay (waves_of all.now ins.now) n) }
     ensures wave { IfOk result (λ wave. IsWave wave) }
 {
-    let room = scratch.room();
+    let space = scratch.space();
     match ins.len() {
-        1 => output_of_one(scratch.alloc, kind, delay, &all[ins[0] as usize], room),
+        1 => output_of_one(scratch.alloc, kind, delay, &all[ins[0] as usize], space),
         2 => output_of_two(
             kind,
             delay,
             &all[ins[0] as usize],
             &all[ins[1] as usize],
-            room,
+            space,
         ),
-        _ => output_of_many(scratch, kind, delay, all, ins, room),
+        _ => output_of_many(scratch, kind, delay, all, ins, space),
     }
 }
 
-/// The possible levels of the output of a gate with any number of inputs, from the wave of its target.
+/// The possible levels of the output of a gate with any number of inputs, from the wave of its
+/// target.
 fn output_of_many(
     scratch: &mut Scratch,
     kind: Kind,
     delay: Delay,
     all: &[Wave],
     ins: &[u32],
-    room: Vec<Change>,
+    space: Vec<Change>,
 ) -> Result<Wave, AllocError>
-    requires room { room.items ≡ [] }
+    requires space { space.items ≡ [] }
     requires places { All (λ place. place < length all.now) ins.now }
     requires few { length ins.now ≤ 1024 }
     requires takes { TakesInputs kind (length ins.now) }
@@ -86,24 +87,24 @@ fn output_of_many(
     ensures shows { IfOk result (λ wave. (n : ℕ) → before wave n ≡ possible kind delay (waves_of all.now ins.now) n) }
     ensures wave { IfOk result (λ wave. IsWave wave) }
 {
-    let target_room = scratch.target_room();
-    let target = target_in(&mut scratch.turns, kind, all, ins, target_room)?;
-    let wave = possible_after(delay, &target, room)?;
+    let target_space = scratch.target_space();
+    let target = target_in(&mut scratch.turns, kind, all, ins, target_space)?;
+    let wave = possible_after(delay, &target, space)?;
     scratch.keep_target(target.into_changes());
     Ok(wave)
 }
 
 /// The possible levels of an output whose target has these.
-fn possible_after(delay: Delay, target: &Wave, room: Vec<Change>) -> Result<Wave, AllocError>
+fn possible_after(delay: Delay, target: &Wave, space: Vec<Change>) -> Result<Wave, AllocError>
     requires within { AreWithin (2 ^ 63) target.now.changes }
-    requires room { room.items ≡ [] }
+    requires space { space.items ≡ [] }
     ensures shows { IfOk result (λ wave. (n : ℕ) → before wave n ≡ possible_after delay (before target.now) n) }
     ensures wave { IfOk result (λ wave. IsWave wave) }
 {
     let reversed = reversed(delay);
     let start = target.start();
     let mut now = begun(start);
-    let mut changes = room;
+    let mut changes = space;
     changes.reserve(target.changes().len())?;
     for change in target.changes() {
         let next = pass(&mut changes, now, reversed, delay, *change)?;

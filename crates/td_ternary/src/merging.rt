@@ -60,8 +60,8 @@ fn read(changes: &[Change], reading: Reading, moment: u64) -> Reading
     }
 }
 
-/// The target is read at a moment: where its level is another one, it changes. Room for the changes is taken where the first is
-/// known to come, since for many gates none does.
+/// The target is read at a moment: where its level is another one, it changes. Room for the changes
+/// is taken where the first is known to come, since for many gates none does.
 #[inline(always)]
 fn shift(
     changes: &mut Vec<Change>,
@@ -69,7 +69,7 @@ fn shift(
     falling: Delay,
     rising: Delay,
     sample: Change,
-    room: usize,
+    space: usize,
 ) -> Result<Tracks, AllocError>
     requires { sample.moment ≤ 2 ^ 63 }
     ensures outlook { IfOk result (λ after. outlook_of after ≡ shifted falling rising sample now.target (outlook_of now)) }
@@ -80,20 +80,21 @@ fn shift(
         return Ok(now);
     }
     if changes.capacity() == 0 {
-        changes.reserve_exact(room)?;
+        changes.reserve_exact(space)?;
     }
     pass(changes, now, falling, rising, sample)
 }
 
-/// The possible levels of the output of a gate whose two inputs have these signals, in the memory of `room`.
+/// The possible levels of the output of a gate whose two inputs have these signals, in the memory
+/// of `space`.
 pub fn output_of_two(
     kind: Kind,
     delay: Delay,
     left: &Wave,
     right: &Wave,
-    room: Vec<Change>,
+    space: Vec<Change>,
 ) -> Result<Wave, AllocError>
-    requires room { room.items ≡ [] }
+    requires space { space.items ≡ [] }
     requires left { AreWithin (2 ^ 63) left.now.changes }
     requires right { AreWithin (2 ^ 63) right.now.changes }
     ensures shows { IfOk result (λ wave. (n : ℕ) → before wave n ≡ possible kind delay (left.now ∷ right.now ∷ []) n) }
@@ -112,8 +113,8 @@ pub fn output_of_two(
     };
     let start = level_of_two(kind, first.level, second.level);
     let mut now = begun(start);
-    let most = room_for(lefts, rights);
-    let mut changes = room;
+    let most = space_for(lefts, rights);
+    let mut changes = space;
     while let Some(moment) = earlier(
         moment_at(lefts, first.place),
         moment_at(rights, second.place),
@@ -135,7 +136,8 @@ pub fn output_of_two(
     Ok(Wave::from_changes(start, changes))
 }
 
-/// The kind of a gate with two inputs that makes of a level beside a 1 what a gate of this kind makes of the level alone.
+/// The kind of a gate with two inputs that makes of a level beside a 1 what a gate of this kind
+/// makes of the level alone.
 fn beside_one(kind: Kind) -> Kind
     ensures { result ≡ beside_one kind }
 {
@@ -145,25 +147,26 @@ fn beside_one(kind: Kind) -> Kind
     }
 }
 
-/// The possible levels of the output of a gate whose one input has this signal: those of a gate that has a constant 1 beside it.
+/// The possible levels of the output of a gate whose one input has this signal: those of a gate
+/// that has a constant 1 beside it.
 pub fn output_of_one(
     alloc: Global,
     kind: Kind,
     delay: Delay,
     input: &Wave,
-    room: Vec<Change>,
+    space: Vec<Change>,
 ) -> Result<Wave, AllocError>
-    requires room { room.items ≡ [] }
+    requires space { space.items ≡ [] }
     requires within { AreWithin (2 ^ 63) input.now.changes }
     ensures shows { IfOk result (λ wave. (n : ℕ) → before wave n ≡ possible kind delay (input.now ∷ []) n) }
     ensures wave { IfOk result (λ wave. IsWave wave) }
 {
     let ones = Wave::from_changes(Level::One, Vec::new(alloc));
-    output_of_two(beside_one(kind), delay, input, &ones, room)
+    output_of_two(beside_one(kind), delay, input, &ones, space)
 }
 
 /// How many changes the output is given room for: as many as both inputs have.
-fn room_for(lefts: &[Change], rights: &[Change]) -> usize
+fn space_for(lefts: &[Change], rights: &[Change]) -> usize
     ensures { result ≡ min (length lefts.now + length rights.now) 512 }
 {
     lefts.len().saturating_add(rights.len()).min(MAX_CHANGES)

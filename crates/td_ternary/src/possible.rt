@@ -50,7 +50,7 @@ impl Domain for Possible {
     ) -> Result<Wave, AllocError> {
         let start = first.level();
         let level = second.level();
-        let mut changes = scratch.room();
+        let mut changes = scratch.space();
         if start != level {
             changes.push(Change { moment, level })?;
         }

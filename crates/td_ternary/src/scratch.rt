@@ -31,19 +31,19 @@ impl Scratch {
     }
 
     /// Room for the changes of a signal: that of one that was released, or none yet.
-    pub fn room(&mut self) -> Vec<Change>
+    pub fn space(&mut self) -> Vec<Change>
         ensures { result.items ≡ [] }
     {
         match self.spare.pop() {
-            Some(room) => emptied(room),
+            Some(space) => emptied(space),
             None => Vec::new(self.alloc),
         }
     }
 
     /// Keeps the room of a signal, where there is a place for it.
-    pub fn keep(&mut self, room: Vec<Change>) {
+    pub fn keep(&mut self, space: Vec<Change>) {
         if self.spare.len() < self.spare.capacity() {
-            self.spare.push_reserved(room);
+            self.spare.push_reserved(space);
         }
     }
 
@@ -53,22 +53,22 @@ impl Scratch {
     }
 
     /// Room for the changes of a target, which `keep_target` takes back.
-    pub fn target_room(&mut self) -> Vec<Change>
+    pub fn target_space(&mut self) -> Vec<Change>
         ensures { result.items ≡ [] }
     {
         emptied(mem::replace(&mut self.target, Vec::new(self.alloc)))
     }
 
     /// Keeps the room of a target.
-    pub fn keep_target(&mut self, room: Vec<Change>) {
-        self.target = room;
+    pub fn keep_target(&mut self, space: Vec<Change>) {
+        self.target = space;
     }
 }
 
 /// The same room without what stood in it.
-fn emptied(mut room: Vec<Change>) -> Vec<Change>
+fn emptied(mut space: Vec<Change>) -> Vec<Change>
     ensures { result.items ≡ [] }
 {
-    room.clear();
-    room
+    space.clear();
+    space
 }

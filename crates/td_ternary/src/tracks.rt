@@ -1,5 +1,5 @@
-//! The possible levels of an output, from change to change of its target. All stands in the loops that call it (`inline`), so that both
-//! levels stay in registers there.
+//! The possible levels of an output, from change to change of its target. All stands in the loops
+//! that call it (`inline`), so that both levels stay in registers there.
 
 ghost use Rattle.std.specs.Prelude.{◌≡◌, ◌≤◌, ◌<◌, ◌-◌, ◌^◌, ◌++◌, None, Some, IfOk, OnOk};
 ghost use Rattle.td_ternary.specs.Possibles.{change_at};
@@ -106,7 +106,8 @@ fn add_change(
     Ok(())
 }
 
-/// The next events that are due by the end take place. The signal's change, if it has one, is added.
+/// The next events that are due by the end take place. The signal's change, if it has one, is
+/// added.
 #[inline(always)]
 fn step(changes: &mut Vec<Change>, now: Tracks, end: u64) -> Result<Tracks, AllocError>
     requires { end < 2 ^ 64 - 1 }

@@ -19,9 +19,9 @@ through a b c text batch part rest kept so_far now =
     SentTo-then a b c text ((batch ++ part) ++ rest) (kept ++ rest) before (SentTo-more b c (batch ++ part) kept rest now)
 
 -- some of the batch went out
-pub room : (a b c : Output) (text batch rest kept : List ℕ) → SentTo a b text (batch ++ rest) → SentTo b c batch kept
+pub space : (a b c : Output) (text batch rest kept : List ℕ) → SentTo a b text (batch ++ rest) → SentTo b c batch kept
     → SentTo a c text (kept ++ rest)
-room a b c text batch rest kept so_far now =
+space a b c text batch rest kept so_far now =
     SentTo-then a b c text (batch ++ rest) (kept ++ rest) so_far (SentTo-more b c batch kept rest now)
 
 -- a part of the rest was appended to the batch
@@ -111,5 +111,5 @@ refused_part fault a b c text batch part rest so_far refused =
 pub turn : (a b c : Output) (text batch rest kept part later grown : List ℕ) → SentTo a b text (batch ++ rest) → SentTo b c batch kept
     → rest ≡ part ++ later → grown ≡ kept ++ part → SentTo a c text (grown ++ later)
 turn a b c text batch rest kept part later grown so_far now split is =
-    let here : SentTo a c text (kept ++ rest) = room a b c text batch rest kept so_far now in
+    let here : SentTo a c text (kept ++ rest) = space a b c text batch rest kept so_far now in
     pushed a c text kept part later grown (subst (λ (t : List ℕ). SentTo a c text (kept ++ t)) split here) is

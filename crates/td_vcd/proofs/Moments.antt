@@ -1,4 +1,5 @@
--- The lines of changes that come in the order of their moments are those of the moments, one after another.
+-- The lines of changes that come in the order of their moments are those of the moments, one after
+-- another.
 use Rattle.std.proofs.Common.{◌≡◌, ◌≢◌, ℕ, zero, suc, ◌<◌, ◌≤◌, List, [], ◌∷◌, ◌++◌, length, map, get_or, refl, arith, ◌⊎◌, inl, inr, sym, ap, ◌∙◌}
 use Rattle.std.specs.Prelude.{IsPermutation, ◌==◌, ◌&&◌, not, if◌then◌else◌}
 use Rattle.std.specs.List.{flat_map, filter, Contains}

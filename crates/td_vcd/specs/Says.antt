@@ -15,8 +15,8 @@ IsOneLine (Keyword words) = IsOnOneLine words
 IsOneLine (Number number) = Unit {0}
 IsOneLine (Sets variable level) = Unit {0}
 
--- The level of a variable at a number: the last that a line sets under a number line that isn't above it. The second number is that
--- of the last number line so far.
+-- The level of a variable at a number: the last that a line sets under a number line that isn't
+-- above it. The second number is that of the last number line so far.
 abbrev pub level_by : ℕ → ℕ → ℕ → Level → List Line → Level
 level_by variable number under level [] = level
 level_by variable number under level (Keyword words ∷ lines) = level_by variable number under level lines
@@ -47,8 +47,8 @@ abbrev pub declared : List Line → ℕ
 declared [] = 0
 declared (line ∷ lines) = if declares line then suc (declared lines) else declared lines
 
--- As many variables are declared as there are waves. The numbers rise, and at each of them the lines give each variable the level of its
--- wave: 0 is before moment 0, and t + 1 is moment t.
+-- As many variables are declared as there are waves. The numbers rise, and at each of them the
+-- lines give each variable the level of its wave: 0 is before moment 0, and t + 1 is moment t.
 pub record Says (text : List ℕ) (waves : List Wave) : Type 0 where
   pub lines : List Line
   pub each : AllByRecursion IsOneLine lines

@@ -20,7 +20,8 @@ pub data Line : Type 0 where
   Number : ℕ → Line
   Sets : ℕ → Level → Line
 
--- the digits of a number in base 94, the least first, each the character 33 + digit; the first number bounds how many
+-- the digits of a number in base 94, the least first, each the character 33 + digit; the first
+-- number bounds how many
 abbrev pub code_within : ℕ → ℕ → List ℕ
 code_within zero number = []
 code_within (suc digits) number = (33 + number % 94) ∷ (if nat_lt number 94 then [] else code_within digits (number / 94))
@@ -126,7 +127,8 @@ change_lines events = flat_map (moment_lines events) (rising (map moment_of even
 
 -- ---- the text
 
--- the lines of a dump of these waves, one for each driven net: the inputs, and then the outputs of the gates
+-- the lines of a dump of these waves, one for each driven net: the inputs, and then the outputs of
+-- the gates
 abbrev pub dump_lines : Netlist → List Wave → List Line
 dump_lines netlist waves =
     head_lines netlist

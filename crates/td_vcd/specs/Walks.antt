@@ -1,4 +1,5 @@
--- Internal: the lines of changes that come in the order of their moments, and the nets of the variables.
+-- Internal: the lines of changes that come in the order of their moments, and the nets of the
+-- variables.
 use Rattle.std.specs.Prelude.{ℕ, List, [], ◌∷◌, ◌++◌, ◌==◌, map, codes, if◌then◌else◌}
 use Rattle.td_nets.specs.Netlist.{Named}
 use Rattle.td_nets.specs.WellFormed.{driven}

@@ -19,7 +19,8 @@ pub record IsRunFor (circuit : Numbered) (run : NetWaves) : Type 0 where
 abbrev pub dump_of : Numbered → NetWaves → List ℕ
 dump_of circuit run = dump circuit.netlist (variable_waves circuit.netlist (net_wave (nets circuit) run.waves))
 
--- A beginning of the text went out. The writer failed once where the fault is Device, and didn't where memory ran out.
+-- A beginning of the text went out. The writer failed once where the fault is Device, and didn't
+-- where memory ran out.
 pub record IsRefused (fault : VcdFault) (old new : Output) (text : List ℕ) : Type 0 where
   pub front : SentFront old new text
   pub device : fault ≡ Device → new.failures ≡ one_more old.failures

@@ -58,7 +58,7 @@ impl Batch {
     }
 
     /// Writes the bytes if there are many.
-    pub fn make_room<W: Sink>(&mut self, out: &mut W) -> Result<(), DeviceFault>
+    pub fn make_space<W: Sink>(&mut self, out: &mut W) -> Result<(), DeviceFault>
         ensures ok { OnOk result (SentTo (W.output out.old) (W.output out.new) self.old self.new) }
         ensures err { OnErr result (Failed (W.output out.old) (W.output out.new) self.old) }
     {
@@ -108,7 +108,8 @@ impl Batch {
         Ok(())
     }
 
-    /// Appends the code of a variable: its digits in base 94, the least first, each as the character 33 + digit.
+    /// Appends the code of a variable: its digits in base 94, the least first, each as the
+    /// character 33 + digit.
     fn code(&mut self, variable: usize) -> Result<(), AllocError>
         ensures { OnOk result (self.new ≡ self.old ++ code variable) }
     {

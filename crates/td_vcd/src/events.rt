@@ -56,8 +56,8 @@ fn sort(events: &mut Vec<Event>) -> Result<(), AllocError>
     Ok(())
 }
 
-/// The changes of the variables that have these nets in the order of their moments, and those of one moment in the order of the
-/// variables.
+/// The changes of the variables that have these nets in the order of their moments, and those of
+/// one moment in the order of the variables.
 pub fn events(alloc: Global, run: &Run, nets: &[u32]) -> Result<Vec<Event>, AllocError>
     requires nets { All (λ net. net < length run.now.waves) nets.now }
     requires small { All (λ wave. AreWithin 200001000000000 wave.changes) run.now.waves }

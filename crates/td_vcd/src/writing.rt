@@ -18,7 +18,8 @@ use td_circuit::Circuit;
 use td_run::Run;
 use td_text::Sink;
 
-/// The nets of the variables: the inputs in order, and then the outputs of the gates in the order of the netlist.
+/// The nets of the variables: the inputs in order, and then the outputs of the gates in the order
+/// of the netlist.
 fn variable_nets(alloc: Global, circuit: &Circuit) -> Result<Vec<u32>, AllocError>
     ensures nets { IfOk result (λ nets. AreVariables circuit.now nets.items) }
     ensures numbering { IsNumbering circuit.now }
@@ -56,7 +57,7 @@ fn write_declarations<W: Sink>(
         (batch.old ++ text_of (numbered declaration 0 (driven circuit.now.netlist)))) }
 {
     for (variable, net) in nets.iter().enumerate() {
-        batch.make_room(out)?;
+        batch.make_space(out)?;
         batch.declaration(variable, circuit.name(*net as usize))?;
     }
     Ok(())
@@ -76,7 +77,7 @@ fn write_starts<W: Sink>(
         (batch.old ++ text_of (numbered start_line 0 (waves_of run.now.waves nets.now)))) }
 {
     for (variable, net) in nets.iter().enumerate() {
-        batch.make_room(out)?;
+        batch.make_space(out)?;
         batch.level(variable, run.wave(*net).start())?;
     }
     Ok(())
@@ -105,7 +106,7 @@ fn write_changes<W: Sink>(out: &mut W, batch: &mut Batch, events: &[Event]) -> R
 {
     let mut number = 0;
     for event in events {
-        batch.make_room(out)?;
+        batch.make_space(out)?;
         push_event(batch, number, event)?;
         number = event.moment + 1;
     }
@@ -138,8 +139,9 @@ fn write_lines<W: Sink>(
     Ok(())
 }
 
-/// Writes the waves of a circuit's run as a value change dump: a variable for each input and each gate's output, the settled levels
-/// under `#0`, and the changes of moment t under `#(t+1)`. A step is the circuit's unit.
+/// Writes the waves of a circuit's run as a value change dump: a variable for each input and each
+/// gate's output, the settled levels under `#0`, and the changes of moment t under `#(t+1)`. A step
+/// is the circuit's unit.
 ///
 /// It fails where memory runs out, for the changes in their order or for the bytes gathered before
 /// a write, or where the writer fails.

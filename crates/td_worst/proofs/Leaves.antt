@@ -91,5 +91,5 @@ module _ (asked : Problem) (budget : ℕ) (some : 0 < budget) (sizes : IsSpellab
     tree = leaf_tree refuted tree leaf.is;
   }
 
-  pub exact_told : IsOutcome asked budget (answer.Exact time pair tree) × CanBeWritten asked (answer.Exact time pair tree)
-  exact_told = (is_exact, (spelled, refuted_texts_fit (certificate_of asked time pair tree) (leaf_of refuted) spelled small leaf.is leaf.few))
+  pub exact_reported : IsOutcome asked budget (answer.Exact time pair tree) × CanBeWritten asked (answer.Exact time pair tree)
+  exact_reported = (is_exact, (spelled, refuted_texts_fit (certificate_of asked time pair tree) (leaf_of refuted) spelled small leaf.is leaf.few))

@@ -8,15 +8,15 @@ use Rattle.td_search.specs.declared.answers.Cause.{Cause}
 use Rattle.td_search.specs.declared.answers.Answer.TheVariants as answer
 use Rattle.td_search.specs.Problems.{Problem}
 use Rattle.td_search.specs.Written.{CanBeWritten}
-use Rattle.td_worst.specs.declared.refuting.Standing.{Standing}
+use Rattle.td_worst.specs.declared.refuting.OpenAnswer.{OpenAnswer}
 use Rattle.td_search.specs.declared.answers.Answer.{Answer}
 use Rattle.td_search.specs.Problems.{has_delay}
 use Rattle.td_search.specs.Answers.{low_of}
 use Rattle.td_worst.specs.Methods.{IsBounded, IsOutcome, high_of, IsNarrower}
-use Rattle.td_worst.specs.Standing.{IsStanding}
+use Rattle.td_worst.specs.OpenAnswer.{IsOpenAnswer}
 
 -- what is known bounds the worst delay
-pub bounded : (asked : Problem) (budget : ℕ) (known : Standing) → IsStanding asked budget known
+pub bounded : (asked : Problem) (budget : ℕ) (known : OpenAnswer) → IsOpenAnswer asked budget known
     → IsBounded asked budget known.best.time known.high known.best.pair known.nodes
 bounded asked budget known is = record {
   reached = (is.best.admitted, is.best.delay);
@@ -30,15 +30,15 @@ bounded asked budget known is = record {
   small = is.small;
 }
 
-pub told_between : (asked : Problem) (budget : ℕ) (known : Standing) (why : Cause) → IsStanding asked budget known
+pub reported_between : (asked : Problem) (budget : ℕ) (known : OpenAnswer) (why : Cause) → IsOpenAnswer asked budget known
     → IsOutcome asked budget (answer.Between known.best.time known.high known.best.pair known.nodes why)
     × CanBeWritten asked (answer.Between known.best.time known.high known.best.pair known.nodes why)
-told_between asked budget known why is = (bounded asked budget known is, tt)
+reported_between asked budget known why is = (bounded asked budget known is, tt)
 
 -- from bounds
-pub standing : (asked : Problem) (budget low high : ℕ) (pair : Pair) (nodes : ℕ) → IsBounded asked budget low high pair nodes
-    → IsStanding asked budget (record { best = record { pair = pair; time = low }; high = high; nodes = nodes })
-standing asked budget low high pair nodes is = record {
+pub open_answer : (asked : Problem) (budget low high : ℕ) (pair : Pair) (nodes : ℕ) → IsBounded asked budget low high pair nodes
+    → IsOpenAnswer asked budget (record { best = record { pair = pair; time = low }; high = high; nodes = nodes })
+open_answer asked budget low high pair nodes is = record {
   best = record { admitted = is.reached.0; delay = is.reached.1 };
   high = is.greatest;
   within = is.within;
@@ -46,8 +46,8 @@ standing asked budget low high pair nodes is = record {
 }
 
 -- with another upper figure, which is no greater
-pub lowered : (asked : Problem) (budget bound : ℕ) (known : Standing) → IsStanding asked budget known → IsUpperBound asked.setting asked.admit bound
-    → IsStanding asked budget (record { best = known.best; high = min known.high bound; nodes = known.nodes })
+pub lowered : (asked : Problem) (budget bound : ℕ) (known : OpenAnswer) → IsOpenAnswer asked budget known → IsUpperBound asked.setting asked.admit bound
+    → IsOpenAnswer asked budget (record { best = known.best; high = min known.high bound; nodes = known.nodes })
 lowered asked budget bound known is greatest = record {
   best = is.best;
   high = λ pair delay admitted has. omega (arith, is.high pair delay admitted has, greatest pair delay admitted has);
@@ -57,7 +57,7 @@ lowered asked budget bound known is greatest = record {
 
 -- with an upper figure that steps show
 pub shown_above : (asked : Problem) (budget bound : ℕ) (best : Timed) (nodes : ℕ) → IsTimed asked.setting asked.admit best → IsUpperBound asked.setting asked.admit bound
-    → bound ≤ best.time → best.time < 10 ^ 15 → nodes ≤ budget → IsStanding asked budget (record { best = best; high = best.time; nodes = nodes })
+    → bound ≤ best.time → best.time < 10 ^ 15 → nodes ≤ budget → IsOpenAnswer asked budget (record { best = best; high = best.time; nodes = nodes })
 shown_above asked budget bound best nodes timed greatest le small within = record {
   best = timed;
   high = λ pair delay admitted has. omega (arith, greatest pair delay admitted has, le);
@@ -66,9 +66,9 @@ shown_above asked budget bound best nodes timed greatest le small within = recor
 }
 
 -- two of them together
-pub joined : (asked : Problem) (budget more : ℕ) (first second : Standing) (best : Timed) (nodes : ℕ) → IsStanding asked budget first → IsStanding asked more second
+pub joined : (asked : Problem) (budget more : ℕ) (first second : OpenAnswer) (best : Timed) (nodes : ℕ) → IsOpenAnswer asked budget first → IsOpenAnswer asked more second
     → (best ≡ first.best) ⊎ (best ≡ second.best) → nodes ≤ second.nodes + first.nodes
-    → IsStanding asked (budget + more) (record { best = best; high = min second.high first.high; nodes = nodes })
+    → IsOpenAnswer asked (budget + more) (record { best = best; high = min second.high first.high; nodes = nodes })
 joined asked budget more first second best nodes is also one few = record {
   best = ⊎_elim (λ (e : best ≡ first.best). subst (IsTimed asked.setting asked.admit) (sym e) is.best) (λ (e : best ≡ second.best). subst (IsTimed asked.setting asked.admit) (sym e) also.best) one;
   high = λ pair delay admitted has. omega (arith, is.high pair delay admitted has, also.high pair delay admitted has);
@@ -77,12 +77,12 @@ joined asked budget more first second best nodes is also one few = record {
 }
 
 -- its best time is small
-pub best_small : (asked : Problem) (budget : ℕ) (known : Standing) → IsStanding asked budget known → known.best.time < 10 ^ 15
+pub best_small : (asked : Problem) (budget : ℕ) (known : OpenAnswer) → IsOpenAnswer asked budget known → known.best.time < 10 ^ 15
 best_small asked budget known is = omega (arith, is.high known.best.pair known.best.time is.best.admitted is.best.delay, is.small)
 
 -- with another pair
-pub with_best : (asked : Problem) (budget : ℕ) (known : Standing) (best : Timed) → IsStanding asked budget known → IsTimed asked.setting asked.admit best
-    → IsStanding asked budget (record { best = best; high = known.high; nodes = known.nodes })
+pub with_best : (asked : Problem) (budget : ℕ) (known : OpenAnswer) (best : Timed) → IsOpenAnswer asked budget known → IsTimed asked.setting asked.admit best
+    → IsOpenAnswer asked budget (record { best = best; high = known.high; nodes = known.nodes })
 with_best asked budget known best is timed = record { best = timed; high = is.high; within = is.within; small = is.small }
 
 -- ---- figures of answers to one question

@@ -1,3 +1,3 @@
 pub mod Methods
 pub mod Leaves
-pub mod Standing
+pub mod OpenAnswer

@@ -5,13 +5,14 @@ ghost use Rattle.td_search.specs.Problems.{Problem as Asked};
 ghost use Rattle.td_search.specs.Written.{CanBeWritten};
 ghost use Rattle.td_search.specs.Answers.{low_of};
 ghost use Rattle.td_worst.specs.Methods.{high_of, IsNarrower, IsOutcome};
-ghost use Rattle.td_worst.specs.Standing.{IsStanding};
+ghost use Rattle.td_worst.specs.OpenAnswer.{IsOpenAnswer};
 
-use crate::refuting::Standing;
+use crate::refuting::OpenAnswer;
 use td_lead::Timed;
 use td_search::Answer;
 
-/// What two searches of one question know together: an answer that is exact, or else the better pair and the lesser bound.
+/// What two searches of one question know together: an answer that is exact, or else the better
+/// pair and the lesser bound.
 pub fn combined(first: Answer, second: Answer) -> Answer
     ensures answer { (asked : Asked) (budget more : ℕ) → IsOutcome asked budget first → CanBeWritten asked first → IsOutcome asked more second
         → CanBeWritten asked second → IsOutcome asked (budget + more) result × CanBeWritten asked result }
@@ -28,16 +29,16 @@ pub fn combined(first: Answer, second: Answer) -> Answer
             ..
         } => {
             let best = Timed { pair, time: low };
-            with_second(Standing { best, high, nodes }, second)
+            with_second(OpenAnswer { best, high, nodes }, second)
         }
     }
 }
 
 // As `combined`, where this is known of a first search.
-fn with_second(first: Standing, second: Answer) -> Answer
-    ensures answer { (asked : Asked) (budget more : ℕ) → IsStanding asked budget first → IsOutcome asked more second → CanBeWritten asked second
+fn with_second(first: OpenAnswer, second: Answer) -> Answer
+    ensures answer { (asked : Asked) (budget more : ℕ) → IsOpenAnswer asked budget first → IsOutcome asked more second → CanBeWritten asked second
         → IsOutcome asked (budget + more) result × CanBeWritten asked result }
-    ensures narrower { (asked : Asked) (budget more : ℕ) → IsStanding asked budget first → IsOutcome asked more second
+    ensures narrower { (asked : Asked) (budget more : ℕ) → IsOpenAnswer asked budget first → IsOutcome asked more second
         → (first.best.time ≤ low_of result) × (high_of result ≤ first.high) × IsNarrower second result }
 {
     match second {
@@ -49,13 +50,13 @@ fn with_second(first: Standing, second: Answer) -> Answer
             nodes,
             cause,
         } => {
-            let Standing {
+            let OpenAnswer {
                 best,
                 high: first_high,
                 nodes: first_nodes,
             } = first;
             let best = later(best, Timed { pair, time: low });
-            Standing {
+            OpenAnswer {
                 best,
                 high: high.min(first_high),
                 nodes: nodes.saturating_add(first_nodes),

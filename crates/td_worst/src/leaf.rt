@@ -10,8 +10,8 @@ use td_refute::Refuted;
 /// The most bytes of the lines of a certificate's steps.
 pub const MOST_BYTES: usize = 268_000_000;
 
-/// The tree of one leaf, which the steps of a refutation show; none where a certificate can't spell them within its limit. The
-/// error is out of memory.
+/// The tree of one leaf, which the steps of a refutation show; none where a certificate can't spell
+/// them within its limit. The error is out of memory.
 pub fn tree_of_leaf(alloc: Global, refuted: &Refuted) -> Result<Option<Tree>, AllocError>
     requires { refuted.now.bound ≤ 10 ^ 18 }
     ensures { IfOk result (λ answer. IfSome answer (IsLeafOf refuted.now)) }

@@ -10,7 +10,7 @@ ghost use Rattle.td_search.specs.Problems.{Problem as Asked, problem_of};
 ghost use Rattle.td_search.specs.Written.{CanBeWritten};
 ghost use Rattle.td_worst.specs.Leaves.{IsSpellable};
 ghost use Rattle.td_worst.specs.Methods.{high_of, IsNarrower, IsOutcome};
-ghost use Rattle.td_worst.specs.Standing.{IsStanding};
+ghost use Rattle.td_worst.specs.OpenAnswer.{IsOpenAnswer};
 
 use crate::leaf::tree_of_leaf;
 use std::alloc::{AllocError, Global};
@@ -19,20 +19,21 @@ use td_lead::Timed;
 use td_refute::{Effort, Refuted, refute};
 use td_search::{Answer, Cause, Problem};
 
-/// What is known where no answer is exact: the best pair, a bound of all delays in steps, and how many nodes trees had.
+/// What is known where no answer is exact: the best pair, a bound of all delays in steps, and how
+/// many nodes trees had.
 #[derive(Drop)]
-pub struct Standing {
+pub struct OpenAnswer {
     pub best: Timed,
     pub high: u64,
     pub nodes: u64,
 }
 
-impl Standing {
+impl OpenAnswer {
     /// The answer that says what is known.
     pub fn between(self, cause: Cause) -> Answer
         ensures { result ≡ Between self.best.time self.high self.best.pair self.nodes cause }
     {
-        let Standing { best, high, nodes } = self;
+        let OpenAnswer { best, high, nodes } = self;
         let Timed { pair, time } = best;
         Answer::Between {
             low: time,
@@ -46,17 +47,17 @@ impl Standing {
     // The answer where steps show a bound.
     fn refuted(self, alloc: Global, refuted: &Refuted) -> Answer
         requires small { self.best.time < 10 ^ 15 }
-        ensures answer { (asked : Asked) (budget : ℕ) → 0 < budget → IsSpellable asked → IsStanding asked budget self
+        ensures answer { (asked : Asked) (budget : ℕ) → 0 < budget → IsSpellable asked → IsOpenAnswer asked budget self
             → IsShown asked.setting asked.admit refuted.now → IsOutcome asked budget result × CanBeWritten asked result }
         ensures low { low_of result ≡ self.best.time }
         ensures high { self.best.time ≤ self.high → high_of result ≤ self.high }
     {
-        let Standing { best, high, nodes } = self;
+        let OpenAnswer { best, high, nodes } = self;
         let Timed { pair, time } = best;
         if refuted.bound > time {
             let best = Timed { pair, time };
             let high = high.min(refuted.bound);
-            return Standing { best, high, nodes }.between(Cause::Budget);
+            return OpenAnswer { best, high, nodes }.between(Cause::Budget);
         }
         let cause = match tree_of_leaf(alloc, refuted) {
             Ok(Some(tree)) => return Answer::Exact { time, pair, tree },
@@ -64,7 +65,7 @@ impl Standing {
             Err(_) => Cause::Memory,
         };
         let best = Timed { pair, time };
-        Standing {
+        OpenAnswer {
             best,
             high: time,
             nodes,
@@ -93,15 +94,20 @@ pub fn refuted_further(alloc: Global, problem: &Problem<'_>, known: Answer, budg
             ..
         } => {
             let best = Timed { pair, time: low };
-            refute_standing(alloc, problem, Standing { best, high, nodes }, budget)
+            refute_open_answer(alloc, problem, OpenAnswer { best, high, nodes }, budget)
         }
     }
 }
 
 // What a refutation makes of what is known.
-fn refute_standing(alloc: Global, problem: &Problem<'_>, known: Standing, budget: u64) -> Answer
+fn refute_open_answer(
+    alloc: Global,
+    problem: &Problem<'_>,
+    known: OpenAnswer,
+    budget: u64,
+) -> Answer
     requires some { 0 < budget }
-    requires known { IsStanding (problem_of problem.now) budget known }
+    requires known { IsOpenAnswer (problem_of problem.now) budget known }
     ensures answer { IsOutcome (problem_of problem.now) budget result }
     ensures text { CanBeWritten (problem_of problem.now) result }
     ensures low { known.best.time ≤ low_of result }

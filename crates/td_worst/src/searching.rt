@@ -30,8 +30,8 @@ const SECOND_NODES: u64 = 50_000;
 ///
 /// # Errors
 ///
-/// `NoPair` where no pair is admitted. `OutOfMemory` where memory ran out before a first pair was measured and the pins were
-/// bounded, or for what workers share.
+/// `NoPair` where no pair is admitted. `OutOfMemory` where memory ran out before a first pair was
+/// measured and the pins were bounded, or for what workers share.
 pub fn worst<W: Watch, R: Threads + Wait + Sync>(
     rt: &R,
     alloc: Global,
@@ -47,7 +47,7 @@ pub fn worst<W: Watch, R: Threads + Wait + Sync>(
     ensures text { IfOk result (CanBeWritten (problem_by (tree_of method) circuit.now admit.now)) }
     ensures fault { IfErr result (IsSearchFault (problem_by (tree_of method) circuit.now admit.now)) }
     // All progress that the watch got is true of what is asked.
-    ensures told { W.told (problem_by (tree_of method) circuit.now admit.now) watch.old watch.new }
+    ensures reported { W.reported (problem_by (tree_of method) circuit.now admit.now) watch.old watch.new }
 {
     match method {
         Method::Least | Method::Lead => {
@@ -76,7 +76,7 @@ fn by_refutation<W: Watch, R: Threads + Wait + Sync>(
     ensures answer { IfOk result (IsOutcome (problem_by strategy.Lead circuit.now admit.now) effort.budget) }
     ensures text { IfOk result (CanBeWritten (problem_by strategy.Lead circuit.now admit.now)) }
     ensures fault { IfErr result (IsSearchFault (problem_by strategy.Lead circuit.now admit.now)) }
-    ensures told { W.told (problem_by strategy.Lead circuit.now admit.now) watch.old watch.new }
+    ensures reported { W.reported (problem_by strategy.Lead circuit.now admit.now) watch.old watch.new }
 {
     let problem = Problem {
         circuit,
@@ -94,7 +94,8 @@ fn by_refutation<W: Watch, R: Threads + Wait + Sync>(
     Ok(refuted_further(alloc, &problem, known, effort.budget))
 }
 
-// Searches a tree by `Least`, then one by `Lead`, and then for a refutation, until one of them ends.
+// Searches a tree by `Least`, then one by `Lead`, and then for a refutation, until one of them
+// ends.
 fn by_all<W: Watch, R: Threads + Wait + Sync>(
     rt: &R,
     alloc: Global,
@@ -107,7 +108,7 @@ fn by_all<W: Watch, R: Threads + Wait + Sync>(
     ensures answer { IfOk result (IsOutcome (problem_by strategy.Least circuit.now admit.now) effort.budget) }
     ensures text { IfOk result (CanBeWritten (problem_by strategy.Least circuit.now admit.now)) }
     ensures fault { IfErr result (IsSearchFault (problem_by strategy.Least circuit.now admit.now)) }
-    ensures told { W.told (problem_by strategy.Least circuit.now admit.now) watch.old watch.new }
+    ensures reported { W.reported (problem_by strategy.Least circuit.now admit.now) watch.old watch.new }
 {
     let problem = Problem {
         circuit,
@@ -165,7 +166,7 @@ fn led_further<W: Watch, R: Threads + Wait + Sync>(
         → CanBeWritten (problem_by strategy.Least circuit.now admit.now) known
         → IsOutcome (problem_by strategy.Least circuit.now admit.now) (budget + effort.budget) result
         × CanBeWritten (problem_by strategy.Least circuit.now admit.now) result }
-    ensures told { W.told (problem_by strategy.Least circuit.now admit.now) watch.old watch.new }
+    ensures reported { W.reported (problem_by strategy.Least circuit.now admit.now) watch.old watch.new }
 {
     let problem = Problem {
         circuit,

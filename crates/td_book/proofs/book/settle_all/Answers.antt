@@ -13,7 +13,7 @@ use Rattle.td_book.proofs.book.settle_all.Goals as goal
 pub loop-state-init : goal.loop-state-init
 loop-state-init c = record {
   cube = refl;
-  room = refl;
+  space = refl;
   capacity = refl;
   settling = settling_starts _ 0 0 _ _ _ _ _ (record { before = c.requires.place.before; after = c.requires.place.after; rest = c.requires.place.rest; is = c.requires.place.is; cube_is = c.requires.place.cube_is }) c.requires.wide c.requires.fits;
 }
@@ -48,7 +48,7 @@ loop-state-preserved c =
     let is_next : slice_get all c.loop-state.state-index ≡ Some s = slice_get-get_or all c.loop-state.state-index (Split 0) low in
     record {
       cube = c.settle.ensures.cube ∙ c.loop-state.invariant.cube;
-      room = c.settle.ensures.room ∙ c.loop-state.invariant.room;
+      space = c.settle.ensures.space ∙ c.loop-state.invariant.space;
       capacity = c.push_reserved.ensures.capacity ∙ c.loop-state.invariant.capacity;
       settling = settling_goes_on _ _ _ _ _ _ _ _ _ c.loop-state.invariant.settling s is_next _ _ _ c.settle.ensures.nodes c.push_reserved.ensures.items c.next-at.ensures.next c.next-at.ensures.once low;
     }

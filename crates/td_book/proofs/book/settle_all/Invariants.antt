@@ -7,7 +7,7 @@ use Rattle.td_book.proofs.book.settle_all.Given as goal
 abbrev pub invariant-loop-state : goal.invariant-loop-state
 invariant-loop-state l = record {
   cube : l.chain.cube ≡ l.initial.chain.cube;
-  room : l.chain.room ≡ l.initial.chain.room;
+  space : l.chain.space ≡ l.initial.chain.space;
   capacity : vec_capacity l.order ≡ vec_capacity l.initial.order;
   settling : IsSettling l.initial.chain.cube l.initial.chain.nodes l.initial.order.items (open_leaf l.fn.lease.cube l.fn.lease.number) l.states l.state-index l.chain.nodes l.order.items l.at;
 }

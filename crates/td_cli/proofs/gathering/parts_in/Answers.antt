@@ -11,8 +11,8 @@ use Rattle.td_cli.proofs.gathering.parts_in.Goals as goal
 pub returns-in_err-part-clause-refusal : goal.returns-in_err-part-clause-refusal
 returns-in_err-part-clause-refusal g c =
     let disk = disk_of (g.F.Files.holds c.args.files.now) (g.F.Files.fails c.args.files.now) (g.F.Files.breaks c.args.files.now) (g.F.Files.is_one c.args.files.now) in
-    let told = err_from_is_err_and c.from_residual.result c.from_residual.ensures.1 in
-    rw (told.1, told.2) (λ other. no_part disk c.args.text.now c.args.default c.args.circuit.now.netlist c.args.is_checked c.args.names.now c.loop-name.name-index _ _ c.loop-name-test.true
+    let reported = err_from_is_err_and c.from_residual.result c.from_residual.ensures.1 in
+    rw (reported.1, reported.2) (λ other. no_part disk c.args.text.now c.args.default c.args.circuit.now.netlist c.args.is_checked c.args.names.now c.loop-name.name-index _ _ c.loop-name-test.true
     ((rw c.loop-name.invariant.0 at c.in_err-part.ensures.refusal) other))
 
 pub loop-name-preserved : goal.loop-name-preserved

@@ -15,8 +15,8 @@ returns-in-Err-clause-refusal g c = λ other. inl
 
 pub returns-in_err-parts-clause-refusal : goal.returns-in_err-parts-clause-refusal
 returns-in_err-parts-clause-refusal g c =
-    let told = err_from_is_err_and c.from_residual-in_err-parts.result c.from_residual-in_err-parts.ensures.1 in
-    rw (told.1, told.2) (λ other. inr (inl (
+    let reported = err_from_is_err_and c.from_residual-in_err-parts.result c.from_residual-in_err-parts.ensures.1 in
+    rw (reported.1, reported.2) (λ other. inr (inl (
       c.in_ok-circuit.circuit.netlist,
       record { means = c.in_ok-circuit.ensures.circuit.means; acyclic = c.in_ok-circuit.ensures.circuit.acyclic },
       c.in_err-parts.ensures.refusal other,
@@ -25,8 +25,8 @@ returns-in_err-parts-clause-refusal g c =
 pub returns-in_err-whole-clause-refusal : goal.returns-in_err-whole-clause-refusal
 returns-in_err-whole-clause-refusal g c =
     let disk = disk_of (g.F.Files.holds c.args.files.now) (g.F.Files.fails c.args.files.now) (g.F.Files.breaks c.args.files.now) (g.F.Files.is_one c.args.files.now) in
-    let told = err_from_is_err_and c.from_residual-in_err-whole.result c.from_residual-in_err-whole.ensures.1 in
-    rw (told.1, told.2) (λ other. inr (inr (record {
+    let reported = err_from_is_err_and c.from_residual-in_err-whole.result c.from_residual-in_err-whole.ensures.1 in
+    rw (reported.1, reported.2) (λ other. inr (inr (record {
       netlist = c.in_ok-circuit.circuit.netlist;
       parts = c.in_ok-parts.parts.items;
       pins = whole_pins c.in-Ok.pins c.in_ok-parts.parts.items;
@@ -38,8 +38,8 @@ returns-in_err-whole-clause-refusal g c =
 
 pub returns-in_err-report-clause-refusal : goal.returns-in_err-report-clause-refusal
 returns-in_err-report-clause-refusal g c =
-    let told = err_from_is_err_and c.from_residual-in_err-report.result c.from_residual-in_err-report.ensures.1 in
-    rw (told.1, told.2) (λ other. absurd (other refl))
+    let reported = err_from_is_err_and c.from_residual-in_err-report.result c.from_residual-in_err-report.ensures.1 in
+    rw (reported.1, reported.2) (λ other. absurd (other refl))
 
 pub returns-clause-spelled : goal.returns-clause-spelled
 returns-clause-spelled g c =

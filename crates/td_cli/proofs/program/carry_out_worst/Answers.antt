@@ -14,7 +14,7 @@ pub returns-in-Err : goal.returns-in-Err
 returns-in-Err g c = (
   _,
   nothing_done g.F.Files.did g.met.F.Files.did_nothing _ _ refl,
-  behind _ _ _ _ _ _ _ _ _ c.searched.ensures.told (refused (IsWorstProduct c.args.text.now c.args.default c.args.words c.args.budget c.args.path (words_of c.args.name) (words_of c.args.vcd)) (HasNoAnswer c.args.text.now c.args.default c.args.words) (g.F.Files.breaks c.args.files.now) c.in-Err.refusal _ _ _ _ (λ _. c.in-Err.ensures.refusal) c.tell_refusal.ensures),
+  behind _ _ _ _ _ _ _ _ _ c.searched.ensures.reported (refused (IsWorstProduct c.args.text.now c.args.default c.args.words c.args.budget c.args.path (words_of c.args.name) (words_of c.args.vcd)) (HasNoAnswer c.args.text.now c.args.default c.args.words) (g.F.Files.breaks c.args.files.now) c.in-Err.refusal _ _ _ _ (λ _. c.in-Err.ensures.refusal) c.tell_refusal.ensures),
 )
 
 pub returns-in-Ok : goal.returns-in-Ok
@@ -22,7 +22,7 @@ returns-in-Ok g c =
     let taken = c.hand_over.ensures in (
       taken.0,
       taken.1,
-      behind _ _ _ _ _ _ _ _ _ c.searched.ensures.told
+      behind _ _ _ _ _ _ _ _ _ c.searched.ensures.reported
           (lifted (IsHandedOver c.in-Ok.found.report (certificate_files (words_of c.args.name) c.in-Ok.found.certificate ++ dump_files c.in-Ok.found.dump) c.ending.result)
           (λ _. ⊥) (g.F.Files.breaks c.args.files.now)
           (IsWorstProduct c.args.text.now c.args.default c.args.words c.args.budget c.args.path (words_of c.args.name) (words_of c.args.vcd)) (HasNoAnswer c.args.text.now c.args.default c.args.words) (g.F.Files.breaks c.args.files.now)

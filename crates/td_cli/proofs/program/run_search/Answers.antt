@@ -9,5 +9,5 @@ returns-in-Err g c = (
   _,
   nothing_done g.F.Files.did g.met.F.Files.did_nothing _ _ refl,
   refused_words (disk_of (g.F.Files.holds c.args.files.now) (g.F.Files.fails c.args.files.now) (g.F.Files.breaks c.args.files.now) (g.F.Files.is_one c.args.files.now)) (map g.S.AsStr.text c.args.words.now) c.in-Err.error c.tell_error.result _ _
-      c.in-Err.ensures.fault c.tell_error.ensures.memory c.tell_error.ensures.told,
+      c.in-Err.ensures.fault c.tell_error.ensures.memory c.tell_error.ensures.reported,
 )

@@ -1,8 +1,8 @@
 use Rattle.std.proofs.Common.{rules, inl, inr}
 use Rattle.td_cli.proofs.progress.watched.Goals as goal
 
-pub returns-clause-told : goal.returns-clause-told
-returns-clause-told g c = elim c.worst-found.ensures.told [
+pub returns-clause-reported : goal.returns-clause-reported
+returns-clause-reported g c = elim c.worst-found.ensures.reported [
   | inl same ↦ inl (search (rules, same))
-  | inr told ↦ inr (told.0, told.1, search (rules, told.2))
+  | inr reported ↦ inr (reported.0, reported.1, search (rules, reported.2))
 ]

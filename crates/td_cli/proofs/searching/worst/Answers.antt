@@ -24,14 +24,14 @@ pub returns-clause-spelled : goal.returns-clause-spelled
 returns-clause-spelled g c =
     rw c.in_ok-found.ensures.certified (certificate_spelled (problem_by (tree_of c.args.words.strategy) c.in_ok-circuit.field-0.circuit c.in_ok-circuit.field-0.admit) c.in-Ok.answer c.in-Ok.ensures.text)
 
-pub returns-in-Err-clause-told : goal.returns-in-Err-clause-told
-returns-in-Err-clause-told g c =
-    inr (problem_by (tree_of c.args.words.strategy) c.in_ok-circuit.field-0.circuit c.in_ok-circuit.field-0.admit, c.in_ok-circuit.ensures.asked, c.worst-searched.ensures.told)
+pub returns-in-Err-clause-reported : goal.returns-in-Err-clause-reported
+returns-in-Err-clause-reported g c =
+    inr (problem_by (tree_of c.args.words.strategy) c.in_ok-circuit.field-0.circuit c.in_ok-circuit.field-0.admit, c.in_ok-circuit.ensures.asked, c.worst-searched.ensures.reported)
 
-pub returns-in_err-found-clause-told : goal.returns-in_err-found-clause-told
-returns-in_err-found-clause-told g c =
-    inr (problem_by (tree_of c.args.words.strategy) c.in_ok-circuit.field-0.circuit c.in_ok-circuit.field-0.admit, c.in_ok-circuit.ensures.asked, c.worst-searched.ensures.told)
+pub returns-in_err-found-clause-reported : goal.returns-in_err-found-clause-reported
+returns-in_err-found-clause-reported g c =
+    inr (problem_by (tree_of c.args.words.strategy) c.in_ok-circuit.field-0.circuit c.in_ok-circuit.field-0.admit, c.in_ok-circuit.ensures.asked, c.worst-searched.ensures.reported)
 
-pub returns-clause-told : goal.returns-clause-told
-returns-clause-told g c =
-    inr (problem_by (tree_of c.args.words.strategy) c.in_ok-circuit.field-0.circuit c.in_ok-circuit.field-0.admit, c.in_ok-circuit.ensures.asked, c.worst-searched.ensures.told)
+pub returns-clause-reported : goal.returns-clause-reported
+returns-clause-reported g c =
+    inr (problem_by (tree_of c.args.words.strategy) c.in_ok-circuit.field-0.circuit c.in_ok-circuit.field-0.admit, c.in_ok-circuit.ensures.asked, c.worst-searched.ensures.reported)

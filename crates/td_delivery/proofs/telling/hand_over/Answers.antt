@@ -13,7 +13,7 @@ returns-in_default g c = (
   nothing_done g.F.Files.did g.met.F.Files.did_nothing _ _ refl,
   lost_report (IsHandedOver c.args.report.now (certificate_files (words_of c.args.name) c.args.certificate.now ++ dump_files c.args.dump.now) c.args.ending) (λ _. ⊥) (g.F.Files.breaks c.args.files.now) _ _ _ _
       (handed c.args.report.now c.beside_files-shown.result.now (certificate_files (words_of c.args.name) c.args.certificate.now ++ dump_files c.args.dump.now) c.args.ending c.beside_files-shown.ensures)
-      c.in_default.ensures c.tell.ensures.told c.tell.ensures.status,
+      c.in_default.ensures c.tell.ensures.reported c.tell.ensures.status,
 )
 
 pub returns-in_default-keep_certificate : goal.returns-in_default-keep_certificate

@@ -11,4 +11,4 @@ returns-in-Ok-clause-kept g c = one_kept _ _ _ _ (ap dump_files c.in-Some.is) c.
 
 pub returns-in-Err-clause-lost : goal.returns-in-Err-clause-lost
 returns-in-Err-clause-lost g c =
-    one_not_kept _ _ _ c.in-Err.fault _ _ _ (ap dump_files c.in-Some.is) c.in-Err.ensures.left c.tell_unwritten.ensures.told
+    one_not_kept _ _ _ c.in-Err.fault _ _ _ (ap dump_files c.in-Some.is) c.in-Err.ensures.left c.tell_unwritten.ensures.reported

@@ -8,6 +8,6 @@ returns-in-Err g c = (
     shown = c.requires;
     ends = c.tell.ensures.status;
     broke = c.in-Err.ensures;
-    told = c.tell.ensures.told;
+    reported = c.tell.ensures.reported;
   })),
 )

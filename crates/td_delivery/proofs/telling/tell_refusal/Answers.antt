@@ -3,4 +3,4 @@ use Rattle.td_report.specs.declared.refusal.Refusal.TheVariants.{OutOfMemory}
 use Rattle.td_delivery.proofs.telling.tell_refusal.Goals as goal
 
 pub returns : goal.returns
-returns g c = record { told = OutOfMemory; which = inr refl; tells = c.tell-in-Err.ensures.told; ends = c.tell-in-Err.ensures.status }
+returns g c = record { reported = OutOfMemory; which = inr refl; tells = c.tell-in-Err.ensures.reported; ends = c.tell-in-Err.ensures.status }

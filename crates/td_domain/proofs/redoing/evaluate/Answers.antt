@@ -14,36 +14,36 @@ use Rattle.td_domain.proofs.Settling.{set-known, settled-next}
 use Rattle.td_domain.proofs.redoing.evaluate.Goals as goal
 
 -- the gate that stands at the place
-standing : (gates : List code.Gate) (of_circuit : List NumberedGate) (place : ℕ) (gate : code.Gate) → map gate_of gates ≡ of_circuit
+releasable : (gates : List code.Gate) (of_circuit : List NumberedGate) (place : ℕ) (gate : code.Gate) → map gate_of gates ≡ of_circuit
     → place < length of_circuit → (place < length gates → slice_get of_circuit place ≡ Some (gate_of gate)) → slice_get of_circuit place ≡ Some (gate_of gate)
-standing gates of_circuit place gate same within at = at (omega (arith, sym (length-map gates gate_of) ∙ ap length same))
+releasable gates of_circuit place gate same within at = at (omega (arith, sym (length-map gates gate_of) ∙ ap length same))
 
 pub gate-requires-clause-places : goal.gate-requires-clause-places
 gate-requires-clause-places g c =
-    let stands = standing _ _ _ c.index-gates-place.result c.gates-gates.ensures.gates c.requires.place (λ h. at_place _ _ _ _ c.gates-gates.ensures.gates h c.index-gates-place.is) in
+    let stands = releasable _ _ _ c.index-gates-place.result c.gates-gates.ensures.gates c.requires.place (λ h. at_place _ _ _ _ c.gates-gates.ensures.gates h c.index-gates-place.is) in
     rw c.deref.ensures.value (λ k d less.
     let lower = lower-at c.args.circuit.now c.gates-gates.ensures.numbering _ _ stands k d less in
     omega (arith, lower, c.requires.place, c.requires.count, length-nets c.args.circuit.now c.gates-gates.ensures.numbering))
 
 pub gate-requires-clause-takes : goal.gate-requires-clause-takes
 gate-requires-clause-takes g c =
-    let stands = standing _ _ _ c.index-gates-place.result c.gates-gates.ensures.gates c.requires.place (λ h. at_place _ _ _ _ c.gates-gates.ensures.gates h c.index-gates-place.is) in
+    let stands = releasable _ _ _ c.index-gates-place.result c.gates-gates.ensures.gates c.requires.place (λ h. at_place _ _ _ _ c.gates-gates.ensures.gates h c.index-gates-place.is) in
     rw c.deref.ensures.value (takes-at c.args.circuit.now c.gates-gates.ensures.numbering _ _ stands)
 
 pub gate-requires-clause-few : goal.gate-requires-clause-few
 gate-requires-clause-few g c =
-    let stands = standing _ _ _ c.index-gates-place.result c.gates-gates.ensures.gates c.requires.place (λ h. at_place _ _ _ _ c.gates-gates.ensures.gates h c.index-gates-place.is) in
+    let stands = releasable _ _ _ c.index-gates-place.result c.gates-gates.ensures.gates c.requires.place (λ h. at_place _ _ _ _ c.gates-gates.ensures.gates h c.index-gates-place.is) in
     rw c.deref.ensures.value (terminals-at c.args.circuit.now c.gates-gates.ensures.numbering _ _ stands)
 
 pub gate-requires-clause-within : goal.gate-requires-clause-within
 gate-requires-clause-within g c =
-    let stands = standing _ _ _ c.index-gates-place.result c.gates-gates.ensures.gates c.requires.place (λ h. at_place _ _ _ _ c.gates-gates.ensures.gates h c.index-gates-place.is) in
+    let stands = releasable _ _ _ c.index-gates-place.result c.gates-gates.ensures.gates c.requires.place (λ h. at_place _ _ _ _ c.gates-gates.ensures.gates h c.index-gates-place.is) in
     rw c.deref.ensures.value (reads-small g.D.Domain.functions g.D.Domain.reach c.args.circuit.now c.gates-gates.ensures.numbering
     c.args.signals.now _ _ stands c.requires.count c.requires.near)
 
 pub returns-then-is_same-clause-gate : goal.returns-then-is_same-clause-gate
 returns-then-is_same-clause-gate g c = λ gate at.
-    let stands = standing _ _ _ c.index-gates-place.result c.gates-gates.ensures.gates c.requires.place (λ h. at_place _ _ _ _ c.gates-gates.ensures.gates h c.index-gates-place.is) in
+    let stands = releasable _ _ _ c.index-gates-place.result c.gates-gates.ensures.gates c.requires.place (λ h. at_place _ _ _ _ c.gates-gates.ensures.gates h c.index-gates-place.is) in
     let same : gate_of c.index-gates-place.result ≡ gate = some-same (gate_of c.index-gates-place.result) gate (sym stands ∙ at) in
     let net : c.net_of_gate-net.result ≡ first_output c.args.circuit.now + c.args.place = c.net_of_gate-net.ensures in
     let there : slice_get c.args.signals.now c.net_of_gate-net.result ≡ Some c.index-signals-net.result =
@@ -57,7 +57,7 @@ returns-then-is_same-clause-gate g c = λ gate at.
 
 pub returns-clause-gate : goal.returns-clause-gate
 returns-clause-gate g c = λ gate at.
-    let stands = standing _ _ _ c.index-gates-place.result c.gates-gates.ensures.gates c.requires.place (λ h. at_place _ _ _ _ c.gates-gates.ensures.gates h c.index-gates-place.is) in
+    let stands = releasable _ _ _ c.index-gates-place.result c.gates-gates.ensures.gates c.requires.place (λ h. at_place _ _ _ _ c.gates-gates.ensures.gates h c.index-gates-place.is) in
     let same : gate_of c.index-gates-place.result ≡ gate = some-same (gate_of c.index-gates-place.result) gate (sym stands ∙ at) in
     let net : c.net_of_gate-net.result ≡ first_output c.args.circuit.now + c.args.place = c.net_of_gate-net.ensures in
     let is = (rw c.deref.ensures.value at c.in_ok-signal.ensures)
@@ -67,7 +67,7 @@ returns-clause-gate g c = λ gate at.
 
 pub returns-clause-settled : goal.returns-clause-settled
 returns-clause-settled g c =
-    let stands = standing _ _ _ c.index-gates-place.result c.gates-gates.ensures.gates c.requires.place (λ h. at_place _ _ _ _ c.gates-gates.ensures.gates h c.index-gates-place.is) in
+    let stands = releasable _ _ _ c.index-gates-place.result c.gates-gates.ensures.gates c.requires.place (λ h. at_place _ _ _ _ c.gates-gates.ensures.gates h c.index-gates-place.is) in
     let net : c.net_of_gate-net.result ≡ first_output c.args.circuit.now + c.args.place = c.net_of_gate-net.ensures in
     rw (c.put.ensures.signals, net) (settled-next g.D.Domain.functions c.args.circuit.now c.gates-gates.ensures.numbering
     c.args.place (gate_of c.index-gates-place.result) c.args.signals.now c.args.changed.now c.in_ok-signal.signal stands

@@ -12,20 +12,20 @@ use Rattle.td_domain.proofs.Settling.{set-known}
 use Rattle.td_domain.proofs.redoing.redo_gate.Goals as goal
 
 -- the gate that stands at the place
-standing : (gates : List code.Gate) (of_circuit : List NumberedGate) (place : ℕ) (gate : code.Gate) → map gate_of gates ≡ of_circuit
+releasable : (gates : List code.Gate) (of_circuit : List NumberedGate) (place : ℕ) (gate : code.Gate) → map gate_of gates ≡ of_circuit
     → place < length of_circuit → (place < length gates → slice_get of_circuit place ≡ Some (gate_of gate)) → slice_get of_circuit place ≡ Some (gate_of gate)
-standing gates of_circuit place gate same within at = at (omega (arith, sym (length-map gates gate_of) ∙ ap length same))
+releasable gates of_circuit place gate same within at = at (omega (arith, sym (length-map gates gate_of) ∙ ap length same))
 
 pub reads_one-requires : goal.reads_one-requires
 reads_one-requires g c =
-    let stands = standing _ _ _ c.index-gates-place.result c.gates-gates.ensures.gates c.requires.place (λ h. at_place _ _ _ _ c.gates-gates.ensures.gates h c.index-gates-place.is) in
+    let stands = releasable _ _ _ c.index-gates-place.result c.gates-gates.ensures.gates c.requires.place (λ h. at_place _ _ _ _ c.gates-gates.ensures.gates h c.index-gates-place.is) in
     rw c.deref.ensures.value (λ k d less.
     let lower = lower-at c.args.circuit.now c.gates-gates.ensures.numbering _ _ stands k d less in
     omega (arith, lower, c.requires.place, c.requires.marks, c.requires.count, length-nets c.args.circuit.now c.gates-gates.ensures.numbering))
 
 pub returns-else-reads_one-clause-gate : goal.returns-else-reads_one-clause-gate
 returns-else-reads_one-clause-gate g c = λ gate at.
-    let stands = standing _ _ _ c.index-gates-place.result c.gates-gates.ensures.gates c.requires.place (λ h. at_place _ _ _ _ c.gates-gates.ensures.gates h c.index-gates-place.is) in
+    let stands = releasable _ _ _ c.index-gates-place.result c.gates-gates.ensures.gates c.requires.place (λ h. at_place _ _ _ _ c.gates-gates.ensures.gates h c.index-gates-place.is) in
     let same : gate_of c.index-gates-place.result ≡ gate = some-same (gate_of c.index-gates-place.result) gate (sym stands ∙ at) in
     sym (set-known c.args.signals.now (first_output c.args.circuit.now + c.args.place) _
     (c.requires.settled c.args.place gate at (λ net has. c.if-reads_one.ensures.none refl net

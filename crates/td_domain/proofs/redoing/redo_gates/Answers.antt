@@ -9,7 +9,7 @@ loop-output-init g c = record {
   marks = c.requires.marks;
   undone = refl;
   within = c.requires.within;
-  room = omega (arith, c.requires.room);
+  space = omega (arith, c.requires.space);
 }
 
 pub overflow_sub-net : goal.overflow_sub-net
@@ -31,5 +31,5 @@ loop-output-preserved g c = record {
   marks = c.redo_gate.ensures.marks ∙ c.loop-output.invariant.marks;
   undone = c.redo_gate.ensures.undone ∙ c.loop-output.invariant.undone;
   within = rw (← c.loop-output.invariant.redone.count) (c.redo_gate.ensures.within);
-  room = omega (arith, c.loop-output.invariant.room, c.redo_gate.ensures.room, c.redo_gate.ensures.capacity);
+  space = omega (arith, c.loop-output.invariant.space, c.redo_gate.ensures.space, c.redo_gate.ensures.capacity);
 }

@@ -11,5 +11,5 @@ invariant-loop-output g l = record {
   marks : length l.changed ≡ length l.initial.signals;
   undone : undone l.signals l.replaced.items ≡ undone l.initial.signals l.initial.replaced.items;
   within : AreWithin (length l.initial.signals) l.replaced.items;
-  room : vec_len l.replaced + length l.cone ≤ vec_capacity l.replaced + l.output-index;
+  space : vec_len l.replaced + length l.cone ≤ vec_capacity l.replaced + l.output-index;
 }

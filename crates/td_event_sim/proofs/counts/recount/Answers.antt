@@ -4,16 +4,16 @@ use Rattle.std.proofs.lemmas.List.{take_all, length-map}
 use Rattle.td_event_sim.specs.declared.rules.Rule.{Rule}
 use Rattle.td_event_sim.specs.declared.rules.Tally.{Tally}
 use Rattle.td_event_sim.specs.Counting.{AreRecounted}
-use Rattle.td_event_sim.specs.Rules.{IsTold, AreTold, ones_of, rules_of}
+use Rattle.td_event_sim.specs.Rules.{IsReported, AreReported, ones_of, rules_of}
 use Rattle.td_event_sim.proofs.Ones.{recount-begun}
-use Rattle.td_event_sim.proofs.Tallies.{tallied, tallied-length, recount-one, same-rules, new-ones, ones-at, rule-placed, told-one}
+use Rattle.td_event_sim.proofs.Tallies.{tallied, tallied-length, recount-one, same-rules, new-ones, ones-at, rule-placed, reported-one}
 use Rattle.td_event_sim.proofs.counts.recount.Goals as goal
 
 pub loop-reader-init : goal.loop-reader-init
 loop-reader-init c = record {
   counts = recount-begun c.args.first_output c.args.readers.now c.args.rises (ones_of c.args.tallies.now);
   rules = refl;
-  told = λ begun was. was;
+  reported = λ begun was. was;
   outputs = λ was. was;
 }
 
@@ -34,18 +34,18 @@ loop-reader-preserved c =
     let ones_are : (get_or tallies place c.index-tallies-place.result).ones ≡ get_or (ones_of tallies) place 0 =
     sym (ones-at tallies place c.index-tallies-place.result inside) in
     let output_is : get_or c.args.readers.now c.loop-reader.reader-index 0 ≡ c.args.first_output + place = omega (arith, within.0) in
-    let step : IsTold rule (get_or (ones_of tallies) place 0) count (c.args.first_output + place) c.loop-reader.turned.items c.tell.new.turned.items =
-    subst (λ (ones : ℕ). IsTold rule ones count (c.args.first_output + place) c.loop-reader.turned.items c.tell.new.turned.items) ones_are
-    (subst (λ (output : ℕ). IsTold rule (get_or tallies place c.index-tallies-place.result).ones count output c.loop-reader.turned.items c.tell.new.turned.items) output_is c.in_ok-tell.ensures.told) in
+    let step : IsReported rule (get_or (ones_of tallies) place 0) count (c.args.first_output + place) c.loop-reader.turned.items c.tell.new.turned.items =
+    subst (λ (ones : ℕ). IsReported rule ones count (c.args.first_output + place) c.loop-reader.turned.items c.tell.new.turned.items) ones_are
+    (subst (λ (output : ℕ). IsReported rule (get_or tallies place c.index-tallies-place.result).ones count output c.loop-reader.turned.items c.tell.new.turned.items) output_is c.in_ok-tell.ensures.reported) in
     record {
       counts = recount-one c.args.first_output c.args.readers.now c.loop-reader.reader-index c.args.rises (ones_of c.args.tallies.now) tallies place
           count c.index-tallies-place.result c.index-tallies-place-in-loop-reader.result c.loop-reader-test.true within.0 refl
           inside (c.loop-reader.auto.tallies ∙ sym (length-map c.args.tallies.now (λ (t : Tally). t.ones))) c.recounted-recounted.ensures c.loop-reader.invariant.counts;
       rules = kept;
-      told = λ begun was. subst (λ (ones : List ℕ). AreTold c.args.first_output (rules_of c.args.tallies.now) begun ones c.tell.new.turned.items)
+      reported = λ begun was. subst (λ (ones : List ℕ). AreReported c.args.first_output (rules_of c.args.tallies.now) begun ones c.tell.new.turned.items)
           (sym (new-ones tallies place count c.index-tallies-place-in-loop-reader.result))
-          (told-one c.args.first_output (rules_of c.args.tallies.now) begun (ones_of tallies) c.loop-reader.turned.items c.tell.new.turned.items place count rule
-          (omega (arith, inside, long)) at step (c.loop-reader.invariant.told begun was));
+          (reported-one c.args.first_output (rules_of c.args.tallies.now) begun (ones_of tallies) c.loop-reader.turned.items c.tell.new.turned.items place count rule
+          (omega (arith, inside, long)) at step (c.loop-reader.invariant.reported begun was));
       outputs = λ was. c.tell.ensures.outputs c.args.first_output (c.args.first_output + length c.args.tallies.now) within.0 within.1 (c.loop-reader.invariant.outputs was);
     }
 

@@ -1,19 +1,19 @@
 use Rattle.std.proofs.Common.{List, sym, ap, subst}
 use Rattle.td_event_sim.specs.Cached.{Cached, AreOf}
-use Rattle.td_event_sim.specs.Scratch.{Room, IsFor}
+use Rattle.td_event_sim.specs.Scratch.{Space, IsFor}
 use Rattle.td_event_sim.proofs.Caching.{held-is, put-is}
 use Rattle.td_event_sim.proofs.scratch.delay_of.Goals as goal
 
 pub returns-in-Some-clause-only : goal.returns-in-Some-clause-only
 returns-in-Some-clause-only c =
     let are : AreOf c.args.circuit.now c.scratch.inside.cache =
-    subst (λ (cache : List Cached). AreOf c.args.circuit.now cache) (sym (ap (λ (room : Room). room.cache) c.scratch.view_is)) c.requires.scratch.cache in
+    subst (λ (cache : List Cached). AreOf c.args.circuit.now cache) (sym (ap (λ (space : Space). space.cache) c.scratch.view_is)) c.requires.scratch.cache in
     (held-is c.args.circuit.now c.scratch.inside.cache c.place_of-place.result c.args.pair.now.first c.args.pair.now.second c.in-Some.delay are c.in-Some.ensures.held).only
 
 pub returns-clause-scratch : goal.returns-clause-scratch
 returns-clause-scratch c =
     let circuit = c.args.circuit.now in
-    let was : IsFor circuit _ = subst (λ (room : Room). IsFor circuit room) (sym c.scratch-2.view_is) c.simulated.ensures.scratch in
+    let was : IsFor circuit _ = subst (λ (space : Space). IsFor circuit space) (sym c.scratch-2.view_is) c.simulated.ensures.scratch in
     record {
       readers = was.readers;
       levels = was.levels;

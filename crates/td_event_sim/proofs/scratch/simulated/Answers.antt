@@ -1,10 +1,10 @@
 use Rattle.std.proofs.Common.{sym, subst}
-use Rattle.td_event_sim.specs.Scratch.{Room, IsFor}
+use Rattle.td_event_sim.specs.Scratch.{Space, IsFor}
 use Rattle.td_event_sim.proofs.scratch.simulated.Goals as goal
 
 pub simulate-requires-clause-fits : goal.simulate-requires-clause-fits
 simulate-requires-clause-fits c =
-    let was : IsFor c.args.circuit.now _ = subst (λ (room : Room). IsFor c.args.circuit.now room) (sym c.scratch.view_is) c.requires.scratch in
+    let was : IsFor c.args.circuit.now _ = subst (λ (space : Space). IsFor c.args.circuit.now space) (sym c.scratch.view_is) c.requires.scratch in
     record {
       levels = was.levels;
       tallies = was.tallies;
@@ -16,7 +16,7 @@ simulate-requires-clause-fits c =
 
 pub returns-clause-scratch : goal.returns-clause-scratch
 returns-clause-scratch c =
-    let was : IsFor c.args.circuit.now _ = subst (λ (room : Room). IsFor c.args.circuit.now room) (sym c.scratch.view_is) c.requires.scratch in
+    let was : IsFor c.args.circuit.now _ = subst (λ (space : Space). IsFor c.args.circuit.now space) (sym c.scratch.view_is) c.requires.scratch in
     let fits = c.simulate.ensures.fits in
     record {
       readers = was.readers;

@@ -23,8 +23,8 @@ pub returns-in_err-tree-clause-fault : goal.returns-in_err-tree-clause-fault
 returns-in_err-tree-clause-fault c =
     let way = subst (λ (gs : List Group). IsUnderWay (certificates_of c.args.parts.items) c.args.admit.now c.loop-group.nodes.items gs) c.in-Some.ensures.items c.loop-group.invariant in
     let known = top_known (certificates_of c.args.parts.items) c.args.admit.now c.loop-group.nodes.items c.pop.new.self.items c.in-Some.group way in
-    let told = err_from_is_err_and c.from_residual-in_err-tree.result c.from_residual-in_err-tree.ensures.1 in
-    rw (told.1, told.2) (tree_fault (certificates_of c.args.parts.items) c.args.admit.now c.in-Some.group _ known c.in_err-tree.ensures.fault)
+    let reported = err_from_is_err_and c.from_residual-in_err-tree.result c.from_residual-in_err-tree.ensures.1 in
+    rw (reported.1, reported.2) (tree_fault (certificates_of c.args.parts.items) c.args.admit.now c.in-Some.group _ known c.in_err-tree.ensures.fault)
 
 pub loop-group-smaller-in-Leaf : goal.loop-group-smaller-in-Leaf
 loop-group-smaller-in-Leaf c = leaf_smaller _ _ c.in-Some.group c.in-Some.ensures.items

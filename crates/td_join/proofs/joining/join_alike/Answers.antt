@@ -12,7 +12,7 @@ use Rattle.td_join.specs.Joining.{has_none}
 use Rattle.td_join.specs.Steps.{certificates_of, IsFalseNoneIn}
 use Rattle.td_join.proofs.Spelled.{spelled_together}
 use Rattle.td_join.proofs.Within.{are_within}
-use Rattle.td_join.proofs.Wholes.{is_joined, told, false_none}
+use Rattle.td_join.proofs.Wholes.{is_joined, reported, false_none}
 use Rattle.td_join.proofs.joining.join_alike.Goals as goal
 
 pub joined_nodes-requires-clause-within : goal.joined_nodes-requires-clause-within
@@ -47,7 +47,7 @@ returns-in_err-nodes-clause-fault c =
     let said = subst (λ (a : Admitted). IsTreeFault a (certificates_of c.in_ok-parts.parts.items) c.in_err-nodes.field-0.0) c.admit-admit.ensures c.in_err-nodes.ensures.fault in
     let seen = err_from_is_err_and c.from_residual-in_err-nodes.result c.from_residual-in_err-nodes.ensures.1 in
     rw (seen.1, seen.2)
-    (told c.args.certificates.items c.args.gates c.args.question c.requires.some c.requires.alike _
+    (reported c.args.certificates.items c.args.gates c.args.question c.requires.some c.requires.alike _
     (subst (λ (cs : List Certificate). IsTreeFault c.args.question.admit cs c.in_err-nodes.field-0.0) c.in_ok-parts.ensures.all said))
 
 pub returns-clause-spelled : goal.returns-clause-spelled

@@ -6,6 +6,6 @@ use Rattle.td_join.proofs.joining.join_in.Goals as goal
 
 pub returns-in_err-first-clause-fault : goal.returns-in_err-first-clause-fault
 returns-in_err-first-clause-fault c =
-    let told = err_from_is_err_and c.from_residual.result c.from_residual.ensures.1 in
-    rw (told.1, told.2)
+    let reported = err_from_is_err_and c.from_residual.result c.from_residual.ensures.1 in
+    rw (reported.1, reported.2)
     (subst (λ (cs : List Certificate). IsJoinFault cs c.args.pins.now c.in_err-first.field-0.0) c.deref.ensures.value (c.in_err-first.ensures.fault c.args.pins.now))

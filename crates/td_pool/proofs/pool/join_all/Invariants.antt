@@ -11,5 +11,5 @@ abbrev pub invariant-loop-handle : goal.invariant-loop-handle
 invariant-loop-handle g l = record {
   left : AllByRecursion (λ handle. IsTruthful l.fn.problem handle.promise) (into_iter_items l.handle-iterator);
   done : AllByRecursion (λ report. IsTrueFound (problem_of l.fn.problem) report.found) l.all.items;
-  room : length l.all.items + length (into_iter_items l.handle-iterator) ≤ vec_capacity l.all;
+  space : length l.all.items + length (into_iter_items l.handle-iterator) ≤ vec_capacity l.all;
 }

@@ -6,5 +6,5 @@ abbrev pub invariant-loop : goal.invariant-loop
 invariant-loop g l = record {
   scratch : g.Q.Rule.is_for l.scratch l.fn.task.problem.now.circuit.now;
   worker : IsWorking (problem_of l.fn.task.problem.now) l.worker.kept l.worker.evidence.items l.worker.share.parts;
-  told : g.W.Watch.told (problem_of l.fn.task.problem.now) l.fn.watch l.watch;
+  reported : g.W.Watch.reported (problem_of l.fn.task.problem.now) l.fn.watch l.watch;
 }

@@ -10,8 +10,8 @@ chain-requires-clause-net c =
     let found = rw c.in-Some.is at c.in_ok-net.ensures in
     (named_number c.args.circuit.now c.in-Some.net found.0 found.2).1
 
-pub returns-clause-told : goal.returns-clause-told
-returns-clause-told c =
+pub returns-clause-reported : goal.returns-clause-reported
+returns-clause-reported c =
     let found = rw c.in-Some.is at c.in_ok-net.ensures in
-    let told = c.in_ok-chain.ensures found.0 found.2 in
-    (told.0, told.1 ∙ ap (λ t. t ++ told.0) (rw c.new-report.ensures at c.in_ok-head.ensures), (found.0, found.1, told.2))
+    let reported = c.in_ok-chain.ensures found.0 found.2 in
+    (reported.0, reported.1 ∙ ap (λ t. t ++ reported.0) (rw c.new-report.ensures at c.in_ok-head.ensures), (found.0, found.1, reported.2))

@@ -20,12 +20,12 @@ none_named_so text default from to at circuit run is (Some word) none = no_outpu
 
 pub returns-in-Some-clause-report : goal.returns-in-Some-clause-report
 returns-in-Some-clause-report c =
-    let told = rw c.in-Some.is at c.in_ok-told.ensures.told in
+    let reported = rw c.in-Some.is at c.in_ok-reported.ensures.reported in
     path_report c.args.text.now c.args.default c.args.from.now c.args.to.now (words_of c.args.at) c.in_ok-simulation.simulation.circuit
-    c.in_ok-simulation.simulation.run c.in_ok-simulation.ensures.is (words_of c.args.output) told.0 (head_lines c.in_ok-simulation.simulation.circuit.netlist)
-    c.in-Some.report told.2 refl told.1
+    c.in_ok-simulation.simulation.run c.in_ok-simulation.ensures.is (words_of c.args.output) reported.0 (head_lines c.in_ok-simulation.simulation.circuit.netlist)
+    c.in-Some.report reported.2 refl reported.1
 
 pub returns-clause-refusal : goal.returns-clause-refusal
 returns-clause-refusal c =
     none_named_so c.args.text.now c.args.default c.args.from.now c.args.to.now (words_of c.args.at) c.in_ok-simulation.simulation.circuit
-    c.in_ok-simulation.simulation.run c.in_ok-simulation.ensures.is (words_of c.args.output) (rw c.in-None.is at c.in_ok-told.ensures.none)
+    c.in_ok-simulation.simulation.run c.in_ok-simulation.ensures.is (words_of c.args.output) (rw c.in-None.is at c.in_ok-reported.ensures.none)

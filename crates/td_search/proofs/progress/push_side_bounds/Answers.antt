@@ -22,4 +22,4 @@ loop-finding-preserved c =
     let more = side_long (take (i + 1) findings) in
     let few = length-take (i + 1) findings in
     let size = ap length items in
-    record { items = items; room = omega (arith, long, more, few, size); capacity = c.push_sides.ensures.capacity ∙ was.capacity }
+    record { items = items; space = omega (arith, long, more, few, size); capacity = c.push_sides.ensures.capacity ∙ was.capacity }

@@ -37,12 +37,12 @@ loop-finding-preserved c =
     let states : length c.loop-finding.subtree.states ≡ i =
     ap (λ (t : PrivateTree). length t.states) was.subtree ∙ (length-map (take i findings) (state_of best) ∙ length-take-le i findings c.loop-finding.auto.finding-index-end) in
     let count : c.loop-finding.count ≡ i = was.count in
-    let room : length c.loop-finding.subtree.states < c.loop-finding.subtree.allowance = not_full _ _ c.if-is_full.ensures in
+    let space : length c.loop-finding.subtree.states < c.loop-finding.subtree.allowance = not_full _ _ c.if-is_full.ensures in
     record {
       count = omega arith;
       subtree = same;
       usable = usable_more best findings i f at was.usable (c.if-not-dig_by.ensures.usable.0 refl);
-      few = omega (arith, room, allowance, states, count);
+      few = omega (arith, space, allowance, states, count);
     }
   where
     with_states : PrivateTree → List State → PrivateTree

@@ -4,7 +4,7 @@ use Rattle.td_text.proofs.Outputs.{SentTo-begins}
 use Rattle.td_nets.specs.Views.{name_of}
 use Rattle.td_nets.specs.WellFormed.{driven}
 use Rattle.td_vcd.specs.Text.{declaration}
-use Rattle.td_vcd.proofs.Batches.{turn, room, whole, refused_batch, refused_growth}
+use Rattle.td_vcd.proofs.Batches.{turn, space, whole, refused_batch, refused_growth}
 use Rattle.td_vcd.proofs.Steps.{numbered_step, numbered_end}
 use Rattle.td_vcd.proofs.Nets.{above_constants, below_nets, name_at, count_variables}
 use Rattle.td_vcd.proofs.writing.write_declarations.Goals as goal
@@ -20,21 +20,21 @@ loop-variable-init g c = SentTo-begins _ _
 
 pub loop-variable-preserved : goal.loop-variable-preserved
 loop-variable-preserved g c =
-    turn _ _ _ _ _ _ _ _ _ _ c.loop-variable.invariant c.in_ok-make_room.ensures.ok
+    turn _ _ _ _ _ _ _ _ _ _ c.loop-variable.invariant c.in_ok-make_space.ensures.ok
     (numbered_step declaration (driven c.args.circuit.now.netlist) c.loop-variable.variable (name_of c.name.result.now)
     (let long = count_variables c.args.circuit.now c.args.nets.now c.requires in omega (arith, long, c.loop-variable-test.true))
     (name_at c.args.circuit.now c.args.nets.now c.requires c.loop-variable.variable c.loop-variable-test.true (name_of c.name.result.now) (name_of c.name.result.now) c.name.ensures))
     c.in_ok-declaration.ensures
 
-pub returns-in_err-make_room-clause-refused : goal.returns-in_err-make_room-clause-refused
-returns-in_err-make_room-clause-refused g c =
+pub returns-in_err-make_space-clause-refused : goal.returns-in_err-make_space-clause-refused
+returns-in_err-make_space-clause-refused g c =
     let p = err_from_is_err_and c.from_residual.result c.from_residual.ensures.1 in
-    rw (p.1, p.2) (refused_batch _ _ _ _ _ _ c.loop-variable.invariant c.in_err-make_room.ensures.err)
+    rw (p.1, p.2) (refused_batch _ _ _ _ _ _ c.loop-variable.invariant c.in_err-make_space.ensures.err)
 
 pub returns-in_err-declaration-clause-refused : goal.returns-in_err-declaration-clause-refused
 returns-in_err-declaration-clause-refused g c =
     let p = err_from_is_err_and c.from_residual-in_err-declaration.result c.from_residual-in_err-declaration.ensures.1 in
-    rw (p.1, p.2) (refused_growth _ _ _ _ (room _ _ _ _ _ _ _ c.loop-variable.invariant c.in_ok-make_room.ensures.ok))
+    rw (p.1, p.2) (refused_growth _ _ _ _ (space _ _ _ _ _ _ _ c.loop-variable.invariant c.in_ok-make_space.ensures.ok))
 
 pub returns-clause-written : goal.returns-clause-written
 returns-clause-written g c =

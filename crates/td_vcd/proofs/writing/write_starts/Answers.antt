@@ -4,7 +4,7 @@ use Rattle.td_text.proofs.Outputs.{SentTo-begins}
 use Rattle.td_run.specs.Waves.{waves_of}
 use Rattle.td_run.proofs.Turning.{length-waves_of}
 use Rattle.td_vcd.specs.Text.{start_line}
-use Rattle.td_vcd.proofs.Batches.{turn, room, whole, refused_batch, refused_growth}
+use Rattle.td_vcd.proofs.Batches.{turn, space, whole, refused_batch, refused_growth}
 use Rattle.td_vcd.proofs.Steps.{numbered_step, numbered_end, wave_at}
 use Rattle.td_vcd.proofs.writing.write_starts.Goals as goal
 
@@ -13,21 +13,21 @@ loop-variable-init g c = SentTo-begins _ _
 
 pub loop-variable-preserved : goal.loop-variable-preserved
 loop-variable-preserved g c =
-    turn _ _ _ _ _ _ _ _ _ _ c.loop-variable.invariant c.in_ok-make_room.ensures.ok
+    turn _ _ _ _ _ _ _ _ _ _ c.loop-variable.invariant c.in_ok-make_space.ensures.ok
     (numbered_step start_line (waves_of c.args.run.now.waves c.args.nets.now) c.loop-variable.variable c.wave.result.now
     (let long = length-waves_of c.args.run.now.waves c.args.nets.now in omega (arith, long, c.loop-variable-test.true))
     (wave_at c.args.run.now.waves c.args.nets.now c.loop-variable.variable c.wave.result.now c.loop-variable-test.true c.wave.ensures))
     (rw c.start.ensures at c.in_ok-level.ensures)
 
-pub returns-in_err-make_room-clause-refused : goal.returns-in_err-make_room-clause-refused
-returns-in_err-make_room-clause-refused g c =
+pub returns-in_err-make_space-clause-refused : goal.returns-in_err-make_space-clause-refused
+returns-in_err-make_space-clause-refused g c =
     let p = err_from_is_err_and c.from_residual.result c.from_residual.ensures.1 in
-    rw (p.1, p.2) (refused_batch _ _ _ _ _ _ c.loop-variable.invariant c.in_err-make_room.ensures.err)
+    rw (p.1, p.2) (refused_batch _ _ _ _ _ _ c.loop-variable.invariant c.in_err-make_space.ensures.err)
 
 pub returns-in_err-level-clause-refused : goal.returns-in_err-level-clause-refused
 returns-in_err-level-clause-refused g c =
     let p = err_from_is_err_and c.from_residual-in_err-level.result c.from_residual-in_err-level.ensures.1 in
-    rw (p.1, p.2) (refused_growth _ _ _ _ (room _ _ _ _ _ _ _ c.loop-variable.invariant c.in_ok-make_room.ensures.ok))
+    rw (p.1, p.2) (refused_growth _ _ _ _ (space _ _ _ _ _ _ _ c.loop-variable.invariant c.in_ok-make_space.ensures.ok))
 
 pub returns-clause-written : goal.returns-clause-written
 returns-clause-written g c =

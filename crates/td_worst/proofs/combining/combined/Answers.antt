@@ -1,6 +1,6 @@
 use Rattle.std.proofs.Common.{refl}
 use Rattle.td_search.specs.declared.answers.Answer.TheVariants as answer
-use Rattle.td_worst.proofs.Standings.{standing, exact_narrower}
+use Rattle.td_worst.proofs.Standings.{open_answer, exact_narrower}
 use Rattle.td_worst.proofs.combining.combined.Goals as goal
 
 pub returns-in-Exact-clause-narrower : goal.returns-in-Exact-clause-narrower
@@ -13,10 +13,10 @@ returns-in-Exact-clause-narrower c = λ asked budget more is also.
 pub returns-in-Between-clause-answer : goal.returns-in-Between-clause-answer
 returns-in-Between-clause-answer c = λ asked budget more is written also also_written.
     c.with_second.ensures.answer asked budget more
-    (standing asked budget c.in-Between.low c.in-Between.high c.in-Between.pair c.in-Between.nodes (rw c.in-Between.is at is)) also also_written
+    (open_answer asked budget c.in-Between.low c.in-Between.high c.in-Between.pair c.in-Between.nodes (rw c.in-Between.is at is)) also also_written
 
 pub returns-in-Between-clause-narrower : goal.returns-in-Between-clause-narrower
 returns-in-Between-clause-narrower c = λ asked budget more is also.
-    let told = c.with_second.ensures.narrower asked budget more
-    (standing asked budget c.in-Between.low c.in-Between.high c.in-Between.pair c.in-Between.nodes (rw c.in-Between.is at is)) also in
-    (rw c.in-Between.is (record { low = told.0; high = told.1 }), told.2)
+    let reported = c.with_second.ensures.narrower asked budget more
+    (open_answer asked budget c.in-Between.low c.in-Between.high c.in-Between.pair c.in-Between.nodes (rw c.in-Between.is at is)) also in
+    (rw c.in-Between.is (record { low = reported.0; high = reported.1 }), reported.2)

@@ -1,6 +1,6 @@
 use Rattle.std.proofs.Common.{arith, refl}
 use Rattle.td_search.specs.declared.answers.Answer.TheVariants as answer
-use Rattle.td_worst.proofs.Standings.{told_between, standing, joined, exact_narrower}
+use Rattle.td_worst.proofs.Standings.{reported_between, open_answer, joined, exact_narrower}
 use Rattle.td_worst.proofs.combining.with_second.Goals as goal
 
 pub returns-in-Exact-clause-narrower : goal.returns-in-Exact-clause-narrower
@@ -13,9 +13,9 @@ returns-in-Exact-clause-narrower c = λ asked budget more is also.
 
 pub returns-in-Between-clause-answer : goal.returns-in-Between-clause-answer
 returns-in-Between-clause-answer c = λ asked budget more is also written.
-    let second = standing asked more c.in-Between.low c.in-Between.high c.in-Between.pair c.in-Between.nodes (rw c.in-Between.is at also) in
+    let second = open_answer asked more c.in-Between.low c.in-Between.high c.in-Between.pair c.in-Between.nodes (rw c.in-Between.is at also) in
     rw (c.between.ensures, c.min.ensures, c.saturating_add.ensures)
-    (told_between asked _ _ c.in-Between.cause (joined asked budget more c.args.first _ c.later-best.result _ is second c.later-best.ensures.one (omega arith)))
+    (reported_between asked _ _ c.in-Between.cause (joined asked budget more c.args.first _ c.later-best.result _ is second c.later-best.ensures.one (omega arith)))
 
 pub returns-in-Between-clause-narrower : goal.returns-in-Between-clause-narrower
 returns-in-Between-clause-narrower c = λ asked budget more is also.

@@ -10,8 +10,8 @@ returns-in-Ok-clause-answer g c = λ budget is written.
     (outcome_alike asked Least c.args.effort.budget c.in-Ok.found (outcome_of asked c.args.effort.budget c.in-Ok.found c.in-Ok.ensures.answer))
     (written_alike asked Least c.in-Ok.found c.in-Ok.ensures.text)
 
-pub returns-in-Ok-clause-told : goal.returns-in-Ok-clause-told
-returns-in-Ok-clause-told g c = g.met.W.Watch.told_alike (problem_by Lead c.args.circuit.now c.args.admit.now) Least _ _ c.search.ensures.told
+pub returns-in-Ok-clause-reported : goal.returns-in-Ok-clause-reported
+returns-in-Ok-clause-reported g c = g.met.W.Watch.reported_alike (problem_by Lead c.args.circuit.now c.args.admit.now) Least _ _ c.search.ensures.reported
 
-pub returns-in-Err-clause-told : goal.returns-in-Err-clause-told
-returns-in-Err-clause-told g c = g.met.W.Watch.told_alike (problem_by Lead c.args.circuit.now c.args.admit.now) Least _ _ c.search.ensures.told
+pub returns-in-Err-clause-reported : goal.returns-in-Err-clause-reported
+returns-in-Err-clause-reported g c = g.met.W.Watch.reported_alike (problem_by Lead c.args.circuit.now c.args.admit.now) Least _ _ c.search.ensures.reported

@@ -29,13 +29,13 @@ list_numbers-requires-clause-run c =
 pub invariant_of-self-2 : goal.invariant_of-self-2
 invariant_of-self-2 c =
     let has : Shows (board_with c.self.inside.chain) c.args.lease = c.if-not-shows.ensures.shown.0 refl in
-    let is : c.set.new.self.nodes ≡ has.before ++ node c.args.lease.number Open ∷ has.after = c.set.ensures.nodes has.before has.after (held c.args.lease) (c.room_for.ensures.nodes ∙ has.is) in
-    let top : c.set.new.self.cube ≡ c.self.inside.chain.cube = c.set.ensures.cube ∙ c.room_for.ensures.cube in
+    let is : c.set.new.self.nodes ≡ has.before ++ node c.args.lease.number Open ∷ has.after = c.set.ensures.nodes has.before has.after (held c.args.lease) (c.space_for.ensures.nodes ∙ has.is) in
+    let top : c.set.new.self.cube ≡ c.self.inside.chain.cube = c.set.ensures.cube ∙ c.space_for.ensures.cube in
     let book = c.self.invariant.0 in
     let old : Board = board_of c.self.inside.chain.cube c.self.inside.workers c.self.inside.budget c.self.inside.chain.nodes c.self.inside.order.items in
     let counted : length c.self.inside.order.items ≡ handled old = book.kept.counted in
     let out = held_out _ _ _ _ _ _ _ has.before has.after c.args.lease.number (held c.args.lease) has.is book c.args.lease.worker c.args.lease.allowance refl in
-    let some = out.0 in let most = out.1 in let fits = out.2 in let room = out.3 in
+    let some = out.0 in let most = out.1 in let fits = out.2 in let space = out.3 in
     let from : c.from.result ≡ c.args.lease.allowance = c.from.ensures in
     let few : length c.states.result.now ≤ c.args.lease.allowance = (let a = ap length c.states.ensures.states in let b = c.requires.few in omega arith) in
     let opened : IsBook (board_of c.set.new.self.cube c.self.inside.workers c.self.inside.budget c.set.new.self.nodes c.self.inside.order.items) (c.self.inside.allowed - c.from.result) (vec_capacity c.self.inside.order) =
@@ -53,8 +53,8 @@ invariant_of-self-2 c =
 pub returns-clause-ok : goal.returns-clause-ok
 returns-clause-ok c =
     let has : Shows (board_with c.self.inside.chain) c.args.lease = c.if-not-shows.ensures.shown.0 refl in
-    let is : c.set.new.self.nodes ≡ has.before ++ node c.args.lease.number Open ∷ has.after = c.set.ensures.nodes has.before has.after (held c.args.lease) (c.room_for.ensures.nodes ∙ has.is) in
-    let top : c.set.new.self.cube ≡ c.self.inside.chain.cube = c.set.ensures.cube ∙ c.room_for.ensures.cube in
+    let is : c.set.new.self.nodes ≡ has.before ++ node c.args.lease.number Open ∷ has.after = c.set.ensures.nodes has.before has.after (held c.args.lease) (c.space_for.ensures.nodes ∙ has.is) in
+    let top : c.set.new.self.cube ≡ c.self.inside.chain.cube = c.set.ensures.cube ∙ c.space_for.ensures.cube in
     let n = c.settle_all-next.ensures.next in
     let states : List State = c.states.result.now in
     let left : List Leaf = leaves_left states (open_leaf c.args.lease.cube c.args.lease.number ∷ []) (length c.set.new.self.nodes) in

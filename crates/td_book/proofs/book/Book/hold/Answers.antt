@@ -24,7 +24,7 @@ invariant_of-self-2 c =
     let from : c.from.result ≡ c.allowance_of-allowance.result = c.from.ensures in
     let some = c.allowance_of-allowance.ensures.some in
     let within = c.allowance_of-allowance.ensures.within in
-    let room : length c.self.inside.order.items + (c.self.inside.allowed + c.allowance_of-allowance.result) ≤ vec_capacity c.reserve.new.self = search rules in (
+    let space : length c.self.inside.order.items + (c.self.inside.allowed + c.allowance_of-allowance.result) ≤ vec_capacity c.reserve.new.self = search rules in (
       moved _ _ _ _ _ _ _ _ top
           (book_after _ _ _ _ _ _ _ before after c.args.number Open there book refl (Held c.args.worker c.allowance_of-allowance.result) c.set.new.self.nodes c.reserve.new.self.items
           (c.self.inside.allowed + c.from.result) (vec_capacity c.reserve.new.self)

@@ -1,13 +1,13 @@
 use Rattle.std.proofs.Common.{◌∙◌, List, OnOk, ap, codes, subst}
 use Rattle.clap.specs.Words.{App, Rule, Shape, new_app, with_rule}
 use Rattle.td_command.specs.CommandLine.{needed, with_admitted, with_common, with_moments, with_parts, with_strategy}
-use Rattle.td_command.specs.Telling.{told, OffersCommand}
+use Rattle.td_command.specs.Telling.{reported, OffersCommand}
 use Rattle.td_command.proofs.commands.Commands.parts.Goals as goal
 
 pub returns : goal.returns
 returns c =
     let bare = new_app (codes "parts") in
-    let file_is = c.in_ok-file.ensures bare ∙ ap (λ (rules : List Rule). with_rule (told bare rules) (needed (codes "FILE"))) c.new-arguments.ensures in
+    let file_is = c.in_ok-file.ensures bare ∙ ap (λ (rules : List Rule). with_rule (reported bare rules) (needed (codes "FILE"))) c.new-arguments.ensures in
     let parts_is = c.in_ok-parts.ensures bare ∙ ap with_parts file_is in
     let admitted_is = c.in_ok-admitted.ensures bare ∙ ap with_admitted parts_is in
     let moments_is = c.in_ok-moments.ensures bare ∙ ap with_moments admitted_is in

@@ -8,10 +8,10 @@ use Rattle.td_domain.proofs.sheet.Sheet.bound.Goals as goal
 
 pub returns-clause-bound : goal.returns-clause-bound
 returns-clause-bound g c = λ circuit is.
-    let told : c.greatest_last.result ≡ greatest_bound (map g.D.Domain.functions.last_of (filter_map (slice_get c.args.self.now.signals) c.args.self.now.outputs)) =
+    let reported : c.greatest_last.result ≡ greatest_bound (map g.D.Domain.functions.last_of (filter_map (slice_get c.args.self.now.signals) c.args.self.now.outputs)) =
     rw (← c.self.view_is) (rw (c.deref.ensures.value, c.deref-2.ensures.value) at c.greatest_last.ensures) in
     front-bound g.D.Domain.functions g.D.Domain.reach circuit is.numbering c.args.self.now.cube
-    c.args.self.now.signals is.page.count is.page.front c.greatest_last.result (rw is.outputs at told)
+    c.args.self.now.signals is.page.count is.page.front c.greatest_last.result (rw is.outputs at reported)
 
 pub returns-clause-only : goal.returns-clause-only
 returns-clause-only g c = λ circuit is other bounds.
@@ -29,8 +29,8 @@ returns-clause-sound g c = λ circuit is moment at pair delay is_in is_delay.
 
 pub returns-clause-small : goal.returns-clause-small
 returns-clause-small g c = λ circuit is moment at.
-    let told : c.greatest_last.result ≡ greatest_bound (map g.D.Domain.functions.last_of (filter_map (slice_get c.args.self.now.signals) c.args.self.now.outputs)) =
+    let reported : c.greatest_last.result ≡ greatest_bound (map g.D.Domain.functions.last_of (filter_map (slice_get c.args.self.now.signals) c.args.self.now.outputs)) =
     rw (← c.self.view_is) (rw (c.deref.ensures.value, c.deref-2.ensures.value) at c.greatest_last.ensures) in
     small g.D.Domain.functions.last_of g.D.Domain.reach
     (within_reach g.D.Domain.functions.last_of g.D.Domain.has_moment g.D.Domain.reach g.met.D.Domain.last_is_moment g.met.D.Domain.reach_each)
-    circuit is.numbering c.args.self.now.signals is.page.count is.page.front.reaches c.args.self.now.outputs moment (sym told ∙ at)
+    circuit is.numbering c.args.self.now.signals is.page.count is.page.front.reaches c.args.self.now.outputs moment (sym reported ∙ at)

@@ -10,11 +10,11 @@ pub returns-in-Some-clause-sheet : goal.returns-in-Some-clause-sheet
 returns-in-Some-clause-sheet g c = λ circuit sheet.
     let wide = set c.self.inside.cube c.in-Some.narrowing.position Free in
     let old = undone c.self.inside.signals.items c.in-Some.narrowing.replaced.items in
-    let back : c.undo-room.new.signals ≡ old =
-    c.undo-room.ensures.signals ∙ ap (λ xs. undone xs c.in-Some.narrowing.replaced.items) c.deref_mut.ensures.value in
-    let now = take c.self.inside.signals.len (c.undo-room.new.signals ++ drop (length c.undo-room.new.signals) c.self.inside.signals.items) in
-    let signals : now ≡ c.undo-room.new.signals =
-    written c.self.inside.signals.items c.undo-room.new.signals c.self.inside.signals.len
+    let back : c.undo-space.new.signals ≡ old =
+    c.undo-space.ensures.signals ∙ ap (λ xs. undone xs c.in-Some.narrowing.replaced.items) c.deref_mut.ensures.value in
+    let now = take c.self.inside.signals.len (c.undo-space.new.signals ++ drop (length c.undo-space.new.signals) c.self.inside.signals.items) in
+    let signals : now ≡ c.undo-space.new.signals =
+    written c.self.inside.signals.items c.undo-space.new.signals c.self.inside.signals.len
     (ap length back ∙ length-undone c.self.inside.signals.items c.in-Some.narrowing.replaced.items)
     (omega (arith, ap length c.deref_mut.ensures.value, c.deref_mut.ensures.len)) in
     let pages = pages-more c.self.inside.cube wide c.self.inside.signals.items old c.in-Some.narrowing.position c.in-Some.narrowing.replaced

@@ -5,7 +5,7 @@ use Rattle.std.proofs.lemmas.List.{get_or_read, with_items_is}
 use Rattle.td_event_sim.specs.declared.rules.Tally.{Tally}
 use Rattle.td_event_sim.specs.Bits.{bit_at}
 use Rattle.td_event_sim.specs.Counting.{AreRecounted}
-use Rattle.td_event_sim.specs.Rules.{AreTold, ones_of, rules_of}
+use Rattle.td_event_sim.specs.Rules.{AreReported, ones_of, rules_of}
 use Rattle.td_event_sim.proofs.Ones.{turned-counted}
 use Rattle.td_event_sim.proofs.Waitings.{items-at}
 use Rattle.td_event_sim.proofs.logic.Logic.turn.Goals as goal
@@ -23,9 +23,9 @@ returns-clause-counted c =
     rw (back, was)
     (turned-counted c.args.first_output c.args.net (map (λ outputs. outputs.items) c.args.readers.now) logic.levels.items old (ones_of c.recount.new.tallies) c.requires.net counts)
 
-pub returns-clause-told : goal.returns-clause-told
-returns-clause-told c = λ begun was.
+pub returns-clause-reported : goal.returns-clause-reported
+returns-clause-reported c = λ begun was.
     let logic = c.args.self.now in
     let back : (with_items logic.tallies c.recount.new.tallies).items ≡ c.recount.new.tallies = with_items_is logic.tallies c.recount.new.tallies (c.recount.auto.tallies ∙ c.deref_mut.ensures.len) in
-    let told = rw c.deref_mut.ensures.value at c.in_ok-recount.ensures.told in
-    subst (λ (tallies : List Tally). AreTold c.args.first_output (rules_of logic.tallies.items) begun (ones_of tallies) c.recount.new.turned.items) (sym back) (told begun was)
+    let reported = rw c.deref_mut.ensures.value at c.in_ok-recount.ensures.reported in
+    subst (λ (tallies : List Tally). AreReported c.args.first_output (rules_of logic.tallies.items) begun (ones_of tallies) c.recount.new.turned.items) (sym back) (reported begun was)

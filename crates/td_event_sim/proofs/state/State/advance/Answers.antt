@@ -9,9 +9,9 @@ use Rattle.td_event_sim.specs.declared.state.State.{State}
 use Rattle.td_event_sim.specs.Counting.{AreCounted, AreListed}
 use Rattle.td_event_sim.specs.Queue.{AreBelow}
 use Rattle.td_event_sim.specs.Moment.{AreWaitingBut, HasTurned, evaluation_at}
-use Rattle.td_event_sim.specs.Rules.{AreRules, AreTold, ones_of, rules_of}
+use Rattle.td_event_sim.specs.Rules.{AreRules, AreReported, ones_of, rules_of}
 use Rattle.td_event_sim.proofs.Ones.{all-narrow}
-use Rattle.td_event_sim.proofs.Evaluations.{evaluated-among, turned-told}
+use Rattle.td_event_sim.proofs.Evaluations.{evaluated-among, turned-reported}
 use Rattle.td_event_sim.proofs.Moments.{moment-done}
 use Rattle.td_event_sim.proofs.Fits.{readers-within, none-earlier, waiting-but}
 use Rattle.td_event_sim.proofs.Rooms.{same-count, still-fits, with-events}
@@ -36,7 +36,7 @@ returns-in_err-update-clause-fits c =
     let below : AreBelow (length was.events.whens.items) c.take.new.self =
     c.take.ensures.below (length was.events.whens.items) (subst (λ (count : ℕ). AreBelow count was.events.queue) (sym c.requires.fits.whens) c.requires.fits.queue) in
     still-fits c.args.circuit.now _ c.update.new.self
-    (with-events c.args.circuit.now was (record { whens = was.events.whens; queue = c.take.new.self }) c.requires.fits refl below) c.update.ensures.room c.update.ensures.below
+    (with-events c.args.circuit.now was (record { whens = was.events.whens; queue = c.take.new.self }) c.requires.fits refl below) c.update.ensures.space c.update.ensures.below
 
 pub returns-in_err-evaluate-clause-fits : goal.returns-in_err-evaluate-clause-fits
 returns-in_err-evaluate-clause-fits c =
@@ -44,7 +44,7 @@ returns-in_err-evaluate-clause-fits c =
     let below : AreBelow (length was.events.whens.items) c.take.new.self =
     c.take.ensures.below (length was.events.whens.items) (subst (λ (count : ℕ). AreBelow count was.events.queue) (sym c.requires.fits.whens) c.requires.fits.queue) in
     with-events c.args.circuit.now c.update.new.self c.evaluate.new.self (still-fits c.args.circuit.now _ c.update.new.self
-    (with-events c.args.circuit.now was (record { whens = was.events.whens; queue = c.take.new.self }) c.requires.fits refl below) c.update.ensures.room c.update.ensures.below)
+    (with-events c.args.circuit.now was (record { whens = was.events.whens; queue = c.take.new.self }) c.requires.fits refl below) c.update.ensures.space c.update.ensures.below)
     c.evaluate.ensures.whens c.evaluate.ensures.below
 
 pub returns-clause-fits : goal.returns-clause-fits
@@ -53,7 +53,7 @@ returns-clause-fits c =
     let below : AreBelow (length was.events.whens.items) c.take.new.self =
     c.take.ensures.below (length was.events.whens.items) (subst (λ (count : ℕ). AreBelow count was.events.queue) (sym c.requires.fits.whens) c.requires.fits.queue) in
     with-events c.args.circuit.now c.update.new.self c.evaluate.new.self (still-fits c.args.circuit.now _ c.update.new.self
-    (with-events c.args.circuit.now was (record { whens = was.events.whens; queue = c.take.new.self }) c.requires.fits refl below) c.update.ensures.room c.update.ensures.below)
+    (with-events c.args.circuit.now was (record { whens = was.events.whens; queue = c.take.new.self }) c.requires.fits refl below) c.update.ensures.space c.update.ensures.below)
     c.evaluate.ensures.whens c.evaluate.ensures.below
 
 pub returns-clause-counted : goal.returns-clause-counted
@@ -70,17 +70,17 @@ returns-clause-state c = λ waves states run state.
     let first : ℕ = first_output circuit in
     let first_is : first ≡ c.first_gate-first_output.result = sym c.first_gate-first_output.ensures in
     let rules : List Rule = rules_of was.logic.tallies.items in
-    let told : AreTold first rules (ones_of was.logic.tallies.items) (ones_of now.logic.tallies.items) c.update.new.turned.items =
-    subst (λ (n : ℕ). AreTold n rules (ones_of was.logic.tallies.items) (ones_of now.logic.tallies.items) c.update.new.turned.items) (sym first_is) c.in_ok-update.ensures.told in
+    let reported : AreReported first rules (ones_of was.logic.tallies.items) (ones_of now.logic.tallies.items) c.update.new.turned.items =
+    subst (λ (n : ℕ). AreReported n rules (ones_of was.logic.tallies.items) (ones_of now.logic.tallies.items) c.update.new.turned.items) (sym first_is) c.in_ok-update.ensures.reported in
     let counted : AreCounted circuit.gates now.logic.levels.items (ones_of now.logic.tallies.items) = c.in_ok-update.ensures.counted circuit.gates
     (subst (λ (n : ℕ). AreListed n circuit.gates (map (λ (v : Vec ℕ Global). v.items) c.args.readers.now)) first_is c.requires.readers.listed)
     (all-narrow circuit c.requires.numbering) (sym (length-map was.logic.tallies.items (λ (t : Tally). t.ones) ∙ c.requires.fits.tallies)) c.requires.counted in
     let among : (net : ℕ) → net < length now.events.whens.items → HasTurned circuit.gates first was.logic.levels.items now.logic.levels.items net → Contains c.update.new.turned.items net =
-    λ net h has. turned-told circuit.gates first rules was.logic.levels.items now.logic.levels.items (ones_of was.logic.tallies.items) (ones_of now.logic.tallies.items) c.update.new.turned.items
-    (length-map was.logic.tallies.items (λ (t : Tally). t.rule) ∙ c.requires.fits.tallies) c.requires.fits.rules c.requires.counted counted told net has in
-    let many : length now.logic.tallies.items ≡ length circuit.gates = same-count now.logic.tallies.items was.logic.tallies.items c.update.ensures.room.rules ∙ c.requires.fits.tallies in
+    λ net h has. turned-reported circuit.gates first rules was.logic.levels.items now.logic.levels.items (ones_of was.logic.tallies.items) (ones_of now.logic.tallies.items) c.update.new.turned.items
+    (length-map was.logic.tallies.items (λ (t : Tally). t.rule) ∙ c.requires.fits.tallies) c.requires.fits.rules c.requires.counted counted reported net has in
+    let many : length now.logic.tallies.items ≡ length circuit.gates = same-count now.logic.tallies.items was.logic.tallies.items c.update.ensures.space.rules ∙ c.requires.fits.tallies in
     let evaluated = rw (c.first_gate-first_output.ensures, c.deref-2.ensures.value) at (c.in_ok-evaluate.ensures.evaluated circuit.gates (sym many)
-    (subst (λ (found : List Rule). AreRules circuit.gates found) (sym c.update.ensures.room.rules) c.requires.fits.rules) counted) in
+    (subst (λ (found : List Rule). AreRules circuit.gates found) (sym c.update.ensures.space.rules) c.requires.fits.rules) counted) in
     rw add-one
     (moment-done circuit waves states run c.args.moment
     was.logic.levels.items now.logic.levels.items was.events.whens.items now.events.whens.items c.evaluate.new.self.whens.items was.latest.items now.latest.items

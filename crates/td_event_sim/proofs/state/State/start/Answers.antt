@@ -4,7 +4,7 @@ use Rattle.td_gates.specs.Table.{level_from}
 use Rattle.td_event_sim.specs.Rules.{rules_of}
 use Rattle.td_event_sim.specs.Settling.{AreSettled}
 use Rattle.td_event_sim.specs.Moment.{AreScheduled}
-use Rattle.td_event_sim.proofs.Rooms.{settled-counted, settled-room, started-fits}
+use Rattle.td_event_sim.proofs.Rooms.{settled-counted, settled-space, started-fits}
 use Rattle.td_event_sim.proofs.Runs.{net_state, is_run_by}
 use Rattle.td_event_sim.proofs.Starting.{at-start}
 use Rattle.td_event_sim.proofs.state.State.start.Goals as goal
@@ -35,7 +35,7 @@ returns-clause-reached c = λ waves outs run.
     let zeros_long : length c.fill.new.self.items ≡ many = ap length zeros_are ∙ length-replicate many 0 in
     let zeros : (net : ℕ) → net < length c.fill.new.self.items → get_or c.fill.new.self.items net 0 ≡ 0 =
     λ net h. rw zeros_are (get_or-replicate many net 0 0 (omega arith)) in
-    let back = settled-room c.args.self.now.logic c.settle.new.levels c.settle.new.tallies (c.settle.auto.levels ∙ ap length c.deref_mut.ensures.value)
+    let back = settled-space c.args.self.now.logic c.settle.new.levels c.settle.new.tallies (c.settle.auto.levels ∙ ap length c.deref_mut.ensures.value)
     (c.settle.auto.tallies ∙ ap length c.deref_mut-2.ensures.value) in
     let settled : AreSettled circuit pair.first (length circuit.gates) c.settle.new.levels =
     subst (λ (v : List Bool). AreSettled circuit v (length circuit.gates) c.settle.new.levels) c.first.ensures c.settle.ensures.settled in

@@ -35,7 +35,7 @@ returns-clause-below c =
     let before : AllByRecursion (IsWithin asked) (cube ∷ coming.rest) = subst (AllByRecursion (IsWithin asked)) coming.is was.coming in
     let count = ap length states in
     let one = length-append old.subtree.states (s ∷ []) in
-    let room = coming.allowed in
+    let space = coming.allowed in
     record {
       cube = same_cube ∙ was.cube;
       allowance = ap (λ (t : PrivateTree). t.allowance) tree ∙ was.allowance;
@@ -47,8 +47,8 @@ returns-clause-below c =
           (true_more asked old.subtree.states old.findings.items (c.args.lease.now.cube ∷ []) cube coming.rest f was.positions was.found
           (subst (λ (q : List Trit). cubes_left old.subtree.states (q ∷ []) ≡ cube ∷ coming.rest) was.cube coming.is) holds);
       coming = subst (AllByRecursion (IsWithin asked)) (sym left) (within_past asked cube coming.rest f holds before);
-      few = omega (arith, count, one, room);
-      room = let r = was.room in let k = c.push_reserved.ensures.capacity in omega (arith, r, k);
+      few = omega (arith, count, one, space);
+      space = let r = was.space in let k = c.push_reserved.ensures.capacity in omega (arith, r, k);
     }
   where
     with_states : PrivateTree → List State → PrivateTree

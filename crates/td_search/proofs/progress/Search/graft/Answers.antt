@@ -13,16 +13,16 @@ returns-in-Ok-graft-clause-search c =
     let findings = c.args.findings.now in
     let items : c.push_side_bounds.new.bounds.items ≡ s.bounds.items ++ side_bounds findings =
     c.push_side_bounds.ensures ∙ ap (λ (l : List ℕ). l ++ side_bounds findings) c.reserve.ensures.items in
-    let room = c.in-Ok-reserve.ensures.ok (length s.bounds.items) c.requires.search.1 in
+    let space = c.in-Ok-reserve.ensures.ok (length s.bounds.items) c.requires.search.1 in
     let long = length-append s.bounds.items (side_bounds findings) in
     let size = ap length items in
     let few = side_long findings in
     let len = c.len.ensures in
-    let for_nodes = room.for_nodes in
-    let for_lines = room.for_lines in
+    let for_nodes = space.for_nodes in
+    let for_lines = space.for_lines in
     let kept = ap length c.reserve.ensures.items in (
       subst (λ (l : List ℕ). IsSearch (problem_of c.args.problem.now) s.book.budget c.graft.new.self s.best.time s.best.pair l) (sym items)
           (grafts (problem_of c.args.problem.now) s.book.budget s.book c.graft.new.self s.best.time s.best.pair s.bounds.items c.requires.search.0 c.args.lease c.args.subtree
           c.in-Ok-graft.left.items findings c.requires.states c.requires.found (recursion_from_All _ findings c.requires.usable) c.in-Ok-graft.ensures.ok),
-      record { no_nodes = room.no_nodes; no_lines = room.no_lines; for_nodes = omega arith; for_lines = omega arith },
+      record { no_nodes = space.no_nodes; no_lines = space.no_lines; for_nodes = omega arith; for_lines = omega arith },
     )

@@ -2,7 +2,7 @@ use Rattle.std.proofs.Common.{◌≡◌, ℕ, List, [], ◌∷◌, ◌++◌, len
 use Rattle.td_book.specs.Board.{Board, opening}
 use Rattle.td_search.specs.Problems.{Problem, problem_by}
 use Rattle.td_search.specs.Progress.{IsSearch}
-use Rattle.td_search.specs.Rooms.{HasRoom}
+use Rattle.td_search.specs.Rooms.{HasSpace}
 use Rattle.td_search.proofs.AtStart.{knows}
 use Rattle.td_search.proofs.progress.Setup.begin.Goals as goal
 
@@ -18,5 +18,5 @@ returns-clause-search c =
           (subst (λ (l : List ℕ). IsSearch asked budget (opening c.args.problem.now.admit.now.pins 1 budget) best.time best.pair l) (sym items)
           (knows c.args.problem.now.strategy c.args.problem.now.circuit.now c.gates-numbering.ensures.numbering c.moments-moments.ensures.fit c.args.problem.now.admit.now budget c.requires.modest best.pair best.time root
           c.requires.best.0 c.requires.root c.requires.small c.requires.best.1)),
-      subst (λ (l : List ℕ). HasRoom c.args.self.room (length l)) (sym items) c.requires.setup.room,
+      subst (λ (l : List ℕ). HasSpace c.args.self.space (length l)) (sym items) c.requires.setup.space,
     )

@@ -24,13 +24,13 @@ loop-worker-preserved g c =
         | in_default-spawn_with+in-Err-1 w ↦ rw w.handles-is (omega (arith, few))
         | in_default-spawn_with+in-Ok-1 w ↦ rw w.handles-is (omega (arith, few))
       ];
-      room = elim c.match-spawn_with.branch [
-        | in-Ok w ↦ rw w.handles-is (let same = w.push_reserved.ensures.capacity in let r = was.room in omega (arith, same, r))
-        | in_default-spawn_with+in-Err-1 w ↦ rw w.handles-is was.room
-        | in_default-spawn_with+in-Ok-1 w ↦ rw w.handles-is was.room
+      space = elim c.match-spawn_with.branch [
+        | in-Ok w ↦ rw w.handles-is (let same = w.push_reserved.ensures.capacity in let r = was.space in omega (arith, same, r))
+        | in_default-spawn_with+in-Err-1 w ↦ rw w.handles-is was.space
+        | in_default-spawn_with+in-Ok-1 w ↦ rw w.handles-is was.space
       ];
       none = was.none;
-      all_room = was.all_room;
+      all_space = was.all_space;
       parts = omega arith;
       amount = omega arith;
     }

@@ -11,9 +11,9 @@ invariant-loop-worker g l = record {
   waiting : AllByRecursion (IsStarting (problem_of l.task.now.problem.now) l.shared.now.incumbent) l.waiting.items;
   started : AllByRecursion (λ handle. IsTruthful l.task.now.problem.now handle.promise) l.handles.items;
   few : length l.handles.items + 1 ≤ l.worker;
-  room : l.worker-end ≤ vec_capacity l.handles;
+  space : l.worker-end ≤ vec_capacity l.handles;
   none : l.all.items ≡ [];
-  all_room : l.worker-end ≤ vec_capacity l.all;
+  all_space : l.worker-end ≤ vec_capacity l.all;
   parts : l.own.parts + l.worker ≡ l.worker-end + 1;
   amount : l.own.amount ≡ 0;
 }

@@ -1,5 +1,0 @@
-use Rattle.std.proofs.Common.{◌∙◌, sym}
-use Rattle.td_search.proofs.leading.taken_guide.Goals as goal
-
-pub returns-in-Some-clause-taken : goal.returns-in-Some-clause-taken
-returns-in-Some-clause-taken c = c.requires.guide c.in-Some.there (sym c.replace.ensures.value ∙ c.in-Some.is)
