@@ -2,14 +2,15 @@
 """Runs each command with a growth of memory refused, alone or with all that come after it, and
 compares each run with one that has memory enough.
 
-A run may answer the same; or end with status 5, `tdelay: out of memory` and nothing but a beginning
-of its output; or, a search, answer `between` with `cause memory` (`cause budget`, too, where it does
-with memory enough) and two figures around the right one, or `exact` with the right time and a
-certificate that `check` accepts. Where the root of a search is measured and bounded, and its report
-isn't begun, a growth refused alone may not end it as out of memory: it has to answer. That is so
-after as many growths as the same search takes with a budget of 0, and until the last ones, which are
-the report's. Searches are those of a lost pulse, of two ways that meet, and of a slow arm, by 1, 2
-and 4 workers. `check` gives its verdict or is out of memory, and never another verdict.
+A run may answer the same; or end with status 5, `tdelay: out of memory` and nothing but a
+beginning of its output; or, a search, answer `between` with `cause memory` (`cause budget`, too,
+where it does with memory enough) and two figures around the right one, or `exact` with the right
+time and a certificate that `check` accepts. Where the root of a search is measured and bounded,
+and its report isn't begun, a growth refused alone may not end it as out of memory: it has to
+answer. That is so after as many growths as the same search takes with a budget of 0, and until
+the last ones, which are the report's. Searches are those of a lost pulse, of two ways that meet,
+and of a slow arm, by 1, 2 and 4 workers. `check` gives its verdict or is out of memory, and never
+another verdict.
 
 Each case is a refused growth, or all from one on. All of them are some 32,000, of which those after
 roots are tried, and a random choice of the others. Of 100 cases 5 at least are searches of which

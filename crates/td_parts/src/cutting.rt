@@ -102,7 +102,7 @@ impl Cutting {
     }
 
     /// Halves the part of a place at a position that is free in it. A half without an admitted pair
-    /// is left out. The error is want of memory.
+    /// is left out. The error is out of memory.
     fn halve<R: Rule>(
         &mut self,
         task: &Task<'_, R>,

@@ -1,5 +1,5 @@
 -- A better pair takes the place of the best, and lists of what is true.
-use Rattle.std.proofs.Common.{◌≡◌, ℕ, ◌+◌, ◌≤◌, List, [], ◌∷◌, ◌++◌, length, ap, ◌∙◌, length-append, arith}
+use Rattle.std.proofs.Common.{◌≡◌, ◌+◌, ◌≤◌, List, [], ◌∷◌, ◌++◌, length, ap, ◌∙◌, length-append, arith}
 use Rattle.std.specs.List.{AllByRecursion}
 use Rattle.td_search.specs.Best.{Found as Best, IsBest}
 use Rattle.td_search.specs.Problems.{Problem, has_delay}

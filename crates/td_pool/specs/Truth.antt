@@ -1,5 +1,5 @@
 -- What a worker keeps and hands back.
-use Rattle.std.specs.Prelude.{◌≡◌, ℕ, ◌≤◌, length}
+use Rattle.std.specs.Prelude.{◌≡◌, ◌≤◌, length}
 use Rattle.std.specs.List.{AllByRecursion}
 use Rattle.td_incumbent.specs.Held.{Shown, Held}
 use Rattle.td_search.specs.Findings.{IsTrueEvidence}

@@ -1,5 +1,5 @@
 -- Internal: what workers begin with, have done and promise.
-use Rattle.std.specs.Prelude.{◌≡◌, ℕ, ◌<◌, ◌≤◌, Option, List, length, IfSome}
+use Rattle.std.specs.Prelude.{◌≡◌, ℕ, ◌<◌, ◌≤◌, List, length}
 use Rattle.std.specs.List.{AllByRecursion}
 use Rattle.td_incumbent.specs.Held.{Shown}
 use Rattle.td_search.specs.declared.findings.Evidence.{Evidence}

@@ -1,6 +1,5 @@
 -- Extending: derivations with learned clauses more.
 use Rattle.std.proofs.Common.{◌≡◌, ℕ, zero, suc, ◌<◌, ◌≤◌, ◌+◌, ◌⊎◌, inl, inr, false, max, map, List, [], ◌∷◌, ◌++◌, length, refl, sym, ◌∙◌, ap, subst, append_assoc, append-nil, arith}
-use Rattle.std.specs.List.{All}
 use Rattle.std.proofs.lemmas.List.Elements.{All-nil, All-cons, All-append, All-push, All-weaker}
 use Rattle.td_propagation.specs.declared.literal.Literal.{Literal}
 use Rattle.td_solver.specs.declared.derivation.Derivation.{Derivation}

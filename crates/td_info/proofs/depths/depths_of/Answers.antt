@@ -1,4 +1,4 @@
-use Rattle.std.proofs.Common.{◌∙◌, ◌+◌, replicate, arith, ap}
+use Rattle.std.proofs.Common.{◌∙◌, replicate, arith, ap}
 use Rattle.std.proofs.lemmas.Option.{slice_get-get_or}
 use Rattle.td_circuit.specs.Views.{gate_of}
 use Rattle.td_circuit.proofs.Nets.{few_gates}

@@ -1,9 +1,8 @@
-use Rattle.std.proofs.Common.{◌≡◌, ◌≤◌, ℕ, ◌*◌, length, sym, ap, subst, ◌∙◌, arith}
+use Rattle.std.proofs.Common.{◌≡◌, ℕ, ◌*◌, length, sym, ap, subst, ◌∙◌, arith}
 use Rattle.std.proofs.lemmas.Option.{slice_get_within}
 use Rattle.td_domain.specs.declared.cubes.Trit.TheVariants.{Free}
 use Rattle.td_circuit.specs.Numbering.{setting}
 use Rattle.td_search.specs.declared.step.Step.TheVariants as step
-use Rattle.td_search.specs.declared.strategy.Strategy.TheVariants.{Lead}
 use Rattle.td_search.specs.Deciding.{IsStep}
 use Rattle.td_search.specs.Problems.{problem_of}
 use Rattle.td_search.specs.Splitting.{IsReached}

@@ -1,4 +1,4 @@
-use Rattle.std.proofs.Common.{◌≡◌, ◌*◌, length, ap, subst, ◌∙◌}
+use Rattle.std.proofs.Common.{◌*◌, length, ap, subst, ◌∙◌}
 use Rattle.td_domain.specs.Pairs.{Pair}
 use Rattle.td_search.specs.Deciding.{IsMeasured}
 use Rattle.td_search.specs.Problems.{problem_of}

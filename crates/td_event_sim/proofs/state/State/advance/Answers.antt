@@ -1,5 +1,5 @@
 use Rattle.std.specs.List.{Contains}
-use Rattle.std.proofs.Common.{◌≡◌, ◌<◌, length, map, sym, ap, ◌∙◌, ◌+◌, arith, add-one, refl, subst, Vec, ℕ, List, Global}
+use Rattle.std.proofs.Common.{◌≡◌, ◌<◌, length, map, sym, ◌∙◌, arith, add-one, refl, subst, Vec, ℕ, List, Global}
 use Rattle.std.proofs.lemmas.List.{length-map}
 use Rattle.td_circuit.specs.Numbering.{nets, first_output}
 use Rattle.td_circuit.proofs.Nets.{length-nets}

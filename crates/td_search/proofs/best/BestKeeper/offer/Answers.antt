@@ -1,5 +1,5 @@
 use Rattle.std.proofs.Common.{length, sym, subst, arith}
-use Rattle.td_search.specs.Best.{Found, IsKept}
+use Rattle.td_search.specs.Best.{IsKept}
 use Rattle.td_search.specs.Problems.{problem_of}
 use Rattle.td_search.specs.Representatives.{representative}
 use Rattle.td_search.proofs.Bounded.{vectors_inside}

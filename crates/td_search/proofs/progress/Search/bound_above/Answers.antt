@@ -1,5 +1,4 @@
 use Rattle.std.proofs.Common.{subst}
-use Rattle.td_search.specs.declared.findings.Finding.{Finding}
 use Rattle.td_search.specs.declared.findings.Finding.TheVariants as finding
 use Rattle.td_search.specs.Findings.{IsTrueOf, IsUsable}
 use Rattle.td_search.specs.Problems.{problem_of}
