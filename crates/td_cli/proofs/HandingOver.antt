@@ -8,7 +8,7 @@ use Rattle.td_files.specs.Files.{FileText}
 use Rattle.td_report.specs.Ends.{Product}
 use Rattle.td_report.specs.Reports.{IsSimReport}
 use Rattle.td_cli.specs.declared.asking.QuestionWords.{QuestionWords}
-use Rattle.td_delivery.specs.Disks.{Disk}
+use Rattle.td_files.specs.Disks.{Disk}
 use Rattle.td_cli.specs.WorstReports.{IsWorstReport}
 use Rattle.td_cli.specs.JoinReports.{IsJoinReport}
 use Rattle.td_delivery.specs.Beside.{certificate_files}

@@ -16,7 +16,8 @@ use Rattle.td_command.specs.declared.command.Request.TheVariants as request
 use Rattle.td_files.specs.Files.{FileStep, Takes}
 use Rattle.td_command.specs.CommandLine.{kinds_of}
 use Rattle.td_report.specs.Ends.{Product, Streams, streams, TellsReason, TellsUnread, Ends, EndsBehind}
-use Rattle.td_delivery.specs.Disks.{Disk, Reads, IsUnreadable, HoldsOnFile}
+use Rattle.td_files.specs.Disks.{Disk}
+use Rattle.td_delivery.specs.Disks.{Reads, IsUnreadable, HoldsOnFile}
 use Rattle.td_delivery.specs.Overwriting.{KeepsFiles, Overwrites}
 use Rattle.td_delivery.specs.Shown.{IsOutOfMemory, TellsText}
 use Rattle.td_cli.specs.Requests.{SearchRuns, RequestRuns, RequestEnds, ProgramEnds}

@@ -22,7 +22,8 @@ use Rattle.td_domain.specs.Cubes.{weave}
 use Rattle.td_report.specs.Vectors.{AreTrits, VectorWords, GivesTrits}
 use Rattle.td_cli.specs.WorstReports.{worst_text}
 use Rattle.td_report.specs.Outcomes.{HasNoCircuit, IsRefusedFor}
-use Rattle.td_delivery.specs.Disks.{Disk, Reads, HoldsOnFile}
+use Rattle.td_files.specs.Disks.{Disk}
+use Rattle.td_delivery.specs.Disks.{Reads, HoldsOnFile}
 use Rattle.td_report.specs.JoinTexts.{first_place, second_place}
 
 -- ---- the pins of the whole

@@ -34,7 +34,8 @@ use Rattle.td_report.specs.Refusals.{refusal_text}
 use Rattle.td_cli.specs.Outcomes.{HasNoAnswer}
 use Rattle.td_report.specs.Outcomes.{HasNoCircuit, HasNoReport, HasNoPath, HasNoBounds, HasNoVerdict}
 use Rattle.td_files.specs.Files.{FileStep, FileText}
-use Rattle.td_delivery.specs.Disks.{Disk, Reads, IsUnreadable, HoldsOnFile}
+use Rattle.td_files.specs.Disks.{Disk}
+use Rattle.td_delivery.specs.Disks.{Reads, IsUnreadable, HoldsOnFile}
 use Rattle.td_report.specs.Ends.{Product, IsReportOnly, Streams, Tells, Ends, EndsBehind}
 use Rattle.td_cli.specs.Progress.{TellsSearch}
 use Rattle.td_delivery.specs.Beside.{IsBeside, certificate_files}

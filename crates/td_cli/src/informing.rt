@@ -6,7 +6,6 @@ ghost use Rattle.td_command.specs.CommandLine.{delays};
 ghost use Rattle.td_report.specs.Ends.{Ends, streams};
 ghost use Rattle.td_files.specs.Files.{Takes};
 ghost use Rattle.td_report.specs.Outcomes.{HasNoCircuit};
-ghost use Rattle.td_delivery.specs.Disks.{disk_of};
 ghost use Rattle.td_cli.specs.Requests.{IsInfoProduct, RequestRuns};
 ghost use Rattle.td_command.specs.declared.command.Request.TheVariants as Asked;
 
@@ -28,7 +27,7 @@ pub fn run_info<F: Files, O: Sink, E: Sink>(
     err: &mut E,
 ) -> Status
     requires { IsInRange (delays request.now.rise request.now.fall) }
-    ensures { Takes (F.did files.old files.new) (λ steps. RequestRuns (disk_of (F.holds files.old) (F.fails files.old) (F.breaks files.old) (F.is_one files.old)) (Asked.Info request.now) steps result
+    ensures { Takes (F.did files.old files.new) (λ steps. RequestRuns (F.disk files.old) (Asked.Info request.now) steps result
         (streams (O.output out.old) (E.output err.old)) (streams (O.output out.new) (E.output err.new))) }
 {
     let Some(default) = Delay::new(request.rise, request.fall) else {

@@ -8,7 +8,6 @@ ghost use Rattle.td_certificate.specs.Spelling.{HasSpelling};
 ghost use Rattle.td_join.specs.Joining.{IsJoined};
 ghost use Rattle.td_join.specs.Faults.{IsJoinFault};
 ghost use Rattle.td_command.specs.CommandLine.{delays};
-ghost use Rattle.td_delivery.specs.Disks.{disk_of};
 ghost use Rattle.td_report.specs.Ends.{Ends, streams};
 ghost use Rattle.td_files.specs.Files.{Takes};
 ghost use Rattle.td_report.specs.Vectors.{words_of, IsFirstBad};
@@ -149,10 +148,10 @@ pub fn join_files<'a, F: Files>(
     first: Option<&str>,
     second: Option<&str>,
 ) -> Result<Joined, Refusal<'a>>
-    ensures report { IfOk result (λ joined. IsJoinReport (disk_of (F.holds files.old) (F.fails files.old) (F.breaks files.old) (F.is_one files.old)) text.now default
+    ensures report { IfOk result (λ joined. IsJoinReport (F.disk files.old) text.now default
         (map (λ name. name.now) names.now) is_checked (words_of first.entry) (words_of second.entry) joined.report joined.whole) }
     ensures refusal { IfErr result (λ reason. reason ≢ Reason.OutOfMemory
-        → HasNoJoin (disk_of (F.holds files.old) (F.fails files.old) (F.breaks files.old) (F.is_one files.old)) text.now default
+        → HasNoJoin (F.disk files.old) text.now default
         (map (λ name. name.now) names.now) is_checked (words_of first.entry) (words_of second.entry) reason) }
     ensures spelled { IfOk result (λ joined. HasSpelling joined.whole) }
     ensures stays { files.new ≡ files.old }
@@ -177,7 +176,7 @@ pub fn run_join<F: Files, O: Sink, E: Sink>(
     err: &mut E,
 ) -> Status
     requires { IsInRange (delays request.now.rise request.now.fall) }
-    ensures { Takes (F.did files.old files.new) (λ steps. RequestRuns (disk_of (F.holds files.old) (F.fails files.old) (F.breaks files.old) (F.is_one files.old)) (Asked.Join request.now) steps result
+    ensures { Takes (F.did files.old files.new) (λ steps. RequestRuns (F.disk files.old) (Asked.Join request.now) steps result
         (streams (O.output out.old) (E.output err.old)) (streams (O.output out.new) (E.output err.new))) }
 {
     let Some(default) = Delay::new(request.rise, request.fall) else {
@@ -218,10 +217,10 @@ pub fn carry_out_join<F: Files, O: Sink, E: Sink>(
     err: &mut E,
 ) -> Status
     ensures { Takes (F.did files.old files.new) (λ steps.
-        Ends (IsJoinProduct (disk_of (F.holds files.old) (F.fails files.old) (F.breaks files.old) (F.is_one files.old)) text.now default
+        Ends (IsJoinProduct (F.disk files.old) text.now default
         (map (λ part. part.now) names.now) is_checked (words_of first.entry) (words_of second.entry) (words_of name.entry))
-        (HasNoJoin (disk_of (F.holds files.old) (F.fails files.old) (F.breaks files.old) (F.is_one files.old)) text.now default
-        (map (λ part. part.now) names.now) is_checked (words_of first.entry) (words_of second.entry)) (F.breaks files.old) steps result
+        (HasNoJoin (F.disk files.old) text.now default
+        (map (λ part. part.now) names.now) is_checked (words_of first.entry) (words_of second.entry)) (F.disk files.old).breaks steps result
         (streams (O.output out.old) (E.output err.old)) (streams (O.output out.new) (E.output err.new))) }
 {
     match join_files(

@@ -9,7 +9,6 @@ ghost use Rattle.td_files.specs.Files.{Takes};
 ghost use Rattle.td_report.specs.Vectors.{words_of};
 ghost use Rattle.td_cli.specs.Outcomes.{HasNoAnswer};
 ghost use Rattle.td_cli.specs.PartReports.{option_text, flips_text, default_text, part_options, part_line, IsPartsReport};
-ghost use Rattle.td_delivery.specs.Disks.{disk_of};
 ghost use Rattle.td_cli.specs.Requests.{parts_words, IsPartsProduct, RequestRuns};
 ghost use Rattle.td_report.specs.declared.refusal.Refusal.TheVariants as Reason;
 ghost use Rattle.td_command.specs.declared.command.Request.TheVariants as Asked;
@@ -152,7 +151,7 @@ pub fn run_parts<F: Files, O: Sink, E: Sink>(
 ) -> Status
     requires range { IsInRange (delays request.now.rise request.now.fall) }
     requires some { 0 < request.now.parts }
-    ensures { Takes (F.did files.old files.new) (λ steps. RequestRuns (disk_of (F.holds files.old) (F.fails files.old) (F.breaks files.old) (F.is_one files.old)) (Asked.Parts request.now) steps result
+    ensures { Takes (F.did files.old files.new) (λ steps. RequestRuns (F.disk files.old) (Asked.Parts request.now) steps result
         (streams (O.output out.old) (E.output err.old)) (streams (O.output out.new) (E.output err.new))) }
 {
     let Some(default) = Delay::new(request.rise, request.fall) else {

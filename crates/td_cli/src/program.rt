@@ -9,7 +9,7 @@ ghost use Rattle.td_cli.specs.Outcomes.{HasNoAnswer};
 ghost use Rattle.td_report.specs.Outcomes.{HasNoReport, HasNoPath, HasNoBounds, HasNoVerdict};
 ghost use Rattle.td_cli.specs.Progress.{TellsSearch};
 ghost use Rattle.td_report.specs.Vectors.{words_of};
-ghost use Rattle.td_delivery.specs.Disks.{disk_of, Reads, HoldsOnFile};
+ghost use Rattle.td_delivery.specs.Disks.{Reads, HoldsOnFile};
 ghost use Rattle.td_delivery.specs.Shown.{IsOutOfMemory};
 ghost use Rattle.td_cli.specs.Requests.{is_search, AsksSearch, strategy_of, words_in, IsSimProduct, IsPathProduct, IsBoundProduct, IsCheckProduct, IsWorstProduct, search_ending, RequestRuns, RequestEnds, ProgramEnds, RefusesWords};
 ghost use Rattle.td_command.specs.declared.command.Request.TheVariants as Asked;
@@ -49,7 +49,7 @@ pub fn run<R: Threads + Wait + Sync, S: AsStr, F: Files, O: Sink, E: Sink>(
     out: &mut O,
     err: &mut E,
 ) -> Status
-    ensures { Takes (F.did files.old files.new) (λ steps. ProgramEnds (disk_of (F.holds files.old) (F.fails files.old) (F.breaks files.old) (F.is_one files.old)) (map S.text words.now) steps result
+    ensures { Takes (F.did files.old files.new) (λ steps. ProgramEnds (F.disk files.old) (map S.text words.now) steps result
         (streams (O.output out.old) (E.output err.old)) (streams (O.output out.new) (E.output err.new))) }
 {
     match run_plain(alloc, words, files, out, err) {
@@ -67,7 +67,7 @@ pub fn run_plain<S: AsStr, F: Files, O: Sink, E: Sink>(
     out: &mut O,
     err: &mut E,
 ) -> Option<Status>
-    ensures ends { IfSome result (λ status. Takes (F.did files.old files.new) (λ steps. ProgramEnds (disk_of (F.holds files.old) (F.fails files.old) (F.breaks files.old) (F.is_one files.old)) (map S.text words.now) steps status
+    ensures ends { IfSome result (λ status. Takes (F.did files.old files.new) (λ steps. ProgramEnds (F.disk files.old) (map S.text words.now) steps status
         (streams (O.output out.old) (E.output err.old)) (streams (O.output out.new) (E.output err.new)))) }
     ensures search { IfNone result (AsksSearch (map S.text words.now)) }
     ensures untouched { IfNone result ((files.new ≡ files.old) × (out.new ≡ out.old) × (err.new ≡ err.old)) }
@@ -103,7 +103,7 @@ fn run_search<R: Threads + Wait + Sync, S: AsStr, F: Files, O: Sink, E: Sink>(
     out: &mut O,
     err: &mut E,
 ) -> Status
-    ensures { Takes (F.did files.old files.new) (λ steps. ProgramEnds (disk_of (F.holds files.old) (F.fails files.old) (F.breaks files.old) (F.is_one files.old)) (map S.text words.now) steps result
+    ensures { Takes (F.did files.old files.new) (λ steps. ProgramEnds (F.disk files.old) (map S.text words.now) steps result
         (streams (O.output out.old) (E.output err.old)) (streams (O.output out.new) (E.output err.new))) }
 {
     match parse(alloc, words) {
@@ -133,7 +133,7 @@ pub fn carry_out<R: Threads + Wait + Sync, F: Files, O: Sink, E: Sink>(
     err: &mut E,
 ) -> Status
     requires { IsCarriedOut request.now }
-    ensures { Takes (F.did files.old files.new) (λ steps. RequestEnds (disk_of (F.holds files.old) (F.fails files.old) (F.breaks files.old) (F.is_one files.old)) request.now steps result
+    ensures { Takes (F.did files.old files.new) (λ steps. RequestEnds (F.disk files.old) request.now steps result
         (streams (O.output out.old) (E.output err.old)) (streams (O.output out.new) (E.output err.new))) }
 {
     match overwriting(files, request) {
@@ -152,7 +152,7 @@ fn carry_out_plain<F: Files, O: Sink, E: Sink>(
 ) -> Status
     requires asked { IsCarriedOut request.now }
     requires plain { is_search request.now ≡ false }
-    ensures { Takes (F.did files.old files.new) (λ steps. RequestEnds (disk_of (F.holds files.old) (F.fails files.old) (F.breaks files.old) (F.is_one files.old)) request.now steps result
+    ensures { Takes (F.did files.old files.new) (λ steps. RequestEnds (F.disk files.old) request.now steps result
         (streams (O.output out.old) (E.output err.old)) (streams (O.output out.new) (E.output err.new))) }
 {
     match overwriting(files, request) {
@@ -171,7 +171,7 @@ fn run_request<R: Threads + Wait + Sync, F: Files, O: Sink, E: Sink>(
     err: &mut E,
 ) -> Status
     requires { IsCarriedOut request.now }
-    ensures { Takes (F.did files.old files.new) (λ steps. RequestRuns (disk_of (F.holds files.old) (F.fails files.old) (F.breaks files.old) (F.is_one files.old)) request.now steps result
+    ensures { Takes (F.did files.old files.new) (λ steps. RequestRuns (F.disk files.old) request.now steps result
         (streams (O.output out.old) (E.output err.old)) (streams (O.output out.new) (E.output err.new))) }
 {
     match request {
@@ -190,7 +190,7 @@ fn run_plain_request<F: Files, O: Sink, E: Sink>(
 ) -> Status
     requires asked { IsCarriedOut request.now }
     requires plain { is_search request.now ≡ false }
-    ensures { Takes (F.did files.old files.new) (λ steps. RequestRuns (disk_of (F.holds files.old) (F.fails files.old) (F.breaks files.old) (F.is_one files.old)) request.now steps result
+    ensures { Takes (F.did files.old files.new) (λ steps. RequestRuns (F.disk files.old) request.now steps result
         (streams (O.output out.old) (E.output err.old)) (streams (O.output out.new) (E.output err.new))) }
 {
     match request {
@@ -214,7 +214,7 @@ fn run_sim<F: Files, O: Sink, E: Sink>(
     err: &mut E,
 ) -> Status
     requires { IsInRange (delays request.now.rise request.now.fall) }
-    ensures { Takes (F.did files.old files.new) (λ steps. RequestRuns (disk_of (F.holds files.old) (F.fails files.old) (F.breaks files.old) (F.is_one files.old)) (Asked.Sim request.now) steps result
+    ensures { Takes (F.did files.old files.new) (λ steps. RequestRuns (F.disk files.old) (Asked.Sim request.now) steps result
         (streams (O.output out.old) (E.output err.old)) (streams (O.output out.new) (E.output err.new))) }
 {
     let Some(default) = Delay::new(request.rise, request.fall) else {
@@ -246,7 +246,7 @@ fn run_path<F: Files, O: Sink, E: Sink>(
     err: &mut E,
 ) -> Status
     requires { IsInRange (delays request.now.rise request.now.fall) }
-    ensures { Takes (F.did files.old files.new) (λ steps. RequestRuns (disk_of (F.holds files.old) (F.fails files.old) (F.breaks files.old) (F.is_one files.old)) (Asked.Path request.now) steps result
+    ensures { Takes (F.did files.old files.new) (λ steps. RequestRuns (F.disk files.old) (Asked.Path request.now) steps result
         (streams (O.output out.old) (E.output err.old)) (streams (O.output out.new) (E.output err.new))) }
 {
     let Some(default) = Delay::new(request.rise, request.fall) else {
@@ -277,7 +277,7 @@ fn run_bound<F: Files, O: Sink, E: Sink>(
     err: &mut E,
 ) -> Status
     requires { IsInRange (delays request.now.rise request.now.fall) }
-    ensures { Takes (F.did files.old files.new) (λ steps. RequestRuns (disk_of (F.holds files.old) (F.fails files.old) (F.breaks files.old) (F.is_one files.old)) (Asked.Bound request.now) steps result
+    ensures { Takes (F.did files.old files.new) (λ steps. RequestRuns (F.disk files.old) (Asked.Bound request.now) steps result
         (streams (O.output out.old) (E.output err.old)) (streams (O.output out.new) (E.output err.new))) }
 {
     let Some(default) = Delay::new(request.rise, request.fall) else {
@@ -312,7 +312,7 @@ fn run_worst<R: Threads + Wait + Sync, F: Files, O: Sink, E: Sink>(
     requires budget { request.now.budget ≤ 10000000 }
     requires some { 0 < request.now.workers }
     requires few { request.now.workers ≤ 64 }
-    ensures { Takes (F.did files.old files.new) (λ steps. RequestRuns (disk_of (F.holds files.old) (F.fails files.old) (F.breaks files.old) (F.is_one files.old)) (Asked.Worst request.now) steps result
+    ensures { Takes (F.did files.old files.new) (λ steps. RequestRuns (F.disk files.old) (Asked.Worst request.now) steps result
         (streams (O.output out.old) (E.output err.old)) (streams (O.output out.new) (E.output err.new))) }
 {
     let Some(default) = Delay::new(request.rise, request.fall) else {
@@ -377,7 +377,7 @@ fn run_check<F: Files, O: Sink, E: Sink>(
     err: &mut E,
 ) -> Status
     requires { IsInRange (delays request.now.rise request.now.fall) }
-    ensures { Takes (F.did files.old files.new) (λ steps. RequestRuns (disk_of (F.holds files.old) (F.fails files.old) (F.breaks files.old) (F.is_one files.old)) (Asked.Check request.now) steps result
+    ensures { Takes (F.did files.old files.new) (λ steps. RequestRuns (F.disk files.old) (Asked.Check request.now) steps result
         (streams (O.output out.old) (E.output err.old)) (streams (O.output out.new) (E.output err.new))) }
 {
     let Some(default) = Delay::new(request.rise, request.fall) else {
@@ -399,8 +399,8 @@ fn check_file<F: Files, O: Sink, E: Sink>(
     out: &mut O,
     err: &mut E,
 ) -> Status
-    ensures ends { Ends (λ product. Reads (disk_of (F.holds files.old) (F.fails files.old) (F.breaks files.old) (F.is_one files.old)) name.now (λ certificate. IsCheckProduct text.now default certificate product))
-        (HoldsOnFile (disk_of (F.holds files.old) (F.fails files.old) (F.breaks files.old) (F.is_one files.old)) name.now (HasNoVerdict text.now default)) (λ _. ⊥) [] result
+    ensures ends { Ends (λ product. Reads (F.disk files.old) name.now (λ certificate. IsCheckProduct text.now default certificate product))
+        (HoldsOnFile (F.disk files.old) name.now (HasNoVerdict text.now default)) (λ _. ⊥) [] result
         (streams (O.output out.old) (E.output err.old)) (streams (O.output out.new) (E.output err.new)) }
     ensures stays { files.new ≡ files.old }
 {
@@ -425,7 +425,7 @@ pub fn carry_out_sim<F: Files, O: Sink, E: Sink>(
     err: &mut E,
 ) -> Status
     ensures { Takes (F.did files.old files.new) (λ steps.
-        Ends (IsSimProduct text.now default from.now to.now (words_of at.entry) (words_of vcd.entry)) (HasNoReport text.now default from.now to.now (words_of at.entry)) (F.breaks files.old) steps result
+        Ends (IsSimProduct text.now default from.now to.now (words_of at.entry) (words_of vcd.entry)) (HasNoReport text.now default from.now to.now (words_of at.entry)) (F.disk files.old).breaks steps result
         (streams (O.output out.old) (E.output err.old)) (streams (O.output out.new) (E.output err.new))) }
 {
     match sim(alloc, text, default, from, to, at, vcd) {
@@ -534,7 +534,7 @@ pub fn carry_out_worst<R: Threads + Wait + Sync, F: Files, O: Sink, E: Sink>(
     requires few { workers ≤ 64 }
     requires modest { budget ≤ 10000000 }
     ensures { Takes (F.did files.old files.new) (λ steps.
-        EndsBehind (TellsSearch progress text.now default words.entry) (IsWorstProduct text.now default words.entry budget path (words_of name.entry) (words_of vcd.entry)) (HasNoAnswer text.now default words.entry) (F.breaks files.old) steps result
+        EndsBehind (TellsSearch progress text.now default words.entry) (IsWorstProduct text.now default words.entry budget path (words_of name.entry) (words_of vcd.entry)) (HasNoAnswer text.now default words.entry) (F.disk files.old).breaks steps result
         (streams (O.output out.old) (E.output err.old)) (streams (O.output out.new) (E.output err.new))) }
 {
     match searched(

@@ -1,7 +1,6 @@
 use Rattle.std.proofs.Common.{◌++◌, [], map, Some}
 use Rattle.td_report.specs.declared.status.Status.TheVariants.{Done}
 use Rattle.td_report.specs.Vectors.{words_of}
-use Rattle.td_delivery.specs.Disks.{disk_of}
 use Rattle.td_cli.specs.JoinReports.{HasNoJoin}
 use Rattle.td_delivery.specs.Beside.{certificate_files}
 use Rattle.td_cli.specs.Requests.{IsJoinProduct}
@@ -13,25 +12,25 @@ use Rattle.td_cli.proofs.joining.carry_out_join.Goals as goal
 
 pub returns-in-Err : goal.returns-in-Err
 returns-in-Err g c =
-    let disk = disk_of (g.F.Files.holds c.args.files.now) (g.F.Files.fails c.args.files.now) (g.F.Files.breaks c.args.files.now) (g.F.Files.is_one c.args.files.now) in
+    let disk = g.F.Files.disk c.args.files.now in
     let names = map now_of c.args.names.now in (
       _,
       nothing_done g.F.Files.did g.met.F.Files.did_nothing _ _ c.join_files.ensures.stays,
       refused (IsJoinProduct disk c.args.text.now c.args.default names c.args.is_checked (words_of c.args.first) (words_of c.args.second) (words_of c.args.name))
-          (HasNoJoin disk c.args.text.now c.args.default names c.args.is_checked (words_of c.args.first) (words_of c.args.second)) (g.F.Files.breaks c.args.files.now)
+          (HasNoJoin disk c.args.text.now c.args.default names c.args.is_checked (words_of c.args.first) (words_of c.args.second)) (g.F.Files.disk c.args.files.now).breaks
           c.in-Err.refusal _ _ _ _ c.in-Err.ensures.refusal c.tell_refusal.ensures,
     )
 
 pub returns-in-Ok : goal.returns-in-Ok
 returns-in-Ok g c =
-    let disk = disk_of (g.F.Files.holds c.args.files.now) (g.F.Files.fails c.args.files.now) (g.F.Files.breaks c.args.files.now) (g.F.Files.is_one c.args.files.now) in
+    let disk = g.F.Files.disk c.args.files.now in
     let names = map now_of c.args.names.now in
     let taken = rw c.join_files.ensures.stays at c.hand_over.ensures in (
       taken.0,
       taken.1,
-      lifted (IsHandedOver c.in-Ok.joined.report (certificate_files (words_of c.args.name) (Some c.in-Ok.joined.whole) ++ []) Done) (λ _. ⊥) (g.F.Files.breaks c.args.files.now)
+      lifted (IsHandedOver c.in-Ok.joined.report (certificate_files (words_of c.args.name) (Some c.in-Ok.joined.whole) ++ []) Done) (λ _. ⊥) (g.F.Files.disk c.args.files.now).breaks
           (IsJoinProduct disk c.args.text.now c.args.default names c.args.is_checked (words_of c.args.first) (words_of c.args.second) (words_of c.args.name))
-          (HasNoJoin disk c.args.text.now c.args.default names c.args.is_checked (words_of c.args.first) (words_of c.args.second)) (g.F.Files.breaks c.args.files.now)
+          (HasNoJoin disk c.args.text.now c.args.default names c.args.is_checked (words_of c.args.first) (words_of c.args.second)) (g.F.Files.disk c.args.files.now).breaks
           (join_said disk c.args.text.now c.args.default names c.args.is_checked (words_of c.args.first) (words_of c.args.second) (words_of c.args.name)
           c.in-Ok.joined.report c.in-Ok.joined.whole c.in-Ok.ensures.report)
           (λ reason wrong. absurd wrong) (λ name may. may) taken.0 _ _ _ taken.2,

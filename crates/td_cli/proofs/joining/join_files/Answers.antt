@@ -1,7 +1,6 @@
 use Rattle.std.proofs.Common.{map, refl, inl, inr}
 use Rattle.std.proofs.lemmas.Result.{err_from_is_err_and}
 use Rattle.td_report.specs.Vectors.{words_of}
-use Rattle.td_delivery.specs.Disks.{disk_of}
 use Rattle.td_cli.specs.JoinReports.{pin_words, whole_pins}
 use Rattle.td_report.proofs.Refusing.{bad_word}
 use Rattle.td_delivery.proofs.Words.{now_of}
@@ -24,7 +23,7 @@ returns-in_err-parts-clause-refusal g c =
 
 pub returns-in_err-whole-clause-refusal : goal.returns-in_err-whole-clause-refusal
 returns-in_err-whole-clause-refusal g c =
-    let disk = disk_of (g.F.Files.holds c.args.files.now) (g.F.Files.fails c.args.files.now) (g.F.Files.breaks c.args.files.now) (g.F.Files.is_one c.args.files.now) in
+    let disk = g.F.Files.disk c.args.files.now in
     let reported = err_from_is_err_and c.from_residual-in_err-whole.result c.from_residual-in_err-whole.ensures.1 in
     rw (reported.1, reported.2) (λ other. inr (inr (record {
       netlist = c.in_ok-circuit.circuit.netlist;
@@ -43,13 +42,13 @@ returns-in_err-report-clause-refusal g c =
 
 pub returns-clause-spelled : goal.returns-clause-spelled
 returns-clause-spelled g c =
-    let disk = disk_of (g.F.Files.holds c.args.files.now) (g.F.Files.fails c.args.files.now) (g.F.Files.breaks c.args.files.now) (g.F.Files.is_one c.args.files.now) in
+    let disk = g.F.Files.disk c.args.files.now in
     c.in_ok-whole.ensures.spelled (parts_spelled disk c.args.text.now c.args.default c.in_ok-circuit.circuit.netlist c.args.is_checked (map now_of c.args.names.now)
     c.in_ok-parts.parts.items c.in_ok-parts.ensures.parts)
 
 pub returns-clause-report : goal.returns-clause-report
 returns-clause-report g c =
-    let disk = disk_of (g.F.Files.holds c.args.files.now) (g.F.Files.fails c.args.files.now) (g.F.Files.breaks c.args.files.now) (g.F.Files.is_one c.args.files.now) in
+    let disk = g.F.Files.disk c.args.files.now in
     record {
       netlist = c.in_ok-circuit.circuit.netlist;
       parts = c.in_ok-parts.parts.items;

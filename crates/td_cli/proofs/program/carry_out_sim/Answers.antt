@@ -13,7 +13,7 @@ pub returns-in-Err : goal.returns-in-Err
 returns-in-Err g c = (
   _,
   nothing_done g.F.Files.did g.met.F.Files.did_nothing _ _ refl,
-  refused (IsSimProduct c.args.text.now c.args.default c.args.from.now c.args.to.now (words_of c.args.at) (words_of c.args.vcd)) (HasNoReport c.args.text.now c.args.default c.args.from.now c.args.to.now (words_of c.args.at)) (g.F.Files.breaks c.args.files.now) c.in-Err.refusal _ _ _ _ (λ _. c.in-Err.ensures.refusal) c.tell_refusal.ensures,
+  refused (IsSimProduct c.args.text.now c.args.default c.args.from.now c.args.to.now (words_of c.args.at) (words_of c.args.vcd)) (HasNoReport c.args.text.now c.args.default c.args.from.now c.args.to.now (words_of c.args.at)) (g.F.Files.disk c.args.files.now).breaks c.in-Err.refusal _ _ _ _ (λ _. c.in-Err.ensures.refusal) c.tell_refusal.ensures,
 )
 
 pub returns-in-Ok : goal.returns-in-Ok
@@ -21,8 +21,8 @@ returns-in-Ok g c =
     let taken = c.hand_over.ensures in (
       taken.0,
       taken.1,
-      lifted (IsHandedOver c.in-Ok.simulated.report (dump_files c.in-Ok.simulated.dump) Done) (λ _. ⊥) (g.F.Files.breaks c.args.files.now)
-          (IsSimProduct c.args.text.now c.args.default c.args.from.now c.args.to.now (words_of c.args.at) (words_of c.args.vcd)) (HasNoReport c.args.text.now c.args.default c.args.from.now c.args.to.now (words_of c.args.at)) (g.F.Files.breaks c.args.files.now)
+      lifted (IsHandedOver c.in-Ok.simulated.report (dump_files c.in-Ok.simulated.dump) Done) (λ _. ⊥) (g.F.Files.disk c.args.files.now).breaks
+          (IsSimProduct c.args.text.now c.args.default c.args.from.now c.args.to.now (words_of c.args.at) (words_of c.args.vcd)) (HasNoReport c.args.text.now c.args.default c.args.from.now c.args.to.now (words_of c.args.at)) (g.F.Files.disk c.args.files.now).breaks
           (sim_said c.args.text.now c.args.default c.args.from.now c.args.to.now (words_of c.args.at) (words_of c.args.vcd) c.in-Ok.simulated.report
           (dump_files c.in-Ok.simulated.dump) c.in-Ok.ensures.report)
           (λ reason wrong. absurd wrong) (λ name may. may) taken.0 _ _ _ taken.2,

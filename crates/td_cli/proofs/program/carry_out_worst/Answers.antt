@@ -14,7 +14,7 @@ pub returns-in-Err : goal.returns-in-Err
 returns-in-Err g c = (
   _,
   nothing_done g.F.Files.did g.met.F.Files.did_nothing _ _ refl,
-  behind _ _ _ _ _ _ _ _ _ c.searched.ensures.reported (refused (IsWorstProduct c.args.text.now c.args.default c.args.words c.args.budget c.args.path (words_of c.args.name) (words_of c.args.vcd)) (HasNoAnswer c.args.text.now c.args.default c.args.words) (g.F.Files.breaks c.args.files.now) c.in-Err.refusal _ _ _ _ (λ _. c.in-Err.ensures.refusal) c.tell_refusal.ensures),
+  behind _ _ _ _ _ _ _ _ _ c.searched.ensures.reported (refused (IsWorstProduct c.args.text.now c.args.default c.args.words c.args.budget c.args.path (words_of c.args.name) (words_of c.args.vcd)) (HasNoAnswer c.args.text.now c.args.default c.args.words) (g.F.Files.disk c.args.files.now).breaks c.in-Err.refusal _ _ _ _ (λ _. c.in-Err.ensures.refusal) c.tell_refusal.ensures),
 )
 
 pub returns-in-Ok : goal.returns-in-Ok
@@ -24,8 +24,8 @@ returns-in-Ok g c =
       taken.1,
       behind _ _ _ _ _ _ _ _ _ c.searched.ensures.reported
           (lifted (IsHandedOver c.in-Ok.found.report (certificate_files (words_of c.args.name) c.in-Ok.found.certificate ++ dump_files c.in-Ok.found.dump) c.ending.result)
-          (λ _. ⊥) (g.F.Files.breaks c.args.files.now)
-          (IsWorstProduct c.args.text.now c.args.default c.args.words c.args.budget c.args.path (words_of c.args.name) (words_of c.args.vcd)) (HasNoAnswer c.args.text.now c.args.default c.args.words) (g.F.Files.breaks c.args.files.now)
+          (λ _. ⊥) (g.F.Files.disk c.args.files.now).breaks
+          (IsWorstProduct c.args.text.now c.args.default c.args.words c.args.budget c.args.path (words_of c.args.name) (words_of c.args.vcd)) (HasNoAnswer c.args.text.now c.args.default c.args.words) (g.F.Files.disk c.args.files.now).breaks
           (worst_said c.args.text.now c.args.default c.args.words c.args.budget c.args.path (words_of c.args.name) (words_of c.args.vcd) c.in-Ok.found.report
           c.in-Ok.found.certificate (dump_files c.in-Ok.found.dump) c.in-Ok.ensures.report c.ending.result c.ending.ensures)
           (λ reason wrong. absurd wrong) (λ name may. may) taken.0 _ _ _ taken.2),

@@ -1,17 +1,16 @@
 use Rattle.std.proofs.Common.{subst, sym}
 use Rattle.td_report.specs.Outcomes.{HasNoVerdict}
-use Rattle.td_delivery.specs.Disks.{disk_of}
 use Rattle.td_cli.specs.Requests.{IsCheckProduct}
 use Rattle.td_cli.proofs.Programs.{on_file, not_read}
 use Rattle.td_cli.proofs.program.check_file.Goals as goal
 
 pub returns-in-Ok-clause-ends : goal.returns-in-Ok-clause-ends
 returns-in-Ok-clause-ends g c =
-    on_file (disk_of (g.F.Files.holds c.args.files.now) (g.F.Files.fails c.args.files.now) (g.F.Files.breaks c.args.files.now) (g.F.Files.is_one c.args.files.now)) c.args.name.now c.deref.result.now
-    (subst (λ bytes. g.F.Files.holds c.args.files.now c.args.name.now bytes) (sym c.deref.ensures.value) c.in-Ok.ensures.bytes)
+    on_file (g.F.Files.disk c.args.files.now) c.args.name.now c.deref.result.now
+    (subst (λ bytes. (g.F.Files.disk c.args.files.now).holds c.args.name.now bytes) (sym c.deref.ensures.value) c.in-Ok.ensures.bytes)
     (IsCheckProduct c.args.text.now c.args.default) (HasNoVerdict c.args.text.now c.args.default) (λ _. ⊥) (λ _. ⊥) (λ name none. none) _ _ _ _
     c.carry_out_check.ensures
 
 pub returns-in-Err-clause-ends : goal.returns-in-Err-clause-ends
 returns-in-Err-clause-ends g c =
-    not_read (disk_of (g.F.Files.holds c.args.files.now) (g.F.Files.fails c.args.files.now) (g.F.Files.breaks c.args.files.now) (g.F.Files.is_one c.args.files.now)) c.args.name _ _ _ c.in-Err.fault _ _ _ _ c.in-Err.ensures.fault c.tell_unread.ensures
+    not_read (g.F.Files.disk c.args.files.now) c.args.name _ _ _ c.in-Err.fault _ _ _ _ c.in-Err.ensures.fault c.tell_unread.ensures

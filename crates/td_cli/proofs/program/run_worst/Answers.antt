@@ -1,5 +1,4 @@
 use Rattle.std.proofs.Common.{sym, subst, inl}
-use Rattle.td_delivery.specs.Disks.{disk_of}
 use Rattle.td_delivery.proofs.Endings.{nothing_done}
 use Rattle.td_cli.proofs.Programs.{search_not_read, search_on_file}
 use Rattle.td_cli.proofs.program.run_worst.Goals as goal
@@ -8,10 +7,10 @@ pub returns-in-Err : goal.returns-in-Err
 returns-in-Err g c = (
   _,
   nothing_done g.F.Files.did g.met.F.Files.did_nothing _ _ c.read.ensures.stays,
-  inl (search_not_read (disk_of (g.F.Files.holds c.args.files.now) (g.F.Files.fails c.args.files.now) (g.F.Files.breaks c.args.files.now) (g.F.Files.is_one c.args.files.now)) c.args.request.now.file _ c.in-Err.fault _ _ _ _ c.in-Err.ensures.fault c.tell_unread.ensures),
+  inl (search_not_read (g.F.Files.disk c.args.files.now) c.args.request.now.file _ c.in-Err.fault _ _ _ _ c.in-Err.ensures.fault c.tell_unread.ensures),
 )
 
 pub returns-in-Ok : goal.returns-in-Ok
 returns-in-Ok g c =
-    search_on_file (g.F.Files.did c.args.files.now c.carry_out_worst.new.files) (disk_of (g.F.Files.holds c.args.files.now) (g.F.Files.fails c.args.files.now) (g.F.Files.breaks c.args.files.now) (g.F.Files.is_one c.args.files.now)) c.args.request.now c.deref.result.now (subst (λ bytes. g.F.Files.holds c.args.files.now c.args.request.now.file.now bytes) (sym c.deref.ensures.value) c.in-Ok.ensures.bytes)
+    search_on_file (g.F.Files.did c.args.files.now c.carry_out_worst.new.files) (g.F.Files.disk c.args.files.now) c.args.request.now c.deref.result.now (subst (λ bytes. (g.F.Files.disk c.args.files.now).holds c.args.request.now.file.now bytes) (sym c.deref.ensures.value) c.in-Ok.ensures.bytes)
     _ _ _ (rw (c.read.ensures.stays, c.in-Some.ensures.delay, c.words_in.ensures, c.from-budget.ensures) at c.carry_out_worst.ensures)
