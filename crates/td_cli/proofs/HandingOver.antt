@@ -7,7 +7,7 @@ use Rattle.td_report.specs.declared.status.Status.TheVariants.{Done}
 use Rattle.td_files.specs.Files.{FileText}
 use Rattle.td_report.specs.Ends.{Product}
 use Rattle.td_report.specs.Reports.{IsSimReport}
-use Rattle.td_cli.specs.declared.asking.QuestionWords.{QuestionWords}
+use Rattle.td_command.specs.declared.command.QuestionWords.{QuestionWords}
 use Rattle.td_files.specs.Disks.{Disk}
 use Rattle.td_cli.specs.WorstReports.{IsWorstReport}
 use Rattle.td_cli.specs.JoinReports.{IsJoinReport}

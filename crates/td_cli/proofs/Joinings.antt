@@ -22,7 +22,7 @@ use Rattle.td_files.specs.Disks.{Disk}
 use Rattle.td_delivery.specs.Disks.{HoldsOnFile}
 use Rattle.td_cli.specs.Outcomes.{HasNoAnswer}
 use Rattle.td_report.specs.Outcomes.{IsCircuitOf}
-use Rattle.td_cli.specs.declared.asking.QuestionWords.{QuestionWords}
+use Rattle.td_command.specs.declared.command.QuestionWords.{QuestionWords}
 use Rattle.td_cli.specs.WorstReports.{IsAsked}
 use Rattle.td_search.specs.Problems.{Problem}
 use Rattle.td_join.specs.Partition.{IsPartition}

@@ -22,7 +22,7 @@ use Rattle.td_worst.proofs.Outcomes.{outcome_by}
 use Rattle.td_search.specs.Problems.{Problem, problem_by, has_delay}
 use Rattle.td_search.specs.Answers.{IsSearchFault}
 use Rattle.td_search.specs.Written.{CanBeWritten}
-use Rattle.td_cli.specs.declared.asking.QuestionWords.{QuestionWords}
+use Rattle.td_command.specs.declared.command.QuestionWords.{QuestionWords}
 use Rattle.td_report.specs.declared.vector.VectorWord.{VectorWord}
 use Rattle.td_report.specs.declared.vector.VectorWord.TheVariants.{At}
 use Rattle.td_report.specs.Vectors.{words_of, VectorWords, IsFirstBad, AreMomentsOf, GivesMoments}

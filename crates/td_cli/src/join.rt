@@ -1,13 +1,11 @@
 //! The command `join`: certificates of the parts of a question, joined into one.
 
 ghost use Rattle.std.specs.Prelude.{◌≡◌, ◌≢◌, ◌<◌, ◌≤◌, length, map, All, IfOk, IfErr, Some};
-ghost use Rattle.td_gates.specs.Delays.{IsInRange};
 ghost use Rattle.td_nets.specs.Netlist.{Netlist};
 ghost use Rattle.td_certificate.specs.Accepts.{Accepts};
 ghost use Rattle.td_certificate.specs.Spelling.{HasSpelling};
 ghost use Rattle.td_join.specs.Joining.{IsJoined};
 ghost use Rattle.td_join.specs.Faults.{IsJoinFault};
-ghost use Rattle.td_command.specs.CommandLine.{delays};
 ghost use Rattle.td_report.specs.Ends.{Ends, streams};
 ghost use Rattle.td_files.specs.Files.{Takes};
 ghost use Rattle.td_report.specs.Vectors.{words_of, IsFirstBad};
@@ -19,16 +17,15 @@ ghost use Rattle.td_cli.specs.Requests.{IsJoinProduct, RequestRuns};
 ghost use Rattle.td_report.specs.declared.refusal.Refusal.TheVariants as Reason;
 ghost use Rattle.td_command.specs.declared.command.Request.TheVariants as Asked;
 
+use crate::answer::exact_answer;
 use crate::gathering::parts_in;
-use crate::searching::exact_answer;
 use std::alloc::{AllocError, Global};
 use td_certificate::Certificate;
 use td_circuit::Circuit;
-use td_command::JoinRequest;
+use td_command::{JoinRequest, MOST_NODES};
 use td_delivery::telling::{hand_over, tell_refusal, tell_unread};
 use td_domain::{Cube, Trit};
 use td_files::Files;
-use td_gates::Delay;
 use td_join::{JoinFault, join, join_in};
 use td_report::hindrance::{first_place, name_at, second_place};
 use td_report::refusal::Refusal;
@@ -38,9 +35,6 @@ use td_report::status::Status;
 use td_report::text::Text;
 use td_report::vector::{VectorWord, given};
 use td_text::Sink;
-
-/// The most nodes of a whole.
-const MOST_NODES: usize = 10_000_000;
 
 /// What parts were joined into, and its report.
 #[derive(Drop)]
@@ -119,7 +113,7 @@ fn whole_of<'a>(
         Ok(whole) => whole,
         Err(fault) => return Err(unjoined(fault, names)),
     };
-    if whole.tree.nodes().len() > MOST_NODES {
+    if whole.tree.nodes().len() > MOST_NODES as usize {
         return Err(Refusal::TooLong);
     }
     Ok(whole)
@@ -136,105 +130,80 @@ fn report_of(alloc: Global, circuit: &Circuit, whole: &Certificate) -> Result<Te
 }
 
 /// What the parts of a question about a text's netlist are joined into: the parts that the files of
-/// these names hold, each of them accepted where that is asked for. Two options give the pins of
-/// the whole; where both are left out they are the least that have the pins of all parts.
+/// a request hold, each of them accepted where that is asked for. Two options give the pins of the
+/// whole; where both are left out they are the least that have the pins of all parts.
 pub fn join_files<'a, F: Files>(
     alloc: Global,
     files: &mut F,
     text: &'a [u8],
-    default: Delay,
-    names: &[&'a str],
-    is_checked: bool,
-    first: Option<&str>,
-    second: Option<&str>,
+    request: &JoinRequest<'a>,
 ) -> Result<Joined, Refusal<'a>>
-    ensures report { IfOk result (λ joined. IsJoinReport (F.disk files.old) text.now default
-        (map (λ name. name.now) names.now) is_checked (words_of first.entry) (words_of second.entry) joined.report joined.whole) }
-    ensures refusal { IfErr result (λ reason. reason ≢ Reason.OutOfMemory
-        → HasNoJoin (F.disk files.old) text.now default
-        (map (λ name. name.now) names.now) is_checked (words_of first.entry) (words_of second.entry) reason) }
+    ensures report { IfOk result (λ joined. IsJoinReport (F.disk files.old) text.now request.now joined.report joined.whole) }
+    ensures refusal { IfErr result (λ reason. reason ≢ Reason.OutOfMemory → HasNoJoin (F.disk files.old) text.now request.now reason) }
     ensures spelled { IfOk result (λ joined. HasSpelling joined.whole) }
     ensures stays { files.new ≡ files.old }
 {
-    let circuit = circuit(alloc, text, default)?;
-    let pins = match pins_given(alloc, first, second, circuit.input_count())? {
+    let circuit = circuit(alloc, text, request.default)?;
+    let inputs = circuit.input_count();
+    let pins = match pins_given(alloc, request.first, request.second, inputs)? {
         Ok(pins) => pins,
         Err(word) => return Err(Refusal::BadVector(word)),
     };
-    let parts = parts_in(alloc, files, text, default, &circuit, is_checked, names)?;
+    let names = request.certificates.as_slice();
+    let parts = parts_in(
+        alloc,
+        files,
+        text,
+        request.default,
+        &circuit,
+        request.check,
+        names,
+    )?;
     let whole = whole_of(alloc, parts, &pins, names)?;
     let report = report_of(alloc, &circuit, &whole)?;
     Ok(Joined { report, whole })
 }
 
-/// The command `join`.
-pub fn run_join<F: Files, O: Sink, E: Sink>(
+/// Carries out `join`.
+pub fn run<F: Files, O: Sink, E: Sink>(
     alloc: Global,
     files: &mut F,
     request: &JoinRequest<'_>,
     out: &mut O,
     err: &mut E,
 ) -> Status
-    requires { IsInRange (delays request.now.rise request.now.fall) }
     ensures { Takes (F.did files.old files.new) (λ steps. RequestRuns (F.disk files.old) (Asked.Join request.now) steps result
         (streams (O.output out.old) (E.output err.old)) (streams (O.output out.new) (E.output err.new))) }
 {
-    let Some(default) = Delay::new(request.rise, request.fall) else {
-        return Status::BadCommand;
-    };
     match files.read(alloc, request.file) {
-        Ok(text) => carry_out_join(
-            alloc,
-            files,
-            &text,
-            default,
-            request.certificates.as_slice(),
-            request.check,
-            request.first,
-            request.second,
-            request.certificate,
-            out,
-            err,
-        ),
+        Ok(text) => run_on(alloc, files, &text, request, out, err),
         Err(fault) => tell_unread(alloc, err, request.file, fault),
     }
 }
 
 /// Carries out `join` on a netlist's bytes that were read: the report goes to `out`, unless the
-/// certificate does, and then the certificate to the file of the name `name`; why there is none
-/// goes to `err`.
-pub fn carry_out_join<F: Files, O: Sink, E: Sink>(
+/// certificate does, and the certificate to its file; why there is none goes to `err`.
+pub fn run_on<F: Files, O: Sink, E: Sink>(
     alloc: Global,
     files: &mut F,
     text: &[u8],
-    default: Delay,
-    names: &[&str],
-    is_checked: bool,
-    first: Option<&str>,
-    second: Option<&str>,
-    name: Option<&str>,
+    request: &JoinRequest<'_>,
     out: &mut O,
     err: &mut E,
 ) -> Status
     ensures { Takes (F.did files.old files.new) (λ steps.
-        Ends (IsJoinProduct (F.disk files.old) text.now default
-        (map (λ part. part.now) names.now) is_checked (words_of first.entry) (words_of second.entry) (words_of name.entry))
-        (HasNoJoin (F.disk files.old) text.now default
-        (map (λ part. part.now) names.now) is_checked (words_of first.entry) (words_of second.entry)) (F.disk files.old).breaks steps result
+        Ends (IsJoinProduct (F.disk files.old) text.now request.now) (HasNoJoin (F.disk files.old) text.now request.now) (F.disk files.old).breaks steps result
         (streams (O.output out.old) (E.output err.old)) (streams (O.output out.new) (E.output err.new))) }
 {
-    match join_files(
-        alloc, files, text, default, names, is_checked, first, second,
-    ) {
+    match join_files(alloc, files, text, request) {
         Ok(joined) => {
             let Joined { report, whole } = joined;
-            let certificate = Some(whole);
             hand_over(
                 alloc,
                 files,
                 &report,
-                name,
-                &certificate,
+                request.certificate,
+                &Some(whole),
                 &None,
                 Status::Done,
                 out,

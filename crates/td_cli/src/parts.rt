@@ -2,22 +2,18 @@
 
 ghost use Rattle.std.specs.Prelude.{◌≡◌, ◌<◌, ◌⊎◌, ◌++◌, [], length, IfOk, IfErr, OnOk};
 ghost use Rattle.std.specs.List.{flat_map};
-ghost use Rattle.td_gates.specs.Delays.{IsInRange};
-ghost use Rattle.td_command.specs.CommandLine.{delays};
 ghost use Rattle.td_report.specs.Ends.{Ends, streams};
 ghost use Rattle.td_files.specs.Files.{Takes};
 ghost use Rattle.td_report.specs.Vectors.{words_of};
 ghost use Rattle.td_cli.specs.Outcomes.{HasNoAnswer};
 ghost use Rattle.td_cli.specs.PartReports.{option_text, flips_text, default_text, part_options, part_line, IsPartsReport};
-ghost use Rattle.td_cli.specs.Requests.{parts_words, IsPartsProduct, RequestRuns};
+ghost use Rattle.td_cli.specs.Requests.{IsPartsProduct, RequestRuns};
 ghost use Rattle.td_report.specs.declared.refusal.Refusal.TheVariants as Reason;
 ghost use Rattle.td_command.specs.declared.command.Request.TheVariants as Asked;
 
-use crate::asking::QuestionWords;
-use crate::program::strategy_of;
-use crate::searching::question_of;
+use crate::question::{question_of, strategy_of};
 use std::alloc::{AllocError, Global};
-use td_command::PartsRequest;
+use td_command::{PartsRequest, QuestionWords};
 use td_delivery::telling::{say, tell_refusal, tell_unread};
 use td_domain::Cube;
 use td_files::Files;
@@ -31,26 +27,24 @@ use td_search::Problem;
 use td_text::Sink;
 
 /// The report of the parts of what the words ask: a line for each part, with the options by which
-/// `worst` searches it. It has at most `parts` lines, at least 1.
+/// `worst` searches it. It has at most as many lines as parts are asked for, at least 1.
 pub fn parts<'a>(
     alloc: Global,
     text: &'a [u8],
-    default: Delay,
-    words: QuestionWords<'_>,
-    parts: u32,
+    request: &PartsRequest<'_>,
 ) -> Result<Text, Refusal<'a>>
-    requires { 0 < parts }
-    ensures report { IfOk result (IsPartsReport text.now default words.entry parts) }
-    ensures refusal { IfErr result (HasNoAnswer text.now default words.entry) }
+    requires { 0 < request.now.parts }
+    ensures report { IfOk result (IsPartsReport text.now request.now) }
+    ensures refusal { IfErr result (HasNoAnswer text.now request.now.default request.now.question) }
 {
-    let asked = question_of(alloc, text, default, words)?;
+    let asked = question_of(alloc, text, request.default, request.question)?;
     let problem = Problem {
         circuit: &asked.circuit,
         admit: &asked.admit,
-        strategy: words.strategy.strategy(),
+        strategy: strategy_of(request.question.strategy).strategy(),
     };
-    let cubes = cut(alloc, &problem, parts as usize)?;
-    some_lines(alloc, &cubes, default, words)
+    let cubes = cut(alloc, &problem, request.parts as usize)?;
+    some_lines(alloc, &cubes, request.default, request.question)
 }
 
 /// A line for each part, of which there has to be one.
@@ -141,66 +135,38 @@ fn push_default(text: &mut Text, name: &[u8], steps: u32) -> Result<(), AllocErr
     text.number_behind(name, u64::from(steps))
 }
 
-/// The command `parts`.
-pub fn run_parts<F: Files, O: Sink, E: Sink>(
+/// Carries out `parts`.
+pub fn run<F: Files, O: Sink, E: Sink>(
     alloc: Global,
     files: &mut F,
     request: &PartsRequest<'_>,
     out: &mut O,
     err: &mut E,
 ) -> Status
-    requires range { IsInRange (delays request.now.rise request.now.fall) }
-    requires some { 0 < request.now.parts }
+    requires { 0 < request.now.parts }
     ensures { Takes (F.did files.old files.new) (λ steps. RequestRuns (F.disk files.old) (Asked.Parts request.now) steps result
         (streams (O.output out.old) (E.output err.old)) (streams (O.output out.new) (E.output err.new))) }
 {
-    let Some(default) = Delay::new(request.rise, request.fall) else {
-        return Status::BadCommand;
-    };
     match files.read(alloc, request.file) {
-        Ok(text) => carry_out_parts(
-            alloc,
-            &text,
-            default,
-            words_in(request),
-            request.parts,
-            out,
-            err,
-        ),
+        Ok(text) => run_on(alloc, &text, request, out, err),
         Err(fault) => tell_unread(alloc, err, request.file, fault),
-    }
-}
-
-/// The words of a request that say what is asked, and by which strategy its searches go.
-fn words_in<'a>(request: &PartsRequest<'a>) -> QuestionWords<'a>
-    ensures { result ≡ parts_words request.now }
-{
-    QuestionWords {
-        first: request.first,
-        second: request.second,
-        hold: request.hold,
-        flips: request.flips,
-        at: request.at,
-        strategy: strategy_of(request.strategy),
     }
 }
 
 /// Carries out `parts` on bytes that were read, with at least 1 part: the report goes to `out`, why
 /// there is none to `err`.
-pub fn carry_out_parts<O: Sink, E: Sink>(
+pub fn run_on<O: Sink, E: Sink>(
     alloc: Global,
     text: &[u8],
-    default: Delay,
-    words: QuestionWords<'_>,
-    count: u32,
+    request: &PartsRequest<'_>,
     out: &mut O,
     err: &mut E,
 ) -> Status
-    requires { 0 < count }
-    ensures { Ends (IsPartsProduct text.now default words.entry count) (HasNoAnswer text.now default words.entry) (λ _. ⊥) [] result
+    requires { 0 < request.now.parts }
+    ensures { Ends (IsPartsProduct text.now request.now) (HasNoAnswer text.now request.now.default request.now.question) (λ _. ⊥) [] result
         (streams (O.output out.old) (E.output err.old)) (streams (O.output out.new) (E.output err.new)) }
 {
-    match parts(alloc, text, default, words, count) {
+    match parts(alloc, text, request) {
         Ok(report) => say(report.bytes(), Status::Done, out, err),
         Err(refusal) => tell_refusal(alloc, err, &refusal),
     }

@@ -1,8 +1,6 @@
-//! The command `info` on files.
+//! The command `info`: what is in a netlist.
 
 ghost use Rattle.std.specs.Prelude.{[]};
-ghost use Rattle.td_gates.specs.Delays.{IsInRange};
-ghost use Rattle.td_command.specs.CommandLine.{delays};
 ghost use Rattle.td_report.specs.Ends.{Ends, streams};
 ghost use Rattle.td_files.specs.Files.{Takes};
 ghost use Rattle.td_report.specs.Outcomes.{HasNoCircuit};
@@ -18,30 +16,26 @@ use td_report::describing::info;
 use td_report::status::Status;
 use td_text::Sink;
 
-/// The command `info`.
-pub fn run_info<F: Files, O: Sink, E: Sink>(
+/// Carries out `info`.
+pub fn run<F: Files, O: Sink, E: Sink>(
     alloc: Global,
     files: &mut F,
     request: &InfoRequest<'_>,
     out: &mut O,
     err: &mut E,
 ) -> Status
-    requires { IsInRange (delays request.now.rise request.now.fall) }
     ensures { Takes (F.did files.old files.new) (λ steps. RequestRuns (F.disk files.old) (Asked.Info request.now) steps result
         (streams (O.output out.old) (E.output err.old)) (streams (O.output out.new) (E.output err.new))) }
 {
-    let Some(default) = Delay::new(request.rise, request.fall) else {
-        return Status::BadCommand;
-    };
     match files.read(alloc, request.file) {
-        Ok(text) => carry_out_info(alloc, &text, default, out, err),
+        Ok(text) => run_on(alloc, &text, request.default, out, err),
         Err(fault) => tell_unread(alloc, err, request.file, fault),
     }
 }
 
 /// Carries out `info` on bytes that were read: the report goes to `out`, why there is none to
 /// `err`.
-pub fn carry_out_info<O: Sink, E: Sink>(
+pub fn run_on<O: Sink, E: Sink>(
     alloc: Global,
     text: &[u8],
     default: Delay,

@@ -1,8 +1,7 @@
-//! The command `worst`: the search for the worst delay.
+//! What there is to show and to keep of the answer of a search.
 
-ghost use Rattle.std.specs.Prelude.{◌≡◌, ◌<◌, ◌≤◌, ◌^◌, ◌⊎◌, ◌++◌, ℕ, List, length, IfOk, IfErr, IfSome, OnOk};
-ghost use Rattle.td_search.specs.Problems.{Problem as Given, problem_by};
-ghost use Rattle.td_certificate.specs.Spelling.{HasSpelling};
+ghost use Rattle.std.specs.Prelude.{◌≡◌, ◌≤◌, ◌++◌, length, IfOk, IfSome, OnOk};
+ghost use Rattle.td_search.specs.Problems.{problem_by};
 ghost use Rattle.td_certificate.specs.Text.{bits};
 ghost use Rattle.td_circuit.specs.Numbering.{setting};
 ghost use Rattle.td_report.specs.Dumps.{dump_files, HasRun};
@@ -10,29 +9,19 @@ ghost use Rattle.td_report.specs.Chains.{AddsChain};
 ghost use Rattle.td_report.specs.PairReports.{IsDumpOf};
 ghost use Rattle.td_report.specs.Vectors.{words_of};
 ghost use Rattle.td_cli.specs.WorstReports.{exact_line, between_line, cause_line, pair_lines};
-ghost use Rattle.td_cli.specs.WorstReports.{answer_lines, worst_text, certificate_in, pair_in, IsAsked, IsWorstReport};
-ghost use Rattle.td_worst.specs.Methods.{tree_of};
-ghost use Rattle.td_cli.specs.Outcomes.{unanswered, question_words, HasNoAnswer};
-ghost use Rattle.td_report.specs.Outcomes.{IsCircuitOf, HasBadWord, IsRefusedFor};
-ghost use Rattle.td_gates.specs.declared.timing.Delay.{Delay as Default};
+ghost use Rattle.td_cli.specs.WorstReports.{answer_lines, worst_text, certificate_in, pair_in};
+ghost use Rattle.td_cli.specs.Outcomes.{unanswered};
 
-use crate::asking::{QuestionWords, admit};
+use crate::question::Asked;
 use std::alloc::{AllocError, Global};
-use std::sync::Wait;
-use std::thread::Threads;
 use td_certificate::{Certificate, Question, Tree};
 use td_circuit::Circuit;
 use td_domain::{Admit, Pair};
-use td_gates::Delay;
-use td_pool::{Effort, Watch};
 use td_report::chaining::with_chain;
 use td_report::dumping::{Dump, pair_dump};
 use td_report::refusal::Refusal;
 use td_report::report;
-use td_report::simulate::circuit;
 use td_report::text::Text;
-use td_report::timing::moments;
-use td_report::vector::VectorWord;
 use td_search::{Answer, Cause, SearchFault, Strategy, certificate_of};
 
 /// The report of a search, the certificate of an exact answer, and the waves of the given pair's
@@ -44,130 +33,27 @@ pub struct Found<'v> {
     pub dump: Option<Dump<'v>>,
 }
 
-/// What is asked: a circuit with its moments, and which pairs of its inputs are admitted.
-#[derive(Drop)]
-pub struct Asked {
-    pub circuit: Circuit,
-    pub admit: Admit,
-}
-
-/// What the words ask of a text.
-pub fn question_of<'a>(
+/// What there is to show and to keep of an answer to what is asked.
+pub fn found_of<'v>(
     alloc: Global,
-    text: &'a [u8],
-    default: Delay,
-    words: QuestionWords<'_>,
-) -> Result<Asked, Refusal<'a>>
-    ensures asked { IfOk result (λ asked. IsAsked text.now default words.entry (problem_by (tree_of words.entry.strategy) asked.circuit asked.admit)) }
-    ensures refusal { IfErr result (IsRefusedFor text.now default (question_words words.entry)) }
-{
-    let mut circuit = circuit(alloc, text, default)?;
-    let admit = match admit_in(alloc, &mut circuit, words)? {
-        Ok(admit) => admit,
-        Err(word) => return Err(Refusal::BadVector(word)),
-    };
-    Ok(Asked { circuit, admit })
-}
-
-/// Gives a circuit the moments of the words, and tells which pairs of its inputs they admit; or the
-/// first word that gives nothing for its inputs.
-fn admit_in(
-    alloc: Global,
-    circuit: &mut Circuit,
-    words: QuestionWords<'_>,
-) -> Result<Result<Admit, VectorWord>, AllocError>
-    requires { length circuit.old.netlist.inputs < 2 ^ 32 }
-    ensures asked { IfOk result (λ reported. IfOk reported (λ admit. (text : List ℕ) (default : Default) → IsCircuitOf text default circuit.old
-        → IsAsked text default words.entry (problem_by (tree_of words.entry.strategy) circuit.new admit))) }
-    ensures bad { IfOk result (λ reported. IfErr reported (λ word. (text : List ℕ) (default : Default) → IsCircuitOf text default circuit.old
-        → HasBadWord text default (question_words words.entry) word)) }
-{
-    let inputs = circuit.input_count();
-    let admit = match admit(alloc, words, inputs)? {
-        Ok(admit) => admit,
-        Err(word) => return Ok(Err(word)),
-    };
-    let Some(moments) = moments(alloc, words.at, inputs)? else {
-        return Ok(Err(VectorWord::At));
-    };
-    circuit.set_moments(moments);
-    Ok(Ok(admit))
-}
-
-/// The report of the search for the worst delay of what the words ask. There are 1 to 64 workers,
-/// and they handle at most `budget` nodes. The budget is at most 10,000,000. Where the changes that
-/// lead to the last change of the given pair's run are asked for, they stand after the report's
-/// other lines. Where a name is given for a file of waves, the waves of that run are given too. The
-/// watch gets the progress of the search.
-pub fn worst<'a, 'v, W: Watch, R: Threads + Wait + Sync>(
-    rt: &R,
-    alloc: Global,
-    text: &'a [u8],
-    default: Delay,
-    words: QuestionWords<'_>,
-    workers: u32,
-    budget: u64,
-    watch: &mut W,
-    path: bool,
-    vcd: Option<&'v str>,
-) -> Result<Found<'v>, Refusal<'a>>
-    requires some { 0 < workers }
-    requires few { workers ≤ 64 }
-    requires modest { budget ≤ 10000000 }
-    // The report and the certificate are those of an answer of the search, and the waves those of
-    // its pair's run.
-    ensures report { IfOk result (λ found.
-        IsWorstReport text.now default words.entry budget path (words_of vcd.entry) found.report found.certificate (dump_files found.dump)) }
-    ensures refusal { IfErr result (λ refusal. HasNoAnswer text.now default words.entry refusal) }
-    // A certificate has a text.
-    ensures spelled { IfOk result (λ found. IfSome found.certificate HasSpelling) }
-    ensures has { IfOk result (λ found. IfSome found.dump HasRun) }
-    // The progress that the watch got, if any, is true of what is asked.
-    ensures reported { (watch.new ≡ watch.old) ⊎ ((asked : Given) × IsAsked text.now default words.entry asked × W.reported asked watch.old watch.new) }
-{
-    let Asked { circuit, admit } = question_of(alloc, text, default, words)?;
-    let moments = Vec::from_slice(alloc, circuit.moments())?;
-    let effort = Effort { workers, budget };
-    let searched = td_worst::worst(rt, alloc, &circuit, &admit, words.strategy, effort, watch);
-    let answer = match searched {
-        Ok(answer) => answer,
-        Err(fault) => return Err(unanswered(fault)),
-    };
-    let found = found_of(
-        alloc,
-        circuit,
-        admit,
-        moments,
-        words.strategy.strategy(),
-        answer,
-        path,
-        vcd,
-    )?;
-    Ok(found)
-}
-
-/// What there is to show and to keep of an answer about a circuit with these moments.
-fn found_of<'v>(
-    alloc: Global,
-    circuit: Circuit,
-    admit: Admit,
-    moments: Vec<u64>,
+    asked: Asked,
     strategy: Strategy,
     answer: Answer,
     path: bool,
     vcd: Option<&'v str>,
 ) -> Result<Found<'v>, AllocError>
-    requires flips { admit.flips ≤ length admit.held }
-    requires moments { moments.items ≡ circuit.moments }
-    requires first_fits { length (pair_in answer).first ≡ length circuit.netlist.inputs }
-    requires second_fits { length (pair_in answer).second ≡ length circuit.netlist.inputs }
-    ensures report { IfOk result (λ found. AddsChain path (setting circuit) (pair_in answer) (worst_text circuit.netlist answer) found.report) }
-    ensures certified { IfOk result (λ found. found.certificate ≡ certificate_in (problem_by strategy circuit admit) answer) }
-    ensures dumped { IfOk result (λ found. IsDumpOf (setting circuit) (pair_in answer) (words_of vcd.entry) (dump_files found.dump)) }
+    requires flips { asked.admit.flips ≤ length asked.admit.held }
+    requires first_fits { length (pair_in answer).first ≡ length asked.circuit.netlist.inputs }
+    requires second_fits { length (pair_in answer).second ≡ length asked.circuit.netlist.inputs }
+    ensures report { IfOk result (λ found. AddsChain path (setting asked.circuit) (pair_in answer) (worst_text asked.circuit.netlist answer) found.report) }
+    ensures certified { IfOk result (λ found. found.certificate ≡ certificate_in (problem_by strategy asked.circuit asked.admit) answer) }
+    ensures dumped { IfOk result (λ found. IsDumpOf (setting asked.circuit) (pair_in answer) (words_of vcd.entry) (dump_files found.dump)) }
     ensures has { IfOk result (λ found. IfSome found.dump HasRun) }
 {
+    let Asked { circuit, admit } = asked;
     let report = explained(alloc, &circuit, &answer, path)?;
     let pair = pair_in(&answer).copy(alloc)?;
+    let moments = Vec::from_slice(alloc, circuit.moments())?;
     let certificate = certificate(&circuit, admit, moments, strategy, answer);
     let dump = pair_dump(alloc, vcd, circuit, &pair)?;
     Ok(Found {
@@ -204,7 +90,7 @@ fn pair_in(answer: &Answer) -> &Pair
 }
 
 /// The refusal of a search without an answer.
-fn unanswered<'a>(fault: SearchFault) -> Refusal<'a>
+pub fn unanswered<'a>(fault: SearchFault) -> Refusal<'a>
     ensures { result ≡ unanswered fault }
 {
     match fault {
