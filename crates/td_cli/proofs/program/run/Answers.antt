@@ -1,7 +1,12 @@
+use Rattle.std.proofs.Common.{map, refl}
+use Rattle.td_delivery.proofs.Endings.{nothing_done}
+use Rattle.td_cli.proofs.Programs.{refused_words}
 use Rattle.td_cli.proofs.program.run.Goals as goal
 
-pub returns-in-None : goal.returns-in-None
-returns-in-None g c =
-    let same_files = rw (c.in-None.ensures.untouched.0) at c.run_search.ensures in
-    let same_out = rw (c.in-None.ensures.untouched.1) at same_files in
-    rw (c.in-None.ensures.untouched.2) at same_out
+pub returns-in-Err : goal.returns-in-Err
+returns-in-Err g c = (
+  _,
+  nothing_done g.F.Files.did g.met.F.Files.did_nothing _ _ refl,
+  refused_words (g.F.Files.disk c.args.files.now) (map g.S.AsStr.text c.args.words.now) c.in-Err.error c.tell_error.result _ _
+      c.in-Err.ensures.fault c.tell_error.ensures.memory c.tell_error.ensures.reported,
+)
