@@ -1,11 +1,12 @@
 //! The program.
 
-ghost use Rattle.std.specs.Prelude.{◌≡◌, map, IfSome, IfNone, false};
+ghost use Rattle.std.specs.Prelude.{◌≡◌, ◌++◌, ℕ, List, map, Some, IfSome, IfNone, false};
 ghost use Rattle.td_command.specs.CommandLine.{IsCarriedOut};
 ghost use Rattle.td_report.specs.Ends.{streams};
 ghost use Rattle.td_files.specs.Files.{Takes};
 ghost use Rattle.td_delivery.specs.Shown.{IsOutOfMemory};
 ghost use Rattle.td_cli.specs.Requests.{is_search, AsksSearch, RequestRuns, RequestEnds, ProgramEnds, RefusesWords};
+ghost use Rattle.td_cli.specs.Sentences.{AskForWorst, IsTrueOf};
 
 use crate::{bound, check, info, join, parts, path, sim, worst};
 use std::alloc::Global;
@@ -29,8 +30,11 @@ pub fn run<R: Threads + Wait + Sync, S: AsStr, F: Files, O: Sink, E: Sink>(
     out: &mut O,
     err: &mut E,
 ) -> Status
-    ensures { Takes (F.did files.old files.new) (λ steps. ProgramEnds (F.disk files.old) (map S.text words.now) steps result
+    ensures ends { Takes (F.did files.old files.new) (λ steps. ProgramEnds (F.disk files.old) (map S.text words.now) steps result
         (streams (O.output out.old) (E.output err.old)) (streams (O.output out.new) (E.output err.new))) }
+    // What a report says of a worst delay is true.
+    ensures says_true { AskForWorst (map S.text words.now) → (before report : List ℕ) → (O.output out.old).sent ≡ Some before
+        → (O.output out.new).sent ≡ Some (before ++ report) → IsTrueOf (F.disk files.old) (map S.text words.now) report }
 {
     match parse(alloc, words) {
         Ok(request) => carry_out(rt, alloc, files, &request, out, err),

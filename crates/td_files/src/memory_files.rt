@@ -143,10 +143,10 @@ impl<'a> Files for MemoryFiles<'a> {
     /// The first file of a name gives its bytes, where they are no more than a reader gives, and no
     /// device fails to make or to end a file. Two names are of one file where they are the same.
     ghost disk = { λ files. record {
-        holds = Reads files.files.now files.readable;
-        fails = FailsOn files.files.now files.readable;
-        breaks = λ _. ⊥;
-        is_one = λ one other answer. IsTrue answer ↔ one ≡ other;
+      holds = Reads files.files.now files.readable;
+      fails = FailsOn files.files.now files.readable;
+      breaks = λ _. ⊥;
+      is_one = λ one other answer. IsTrue answer ↔ one ≡ other;
     } };
 
     ghost did = { λ old new steps. IsAfter old.steps.items new.steps.items steps };
