@@ -24,7 +24,7 @@ use Rattle.td_command.specs.declared.command.Request.TheVariants as request
 use Rattle.td_command.specs.CommandLine.{kinds_of, Asks}
 use Rattle.td_cli.specs.Requests.{IsWorstProduct, RequestEnds, ProgramEnds}
 use Rattle.td_cli.specs.WorstReports.{exact_line, between_line, cause_line, pair_lines, answer_lines, strategy_of, IsWorstReport}
-use Rattle.td_cli.specs.Sentences.{IsThird, AskWorst, AreAbout, IsTrueOf, AskForWorst}
+use Rattle.td_cli.specs.Sentences.{IsThird, AskWorst, AreAbout, IsTrueReport, AskForWorst}
 use Rattle.td_cli.proofs.Lines.{third_is, one_exact, one_between, exact_is_no_between, cut}
 use Rattle.td_cli.proofs.Searches.{command_name, named, other_name}
 
@@ -135,7 +135,7 @@ module _ (disk : Disk) (words : List Text) where
   }
 
   -- nothing is said by an empty report
-  silent : (report : List ℕ) → report ≡ [] → IsTrueOf disk words report
+  silent : (report : List ℕ) → report ≡ [] → IsTrueReport disk words report
   silent report none = record {
     exact = λ time fits third. absurd (third_of_none report _ third none);
     between = λ low high low_fits high_fits third. absurd (third_of_none report _ third none);
@@ -143,7 +143,7 @@ module _ (disk : Disk) (words : List Text) where
 
   -- what the report of a search says
   said_of : (request : WorstRequest) (text : List ℕ) → AskWorst words request → disk.holds request.file.now text
-      → (product : Product) → IsWorstProduct text request product → (report rest : List ℕ) → report ++ rest ≡ product.report → IsTrueOf disk words report
+      → (product : Product) → IsWorstProduct text request product → (report rest : List ℕ) → report ++ rest ≡ product.report → IsTrueReport disk words report
   said_of request text asked held product it report rest same =
       let worst = it.is in
       let outcome = outcome_by (strategy_of request.question.strategy) worst.asked request.budget worst.found worst.is_answer in
@@ -166,7 +166,7 @@ module _ (disk : Disk) (words : List Text) where
 
   true_of_search : (request : WorstRequest) → AskWorst words request → (steps : List FileStep) (status : Status) (old new : Streams)
       → RequestEnds disk (request.Worst request) steps status old new → (before report : List ℕ)
-      → old.out.sent ≡ Some before → new.out.sent ≡ Some (before ++ report) → IsTrueOf disk words report
+      → old.out.sent ≡ Some before → new.out.sent ≡ Some (before ++ report) → IsTrueReport disk words report
   true_of_search request asked steps status old new (inl over) before report old_is new_is =
       elim (came_out _ _ _ steps status old new over before report old_is new_is) [
         | inl none ↦ silent report none
@@ -200,7 +200,7 @@ module _ (disk : Disk) (words : List Text) where
   true_of_request : (request : WorstRequest) → AskWorst words request → (asked : Request) → Asks words asked
       → (steps : List FileStep) (status : Status) (old new : Streams)
       → RequestEnds disk asked steps status old new → (before report : List ℕ)
-      → old.out.sent ≡ Some before → new.out.sent ≡ Some (before ++ report) → IsTrueOf disk words report
+      → old.out.sent ≡ Some before → new.out.sent ≡ Some (before ++ report) → IsTrueReport disk words report
   true_of_request request it (request.Sim asked) asks steps status old new ends = absurd (other_name (request.Sim asked) refl (same_command request it (request.Sim asked) asks))
   true_of_request request it (request.Path asked) asks steps status old new ends = absurd (other_name (request.Path asked) refl (same_command request it (request.Path asked) asks))
   true_of_request request it (request.Bound asked) asks steps status old new ends = absurd (other_name (request.Bound asked) refl (same_command request it (request.Bound asked) asks))
@@ -215,7 +215,7 @@ module _ (disk : Disk) (words : List Text) where
 
   -- What the program prints of the worst delay is true.
   pub is_true : (steps : List FileStep) (status : Status) (old new : Streams) → ProgramEnds disk words steps status old new → AskForWorst words
-      → (before report : List ℕ) → old.out.sent ≡ Some before → new.out.sent ≡ Some (before ++ report) → IsTrueOf disk words report
+      → (before report : List ℕ) → old.out.sent ≡ Some before → new.out.sent ≡ Some (before ++ report) → IsTrueReport disk words report
   is_true steps status old new (inl (asked, asks, ends)) wanted before report old_is new_is =
       true_of_request wanted.0 wanted.1 asked asks steps status old new ends before report old_is new_is
   is_true steps status old new (inr (none, inl (kind, among, text))) wanted before report old_is new_is =

@@ -55,7 +55,7 @@ pub record AreAbout (disk : Disk) (words : List Text) (setting : Setting) (admit
 
 -- Where the third line of the report is `exact N`, N is the worst delay of what the words ask.
 -- Where it is `between L H`, the worst delay is at least L and at most H.
-pub record IsTrueOf (disk : Disk) (words : List Text) (report : List ℕ) : Type 0 where
+pub record IsTrueReport (disk : Disk) (words : List Text) (report : List ℕ) : Type 0 where
   pub exact : (time : ℕ) → time < 2 ^ 64 → IsThird report (exact_line time)
       → (setting : Setting) × (admit : Admitted) × AreAbout disk words setting admit × IsWorst setting admit time
   pub between : (low high : ℕ) → low < 2 ^ 64 → high < 2 ^ 64 → IsThird report (between_line low high)

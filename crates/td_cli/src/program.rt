@@ -6,7 +6,7 @@ ghost use Rattle.td_report.specs.Ends.{streams};
 ghost use Rattle.td_files.specs.Files.{Takes};
 ghost use Rattle.td_delivery.specs.Shown.{IsOutOfMemory};
 ghost use Rattle.td_cli.specs.Requests.{is_search, AsksSearch, RequestRuns, RequestEnds, ProgramEnds, RefusesWords};
-ghost use Rattle.td_cli.specs.Sentences.{AskForWorst, IsTrueOf};
+ghost use Rattle.td_cli.specs.Sentences.{AskForWorst, IsTrueReport};
 
 use crate::{bound, check, info, join, parts, path, sim, worst};
 use std::alloc::Global;
@@ -34,7 +34,7 @@ pub fn run<R: Threads + Wait + Sync, S: AsStr, F: Files, O: Sink, E: Sink>(
         (streams (O.output out.old) (E.output err.old)) (streams (O.output out.new) (E.output err.new))) }
     // What a report says of a worst delay is true.
     ensures says_true { AskForWorst (map S.text words.now) → (before report : List ℕ) → (O.output out.old).sent ≡ Some before
-        → (O.output out.new).sent ≡ Some (before ++ report) → IsTrueOf (F.disk files.old) (map S.text words.now) report }
+        → (O.output out.new).sent ≡ Some (before ++ report) → IsTrueReport (F.disk files.old) (map S.text words.now) report }
 {
     match parse(alloc, words) {
         Ok(request) => carry_out(rt, alloc, files, &request, out, err),
