@@ -5,6 +5,7 @@ mod arguments;
 mod certificates;
 mod command;
 mod commands;
+mod flags;
 mod help;
 pub mod laws;
 
@@ -13,3 +14,4 @@ pub use command::{
     BoundRequest, CheckRequest, InfoRequest, JoinRequest, PartsRequest, PathRequest, Request,
     SimRequest, StrategyWord, WorstRequest, parse,
 };
+pub use flags::is_asked;

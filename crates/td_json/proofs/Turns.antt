@@ -1,0 +1,189 @@
+-- How loops over fields and lines write what is left.
+use Rattle.std.proofs.Common.{◌≡◌, ◌∙◌, ◌<◌, ◌≤◌, ◌+◌, ◌&&◌, ◌==◌, ℕ, suc, Bool, true, false, cond, List, [], ◌∷◌, ◌++◌, length, refl, sym, ap, subst, arith, append_assoc, bytes_eq, Decides, IsUtf8}
+use Rattle.std.proofs.lemmas.Slice.Eq.{bytes_eq-Decides}
+use Rattle.json.specs.Json.{Json, array, Items, no_items, item, Members, no_members, member}
+use Rattle.json.specs.Json as json
+use Rattle.json.specs.Token.{Token, begin_array, end_array}
+use Rattle.json.specs.Token as token
+use Rattle.json.specs.Tree.{json_tokens, items_tokens, members_tokens}
+use Rattle.json.specs.Written.{Written}
+use Rattle.td_json.specs.declared.pieces.End.TheVariants.{Line, Field}
+use Rattle.td_json.specs.declared.forms.Form.{Form}
+use Rattle.td_json.specs.Pieces.{front, after, pieces}
+use Rattle.td_json.specs.Forms.{form_of, is_list}
+use Rattle.td_json.specs.Reports.{items_of, field_of, key_of, rest_of, value_of, joined, added, members_of}
+use Rattle.td_json.specs.Writing.{Adds, closing, beginning, opening, goes_on, between}
+use Rattle.td_json.proofs.Cuts.{pieces_next}
+
+pub some_left : (rest : List ℕ) → (length rest == 0) ≡ false → 0 < length rest
+some_left [] is = absurd cc
+some_left (byte ∷ others) is = omega arith
+
+-- ---- fields
+
+-- the fields from a place on are still to be written
+pub record ItemsLeft (form : Form) (text : List ℕ) (old now : Written) (place : ℕ) (rest : List ℕ) : Type 0 where
+  pub goes_on : now.tokens ++ items_tokens (items_of form place (pieces Field rest)) ≡ old.tokens ++ items_tokens (items_of form 0 (pieces Field text))
+  pub before : now.before ≡ old.before
+  pub within : place + length rest ≤ length text
+  pub utf8 : IsUtf8 rest
+
+pub items_begin : (form : Form) (text : List ℕ) (old : Written) → IsUtf8 text → ItemsLeft form text old old 0 text
+items_begin form text old utf8 = record { goes_on = refl; before = refl; within = omega arith; utf8 = utf8 }
+
+module _ (form : Form) (text : List ℕ) (old now next : Written) (place : ℕ) (rest later : List ℕ) where
+  pub item_more : ItemsLeft form text old now place rest → 0 < length rest → later ≡ after Field rest → length later < length rest → IsUtf8 later
+      → Adds now next (json_tokens (field_of form place (front Field rest))) → ItemsLeft form text old next (place + 1) later
+  item_more left some later_is shorter utf8 adds =
+      let fields : pieces Field rest ≡ front Field rest ∷ pieces Field later =
+      pieces_next Field rest some ∙ ap (λ (t : List ℕ). front Field rest ∷ pieces Field t) (sym later_is) in
+      let tokens : items_tokens (items_of form place (pieces Field rest))
+      ≡ json_tokens (field_of form place (front Field rest)) ++ items_tokens (items_of form (suc place) (pieces Field later)) =
+      ap (λ (fs : List (List ℕ)). items_tokens (items_of form place fs)) fields in
+      let next_place : place + 1 ≡ suc place = omega arith in
+      record {
+        goes_on = rw next_place
+            (ap (λ (ts : List Token). ts ++ items_tokens (items_of form (suc place) (pieces Field later))) adds.added
+            ∙ append_assoc now.tokens (json_tokens (field_of form place (front Field rest))) (items_tokens (items_of form (suc place) (pieces Field later)))
+            ∙ ap (λ (ts : List Token). now.tokens ++ ts) (sym tokens) ∙ left.goes_on);
+        before = adds.before ∙ left.before;
+        within = omega (arith, left.within, shorter);
+        utf8 = utf8;
+      }
+
+  pub items_end : ItemsLeft form text old now place [] → Adds now next (end_array ∷ [])
+      → Adds old next (items_tokens (items_of form 0 (pieces Field text)))
+  items_end left adds = record { added = adds.added ∙ left.goes_on; before = adds.before ∙ left.before }
+
+-- ---- lines
+
+-- the tokens that are left where the array of a key is open: it goes on with the first member, or ends
+abbrev tail : List ℕ → Members → List Token
+tail key no_members = end_array ∷ members_tokens no_members
+tail key (member other (array items) members) =
+    cond (bytes_eq key other) (items_tokens items ++ members_tokens members) (end_array ∷ members_tokens (member other (array items) members))
+tail key members = end_array ∷ members_tokens members
+
+-- the tokens that are left after a value of this key
+abbrev pub left_after : List ℕ → Members → List Token
+left_after last members = cond (is_list last) (tail last members) (members_tokens members)
+
+same_key : (key : List ℕ) → bytes_eq key key ≡ true
+same_key key = (bytes_eq-Decides key key).1 refl
+
+-- an array is begun before these members
+opens : (key : List ℕ) (value : Json) (members : Members)
+    → members_tokens (joined key value members) ≡ token.key key ∷ begin_array ∷ (json_tokens value ++ tail key members)
+opens key value no_members = ap (λ (ts : List Token). token.key key ∷ begin_array ∷ ts) (append_assoc (json_tokens value) (end_array ∷ []) (members_tokens no_members))
+opens key value (member other (array items) members) = go (bytes_eq key other) refl
+  where
+    go : (test : Bool) → bytes_eq key other ≡ test
+        → members_tokens (joined key value (member other (array items) members)) ≡ token.key key ∷ begin_array ∷ (json_tokens value ++ tail key (member other (array items) members))
+    go true is = rw is (ap (λ (ts : List Token). token.key key ∷ begin_array ∷ ts) (append_assoc (json_tokens value) (items_tokens items) (members_tokens members)))
+    go false is = rw is (ap (λ (ts : List Token). token.key key ∷ begin_array ∷ ts)
+        (append_assoc (json_tokens value) (end_array ∷ []) (members_tokens (member other (array items) members))))
+opens key value (member other json.null members) = ap (λ (ts : List Token). token.key key ∷ begin_array ∷ ts)
+    (append_assoc (json_tokens value) (end_array ∷ []) (members_tokens (member other json.null members)))
+opens key value (member other (json.boolean it) members) = ap (λ (ts : List Token). token.key key ∷ begin_array ∷ ts)
+    (append_assoc (json_tokens value) (end_array ∷ []) (members_tokens (member other (json.boolean it) members)))
+opens key value (member other (json.number it) members) = ap (λ (ts : List Token). token.key key ∷ begin_array ∷ ts)
+    (append_assoc (json_tokens value) (end_array ∷ []) (members_tokens (member other (json.number it) members)))
+opens key value (member other (json.string it) members) = ap (λ (ts : List Token). token.key key ∷ begin_array ∷ ts)
+    (append_assoc (json_tokens value) (end_array ∷ []) (members_tokens (member other (json.string it) members)))
+opens key value (member other (json.object it) members) = ap (λ (ts : List Token). token.key key ∷ begin_array ∷ ts)
+    (append_assoc (json_tokens value) (end_array ∷ []) (members_tokens (member other (json.object it) members)))
+
+-- it goes on with the next value of the key
+more : (key : List ℕ) (value : Json) (members : Members) → tail key (joined key value members) ≡ json_tokens value ++ tail key members
+more key value no_members =
+    ap (λ (test : Bool). cond test (items_tokens (item value no_items) ++ members_tokens no_members)
+    (end_array ∷ members_tokens (member key (array (item value no_items)) no_members))) (same_key key)
+    ∙ append_assoc (json_tokens value) (end_array ∷ []) (members_tokens no_members)
+more key value (member other (array items) members) = go (bytes_eq key other) refl
+  where
+    go : (test : Bool) → bytes_eq key other ≡ test
+        → tail key (joined key value (member other (array items) members)) ≡ json_tokens value ++ tail key (member other (array items) members)
+    go true is = rw is (rw (same_key key) (append_assoc (json_tokens value) (items_tokens items) (members_tokens members)))
+    go false is = rw is (rw (same_key key) (append_assoc (json_tokens value) (end_array ∷ []) (members_tokens (member other (array items) members))))
+more key value (member other json.null members) =
+    rw (same_key key) (append_assoc (json_tokens value) (end_array ∷ []) (members_tokens (member other json.null members)))
+more key value (member other (json.boolean it) members) =
+    rw (same_key key) (append_assoc (json_tokens value) (end_array ∷ []) (members_tokens (member other (json.boolean it) members)))
+more key value (member other (json.number it) members) =
+    rw (same_key key) (append_assoc (json_tokens value) (end_array ∷ []) (members_tokens (member other (json.number it) members)))
+more key value (member other (json.string it) members) =
+    rw (same_key key) (append_assoc (json_tokens value) (end_array ∷ []) (members_tokens (member other (json.string it) members)))
+more key value (member other (json.object it) members) =
+    rw (same_key key) (append_assoc (json_tokens value) (end_array ∷ []) (members_tokens (member other (json.object it) members)))
+
+-- it ends before a member with another key
+other_member : (last key : List ℕ) (value : Json) (members : Members) → bytes_eq last key ≡ false
+    → tail last (member key value members) ≡ end_array ∷ members_tokens (member key value members)
+other_member last key json.null members is = refl
+other_member last key (json.boolean it) members is = refl
+other_member last key (json.number it) members is = refl
+other_member last key (json.string it) members is = refl
+other_member last key (array items) members is = rw is refl
+other_member last key (json.object it) members is = refl
+
+-- what joined members begin with
+record Begins (key : List ℕ) (members : Members) : Type 0 where
+  value : Json
+  others : Members
+  are : members ≡ member key value others
+
+begins : (key : List ℕ) (value : Json) (members : Members) → Begins key (joined key value members)
+begins key value no_members = record { value = _; others = _; are = refl }
+begins key value (member other (array items) members) = go (bytes_eq key other) refl
+  where
+    go : (test : Bool) → bytes_eq key other ≡ test → Begins key (joined key value (member other (array items) members))
+    go true is = record { value = array (item value items); others = members; are = rw is refl }
+    go false is = record { value = array (item value no_items); others = member other (array items) members; are = rw is refl }
+begins key value (member other json.null members) = record { value = _; others = _; are = refl }
+begins key value (member other (json.boolean it) members) = record { value = _; others = _; are = refl }
+begins key value (member other (json.number it) members) = record { value = _; others = _; are = refl }
+begins key value (member other (json.string it) members) = record { value = _; others = _; are = refl }
+begins key value (member other (json.object it) members) = record { value = _; others = _; are = refl }
+
+-- it ends before what is added with another key
+other_added : (last key : List ℕ) (value : Json) (members : Members) → bytes_eq last key ≡ false
+    → tail last (added key value members) ≡ end_array ∷ members_tokens (added key value members)
+other_added last key value members apart = go (is_list key) refl
+  where
+    go : (test : Bool) → is_list key ≡ test → tail last (added key value members) ≡ end_array ∷ members_tokens (added key value members)
+    go true is =
+        let are = begins key value members in
+        rw is (rw are.are (other_member last key are.value are.others apart))
+    go false is = rw is (other_member last key value members apart)
+
+-- a key is written before what is added with it
+opened : (key : List ℕ) (value : Json) (members : Members)
+    → members_tokens (added key value members) ≡ opening key ++ (json_tokens value ++ left_after key members)
+opened key value members = go (is_list key) refl
+  where
+    go : (test : Bool) → is_list key ≡ test → members_tokens (added key value members) ≡ opening key ++ (json_tokens value ++ left_after key members)
+    go true is = rw is (opens key value members)
+    go false is = rw is refl
+
+-- the tokens of what is added after a value of the last key
+pub turn : (last key : List ℕ) (value : Json) (members : Members)
+    → left_after last (added key value members) ≡ (between last key ++ json_tokens value) ++ left_after key members
+turn last key value members = go (bytes_eq last key) refl (is_list last) refl (is_list key) refl
+  where
+    go : (same : Bool) → bytes_eq last key ≡ same → (open : Bool) → is_list last ≡ open → (listed : Bool) → is_list key ≡ listed
+        → left_after last (added key value members) ≡ (between last key ++ json_tokens value) ++ left_after key members
+    go true is open open_is true listed_is =
+        let equal : last ≡ key = (bytes_eq-Decides last key).0 is in
+        rw (is, listed_is, equal, listed_is) (more key value members)
+    go true is open open_is false listed_is =
+        let equal : last ≡ key = (bytes_eq-Decides last key).0 is in
+        rw (is, listed_is, equal, listed_is) (opened key value members)
+    go false is true open_is listed listed_is =
+        rw (is, open_is) (other_added last key value members is ∙ ap (λ (ts : List Token). end_array ∷ ts) (opened key value members))
+    go false is false open_is listed listed_is = rw (is, open_is) (opened key value members)
+
+-- the lines that are left are still to be written
+pub record MembersLeft (report : List ℕ) (old now : Written) (last left : List ℕ) : Type 0 where
+  pub goes_on : now.tokens ++ left_after last (members_of (pieces Line left)) ≡ old.tokens ++ members_tokens (members_of (pieces Line report))
+  pub before : now.before ≡ old.before
+  pub utf8 : IsUtf8 left
