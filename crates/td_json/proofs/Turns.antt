@@ -14,6 +14,8 @@ use Rattle.td_json.specs.Forms.{form_of, is_list}
 use Rattle.td_json.specs.Reports.{items_of, field_of, key_of, rest_of, value_of, joined, added, members_of}
 use Rattle.td_json.specs.Writing.{Adds, closing, beginning, opening, goes_on, between}
 use Rattle.td_json.proofs.Cuts.{pieces_next}
+use Rattle.td_json.proofs.Steps.{both}
+use Rattle.std.proofs.lemmas.Str.{IsUtf8-nil}
 
 pub some_left : (rest : List ℕ) → (length rest == 0) ≡ false → 0 < length rest
 some_left [] is = absurd cc
@@ -158,8 +160,8 @@ other_added last key value members apart = go (is_list key) refl
 
 -- a key is written before what is added with it
 opened : (key : List ℕ) (value : Json) (members : Members)
-    → members_tokens (added key value members) ≡ opening key ++ (json_tokens value ++ left_after key members)
-opened key value members = go (is_list key) refl
+    → members_tokens (added key value members) ≡ (opening key ++ json_tokens value) ++ left_after key members
+opened key value members = go (is_list key) refl ∙ sym (append_assoc (opening key) (json_tokens value) (left_after key members))
   where
     go : (test : Bool) → is_list key ≡ test → members_tokens (added key value members) ≡ opening key ++ (json_tokens value ++ left_after key members)
     go true is = rw is (opens key value members)
@@ -170,20 +172,67 @@ pub turn : (last key : List ℕ) (value : Json) (members : Members)
     → left_after last (added key value members) ≡ (between last key ++ json_tokens value) ++ left_after key members
 turn last key value members = go (bytes_eq last key) refl (is_list last) refl (is_list key) refl
   where
-    go : (same : Bool) → bytes_eq last key ≡ same → (open : Bool) → is_list last ≡ open → (listed : Bool) → is_list key ≡ listed
+    go : (same : Bool) → bytes_eq last key ≡ same → (begun : Bool) → is_list last ≡ begun → (listed : Bool) → is_list key ≡ listed
         → left_after last (added key value members) ≡ (between last key ++ json_tokens value) ++ left_after key members
-    go true is open open_is true listed_is =
+    go true is begun begun_is true listed_is =
         let equal : last ≡ key = (bytes_eq-Decides last key).0 is in
         rw (is, listed_is, equal, listed_is) (more key value members)
-    go true is open open_is false listed_is =
+    go true is begun begun_is false listed_is =
         let equal : last ≡ key = (bytes_eq-Decides last key).0 is in
-        rw (is, listed_is, equal, listed_is) (opened key value members)
-    go false is true open_is listed listed_is =
-        rw (is, open_is) (other_added last key value members is ∙ ap (λ (ts : List Token). end_array ∷ ts) (opened key value members))
-    go false is false open_is listed listed_is = rw (is, open_is) (opened key value members)
+        rw (is, listed_is, equal, listed_is) refl
+    go false is true begun_is listed listed_is =
+        rw (is, begun_is) (other_added last key value members is ∙ ap (λ (ts : List Token). end_array ∷ ts) (opened key value members))
+    go false is false begun_is listed listed_is = rw (is, begun_is) (opened key value members)
 
 -- the lines that are left are still to be written
 pub record MembersLeft (report : List ℕ) (old now : Written) (last left : List ℕ) : Type 0 where
   pub goes_on : now.tokens ++ left_after last (members_of (pieces Line left)) ≡ old.tokens ++ members_tokens (members_of (pieces Line report))
   pub before : now.before ≡ old.before
   pub utf8 : IsUtf8 left
+  pub key_utf8 : IsUtf8 last
+
+pub members_begin : (report : List ℕ) (old : Written) → IsUtf8 report → MembersLeft report old old [] report
+unfolding is_list
+members_begin report old utf8 = record { goes_on = refl; before = refl; utf8 = utf8; key_utf8 = IsUtf8-nil }
+
+module _ (report : List ℕ) (old now next : Written) (last left later key : List ℕ) where
+  pub member_more : MembersLeft report old now last left → 0 < length left → later ≡ after Line left → IsUtf8 later
+      → key ≡ key_of (front Line left) → IsUtf8 key
+      → Adds now next (between last key ++ json_tokens (value_of (form_of key) (rest_of (front Line left))))
+      → MembersLeft report old next key later
+  member_more left_is some later_is utf8 key_is key_utf8 adds =
+      let value : Json = value_of (form_of key) (rest_of (front Line left)) in
+      let lines : pieces Line left ≡ front Line left ∷ pieces Line later =
+          pieces_next Line left some ∙ ap (λ (t : List ℕ). front Line left ∷ pieces Line t) (sym later_is) in
+      let members : members_of (pieces Line left) ≡ added key (value_of (form_of key) (rest_of (front Line left))) (members_of (pieces Line later)) =
+          ap members_of lines
+          ∙ ap (λ (k : List ℕ). added k (value_of (form_of k) (rest_of (front Line left))) (members_of (pieces Line later))) (sym key_is) in
+      let tokens : left_after last (members_of (pieces Line left))
+          ≡ (between last key ++ json_tokens (value_of (form_of key) (rest_of (front Line left)))) ++ left_after key (members_of (pieces Line later)) =
+          ap (left_after last) members ∙ turn last key (value_of (form_of key) (rest_of (front Line left))) (members_of (pieces Line later)) in
+      record {
+        goes_on = ap (λ (ts : List Token). ts ++ left_after key (members_of (pieces Line later))) adds.added
+            ∙ append_assoc now.tokens (between last key ++ json_tokens (value_of (form_of key) (rest_of (front Line left)))) (left_after key (members_of (pieces Line later)))
+            ∙ ap (λ (ts : List Token). now.tokens ++ ts) (sym tokens) ∙ left_is.goes_on;
+        before = adds.before ∙ left_is.before;
+        utf8 = utf8;
+        key_utf8 = key_utf8;
+      }
+
+-- no member is left: the array of the last key ends, and then the object
+left_end : (last : List ℕ) → left_after last no_members ≡ closing last ++ token.end_object ∷ []
+left_end last = go (is_list last) refl
+  where
+    go : (test : Bool) → is_list last ≡ test → left_after last no_members ≡ closing last ++ token.end_object ∷ []
+    go true is = rw is refl
+    go false is = rw is refl
+
+pub members_end : (report : List ℕ) (old now mid next : Written) (last left : List ℕ) → MembersLeft report old now last left → length left ≡ 0
+    → Adds now mid (closing last) → Adds mid next (token.end_object ∷ []) → Adds old next (members_tokens (members_of (pieces Line report)))
+members_end report old now mid next last [] left_is none closed ended =
+    let adds : Adds now next (closing last ++ token.end_object ∷ []) = both closed ended in
+    record {
+      added = adds.added ∙ ap (λ (ts : List Token). now.tokens ++ ts) (sym (left_end last)) ∙ left_is.goes_on;
+      before = adds.before ∙ left_is.before;
+    }
+members_end report old now mid next last (byte ∷ others) left_is none closed ended = absurd (omega (arith, none))
