@@ -78,7 +78,7 @@ module _ (end : End) (text : List ℕ) (len : ℕ) (is : len ≡ length (front e
       go (inr it) = it
       go (inl has) =
           let count : length text ≡ length (front end text) + length (has.byte ∷ after end text) =
-              ap length has.parts ∙ length-append (front end text) (has.byte ∷ after end text) in
+          ap length has.parts ∙ length-append (front end text) (has.byte ∷ after end text) in
           let more : length (has.byte ∷ after end text) ≡ suc (length (after end text)) = refl in
           absurd (omega (arith, count, more, same, is))
 
@@ -100,7 +100,7 @@ module _ (end : End) (text : List ℕ) (len : ℕ) (is : len ≡ length (front e
     pub shorter : len < length text
     shorter =
         let count : length text ≡ length (front end text) + length (has.byte ∷ after end text) =
-            ap length has.parts ∙ length-append (front end text) (has.byte ∷ after end text) in
+        ap length has.parts ∙ length-append (front end text) (has.byte ∷ after end text) in
         let more : length (has.byte ∷ after end text) ≡ suc (length (after end text)) = refl in
         omega (arith, count, more, is)
 

@@ -203,13 +203,13 @@ module _ (report : List ℕ) (old now next : Written) (last left later key : Lis
   member_more left_is some later_is utf8 key_is key_utf8 adds =
       let value : Json = value_of (form_of key) (rest_of (front Line left)) in
       let lines : pieces Line left ≡ front Line left ∷ pieces Line later =
-          pieces_next Line left some ∙ ap (λ (t : List ℕ). front Line left ∷ pieces Line t) (sym later_is) in
+      pieces_next Line left some ∙ ap (λ (t : List ℕ). front Line left ∷ pieces Line t) (sym later_is) in
       let members : members_of (pieces Line left) ≡ added key (value_of (form_of key) (rest_of (front Line left))) (members_of (pieces Line later)) =
-          ap members_of lines
-          ∙ ap (λ (k : List ℕ). added k (value_of (form_of k) (rest_of (front Line left))) (members_of (pieces Line later))) (sym key_is) in
+      ap members_of lines
+      ∙ ap (λ (k : List ℕ). added k (value_of (form_of k) (rest_of (front Line left))) (members_of (pieces Line later))) (sym key_is) in
       let tokens : left_after last (members_of (pieces Line left))
-          ≡ (between last key ++ json_tokens (value_of (form_of key) (rest_of (front Line left)))) ++ left_after key (members_of (pieces Line later)) =
-          ap (left_after last) members ∙ turn last key (value_of (form_of key) (rest_of (front Line left))) (members_of (pieces Line later)) in
+      ≡ (between last key ++ json_tokens (value_of (form_of key) (rest_of (front Line left)))) ++ left_after key (members_of (pieces Line later)) =
+      ap (left_after last) members ∙ turn last key (value_of (form_of key) (rest_of (front Line left))) (members_of (pieces Line later)) in
       record {
         goes_on = ap (λ (ts : List Token). ts ++ left_after key (members_of (pieces Line later))) adds.added
             ∙ append_assoc now.tokens (between last key ++ json_tokens (value_of (form_of key) (rest_of (front Line left)))) (left_after key (members_of (pieces Line later)))

@@ -2,3 +2,4 @@ pub mod Pieces
 pub mod Forms
 pub mod Reports
 pub mod Writing
+pub mod Ends

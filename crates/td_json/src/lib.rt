@@ -1,9 +1,13 @@
-//! The JSON of a report: one object with the keys of the report's lines.
+//! The JSON of a report, one object with the keys of the report's lines, and the program with its
+//! report in that form.
 #![tactic(auto)]
 
 mod fields;
 mod forms;
+mod held;
 mod pieces;
 mod reporting;
+mod running;
 
 pub use reporting::json;
+pub use running::{asks_json, run_json};
