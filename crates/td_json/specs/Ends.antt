@@ -31,8 +31,8 @@ IsTorn held = held.failures ≢ 0
 
 -- ---- what goes out in its place
 
--- the JSON of a report, or nothing where there is none. Reports are ASCII; of other bytes, those that
--- aren't UTF-8 become the replacement character.
+-- The JSON of a report, or nothing where there is none. Reports are ASCII; of other bytes, what isn't
+-- UTF-8 becomes the replacement character.
 abbrev pub shown : List ℕ → List ℕ
 shown [] = []
 shown (byte ∷ rest) = json_text (utf8_lossy (byte ∷ rest))
