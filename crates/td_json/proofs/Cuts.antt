@@ -1,11 +1,11 @@
 -- How a loop over the bytes of a text finds the end of its first piece.
-use Rattle.std.proofs.Common.{◌≡◌, ◌∙◌, ◌==◌, ◌&&◌, ◌<◌, ◌≤◌, ◌+◌, ◌⊎◌, inl, inr, ℕ, zero, suc, Bool, true, false, cond, not, List, [], ◌∷◌, ◌++◌, length, take, drop, get_or, refl, sym, ap, subst, arith, not-suc-le-zero, ◌≢◌, length-append, IsUtf8, IsCharBoundary, take_at, drop_at}
+use Rattle.std.proofs.Common.{◌≡◌, ◌∙◌, ◌==◌, ◌&&◌, ◌<◌, ◌+◌, ◌⊎◌, inl, inr, ℕ, suc, Bool, true, false, cond, List, [], ◌∷◌, ◌++◌, length, take, drop, get_or, refl, sym, ap, subst, arith, not-suc-le-zero, ◌≢◌, length-append, IsUtf8, IsCharBoundary, take_at, drop_at}
 use Rattle.std.proofs.lemmas.Bool.Decides.{Decides-eqb}
 use Rattle.std.proofs.lemmas.List.{at_drop_more, get_or_at}
 use Rattle.std.proofs.lemmas.Str.{IsCharBoundary-before_ascii, IsCharBoundary-after_ascii, IsUtf8-drop}
 use Rattle.td_json.specs.declared.pieces.End.{End}
 use Rattle.td_json.specs.declared.pieces.End.TheVariants.{Line, Field}
-use Rattle.td_json.specs.Pieces.{is_bit, ends, front, after, pieces, grown}
+use Rattle.td_json.specs.Pieces.{ends, front, after, pieces, grown}
 
 module _ (end : End) (text : List ℕ) (place : ℕ) (less : place < length text) where
   first : ℕ

@@ -1,5 +1,5 @@
 -- One token, no token, or two texts of tokens in turn.
-use Rattle.std.proofs.Common.{◌≡◌, ◌∙◌, ◌&&◌, Bool, true, false, cond, ℕ, List, [], ◌∷◌, ◌++◌, refl, sym, ap, subst, append_assoc, append-nil, bytes_eq, Result, Ok, Err, OnOk}
+use Rattle.std.proofs.Common.{◌≡◌, ◌∙◌, true, false, cond, ℕ, List, [], ◌∷◌, ◌++◌, refl, sym, ap, subst, append_assoc, append-nil, Result, Ok, Err, OnOk}
 use Rattle.json.specs.Token.{Token, begin_array, end_array}
 use Rattle.json.specs.Written.{Written, Writes}
 use Rattle.td_json.specs.Forms.{is_list}

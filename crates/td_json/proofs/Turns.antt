@@ -1,5 +1,5 @@
 -- How loops over fields and lines write what is left.
-use Rattle.std.proofs.Common.{◌≡◌, ◌∙◌, ◌<◌, ◌≤◌, ◌+◌, ◌&&◌, ◌==◌, ℕ, suc, Bool, true, false, cond, List, [], ◌∷◌, ◌++◌, length, refl, sym, ap, subst, arith, append_assoc, bytes_eq, Decides, IsUtf8}
+use Rattle.std.proofs.Common.{◌≡◌, ◌∙◌, ◌<◌, ◌≤◌, ◌+◌, ◌==◌, ℕ, suc, Bool, true, false, cond, List, [], ◌∷◌, ◌++◌, length, refl, sym, ap, arith, append_assoc, bytes_eq, IsUtf8}
 use Rattle.std.proofs.lemmas.Slice.Eq.{bytes_eq-Decides}
 use Rattle.json.specs.Json.{Json, array, Items, no_items, item, Members, no_members, member}
 use Rattle.json.specs.Json as json
@@ -12,7 +12,7 @@ use Rattle.td_json.specs.declared.forms.Form.{Form}
 use Rattle.td_json.specs.Pieces.{front, after, pieces}
 use Rattle.td_json.specs.Forms.{form_of, is_list}
 use Rattle.td_json.specs.Reports.{items_of, field_of, key_of, rest_of, value_of, joined, added, members_of}
-use Rattle.td_json.specs.Writing.{Adds, closing, beginning, opening, goes_on, between}
+use Rattle.td_json.specs.Writing.{Adds, closing, opening, between}
 use Rattle.td_json.proofs.Cuts.{pieces_next}
 use Rattle.td_json.proofs.Steps.{both}
 use Rattle.std.proofs.lemmas.Str.{IsUtf8-nil}
@@ -63,127 +63,127 @@ module _ (form : Form) (text : List ℕ) (old now next : Written) (place : ℕ) 
 -- ends
 abbrev tail : List ℕ → Members → List Token
 tail key no_members = end_array ∷ members_tokens no_members
-tail key (member other (array items) members) =
-    cond (bytes_eq key other) (items_tokens items ++ members_tokens members) (end_array ∷ members_tokens (member other (array items) members))
-tail key members = end_array ∷ members_tokens members
+tail key (member other (array items) below) =
+    cond (bytes_eq key other) (items_tokens items ++ members_tokens below) (end_array ∷ members_tokens (member other (array items) below))
+tail key below = end_array ∷ members_tokens below
 
 -- the tokens that are left after a value of this key
 abbrev pub left_after : List ℕ → Members → List Token
-left_after last members = cond (is_list last) (tail last members) (members_tokens members)
+left_after last below = cond (is_list last) (tail last below) (members_tokens below)
 
 same_key : (key : List ℕ) → bytes_eq key key ≡ true
 same_key key = (bytes_eq-Decides key key).1 refl
 
 -- an array is begun before these members
-opens : (key : List ℕ) (value : Json) (members : Members)
-    → members_tokens (joined key value members) ≡ token.key key ∷ begin_array ∷ (json_tokens value ++ tail key members)
+opens : (key : List ℕ) (value : Json) (below : Members)
+    → members_tokens (joined key value below) ≡ token.key key ∷ begin_array ∷ (json_tokens value ++ tail key below)
 opens key value no_members = ap (λ (ts : List Token). token.key key ∷ begin_array ∷ ts) (append_assoc (json_tokens value) (end_array ∷ []) (members_tokens no_members))
-opens key value (member other (array items) members) = go (bytes_eq key other) refl
+opens key value (member other (array items) below) = go (bytes_eq key other) refl
   where
     go : (test : Bool) → bytes_eq key other ≡ test
-        → members_tokens (joined key value (member other (array items) members)) ≡ token.key key ∷ begin_array ∷ (json_tokens value ++ tail key (member other (array items) members))
-    go true is = rw is (ap (λ (ts : List Token). token.key key ∷ begin_array ∷ ts) (append_assoc (json_tokens value) (items_tokens items) (members_tokens members)))
+        → members_tokens (joined key value (member other (array items) below)) ≡ token.key key ∷ begin_array ∷ (json_tokens value ++ tail key (member other (array items) below))
+    go true is = rw is (ap (λ (ts : List Token). token.key key ∷ begin_array ∷ ts) (append_assoc (json_tokens value) (items_tokens items) (members_tokens below)))
     go false is = rw is (ap (λ (ts : List Token). token.key key ∷ begin_array ∷ ts)
-        (append_assoc (json_tokens value) (end_array ∷ []) (members_tokens (member other (array items) members))))
-opens key value (member other json.null members) = ap (λ (ts : List Token). token.key key ∷ begin_array ∷ ts)
-    (append_assoc (json_tokens value) (end_array ∷ []) (members_tokens (member other json.null members)))
-opens key value (member other (json.boolean it) members) = ap (λ (ts : List Token). token.key key ∷ begin_array ∷ ts)
-    (append_assoc (json_tokens value) (end_array ∷ []) (members_tokens (member other (json.boolean it) members)))
-opens key value (member other (json.number it) members) = ap (λ (ts : List Token). token.key key ∷ begin_array ∷ ts)
-    (append_assoc (json_tokens value) (end_array ∷ []) (members_tokens (member other (json.number it) members)))
-opens key value (member other (json.string it) members) = ap (λ (ts : List Token). token.key key ∷ begin_array ∷ ts)
-    (append_assoc (json_tokens value) (end_array ∷ []) (members_tokens (member other (json.string it) members)))
-opens key value (member other (json.object it) members) = ap (λ (ts : List Token). token.key key ∷ begin_array ∷ ts)
-    (append_assoc (json_tokens value) (end_array ∷ []) (members_tokens (member other (json.object it) members)))
+        (append_assoc (json_tokens value) (end_array ∷ []) (members_tokens (member other (array items) below))))
+opens key value (member other json.null below) = ap (λ (ts : List Token). token.key key ∷ begin_array ∷ ts)
+    (append_assoc (json_tokens value) (end_array ∷ []) (members_tokens (member other json.null below)))
+opens key value (member other (json.boolean it) below) = ap (λ (ts : List Token). token.key key ∷ begin_array ∷ ts)
+    (append_assoc (json_tokens value) (end_array ∷ []) (members_tokens (member other (json.boolean it) below)))
+opens key value (member other (json.number it) below) = ap (λ (ts : List Token). token.key key ∷ begin_array ∷ ts)
+    (append_assoc (json_tokens value) (end_array ∷ []) (members_tokens (member other (json.number it) below)))
+opens key value (member other (json.string it) below) = ap (λ (ts : List Token). token.key key ∷ begin_array ∷ ts)
+    (append_assoc (json_tokens value) (end_array ∷ []) (members_tokens (member other (json.string it) below)))
+opens key value (member other (json.object it) below) = ap (λ (ts : List Token). token.key key ∷ begin_array ∷ ts)
+    (append_assoc (json_tokens value) (end_array ∷ []) (members_tokens (member other (json.object it) below)))
 
 -- it goes on with the next value of the key
-more : (key : List ℕ) (value : Json) (members : Members) → tail key (joined key value members) ≡ json_tokens value ++ tail key members
+more : (key : List ℕ) (value : Json) (below : Members) → tail key (joined key value below) ≡ json_tokens value ++ tail key below
 more key value no_members =
     ap (λ (test : Bool). cond test (items_tokens (item value no_items) ++ members_tokens no_members)
     (end_array ∷ members_tokens (member key (array (item value no_items)) no_members))) (same_key key)
     ∙ append_assoc (json_tokens value) (end_array ∷ []) (members_tokens no_members)
-more key value (member other (array items) members) = go (bytes_eq key other) refl
+more key value (member other (array items) below) = go (bytes_eq key other) refl
   where
     go : (test : Bool) → bytes_eq key other ≡ test
-        → tail key (joined key value (member other (array items) members)) ≡ json_tokens value ++ tail key (member other (array items) members)
-    go true is = rw is (rw (same_key key) (append_assoc (json_tokens value) (items_tokens items) (members_tokens members)))
-    go false is = rw is (rw (same_key key) (append_assoc (json_tokens value) (end_array ∷ []) (members_tokens (member other (array items) members))))
-more key value (member other json.null members) =
-    rw (same_key key) (append_assoc (json_tokens value) (end_array ∷ []) (members_tokens (member other json.null members)))
-more key value (member other (json.boolean it) members) =
-    rw (same_key key) (append_assoc (json_tokens value) (end_array ∷ []) (members_tokens (member other (json.boolean it) members)))
-more key value (member other (json.number it) members) =
-    rw (same_key key) (append_assoc (json_tokens value) (end_array ∷ []) (members_tokens (member other (json.number it) members)))
-more key value (member other (json.string it) members) =
-    rw (same_key key) (append_assoc (json_tokens value) (end_array ∷ []) (members_tokens (member other (json.string it) members)))
-more key value (member other (json.object it) members) =
-    rw (same_key key) (append_assoc (json_tokens value) (end_array ∷ []) (members_tokens (member other (json.object it) members)))
+        → tail key (joined key value (member other (array items) below)) ≡ json_tokens value ++ tail key (member other (array items) below)
+    go true is = rw is (rw (same_key key) (append_assoc (json_tokens value) (items_tokens items) (members_tokens below)))
+    go false is = rw is (rw (same_key key) (append_assoc (json_tokens value) (end_array ∷ []) (members_tokens (member other (array items) below))))
+more key value (member other json.null below) =
+    rw (same_key key) (append_assoc (json_tokens value) (end_array ∷ []) (members_tokens (member other json.null below)))
+more key value (member other (json.boolean it) below) =
+    rw (same_key key) (append_assoc (json_tokens value) (end_array ∷ []) (members_tokens (member other (json.boolean it) below)))
+more key value (member other (json.number it) below) =
+    rw (same_key key) (append_assoc (json_tokens value) (end_array ∷ []) (members_tokens (member other (json.number it) below)))
+more key value (member other (json.string it) below) =
+    rw (same_key key) (append_assoc (json_tokens value) (end_array ∷ []) (members_tokens (member other (json.string it) below)))
+more key value (member other (json.object it) below) =
+    rw (same_key key) (append_assoc (json_tokens value) (end_array ∷ []) (members_tokens (member other (json.object it) below)))
 
 -- it ends before a member with another key
-other_member : (last key : List ℕ) (value : Json) (members : Members) → bytes_eq last key ≡ false
-    → tail last (member key value members) ≡ end_array ∷ members_tokens (member key value members)
-other_member last key json.null members is = refl
-other_member last key (json.boolean it) members is = refl
-other_member last key (json.number it) members is = refl
-other_member last key (json.string it) members is = refl
-other_member last key (array items) members is = rw is refl
-other_member last key (json.object it) members is = refl
+other_member : (last key : List ℕ) (value : Json) (below : Members) → bytes_eq last key ≡ false
+    → tail last (member key value below) ≡ end_array ∷ members_tokens (member key value below)
+other_member last key json.null below is = refl
+other_member last key (json.boolean it) below is = refl
+other_member last key (json.number it) below is = refl
+other_member last key (json.string it) below is = refl
+other_member last key (array items) below is = rw is refl
+other_member last key (json.object it) below is = refl
 
 -- what joined members begin with
-record Begins (key : List ℕ) (members : Members) : Type 0 where
+record Begins (key : List ℕ) (below : Members) : Type 0 where
   value : Json
   others : Members
-  are : members ≡ member key value others
+  are : below ≡ member key value others
 
-begins : (key : List ℕ) (value : Json) (members : Members) → Begins key (joined key value members)
+begins : (key : List ℕ) (value : Json) (below : Members) → Begins key (joined key value below)
 begins key value no_members = record { value = _; others = _; are = refl }
-begins key value (member other (array items) members) = go (bytes_eq key other) refl
+begins key value (member other (array items) below) = go (bytes_eq key other) refl
   where
-    go : (test : Bool) → bytes_eq key other ≡ test → Begins key (joined key value (member other (array items) members))
-    go true is = record { value = array (item value items); others = members; are = rw is refl }
-    go false is = record { value = array (item value no_items); others = member other (array items) members; are = rw is refl }
-begins key value (member other json.null members) = record { value = _; others = _; are = refl }
-begins key value (member other (json.boolean it) members) = record { value = _; others = _; are = refl }
-begins key value (member other (json.number it) members) = record { value = _; others = _; are = refl }
-begins key value (member other (json.string it) members) = record { value = _; others = _; are = refl }
-begins key value (member other (json.object it) members) = record { value = _; others = _; are = refl }
+    go : (test : Bool) → bytes_eq key other ≡ test → Begins key (joined key value (member other (array items) below))
+    go true is = record { value = array (item value items); others = below; are = rw is refl }
+    go false is = record { value = array (item value no_items); others = member other (array items) below; are = rw is refl }
+begins key value (member other json.null below) = record { value = _; others = _; are = refl }
+begins key value (member other (json.boolean it) below) = record { value = _; others = _; are = refl }
+begins key value (member other (json.number it) below) = record { value = _; others = _; are = refl }
+begins key value (member other (json.string it) below) = record { value = _; others = _; are = refl }
+begins key value (member other (json.object it) below) = record { value = _; others = _; are = refl }
 
 -- it ends before what is added with another key
-other_added : (last key : List ℕ) (value : Json) (members : Members) → bytes_eq last key ≡ false
-    → tail last (added key value members) ≡ end_array ∷ members_tokens (added key value members)
-other_added last key value members apart = go (is_list key) refl
+other_added : (last key : List ℕ) (value : Json) (below : Members) → bytes_eq last key ≡ false
+    → tail last (added key value below) ≡ end_array ∷ members_tokens (added key value below)
+other_added last key value below apart = go (is_list key) refl
   where
-    go : (test : Bool) → is_list key ≡ test → tail last (added key value members) ≡ end_array ∷ members_tokens (added key value members)
+    go : (test : Bool) → is_list key ≡ test → tail last (added key value below) ≡ end_array ∷ members_tokens (added key value below)
     go true is =
-        let are = begins key value members in
+        let are = begins key value below in
         rw is (rw are.are (other_member last key are.value are.others apart))
-    go false is = rw is (other_member last key value members apart)
+    go false is = rw is (other_member last key value below apart)
 
 -- a key is written before what is added with it
-opened : (key : List ℕ) (value : Json) (members : Members)
-    → members_tokens (added key value members) ≡ (opening key ++ json_tokens value) ++ left_after key members
-opened key value members = go (is_list key) refl ∙ sym (append_assoc (opening key) (json_tokens value) (left_after key members))
+opened : (key : List ℕ) (value : Json) (below : Members)
+    → members_tokens (added key value below) ≡ (opening key ++ json_tokens value) ++ left_after key below
+opened key value below = go (is_list key) refl ∙ sym (append_assoc (opening key) (json_tokens value) (left_after key below))
   where
-    go : (test : Bool) → is_list key ≡ test → members_tokens (added key value members) ≡ opening key ++ (json_tokens value ++ left_after key members)
-    go true is = rw is (opens key value members)
+    go : (test : Bool) → is_list key ≡ test → members_tokens (added key value below) ≡ opening key ++ (json_tokens value ++ left_after key below)
+    go true is = rw is (opens key value below)
     go false is = rw is refl
 
 -- the tokens of what is added after a value of the last key
-pub turn : (last key : List ℕ) (value : Json) (members : Members)
-    → left_after last (added key value members) ≡ (between last key ++ json_tokens value) ++ left_after key members
-turn last key value members = go (bytes_eq last key) refl (is_list last) refl (is_list key) refl
+pub turn : (last key : List ℕ) (value : Json) (below : Members)
+    → left_after last (added key value below) ≡ (between last key ++ json_tokens value) ++ left_after key below
+turn last key value below = go (bytes_eq last key) refl (is_list last) refl (is_list key) refl
   where
     go : (same : Bool) → bytes_eq last key ≡ same → (begun : Bool) → is_list last ≡ begun → (listed : Bool) → is_list key ≡ listed
-        → left_after last (added key value members) ≡ (between last key ++ json_tokens value) ++ left_after key members
+        → left_after last (added key value below) ≡ (between last key ++ json_tokens value) ++ left_after key below
     go true is begun begun_is true listed_is =
         let equal : last ≡ key = (bytes_eq-Decides last key).0 is in
-        rw (is, listed_is, equal, listed_is) (more key value members)
+        rw (is, listed_is, equal, listed_is) (more key value below)
     go true is begun begun_is false listed_is =
         let equal : last ≡ key = (bytes_eq-Decides last key).0 is in
         rw (is, listed_is, equal, listed_is) refl
     go false is true begun_is listed listed_is =
-        rw (is, begun_is) (other_added last key value members is ∙ ap (λ (ts : List Token). end_array ∷ ts) (opened key value members))
-    go false is false begun_is listed listed_is = rw (is, begun_is) (opened key value members)
+        rw (is, begun_is) (other_added last key value below is ∙ ap (λ (ts : List Token). end_array ∷ ts) (opened key value below))
+    go false is false begun_is listed listed_is = rw (is, begun_is) (opened key value below)
 
 -- the lines that are left are still to be written
 pub record MembersLeft (report : List ℕ) (old now : Written) (last left : List ℕ) : Type 0 where
@@ -205,12 +205,12 @@ module _ (report : List ℕ) (old now next : Written) (last left later key : Lis
       let value : Json = value_of (form_of key) (rest_of (front Line left)) in
       let lines : pieces Line left ≡ front Line left ∷ pieces Line later =
       pieces_next Line left some ∙ ap (λ (t : List ℕ). front Line left ∷ pieces Line t) (sym later_is) in
-      let members : members_of (pieces Line left) ≡ added key (value_of (form_of key) (rest_of (front Line left))) (members_of (pieces Line later)) =
+      let below : members_of (pieces Line left) ≡ added key (value_of (form_of key) (rest_of (front Line left))) (members_of (pieces Line later)) =
       ap members_of lines
       ∙ ap (λ (k : List ℕ). added k (value_of (form_of k) (rest_of (front Line left))) (members_of (pieces Line later))) (sym key_is) in
       let tokens : left_after last (members_of (pieces Line left))
       ≡ (between last key ++ json_tokens (value_of (form_of key) (rest_of (front Line left)))) ++ left_after key (members_of (pieces Line later)) =
-      ap (left_after last) members ∙ turn last key (value_of (form_of key) (rest_of (front Line left))) (members_of (pieces Line later)) in
+      ap (left_after last) below ∙ turn last key (value_of (form_of key) (rest_of (front Line left))) (members_of (pieces Line later)) in
       record {
         goes_on = ap (λ (ts : List Token). ts ++ left_after key (members_of (pieces Line later))) adds.added
             ∙ append_assoc now.tokens (between last key ++ json_tokens (value_of (form_of key) (rest_of (front Line left)))) (left_after key (members_of (pieces Line later)))

@@ -63,14 +63,14 @@ rest_of line = cond (is_part line) line (after Field line)
 -- the value comes first in the array of this key, which is the first member or is begun
 abbrev pub joined : List ℕ → Json → Members → Members
 joined key value no_members = member key (array (item value no_items)) no_members
-joined key value (member other (array items) members) =
-    cond (bytes_eq key other) (member key (array (item value items)) members)
-    (member key (array (item value no_items)) (member other (array items) members))
-joined key value members = member key (array (item value no_items)) members
+joined key value (member other (array items) below) =
+    cond (bytes_eq key other) (member key (array (item value items)) below)
+    (member key (array (item value no_items)) (member other (array items) below))
+joined key value below = member key (array (item value no_items)) below
 
 -- the value comes before these members: in an array where lines of its key come several times
 abbrev pub added : List ℕ → Json → Members → Members
-added key value members = cond (is_list key) (joined key value members) (member key value members)
+added key value below = cond (is_list key) (joined key value below) (member key value below)
 
 -- the members by the lines
 abbrev pub members_of : List (List ℕ) → Members

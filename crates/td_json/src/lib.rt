@@ -5,6 +5,7 @@
 mod fields;
 mod forms;
 mod held;
+pub mod laws;
 mod pieces;
 mod reporting;
 mod running;

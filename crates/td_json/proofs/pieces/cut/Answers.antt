@@ -1,4 +1,4 @@
-use Rattle.std.proofs.Common.{◌≡◌, ◌∙◌, length, sym, ap}
+use Rattle.std.proofs.Common.{◌∙◌, length, sym, ap}
 use Rattle.td_json.specs.Pieces.{front}
 use Rattle.td_json.proofs.Cuts.{whole, has_end, front_is, boundary, boundary_after, after_is}
 use Rattle.td_json.proofs.pieces.cut.Goals as goal

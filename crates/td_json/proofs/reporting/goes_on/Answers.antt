@@ -1,4 +1,4 @@
-use Rattle.std.proofs.Common.{◌≡◌, ◌∙◌, ◌&&◌, Bool, false, sym, ap}
+use Rattle.std.proofs.Common.{◌∙◌, ◌&&◌, Bool, sym, ap}
 use Rattle.td_json.specs.Forms.{is_list}
 use Rattle.td_json.proofs.reporting.goes_on.Goals as goal
 
