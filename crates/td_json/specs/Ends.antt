@@ -1,5 +1,5 @@
 -- How the program ends where its report is JSON.
-use Rattle.std.specs.Prelude.{◌≡◌, ◌≢◌, ℕ, List, [], ◌∷◌, ◌⊎◌, Some, codes}
+use Rattle.std.specs.Prelude.{◌≡◌, ℕ, List, [], ◌∷◌, ◌⊎◌}
 use Rattle.std.specs.Str.Lossy.{utf8_lossy}
 use Rattle.td_text.specs.Output.{Output}
 use Rattle.td_command.specs.declared.command.Request.{Request}
@@ -10,24 +10,8 @@ use Rattle.td_report.specs.Ends.{Streams, streams, Says}
 use Rattle.td_delivery.specs.Disks.{Disk}
 use Rattle.td_delivery.specs.Shown.{IsOutOfMemory}
 use Rattle.td_cli.specs.Requests.{RequestEnds, TellsOf}
-use Rattle.td_json.specs.declared.held.Held.{Held}
+use Rattle.td_json.specs.Holding.{nothing_yet, IsWhole, IsTorn}
 use Rattle.td_json.specs.Reports.{json_text}
-
--- ---- a report that is held
-
-abbrev pub held_output : Held → Output
-held_output held = record { sent = Some held.bytes.items; failures = held.failures }
-
-abbrev pub nothing_yet : Output
-nothing_yet = record { sent = Some []; failures = 0 }
-
--- all of this was written, without a failure
-abbrev pub IsWhole : List ℕ → Output → Type 0
-IsWhole report held = held ≡ record { sent = Some report; failures = 0 }
-
--- memory ran out before all was written
-abbrev pub IsTorn : Output → Type 0
-IsTorn held = held.failures ≢ 0
 
 -- ---- what goes out in its place
 

@@ -2,4 +2,5 @@ pub mod Pieces
 pub mod Forms
 pub mod Reports
 pub mod Writing
+pub mod Holding
 pub mod Ends

@@ -12,7 +12,7 @@ pub struct Held {
 
 impl Held {
     ghost use Rattle.std.specs.Prelude.{◌≡◌, IfSome, IfNone};
-    ghost use Rattle.td_json.specs.Ends.{held_output, nothing_yet, IsWhole, IsTorn};
+    ghost use Rattle.td_json.specs.Holding.{held_output, nothing_yet, IsWhole, IsTorn};
 
     /// Holds nothing yet.
     pub fn new(alloc: Global) -> Held
@@ -38,7 +38,7 @@ impl Held {
 
 impl Sink for Held {
     ghost use Rattle.td_text.specs.Output.{WritesSome};
-    ghost use Rattle.td_json.specs.Ends.{held_output};
+    ghost use Rattle.td_json.specs.Holding.{held_output};
 
     ghost output = { held_output };
 

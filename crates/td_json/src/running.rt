@@ -7,7 +7,8 @@ ghost use Rattle.td_command.specs.Flags.{is_asked};
 ghost use Rattle.td_command.specs.CommandLine.{IsCarriedOut};
 ghost use Rattle.td_delivery.specs.Disks.{disk_of};
 ghost use Rattle.td_cli.specs.Requests.{RequestEnds};
-ghost use Rattle.td_json.specs.Ends.{held_output, shown, SaysJson, SaysHeld, EndsAsJson, JsonEnds};
+ghost use Rattle.td_json.specs.Holding.{held_output};
+ghost use Rattle.td_json.specs.Ends.{shown, SaysJson, SaysHeld, EndsAsJson, JsonEnds};
 
 use crate::held::Held;
 use crate::reporting::json;
