@@ -9,6 +9,8 @@ pub mod laws;
 mod pieces;
 mod reporting;
 mod running;
+#[cfg(test)]
+mod tests;
 
 pub use reporting::json;
 pub use running::{asks_json, run_json};
