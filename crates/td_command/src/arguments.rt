@@ -17,7 +17,7 @@ use td_gates::Delay;
 pub(crate) const MOST_WORKERS: u32 = 64;
 
 /// The most nodes that a search may handle.
-pub(crate) const MOST_NODES: u32 = 10_000_000;
+pub const MOST_NODES: u32 = 10_000_000;
 
 /// The most parts of a question.
 pub(crate) const MOST_PARTS: u32 = 65_536;
