@@ -9,7 +9,7 @@ use Rattle.td_report.specs.declared.status.Status.{Status}
 use Rattle.td_report.specs.Ends.{Streams, streams, Says}
 use Rattle.td_command.specs.declared.command.Request.{Request}
 use Rattle.td_command.specs.CommandLine.{Asks, kinds_of}
-use Rattle.td_delivery.specs.Disks.{Disk}
+use Rattle.td_files.specs.Disks.{Disk}
 use Rattle.td_delivery.specs.Shown.{IsOutOfMemory, TellsText}
 use Rattle.td_cli.specs.Requests.{RequestEnds}
 use Rattle.td_json.specs.Holding.{nothing_yet}

@@ -7,7 +7,7 @@ use Rattle.td_command.specs.CommandLine.{Asks}
 use Rattle.td_files.specs.Files.{FileStep}
 use Rattle.td_report.specs.declared.status.Status.{Status}
 use Rattle.td_report.specs.Ends.{Streams, streams, Says}
-use Rattle.td_delivery.specs.Disks.{Disk}
+use Rattle.td_files.specs.Disks.{Disk}
 use Rattle.td_delivery.specs.Shown.{IsOutOfMemory}
 use Rattle.td_cli.specs.Requests.{RequestEnds, TellsOf}
 use Rattle.td_json.specs.Holding.{nothing_yet, IsWhole, IsTorn}

@@ -50,7 +50,7 @@ fn show<O: Sink, E: Sink>(
     ensures { SaysJson report.now ending result (streams (O.output out.old) (E.output err.old)) (streams (O.output out.new) (E.output err.new)) }
 {
     match text_of(alloc, report) {
-        Ok(text) => say(&text, ending, out, err),
+        Ok(text) => say(text.as_slice(), ending, out, err),
         Err(_) => tell(err, b"tdelay: out of memory\n", Status::Device),
     }
 }
