@@ -15,8 +15,8 @@ use Rattle.td_json.specs.Reports.{json_text}
 
 -- ---- what goes out in its place
 
--- The JSON of a report, or nothing where there is none. Reports are ASCII; of other bytes, what isn't
--- UTF-8 becomes the replacement character.
+-- The JSON of a report, or nothing where there is none. Reports are ASCII; of other bytes, what
+-- isn't UTF-8 becomes the replacement character.
 abbrev pub shown : List ℕ → List ℕ
 shown [] = []
 shown (byte ∷ rest) = json_text (utf8_lossy (byte ∷ rest))
