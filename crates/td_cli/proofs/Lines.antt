@@ -10,13 +10,13 @@ use Rattle.td_nets.specs.declared.netlist.Scale.TheVariants as scale
 use Rattle.td_nets.specs.Scales.{scale_text}
 use Rattle.td_report.specs.Reports.{newline, unit_line, defaulted_line}
 use Rattle.td_cli.specs.WorstReports.{exact_line, between_line}
-use Rattle.td_cli.specs.Sentences.{IsWithout, IsLine, IsThird}
+use Rattle.td_cli.specs.Sentences.{IsWithout, IsLine, IsThird, accepted_line}
 
 abbrev tail_of : List ℕ → List ℕ
 tail_of [] = []
 tail_of (x ∷ xs) = xs
 
-abbrev head_of : List ℕ → ℕ
+abbrev pub head_of : List ℕ → ℕ
 head_of [] = 0
 head_of (x ∷ xs) = x
 
@@ -163,3 +163,12 @@ one_between low high least most r s a b c d same =
         ∙ (append_assoc (codes "between " ++ decimal low ++ codes " ") (decimal high) (10 ∷ r)
         ∙ (append_assoc (codes "between " ++ decimal low) (codes " ") (decimal high ++ 10 ∷ r)
         ∙ append_assoc (codes "between ") (decimal low) (32 ∷ (decimal high ++ 10 ∷ r))))
+
+-- what begins with the line of an accepted time and with another one has the same time
+pub one_accepted : (this that : ℕ) (r s : List ℕ) → this < 2 ^ 64 → that < 2 ^ 64 → accepted_line this ++ r ≡ accepted_line that ++ s → this ≡ that
+one_accepted this that r s fits fit same =
+    let shape : (time : ℕ) (l : List ℕ) → accepted_line time ++ l ≡ codes "accepted " ++ (decimal time ++ 10 ∷ l) =
+    λ time l. append_assoc (codes "accepted " ++ decimal time) newline l ∙ append_assoc (codes "accepted ") (decimal time) (10 ∷ l) in
+    decimal_injective this that fits fit
+    (split_at 10 (decimal this) (decimal that) r s (without 10 this (omega arith)) (without 10 that (omega arith))
+    (cut (codes "accepted ") _ _ (sym (shape this r) ∙ same ∙ shape that s))).0

@@ -40,7 +40,7 @@ appended (Some xs) (Some ys) before report bytes appends old_is new_is =
     (sym (some-same ys (before ++ report) new_is) ∙ appends ∙ ap (λ (l : List ℕ). l ++ bytes) (some-same xs before old_is))
 
 -- where nothing came out, the report is empty
-nothing_more : (old new : Option (List ℕ)) (before report : List ℕ) → new ≡ old → old ≡ Some before → new ≡ Some (before ++ report) → report ≡ []
+pub nothing_more : (old new : Option (List ℕ)) (before report : List ℕ) → new ≡ old → old ≡ Some before → new ≡ Some (before ++ report) → report ≡ []
 nothing_more old new before report same old_is new_is =
     cut before report [] (some-same (before ++ report) before (sym new_is ∙ same ∙ old_is) ∙ sym (append-nil before))
 
@@ -116,6 +116,10 @@ between_of asked budget low high (answer.Between least most pair nodes why) r ch
     ∙ append_assoc (between_line least most) (cause_line why) (pair_lines pair nodes ++ chain)) in
     let bounds = is.worst worst is_worst in
     (omega (arith, figures.0, bounds.0), omega (arith, figures.1, bounds.1))
+
+-- no kind is among none
+pub none_among : (kind : ErrorKind) (kinds : List ErrorKind) → kinds ≡ [] → IsAmong kind kinds → ⊥
+none_among kind kinds none among = subst (λ (kinds : List ErrorKind). IsAmong kind kinds) none among
 
 -- ---- what the words ask
 
@@ -207,9 +211,6 @@ module _ (disk : Disk) (words : List Text) where
   true_of_request search it (request.Join asked) asks steps status old new ends = absurd (other_name (request.Join asked) refl (same_command search it (request.Join asked) asks))
   true_of_request search it (request.Check asked) asks steps status old new ends = absurd (other_name (request.Check asked) refl (same_command search it (request.Check asked) asks))
   true_of_request search it (request.Info asked) asks steps status old new ends = absurd (other_name (request.Info asked) refl (same_command search it (request.Info asked) asks))
-
-  none_among : (kind : ErrorKind) (kinds : List ErrorKind) → kinds ≡ [] → IsAmong kind kinds → ⊥
-  none_among kind kinds none among = subst (λ (kinds : List ErrorKind). IsAmong kind kinds) none among
 
   -- What the program prints of the worst delay is true.
   pub is_true : (steps : List FileStep) (status : Status) (old new : Streams) → ProgramEnds disk words steps status old new → AskForWorst words

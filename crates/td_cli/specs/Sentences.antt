@@ -1,11 +1,17 @@
--- What is true of what `worst` prints.
-use Rattle.std.specs.Prelude.{⊤, ◌≡◌, ◌≢◌, ◌<◌, ◌≤◌, ◌^◌, ℕ, List, [], ◌∷◌, ◌++◌, Some, codes, length}
+-- What is true of what `worst` and `check` print.
+use Rattle.std.specs.Prelude.{⊤, ◌≡◌, ◌≢◌, ◌<◌, ◌≤◌, ◌^◌, ℕ, List, [], ◌∷◌, ◌++◌, Some, codes, decimal, length}
 use Rattle.clap.specs.Words.{Row, Text, subcommand_of}
 use Rattle.td_circuit.specs.Settings.{Setting}
 use Rattle.td_domain.specs.Admits.{Admitted}
 use Rattle.td_domain.specs.Worst.{IsWorst}
+use Rattle.td_nets.specs.Netlist.{Netlist}
+use Rattle.td_netlist.specs.Means.{Means}
+use Rattle.td_certificate.specs.declared.certificate.Certificate.{Certificate}
+use Rattle.td_certificate.specs.Accepts.{setting_of}
+use Rattle.td_certificate.specs.Spelling.{Spells}
+use Rattle.td_command.specs.declared.command.CheckRequest.{CheckRequest}
 use Rattle.td_command.specs.declared.command.WorstRequest.{WorstRequest}
-use Rattle.td_command.specs.CommandLine.{program, kinds_of, AsksWorst}
+use Rattle.td_command.specs.CommandLine.{program, kinds_of, AsksCheck, AsksWorst}
 use Rattle.td_files.specs.Disks.{Disk}
 use Rattle.td_report.specs.Reports.{newline, IsSetting}
 use Rattle.td_report.specs.Vectors.{words_of}
@@ -65,3 +71,40 @@ pub record IsTrueReport (disk : Disk) (words : List Text) (report : List ℕ) : 
 -- the words ask for a worst delay
 abbrev pub AskForWorst : List Text → Type 0
 AskForWorst words = (request : WorstRequest) × AskWorst words request
+
+-- ---- the sentence of `check`
+
+-- the program takes the words, and they ask for this check
+pub record AskCheck (words : List Text) (request : CheckRequest) : Type 0 where
+  pub taken : kinds_of words ≡ []
+  pub rows : List Row
+  pub entered : subcommand_of program words ≡ Some (codes "check", rows)
+  pub asks : AsksCheck rows request
+
+-- The words name a netlist's file, whose text means a netlist, and a certificate's file, whose text
+-- spells a certificate of this time. The time is the worst delay of the pairs that the certificate
+-- admits, in that netlist and with the certificate's moments.
+pub record IsCheckedWorst (disk : Disk) (words : List Text) (time : ℕ) : Type 0 where
+  pub request : CheckRequest
+  pub asked : AskCheck words request
+  pub text : List ℕ
+  pub read : disk.holds request.file.now text
+  pub netlist : Netlist
+  pub means : Means text request.default netlist
+  pub spelled : List ℕ
+  pub spelled_read : disk.holds request.certificate.now spelled
+  pub certificate : Certificate
+  pub spells : Spells certificate spelled
+  pub is_time : certificate.time ≡ time
+  pub worst : IsWorst (setting_of netlist certificate) certificate.question.admit time
+
+abbrev pub accepted_line : ℕ → List ℕ
+accepted_line time = codes "accepted " ++ decimal time ++ newline
+
+-- where the report begins with `accepted N`, N is the worst delay of what the certificate is about
+abbrev pub IsTrueCheck : Disk → List Text → List ℕ → Type 0
+IsTrueCheck disk words report = (time : ℕ) (rest : List ℕ) → time < 2 ^ 64 → report ≡ accepted_line time ++ rest → IsCheckedWorst disk words time
+
+-- the words ask for a check
+abbrev pub AskForCheck : List Text → Type 0
+AskForCheck words = (request : CheckRequest) × AskCheck words request

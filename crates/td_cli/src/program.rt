@@ -6,7 +6,7 @@ ghost use Rattle.td_report.specs.Ends.{streams};
 ghost use Rattle.td_files.specs.Files.{Takes};
 ghost use Rattle.td_delivery.specs.Shown.{IsOutOfMemory};
 ghost use Rattle.td_cli.specs.Requests.{is_search, AsksSearch, RequestRuns, RequestEnds, ProgramEnds, RefusesWords};
-ghost use Rattle.td_cli.specs.Sentences.{AskForWorst, IsTrueReport};
+ghost use Rattle.td_cli.specs.Sentences.{AskForCheck, AskForWorst, IsTrueCheck, IsTrueReport};
 
 use crate::{bound, check, info, join, parts, path, sim, worst};
 use std::alloc::Global;
@@ -35,6 +35,9 @@ pub fn run<R: Threads + Wait + Sync, S: AsStr, F: Files, O: Sink, E: Sink>(
     // What a report says of a worst delay is true.
     ensures says_true { AskForWorst (map S.text words.now) → (before report : List ℕ) → (O.output out.old).sent ≡ Some before
         → (O.output out.new).sent ≡ Some (before ++ report) → IsTrueReport (F.disk files.old) (map S.text words.now) report }
+    // So is what a report says of an accepted certificate.
+    ensures says_accepted { AskForCheck (map S.text words.now) → (before report : List ℕ) → (O.output out.old).sent ≡ Some before
+        → (O.output out.new).sent ≡ Some (before ++ report) → IsTrueCheck (F.disk files.old) (map S.text words.now) report }
 {
     match parse(alloc, words) {
         Ok(request) => carry_out(rt, alloc, files, &request, out, err),

@@ -2,6 +2,7 @@ use Rattle.std.proofs.Common.{map, refl, inl}
 use Rattle.td_delivery.proofs.Endings.{nothing_done}
 use Rattle.td_cli.proofs.Programs.{refused_words}
 use Rattle.td_cli.proofs.Sentences.{is_true}
+use Rattle.td_cli.proofs.Accepted.{is_accepted}
 use Rattle.td_cli.proofs.program.run.Goals as goal
 
 pub returns-in-Err-clause-ends : goal.returns-in-Err-clause-ends
@@ -25,3 +26,13 @@ pub returns-in-Ok-clause-says_true : goal.returns-in-Ok-clause-says_true
 returns-in-Ok-clause-says_true g c asked before report old_is new_is =
     let ended = returns-in-Ok-clause-ends g c in
     is_true (g.F.Files.disk c.args.files.now) (map g.S.AsStr.text c.args.words.now) ended.0 _ _ _ ended.2 asked before report old_is new_is
+
+pub returns-in-Err-clause-says_accepted : goal.returns-in-Err-clause-says_accepted
+returns-in-Err-clause-says_accepted g c asked before report old_is new_is =
+    let ended = returns-in-Err-clause-ends g c in
+    is_accepted (g.F.Files.disk c.args.files.now) (map g.S.AsStr.text c.args.words.now) ended.0 _ _ _ ended.2 asked before report old_is new_is
+
+pub returns-in-Ok-clause-says_accepted : goal.returns-in-Ok-clause-says_accepted
+returns-in-Ok-clause-says_accepted g c asked before report old_is new_is =
+    let ended = returns-in-Ok-clause-ends g c in
+    is_accepted (g.F.Files.disk c.args.files.now) (map g.S.AsStr.text c.args.words.now) ended.0 _ _ _ ended.2 asked before report old_is new_is
