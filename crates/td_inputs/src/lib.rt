@@ -1,0 +1,21 @@
+//! What the words of a command line say of a netlist's inputs by their names, and the words that
+//! say the same by place.
+#![tactic(auto)]
+
+mod cells;
+mod labels;
+mod numbers;
+mod scanning;
+#[cfg(test)]
+mod tests;
+mod topic;
+mod value;
+mod writing;
+
+pub use cells::{clash, together};
+pub use labels::{Label, label_for, labels_of};
+pub use numbers::number;
+pub use scanning::{Mode, Scan, Taken, cut, parted};
+pub use topic::Topic;
+pub use value::{Value, moment, named_count, pin_value, said};
+pub use writing::{Letters, cells_of, moments_word, pattern};
