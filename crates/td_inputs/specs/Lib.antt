@@ -4,3 +4,4 @@ pub mod Labels
 pub mod Numbers
 pub mod Cells
 pub mod Patterns
+pub mod Readings

@@ -46,7 +46,8 @@ pub fn together(
     others: &[Option<u64>],
 ) -> Result<Vec<Option<u64>>, AllocError>
     requires { length ones.now ≡ length others.now }
-    ensures { IfOk result (λ cells. cells.items ≡ together ones.now others.now) }
+    ensures both { IfOk result (λ cells. cells.items ≡ together ones.now others.now) }
+    ensures each { IfOk result (λ cells. length cells.items ≡ length ones.now) }
 {
     let mut cells = Vec::new(alloc);
     for (place, one) in ones.iter().enumerate() {

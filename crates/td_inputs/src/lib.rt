@@ -5,6 +5,7 @@
 mod cells;
 mod labels;
 mod numbers;
+mod sayings;
 mod scanning;
 #[cfg(test)]
 mod tests;
@@ -15,6 +16,7 @@ mod writing;
 pub use cells::{clash, together};
 pub use labels::{Label, label_for, labels_of};
 pub use numbers::number;
+pub use sayings::{WordFault, has, merged, reading};
 pub use scanning::{Mode, Scan, Taken, cut, parted};
 pub use topic::Topic;
 pub use value::{Value, moment, named_count, pin_value, said};

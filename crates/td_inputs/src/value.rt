@@ -82,7 +82,8 @@ pub fn said(
     word: &[u8],
     value: Value,
 ) -> Result<Vec<Option<u64>>, AllocError>
-    ensures { IfOk result (λ cells. cells.items ≡ said word.now value (map label_in labels.now)) }
+    ensures said { IfOk result (λ cells. cells.items ≡ said word.now value (map label_in labels.now)) }
+    ensures each { IfOk result (λ cells. length cells.items ≡ length labels.now) }
 {
     let mut left = named_count(labels, word);
     let mut cells = Vec::new(alloc);
