@@ -1,5 +1,5 @@
 -- Steps of the loops over what is said of inputs.
-use Rattle.std.proofs.Common.{◌≡◌, ◌∙◌, ℕ, nat_eq, ◌+◌, ◌-◌, ◌<◌, ◌≤◌, ◌^◌, ◌/◌, Bool, true, false, cond, List, [], ◌∷◌, ◌++◌, Option, None, Some, length, drop, get_or, map, append_assoc, decimal, unwrap_or, zero, suc, sym, ap, subst, arith}
+use Rattle.std.proofs.Common.{◌≡◌, ◌∙◌, ℕ, nat_eq, ◌+◌, ◌-◌, ◌<◌, ◌≤◌, ◌^◌, ◌/◌, Bool, true, false, cond, List, [], ◌∷◌, ◌++◌, Option, None, Some, length, drop, get_or, Result, Ok, Err, IfOk, IfNone, map, append_assoc, decimal, unwrap_or, zero, suc, sym, ap, subst, arith}
 use Rattle.std.proofs.Math.Pow.{pow_mono}
 use Rattle.std.proofs.lemmas.List.{at_drop_more}
 use Rattle.std.proofs.lemmas.Nat.{shr_below}
@@ -10,6 +10,7 @@ use Rattle.td_inputs.specs.Labels.{is_named, label_in}
 use Rattle.td_inputs.specs.Numbers.{digits_from, with_digit}
 use Rattle.td_inputs.specs.declared.writing.Letters.{Letters}
 use Rattle.td_inputs.specs.declared.writing.Letters.TheVariants.{Trits, Holds}
+use Rattle.td_inputs.specs.Placings.{GivesCells}
 use Rattle.td_inputs.specs.Patterns.{cell_of, letter_of, moments_at, separator}
 use Rattle.td_inputs.specs.Scans.{Text, cut_from}
 
@@ -96,3 +97,14 @@ not_spelled letters (c ∷ word) (suc i) within none (cell ∷ cells) same =
     tail : List ℕ → List ℕ
     tail [] = []
     tail (x ∷ xs) = xs
+
+-- a word that spells no cells gives none
+pub not_given : (letters : Letters) (count : ℕ) (word : Text) → 0 < count → ((cells : List (Option ℕ)) → ¬ (word ≡ map (letter_of letters) cells))
+    → (cells : List (Option ℕ)) → ¬ GivesCells letters count (Some word) cells
+not_given letters count word some none [] has = (let none_left : 0 ≡ count = has.0 in omega arith)
+not_given letters count word some none (cell ∷ rest) has = none (cell ∷ rest) has.1
+
+pub if_none : {A E : Type 0} (P Q : Type 0) → (P → Q) → (r : Result (Option A) E) → IfOk r (λ found. IfNone found P) → IfOk r (λ found. IfNone found Q)
+if_none P Q f (Ok None) h = f h
+if_none P Q f (Ok (Some x)) h = tt
+if_none P Q f (Err e) h = tt

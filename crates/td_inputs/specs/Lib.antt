@@ -5,3 +5,4 @@ pub mod Numbers
 pub mod Cells
 pub mod Patterns
 pub mod Readings
+pub mod Placings

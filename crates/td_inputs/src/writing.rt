@@ -1,7 +1,7 @@
 //! Words that say something of each input, by place.
 
 ghost use Rattle.std.specs.Prelude.{◌≡◌, ◌∷◌, ◌++◌, [], ℕ, List, Option, decimal, map, string_bytes, OnOk, IfOk, IfSome, IfNone};
-ghost use Rattle.td_inputs.specs.Patterns.{cell_of, letter_of, moments_text, separator};
+ghost use Rattle.td_inputs.specs.Patterns.{cell_of, letter_of, moments_at, moments_text, pattern_text, separator};
 
 use std::alloc::{AllocError, Global};
 
@@ -39,8 +39,8 @@ fn cell_of(letters: Letters, letter: u8) -> Option<Option<u64>>
     }
 }
 
-/// The word that says this of each input.
-pub fn pattern(alloc: Global, letters: Letters, cells: &[Option<u64>]) -> Result<String, AllocError>
+/// The characters of what is said of each input.
+fn characters(alloc: Global, letters: Letters, cells: &[Option<u64>]) -> Result<String, AllocError>
     ensures { IfOk result (λ word. string_bytes word ≡ map (letter_of letters) cells.now) }
 {
     let mut word = String::new(alloc);
@@ -48,6 +48,16 @@ pub fn pattern(alloc: Global, letters: Letters, cells: &[Option<u64>]) -> Result
         word.push_str(letter(letters, *cell))?;
     }
     Ok(word)
+}
+
+/// The word that says this of each input, `none` where there are none.
+pub fn pattern(alloc: Global, letters: Letters, cells: &[Option<u64>]) -> Result<String, AllocError>
+    ensures { IfOk result (λ word. string_bytes word ≡ pattern_text letters cells.now) }
+{
+    if cells.is_empty() {
+        return String::from_str(alloc, "none");
+    }
+    characters(alloc, letters, cells)
 }
 
 /// What a word says of each input, if each of its characters says something.
@@ -85,9 +95,20 @@ fn push_number(alloc: Global, word: &mut String, number: u64) -> Result<(), Allo
     Ok(())
 }
 
-/// The word that gives each input its moment, 0 where nothing is said of it.
+/// The word that gives each input its moment, 0 where nothing is said of it; `none` where there are
+/// no inputs.
 pub fn moments_word(alloc: Global, cells: &[Option<u64>]) -> Result<String, AllocError>
     ensures { IfOk result (λ word. string_bytes word ≡ moments_text cells.now) }
+{
+    if cells.is_empty() {
+        return String::from_str(alloc, "none");
+    }
+    listed(alloc, cells)
+}
+
+/// The moments of inputs, with commas between them.
+fn listed(alloc: Global, cells: &[Option<u64>]) -> Result<String, AllocError>
+    ensures { IfOk result (λ word. string_bytes word ≡ moments_at 0 cells.now) }
 {
     let mut word = String::new(alloc);
     for (place, cell) in cells.iter().enumerate() {

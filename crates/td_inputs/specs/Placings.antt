@@ -1,0 +1,58 @@
+-- Options by place that say what options by name and by place say together.
+use Rattle.std.specs.Prelude.{◌≡◌, ℕ, List, [], ◌∷◌, ◌++◌, map, length, replicate, take, drop, string_bytes, Bool, true, false, ◌⊎◌, Option, None, Some, option_map, Result, Ok, Err, if◌then◌else◌}
+use Rattle.std.specs.Borrow.{Bor}
+use Rattle.td_inputs.specs.declared.placing.Placing.{Placing as CodePlacing}
+use Rattle.td_inputs.specs.declared.placing.Placing.TheVariants as code
+use Rattle.td_inputs.specs.declared.topic.Topic.{Topic}
+use Rattle.td_inputs.specs.declared.topic.Topic.TheVariants.{At}
+use Rattle.td_inputs.specs.declared.writing.Letters.{Letters}
+use Rattle.td_inputs.specs.Labels.{Label}
+use Rattle.td_inputs.specs.Patterns.{moments_text, pattern_text}
+use Rattle.td_inputs.specs.Readings.{Cells, Fault, TwoForms, fault_in, has, merge}
+use Rattle.td_inputs.specs.Scans.{Taken, Text}
+
+-- the word of an option, where it is given
+abbrev pub text_of : Option (Bor Text) → Option Text
+text_of word = option_map (λ word. word.now) word
+
+-- the word of an option by place, or left out; or what is wrong with a word of an option by name; or
+-- the given word gives nothing for the inputs
+pub data Placing : Type 0 where
+  Word : Option Text → Placing
+  Wrong : Fault → Placing
+  Unread : Placing
+
+abbrev pub placing_in : CodePlacing → Placing
+placing_in (code.Word word) = Word (option_map (λ word. string_bytes word) word)
+placing_in (code.Wrong fault) = Wrong (fault_in fault)
+placing_in code.Unread = Unread
+
+-- what the given word of an option by place says of each of that many inputs: nothing where it is
+-- left out
+abbrev pub GivesCells : Letters → ℕ → Option Text → Cells → Type 0
+GivesCells letters count None cells = cells ≡ replicate count None
+GivesCells letters count (Some word) cells = (length cells ≡ count) × (word ≡ pattern_text letters cells)
+
+abbrev pub patterned : Letters → Result Cells Fault → Placing
+patterned letters (Ok cells) = Word (Some (pattern_text letters cells))
+patterned letters (Err fault) = Wrong fault
+
+-- The word of an option by place, into which the words of an option by name are merged. Where there
+-- are none it is the given one.
+abbrev pub IsPlaced : Letters → Topic → List Label → List Taken → Option Text → Placing → Type 0
+IsPlaced letters topic labels taken given placing =
+    ((has topic taken ≡ false) × (placing ≡ Word given))
+    ⊎ ((has topic taken ≡ true) × ((start : Cells) × GivesCells letters (length labels) given start × (placing ≡ patterned letters (merge topic labels start taken))))
+    ⊎ ((has topic taken ≡ true) × (placing ≡ Unread) × ((start : Cells) → ¬ GivesCells letters (length labels) given start))
+
+abbrev pub timed : Result Cells Fault → Placing
+timed (Ok cells) = Word (Some (moments_text cells))
+timed (Err fault) = Wrong fault
+
+abbrev pub timed_by : List Label → List Taken → Option Text → Placing
+timed_by labels taken (Some given) = Wrong TwoForms
+timed_by labels taken None = timed (merge At labels (replicate (length labels) None) taken)
+
+-- the word of `--at` by place: it is given by name or by place
+abbrev pub placed_moments : List Label → List Taken → Option Text → Placing
+placed_moments labels taken given = if has At taken then timed_by labels taken given else Word given
