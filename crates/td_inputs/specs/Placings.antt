@@ -1,12 +1,15 @@
 -- Options by place that say what options by name and by place say together.
-use Rattle.std.specs.Prelude.{◌≡◌, ℕ, List, [], ◌∷◌, ◌++◌, map, length, replicate, take, drop, string_bytes, Bool, true, false, ◌⊎◌, Option, None, Some, option_map, Result, Ok, Err, if◌then◌else◌}
+use Rattle.std.specs.Prelude.{◌≡◌, ℕ, List, [], ◌∷◌, ◌++◌, map, length, replicate, take, drop, String, string_bytes, Bool, true, false, ◌⊎◌, Option, None, Some, option_map, Result, Ok, Err, if◌then◌else◌}
 use Rattle.std.specs.Borrow.{Bor}
 use Rattle.td_inputs.specs.declared.placing.Placing.{Placing as CodePlacing}
 use Rattle.td_inputs.specs.declared.placing.Placing.TheVariants as code
 use Rattle.td_inputs.specs.declared.topic.Topic.{Topic}
-use Rattle.td_inputs.specs.declared.topic.Topic.TheVariants.{At}
+use Rattle.td_inputs.specs.declared.topic.Topic.TheVariants.{First, Second, Hold, At}
+use Rattle.td_inputs.specs.declared.words.ByPlace.{ByPlace}
 use Rattle.td_inputs.specs.declared.writing.Letters.{Letters}
+use Rattle.std.specs.Global.{Global}
 use Rattle.td_inputs.specs.Labels.{Label}
+use Rattle.td_inputs.specs.Topics.{option_of}
 use Rattle.td_inputs.specs.Patterns.{moments_text, pattern_text}
 use Rattle.td_inputs.specs.Readings.{Cells, Fault, TwoForms, fault_in, has, merge}
 use Rattle.td_inputs.specs.Scans.{Taken, Text}
@@ -56,3 +59,33 @@ timed_by labels taken None = timed (merge At labels (replicate (length labels) N
 -- the word of `--at` by place: it is given by name or by place
 abbrev pub placed_moments : List Label → List Taken → Option Text → Placing
 placed_moments labels taken given = if has At taken then timed_by labels taken given else Word given
+
+abbrev pub texts_of : List (String Global) → List Text
+texts_of words = map (λ (word : String Global). string_bytes word) words
+
+abbrev pub word_of : Option (String Global) → Option Text
+word_of word = option_map (λ (word : String Global). string_bytes word) word
+
+-- an option and its word, where it has one
+abbrev pub option_words : Topic → Option Text → List Text
+option_words topic None = []
+option_words topic (Some word) = option_of topic ∷ word ∷ []
+
+-- options by place, each with its word where it isn't left out
+pub record Placed : Type 0 where
+  pub first : Option Text
+  pub second : Option Text
+  pub hold : Option Text
+  pub at : Option Text
+
+abbrev pub words_by_place : ByPlace → Placed
+words_by_place options = record {
+  first = word_of options.first;
+  second = word_of options.second;
+  hold = word_of options.hold;
+  at = word_of options.at;
+}
+
+-- the words of these options
+abbrev pub placed_words : Placed → List Text
+placed_words options = option_words First options.first ++ option_words Second options.second ++ option_words Hold options.hold ++ option_words At options.at

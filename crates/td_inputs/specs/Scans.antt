@@ -1,9 +1,10 @@
 -- The words of a command line, parted: those of options about inputs, and the others.
-use Rattle.std.specs.Prelude.{ℕ, List, [], ◌∷◌, ◌++◌, ◌==◌, Option, None, Some, codes, map, option_map, if◌then◌else◌}
+use Rattle.std.specs.Prelude.{ℕ, List, [], ◌∷◌, ◌++◌, ◌==◌, Bool, true, false, Option, None, Some, is_some, codes, map, option_map, take, drop, if◌then◌else◌}
 use Rattle.std.specs.Borrow.{Bor}
 use Rattle.std.specs.List.{fold}
 use Rattle.std.specs.Str.{bytes_eq}
 use Rattle.td_inputs.specs.declared.topic.Topic.{Topic}
+use Rattle.td_inputs.specs.declared.topic.Topic.TheVariants.{First, Second, Hold, At, Pin, HoldInput}
 use Rattle.td_inputs.specs.declared.scanning.Taken.{Taken as CodeTaken}
 use Rattle.td_inputs.specs.declared.scanning.Mode.{Mode}
 use Rattle.td_inputs.specs.declared.scanning.Mode.TheVariants.{Reading, Awaiting, Ended}
@@ -13,14 +14,18 @@ use Rattle.td_inputs.specs.Topics.{option_of, topic_of}
 abbrev pub Text : Type 0
 Text = List ℕ
 
--- a word that an option about inputs has
+-- a word that an option by name has
 pub record Taken : Type 0 where
   pub topic : Topic
   pub text : Text
 
 -- the words so far, parted, and what comes next
 pub record Scan : Type 0 where
+  -- words that are none of options about inputs
   pub rest : List Text
+  -- options about inputs by place, and their words
+  pub given : List Text
+  -- the words of options by name
   pub taken : List Taken
   pub mode : Mode
 
@@ -30,6 +35,7 @@ taken_in taken = record { topic = taken.topic; text = taken.text.now }
 abbrev pub scan_in : CodeScan → Scan
 scan_in scan = record {
   rest = map (λ word. word.now) scan.rest.items;
+  given = map (λ word. word.now) scan.given.items;
   taken = map taken_in scan.taken.items;
   mode = scan.mode;
 }
@@ -53,13 +59,38 @@ joined_topic None = None
 joined_topic (Some parts) = with_topic (topic_of parts.0) parts.1
 
 abbrev pub nothing : Scan
-nothing = record { rest = []; taken = []; mode = Reading }
+nothing = record { rest = []; given = []; taken = []; mode = Reading }
 
 abbrev pub with_rest : Scan → Text → Scan
 with_rest scan word = record scan { rest = scan.rest ++ word ∷ [] }
 
 abbrev pub with_taken : Scan → Topic → Text → Scan
 with_taken scan topic text = record scan { taken = scan.taken ++ (record { topic = topic; text = text }) ∷ []; mode = Reading }
+
+abbrev pub with_given : Scan → Text → Text → Scan
+with_given scan option word = record scan { given = (scan.given ++ option ∷ []) ++ word ∷ []; mode = Reading }
+
+abbrev pub with_joined : Scan → Text → Scan
+with_joined scan word = record scan { given = scan.given ++ word ∷ [] }
+
+-- an option that has this word says something of inputs by their names; `--at` does so with a `=`
+-- alone
+abbrev pub is_by_name : Topic → Text → Bool
+is_by_name First text = false
+is_by_name Second text = false
+is_by_name Hold text = false
+is_by_name At text = is_some (cut 61 text)
+is_by_name Pin text = true
+is_by_name HoldInput text = true
+
+-- the word of an option about inputs
+abbrev pub answered : Scan → Topic → Text → Scan
+answered scan topic word = if is_by_name topic word then with_taken scan topic word else with_given scan (option_of topic) word
+
+-- an option about inputs that has its word after a `=`
+abbrev pub answered_joined : Scan → Taken → Text → Scan
+answered_joined scan taken word =
+    if is_by_name taken.topic taken.text then with_taken scan taken.topic taken.text else with_joined scan word
 
 abbrev pub awaiting : Scan → Topic → Scan
 awaiting scan topic = record scan { mode = Awaiting topic }
@@ -69,7 +100,7 @@ ended scan word = record (with_rest scan word) { mode = Ended }
 
 abbrev pub read_taken : Scan → Text → Option Taken → Scan
 read_taken scan word None = with_rest scan word
-read_taken scan word (Some taken) = with_taken scan taken.topic taken.text
+read_taken scan word (Some taken) = answered_joined scan taken word
 
 -- a word that is no option about inputs by itself: it may have its option before a `=`
 abbrev pub read_joined : Scan → Text → Scan
@@ -85,7 +116,7 @@ read_plain scan word = if bytes_eq word (codes "--") then ended scan word else r
 
 abbrev pub turn_by : Mode → Scan → Text → Scan
 turn_by Reading scan word = read_plain scan word
-turn_by (Awaiting topic) scan word = with_taken scan topic word
+turn_by (Awaiting topic) scan word = answered scan topic word
 turn_by Ended scan word = with_rest scan word
 
 -- the next word
@@ -100,6 +131,10 @@ closed_by Ended scan = scan
 -- the end of the words: an option without a word stays where it is
 abbrev pub closed : Scan → Scan
 closed scan = closed_by scan.mode scan
+
+-- the words with these after the command's name
+abbrev pub with_words : List Text → List Text → List Text
+with_words rest words = take 2 rest ++ words ++ drop 2 rest
 
 -- the words of a command line, parted
 abbrev pub scan_of : List Text → Scan

@@ -12,6 +12,7 @@ mod scanning;
 mod tests;
 mod topic;
 mod value;
+mod words;
 mod writing;
 
 pub use cells::{clash, together};
@@ -22,4 +23,5 @@ pub use sayings::{WordFault, has, merged, reading};
 pub use scanning::{Mode, Scan, Taken, cut, parted};
 pub use topic::Topic;
 pub use value::{Value, moment, named_count, pin_value, said};
+pub use words::{ByPlace, push_option, push_words, with_options, with_words};
 pub use writing::{Letters, cells_of, moments_word, pattern};

@@ -1,13 +1,13 @@
 //! Which words of a command line are options about inputs, and which are others.
 
-ghost use Rattle.std.specs.Prelude.{◌≡◌, map, option_map, IfOk, OnOk};
-ghost use Rattle.td_inputs.specs.Scans.{closed, cut, joined_topic, nothing, scan_in, scan_of, taken_in, turn, with_rest, with_taken};
+ghost use Rattle.std.specs.Prelude.{◌≡◌, map, option_map, IfOk};
+ghost use Rattle.td_inputs.specs.Scans.{cut, is_by_name, joined_topic, scan_in, scan_of, taken_in};
 
 use crate::topic::{Topic, topic_of};
 use std::alloc::{AllocError, Global};
 use std::convert::AsStr;
 
-/// A word that an option about inputs has.
+/// A word that an option by name has.
 #[derive(Clone, Copy, Drop)]
 pub struct Taken<'a> {
     pub topic: Topic,
@@ -25,10 +25,14 @@ pub enum Mode {
     Ended,
 }
 
-/// The words of a command line, parted: those of options about inputs, and the others, in order.
+/// The words of a command line, parted, each part in order.
 #[derive(Drop)]
 pub struct Scan<'a> {
+    /// The words that are none of options about inputs.
     pub rest: Vec<&'a str>,
+    /// Options about inputs by place, and their words.
+    pub given: Vec<&'a str>,
+    /// The words of options by name.
     pub taken: Vec<Taken<'a>>,
     pub mode: Mode,
 }
@@ -54,9 +58,21 @@ fn joined<'a>(word: &'a [u8]) -> Option<Taken<'a>>
     Some(Taken { topic, text })
 }
 
+/// Whether an option that has this word says something of inputs by their names. `--at` does so with
+/// a `=` alone.
+fn is_by_name(topic: Topic, text: &[u8]) -> bool
+    ensures { result ≡ is_by_name topic text.now }
+{
+    match topic {
+        Topic::Pin | Topic::HoldInput => true,
+        Topic::At => cut(b'=', text).is_some(),
+        Topic::First | Topic::Second | Topic::Hold => false,
+    }
+}
+
 impl<'a> Scan<'a> {
     ghost use Rattle.std.specs.Prelude.{◌≡◌, OnOk};
-    ghost use Rattle.td_inputs.specs.Scans.{closed, read_joined, read_plain, scan_in, turn, with_rest, with_taken};
+    ghost use Rattle.td_inputs.specs.Scans.{answered, answered_joined, closed, read_joined, read_plain, scan_in, taken_in, turn, with_given, with_joined, with_rest, with_taken};
 
     /// One word more that is none of an option about inputs.
     fn keep(&mut self, word: &'a str) -> Result<(), AllocError>
@@ -66,13 +82,53 @@ impl<'a> Scan<'a> {
         Ok(())
     }
 
-    /// One option about inputs more.
+    /// One option by name more.
     fn take(&mut self, topic: Topic, text: &'a [u8]) -> Result<(), AllocError>
         ensures { OnOk result (scan_in self.new ≡ with_taken (scan_in self.old) topic text.now) }
     {
         self.taken.push(Taken { topic, text })?;
         self.mode = Mode::Reading;
         Ok(())
+    }
+
+    /// One option by place more, in a word of its own.
+    fn give(&mut self, option: &'a str, word: &'a str) -> Result<(), AllocError>
+        ensures { OnOk result (scan_in self.new ≡ with_given (scan_in self.old) option.now word.now) }
+    {
+        self.given.push(option)?;
+        self.given.push(word)?;
+        self.mode = Mode::Reading;
+        Ok(())
+    }
+
+    /// One option by place more, which has its word after a `=`.
+    fn give_joined(&mut self, word: &'a str) -> Result<(), AllocError>
+        ensures { OnOk result (scan_in self.new ≡ with_joined (scan_in self.old) word.now) }
+    {
+        self.given.push(word)?;
+        Ok(())
+    }
+
+    /// The word of an option about inputs.
+    fn answer(&mut self, topic: Topic, word: &'a str) -> Result<(), AllocError>
+        ensures { OnOk result (scan_in self.new ≡ answered (scan_in self.old) topic word.now) }
+    {
+        if is_by_name(topic, word.as_bytes()) {
+            self.take(topic, word.as_bytes())
+        } else {
+            self.give(topic.option(), word)
+        }
+    }
+
+    /// An option about inputs that has its word after a `=`.
+    fn answer_joined(&mut self, taken: Taken<'a>, word: &'a str) -> Result<(), AllocError>
+        ensures { OnOk result (scan_in self.new ≡ answered_joined (scan_in self.old) (taken_in taken.entry) word.now) }
+    {
+        if is_by_name(taken.topic, taken.text) {
+            self.take(taken.topic, taken.text)
+        } else {
+            self.give_joined(word)
+        }
     }
 
     /// A word where any word may come.
@@ -95,7 +151,7 @@ impl<'a> Scan<'a> {
         ensures { OnOk result (scan_in self.new ≡ read_joined (scan_in self.old) word.now) }
     {
         match joined(word.as_bytes()) {
-            Some(taken) => self.take(taken.topic, taken.text),
+            Some(taken) => self.answer_joined(taken, word),
             None => self.keep(word),
         }
     }
@@ -106,7 +162,7 @@ impl<'a> Scan<'a> {
     {
         match self.mode {
             Mode::Reading => self.read(word),
-            Mode::Awaiting(topic) => self.take(topic, word.as_bytes()),
+            Mode::Awaiting(topic) => self.answer(topic, word),
             Mode::Ended => self.keep(word),
         }
     }
@@ -128,6 +184,7 @@ pub fn parted<'a, S: AsStr>(alloc: Global, words: &'a [S]) -> Result<Scan<'a>, A
 {
     let mut scan = Scan {
         rest: Vec::new(alloc),
+        given: Vec::new(alloc),
         taken: Vec::new(alloc),
         mode: Mode::Reading,
     };

@@ -24,6 +24,7 @@ fn parts_words(rt: HostRuntime) -> Result<(), Fail> {
     ];
     let scan = parted(rt.alloc(), &words)?;
     assert_eq!(rt; scan.rest.len(), 5);
+    assert_eq!(rt; scan.given.len(), 0);
     assert_eq!(rt; scan.taken.len(), 2);
     Ok(())
 }
