@@ -4,9 +4,11 @@ use Rattle.std.specs.Borrow.{Bor}
 use Rattle.td_inputs.specs.declared.placing.Placing.{Placing as CodePlacing}
 use Rattle.td_inputs.specs.declared.placing.Placing.TheVariants as code
 use Rattle.td_inputs.specs.declared.topic.Topic.{Topic}
-use Rattle.td_inputs.specs.declared.topic.Topic.TheVariants.{First, Second, Hold, At}
+use Rattle.td_inputs.specs.declared.topic.Topic.TheVariants.{First, Second, Hold, At, Pin, HoldInput}
 use Rattle.td_inputs.specs.declared.words.ByPlace.{ByPlace}
+use Rattle.td_inputs.specs.declared.placing.Given.{Given}
 use Rattle.td_inputs.specs.declared.writing.Letters.{Letters}
+use Rattle.td_inputs.specs.declared.writing.Letters.TheVariants.{Trits, Holds}
 use Rattle.std.specs.Global.{Global}
 use Rattle.td_inputs.specs.Labels.{Label}
 use Rattle.td_inputs.specs.Topics.{option_of}
@@ -89,3 +91,33 @@ words_by_place options = record {
 -- the words of these options
 abbrev pub placed_words : Placed → List Text
 placed_words options = option_words First options.first ++ option_words Second options.second ++ option_words Hold options.hold ++ option_words At options.at
+
+abbrev pub given_in : Given → Placed
+given_in given = record {
+  first = text_of given.first;
+  second = text_of given.second;
+  hold = text_of given.hold;
+  at = text_of given.at;
+}
+
+-- the words of the options by place that say what all words say together
+pub record ArePlaced (labels : List Label) (taken : List Taken) (given options : Placed) : Type 0 where
+  pub first : IsPlaced Trits Pin labels taken given.first (Word options.first)
+  pub second : IsPlaced Trits Pin labels taken given.second (Word options.second)
+  pub hold : IsPlaced Holds HoldInput labels taken given.hold (Word options.hold)
+  pub at : placed_moments labels taken given.at ≡ Word options.at
+
+-- a given word into which a word by name is to be merged gives nothing for the inputs
+abbrev pub IsUnread : List Label → List Taken → Placed → Type 0
+IsUnread labels taken given =
+    IsPlaced Trits Pin labels taken given.first Unread
+    ⊎ IsPlaced Trits Pin labels taken given.second Unread
+    ⊎ IsPlaced Holds HoldInput labels taken given.hold Unread
+
+-- this is wrong with a word by name
+abbrev pub IsWrong : List Label → List Taken → Placed → Fault → Type 0
+IsWrong labels taken given fault =
+    IsPlaced Trits Pin labels taken given.first (Wrong fault)
+    ⊎ IsPlaced Trits Pin labels taken given.second (Wrong fault)
+    ⊎ IsPlaced Holds HoldInput labels taken given.hold (Wrong fault)
+    ⊎ (placed_moments labels taken given.at ≡ Wrong fault)

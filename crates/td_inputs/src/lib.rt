@@ -18,7 +18,7 @@ mod writing;
 pub use cells::{clash, together};
 pub use labels::{Label, label_for, labels_of};
 pub use numbers::number;
-pub use placing::{Given, Placing, placed, placed_moments};
+pub use placing::{Given, Placing, placed, placed_moments, places};
 pub use sayings::{WordFault, has, merged, reading};
 pub use scanning::{Mode, Scan, Taken, cut, parted};
 pub use topic::Topic;

@@ -1,15 +1,16 @@
 //! Options by place that say what options by name and by place say together.
 
-ghost use Rattle.std.specs.Prelude.{◌≡◌, ℕ, List, Option, None, Some, map, length, replicate, IfOk, IfSome, IfNone};
+ghost use Rattle.std.specs.Prelude.{◌≡◌, ℕ, List, Option, None, Some, map, length, replicate, IfOk, IfErr, IfSome, IfNone};
 ghost use Rattle.td_inputs.specs.Labels.{label_in};
 ghost use Rattle.td_inputs.specs.Scans.{taken_in};
-ghost use Rattle.td_inputs.specs.Readings.{merge};
-ghost use Rattle.td_inputs.specs.Placings.{GivesCells, IsPlaced, Word, patterned, placed_moments, placing_in, text_of, timed};
+ghost use Rattle.td_inputs.specs.Readings.{fault_in, merge};
+ghost use Rattle.td_inputs.specs.Placings.{ArePlaced, GivesCells, IsPlaced, IsUnread, IsWrong, Word, given_in, patterned, placed_moments, placing_in, text_of, timed, words_by_place};
 
 use crate::labels::Label;
 use crate::sayings::{WordFault, has, merged};
 use crate::scanning::Taken;
 use crate::topic::Topic;
+use crate::words::ByPlace;
 use crate::writing::{Letters, cells_of, moments_word, pattern};
 use std::alloc::{AllocError, Global};
 
@@ -172,5 +173,68 @@ fn timed<'a>(
             Ok(Placing::Word(Some(word)))
         }
         Err(fault) => Ok(Placing::Wrong(fault)),
+    }
+}
+
+/// The words of the options by place that say what all words of options by name and by place say
+/// together; none where a given word gives nothing for the inputs.
+pub fn places<'a>(
+    alloc: Global,
+    labels: &[Label],
+    taken: &[Taken<'a>],
+    given: Given<'_>,
+) -> Result<Result<Option<ByPlace>, WordFault<'a>>, AllocError>
+    ensures placed { IfOk result (λ read. IfOk read (λ found. IfSome found (λ options.
+        ArePlaced (map label_in labels.now) (map taken_in taken.now) (given_in given.entry) (words_by_place options)))) }
+    ensures unread { IfOk result (λ read. IfOk read (λ found. IfNone found (
+        IsUnread (map label_in labels.now) (map taken_in taken.now) (given_in given.entry)))) }
+    ensures wrong { IfOk result (λ read. IfErr read (λ fault.
+        IsWrong (map label_in labels.now) (map taken_in taken.now) (given_in given.entry) (fault_in fault))) }
+{
+    let first = match placed(
+        alloc,
+        Letters::Trits,
+        Topic::Pin,
+        labels,
+        taken,
+        given.first,
+    )? {
+        Placing::Word(word) => word,
+        Placing::Wrong(fault) => return Ok(Err(fault)),
+        Placing::Unread => return Ok(Ok(None)),
+    };
+    let second = match placed(
+        alloc,
+        Letters::Trits,
+        Topic::Pin,
+        labels,
+        taken,
+        given.second,
+    )? {
+        Placing::Word(word) => word,
+        Placing::Wrong(fault) => return Ok(Err(fault)),
+        Placing::Unread => return Ok(Ok(None)),
+    };
+    let hold = match placed(
+        alloc,
+        Letters::Holds,
+        Topic::HoldInput,
+        labels,
+        taken,
+        given.hold,
+    )? {
+        Placing::Word(word) => word,
+        Placing::Wrong(fault) => return Ok(Err(fault)),
+        Placing::Unread => return Ok(Ok(None)),
+    };
+    match placed_moments(alloc, labels, taken, given.at)? {
+        Placing::Word(at) => Ok(Ok(Some(ByPlace {
+            first,
+            second,
+            hold,
+            at,
+        }))),
+        Placing::Wrong(fault) => Ok(Err(fault)),
+        Placing::Unread => Ok(Ok(None)),
     }
 }
