@@ -8,7 +8,9 @@ use std::convert::AsStr;
 use td_command::parse;
 use td_files::{Files, ReadFault};
 use td_gates::Delay;
-use td_inputs::{ByPlace, Scan, Taken, Topic, has, labels_of, parted, places, with_options, with_words};
+use td_inputs::{
+    ByPlace, Scan, Taken, Topic, has, labels_of, parted, places, with_options, with_words,
+};
 use td_netlist::{FaultKind, Netlist, read};
 
 /// What is to be done with options by name.
@@ -63,7 +65,7 @@ pub fn positional<'a, S: AsStr, F: Files, T: Streams>(
         return Ok(same);
     }
     let plain = with_words(alloc, &scan.rest, &scan.given)?;
-    match outcome(alloc, &plain, &scan.taken, files, streams)? {
+    match considered(alloc, &plain, &scan.taken, files, streams)? {
         Outcome::Left => Ok(plain),
         Outcome::Untaken => {
             let same = copies(alloc, words)?;
@@ -77,7 +79,7 @@ pub fn positional<'a, S: AsStr, F: Files, T: Streams>(
 }
 
 /// What is to be done with options by name beside these words.
-fn outcome<'a, F: Files, T: Streams>(
+fn considered<'a, F: Files, T: Streams>(
     alloc: Global,
     plain: &[String],
     taken: &[Taken<'a>],
