@@ -11,7 +11,7 @@ pub loop-moment-init : goal.loop-moment-init
 loop-moment-init c = merging-init c.args.kind c.args.delay c.reversed-falling.result c.args.left.now c.args.right.now
     c.changes-lefts.result.now c.changes-rights.result.now c.start.result c.start-2.result c.level_of_two-start.result c.begun-now.result.target _ _
     c.changes-lefts.ensures.rising c.changes-rights.ensures.rising c.changes-lefts.ensures.changes c.changes-rights.ensures.changes
-    c.start.ensures c.start-2.ensures c.level_of_two-start.ensures c.begun-now.ensures.target c.begun-now.ensures.outlook c.requires.room
+    c.start.ensures c.start-2.ensures c.level_of_two-start.ensures c.begun-now.ensures.target c.begun-now.ensures.outlook c.requires.space
 
 pub shift-requires : goal.shift-requires
 shift-requires c = next-within 9223372036854775808 c.in-Some.moment c.changes-lefts.result.now c.changes-rights.result.now c.loop-moment.first.place c.loop-moment.second.place
