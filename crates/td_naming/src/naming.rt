@@ -1,5 +1,14 @@
 //! From options by name to options by place.
 
+ghost use Rattle.std.specs.Prelude.{◌≡◌, ◌⊎◌, ℕ, List, map, string_bytes, IfOk, IfErr, IfSome, IfNone};
+ghost use Rattle.td_netlist.specs.Means.{Means};
+ghost use Rattle.td_nets.specs.Netlist as netlist;
+ghost use Rattle.td_inputs.specs.Scans.{taken_in};
+ghost use Rattle.td_inputs.specs.Placings.{given_in, texts_of};
+ghost use Rattle.td_naming.specs.Questions.{are_named, begin_with_command, is_command, question_in};
+ghost use Rattle.td_naming.specs.Positional.{InputsRefuse, IsPositional, IsRefused, OfInputs, OfQuestion, OfText, OfWords, QuestionRefuses, TextRefuses, WordsRefuse, labels_of, one_step, outcome_in};
+ghost use Rattle.td_naming.specs.declared.refusal.Refusal.TheVariants as Reason;
+
 use crate::question::Question;
 use crate::refusal::Refusal;
 use crate::streams::{Streams, is_read_once};
@@ -9,11 +18,12 @@ use td_command::parse;
 use td_files::{Files, ReadFault};
 use td_gates::Delay;
 use td_inputs::{
-    ByPlace, Scan, Taken, Topic, has, labels_of, parted, places, with_options, with_words,
+    ByPlace, Given, Taken, Topic, has, labels_of, parted, places, with_options, with_words,
 };
 use td_netlist::{FaultKind, Netlist, read};
 
 /// What is to be done with options by name.
+#[derive(Drop)]
 enum Outcome {
     /// The command doesn't take one of them.
     Untaken,
@@ -24,23 +34,37 @@ enum Outcome {
 }
 
 /// Whether options by name are among those taken.
-fn are_named(taken: &[Taken<'_>]) -> bool {
+fn are_named(taken: &[Taken<'_>]) -> bool
+    ensures { result ≡ are_named (map taken_in taken.now) }
+{
     has(Topic::Pin, taken) || has(Topic::HoldInput, taken) || has(Topic::At, taken)
 }
 
 /// Whether a command's name comes first, after the program's.
-fn begin_with_command<S: AsStr>(words: &[S]) -> bool {
+fn begin_with_command<S: AsStr>(words: &[S]) -> bool
+    ensures { result ≡ begin_with_command (map S.text words.now) }
+{
     match words {
-        [_, command, ..] => match command.as_str().as_bytes() {
-            [first, ..] => *first != b'-',
-            [] => false,
-        },
-        _ => false,
+        [] => false,
+        [_] => false,
+        [_, command, ..] => is_command(command.as_str().as_bytes()),
+    }
+}
+
+/// Whether a word may be a command's name: it isn't empty, and begins with no `-`.
+fn is_command(word: &[u8]) -> bool
+    ensures { result ≡ is_command word.now }
+{
+    match word {
+        [] => false,
+        [first, ..] => *first != b'-',
     }
 }
 
 /// Copies of words.
-fn copies<S: AsStr>(alloc: Global, words: &[S]) -> Result<Vec<String>, AllocError> {
+fn copies<S: AsStr>(alloc: Global, words: &[S]) -> Result<Vec<String>, AllocError>
+    ensures { IfOk result (λ all. texts_of all.items ≡ map S.text words.now) }
+{
     let mut all = Vec::new(alloc);
     for word in words {
         all.push(String::from_str(alloc, word.as_str())?)?;
@@ -58,9 +82,14 @@ pub fn positional<'a, S: AsStr, F: Files, T: Streams>(
     words: &'a [S],
     files: &mut F,
     streams: &T,
-) -> Result<Vec<String>, Refusal<'a>> {
+) -> Result<Vec<String>, Refusal<'a>>
+    ensures words { IfOk result (λ new. IsPositional (F.holds files.old) (F.fails files.old) (map S.text words.entry.now) (texts_of new.items)) }
+    ensures refused { IfErr result (IsRefused (F.holds files.old) (map S.text words.entry.now)) }
+    ensures stays { files.new ≡ files.old }
+{
     let scan = parted(alloc, words)?;
-    if !are_named(&scan.taken) || !begin_with_command(words) {
+    let name_inputs = are_named(&scan.taken) && begin_with_command(words);
+    if !name_inputs {
         let same = copies(alloc, words)?;
         return Ok(same);
     }
@@ -85,7 +114,11 @@ fn considered<'a, F: Files, T: Streams>(
     taken: &[Taken<'a>],
     files: &mut F,
     streams: &T,
-) -> Result<Outcome, Refusal<'a>> {
+) -> Result<Outcome, Refusal<'a>>
+    ensures outcome { IfOk result (λ outcome. OfWords (F.holds files.old) (F.fails files.old) (texts_of plain.now) (map taken_in taken.now) (outcome_in outcome)) }
+    ensures refused { IfErr result (WordsRefuse (F.holds files.old) (texts_of plain.now) (map taken_in taken.now)) }
+    ensures stays { files.new ≡ files.old }
+{
     match parse(alloc, plain) {
         Ok(request) => asked(alloc, Question::of(&request), taken, files, streams),
         Err(_) => Ok(Outcome::Left),
@@ -99,7 +132,11 @@ fn asked<'a, F: Files, T: Streams>(
     taken: &[Taken<'a>],
     files: &mut F,
     streams: &T,
-) -> Result<Outcome, Refusal<'a>> {
+) -> Result<Outcome, Refusal<'a>>
+    ensures outcome { IfOk result (λ outcome. OfQuestion (F.holds files.old) (F.fails files.old) (question_in question.entry) (map taken_in taken.now) (outcome_in outcome)) }
+    ensures refused { IfErr result (QuestionRefuses (F.holds files.old) (question_in question.entry) (map taken_in taken.now)) }
+    ensures stays { files.new ≡ files.old }
+{
     if !question.takes(taken) {
         return Ok(Outcome::Untaken);
     }
@@ -107,20 +144,34 @@ fn asked<'a, F: Files, T: Streams>(
         return Err(Refusal::Stream);
     }
     match files.read(alloc, question.file) {
-        Ok(text) => of_text(alloc, &text, question, taken),
+        Ok(text) => of_text(alloc, &text, question.given, taken),
         Err(ReadFault::OutOfMemory) => Err(Refusal::OutOfMemory),
         Err(ReadFault::Device) => Ok(Outcome::Left),
     }
 }
 
-/// The netlist that a text means, whatever delay gates have that state none.
-fn netlist_of(alloc: Global, text: &[u8]) -> Result<Option<Netlist>, AllocError> {
-    let Some(step) = Delay::new(1, 1) else {
-        return Ok(None);
-    };
-    match read(alloc, text, step) {
+/// A delay of one step, for gates that state none, as long as only inputs are asked for.
+fn one_step() -> Delay
+    ensures { result ≡ one_step }
+{
+    match Delay::new(1, 1) {
+        Some(delay) => delay,
+        None => unreachable!(),
+    }
+}
+
+/// The netlist that a text means, if it means one.
+fn netlist_of<'a>(alloc: Global, text: &[u8]) -> Result<Option<Netlist>, Refusal<'a>>
+    ensures some { IfOk result (λ found. IfSome found (Means text.now one_step)) }
+    ensures none { IfOk result (λ found. IfNone found ((netlist : netlist.Netlist) → ¬ Means text.now one_step netlist)) }
+    ensures memory { IfErr result (λ reason. reason ≡ Reason.OutOfMemory) }
+{
+    match read(alloc, text, one_step()) {
         Ok(netlist) => Ok(Some(netlist)),
-        Err(_) => Ok(None),
+        Err(fault) => match fault.kind {
+            FaultKind::OutOfMemory => Err(Refusal::OutOfMemory),
+            _ => Ok(None),
+        },
     }
 }
 
@@ -128,11 +179,14 @@ fn netlist_of(alloc: Global, text: &[u8]) -> Result<Option<Netlist>, AllocError>
 fn of_text<'a>(
     alloc: Global,
     text: &[u8],
-    question: Question<'_>,
+    given: Given<'_>,
     taken: &[Taken<'a>],
-) -> Result<Outcome, Refusal<'a>> {
+) -> Result<Outcome, Refusal<'a>>
+    ensures outcome { IfOk result (λ outcome. OfText text.now (given_in given.entry) (map taken_in taken.now) (outcome_in outcome)) }
+    ensures refused { IfErr result (TextRefuses text.now (given_in given.entry) (map taken_in taken.now)) }
+{
     match netlist_of(alloc, text)? {
-        Some(netlist) => of_netlist(alloc, &netlist, question, taken),
+        Some(netlist) => of_netlist(alloc, &netlist, given, taken),
         None => Ok(Outcome::Left),
     }
 }
@@ -141,11 +195,14 @@ fn of_text<'a>(
 fn of_netlist<'a>(
     alloc: Global,
     netlist: &Netlist,
-    question: Question<'_>,
+    given: Given<'_>,
     taken: &[Taken<'a>],
-) -> Result<Outcome, Refusal<'a>> {
+) -> Result<Outcome, Refusal<'a>>
+    ensures outcome { IfOk result (λ outcome. OfInputs (labels_of netlist.now) (given_in given.entry) (map taken_in taken.now) (outcome_in outcome)) }
+    ensures refused { IfErr result (InputsRefuse (labels_of netlist.now) (given_in given.entry) (map taken_in taken.now)) }
+{
     let labels = labels_of(alloc, netlist.inputs())?;
-    match places(alloc, &labels, taken, question.given)? {
+    match places(alloc, &labels, taken, given)? {
         Ok(Some(options)) => Ok(Outcome::Placed(options)),
         Ok(None) => Ok(Outcome::Left),
         Err(fault) => Err(Refusal::Wrong(fault, labels)),

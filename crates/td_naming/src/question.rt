@@ -1,8 +1,7 @@
 //! What a command is asked about inputs.
 
 ghost use Rattle.std.specs.Prelude.{◌≡◌};
-ghost use Rattle.td_inputs.specs.Scans.{taken_in};
-ghost use Rattle.td_naming.specs.Questions.{question_in, question_of};
+ghost use Rattle.td_inputs.specs.Placings.{given_in, text_of};
 
 use td_command::Request;
 use td_inputs::{Given, Taken, Topic, has};
@@ -24,7 +23,9 @@ fn given<'a>(
     second: Option<&'a str>,
     hold: Option<&'a str>,
     at: Option<&'a str>,
-) -> Given<'a> {
+) -> Given<'a>
+    ensures { given_in result ≡ record { first = text_of first.entry; second = text_of second.entry; hold = text_of hold.entry; at = text_of at.entry } }
+{
     Given {
         first,
         second,
@@ -34,8 +35,15 @@ fn given<'a>(
 }
 
 impl<'a> Question<'a> {
+    ghost use Rattle.std.specs.Prelude.{◌≡◌, map};
+    ghost use Rattle.td_inputs.specs.Placings.{text_of};
+    ghost use Rattle.td_inputs.specs.Scans.{taken_in};
+    ghost use Rattle.td_naming.specs.Questions.{of_none, of_pair, question_in, question_of, takes};
+
     /// A question about one pair, whose inputs have moments.
-    fn of_pair(file: &'a str, at: Option<&'a str>) -> Question<'a> {
+    fn of_pair(file: &'a str, at: Option<&'a str>) -> Question<'a>
+        ensures { question_in result ≡ of_pair file.entry.now (text_of at.entry) }
+    {
         Question {
             file,
             given: given(None, None, None, at),
@@ -46,7 +54,9 @@ impl<'a> Question<'a> {
     }
 
     /// What a request asks about inputs.
-    pub(crate) fn of(request: &Request<'a>) -> Question<'a> {
+    pub(crate) fn of(request: &Request<'a>) -> Question<'a>
+        ensures { question_in result ≡ question_of request.now }
+    {
         match request {
             Request::Sim(request) => Question::of_pair(request.file, request.at),
             Request::Path(request) => Question::of_pair(request.file, request.at),
@@ -84,7 +94,9 @@ impl<'a> Question<'a> {
     }
 
     /// A question that isn't about inputs.
-    fn of_none(file: &'a str) -> Question<'a> {
+    fn of_none(file: &'a str) -> Question<'a>
+        ensures { question_in result ≡ of_none file.entry.now }
+    {
         Question {
             file,
             given: given(None, None, None, None),
@@ -95,7 +107,9 @@ impl<'a> Question<'a> {
     }
 
     /// Whether the command takes these options by name.
-    pub(crate) fn takes(&self, taken: &[Taken<'_>]) -> bool {
+    pub(crate) fn takes(&self, taken: &[Taken<'_>]) -> bool
+        ensures { result ≡ takes (question_in self.now) (map taken_in taken.now) }
+    {
         (self.pins || !has(Topic::Pin, taken))
             && (self.holds || !has(Topic::HoldInput, taken))
             && (self.moments || !has(Topic::At, taken))
