@@ -81,7 +81,7 @@ fn no_input(text: &mut Text, name: &[u8], labels: &[Label]) -> Result<(), AllocE
     )
 }
 
-/// Whether two names differ in the case of letters alone, or in one character.
+/// Whether two names differ in the case of letters alone, or in one character of three or more.
 fn is_near(one: &[u8], other: &[u8]) -> bool {
     if one.len() != other.len() {
         return false;
@@ -95,5 +95,5 @@ fn is_near(one: &[u8], other: &[u8]) -> bool {
             differs = true;
         }
     }
-    true
+    !differs || one.len() > 2
 }
