@@ -81,9 +81,10 @@ with_default app =
     with_rule (with_rule app (number_option (codes "default-rise") 1 1000000000 (codes "1")))
     (number_option (codes "default-fall") 1 1000000000 (codes "1"))
 
--- what all commands take: the delays of gates that state none, and whether hints follow a refusal
+-- what all commands take: the delays of gates that state none, whether hints follow a refusal, and
+-- whether the report is JSON
 abbrev pub with_common : App → App
-with_common app = with_rule (with_default app) (flag (codes "hints"))
+with_common app = with_rule (with_rule (with_default app) (flag (codes "hints"))) (flag (codes "json"))
 
 -- when each input takes its second level
 abbrev pub with_moments : App → App

@@ -220,8 +220,8 @@ impl<'a> Arguments<'a> {
         )
     }
 
-    /// What all commands take: the delay of gates that state none, and whether hints stand after a
-    /// refusal.
+    /// What all commands take: the delay of gates that state none, whether hints stand after a
+    /// refusal, and whether the report is JSON.
     pub(crate) fn common(&mut self) -> Result<(), AllocError>
         ensures { OnOk result (TellsMore with_common self.old self.new) }
     {
@@ -229,6 +229,10 @@ impl<'a> Arguments<'a> {
         self.flag(
             "hints",
             "After the line of a refusal, says on standard error what it means and what to do",
+        )?;
+        self.flag(
+            "json",
+            "Prints the report as one JSON object, which has the keys of the report's lines",
         )
     }
 

@@ -5,6 +5,7 @@ mod arguments;
 mod certificates;
 mod command;
 mod commands;
+mod flags;
 mod help;
 pub mod laws;
 
@@ -14,3 +15,4 @@ pub use command::{
     BoundRequest, CheckRequest, InfoRequest, JoinRequest, PartsRequest, PathRequest, QuestionWords,
     Request, SimRequest, StrategyWord, WorstRequest, parse,
 };
+pub use flags::is_asked;

@@ -6,6 +6,7 @@ use std::{env, io};
 use td_advice::advising::{advise, asks_hints};
 use td_advice::system::System;
 use td_cli::{ReadFault, RealFiles, WriterSink, refuse_words, run};
+use td_json::{asks_json, run_json};
 
 fn main(rt: HostRuntime) -> ExitCode {
     let alloc = rt.alloc();
@@ -19,7 +20,11 @@ fn main(rt: HostRuntime) -> ExitCode {
             let words = words.as_slice();
             let mut files = RealFiles::new(&rt);
             let mut out = WriterSink::new(rt.stdout());
-            let status = run(&rt, alloc, words, &mut files, &mut out, &mut err);
+            let status = if asks_json(words) {
+                run_json(&rt, alloc, words, &mut files, &mut out, &mut err)
+            } else {
+                run(&rt, alloc, words, &mut files, &mut out, &mut err)
+            };
             // Hints stand after all that the run wrote.
             if asks_hints(words) {
                 advise(
