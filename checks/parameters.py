@@ -13,20 +13,9 @@ import sys
 TOP = pathlib.Path(__file__).resolve().parent.parent
 MOST = 7
 FUNCTION = re.compile(r"^(?P<indent> *)(?:pub(?:\([a-z]+\))? )?fn (?P<name>\w+)", re.M)
-WORDS = "takes the words of a request one by one, which are to be one type"
 EXCEPTIONS = {
     ("td_pool/src/pool.rt", "worst_by"): "the specification's signature",
-    ("td_delivery/src/telling.rt", "hand_over"): WORDS,
-    ("td_cli/src/joining.rt", "join_files"): WORDS,
-    ("td_cli/src/joining.rt", "carry_out_join"): WORDS,
-    ("td_cli/src/program.rt", "carry_out_sim"): WORDS,
-    ("td_cli/src/program.rt", "carry_out_path"): WORDS,
-    ("td_cli/src/program.rt", "carry_out_bound"): WORDS,
-    ("td_cli/src/program.rt", "carry_out_worst"): WORDS,
-    ("td_cli/src/progress.rt", "watched"): WORDS,
-    ("td_cli/src/progress.rt", "searched"): WORDS,
-    ("td_cli/src/searching.rt", "worst"): WORDS,
-    ("td_cli/src/searching.rt", "found_of"): WORDS,
+    ("td_delivery/src/telling.rt", "hand_over"): "what goes out, and to where",
 }
 
 

@@ -8,16 +8,25 @@ spaces after it are what it prints, standard error after standard output, then i
 brackets where that isn't 0. Every other line is a comment. Each file runs in an empty folder of its
 own, in which `tdelay` is the program and NETLISTS names the folder examples/. Each command is a
 case, and there are 400 at least, half of which print something.
+
+A command that is one call of `tdelay`, and prints a report, is called once more with `--json`: it
+prints one JSON object then, and what Python reads is what the lines say (lib/reports.py), by the
+table of docs/MANUAL.md. Each of these is a case too, and there are 90 at least.
 """
 
 import glob
+import json
 import os
+import re
 import sys
 
-from lib import check, places, running
+from lib import check, places, reports, running
 
 # The longest that a command may take, in seconds.
 LONGEST = 40
+# A call of `tdelay` alone, and one of those that print no report or not the same one each time.
+ALONE = re.compile(r"tdelay (sim|path|bound|worst|parts|join|check|info) [^|;&<>`()\n]*")
+OTHER = re.compile(r" -- | --json| --help| -h|(--cert|--vcd|-o)[ =]?-( |$)|(--workers|-j)")
 
 
 def cases(text):
@@ -34,10 +43,27 @@ def cases(text):
 
 
 def printed(command, folder, environment):
-    """Runs a command and gives the lines that a transcript has for it."""
+    """Runs a command, and gives how it ended and the lines that a transcript has for it."""
     ran = running.run_bytes(["bash", "-c", command], folder, seconds=LONGEST, env=environment)
     lines = (ran.out + ran.err).decode(errors="backslashreplace").splitlines()
-    return lines + [f"[{ran.status}]"] * (ran.status != 0)
+    return ran, lines + [f"[{ran.status}]"] * (ran.status != 0)
+
+
+def pairs_in(text):
+    """The pairs of a JSON object on one line, None where the text is none."""
+    try:
+        pairs = json.loads(text, object_pairs_hook=list)
+    except ValueError:
+        return None
+    return pairs if text.count("\n") == 1 and text.endswith("\n") else None
+
+
+def try_json(tested, command, ran, folder, environment):
+    """A case: the report of a command that ran, as JSON."""
+    again, _ = printed(f"{command} --json", folder, environment)
+    wanted = (ran.status, ran.err, reports.as_json(ran.out.decode()))
+    got = (again.status, again.err, pairs_in(again.out.decode(errors="replace")))
+    tested.expect(f"{command} --json", wanted, got, "as JSON")
 
 
 def try_transcript(tested, path):
@@ -57,13 +83,15 @@ def try_transcript(tested, path):
             "LC_ALL": "C",
         }
         for number, command, expected in found:
-            lines = printed(command, folder, environment)
+            ran, lines = printed(command, folder, environment)
             if lines != expected:
                 differing = [f"  - {it}" for it in expected] + [f"  + {it}" for it in lines]
                 tested.fault(
                     "\n".join([f"{os.path.basename(path)}:{number}: {command}", *differing])
                 )
             tested.case(*["with an output"] * bool(lines))
+            if ran.out and ALONE.fullmatch(command) and not OTHER.search(command):
+                try_json(tested, command, ran, folder, environment)
 
 
 def work(tested):
@@ -74,9 +102,10 @@ def work(tested):
 
 
 def shares(tested, cut):
-    tested.require("with an output", 0.5)
-    if not cut and not tested.asked.file and tested.cases < 400:
-        tested.fault(f"{tested.cases} commands, where there have to be 400")
+    commands = tested.cases - tested.kinds["as JSON"]
+    tested.require("with an output", 0.4)
+    if not cut and not tested.asked.file and (commands < 400 or tested.kinds["as JSON"] < 90):
+        tested.fault(f"{commands} commands, where there have to be 400, and 90 as JSON")
 
 
 if __name__ == "__main__":

@@ -35,6 +35,7 @@ READ_ALOUD = (
 )
 # The figures that the first page gives: what it calls them, and what they are of.
 FIGURES = {
+    "the sentence at the top": (["td_cli::Sentences::IsTrueReport"], []),
     "the worst delay of admitted pairs": (["td_domain::Worst::IsWorst"], []),
     "an answer of a search, without the meaning of a text": (["td_search::alone"], ["Means"]),
     "the meaning of a text": (["td_netlist::Means::Means"], []),

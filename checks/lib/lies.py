@@ -80,7 +80,10 @@ LIES = {
     "strategies": {"a time that is one less": where("lead", MORE.format(key="exact", by=-1))},
     "tables": {"a time that is one more": where("worst", MORE.format(key="exact", by=1))},
     "tools": {"the time is one more": MORE.format(key="time", by=1)},
-    "transcripts": {"a change at another moment": where("path", edited("s/change 0/change 1/"))},
+    "transcripts": {
+        "a change at another moment": where("path", edited("s/change 0/change 1/")),
+        "a number that is a text": where("--json", edited(r's/"time":\([0-9]*\)/"time":"\1"/')),
+    },
     "vcd": {"a change at another moment": '$R "$@"; s=$?; sed -i "s/^#5$/#6/" our.vcd; exit $s'},
     "workers": {
         "four workers find one more": where("--workers 4", MORE.format(key="exact", by=1)),

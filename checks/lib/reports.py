@@ -1,5 +1,6 @@
-"""How a report of the program is read."""
+"""How a report of the program is read, and what `--json` makes of it."""
 
+import re
 from collections import namedtuple
 
 # The lower and the upper figure of a search.
@@ -43,3 +44,44 @@ def accepted_time(report):
         if words and words[0] == "accepted" and len(words) == 2 and words[1].isdigit()
         else None
     )
+
+
+# What the lines of a report are by their keys: one number, several, or a row of fields of which
+# those at these places are numbers. Those of LISTED come several times; all others are texts.
+NUMBER = "time a t m e n exact nodes accepted flips inputs outputs gates defaulted depth".split()
+NUMBERS = "between delay at".split()
+ROWS = {"last": {1}, "change": {0, 5}, "input": {0}, "output": {0}, "refused": {0, 3}}
+LISTED = "last change input output".split()
+
+
+def number_in(word):
+    """A number, None for a word in its place."""
+    return int(word) if word.isdigit() else None
+
+
+def value_in(key, text):
+    """The value of a line in JSON."""
+    fields = re.split(r" (?!\[)", text)
+    if key in NUMBER:
+        return number_in(text)
+    if key in NUMBERS:
+        return None if text == "none" else [number_in(word) for word in fields]
+    if key in ROWS:
+        return [
+            number_in(word) if place in ROWS[key] else word for place, word in enumerate(fields)
+        ]
+    return text
+
+
+def as_json(report):
+    """A report as the pairs of its JSON object, in order."""
+    found = {}
+    for line in report.splitlines():
+        key, _, text = line.partition(" ")
+        if line.startswith("--"):
+            found.setdefault("parts", []).append(line.split(" "))
+        elif key in LISTED:
+            found.setdefault(key, []).append(value_in(key, text))
+        else:
+            found[key] = value_in(key, text)
+    return list(found.items())

@@ -35,6 +35,7 @@ Help and the version go to standard output. A line with a dot alone stands for a
   that order, a line for each input: `input 0 N1` is that of a vector's first character.
   FILE may be `-` for standard input.
   Standard output has one figure a line, a key and its value: docs/MANUAL.md.
+  With `--json` it has one JSON object with these keys.
   With `--hints` a command that is refused says on standard error what to do, too.
   .
   Exit status:
@@ -60,6 +61,7 @@ Help and the version go to standard output. A line with a dot alone stands for a
         --default-rise <N>  Rise delay in steps of gates without a delay [default: 1]
         --default-fall <N>  Fall delay in steps of gates without a delay [default: 1]
         --hints             After the line of a refusal, says on standard error what it means and what to do
+        --json              Prints the report as one JSON object, which has the keys of the report's lines
     -h, --help              Print help
   .
   Example:

@@ -1,6 +1,7 @@
 //! Hints after a run.
 
-ghost use Rattle.std.specs.Prelude.{◌≡◌, IfSome};
+ghost use Rattle.std.specs.Prelude.{◌≡◌, map, codes, IfSome};
+ghost use Rattle.td_command.specs.Flags.{is_asked};
 ghost use Rattle.td_advice.specs.Hinted.{AreLines, Hinted};
 
 use crate::commands::about;
@@ -8,7 +9,7 @@ use crate::naming::about_names;
 use crate::system::Reasons;
 use std::alloc::{AllocError, Global};
 use std::convert::AsStr;
-use td_command::parse;
+use td_command::{is_asked, parse};
 use td_delivery::telling::tell;
 use td_files::Files;
 use td_naming::Refusal;
@@ -18,15 +19,10 @@ use td_text::Sink;
 
 /// Whether the words of a command line ask for hints. It says so of words that the command line's
 /// reader refuses, too.
-pub fn asks_hints<S: AsStr>(words: &[S]) -> bool {
-    for word in words {
-        match word.as_str() {
-            "--hints" => return true,
-            "--" => return false,
-            _ => {}
-        }
-    }
-    false
+pub fn asks_hints<S: AsStr>(words: &[S]) -> bool
+    ensures { result ≡ is_asked (codes "--hints") (map S.text words.now) }
+{
+    is_asked(words, "--hints")
 }
 
 /// After a run with these words and this ending, says why it was refused or cut short, and what to

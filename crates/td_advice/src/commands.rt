@@ -9,7 +9,9 @@ use crate::system::Reasons;
 use crate::vectors::{InputWord, Items, first_bad, no_output};
 use std::alloc::{AllocError, Global};
 use td_circuit::Circuit;
-use td_command::{CheckRequest, JoinRequest, Request, StrategyWord, WorstRequest};
+use td_command::{
+    CheckRequest, JoinRequest, MOST_NODES, QuestionWords, Request, StrategyWord, WorstRequest,
+};
 use td_delivery::overwriting::overwriting;
 use td_files::{Files, ReadFault};
 use td_gates::Delay;
@@ -17,20 +19,17 @@ use td_report::simulate::circuit;
 use td_report::status::Status;
 use td_report::text::Text;
 
-/// The most nodes that a search may handle.
-const MOST_NODES: u32 = 10_000_000;
-
-/// The file of a request, and the delays of gates that state none.
-fn netlist_of<'a>(request: &Request<'a>) -> (&'a str, u32, u32) {
+/// The file of a request, and the delay of gates that state none.
+fn netlist_of<'a>(request: &Request<'a>) -> (&'a str, Delay) {
     match request {
-        Request::Sim(request) => (request.file, request.rise, request.fall),
-        Request::Path(request) => (request.file, request.rise, request.fall),
-        Request::Bound(request) => (request.file, request.rise, request.fall),
-        Request::Worst(request) => (request.file, request.rise, request.fall),
-        Request::Parts(request) => (request.file, request.rise, request.fall),
-        Request::Join(request) => (request.file, request.rise, request.fall),
-        Request::Check(request) => (request.file, request.rise, request.fall),
-        Request::Info(request) => (request.file, request.rise, request.fall),
+        Request::Sim(request) => (request.file, request.default),
+        Request::Path(request) => (request.file, request.default),
+        Request::Bound(request) => (request.file, request.default),
+        Request::Worst(request) => (request.file, request.default),
+        Request::Parts(request) => (request.file, request.default),
+        Request::Join(request) => (request.file, request.default),
+        Request::Check(request) => (request.file, request.default),
+        Request::Info(request) => (request.file, request.default),
     }
 }
 
@@ -160,10 +159,7 @@ fn about_netlist<F: Files, R: Reasons>(
 ) -> Result<(), AllocError>
     ensures { files.new ≡ files.old }
 {
-    let (file, rise, fall) = netlist_of(request);
-    let Some(default) = Delay::new(rise, fall) else {
-        return Ok(());
-    };
+    let (file, default) = netlist_of(request);
     let Some(bytes) = bytes_of(alloc, text, files, reasons, file)? else {
         return Ok(());
     };
@@ -225,20 +221,19 @@ fn bad_words(
             let words = admitted(request.first, request.second, None, request.at);
             first_bad(alloc, text, circuit, &words)
         }
-        Request::Worst(request) => {
-            let words = admitted(request.first, request.second, request.hold, request.at);
-            first_bad(alloc, text, circuit, &words)
-        }
-        Request::Parts(request) => {
-            let words = admitted(request.first, request.second, request.hold, request.at);
-            first_bad(alloc, text, circuit, &words)
-        }
+        Request::Worst(request) => first_bad(alloc, text, circuit, &asked(&request.question)),
+        Request::Parts(request) => first_bad(alloc, text, circuit, &asked(&request.question)),
         Request::Join(request) => {
             let words = admitted(request.first, request.second, None, None);
             first_bad(alloc, text, circuit, &words)
         }
         Request::Check(_) | Request::Info(_) => Ok(false),
     }
+}
+
+/// The words of a question, in the order in which they are judged.
+fn asked<'a>(words: &QuestionWords<'a>) -> [InputWord<'a>; 4] {
+    admitted(words.first, words.second, words.hold, words.at)
 }
 
 /// The words of a pair of vectors, in the order in which they are judged.
@@ -418,7 +413,7 @@ fn search_cut_short(text: &mut Text, request: &WorstRequest<'_>) -> Result<(), A
         u64::from(request.budget),
         b" nodes are its budget, unless `cause` is memory; both figures are true",
     )?;
-    if let StrategyWord::Least = request.strategy {
+    if let StrategyWord::Least = request.question.strategy {
         help(text, b"--strategy auto, which goes on by other ways")?;
     }
     if request.budget < MOST_NODES {

@@ -18,11 +18,14 @@ use Rattle.td_checker.specs.declared.verdict.CheckFault.TheVariants as check
 use Rattle.td_checker.specs.Checks.{IsCheckFault}
 use Rattle.td_report.specs.declared.refusal.Refusal.{Refusal}
 use Rattle.td_report.specs.declared.refusal.Refusal.TheVariants as refusal
-use Rattle.td_delivery.specs.Disks.{Disk, HoldsOnFile}
+use Rattle.td_files.specs.Disks.{Disk}
+use Rattle.td_delivery.specs.Disks.{HoldsOnFile}
 use Rattle.td_cli.specs.Outcomes.{HasNoAnswer}
 use Rattle.td_report.specs.Outcomes.{IsCircuitOf}
-use Rattle.td_cli.specs.declared.asking.QuestionWords.{QuestionWords}
+use Rattle.td_command.specs.declared.command.QuestionWords.{QuestionWords}
 use Rattle.td_cli.specs.WorstReports.{IsAsked}
+use Rattle.td_command.specs.declared.command.JoinRequest.{JoinRequest}
+use Rattle.td_report.specs.Vectors.{words_of}
 use Rattle.td_search.specs.Problems.{Problem}
 use Rattle.td_join.specs.Partition.{IsPartition}
 use Rattle.td_gates.proofs.Places.{slice_get-some}
@@ -97,15 +100,16 @@ no_part disk text default netlist check words i d reason less holds = ((get_or w
 -- ---- what is joined
 
 -- what is to be joined
-pub to_join : (disk : Disk) (text : List ℕ) (default : Delay) (names : List (List ℕ)) (check : Bool) (first second : Option (List ℕ)) (circuit : Numbered)
-    (count : ℕ) (parts : List Certificate) (given : Option (List Trit)) → IsCircuitOf text default circuit → count ≡ length circuit.netlist.inputs
-    → AreParts disk text default circuit.netlist check names parts → ArePinned count first second given
-    → IsToJoin disk text default names check first second circuit.netlist parts (whole_pins given parts)
-to_join disk text default names check first second circuit count parts given is counts are pinned = record {
+pub to_join : (disk : Disk) (text : List ℕ) (asked : JoinRequest) (circuit : Numbered) (count : ℕ) (parts : List Certificate) (given : Option (List Trit))
+    → IsCircuitOf text asked.default circuit → count ≡ length circuit.netlist.inputs
+    → AreParts disk text asked.default circuit.netlist asked.check asked.certificates parts
+    → ArePinned count (words_of asked.first) (words_of asked.second) given
+    → IsToJoin disk text asked circuit.netlist parts (whole_pins given parts)
+to_join disk text asked circuit count parts given is counts are pinned = record {
   circuit = record { means = is.means; acyclic = is.acyclic };
   are_parts = are;
   given = given;
-  pinned = subst (λ (inputs : ℕ). ArePinned inputs first second given) counts pinned;
+  pinned = subst (λ (inputs : ℕ). ArePinned inputs (words_of asked.first) (words_of asked.second) given) counts pinned;
   pins_are = refl;
 }
 

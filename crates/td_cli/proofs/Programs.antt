@@ -16,7 +16,8 @@ use Rattle.td_command.specs.declared.command.Request.TheVariants as request
 use Rattle.td_files.specs.Files.{FileStep, Takes}
 use Rattle.td_command.specs.CommandLine.{kinds_of}
 use Rattle.td_report.specs.Ends.{Product, Streams, streams, TellsReason, TellsUnread, Ends, EndsBehind}
-use Rattle.td_delivery.specs.Disks.{Disk, Reads, IsUnreadable, HoldsOnFile}
+use Rattle.td_files.specs.Disks.{Disk}
+use Rattle.td_delivery.specs.Disks.{Reads, IsUnreadable, HoldsOnFile}
 use Rattle.td_delivery.specs.Overwriting.{KeepsFiles, Overwrites}
 use Rattle.td_delivery.specs.Shown.{IsOutOfMemory, TellsText}
 use Rattle.td_cli.specs.Requests.{SearchRuns, RequestRuns, RequestEnds, ProgramEnds}
@@ -50,6 +51,14 @@ on_file_taking WereTaken disk name text held P H status old new taken = (
   taken.1,
   on_file disk name text held P H disk.breaks disk.breaks (λ name may. may) taken.0 status old new taken.2,
 )
+
+-- the same of a command that takes no steps on files
+pub on_file_plain : (WereTaken : List FileStep → Type 0) (disk : Disk) (name text : List ℕ) → WereTaken [] → disk.holds name text
+    → (P : List ℕ → Product → Type 0) (H : List ℕ → Refusal → Type 0) (status : Status) (old new : Streams)
+    → Ends (P text) (H text) (λ _. ⊥) [] status old new
+    → Takes WereTaken (λ steps. Ends (λ product. Reads disk name (λ read. P read product)) (HoldsOnFile disk name H) disk.breaks steps status old new)
+on_file_plain WereTaken disk name text nothing held P H status old new ends =
+    ([], nothing, on_file disk name text held P H (λ _. ⊥) disk.breaks (λ name none. absurd none) [] status old new ends)
 
 module _ (Reported : Output → Output → Type 0) (P : Product → Type 0) (H : Refusal → Type 0) (b : List ℕ → Type 0) where
   -- lines were written before a command ended

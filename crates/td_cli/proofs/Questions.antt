@@ -22,12 +22,12 @@ use Rattle.td_worst.proofs.Outcomes.{outcome_by}
 use Rattle.td_search.specs.Problems.{Problem, problem_by, has_delay}
 use Rattle.td_search.specs.Answers.{IsSearchFault}
 use Rattle.td_search.specs.Written.{CanBeWritten}
-use Rattle.td_cli.specs.declared.asking.QuestionWords.{QuestionWords}
+use Rattle.td_command.specs.declared.command.QuestionWords.{QuestionWords}
 use Rattle.td_report.specs.declared.vector.VectorWord.{VectorWord}
 use Rattle.td_report.specs.declared.vector.VectorWord.TheVariants.{At}
 use Rattle.td_report.specs.Vectors.{words_of, VectorWords, IsFirstBad, AreMomentsOf, GivesMoments}
 use Rattle.td_cli.specs.Admitting.{most_flips, AreAdmitted, pair_words}
-use Rattle.td_cli.specs.WorstReports.{IsAsked, certificate_in, pair_in}
+use Rattle.td_cli.specs.WorstReports.{strategy_of, IsAsked, certificate_in, pair_in}
 use Rattle.td_cli.specs.Outcomes.{question_words, HasNoAnswer, unanswered}
 use Rattle.td_report.specs.Outcomes.{IsCircuitOf, HasBadWord}
 use Rattle.td_report.proofs.Refusing.{bad_word}
@@ -56,9 +56,9 @@ bad_moments text default circuit count words admit is counts admits none =
 
 pub is_asked : (text : List ℕ) (default : Delay) (words : QuestionWords) (circuit timed : Numbered) (count : ℕ) (admit : Admitted) (moments : List ℕ)
     → IsCircuitOf text default circuit → count ≡ length circuit.netlist.inputs → AreAdmitted count words admit
-    → AreMomentsOf count (words_of words.at) moments → timed ≡ with_moments circuit moments → IsAsked text default words (problem_by (tree_of words.strategy) timed admit)
+    → AreMomentsOf count (words_of words.at) moments → timed ≡ with_moments circuit moments → IsAsked text default words (problem_by (tree_of (strategy_of words.strategy)) timed admit)
 is_asked text default words circuit timed count admit moments is counts admits are timed_is =
-    subst (λ timed. IsAsked text default words (problem_by (tree_of words.strategy) timed admit)) (sym timed_is) (record {
+    subst (λ timed. IsAsked text default words (problem_by (tree_of (strategy_of words.strategy)) timed admit)) (sym timed_is) (record {
       is_setting = record { means = is.means; acyclic = is.acyclic; moments = subst (λ count. AreMomentsOf count (words_of words.at) moments) counts are };
       admits = subst (λ count. AreAdmitted count words admit) counts admits;
       strategy = refl;

@@ -9,7 +9,7 @@ use Rattle.td_command.specs.CommandLine.{Asks, CommandAsks}
 use Rattle.td_cli.specs.Requests.{is_search, AsksSearch}
 
 -- the name of the command that is asked for
-abbrev command_name : Request → List ℕ
+abbrev pub command_name : Request → List ℕ
 command_name (request.Sim asked) = codes "sim"
 command_name (request.Path asked) = codes "path"
 command_name (request.Bound asked) = codes "bound"
@@ -19,7 +19,7 @@ command_name (request.Join asked) = codes "join"
 command_name (request.Check asked) = codes "check"
 command_name (request.Info asked) = codes "info"
 
-named : (name : Text) (rows : List Row) (asked : Request) → CommandAsks name rows asked → name ≡ command_name asked
+pub named : (name : Text) (rows : List Row) (asked : Request) → CommandAsks name rows asked → name ≡ command_name asked
 named name rows (request.Sim asked) asks = asks.0
 named name rows (request.Path asked) asks = asks.0
 named name rows (request.Bound asked) asks = asks.0
@@ -51,7 +51,7 @@ begins_with_w (c ∷ cs) = c == 119
 differ : false ≡ true → ⊥
 differ same = absurd cc
 
-other_name : (asked : Request) → is_search asked ≡ false → command_name asked ≡ codes "worst" → ⊥
+pub other_name : (asked : Request) → is_search asked ≡ false → command_name asked ≡ codes "worst" → ⊥
 other_name (request.Sim asked) plain same = differ (ap begins_with_w same)
 other_name (request.Path asked) plain same = differ (ap begins_with_w same)
 other_name (request.Bound asked) plain same = differ (ap begins_with_w same)

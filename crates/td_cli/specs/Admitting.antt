@@ -2,7 +2,7 @@
 use Rattle.std.specs.Prelude.{◌≡◌, ℕ, min, List, [], ◌∷◌, Option, Some, None}
 use Rattle.td_domain.specs.declared.cubes.Trit.{Trit}
 use Rattle.td_domain.specs.Admits.{Admitted}
-use Rattle.td_cli.specs.declared.asking.QuestionWords.{QuestionWords}
+use Rattle.td_command.specs.declared.command.QuestionWords.{QuestionWords}
 use Rattle.td_report.specs.declared.vector.VectorWord.TheVariants.{First, Second, Hold}
 use Rattle.td_domain.specs.Cubes.{weave}
 use Rattle.td_report.specs.Vectors.{words_of, AreTrits, IsMask, VectorWords, GivesTrits, GivesMask}

@@ -19,10 +19,12 @@ use Rattle.td_report.specs.declared.vector.VectorWord.TheVariants as vector
 use Rattle.td_report.specs.declared.refusal.Refusal.{Refusal}
 use Rattle.td_report.specs.declared.refusal.Refusal.TheVariants as refusal
 use Rattle.td_domain.specs.Cubes.{weave}
-use Rattle.td_report.specs.Vectors.{AreTrits, VectorWords, GivesTrits}
+use Rattle.td_command.specs.declared.command.JoinRequest.{JoinRequest}
+use Rattle.td_report.specs.Vectors.{words_of, AreTrits, VectorWords, GivesTrits}
 use Rattle.td_cli.specs.WorstReports.{worst_text}
 use Rattle.td_report.specs.Outcomes.{HasNoCircuit, IsRefusedFor}
-use Rattle.td_delivery.specs.Disks.{Disk, Reads, HoldsOnFile}
+use Rattle.td_files.specs.Disks.{Disk}
+use Rattle.td_delivery.specs.Disks.{Reads, HoldsOnFile}
 use Rattle.td_report.specs.JoinTexts.{first_place, second_place}
 
 -- ---- the pins of the whole
@@ -81,12 +83,11 @@ HasNoPart disk text default netlist check names reason =
 
 -- the text means a netlist without a loop, the files hold parts of a question about it, and the
 -- options give the pins of the whole
-pub record IsToJoin (disk : Disk) (text : List ℕ) (default : Delay) (names : List (List ℕ)) (check : Bool) (first second : Option (List ℕ))
-    (netlist : Netlist) (parts : List Certificate) (pins : List Trit) : Type 0 where
-  pub circuit : HasCircuit text default netlist
-  pub are_parts : AreParts disk text default netlist check names parts
+pub record IsToJoin (disk : Disk) (text : List ℕ) (request : JoinRequest) (netlist : Netlist) (parts : List Certificate) (pins : List Trit) : Type 0 where
+  pub circuit : HasCircuit text request.default netlist
+  pub are_parts : AreParts disk text request.default netlist request.check request.certificates parts
   pub given : Option (List Trit)
-  pub pinned : ArePinned (length netlist.inputs) first second given
+  pub pinned : ArePinned (length netlist.inputs) (words_of request.first) (words_of request.second) given
   pub pins_are : pins ≡ whole_pins given parts
 
 -- the most nodes of a whole
@@ -96,12 +97,11 @@ most_nodes = 10000000
 -- The parts are joined into one certificate, which has a text and not too many nodes, and the
 -- report tells its time, its pair and the number of its nodes, as that of a search does. Where each
 -- part is accepted of a netlist, so is the whole.
-pub record IsJoinReport (disk : Disk) (text : List ℕ) (default : Delay) (names : List (List ℕ)) (check : Bool) (first second : Option (List ℕ))
-    (report : List ℕ) (whole : Certificate) : Type 0 where
+pub record IsJoinReport (disk : Disk) (text : List ℕ) (request : JoinRequest) (report : List ℕ) (whole : Certificate) : Type 0 where
   pub netlist : Netlist
   pub parts : List Certificate
   pub pins : List Trit
-  pub to_join : IsToJoin disk text default names check first second netlist parts pins
+  pub to_join : IsToJoin disk text request netlist parts pins
   pub joined : IsJoined parts pins whole
   pub has_text : HasSpelling whole
   pub few : length whole.tree ≤ most_nodes
@@ -120,18 +120,18 @@ IsUnjoinedFor names parts pins refusal.TooLong = (whole : Certificate) × IsJoin
 IsUnjoinedFor names parts pins other = ⊥
 
 -- the parts aren't joined
-pub record IsNotJoined (disk : Disk) (text : List ℕ) (default : Delay) (names : List (List ℕ)) (check : Bool) (first second : Option (List ℕ))
-    (reason : Refusal) : Type 0 where
+pub record IsNotJoined (disk : Disk) (text : List ℕ) (request : JoinRequest) (reason : Refusal) : Type 0 where
   pub netlist : Netlist
   pub parts : List Certificate
   pub pins : List Trit
-  pub to_join : IsToJoin disk text default names check first second netlist parts pins
-  pub unjoined : IsUnjoinedFor names parts pins reason
+  pub to_join : IsToJoin disk text request netlist parts pins
+  pub unjoined : IsUnjoinedFor request.certificates parts pins reason
 
 -- why `join` has no report: the netlist's text or an option is bad, or a file tells no part, or the
 -- parts aren't joined
-abbrev pub HasNoJoin : Disk → List ℕ → Delay → List (List ℕ) → Bool → Option (List ℕ) → Option (List ℕ) → Refusal → Type 0
-HasNoJoin disk text default names check first second reason =
-    IsRefusedFor text default (pin_words first second) reason
-    ⊎ (((netlist : Netlist) × HasCircuit text default netlist × HasNoPart disk text default netlist check names reason)
-    ⊎ IsNotJoined disk text default names check first second reason)
+abbrev pub HasNoJoin : Disk → List ℕ → JoinRequest → Refusal → Type 0
+HasNoJoin disk text request reason =
+    IsRefusedFor text request.default (pin_words (words_of request.first) (words_of request.second)) reason
+    ⊎ (((netlist : Netlist) × HasCircuit text request.default netlist
+    × HasNoPart disk text request.default netlist request.check request.certificates reason)
+    ⊎ IsNotJoined disk text request reason)

@@ -7,3 +7,4 @@ pub mod Parts
 pub mod Progress
 pub mod ProgressLaws
 pub mod Requests
+pub mod Sentences

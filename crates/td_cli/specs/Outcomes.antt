@@ -2,7 +2,7 @@
 use Rattle.std.specs.Prelude.{ℕ, List, [], ◌∷◌, ◌++◌}
 use Rattle.td_gates.specs.declared.timing.Delay.{Delay}
 use Rattle.td_report.specs.declared.vector.VectorWord.TheVariants as vector
-use Rattle.td_cli.specs.declared.asking.QuestionWords.{QuestionWords}
+use Rattle.td_command.specs.declared.command.QuestionWords.{QuestionWords}
 use Rattle.td_report.specs.declared.refusal.Refusal.{Refusal}
 use Rattle.td_report.specs.declared.refusal.Refusal.TheVariants as refusal
 use Rattle.td_domain.specs.Pairs.{Pair}

@@ -7,7 +7,8 @@ use Rattle.td_domain.specs.Admits.{HasAdmitted}
 use Rattle.td_search.specs.Problems.{Problem, IsPart}
 use Rattle.td_join.specs.Partition.{IsPartition}
 use Rattle.td_parts.specs.Whole.{IsWhole}
-use Rattle.td_cli.specs.declared.asking.QuestionWords.{QuestionWords}
+use Rattle.td_command.specs.declared.command.QuestionWords.{QuestionWords}
+use Rattle.td_command.specs.declared.command.PartsRequest.{PartsRequest}
 use Rattle.td_report.specs.Vectors.{words_of}
 use Rattle.td_report.specs.Reports.{newline}
 use Rattle.td_cli.specs.WorstReports.{IsAsked}
@@ -38,18 +39,18 @@ abbrev pub part_line : Delay → QuestionWords → List Trit → List ℕ
 part_line default words pins =
     part_options words pins ++ default_text (codes " --default-rise ") default.rise ++ default_text (codes " --default-fall ") default.fall ++ newline
 
--- The report has a line for each cube. There are at most `parts` cubes, at least one, and fewer
--- only where a search would split none of them. They share out the admitted pairs of what the words
+-- The report has a line for each cube. There are at most as many cubes as parts are asked for, at
+-- least one, and fewer only where a search would split none of them. They share out the admitted pairs of what the words
 -- ask of the text: each pair lies in exactly one cube, and each cube has one. No cube has a pair
 -- that isn't one of the pins.
-pub record IsPartsReport (text : List ℕ) (default : Delay) (words : QuestionWords) (parts : ℕ) (report : List ℕ) : Type 0 where
+pub record IsPartsReport (text : List ℕ) (request : PartsRequest) (report : List ℕ) : Type 0 where
   pub asked : Problem
-  pub is_asked : IsAsked text default words asked
+  pub is_asked : IsAsked text request.default request.question asked
   pub cubes : List (List Trit)
   pub partition : IsPartition asked.admit cubes
   pub any : 0 < length cubes
-  pub few : length cubes ≤ parts
-  pub enough : length cubes < parts → All (IsWhole asked.strategy asked.setting) cubes
+  pub few : length cubes ≤ request.parts
+  pub enough : length cubes < request.parts → All (IsWhole asked.strategy asked.setting) cubes
   pub some : All (HasAdmitted asked.admit) cubes
   pub inside : All (λ cube. IsPart cube asked.admit.pins) cubes
-  pub is : report ≡ flat_map (part_line default words) cubes
+  pub is : report ≡ flat_map (part_line request.default request.question) cubes

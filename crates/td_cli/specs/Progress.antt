@@ -5,7 +5,7 @@ use Rattle.td_gates.specs.declared.timing.Delay.{Delay}
 use Rattle.td_search.specs.Problems.{Problem}
 use Rattle.td_pool.specs.declared.watch.Progress.{Progress}
 use Rattle.td_pool.specs.Watched.{IsTrueProgress}
-use Rattle.td_cli.specs.declared.asking.QuestionWords.{QuestionWords}
+use Rattle.td_command.specs.declared.command.QuestionWords.{QuestionWords}
 use Rattle.td_report.specs.Reports.{newline}
 use Rattle.td_cli.specs.WorstReports.{IsAsked}
 use Rattle.td_report.specs.Ends.{Tells}

@@ -11,16 +11,15 @@ use Rattle.td_files.specs.declared.disk.ReadFault.{ReadFault}
 use Rattle.td_files.specs.declared.disk.ReadFault.TheVariants as unread
 use Rattle.td_report.specs.declared.refusal.Refusal.{Refusal}
 use Rattle.td_report.specs.declared.refusal.Refusal.TheVariants as refusal
-use Rattle.td_worst.specs.declared.method.Method.{Method}
-use Rattle.td_worst.specs.declared.method.Method.TheVariants as method
-use Rattle.td_command.specs.declared.command.StrategyWord.{StrategyWord}
-use Rattle.td_command.specs.declared.command.StrategyWord.TheVariants as word
+use Rattle.td_command.specs.declared.command.SimRequest.{SimRequest}
+use Rattle.td_command.specs.declared.command.PathRequest.{PathRequest}
+use Rattle.td_command.specs.declared.command.BoundRequest.{BoundRequest}
 use Rattle.td_command.specs.declared.command.WorstRequest.{WorstRequest}
 use Rattle.td_command.specs.declared.command.PartsRequest.{PartsRequest}
+use Rattle.td_command.specs.declared.command.JoinRequest.{JoinRequest}
 use Rattle.td_command.specs.declared.command.Request.{Request}
 use Rattle.td_command.specs.declared.command.Request.TheVariants as request
-use Rattle.td_command.specs.CommandLine.{delays, kinds_of, Asks}
-use Rattle.td_cli.specs.declared.asking.QuestionWords.{QuestionWords}
+use Rattle.td_command.specs.CommandLine.{kinds_of, Asks}
 use Rattle.td_report.specs.Vectors.{words_of}
 use Rattle.td_report.specs.Reports.{newline, IsSimReport}
 use Rattle.td_report.specs.PathReports.{IsPathReport}
@@ -34,7 +33,8 @@ use Rattle.td_report.specs.Refusals.{refusal_text}
 use Rattle.td_cli.specs.Outcomes.{HasNoAnswer}
 use Rattle.td_report.specs.Outcomes.{HasNoCircuit, HasNoReport, HasNoPath, HasNoBounds, HasNoVerdict}
 use Rattle.td_files.specs.Files.{FileStep, FileText}
-use Rattle.td_delivery.specs.Disks.{Disk, Reads, IsUnreadable, HoldsOnFile}
+use Rattle.td_files.specs.Disks.{Disk}
+use Rattle.td_delivery.specs.Disks.{Reads, IsUnreadable, HoldsOnFile}
 use Rattle.td_report.specs.Ends.{Product, IsReportOnly, Streams, Tells, Ends, EndsBehind}
 use Rattle.td_cli.specs.Progress.{TellsSearch}
 use Rattle.td_delivery.specs.Beside.{IsBeside, certificate_files}
@@ -44,19 +44,21 @@ use Rattle.td_delivery.specs.Shown.{TellsText, IsOutOfMemory}
 -- ---- the commands, on bytes that were read
 
 -- what `sim` says
-pub record IsSimProduct (text : List ℕ) (default : Delay) (from to : List ℕ) (at vcd : Option (List ℕ)) (product : Product) : Type 0 where
+pub record IsSimProduct (text : List ℕ) (asked : SimRequest) (product : Product) : Type 0 where
   pub report : List ℕ
-  pub is : IsSimReport text default from to at vcd report product.files
+  pub is : IsSimReport text asked.default asked.from.now asked.to.now (words_of asked.at) (words_of asked.vcd) report product.files
   pub shown : IsBeside product.files report product.report
   pub ends : product.ending ≡ Done
 
 -- what `path` says
-abbrev pub IsPathProduct : List ℕ → Delay → List ℕ → List ℕ → Option (List ℕ) → Option (List ℕ) → Product → Type 0
-IsPathProduct text default from to at output = IsReportOnly (IsPathReport text default from to at output) Done
+abbrev pub IsPathProduct : List ℕ → PathRequest → Product → Type 0
+IsPathProduct text asked =
+    IsReportOnly (IsPathReport text asked.default asked.from.now asked.to.now (words_of asked.at) (words_of asked.output)) Done
 
 -- what `bound` says
-abbrev pub IsBoundProduct : List ℕ → Delay → Option (List ℕ) → Option (List ℕ) → Option (List ℕ) → Bool → Product → Type 0
-IsBoundProduct text default first second at edges = IsReportOnly (IsBoundReport text default first second at edges) Done
+abbrev pub IsBoundProduct : List ℕ → BoundRequest → Product → Type 0
+IsBoundProduct text asked =
+    IsReportOnly (IsBoundReport text asked.default (words_of asked.first) (words_of asked.second) (words_of asked.at) asked.edges) Done
 
 -- what `check` says
 abbrev pub IsCheckProduct : List ℕ → Delay → List ℕ → Product → Type 0
@@ -64,8 +66,8 @@ IsCheckProduct text default certificate product =
     IsReportOnly (IsCheckReport text default certificate product.ending) product.ending product
 
 -- what `parts` says
-abbrev pub IsPartsProduct : List ℕ → Delay → QuestionWords → ℕ → Product → Type 0
-IsPartsProduct text default words parts = IsReportOnly (IsPartsReport text default words parts) Done
+abbrev pub IsPartsProduct : List ℕ → PartsRequest → Product → Type 0
+IsPartsProduct text asked = IsReportOnly (IsPartsReport text asked) Done
 
 -- what `info` says
 abbrev pub IsInfoProduct : List ℕ → Delay → Product → Type 0
@@ -77,92 +79,52 @@ search_ending (Some certificate) = Done
 search_ending None = Between
 
 -- what `worst` says: the files are the certificate, and then the dump
-pub record IsWorstProduct (text : List ℕ) (default : Delay) (words : QuestionWords) (budget : ℕ) (path : Bool) (name vcd : Option (List ℕ))
-    (product : Product) : Type 0 where
+pub record IsWorstProduct (text : List ℕ) (asked : WorstRequest) (product : Product) : Type 0 where
   pub report : List ℕ
   pub certificate : Option Certificate
   pub dumps : List FileText
-  pub is : IsWorstReport text default words budget path vcd report certificate dumps
-  pub files : product.files ≡ certificate_files name certificate ++ dumps
+  pub is : IsWorstReport text asked report certificate dumps
+  pub files : product.files ≡ certificate_files (words_of asked.certificate) certificate ++ dumps
   pub shown : IsBeside product.files report product.report
   pub ends : product.ending ≡ search_ending certificate
 
 -- what `join` says: the file is the certificate of the whole, where a name is given
-pub record IsJoinProduct (disk : Disk) (text : List ℕ) (default : Delay) (names : List (List ℕ)) (check : Bool) (first second name : Option (List ℕ))
-    (product : Product) : Type 0 where
+pub record IsJoinProduct (disk : Disk) (text : List ℕ) (asked : JoinRequest) (product : Product) : Type 0 where
   pub report : List ℕ
   pub whole : Certificate
-  pub is : IsJoinReport disk text default names check first second report whole
-  pub files : product.files ≡ certificate_files name (Some whole)
+  pub is : IsJoinReport disk text asked report whole
+  pub files : product.files ≡ certificate_files (words_of asked.certificate) (Some whole)
   pub shown : IsBeside product.files report product.report
   pub ends : product.ending ≡ Done
 
 -- ---- the commands, on files
 
--- the strategy that a word names
-abbrev pub strategy_of : StrategyWord → Method
-strategy_of word.Least = method.Least
-strategy_of word.Lead = method.Lead
-strategy_of word.Refute = method.Refute
-strategy_of word.Auto = method.Auto
-
--- the words of a request that say what its search is about, and by which strategy it goes
-abbrev pub words_in : WorstRequest → QuestionWords
-words_in asked = record {
-  first = asked.first;
-  second = asked.second;
-  hold = asked.hold;
-  flips = asked.flips;
-  at = asked.at;
-  strategy = strategy_of asked.strategy;
-}
-
--- the words of a request that say which question has parts, and by which strategy their searches go
-abbrev pub parts_words : PartsRequest → QuestionWords
-parts_words asked = record {
-  first = asked.first;
-  second = asked.second;
-  hold = asked.hold;
-  flips = asked.flips;
-  at = asked.at;
-  strategy = strategy_of asked.strategy;
-}
-
 -- what is said for a request that is no search
 abbrev pub IsProductOf : Disk → Request → Product → Type 0
-IsProductOf disk (request.Sim asked) product =
-    Reads disk asked.file.now (λ text. IsSimProduct text (delays asked.rise asked.fall) asked.from.now asked.to.now (words_of asked.at) (words_of asked.vcd) product)
-IsProductOf disk (request.Path asked) product =
-    Reads disk asked.file.now (λ text. IsPathProduct text (delays asked.rise asked.fall) asked.from.now asked.to.now (words_of asked.at) (words_of asked.output) product)
-IsProductOf disk (request.Bound asked) product =
-    Reads disk asked.file.now (λ text. IsBoundProduct text (delays asked.rise asked.fall) (words_of asked.first) (words_of asked.second) (words_of asked.at) asked.edges product)
+IsProductOf disk (request.Sim asked) product = Reads disk asked.file.now (λ text. IsSimProduct text asked product)
+IsProductOf disk (request.Path asked) product = Reads disk asked.file.now (λ text. IsPathProduct text asked product)
+IsProductOf disk (request.Bound asked) product = Reads disk asked.file.now (λ text. IsBoundProduct text asked product)
 IsProductOf disk (request.Worst asked) product = ⊥
 IsProductOf disk (request.Check asked) product =
-    Reads disk asked.file.now (λ text. Reads disk asked.certificate.now (λ certificate.
-    IsCheckProduct text (delays asked.rise asked.fall) certificate product))
-IsProductOf disk (request.Parts asked) product =
-    Reads disk asked.file.now (λ text. IsPartsProduct text (delays asked.rise asked.fall) (parts_words asked) asked.parts product)
-IsProductOf disk (request.Join asked) product =
-    Reads disk asked.file.now (λ text. IsJoinProduct disk text (delays asked.rise asked.fall) asked.certificates asked.check (words_of asked.first)
-    (words_of asked.second) (words_of asked.certificate) product)
-IsProductOf disk (request.Info asked) product = Reads disk asked.file.now (λ text. IsInfoProduct text (delays asked.rise asked.fall) product)
+    Reads disk asked.file.now (λ text. Reads disk asked.certificate.now (λ certificate. IsCheckProduct text asked.default certificate product))
+IsProductOf disk (request.Parts asked) product = Reads disk asked.file.now (λ text. IsPartsProduct text asked product)
+IsProductOf disk (request.Join asked) product = Reads disk asked.file.now (λ text. IsJoinProduct disk text asked product)
+IsProductOf disk (request.Info asked) product = Reads disk asked.file.now (λ text. IsInfoProduct text asked.default product)
 
 -- why a request is refused that is no search
 abbrev pub HoldsOf : Disk → Request → Refusal → Type 0
 HoldsOf disk (request.Sim asked) =
-    HoldsOnFile disk asked.file.now (λ text. HasNoReport text (delays asked.rise asked.fall) asked.from.now asked.to.now (words_of asked.at))
+    HoldsOnFile disk asked.file.now (λ text. HasNoReport text asked.default asked.from.now asked.to.now (words_of asked.at))
 HoldsOf disk (request.Path asked) =
-    HoldsOnFile disk asked.file.now (λ text. HasNoPath text (delays asked.rise asked.fall) asked.from.now asked.to.now (words_of asked.at) (words_of asked.output))
+    HoldsOnFile disk asked.file.now (λ text. HasNoPath text asked.default asked.from.now asked.to.now (words_of asked.at) (words_of asked.output))
 HoldsOf disk (request.Bound asked) =
-    HoldsOnFile disk asked.file.now (λ text. HasNoBounds text (delays asked.rise asked.fall) (words_of asked.first) (words_of asked.second) (words_of asked.at))
+    HoldsOnFile disk asked.file.now (λ text. HasNoBounds text asked.default (words_of asked.first) (words_of asked.second) (words_of asked.at))
 HoldsOf disk (request.Worst asked) = λ reason. ⊥
 HoldsOf disk (request.Check asked) =
-    HoldsOnFile disk asked.file.now (λ text. HoldsOnFile disk asked.certificate.now (HasNoVerdict text (delays asked.rise asked.fall)))
-HoldsOf disk (request.Parts asked) = HoldsOnFile disk asked.file.now (λ text. HasNoAnswer text (delays asked.rise asked.fall) (parts_words asked))
-HoldsOf disk (request.Join asked) =
-    HoldsOnFile disk asked.file.now (λ text. HasNoJoin disk text (delays asked.rise asked.fall) asked.certificates asked.check (words_of asked.first)
-    (words_of asked.second))
-HoldsOf disk (request.Info asked) = HoldsOnFile disk asked.file.now (λ text. HasNoCircuit text (delays asked.rise asked.fall))
+    HoldsOnFile disk asked.file.now (λ text. HoldsOnFile disk asked.certificate.now (HasNoVerdict text asked.default))
+HoldsOf disk (request.Parts asked) = HoldsOnFile disk asked.file.now (λ text. HasNoAnswer text asked.default asked.question)
+HoldsOf disk (request.Join asked) = HoldsOnFile disk asked.file.now (λ text. HasNoJoin disk text asked)
+HoldsOf disk (request.Info asked) = HoldsOnFile disk asked.file.now (λ text. HasNoCircuit text asked.default)
 
 -- whether a search is asked for
 abbrev pub is_search : Request → Bool
@@ -176,9 +138,7 @@ AsksSearch words = (asked : Request) × Asks words asked × (is_search asked ≡
 -- how a search of a text ends: lines of progress come first, where they are asked for
 abbrev pub SearchRuns : WorstRequest → List ℕ → (List ℕ → Type 0) → List FileStep → Status → Streams → Streams → Type 0
 SearchRuns asked text =
-    EndsBehind (TellsSearch asked.progress text (delays asked.rise asked.fall) (words_in asked))
-    (IsWorstProduct text (delays asked.rise asked.fall) (words_in asked) asked.budget asked.path (words_of asked.certificate) (words_of asked.vcd))
-    (HasNoAnswer text (delays asked.rise asked.fall) (words_in asked))
+    EndsBehind (TellsSearch asked.progress text asked.default asked.question) (IsWorstProduct text asked) (HasNoAnswer text asked.default asked.question)
 
 -- How the command that is asked for ends, once it is known that no file of it is written over
 -- another. A search that can't read its netlist tells that and nothing before it.

@@ -11,8 +11,13 @@ use Rattle.td_search.specs.declared.answers.Answer.{Answer}
 use Rattle.td_search.specs.declared.answers.Answer.TheVariants as answer
 use Rattle.td_search.specs.Problems.{Problem}
 use Rattle.td_search.specs.Answers.{certificate_of}
+use Rattle.td_command.specs.declared.command.StrategyWord.{StrategyWord}
+use Rattle.td_command.specs.declared.command.StrategyWord.TheVariants as word
+use Rattle.td_command.specs.declared.command.WorstRequest.{WorstRequest}
+use Rattle.td_worst.specs.declared.method.Method.{Method}
+use Rattle.td_worst.specs.declared.method.Method.TheVariants as method
 use Rattle.td_worst.specs.Methods.{tree_of, IsAnswerBy}
-use Rattle.td_cli.specs.declared.asking.QuestionWords.{QuestionWords}
+use Rattle.td_command.specs.declared.command.QuestionWords.{QuestionWords}
 use Rattle.td_report.specs.Vectors.{words_of}
 use Rattle.td_files.specs.Files.{FileText}
 use Rattle.td_cli.specs.Admitting.{AreAdmitted}
@@ -58,28 +63,34 @@ abbrev pub certificate_in : Problem → Answer → Option Certificate
 certificate_in asked (answer.Exact time pair tree) = Some (certificate_of asked time pair tree)
 certificate_in asked (answer.Between low high pair nodes why) = None
 
+-- the strategy that a word names
+abbrev pub strategy_of : StrategyWord → Method
+strategy_of word.Least = method.Least
+strategy_of word.Lead = method.Lead
+strategy_of word.Refute = method.Refute
+strategy_of word.Auto = method.Auto
+
 -- what the words of a search ask of a text: the setting, which pairs of its inputs are admitted,
 -- and the strategy of the first tree
 pub record IsAsked (text : List ℕ) (default : Delay) (words : QuestionWords) (asked : Problem) : Type 0 where
   pub is_setting : IsSetting text default (words_of words.at) asked.setting
   pub admits : AreAdmitted (length asked.setting.netlist.inputs) words asked.admit
-  pub strategy : asked.strategy ≡ tree_of words.strategy
+  pub strategy : asked.strategy ≡ tree_of (strategy_of words.strategy)
 
 -- the pair of an answer
 abbrev pub pair_in : Answer → Pair
 pair_in (answer.Exact time pair tree) = pair
 pair_in (answer.Between low high pair nodes why) = pair
 
--- The report and the certificate are those of an answer to what the words ask of the text. The
+-- The report and the certificate are those of an answer to what the request asks of the text. The
 -- lines after the report and the dump are those of its pair.
-pub record IsWorstReport (text : List ℕ) (default : Delay) (words : QuestionWords) (budget : ℕ) (path : Bool) (vcd : Option (List ℕ))
-    (report : List ℕ) (certificate : Option Certificate) (dumps : List FileText) : Type 0 where
+pub record IsWorstReport (text : List ℕ) (request : WorstRequest) (report : List ℕ) (certificate : Option Certificate) (dumps : List FileText) : Type 0 where
   pub asked : Problem
-  pub is_asked : IsAsked text default words asked
+  pub is_asked : IsAsked text request.default request.question asked
   pub found : Answer
-  pub is_answer : IsAnswerBy words.strategy asked budget found
+  pub is_answer : IsAnswerBy (strategy_of request.question.strategy) asked request.budget found
   pub chain : List ℕ
-  pub tells : TellsPair path asked.setting (pair_in found) chain
+  pub tells : TellsPair request.path asked.setting (pair_in found) chain
   pub is : report ≡ worst_text asked.setting.netlist found ++ chain
   pub certified : certificate ≡ certificate_in asked found
-  pub dumped : IsDumpOf asked.setting (pair_in found) vcd dumps
+  pub dumped : IsDumpOf asked.setting (pair_in found) (words_of request.vcd) dumps

@@ -6,7 +6,7 @@ ghost use Rattle.td_gates.specs.declared.timing.Delay.{Delay as Default};
 ghost use Rattle.td_certificate.specs.Spelling.{Spells};
 ghost use Rattle.td_checker.specs.declared.verdict.Verdict.TheVariants as Reported;
 ghost use Rattle.td_checker.specs.Checks.{HaveVerdict};
-ghost use Rattle.td_delivery.specs.Disks.{disk_of, HoldsOnFile};
+ghost use Rattle.td_delivery.specs.Disks.{HoldsOnFile};
 ghost use Rattle.td_cli.specs.JoinReports.{TellsPart, TellsNoPart, GivesPart, AreParts, HasNoPart};
 ghost use Rattle.td_cli.specs.Parts.{IsOfPart, unjudged};
 ghost use Rattle.td_report.specs.declared.refusal.Refusal.TheVariants as Reason;
@@ -125,9 +125,9 @@ fn part_in<'a, F: Files>(
     is_checked: bool,
     name: &'a str,
 ) -> Result<Certificate, Refusal<'a>>
-    ensures part { IfOk result (GivesPart (disk_of (F.holds files.old) (F.fails files.old) (F.breaks files.old) (F.is_one files.old)) text.now default circuit.now.netlist is_checked name.now) }
+    ensures part { IfOk result (GivesPart (F.disk files.old) text.now default circuit.now.netlist is_checked name.now) }
     ensures refusal { IfErr result (λ reason. reason ≢ Reason.OutOfMemory
-        → HoldsOnFile (disk_of (F.holds files.old) (F.fails files.old) (F.breaks files.old) (F.is_one files.old)) name.now (TellsNoPart text.now default circuit.now.netlist is_checked name.now) reason) }
+        → HoldsOnFile (F.disk files.old) name.now (TellsNoPart text.now default circuit.now.netlist is_checked name.now) reason) }
     ensures stays { files.new ≡ files.old }
 {
     match files.read(alloc, name) {
@@ -148,10 +148,10 @@ pub fn parts_in<'a, F: Files>(
     is_checked: bool,
     names: &[&'a str],
 ) -> Result<Vec<Certificate>, Refusal<'a>>
-    ensures parts { IfOk result (λ parts. AreParts (disk_of (F.holds files.old) (F.fails files.old) (F.breaks files.old) (F.is_one files.old)) text.now default circuit.now.netlist is_checked
+    ensures parts { IfOk result (λ parts. AreParts (F.disk files.old) text.now default circuit.now.netlist is_checked
         (map (λ name. name.now) names.now) parts.items) }
     ensures refusal { IfErr result (λ reason. reason ≢ Reason.OutOfMemory
-        → HasNoPart (disk_of (F.holds files.old) (F.fails files.old) (F.breaks files.old) (F.is_one files.old)) text.now default circuit.now.netlist is_checked
+        → HasNoPart (F.disk files.old) text.now default circuit.now.netlist is_checked
         (map (λ name. name.now) names.now) reason) }
     ensures stays { files.new ≡ files.old }
 {

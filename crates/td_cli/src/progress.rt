@@ -3,18 +3,17 @@
 ghost use Rattle.std.specs.Prelude.{◌≡◌, ◌<◌, ◌≤◌, ◌++◌, true, IfOk, IfErr, IfSome, OnOk};
 ghost use Rattle.td_certificate.specs.Spelling.{HasSpelling};
 ghost use Rattle.td_report.specs.Dumps.{dump_files, HasRun};
-ghost use Rattle.td_report.specs.Vectors.{words_of};
 ghost use Rattle.td_cli.specs.WorstReports.{IsWorstReport};
 ghost use Rattle.td_cli.specs.Outcomes.{HasNoAnswer};
 ghost use Rattle.td_cli.specs.Progress.{progress_line, TellsSearch};
 
-use crate::asking::QuestionWords;
-use crate::searching::{Found, worst};
+use crate::answer::Found;
+use crate::worst::worst;
 use std::alloc::{AllocError, Global};
 use std::sync::Wait;
 use std::thread::Threads;
+use td_command::WorstRequest;
 use td_delivery::telling::tell;
-use td_gates::Delay;
 use td_pool::{Progress, Unwatched, Watch};
 use td_report::refusal::Refusal;
 use td_report::status::Status;
@@ -79,79 +78,50 @@ fn take_back<E>(err: &mut E)
     ensures { err.new ≡ err.old }
 {}
 
-/// As `worst`, with a line on standard error each time that the nodes handled have passed 1, 2 or 5
-/// thousand, ten thousand and so on.
+/// As `worst`, with a line on standard error each time that the nodes handled have passed 1, 2 or
+/// 5 thousand, ten thousand and so on.
 fn watched<'a, 'v, R: Threads + Wait + Sync, E: Sink>(
     rt: &R,
     alloc: Global,
     text: &'a [u8],
-    default: Delay,
-    words: QuestionWords<'_>,
-    workers: u32,
-    budget: u64,
-    path: bool,
-    vcd: Option<&'v str>,
+    request: &WorstRequest<'v>,
     err: &mut E,
 ) -> Result<Found<'v>, Refusal<'a>>
-    requires some { 0 < workers }
-    requires few { workers ≤ 64 }
-    requires modest { budget ≤ 10000000 }
-    ensures report { IfOk result (λ found.
-        IsWorstReport text.now default words.entry budget path (words_of vcd.entry) found.report found.certificate (dump_files found.dump)) }
-    ensures refusal { IfErr result (λ refusal. HasNoAnswer text.now default words.entry refusal) }
+    requires modest { request.now.budget ≤ 10000000 }
+    requires some { 0 < request.now.workers }
+    requires few { request.now.workers ≤ 64 }
+    ensures report { IfOk result (λ found. IsWorstReport text.now request.now found.report found.certificate (dump_files found.dump)) }
+    ensures refusal { IfErr result (HasNoAnswer text.now request.now.default request.now.question) }
     ensures spelled { IfOk result (λ found. IfSome found.certificate HasSpelling) }
     ensures has { IfOk result (λ found. IfSome found.dump HasRun) }
-    ensures reported { TellsSearch true text.now default words.entry (E.output err.old) (E.output err.new) }
+    ensures reported { TellsSearch true text.now request.now.default request.now.question (E.output err.old) (E.output err.new) }
 {
     let mut lines = ProgressLines { alloc, err };
-    let found = worst(
-        rt, alloc, text, default, words, workers, budget, &mut lines, path, vcd,
-    );
+    let found = worst(rt, alloc, text, request, &mut lines);
     let ProgressLines { err, .. } = lines;
     take_back(err);
     found
 }
 
-/// As `worst`, with lines that tell how far the search has come where they are asked for.
+/// As `worst`, with lines that say how far the search has come where they are asked for.
 pub fn searched<'a, 'v, R: Threads + Wait + Sync, E: Sink>(
     rt: &R,
     alloc: Global,
     text: &'a [u8],
-    default: Delay,
-    words: QuestionWords<'_>,
-    workers: u32,
-    budget: u64,
-    path: bool,
-    vcd: Option<&'v str>,
-    progress: bool,
+    request: &WorstRequest<'v>,
     err: &mut E,
 ) -> Result<Found<'v>, Refusal<'a>>
-    requires some { 0 < workers }
-    requires few { workers ≤ 64 }
-    requires modest { budget ≤ 10000000 }
-    ensures report { IfOk result (λ found.
-        IsWorstReport text.now default words.entry budget path (words_of vcd.entry) found.report found.certificate (dump_files found.dump)) }
-    ensures refusal { IfErr result (λ refusal. HasNoAnswer text.now default words.entry refusal) }
+    requires modest { request.now.budget ≤ 10000000 }
+    requires some { 0 < request.now.workers }
+    requires few { request.now.workers ≤ 64 }
+    ensures report { IfOk result (λ found. IsWorstReport text.now request.now found.report found.certificate (dump_files found.dump)) }
+    ensures refusal { IfErr result (HasNoAnswer text.now request.now.default request.now.question) }
     ensures spelled { IfOk result (λ found. IfSome found.certificate HasSpelling) }
     ensures has { IfOk result (λ found. IfSome found.dump HasRun) }
-    ensures reported { TellsSearch progress text.now default words.entry (E.output err.old) (E.output err.new) }
+    ensures reported { TellsSearch request.now.progress text.now request.now.default request.now.question (E.output err.old) (E.output err.new) }
 {
-    if progress {
-        return watched(
-            rt, alloc, text, default, words, workers, budget, path, vcd, err,
-        );
+    if request.progress {
+        return watched(rt, alloc, text, request, err);
     }
-    let mut nobody = Unwatched;
-    worst(
-        rt,
-        alloc,
-        text,
-        default,
-        words,
-        workers,
-        budget,
-        &mut nobody,
-        path,
-        vcd,
-    )
+    worst(rt, alloc, text, request, &mut Unwatched)
 }

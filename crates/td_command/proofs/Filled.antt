@@ -8,10 +8,11 @@ use Rattle.clap.specs.Simple.{App, Shape, built_leaf, inherited, marked_built, w
 use Rattle.clap.specs.declared.builder.value_parser.ValueParser.TheVariants.{Bool as AsBool, Names, Signed, Unsigned}
 use Rattle.clap.specs.Walk.{Row, Rule, Text, action_of, arg_by_id, first_of, most_values}
 use Rattle.clap.specs.declared.builder.action.ArgAction.TheVariants.{Append, Set, SetTrue, Help}
-use Rattle.td_command.specs.CommandLine.{AsksBound, AsksCheck, AsksInfo, AsksJoin, AsksParts, AsksPath, AsksSim, AsksWorst, HasWord, behind, bound_command, check_command, info_command, join_command, listed, parts_command, path_command, program, sim_command, strategy_names, worst_command}
+use Rattle.td_command.specs.CommandLine.{AsksBound, AsksCheck, AsksInfo, AsksJoin, AsksParts, AsksPath, AsksQuestion, AsksSim, AsksWorst, HasWord, behind, bound_command, check_command, info_command, join_command, listed, parts_command, path_command, program, sim_command, strategy_names, worst_command}
 use Rattle.td_command.specs.declared.command.SimRequest.{SimRequest}
 use Rattle.td_command.specs.declared.command.PathRequest.{PathRequest}
 use Rattle.td_command.specs.declared.command.BoundRequest.{BoundRequest}
+use Rattle.td_command.specs.declared.command.QuestionWords.{QuestionWords}
 use Rattle.td_command.specs.declared.command.WorstRequest.{WorstRequest}
 use Rattle.td_command.specs.declared.command.PartsRequest.{PartsRequest}
 use Rattle.td_command.specs.declared.command.JoinRequest.{JoinRequest}
@@ -102,28 +103,28 @@ is_flag : {shape : Shape} {id : Text} (rule : Rule) → arg_by_id shape.rules id
 is_flag rule named parser left_out = record { rule = rule; named = named; parser = parser; left_out = left_out }
 
 pub sim_is_plain : IsPlainLeaf sim
-sim_is_plain = record { known = (known_one refl refl refl refl (omega arith), (known_one refl refl refl refl (omega arith), (known_one refl refl refl refl (omega arith), (known_one refl refl refl refl (omega arith), (known_one refl refl refl refl (omega arith), (known_one refl refl refl refl (omega arith), (known_one refl refl refl refl (omega arith), (known_flag refl refl refl refl refl (omega arith), (known_help refl refl (omega arith), tt))))))))); once = refl }
+sim_is_plain = record { known = (known_one refl refl refl refl (omega arith), (known_one refl refl refl refl (omega arith), (known_one refl refl refl refl (omega arith), (known_one refl refl refl refl (omega arith), (known_one refl refl refl refl (omega arith), (known_one refl refl refl refl (omega arith), (known_one refl refl refl refl (omega arith), (known_flag refl refl refl refl refl (omega arith), (known_flag refl refl refl refl refl (omega arith), (known_help refl refl (omega arith), tt)))))))))); once = refl }
 
 pub path_is_plain : IsPlainLeaf path
-path_is_plain = record { known = (known_one refl refl refl refl (omega arith), (known_one refl refl refl refl (omega arith), (known_one refl refl refl refl (omega arith), (known_one refl refl refl refl (omega arith), (known_one refl refl refl refl (omega arith), (known_one refl refl refl refl (omega arith), (known_one refl refl refl refl (omega arith), (known_flag refl refl refl refl refl (omega arith), (known_help refl refl (omega arith), tt))))))))); once = refl }
+path_is_plain = record { known = (known_one refl refl refl refl (omega arith), (known_one refl refl refl refl (omega arith), (known_one refl refl refl refl (omega arith), (known_one refl refl refl refl (omega arith), (known_one refl refl refl refl (omega arith), (known_one refl refl refl refl (omega arith), (known_one refl refl refl refl (omega arith), (known_flag refl refl refl refl refl (omega arith), (known_flag refl refl refl refl refl (omega arith), (known_help refl refl (omega arith), tt)))))))))); once = refl }
 
 pub bound_is_plain : IsPlainLeaf bound
-bound_is_plain = record { known = (known_one refl refl refl refl (omega arith), (known_one refl refl refl refl (omega arith), (known_one refl refl refl refl (omega arith), (known_one refl refl refl refl (omega arith), (known_one refl refl refl refl (omega arith), (known_flag refl refl refl refl refl (omega arith), (known_one refl refl refl refl (omega arith), (known_one refl refl refl refl (omega arith), (known_flag refl refl refl refl refl (omega arith), (known_help refl refl (omega arith), tt)))))))))); once = refl }
+bound_is_plain = record { known = (known_one refl refl refl refl (omega arith), (known_one refl refl refl refl (omega arith), (known_one refl refl refl refl (omega arith), (known_one refl refl refl refl (omega arith), (known_one refl refl refl refl (omega arith), (known_flag refl refl refl refl refl (omega arith), (known_one refl refl refl refl (omega arith), (known_one refl refl refl refl (omega arith), (known_flag refl refl refl refl refl (omega arith), (known_flag refl refl refl refl refl (omega arith), (known_help refl refl (omega arith), tt))))))))))); once = refl }
 
 pub worst_is_plain : IsPlainLeaf worst
-worst_is_plain = record { known = (known_one refl refl refl refl (omega arith), (known_one refl refl refl refl (omega arith), (known_one refl refl refl refl (omega arith), (known_one refl refl refl refl (omega arith), (known_one refl refl refl refl (omega arith), (known_one refl refl refl refl (omega arith), (known_one refl refl refl refl (omega arith), (known_one refl refl refl refl (omega arith), (known_one refl refl refl refl (omega arith), (known_one refl refl refl refl (omega arith), (known_one refl refl refl refl (omega arith), (known_one refl refl refl refl (omega arith), (known_one refl refl refl refl (omega arith), (known_flag refl refl refl refl refl (omega arith), (known_flag refl refl refl refl refl (omega arith), (known_one refl refl refl refl (omega arith), (known_one refl refl refl refl (omega arith), (known_flag refl refl refl refl refl (omega arith), (known_help refl refl (omega arith), tt))))))))))))))))))); once = refl }
+worst_is_plain = record { known = (known_one refl refl refl refl (omega arith), (known_one refl refl refl refl (omega arith), (known_one refl refl refl refl (omega arith), (known_one refl refl refl refl (omega arith), (known_one refl refl refl refl (omega arith), (known_one refl refl refl refl (omega arith), (known_one refl refl refl refl (omega arith), (known_one refl refl refl refl (omega arith), (known_one refl refl refl refl (omega arith), (known_one refl refl refl refl (omega arith), (known_one refl refl refl refl (omega arith), (known_one refl refl refl refl (omega arith), (known_one refl refl refl refl (omega arith), (known_flag refl refl refl refl refl (omega arith), (known_flag refl refl refl refl refl (omega arith), (known_one refl refl refl refl (omega arith), (known_one refl refl refl refl (omega arith), (known_flag refl refl refl refl refl (omega arith), (known_flag refl refl refl refl refl (omega arith), (known_help refl refl (omega arith), tt)))))))))))))))))))); once = refl }
 
 pub parts_is_plain : IsPlainLeaf parts
-parts_is_plain = record { known = (known_one refl refl refl refl (omega arith), (known_one refl refl refl refl (omega arith), (known_one refl refl refl refl (omega arith), (known_one refl refl refl refl (omega arith), (known_one refl refl refl refl (omega arith), (known_one refl refl refl refl (omega arith), (known_one refl refl refl refl (omega arith), (known_one refl refl refl refl (omega arith), (known_one refl refl refl refl (omega arith), (known_one refl refl refl refl (omega arith), (known_one refl refl refl refl (omega arith), (known_one refl refl refl refl (omega arith), (known_flag refl refl refl refl refl (omega arith), (known_help refl refl (omega arith), tt)))))))))))))); once = refl }
+parts_is_plain = record { known = (known_one refl refl refl refl (omega arith), (known_one refl refl refl refl (omega arith), (known_one refl refl refl refl (omega arith), (known_one refl refl refl refl (omega arith), (known_one refl refl refl refl (omega arith), (known_one refl refl refl refl (omega arith), (known_one refl refl refl refl (omega arith), (known_one refl refl refl refl (omega arith), (known_one refl refl refl refl (omega arith), (known_one refl refl refl refl (omega arith), (known_one refl refl refl refl (omega arith), (known_one refl refl refl refl (omega arith), (known_flag refl refl refl refl refl (omega arith), (known_flag refl refl refl refl refl (omega arith), (known_help refl refl (omega arith), tt))))))))))))))); once = refl }
 
 pub join_is_plain : IsPlainLeaf join
-join_is_plain = record { known = (known_one refl refl refl refl (omega arith), (known_more refl refl refl refl (omega arith), (known_one refl refl refl refl (omega arith), (known_flag refl refl refl refl refl (omega arith), (known_one refl refl refl refl (omega arith), (known_one refl refl refl refl (omega arith), (known_one refl refl refl refl (omega arith), (known_one refl refl refl refl (omega arith), (known_one refl refl refl refl (omega arith), (known_flag refl refl refl refl refl (omega arith), (known_help refl refl (omega arith), tt))))))))))); once = refl }
+join_is_plain = record { known = (known_one refl refl refl refl (omega arith), (known_more refl refl refl refl (omega arith), (known_one refl refl refl refl (omega arith), (known_flag refl refl refl refl refl (omega arith), (known_one refl refl refl refl (omega arith), (known_one refl refl refl refl (omega arith), (known_one refl refl refl refl (omega arith), (known_one refl refl refl refl (omega arith), (known_one refl refl refl refl (omega arith), (known_flag refl refl refl refl refl (omega arith), (known_flag refl refl refl refl refl (omega arith), (known_help refl refl (omega arith), tt)))))))))))); once = refl }
 
 pub check_is_plain : IsPlainLeaf check
-check_is_plain = record { known = (known_one refl refl refl refl (omega arith), (known_one refl refl refl refl (omega arith), (known_one refl refl refl refl (omega arith), (known_one refl refl refl refl (omega arith), (known_flag refl refl refl refl refl (omega arith), (known_help refl refl (omega arith), tt)))))); once = refl }
+check_is_plain = record { known = (known_one refl refl refl refl (omega arith), (known_one refl refl refl refl (omega arith), (known_one refl refl refl refl (omega arith), (known_one refl refl refl refl (omega arith), (known_flag refl refl refl refl refl (omega arith), (known_flag refl refl refl refl refl (omega arith), (known_help refl refl (omega arith), tt))))))); once = refl }
 
 pub info_is_plain : IsPlainLeaf info
-info_is_plain = record { known = (known_one refl refl refl refl (omega arith), (known_one refl refl refl refl (omega arith), (known_one refl refl refl refl (omega arith), (known_flag refl refl refl refl refl (omega arith), (known_help refl refl (omega arith), tt))))); once = refl }
+info_is_plain = record { known = (known_one refl refl refl refl (omega arith), (known_one refl refl refl refl (omega arith), (known_one refl refl refl refl (omega arith), (known_flag refl refl refl refl refl (omega arith), (known_flag refl refl refl refl refl (omega arith), (known_help refl refl (omega arith), tt)))))); once = refl }
 
 -- ---- what the words ask for
 
@@ -146,8 +147,7 @@ asks_sim rows taken =
         to = behind to.0;
         at = word_of (codes "at") rows;
         vcd = word_of (codes "vcd") rows;
-        rise = default.0.rise;
-        fall = default.0.fall;
+        default = default.0;
       },
       record {
         file = file.1;
@@ -171,8 +171,7 @@ asks_path rows taken =
         to = behind to.0;
         at = word_of (codes "at") rows;
         output = word_of (codes "output") rows;
-        rise = default.0.rise;
-        fall = default.0.fall;
+        default = default.0;
       },
       record {
         file = file.1;
@@ -195,8 +194,7 @@ asks_bound rows taken =
         second = word_of (codes "second") rows;
         at = word_of (codes "at") rows;
         edges = edges.0;
-        rise = default.0.rise;
-        fall = default.0.fall;
+        default = default.0;
       },
       record {
         file = file.1;
@@ -208,42 +206,55 @@ asks_bound rows taken =
       },
     )
 
+-- what a search is asked, by a command that takes a strategy and a number of flips
+asks_question : (shape : Shape) (rows : List Row) → HasCountOption shape (codes "flips") → HasNameOption shape (codes "strategy") strategy_names
+    → IsTaken shape rows
+    → (asked : QuestionWords) × AsksQuestion rows asked
+asks_question shape rows has_flips has_strategy taken =
+    let flips = count_there shape (codes "flips") rows has_flips taken in
+    let strategy = strategy_there shape rows has_strategy taken in (
+      record {
+        first = word_of (codes "first") rows;
+        second = word_of (codes "second") rows;
+        hold = word_of (codes "hold") rows;
+        flips = flips.0;
+        at = word_of (codes "at") rows;
+        strategy = strategy.0;
+      },
+      record {
+        first = word_there (codes "first") rows;
+        second = word_there (codes "second") rows;
+        hold = word_there (codes "hold") rows;
+        flips = flips.1;
+        at = word_there (codes "at") rows;
+        strategy = strategy.1;
+      },
+    )
+
 pub asks_worst : (rows : List Row) → IsTaken worst rows → (asked : WorstRequest) × AsksWorst rows asked
 asks_worst rows taken =
     let file = text_there worst.rules (codes "FILE") rows (taken.given.0 refl) taken.rules in
-    let flips = count_there worst (codes "flips") rows (has_count_option _ refl refl) taken in
     let workers = number_there worst (codes "workers") 1 64 rows (has_option _ refl refl refl) taken in
-    let strategy = strategy_there worst rows (has_name_option _ refl refl refl refl) taken in
+    let question = asks_question worst rows (has_count_option _ refl refl) (has_name_option _ refl refl refl refl) taken in
     let budget = number_there worst (codes "budget") 0 10000000 rows (has_option _ refl refl refl) taken in
     let path = flag_there worst (codes "path") rows (is_flag _ refl refl refl) taken in
     let progress = flag_there worst (codes "progress") rows (is_flag _ refl refl refl) taken in
     let default = default_there worst rows (has_option _ refl refl refl) (has_option _ refl refl refl) taken in (
       record {
         file = behind file.0;
-        first = word_of (codes "first") rows;
-        second = word_of (codes "second") rows;
-        hold = word_of (codes "hold") rows;
-        flips = flips.0;
-        at = word_of (codes "at") rows;
+        question = question.0;
         workers = workers.0;
-        strategy = strategy.0;
         budget = budget.0;
         certificate = word_of (codes "cert") rows;
         vcd = word_of (codes "vcd") rows;
         path = path.0;
         progress = progress.0;
-        rise = default.0.rise;
-        fall = default.0.fall;
+        default = default.0;
       },
       record {
         file = file.1;
-        first = word_there (codes "first") rows;
-        second = word_there (codes "second") rows;
-        hold = word_there (codes "hold") rows;
-        flips = flips.1;
-        at = word_there (codes "at") rows;
+        question = question.1;
         workers = (workers.1, workers.2, workers.3);
-        strategy = strategy.1;
         budget = (budget.1, budget.3);
         certificate = word_there (codes "cert") rows;
         vcd = word_there (codes "vcd") rows;
@@ -257,30 +268,18 @@ pub asks_parts : (rows : List Row) → IsTaken parts rows → (asked : PartsRequ
 asks_parts rows taken =
     let file = text_there parts.rules (codes "FILE") rows (taken.given.0 refl) taken.rules in
     let number = needed_there parts (codes "parts") 1 65536 rows (has_needed _ refl refl) (taken.given.1.0 refl) taken.rules in
-    let flips = count_there parts (codes "flips") rows (has_count_option _ refl refl) taken in
-    let strategy = strategy_there parts rows (has_name_option _ refl refl refl refl) taken in
+    let question = asks_question parts rows (has_count_option _ refl refl) (has_name_option _ refl refl refl refl) taken in
     let default = default_there parts rows (has_option _ refl refl refl) (has_option _ refl refl refl) taken in (
       record {
         file = behind file.0;
         parts = number.0;
-        first = word_of (codes "first") rows;
-        second = word_of (codes "second") rows;
-        hold = word_of (codes "hold") rows;
-        flips = flips.0;
-        at = word_of (codes "at") rows;
-        strategy = strategy.0;
-        rise = default.0.rise;
-        fall = default.0.fall;
+        question = question.0;
+        default = default.0;
       },
       record {
         file = file.1;
         parts = (number.1, number.2, number.3);
-        first = word_there (codes "first") rows;
-        second = word_there (codes "second") rows;
-        hold = word_there (codes "hold") rows;
-        flips = flips.1;
-        at = word_there (codes "at") rows;
-        strategy = strategy.1;
+        question = question.1;
         default = default.1;
       },
     )
@@ -298,8 +297,7 @@ asks_join rows taken =
         check = check.0;
         first = word_of (codes "first") rows;
         second = word_of (codes "second") rows;
-        rise = default.0.rise;
-        fall = default.0.fall;
+        default = default.0;
       },
       record {
         file = file.1;
@@ -317,7 +315,7 @@ asks_check rows taken =
     let file = text_there check.rules (codes "FILE") rows (taken.given.0 refl) taken.rules in
     let certificate = text_there check.rules (codes "CERT") rows (taken.given.1.0 refl) taken.rules in
     let default = default_there check rows (has_option _ refl refl refl) (has_option _ refl refl refl) taken in (
-      record { file = behind file.0; certificate = behind certificate.0; rise = default.0.rise; fall = default.0.fall },
+      record { file = behind file.0; certificate = behind certificate.0; default = default.0 },
       record { file = file.1; certificate = certificate.1; default = default.1 },
     )
 
@@ -325,6 +323,6 @@ pub asks_info : (rows : List Row) → IsTaken info rows → (asked : InfoRequest
 asks_info rows taken =
     let file = text_there info.rules (codes "FILE") rows (taken.given.0 refl) taken.rules in
     let default = default_there info rows (has_option _ refl refl refl) (has_option _ refl refl refl) taken in (
-      record { file = behind file.0; rise = default.0.rise; fall = default.0.fall },
+      record { file = behind file.0; default = default.0 },
       record { file = file.1; default = default.1 },
     )

@@ -1,5 +1,5 @@
 -- The command line in the form that the parser of command lines takes, and what the words ask for.
-use Rattle.std.specs.Prelude.{◌≡◌, ℕ, ◌≤◌, ◌<◌, ◌^◌, Bool, List, [], ◌∷◌, codes, length, map, pos, true, Option, Some, None, option_map}
+use Rattle.std.specs.Prelude.{⊤, ◌≡◌, ℕ, ◌≤◌, ◌<◌, ◌^◌, Bool, List, [], ◌∷◌, codes, length, map, pos, true, Option, Some, None, option_map}
 use Rattle.std.specs.Borrow.{Bor}
 use Rattle.std.specs.Str.Parse.{IsNumeral, digits_value, without_leading_plus}
 use Rattle.clap.specs.Words.{App, Kinds, Row, Rule, Text, all_of, fault_of, first_of, new_app, new_rule, one_of, subcommand_of, with_rule, with_subcommand}
@@ -12,6 +12,7 @@ use Rattle.td_command.specs.declared.command.PathRequest.{PathRequest}
 use Rattle.td_command.specs.declared.command.BoundRequest.{BoundRequest}
 use Rattle.td_command.specs.declared.command.StrategyWord.{StrategyWord}
 use Rattle.td_command.specs.declared.command.StrategyWord.TheVariants.{Least, Lead, Refute, Auto}
+use Rattle.td_command.specs.declared.command.QuestionWords.{QuestionWords}
 use Rattle.td_command.specs.declared.command.WorstRequest.{WorstRequest}
 use Rattle.td_command.specs.declared.command.PartsRequest.{PartsRequest}
 use Rattle.td_command.specs.declared.command.JoinRequest.{JoinRequest}
@@ -85,9 +86,10 @@ with_default app =
     with_rule (with_rule app (number_option (codes "default-rise") 1 1000000000 (codes "1")))
     (number_option (codes "default-fall") 1 1000000000 (codes "1"))
 
--- what all commands take: the delays of gates that state none, and whether hints follow a refusal
+-- what all commands take: the delays of gates that state none, whether hints follow a refusal, and
+-- whether the report is JSON
 abbrev pub with_common : App → App
-with_common app = with_rule (with_default app) (flag (codes "hints"))
+with_common app = with_rule (with_rule (with_default app) (flag (codes "hints"))) (flag (codes "json"))
 
 -- when each input takes its second level
 abbrev pub with_moments : App → App
@@ -279,7 +281,7 @@ pub record AsksSim (rows : List Row) (asked : SimRequest) : Type 0 where
   pub to : first_of (codes "TO") rows ≡ Some asked.to.now
   pub at : HasWord (codes "at") rows asked.at
   pub vcd : HasWord (codes "vcd") rows asked.vcd
-  pub default : HasDefault rows (delays asked.rise asked.fall)
+  pub default : HasDefault rows asked.default
 
 -- the words of `path` ask for this
 pub record AsksPath (rows : List Row) (asked : PathRequest) : Type 0 where
@@ -288,7 +290,7 @@ pub record AsksPath (rows : List Row) (asked : PathRequest) : Type 0 where
   pub to : first_of (codes "TO") rows ≡ Some asked.to.now
   pub at : HasWord (codes "at") rows asked.at
   pub output : HasWord (codes "output") rows asked.output
-  pub default : HasDefault rows (delays asked.rise asked.fall)
+  pub default : HasDefault rows asked.default
 
 -- the words of `bound` ask for this
 pub record AsksBound (rows : List Row) (asked : BoundRequest) : Type 0 where
@@ -297,36 +299,35 @@ pub record AsksBound (rows : List Row) (asked : BoundRequest) : Type 0 where
   pub second : HasWord (codes "second") rows asked.second
   pub at : HasWord (codes "at") rows asked.at
   pub edges : HasFlag (codes "edges") rows asked.edges
-  pub default : HasDefault rows (delays asked.rise asked.fall)
+  pub default : HasDefault rows asked.default
 
--- the words of `worst` ask for this
-pub record AsksWorst (rows : List Row) (asked : WorstRequest) : Type 0 where
-  pub file : first_of (codes "FILE") rows ≡ Some asked.file.now
+-- the words say that a search is asked this
+pub record AsksQuestion (rows : List Row) (asked : QuestionWords) : Type 0 where
   pub first : HasWord (codes "first") rows asked.first
   pub second : HasWord (codes "second") rows asked.second
   pub hold : HasWord (codes "hold") rows asked.hold
   pub flips : HasCount (codes "flips") rows asked.flips
   pub at : HasWord (codes "at") rows asked.at
-  pub workers : HasWorkers rows asked.workers
   pub strategy : HasStrategy rows asked.strategy
+
+-- the words of `worst` ask for this
+pub record AsksWorst (rows : List Row) (asked : WorstRequest) : Type 0 where
+  pub file : first_of (codes "FILE") rows ≡ Some asked.file.now
+  pub question : AsksQuestion rows asked.question
+  pub workers : HasWorkers rows asked.workers
   pub budget : HasBudget rows asked.budget
   pub certificate : HasWord (codes "cert") rows asked.certificate
   pub vcd : HasWord (codes "vcd") rows asked.vcd
   pub path : HasFlag (codes "path") rows asked.path
   pub progress : HasFlag (codes "progress") rows asked.progress
-  pub default : HasDefault rows (delays asked.rise asked.fall)
+  pub default : HasDefault rows asked.default
 
 -- the words of `parts` ask for this
 pub record AsksParts (rows : List Row) (asked : PartsRequest) : Type 0 where
   pub file : first_of (codes "FILE") rows ≡ Some asked.file.now
   pub parts : HasParts rows asked.parts
-  pub first : HasWord (codes "first") rows asked.first
-  pub second : HasWord (codes "second") rows asked.second
-  pub hold : HasWord (codes "hold") rows asked.hold
-  pub flips : HasCount (codes "flips") rows asked.flips
-  pub at : HasWord (codes "at") rows asked.at
-  pub strategy : HasStrategy rows asked.strategy
-  pub default : HasDefault rows (delays asked.rise asked.fall)
+  pub question : AsksQuestion rows asked.question
+  pub default : HasDefault rows asked.default
 
 -- the words of `join` ask for this
 pub record AsksJoin (rows : List Row) (asked : JoinRequest) : Type 0 where
@@ -336,18 +337,18 @@ pub record AsksJoin (rows : List Row) (asked : JoinRequest) : Type 0 where
   pub check : HasFlag (codes "check") rows asked.check
   pub first : HasWord (codes "first") rows asked.first
   pub second : HasWord (codes "second") rows asked.second
-  pub default : HasDefault rows (delays asked.rise asked.fall)
+  pub default : HasDefault rows asked.default
 
 -- the words of `check` ask for this
 pub record AsksCheck (rows : List Row) (asked : CheckRequest) : Type 0 where
   pub file : first_of (codes "FILE") rows ≡ Some asked.file.now
   pub certificate : first_of (codes "CERT") rows ≡ Some asked.certificate.now
-  pub default : HasDefault rows (delays asked.rise asked.fall)
+  pub default : HasDefault rows asked.default
 
 -- the words of `info` ask for this
 pub record AsksInfo (rows : List Row) (asked : InfoRequest) : Type 0 where
   pub file : first_of (codes "FILE") rows ≡ Some asked.file.now
-  pub default : HasDefault rows (delays asked.rise asked.fall)
+  pub default : HasDefault rows asked.default
 
 -- the command of this name, with these words, asks for this
 abbrev pub CommandAsks : Text → List Row → Request → Type 0
@@ -381,15 +382,9 @@ TakenAsk = (words : List Text) → kinds_of words ≡ [] → (asked : Request) �
 
 -- the numbers that were asked for are in range
 abbrev pub IsCarriedOut : Request → Type 0
-IsCarriedOut (request.Sim asked) = IsInRange (delays asked.rise asked.fall)
-IsCarriedOut (request.Path asked) = IsInRange (delays asked.rise asked.fall)
-IsCarriedOut (request.Bound asked) = IsInRange (delays asked.rise asked.fall)
-IsCarriedOut (request.Worst asked) =
-    IsInRange (delays asked.rise asked.fall) × (asked.budget ≤ 10000000) × (0 < asked.workers) × (asked.workers ≤ 64)
-IsCarriedOut (request.Parts asked) = IsInRange (delays asked.rise asked.fall) × (0 < asked.parts) × (asked.parts ≤ 65536)
-IsCarriedOut (request.Join asked) = IsInRange (delays asked.rise asked.fall)
-IsCarriedOut (request.Check asked) = IsInRange (delays asked.rise asked.fall)
-IsCarriedOut (request.Info asked) = IsInRange (delays asked.rise asked.fall)
+IsCarriedOut (request.Worst asked) = (asked.budget ≤ 10000000) × (0 < asked.workers) × (asked.workers ≤ 64)
+IsCarriedOut (request.Parts asked) = (0 < asked.parts) × (asked.parts ≤ 65536)
+IsCarriedOut other = ⊤
 
 -- the answer is what is asked, none where nothing is
 abbrev pub IsAnswered : {X : Type 0} → (X → Type 0) → Option X → Type 0

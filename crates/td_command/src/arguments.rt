@@ -17,7 +17,7 @@ use td_gates::Delay;
 pub(crate) const MOST_WORKERS: u32 = 64;
 
 /// The most nodes that a search may handle.
-pub(crate) const MOST_NODES: u32 = 10_000_000;
+pub const MOST_NODES: u32 = 10_000_000;
 
 /// The most parts of a question.
 pub(crate) const MOST_PARTS: u32 = 65_536;
@@ -229,8 +229,8 @@ impl<'a> Arguments<'a> {
         )
     }
 
-    /// What all commands take: the delay of gates that state none, and whether hints stand after a
-    /// refusal.
+    /// What all commands take: the delay of gates that state none, whether hints stand after a
+    /// refusal, and whether the report is JSON.
     pub(crate) fn common(&mut self) -> Result<(), AllocError>
         ensures { OnOk result (TellsMore with_common self.old self.new) }
     {
@@ -238,6 +238,10 @@ impl<'a> Arguments<'a> {
         self.flag(
             "hints",
             "After the line of a refusal, says on standard error what it means and what to do",
+        )?;
+        self.flag(
+            "json",
+            "Prints the report as one JSON object, which has the keys of the report's lines",
         )
     }
 

@@ -2,7 +2,7 @@
 
 ghost use Rattle.std.specs.Prelude.{◌<◌, ◌^◌, ℕ, codes, map, IfOk, IfErr, IfSome, IfNone};
 ghost use Rattle.clap.specs.Words.{found_of, rows_of, subcommand_rows_of, HasKind};
-ghost use Rattle.td_command.specs.CommandLine.{HasNumber, HasCount, HasFlag, HasStrategy, HasDefault, HasWorkers, HasBudget, HasParts, HasWords, CommandAsks, EnteredAsks, kinds_of, Asks, IsAnswered};
+ghost use Rattle.td_command.specs.CommandLine.{HasNumber, HasCount, HasFlag, HasStrategy, AsksQuestion, HasDefault, HasWorkers, HasBudget, HasParts, HasWords, CommandAsks, EnteredAsks, kinds_of, Asks, IsAnswered};
 
 use crate::arguments::{MOST_NODES, MOST_PARTS, MOST_WORKERS};
 use crate::certificates::{Certificates, words_given};
@@ -22,9 +22,8 @@ pub struct SimRequest<'a> {
     pub at: Option<&'a str>,
     /// Where the waves of the run go.
     pub vcd: Option<&'a str>,
-    /// The delays of gates that state none.
-    pub rise: u32,
-    pub fall: u32,
+    /// The delay of gates that state none.
+    pub default: Delay,
 }
 
 /// Why an output changes last when it does, in the run of a pair of vectors.
@@ -37,9 +36,8 @@ pub struct PathRequest<'a> {
     pub at: Option<&'a str>,
     /// The output that is asked about; the one that changes last where there is none.
     pub output: Option<&'a str>,
-    /// The delays of gates that state none.
-    pub rise: u32,
-    pub fall: u32,
+    /// The delay of gates that state none.
+    pub default: Delay,
 }
 
 /// The bounds of a cube of pairs.
@@ -52,9 +50,8 @@ pub struct BoundRequest<'a> {
     pub at: Option<&'a str>,
     /// Whether the bounds by edges are asked for too.
     pub edges: bool,
-    /// The delays of gates that state none.
-    pub rise: u32,
-    pub fall: u32,
+    /// The delay of gates that state none.
+    pub default: Delay,
 }
 
 /// By which strategy a search goes.
@@ -66,10 +63,10 @@ pub enum StrategyWord {
     Auto,
 }
 
-/// The search for the worst delay.
+/// What a search is asked, and by which strategy it goes: the words say which pairs of vectors are
+/// admitted and when inputs change, and each may be left out.
 #[derive(Clone, Copy, Debug)]
-pub struct WorstRequest<'a> {
-    pub file: &'a str,
+pub struct QuestionWords<'a> {
     pub first: Option<&'a str>,
     pub second: Option<&'a str>,
     /// Which inputs keep their level.
@@ -78,9 +75,16 @@ pub struct WorstRequest<'a> {
     pub flips: Option<u64>,
     /// The moment at which each input takes its second level.
     pub at: Option<&'a str>,
+    pub strategy: StrategyWord,
+}
+
+/// The search for the worst delay.
+#[derive(Clone, Copy, Debug)]
+pub struct WorstRequest<'a> {
+    pub file: &'a str,
+    pub question: QuestionWords<'a>,
     /// How many threads search, from 1 to 64.
     pub workers: u32,
-    pub strategy: StrategyWord,
     /// The most nodes that the search handles, at most 10,000,000.
     pub budget: u32,
     /// Where the certificate of an exact answer goes.
@@ -91,9 +95,8 @@ pub struct WorstRequest<'a> {
     pub path: bool,
     /// Whether the search reports on standard error how far it is.
     pub progress: bool,
-    /// The delays of gates that state none.
-    pub rise: u32,
-    pub fall: u32,
+    /// The delay of gates that state none.
+    pub default: Delay,
 }
 
 /// The parts of a search's question.
@@ -102,18 +105,9 @@ pub struct PartsRequest<'a> {
     pub file: &'a str,
     /// How many parts, from 1 to 65,536.
     pub parts: u32,
-    pub first: Option<&'a str>,
-    pub second: Option<&'a str>,
-    /// Which inputs keep their level.
-    pub hold: Option<&'a str>,
-    /// At how many inputs, at most, the two vectors differ.
-    pub flips: Option<u64>,
-    /// The moment at which each input takes its second level.
-    pub at: Option<&'a str>,
-    pub strategy: StrategyWord,
-    /// The delays of gates that state none.
-    pub rise: u32,
-    pub fall: u32,
+    pub question: QuestionWords<'a>,
+    /// The delay of gates that state none.
+    pub default: Delay,
 }
 
 /// One certificate of those of a question's parts.
@@ -128,9 +122,8 @@ pub struct JoinRequest<'a> {
     pub check: bool,
     pub first: Option<&'a str>,
     pub second: Option<&'a str>,
-    /// The delays of gates that state none.
-    pub rise: u32,
-    pub fall: u32,
+    /// The delay of gates that state none.
+    pub default: Delay,
 }
 
 /// The verdict on a certificate.
@@ -138,18 +131,16 @@ pub struct JoinRequest<'a> {
 pub struct CheckRequest<'a> {
     pub file: &'a str,
     pub certificate: &'a str,
-    /// The delays of gates that state none.
-    pub rise: u32,
-    pub fall: u32,
+    /// The delay of gates that state none.
+    pub default: Delay,
 }
 
 /// What is in a netlist.
 #[derive(Clone, Copy, Debug)]
 pub struct InfoRequest<'a> {
     pub file: &'a str,
-    /// The delays of gates that state none.
-    pub rise: u32,
-    pub fall: u32,
+    /// The delay of gates that state none.
+    pub default: Delay,
 }
 
 /// What the words of a command line ask for.
@@ -223,8 +214,7 @@ fn sim_of<'a>(matches: &ArgMatches<'a>) -> Option<Request<'a>>
         to,
         at: matches.get_str("at"),
         vcd: matches.get_str("vcd"),
-        rise: default.rise,
-        fall: default.fall,
+        default,
     }))
 }
 
@@ -241,8 +231,7 @@ fn path_of<'a>(matches: &ArgMatches<'a>) -> Option<Request<'a>>
         to,
         at: matches.get_str("at"),
         output: matches.get_str("output"),
-        rise: default.rise,
-        fall: default.fall,
+        default,
     }))
 }
 
@@ -258,8 +247,7 @@ fn bound_of<'a>(matches: &ArgMatches<'a>) -> Option<Request<'a>>
         second: matches.get_str("second"),
         at: matches.get_str("at"),
         edges,
-        rise: default.rise,
-        fall: default.fall,
+        default,
     }))
 }
 
@@ -300,14 +288,29 @@ fn budget(matches: &ArgMatches<'_>) -> Option<u32>
     }
 }
 
-/// How a search goes: how many threads, by which strategy, and the most nodes.
-fn effort(matches: &ArgMatches<'_>) -> Option<(u32, StrategyWord, u32)>
-    ensures { IsAnswered (λ effort. HasWorkers (rows_of (found_of matches.now)) effort.0 × HasStrategy (rows_of (found_of matches.now)) effort.1 × HasBudget (rows_of (found_of matches.now)) effort.2) result }
+/// What a search is asked, and by which strategy it goes.
+fn question<'a>(matches: &ArgMatches<'a>) -> Option<QuestionWords<'a>>
+    ensures { IsAnswered (AsksQuestion (rows_of (found_of matches.now))) result }
+{
+    let flips = count(matches, "flips")?;
+    let strategy = strategy(matches)?;
+    Some(QuestionWords {
+        first: matches.get_str("first"),
+        second: matches.get_str("second"),
+        hold: matches.get_str("hold"),
+        flips,
+        at: matches.get_str("at"),
+        strategy,
+    })
+}
+
+/// How many threads search, and the most nodes.
+fn effort(matches: &ArgMatches<'_>) -> Option<(u32, u32)>
+    ensures { IsAnswered (λ effort. HasWorkers (rows_of (found_of matches.now)) effort.0 × HasBudget (rows_of (found_of matches.now)) effort.1) result }
 {
     let workers = workers(matches)?;
-    let strategy = strategy(matches)?;
     let budget = budget(matches)?;
-    Some((workers, strategy, budget))
+    Some((workers, budget))
 }
 
 /// What a search reports beside its answer: whether it shows the chain of the given pair, and
@@ -324,26 +327,20 @@ fn worst_of<'a>(matches: &ArgMatches<'a>) -> Option<Request<'a>>
     ensures { IsAnswered (CommandAsks (codes "worst") (rows_of (found_of matches.now))) result }
 {
     let file = matches.get_str("FILE")?;
-    let flips = count(matches, "flips")?;
-    let (workers, strategy, budget) = effort(matches)?;
+    let question = question(matches)?;
+    let (workers, budget) = effort(matches)?;
     let (path, progress) = reported(matches)?;
     let default = default(matches)?;
     Some(Request::Worst(WorstRequest {
         file,
-        first: matches.get_str("first"),
-        second: matches.get_str("second"),
-        hold: matches.get_str("hold"),
-        flips,
-        at: matches.get_str("at"),
+        question,
         workers,
-        strategy,
         budget,
         certificate: matches.get_str("cert"),
         vcd: matches.get_str("vcd"),
         path,
         progress,
-        rise: default.rise,
-        fall: default.fall,
+        default,
     }))
 }
 
@@ -364,20 +361,13 @@ fn parts_of<'a>(matches: &ArgMatches<'a>) -> Option<Request<'a>>
 {
     let file = matches.get_str("FILE")?;
     let parts = parts(matches)?;
-    let flips = count(matches, "flips")?;
-    let strategy = strategy(matches)?;
+    let question = question(matches)?;
     let default = default(matches)?;
     Some(Request::Parts(PartsRequest {
         file,
         parts,
-        first: matches.get_str("first"),
-        second: matches.get_str("second"),
-        hold: matches.get_str("hold"),
-        flips,
-        at: matches.get_str("at"),
-        strategy,
-        rise: default.rise,
-        fall: default.fall,
+        question,
+        default,
     }))
 }
 
@@ -396,8 +386,7 @@ fn joined<'a>(matches: &ArgMatches<'a>, certificates: Certificates<'a>) -> Optio
         check,
         first: matches.get_str("first"),
         second: matches.get_str("second"),
-        rise: default.rise,
-        fall: default.fall,
+        default,
     }))
 }
 
@@ -420,8 +409,7 @@ fn check_of<'a>(matches: &ArgMatches<'a>) -> Option<Request<'a>>
     Some(Request::Check(CheckRequest {
         file,
         certificate,
-        rise: default.rise,
-        fall: default.fall,
+        default,
     }))
 }
 
@@ -430,11 +418,7 @@ fn info_of<'a>(matches: &ArgMatches<'a>) -> Option<Request<'a>>
 {
     let file = matches.get_str("FILE")?;
     let default = default(matches)?;
-    Some(Request::Info(InfoRequest {
-        file,
-        rise: default.rise,
-        fall: default.fall,
-    }))
+    Some(Request::Info(InfoRequest { file, default }))
 }
 
 /// What the command of this name asks for.

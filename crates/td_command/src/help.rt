@@ -19,6 +19,7 @@ and of a port of several bits from its left number to its right one. `info` show
 that order, a line for each input: `input 0 N1` is that of a vector's first character.
 FILE may be `-` for standard input.
 Standard output has one figure a line, a key and its value: docs/MANUAL.md.
+With `--json` it has one JSON object with these keys.
 With `--hints` a command that is refused says on standard error what to do, too.
 
 Exit status:

@@ -5,11 +5,14 @@ mod arguments;
 mod certificates;
 mod command;
 mod commands;
+mod flags;
 mod help;
 pub mod laws;
 
+pub use arguments::MOST_NODES;
 pub use certificates::Certificates;
 pub use command::{
-    BoundRequest, CheckRequest, InfoRequest, JoinRequest, PartsRequest, PathRequest, Request,
-    SimRequest, StrategyWord, WorstRequest, parse,
+    BoundRequest, CheckRequest, InfoRequest, JoinRequest, PartsRequest, PathRequest, QuestionWords,
+    Request, SimRequest, StrategyWord, WorstRequest, parse,
 };
+pub use flags::is_asked;

@@ -7,7 +7,7 @@ use Rattle.td_report.specs.declared.refusal.Refusal.TheVariants as refusal
 use Rattle.td_report.specs.Vectors.{words_of}
 use Rattle.td_command.specs.declared.command.Request.{Request}
 use Rattle.td_command.specs.declared.command.Request.TheVariants as request
-use Rattle.td_delivery.specs.Disks.{Disk}
+use Rattle.td_files.specs.Disks.{Disk}
 
 -- the names that are given are of different files
 abbrev pub AreApart : Disk → Option (List ℕ) → Option (List ℕ) → Type 0

@@ -2,7 +2,6 @@
 
 ghost use Rattle.std.specs.Prelude.{◌≡◌, ℕ, List, All, map, Option, Some, IfSome, IfNone};
 ghost use Rattle.std.specs.List.{Contains};
-ghost use Rattle.td_delivery.specs.Disks.{disk_of};
 ghost use Rattle.td_delivery.specs.Overwriting.{AreApart, IsOverwritten, IsReadAs, KeepsRead, KeepsFiles, OverwritesRead, Overwrites};
 ghost use Rattle.td_report.specs.Vectors.{words_of};
 ghost use Rattle.td_command.specs.declared.command.Request.TheVariants as Asked;
@@ -14,8 +13,8 @@ use td_report::refusal::Refusal;
 /// Why a command isn't carried out that would write one of its files over another: the netlist or a
 /// part's certificate that it reads, or the other file that it writes.
 pub fn overwriting<'a, F: Files>(files: &mut F, request: &Request<'a>) -> Option<Refusal<'a>>
-    ensures some { IfSome result (λ reason. Overwrites (disk_of (F.holds files.old) (F.fails files.old) (F.breaks files.old) (F.is_one files.old)) request.now reason) }
-    ensures none { IfNone result (KeepsFiles (disk_of (F.holds files.old) (F.fails files.old) (F.breaks files.old) (F.is_one files.old)) request.now) }
+    ensures some { IfSome result (λ reason. Overwrites (F.disk files.old) request.now reason) }
+    ensures none { IfNone result (KeepsFiles (F.disk files.old) request.now) }
     ensures stays { files.new ≡ files.old }
 {
     match request {
@@ -32,8 +31,8 @@ pub fn overwriting<'a, F: Files>(files: &mut F, request: &Request<'a>) -> Option
 
 /// The waves of `sim` in place of its netlist.
 fn over_netlist<'a, F: Files>(files: &mut F, request: &SimRequest<'a>) -> Option<Refusal<'a>>
-    ensures some { IfSome result (λ reason. Overwrites (disk_of (F.holds files.old) (F.fails files.old) (F.breaks files.old) (F.is_one files.old)) (Asked.Sim request.now) reason) }
-    ensures none { IfNone result (KeepsFiles (disk_of (F.holds files.old) (F.fails files.old) (F.breaks files.old) (F.is_one files.old)) (Asked.Sim request.now)) }
+    ensures some { IfSome result (λ reason. Overwrites (F.disk files.old) (Asked.Sim request.now) reason) }
+    ensures none { IfNone result (KeepsFiles (F.disk files.old) (Asked.Sim request.now)) }
     ensures stays { files.new ≡ files.old }
 {
     over(files, request.vcd, Some(read_as(request.file)))
@@ -42,8 +41,8 @@ fn over_netlist<'a, F: Files>(files: &mut F, request: &SimRequest<'a>) -> Option
 /// The certificate or the waves of `worst` in place of its netlist, or the waves in place of the
 /// certificate.
 fn over_another<'a, F: Files>(files: &mut F, request: &WorstRequest<'a>) -> Option<Refusal<'a>>
-    ensures some { IfSome result (λ reason. Overwrites (disk_of (F.holds files.old) (F.fails files.old) (F.breaks files.old) (F.is_one files.old)) (Asked.Worst request.now) reason) }
-    ensures none { IfNone result (KeepsFiles (disk_of (F.holds files.old) (F.fails files.old) (F.breaks files.old) (F.is_one files.old)) (Asked.Worst request.now)) }
+    ensures some { IfSome result (λ reason. Overwrites (F.disk files.old) (Asked.Worst request.now) reason) }
+    ensures none { IfNone result (KeepsFiles (F.disk files.old) (Asked.Worst request.now)) }
     ensures stays { files.new ≡ files.old }
 {
     let read = read_as(request.file);
@@ -58,8 +57,8 @@ fn over_another<'a, F: Files>(files: &mut F, request: &WorstRequest<'a>) -> Opti
 
 /// The certificate of `join` in place of its netlist, or of a part's certificate.
 fn over_part<'a, F: Files>(files: &mut F, request: &JoinRequest<'a>) -> Option<Refusal<'a>>
-    ensures some { IfSome result (λ reason. Overwrites (disk_of (F.holds files.old) (F.fails files.old) (F.breaks files.old) (F.is_one files.old)) (Asked.Join request.now) reason) }
-    ensures none { IfNone result (KeepsFiles (disk_of (F.holds files.old) (F.fails files.old) (F.breaks files.old) (F.is_one files.old)) (Asked.Join request.now)) }
+    ensures some { IfSome result (λ reason. Overwrites (F.disk files.old) (Asked.Join request.now) reason) }
+    ensures none { IfNone result (KeepsFiles (F.disk files.old) (Asked.Join request.now)) }
     ensures stays { files.new ≡ files.old }
 {
     if let Some(refusal) = over_read(files, request.certificate, request.file) {
@@ -75,8 +74,8 @@ fn over_one_of<'a, F: Files>(
     names: &[&'a str],
 ) -> Option<Refusal<'a>>
     ensures some { IfSome result (λ reason. (name : List ℕ) × Contains (map (λ name. name.now) names.now) name
-        × OverwritesRead (disk_of (F.holds files.old) (F.fails files.old) (F.breaks files.old) (F.is_one files.old)) name (words_of out.entry) reason) }
-    ensures none { IfNone result (All (KeepsRead (disk_of (F.holds files.old) (F.fails files.old) (F.breaks files.old) (F.is_one files.old)) (words_of out.entry))
+        × OverwritesRead (F.disk files.old) name (words_of out.entry) reason) }
+    ensures none { IfNone result (All (KeepsRead (F.disk files.old) (words_of out.entry))
         (map (λ name. name.now) names.now)) }
     ensures stays { files.new ≡ files.old }
 {
@@ -94,8 +93,8 @@ fn over_read<'a, F: Files>(
     out: Option<&'a str>,
     file: &'a str,
 ) -> Option<Refusal<'a>>
-    ensures some { IfSome result (OverwritesRead (disk_of (F.holds files.old) (F.fails files.old) (F.breaks files.old) (F.is_one files.old)) file.now (words_of out.entry)) }
-    ensures none { IfNone result (KeepsRead (disk_of (F.holds files.old) (F.fails files.old) (F.breaks files.old) (F.is_one files.old)) (words_of out.entry) file.now) }
+    ensures some { IfSome result (OverwritesRead (F.disk files.old) file.now (words_of out.entry)) }
+    ensures none { IfNone result (KeepsRead (F.disk files.old) (words_of out.entry) file.now) }
     ensures stays { files.new ≡ files.old }
 {
     over(files, out, Some(read_as(file)))
@@ -114,8 +113,8 @@ fn over<'a, F: Files>(
     out: Option<&'a str>,
     file: Option<&'a str>,
 ) -> Option<Refusal<'a>>
-    ensures some { IfSome result (λ reason. IsOverwritten (disk_of (F.holds files.old) (F.fails files.old) (F.breaks files.old) (F.is_one files.old)) (words_of out.entry) (words_of file.entry) reason) }
-    ensures none { IfNone result (AreApart (disk_of (F.holds files.old) (F.fails files.old) (F.breaks files.old) (F.is_one files.old)) (words_of out.entry) (words_of file.entry)) }
+    ensures some { IfSome result (λ reason. IsOverwritten (F.disk files.old) (words_of out.entry) (words_of file.entry) reason) }
+    ensures none { IfNone result (AreApart (F.disk files.old) (words_of out.entry) (words_of file.entry)) }
     ensures stays { files.new ≡ files.old }
 {
     let (Some(out), Some(file)) = (out, file) else {

@@ -71,7 +71,7 @@ pub fn hand_over<F: Files, O: Sink, E: Sink>(
     requires spelled { IfSome certificate.now HasSpelling }
     requires run { IfSome dump.now HasRun }
     ensures { Takes (F.did files.old files.new) (λ steps.
-        Ends (IsHandedOver report.now (certificate_files (words_of name.entry) certificate.now ++ dump_files dump.now) ending) (λ _. ⊥) (F.breaks files.old) steps result
+        Ends (IsHandedOver report.now (certificate_files (words_of name.entry) certificate.now ++ dump_files dump.now) ending) (λ _. ⊥) (F.disk files.old).breaks steps result
         (streams (O.output out.old) (E.output err.old)) (streams (O.output out.new) (E.output err.new))) }
 {
     let shown = beside_files(report, name, certificate, dump);
@@ -100,8 +100,8 @@ fn keep_certificate<F: Files, E: Sink>(
     ensures kept { OnOk result (Takes (F.did files.old files.new)
         (λ steps. AreWritten (certificate_files (words_of name.entry) certificate.now) steps × (E.output err.new ≡ E.output err.old))) }
     ensures lost { OnErr result (Takes (F.did files.old files.new)
-        (λ steps. LosesOne (certificate_files (words_of name.entry) certificate.now) (F.breaks files.old) steps (E.output err.old) (E.output err.new))) }
-    ensures devices { (other : List ℕ) → F.breaks files.new other → F.breaks files.old other }
+        (λ steps. LosesOne (certificate_files (words_of name.entry) certificate.now) (F.disk files.old).breaks steps (E.output err.old) (E.output err.new))) }
+    ensures devices { (other : List ℕ) → (F.disk files.new).breaks other → (F.disk files.old).breaks other }
 {
     let Some(certificate) = certificate else {
         return Ok(());
@@ -126,8 +126,8 @@ fn write_certificate<F: Files>(
     requires { HasSpelling certificate.now }
     ensures written { OnOk result (Takes (F.did files.old files.new) (IsWritten (record { name = name.now; text = spelling certificate.now }))) }
     ensures left { IfErr result (λ fault. Takes (F.did files.old files.new)
-        (IsLeft (F.breaks files.old name.now) (record { name = name.now; text = spelling certificate.now }) fault)) }
-    ensures devices { (other : List ℕ) → F.breaks files.new other → F.breaks files.old other }
+        (IsLeft ((F.disk files.old).breaks name.now) (record { name = name.now; text = spelling certificate.now }) fault)) }
+    ensures devices { (other : List ℕ) → (F.disk files.new).breaks other → (F.disk files.old).breaks other }
 {
     let mut writer = files.create(alloc, name)?;
     match write(alloc, &mut writer, certificate) {
@@ -150,7 +150,7 @@ fn keep_dump<F: Files, E: Sink>(
     ensures kept { OnOk result (Takes (F.did files.old files.new)
         (λ steps. AreWritten (dump_files dump.now) steps × (E.output err.new ≡ E.output err.old))) }
     ensures lost { OnErr result (Takes (F.did files.old files.new)
-        (λ steps. LosesOne (dump_files dump.now) (F.breaks files.old) steps (E.output err.old) (E.output err.new))) }
+        (λ steps. LosesOne (dump_files dump.now) (F.disk files.old).breaks steps (E.output err.old) (E.output err.new))) }
 {
     let Some(dump) = dump else {
         return Ok(());
@@ -167,7 +167,7 @@ fn write_waves<F: Files>(alloc: Global, files: &mut F, dump: &Dump<'_>) -> Resul
     requires { HasRun dump.now }
     ensures written { OnOk result (Takes (F.did files.old files.new) (IsWritten (file_of dump.now))) }
     ensures left { IfErr result (λ fault. Takes (F.did files.old files.new)
-        (IsLeft (F.breaks files.old dump.now.name.now) (file_of dump.now) fault)) }
+        (IsLeft ((F.disk files.old).breaks dump.now.name.now) (file_of dump.now) fault)) }
 {
     let mut writer = files.create(alloc, dump.name)?;
     match write_dump(alloc, &mut writer, dump) {

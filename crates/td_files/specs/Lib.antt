@@ -1,4 +1,5 @@
 pub mod Files
 pub mod Devices
+pub mod Disks
 pub mod MemoryFiles
 pub mod RealWriters

@@ -28,7 +28,8 @@ impl From<io::Error> for ReadFault {
 
 /// Files by name.
 pub trait Files {
-    ghost use Rattle.std.specs.Prelude.{◌≡◌, ℕ, Bool, List, [], ◌∷◌, ◌++◌, IfOk, IfErr, OnOk, OnErr};
+    ghost use Rattle.std.specs.Prelude.{◌≡◌, ℕ, List, [], ◌∷◌, ◌++◌, IfOk, IfErr, OnOk, OnErr};
+    ghost use Rattle.td_files.specs.Disks.{Disk};
     ghost use Rattle.td_files.specs.Files.{FileStep, Made, Ended};
     ghost use Rattle.td_files.specs.declared.disk.ReadFault.TheVariants as Fault;
     ghost use Rattle.td_certificate.specs.declared.fault.WriteFault.TheVariants as Unwritten;
@@ -36,52 +37,43 @@ pub trait Files {
     /// A writer of one file, which is closed or discarded in the end.
     type Writer: Sink;
 
-    /// The bytes that a read of a name may give.
-    ghost holds: { Self → List ℕ → List ℕ → Type 0 };
-
-    /// A device may fail to read this name.
-    ghost fails: { Self → List ℕ → Type 0 };
-
-    /// A device may fail to make or to end a file of this name.
-    ghost breaks: { Self → List ℕ → Type 0 };
-
-    /// What may be answered where it is asked whether two names are of one file.
-    ghost is_one: { Self → List ℕ → List ℕ → Bool → Type 0 };
+    /// What reads, writes and questions about names may answer.
+    ghost disk: { Self → Disk };
 
     /// Between the two moments these steps were taken, in order, and no others.
     ghost did: { Self → Self → List FileStep → Type 0 };
 
     /// All bytes of a file. Of the system's files those named `stdin` and `-` are standard input.
     fn read(&mut self, alloc: Global, name: &str) -> Result<Vec<u8>, ReadFault>
-        ensures bytes { IfOk result (λ bytes. holds self.old name.now bytes.items) }
-        ensures fault { IfErr result (λ fault. fault ≡ Fault.Device → fails self.old name.now) }
+        ensures bytes { IfOk result (λ bytes. (disk self.old).holds name.now bytes.items) }
+        ensures fault { IfErr result (λ fault. fault ≡ Fault.Device → (disk self.old).fails name.now) }
         ensures stays { self.new ≡ self.old };
 
     /// Whether two names are of one file, so that to write the one would lose the other.
     fn are_one(&mut self, one: &str, other: &str) -> bool
-        ensures answer { is_one self.old one.now other.now result }
+        ensures answer { (disk self.old).is_one one.now other.now result }
         ensures stays { self.new ≡ self.old };
 
     /// A writer of a new file for this name. What has the name stays as it is until the writing is
     /// closed.
     fn create(&mut self, alloc: Global, name: &str) -> Result<Self::Writer, WriteFault>
         ensures made { IfOk result (λ writer. did self.old self.new (Made name.now (Self.Writer.output writer) ∷ [])) }
-        ensures devices { (other : List ℕ) → breaks self.new other → breaks self.old other }
-        ensures fault { IfErr result (λ fault. fault ≡ Unwritten.Device → breaks self.old name.now) }
+        ensures devices { (other : List ℕ) → (disk self.new).breaks other → (disk self.old).breaks other }
+        ensures fault { IfErr result (λ fault. fault ≡ Unwritten.Device → (disk self.old).breaks name.now) }
         ensures stays { OnErr result (did self.old self.new []) };
 
     /// Ends the writing of a file: what its writer took is the file of this name now, in place of
     /// the one that had it. Where that fails, the name is as it was.
     fn close(&mut self, alloc: Global, name: &str, writer: Self::Writer) -> Result<(), WriteFault>
         ensures ended { OnOk result (did self.old self.new (Ended name.now (Self.Writer.output writer) ∷ [])) }
-        ensures devices { (other : List ℕ) → breaks self.new other → breaks self.old other }
-        ensures fault { IfErr result (λ fault. fault ≡ Unwritten.Device → breaks self.old name.now) }
+        ensures devices { (other : List ℕ) → (disk self.new).breaks other → (disk self.old).breaks other }
+        ensures fault { IfErr result (λ fault. fault ≡ Unwritten.Device → (disk self.old).breaks name.now) }
         ensures stays { OnErr result (did self.old self.new []) };
 
     /// Gives up the writing of a file: what its writer took is lost, and the name is as it was.
     fn discard(&mut self, writer: Self::Writer)
         ensures stays { did self.old self.new [] }
-        ensures devices { (other : List ℕ) → breaks self.new other → breaks self.old other };
+        ensures devices { (other : List ℕ) → (disk self.new).breaks other → (disk self.old).breaks other };
 
     /// No step was taken where nothing was done.
     ghost did_nothing: { (files : Self) → did files files [] };

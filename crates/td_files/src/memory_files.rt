@@ -140,17 +140,14 @@ impl<'a> Files for MemoryFiles<'a> {
     ghost use Rattle.td_files.specs.Files.{Made};
     ghost use Rattle.td_files.specs.MemoryFiles.{Reads, FailsOn, IsAfter, after_nothing, after_both};
 
-    /// The first file of this name has these bytes, which are no more than a reader gives.
-    ghost holds = { λ files name bytes. Reads files.files.now files.readable name bytes };
-
-    /// No file has this name, or the first one has more bytes than a reader gives.
-    ghost fails = { λ files name. FailsOn files.files.now files.readable name };
-
-    /// No device fails to make or to end a file. Only its writer fails, or memory runs out.
-    ghost breaks = { λ _ _. ⊥ };
-
-    /// Two names are of one file where they are the same.
-    ghost is_one = { λ _ one other answer. IsTrue answer ↔ one ≡ other };
+    /// The first file of a name gives its bytes, where they are no more than a reader gives, and no
+    /// device fails to make or to end a file. Two names are of one file where they are the same.
+    ghost disk = { λ files. record {
+      holds = Reads files.files.now files.readable;
+      fails = FailsOn files.files.now files.readable;
+      breaks = λ _. ⊥;
+      is_one = λ one other answer. IsTrue answer ↔ one ≡ other;
+    } };
 
     ghost did = { λ old new steps. IsAfter old.steps.items new.steps.items steps };
 

@@ -215,13 +215,7 @@ impl<'r, R: rt::Files + Input + Print + AllocGlobal> Files for RealFiles<'r, R> 
 
     /// Of the system's files nothing is known: what a name holds, which devices fail, which names
     /// are of one file, and what was done to them.
-    ghost holds = { λ _ _ _. ⊤ };
-
-    ghost fails = { λ _ _. ⊤ };
-
-    ghost breaks = { λ _ _. ⊤ };
-
-    ghost is_one = { λ _ _ _ _. ⊤ };
+    ghost disk = { λ _. record { holds = λ _ _. ⊤; fails = λ _. ⊤; breaks = λ _. ⊤; is_one = λ _ _ _. ⊤ } };
 
     ghost did = { λ _ _ _. ⊤ };
 

@@ -1,5 +1,6 @@
 -- What a command is asked about inputs.
 use Rattle.std.specs.Prelude.{ℕ, List, [], ◌∷◌, Bool, true, false, ◌&&◌, ◌||◌, ◌==◌, not, Option, None}
+use Rattle.td_command.specs.declared.command.QuestionWords.{QuestionWords}
 use Rattle.td_command.specs.declared.command.Request.{Request}
 use Rattle.td_command.specs.declared.command.Request.TheVariants as request
 use Rattle.td_inputs.specs.declared.topic.Topic.TheVariants.{At, Pin, HoldInput}
@@ -45,6 +46,15 @@ of_none file = record {
   moments = false;
 }
 
+-- the options by place of a search's question
+abbrev pub words_of_question : QuestionWords → Placed
+words_of_question question = record {
+  first = text_of question.first;
+  second = text_of question.second;
+  hold = text_of question.hold;
+  at = text_of question.at;
+}
+
 -- what a request asks about inputs
 abbrev pub question_of : Request → Question
 question_of (request.Sim asked) = of_pair asked.file.now (text_of asked.at)
@@ -58,14 +68,14 @@ question_of (request.Bound asked) = record {
 }
 question_of (request.Worst asked) = record {
   file = asked.file.now;
-  given = record { first = text_of asked.first; second = text_of asked.second; hold = text_of asked.hold; at = text_of asked.at };
+  given = words_of_question asked.question;
   pins = true;
   holds = true;
   moments = true;
 }
 question_of (request.Parts asked) = record {
   file = asked.file.now;
-  given = record { first = text_of asked.first; second = text_of asked.second; hold = text_of asked.hold; at = text_of asked.at };
+  given = words_of_question asked.question;
   pins = true;
   holds = true;
   moments = true;

@@ -83,8 +83,8 @@ pub fn positional<'a, S: AsStr, F: Files, T: Streams>(
     files: &mut F,
     streams: &T,
 ) -> Result<Vec<String>, Refusal<'a>>
-    ensures words { IfOk result (λ new. IsPositional (F.holds files.old) (F.fails files.old) (map S.text words.entry.now) (texts_of new.items)) }
-    ensures refused { IfErr result (IsRefused (F.holds files.old) (map S.text words.entry.now)) }
+    ensures words { IfOk result (λ new. IsPositional (F.disk files.old).holds (F.disk files.old).fails (map S.text words.entry.now) (texts_of new.items)) }
+    ensures refused { IfErr result (IsRefused (F.disk files.old).holds (map S.text words.entry.now)) }
     ensures stays { files.new ≡ files.old }
 {
     let scan = parted(alloc, words)?;
@@ -115,8 +115,8 @@ fn considered<'a, F: Files, T: Streams>(
     files: &mut F,
     streams: &T,
 ) -> Result<Outcome, Refusal<'a>>
-    ensures outcome { IfOk result (λ outcome. OfWords (F.holds files.old) (F.fails files.old) (texts_of plain.now) (map taken_in taken.now) (outcome_in outcome)) }
-    ensures refused { IfErr result (WordsRefuse (F.holds files.old) (texts_of plain.now) (map taken_in taken.now)) }
+    ensures outcome { IfOk result (λ outcome. OfWords (F.disk files.old).holds (F.disk files.old).fails (texts_of plain.now) (map taken_in taken.now) (outcome_in outcome)) }
+    ensures refused { IfErr result (WordsRefuse (F.disk files.old).holds (texts_of plain.now) (map taken_in taken.now)) }
     ensures stays { files.new ≡ files.old }
 {
     match parse(alloc, plain) {
@@ -133,8 +133,8 @@ fn asked<'a, F: Files, T: Streams>(
     files: &mut F,
     streams: &T,
 ) -> Result<Outcome, Refusal<'a>>
-    ensures outcome { IfOk result (λ outcome. OfQuestion (F.holds files.old) (F.fails files.old) (question_in question.entry) (map taken_in taken.now) (outcome_in outcome)) }
-    ensures refused { IfErr result (QuestionRefuses (F.holds files.old) (question_in question.entry) (map taken_in taken.now)) }
+    ensures outcome { IfOk result (λ outcome. OfQuestion (F.disk files.old).holds (F.disk files.old).fails (question_in question.entry) (map taken_in taken.now) (outcome_in outcome)) }
+    ensures refused { IfErr result (QuestionRefuses (F.disk files.old).holds (question_in question.entry) (map taken_in taken.now)) }
     ensures stays { files.new ≡ files.old }
 {
     if !question.takes(taken) {

@@ -2,8 +2,9 @@
 
 ghost use Rattle.std.specs.Prelude.{◌≡◌};
 ghost use Rattle.td_inputs.specs.Placings.{given_in, text_of};
+ghost use Rattle.td_naming.specs.Questions.{words_of_question};
 
-use td_command::Request;
+use td_command::{QuestionWords, Request};
 use td_inputs::{Given, Taken, Topic, has};
 
 /// The netlist of a command, the options about its inputs by place, and which options by name it
@@ -32,6 +33,13 @@ fn given<'a>(
         hold,
         at,
     }
+}
+
+/// The options by place of a search's question.
+fn of_question<'a>(question: &QuestionWords<'a>) -> Given<'a>
+    ensures { given_in result ≡ words_of_question question.now }
+{
+    given(question.first, question.second, question.hold, question.at)
 }
 
 impl<'a> Question<'a> {
@@ -69,14 +77,14 @@ impl<'a> Question<'a> {
             },
             Request::Worst(request) => Question {
                 file: request.file,
-                given: given(request.first, request.second, request.hold, request.at),
+                given: of_question(&request.question),
                 pins: true,
                 holds: true,
                 moments: true,
             },
             Request::Parts(request) => Question {
                 file: request.file,
-                given: given(request.first, request.second, request.hold, request.at),
+                given: of_question(&request.question),
                 pins: true,
                 holds: true,
                 moments: true,

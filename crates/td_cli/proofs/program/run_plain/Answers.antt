@@ -1,5 +1,4 @@
 use Rattle.std.proofs.Common.{◌∙◌, map, refl, sym}
-use Rattle.td_delivery.specs.Disks.{disk_of}
 use Rattle.td_delivery.proofs.Endings.{nothing_done}
 use Rattle.td_cli.proofs.Programs.{refused_words}
 use Rattle.td_cli.proofs.Searches.{no_search}
@@ -9,7 +8,7 @@ pub returns-clause-ends : goal.returns-clause-ends
 returns-clause-ends g c = (
   _,
   nothing_done g.F.Files.did g.met.F.Files.did_nothing _ _ refl,
-  refused_words (disk_of (g.F.Files.holds c.args.files.now) (g.F.Files.fails c.args.files.now) (g.F.Files.breaks c.args.files.now) (g.F.Files.is_one c.args.files.now)) (map g.S.AsStr.text c.args.words.now) c.in-Err.error c.tell_error.result _ _
+  refused_words (g.F.Files.disk c.args.files.now) (map g.S.AsStr.text c.args.words.now) c.in-Err.error c.tell_error.result _ _
       c.in-Err.ensures.fault c.tell_error.ensures.memory c.tell_error.ensures.reported,
 )
 

@@ -1,31 +1,30 @@
-use Rattle.td_delivery.specs.Disks.{disk_of}
 use Rattle.td_cli.proofs.Programs.{asked_as}
 use Rattle.td_cli.proofs.program.run_plain_request.Goals as goal
 
 pub returns-in-Sim : goal.returns-in-Sim
-returns-in-Sim g c = asked_as _ (disk_of (g.F.Files.holds c.args.files.now) (g.F.Files.fails c.args.files.now) (g.F.Files.breaks c.args.files.now) (g.F.Files.is_one c.args.files.now))
-    _ _ _ _ _ c.in-Sim.is c.run_sim.ensures
+returns-in-Sim g c = asked_as _ (g.F.Files.disk c.args.files.now)
+    _ _ _ _ _ c.in-Sim.is c.run-in-Sim.ensures
 
 pub returns-in-Path : goal.returns-in-Path
-returns-in-Path g c = asked_as _ (disk_of (g.F.Files.holds c.args.files.now) (g.F.Files.fails c.args.files.now) (g.F.Files.breaks c.args.files.now) (g.F.Files.is_one c.args.files.now))
-    _ _ _ _ _ c.in-Path.is c.run_path.ensures
+returns-in-Path g c = asked_as _ (g.F.Files.disk c.args.files.now)
+    _ _ _ _ _ c.in-Path.is c.run-in-Path.ensures
 
 pub returns-in-Bound : goal.returns-in-Bound
-returns-in-Bound g c = asked_as _ (disk_of (g.F.Files.holds c.args.files.now) (g.F.Files.fails c.args.files.now) (g.F.Files.breaks c.args.files.now) (g.F.Files.is_one c.args.files.now))
-    _ _ _ _ _ c.in-Bound.is c.run_bound.ensures
+returns-in-Bound g c = asked_as _ (g.F.Files.disk c.args.files.now)
+    _ _ _ _ _ c.in-Bound.is c.run-in-Bound.ensures
 
 pub returns-in-Check : goal.returns-in-Check
-returns-in-Check g c = asked_as _ (disk_of (g.F.Files.holds c.args.files.now) (g.F.Files.fails c.args.files.now) (g.F.Files.breaks c.args.files.now) (g.F.Files.is_one c.args.files.now))
-    _ _ _ _ _ c.in-Check.is c.run_check.ensures
+returns-in-Check g c = asked_as _ (g.F.Files.disk c.args.files.now)
+    _ _ _ _ _ c.in-Check.is c.run-in-Check.ensures
 
 pub returns-in-Info : goal.returns-in-Info
-returns-in-Info g c = asked_as _ (disk_of (g.F.Files.holds c.args.files.now) (g.F.Files.fails c.args.files.now) (g.F.Files.breaks c.args.files.now) (g.F.Files.is_one c.args.files.now))
-    _ _ _ _ _ c.in-Info.is c.run_info.ensures
+returns-in-Info g c = asked_as _ (g.F.Files.disk c.args.files.now)
+    _ _ _ _ _ c.in-Info.is c.run-in-Info.ensures
 
 pub returns-in-Parts : goal.returns-in-Parts
-returns-in-Parts g c = asked_as _ (disk_of (g.F.Files.holds c.args.files.now) (g.F.Files.fails c.args.files.now) (g.F.Files.breaks c.args.files.now) (g.F.Files.is_one c.args.files.now))
-    _ _ _ _ _ c.in-Parts.is c.run_parts.ensures
+returns-in-Parts g c = asked_as _ (g.F.Files.disk c.args.files.now)
+    _ _ _ _ _ c.in-Parts.is c.run-in-Parts.ensures
 
 pub returns-in-Join : goal.returns-in-Join
-returns-in-Join g c = asked_as _ (disk_of (g.F.Files.holds c.args.files.now) (g.F.Files.fails c.args.files.now) (g.F.Files.breaks c.args.files.now) (g.F.Files.is_one c.args.files.now))
-    _ _ _ _ _ c.in-Join.is c.run_join.ensures
+returns-in-Join g c = asked_as _ (g.F.Files.disk c.args.files.now)
+    _ _ _ _ _ c.in-Join.is c.run-in-Join.ensures

@@ -23,6 +23,6 @@ returns c = (
     second = sym (c.get_str-3.ensures ∙ first_value-rows (found_of c.args.matches.now) (codes "second"));
     at = sym (c.get_str-4.ensures ∙ first_value-rows (found_of c.args.matches.now) (codes "at"));
     edges = c.in_ok-edges.ensures;
-    default = rw c.default-2.view_is c.in_ok-default.ensures;
+    default = c.in_ok-default.ensures;
   },
 )

@@ -22,6 +22,6 @@ returns c = (
   record {
     file = sym (c.in_ok-file.ensures ∙ first_value-rows (found_of c.args.matches.now) (codes "FILE"));
     certificate = sym (c.in_ok-certificate.ensures ∙ first_value-rows (found_of c.args.matches.now) (codes "CERT"));
-    default = rw c.default-2.view_is c.in_ok-default.ensures;
+    default = c.in_ok-default.ensures;
   },
 )

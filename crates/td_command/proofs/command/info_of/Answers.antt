@@ -16,6 +16,6 @@ returns c = (
   refl,
   record {
     file = sym (c.in_ok-file.ensures ∙ first_value-rows (found_of c.args.matches.now) (codes "FILE"));
-    default = rw c.default-2.view_is c.in_ok-default.ensures;
+    default = c.in_ok-default.ensures;
   },
 )

@@ -24,6 +24,6 @@ returns c = (
     check = c.in_ok-check.ensures;
     first = sym (c.get_str-3.ensures ∙ first_value-rows (found_of c.args.matches.now) (codes "first"));
     second = sym (c.get_str-4.ensures ∙ first_value-rows (found_of c.args.matches.now) (codes "second"));
-    default = rw c.default-2.view_is c.in_ok-default.ensures;
+    default = c.in_ok-default.ensures;
   },
 )

@@ -11,11 +11,8 @@ returns-in_err-file c = rw c.from_residual.ensures (only_parts (λ asked has.
 pub returns-in_err-parts : goal.returns-in_err-parts
 returns-in_err-parts c = rw c.from_residual-in_err-parts.ensures (only_parts (λ asked has. c.in_err-parts.ensures _ has.parts))
 
-pub returns-in_err-flips : goal.returns-in_err-flips
-returns-in_err-flips c = rw c.from_residual-in_err-flips.ensures (only_parts (λ asked has. c.in_err-flips.ensures _ has.flips))
-
-pub returns-in_err-strategy : goal.returns-in_err-strategy
-returns-in_err-strategy c = rw c.from_residual-in_err-strategy.ensures (only_parts (λ asked has. c.in_err-strategy.ensures _ has.strategy))
+pub returns-in_err-question : goal.returns-in_err-question
+returns-in_err-question c = rw c.from_residual-in_err-question.ensures (only_parts (λ asked has. c.in_err-question.ensures _ has.question))
 
 pub returns-in_err-default : goal.returns-in_err-default
 returns-in_err-default c = rw c.from_residual-in_err-default.ensures (only_parts (λ asked has. c.in_err-default.ensures _ has.default))
@@ -26,12 +23,7 @@ returns c = (
   record {
     file = sym (c.in_ok-file.ensures ∙ first_value-rows (found_of c.args.matches.now) (codes "FILE"));
     parts = c.in_ok-parts.ensures;
-    first = sym (c.get_str-2.ensures ∙ first_value-rows (found_of c.args.matches.now) (codes "first"));
-    second = sym (c.get_str-3.ensures ∙ first_value-rows (found_of c.args.matches.now) (codes "second"));
-    hold = sym (c.get_str-4.ensures ∙ first_value-rows (found_of c.args.matches.now) (codes "hold"));
-    flips = c.in_ok-flips.ensures;
-    at = sym (c.get_str-5.ensures ∙ first_value-rows (found_of c.args.matches.now) (codes "at"));
-    strategy = c.in_ok-strategy.ensures;
-    default = rw c.default-2.view_is c.in_ok-default.ensures;
+    question = c.in_ok-question.ensures;
+    default = c.in_ok-default.ensures;
   },
 )

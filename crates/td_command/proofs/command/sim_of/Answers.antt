@@ -28,6 +28,6 @@ returns c = (
     to = sym (c.in_ok-to.ensures ∙ first_value-rows (found_of c.args.matches.now) (codes "TO"));
     at = sym (c.get_str-4.ensures ∙ first_value-rows (found_of c.args.matches.now) (codes "at"));
     vcd = sym (c.get_str-5.ensures ∙ first_value-rows (found_of c.args.matches.now) (codes "vcd"));
-    default = rw c.default-2.view_is c.in_ok-default.ensures;
+    default = c.in_ok-default.ensures;
   },
 )

@@ -2,20 +2,19 @@ use Rattle.std.proofs.Common.{◌∙◌, ◌≤◌, ℕ, List, length, arith}
 use Rattle.std.specs.Borrow.{Bor}
 use Rattle.std.proofs.lemmas.List.Elements.{All-more}
 use Rattle.td_report.specs.Vectors.{words_of}
-use Rattle.td_delivery.specs.Disks.{disk_of}
 use Rattle.td_delivery.specs.Overwriting.{KeepsRead, OverwritesRead}
 use Rattle.td_delivery.proofs.Words.{all_kept, one_over}
 use Rattle.td_delivery.proofs.overwriting.over_one_of.Goals as goal
 
 pub returns-in-Some-clause-some : goal.returns-in-Some-clause-some
 returns-in-Some-clause-some g c =
-    let disk = disk_of (g.F.Files.holds c.args.files.now) (g.F.Files.fails c.args.files.now) (g.F.Files.breaks c.args.files.now) (g.F.Files.is_one c.args.files.now) in
+    let disk = g.F.Files.disk c.args.files.now in
     one_over (λ name. OverwritesRead disk name (words_of c.args.out) c.in-Some.refusal) c.args.names.now c.loop-name.name-index _ c.loop-name-test.true
     (rw c.loop-name.invariant.0 at c.in-Some.ensures.some)
 
 pub loop-name-preserved : goal.loop-name-preserved
 loop-name-preserved g c =
-    let disk = disk_of (g.F.Files.holds c.args.files.now) (g.F.Files.fails c.args.files.now) (g.F.Files.breaks c.args.files.now) (g.F.Files.is_one c.args.files.now) in (
+    let disk = g.F.Files.disk c.args.files.now in (
       c.over_read.ensures.stays ∙ c.loop-name.invariant.0,
       All-more (λ (word : Bor (List ℕ)). KeepsRead disk (words_of c.args.out) word.now) c.args.names.now c.loop-name.name-index _ c.loop-name-test.true c.loop-name.invariant.1
           (rw c.loop-name.invariant.0 at c.in_default.ensures.none),
@@ -23,6 +22,6 @@ loop-name-preserved g c =
 
 pub returns-clause-none : goal.returns-clause-none
 returns-clause-none g c =
-    let disk = disk_of (g.F.Files.holds c.args.files.now) (g.F.Files.fails c.args.files.now) (g.F.Files.breaks c.args.files.now) (g.F.Files.is_one c.args.files.now) in
+    let disk = g.F.Files.disk c.args.files.now in
     let past : length c.args.names.now ≤ c.loop-name.name-index = omega arith in
     all_kept (KeepsRead disk (words_of c.args.out)) c.args.names.now c.loop-name.name-index past c.loop-name.invariant.1

@@ -1,0 +1,21 @@
+use Rattle.std.proofs.Common.{sym, subst}
+use Rattle.td_report.specs.Vectors.{words_of}
+use Rattle.td_report.specs.Outcomes.{HasNoPath}
+use Rattle.td_cli.specs.Requests.{IsPathProduct}
+use Rattle.td_delivery.proofs.Endings.{nothing_done}
+use Rattle.td_cli.proofs.Programs.{on_file_plain, not_read}
+use Rattle.td_cli.proofs.path.run.Goals as goal
+
+pub returns-in-Err : goal.returns-in-Err
+returns-in-Err g c = (
+  _,
+  nothing_done g.F.Files.did g.met.F.Files.did_nothing _ _ c.read.ensures.stays,
+  not_read (g.F.Files.disk c.args.files.now) c.args.request.now.file _ _ _ c.in-Err.fault _ _ _ _ c.in-Err.ensures.fault c.tell_unread.ensures,
+)
+
+pub returns-in-Ok : goal.returns-in-Ok
+returns-in-Ok g c =
+    on_file_plain (g.F.Files.did c.args.files.now c.read.new.files) (g.F.Files.disk c.args.files.now) c.args.request.now.file.now c.deref.result.now
+    (nothing_done g.F.Files.did g.met.F.Files.did_nothing _ _ c.read.ensures.stays).1
+    (subst (λ bytes. (g.F.Files.disk c.args.files.now).holds c.args.request.now.file.now bytes) (sym c.deref.ensures.value) c.in-Ok.ensures.bytes)
+    (λ text. IsPathProduct text c.args.request.now) (λ text. HasNoPath text c.args.request.now.default c.args.request.now.from.now c.args.request.now.to.now (words_of c.args.request.now.at) (words_of c.args.request.now.output)) _ _ _ c.run_on.ensures

@@ -1,0 +1,5 @@
+pub mod Cuts
+pub mod Endings
+pub mod Readings
+pub mod Steps
+pub mod Turns
