@@ -30,8 +30,8 @@ abbrev pub next_cell : Bool → Value → ℕ → Option ℕ
 next_cell true value left = cell_at value left
 next_cell false value left = None
 
--- what a word with this value says of each input: of the bits of a number the last one that it names
--- has the least significant
+-- what a word with this value says of each input: of the bits of a number the last one that it
+-- names has the least significant
 abbrev pub said : Text → Value → List Label → List (Option ℕ)
 said word value [] = []
 said word value (label ∷ rest) = next_cell (is_named word label) value (named_count word rest) ∷ said word value rest

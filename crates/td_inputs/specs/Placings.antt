@@ -20,8 +20,8 @@ use Rattle.td_inputs.specs.Scans.{Taken, Text}
 abbrev pub text_of : Option (Bor Text) → Option Text
 text_of word = option_map (λ word. word.now) word
 
--- the word of an option by place, or left out; or what is wrong with a word of an option by name; or
--- the given word gives nothing for the inputs
+-- the word of an option by place, or left out; or what is wrong with a word of an option by name;
+-- or the given word gives nothing for the inputs
 pub data Placing : Type 0 where
   Word : Option Text → Placing
   Wrong : Fault → Placing

@@ -15,13 +15,9 @@ mod value;
 mod words;
 mod writing;
 
-pub use cells::{clash, together};
-pub use labels::{Label, label_for, labels_of};
-pub use numbers::number;
-pub use placing::{Given, Placing, placed, placed_moments, places};
-pub use sayings::{WordFault, has, merged, reading};
-pub use scanning::{Mode, Scan, Taken, cut, parted};
+pub use labels::{Label, labels_of};
+pub use placing::{Given, places};
+pub use sayings::{WordFault, has};
+pub use scanning::{Mode, Scan, Taken, parted};
 pub use topic::Topic;
-pub use value::{Value, moment, named_count, pin_value, said};
-pub use words::{ByPlace, push_option, push_words, with_options, with_words};
-pub use writing::{Letters, cells_of, moments_word, pattern};
+pub use words::{ByPlace, with_options, with_words};

@@ -9,7 +9,8 @@ use Rattle.td_inputs.specs.Readings.{has}
 use Rattle.td_inputs.specs.Scans.{Taken, Text}
 use Rattle.td_naming.specs.declared.question.Question.{Question as CodeQuestion}
 
--- the netlist of a command, the options about its inputs by place, and which options by name it takes
+-- the netlist of a command, the options about its inputs by place, and which options by name it
+-- takes
 pub record Question : Type 0 where
   pub file : Text
   pub given : Placed
