@@ -3,6 +3,7 @@
 ghost use Rattle.std.specs.Prelude.{◌≡◌, ◌⊎◌, ℕ, List, map, string_bytes, IfOk, IfErr, IfSome, IfNone};
 ghost use Rattle.td_netlist.specs.Means.{Means};
 ghost use Rattle.td_nets.specs.Netlist as netlist;
+ghost use Rattle.td_inputs.specs.Labels.{label_in};
 ghost use Rattle.td_inputs.specs.Scans.{taken_in};
 ghost use Rattle.td_inputs.specs.Placings.{given_in, texts_of};
 ghost use Rattle.td_naming.specs.Questions.{are_named, begin_with_command, is_command, question_in};
@@ -18,7 +19,7 @@ use td_command::parse;
 use td_files::{Files, ReadFault};
 use td_gates::Delay;
 use td_inputs::{
-    ByPlace, Given, Taken, Topic, has, labels_of, parted, places, with_options, with_words,
+    ByPlace, Given, Label, Taken, Topic, has, labels_of, parted, places, with_options, with_words,
 };
 use td_netlist::{FaultKind, Netlist, read};
 
@@ -202,6 +203,19 @@ fn of_netlist<'a>(
     ensures refused { IfErr result (InputsRefuse (labels_of netlist.now) (given_in given.entry) (map taken_in taken.now)) }
 {
     let labels = labels_of(alloc, netlist.inputs())?;
+    of_labels(alloc, labels, given, taken)
+}
+
+/// What is to be done with options by name about inputs of these names.
+fn of_labels<'a>(
+    alloc: Global,
+    labels: Vec<Label>,
+    given: Given<'_>,
+    taken: &[Taken<'a>],
+) -> Result<Outcome, Refusal<'a>>
+    ensures outcome { IfOk result (λ outcome. OfInputs (map label_in labels.items) (given_in given.entry) (map taken_in taken.now) (outcome_in outcome)) }
+    ensures refused { IfErr result (InputsRefuse (map label_in labels.items) (given_in given.entry) (map taken_in taken.now)) }
+{
     match places(alloc, &labels, taken, given)? {
         Ok(Some(options)) => Ok(Outcome::Placed(options)),
         Ok(None) => Ok(Outcome::Left),
