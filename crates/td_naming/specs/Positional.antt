@@ -67,27 +67,37 @@ OfWords holds fails plain taken outcome =
 
 -- ---- the words that come out
 
--- the words hold options by name, after a command's name
+-- the words, which are parted so, hold options by name, after a command's name
+abbrev pub hold_names : Scan → List Text → Bool
+hold_names scan words = are_named scan.taken && begin_with_command words
+
 abbrev pub name_inputs : List Text → Bool
-name_inputs words = are_named (scan_of words).taken && begin_with_command words
+name_inputs words = hold_names (scan_of words) words
 
 -- the words without options by name
+abbrev pub plain_in : Scan → List Text
+plain_in scan = with_words scan.rest scan.given
+
 abbrev pub plain_of : List Text → List Text
-plain_of words = let scan = scan_of words in with_words scan.rest scan.given
+plain_of words = plain_in (scan_of words)
 
 -- the given words, or those without options by name, or those with these options by place in place
 -- of all that say something of inputs
-abbrev pub words_after : List Text → Outcome → List Text
-words_after words Untaken = words
-words_after words Left = plain_of words
-words_after words (Options options) = with_words (scan_of words).rest (placed_words options)
+abbrev pub words_after : List Text → Scan → Outcome → List Text
+words_after words scan Untaken = words
+words_after words scan Left = plain_in scan
+words_after words scan (Options options) = with_words scan.rest (placed_words options)
+
+-- the words that come out are what comes of the options by name
+abbrev pub IsReplaced : (Text → Text → Type 0) → (Text → Type 0) → List Text → Scan → List Text → Type 0
+IsReplaced holds fails words scan new =
+    (outcome : Outcome) × OfWords holds fails (plain_in scan) scan.taken outcome × (new ≡ words_after words scan outcome)
 
 -- The words that come out are the given ones where none names an input. Else they are what comes of
 -- the options by name.
 abbrev pub IsPositional : (Text → Text → Type 0) → (Text → Type 0) → List Text → List Text → Type 0
 IsPositional holds fails words new =
-    ((name_inputs words ≡ false) × (new ≡ words))
-    ⊎ ((name_inputs words ≡ true) × ((outcome : Outcome) × OfWords holds fails (plain_of words) (scan_of words).taken outcome × (new ≡ words_after words outcome)))
+    ((name_inputs words ≡ false) × (new ≡ words)) ⊎ ((name_inputs words ≡ true) × IsReplaced holds fails words (scan_of words) new)
 
 -- ---- why options by name are refused
 

@@ -4,10 +4,10 @@ ghost use Rattle.std.specs.Prelude.{◌≡◌, ◌⊎◌, ℕ, List, map, string
 ghost use Rattle.td_netlist.specs.Means.{Means};
 ghost use Rattle.td_nets.specs.Netlist as netlist;
 ghost use Rattle.td_inputs.specs.Labels.{label_in};
-ghost use Rattle.td_inputs.specs.Scans.{taken_in};
+ghost use Rattle.td_inputs.specs.Scans.{scan_in, taken_in};
 ghost use Rattle.td_inputs.specs.Placings.{given_in, texts_of};
 ghost use Rattle.td_naming.specs.Questions.{are_named, begin_with_command, is_command, question_in};
-ghost use Rattle.td_naming.specs.Positional.{InputsRefuse, IsPositional, IsRefused, OfInputs, OfQuestion, OfText, OfWords, QuestionRefuses, TextRefuses, WordsRefuse, labels_of, one_step, outcome_in};
+ghost use Rattle.td_naming.specs.Positional.{InputsRefuse, IsPositional, IsRefused, IsReplaced, hold_names, plain_in, OfInputs, OfQuestion, OfText, OfWords, QuestionRefuses, TextRefuses, WordsRefuse, labels_of, one_step, outcome_in};
 ghost use Rattle.td_naming.specs.declared.refusal.Refusal.TheVariants as Reason;
 
 use crate::question::Question;
@@ -19,7 +19,8 @@ use td_command::parse;
 use td_files::{Files, ReadFault};
 use td_gates::Delay;
 use td_inputs::{
-    ByPlace, Given, Label, Taken, Topic, has, labels_of, parted, places, with_options, with_words,
+    ByPlace, Given, Label, Scan, Taken, Topic, has, labels_of, parted, places, with_options,
+    with_words,
 };
 use td_netlist::{FaultKind, Netlist, read};
 
@@ -89,11 +90,32 @@ pub fn positional<'a, S: AsStr, F: Files, T: Streams>(
     ensures stays { files.new ≡ files.old }
 {
     let scan = parted(alloc, words)?;
-    let name_inputs = are_named(&scan.taken) && begin_with_command(words);
-    if !name_inputs {
+    if !name_inputs(words, &scan) {
         let same = copies(alloc, words)?;
         return Ok(same);
     }
+    replaced(alloc, words, &scan, files, streams)
+}
+
+/// Whether words hold options by name, after a command's name.
+fn name_inputs<S: AsStr>(words: &[S], scan: &Scan<'_>) -> bool
+    ensures { result ≡ hold_names (scan_in scan.now) (map S.text words.now) }
+{
+    are_named(&scan.taken) && begin_with_command(words)
+}
+
+/// The words after options by name are replaced in them.
+fn replaced<'a, S: AsStr, F: Files, T: Streams>(
+    alloc: Global,
+    words: &[S],
+    scan: &Scan<'a>,
+    files: &mut F,
+    streams: &T,
+) -> Result<Vec<String>, Refusal<'a>>
+    ensures words { IfOk result (λ new. IsReplaced (F.disk files.old).holds (F.disk files.old).fails (map S.text words.now) (scan_in scan.now) (texts_of new.items)) }
+    ensures refused { IfErr result (WordsRefuse (F.disk files.old).holds (plain_in (scan_in scan.now)) (scan_in scan.now).taken) }
+    ensures stays { files.new ≡ files.old }
+{
     let plain = with_words(alloc, &scan.rest, &scan.given)?;
     match considered(alloc, &plain, &scan.taken, files, streams)? {
         Outcome::Left => Ok(plain),
