@@ -6,6 +6,8 @@ mod naming;
 mod question;
 mod refusal;
 mod streams;
+#[cfg(test)]
+mod tests;
 
 pub use naming::positional;
 pub use refusal::{Refusal, refuse};
