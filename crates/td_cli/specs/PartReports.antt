@@ -40,9 +40,9 @@ part_line default words pins =
     part_options words pins ++ default_text (codes " --default-rise ") default.rise ++ default_text (codes " --default-fall ") default.fall ++ newline
 
 -- The report has a line for each cube. There are at most as many cubes as parts are asked for, at
--- least one, and fewer only where a search would split none of them. They share out the admitted pairs of what the words
--- ask of the text: each pair lies in exactly one cube, and each cube has one. No cube has a pair
--- that isn't one of the pins.
+-- least one, and fewer only where a search would split none of them. They share out the admitted
+-- pairs of what the words ask of the text: each pair lies in exactly one cube, and each cube has
+-- one. No cube has a pair that isn't one of the pins.
 pub record IsPartsReport (text : List ℕ) (request : PartsRequest) (report : List ℕ) : Type 0 where
   pub asked : Problem
   pub is_asked : IsAsked text request.default request.question asked

@@ -1,5 +1,5 @@
 -- How the program ends with its report as JSON.
-use Rattle.std.proofs.Common.{◌≡◌, ◌⊎◌, ℕ, List, [], refl, sym, subst, inl, inr}
+use Rattle.std.proofs.Common.{◌≡◌, ◌⊎◌, ℕ, List, [], refl, subst, inl, inr}
 use Rattle.clap.specs.Words.{kind_of, HasKind}
 use Rattle.clap.specs.declared.error.Error.{Error}
 use Rattle.clap.specs.declared.error.kind.ErrorKind.TheVariants as kind
@@ -9,7 +9,7 @@ use Rattle.td_report.specs.declared.status.Status.{Status}
 use Rattle.td_report.specs.Ends.{Streams, streams, Says}
 use Rattle.td_command.specs.declared.command.Request.{Request}
 use Rattle.td_command.specs.CommandLine.{Asks, kinds_of}
-use Rattle.td_delivery.specs.Disks.{Disk}
+use Rattle.td_files.specs.Disks.{Disk}
 use Rattle.td_delivery.specs.Shown.{IsOutOfMemory, TellsText}
 use Rattle.td_cli.specs.Requests.{RequestEnds}
 use Rattle.td_json.specs.Holding.{nothing_yet}

@@ -7,7 +7,7 @@ use Rattle.td_command.specs.CommandLine.{Asks}
 use Rattle.td_files.specs.Files.{FileStep}
 use Rattle.td_report.specs.declared.status.Status.{Status}
 use Rattle.td_report.specs.Ends.{Streams, streams, Says}
-use Rattle.td_delivery.specs.Disks.{Disk}
+use Rattle.td_files.specs.Disks.{Disk}
 use Rattle.td_delivery.specs.Shown.{IsOutOfMemory}
 use Rattle.td_cli.specs.Requests.{RequestEnds, TellsOf}
 use Rattle.td_json.specs.Holding.{nothing_yet, IsWhole, IsTorn}
@@ -15,8 +15,8 @@ use Rattle.td_json.specs.Reports.{json_text}
 
 -- ---- what goes out in its place
 
--- The JSON of a report, or nothing where there is none. Reports are ASCII; of other bytes, what isn't
--- UTF-8 becomes the replacement character.
+-- The JSON of a report, or nothing where there is none. Reports are ASCII; of other bytes, what
+-- isn't UTF-8 becomes the replacement character.
 abbrev pub shown : List ℕ → List ℕ
 shown [] = []
 shown (byte ∷ rest) = json_text (utf8_lossy (byte ∷ rest))

@@ -5,7 +5,6 @@ ghost use Rattle.td_files.specs.Files.{Takes};
 ghost use Rattle.td_report.specs.Ends.{streams};
 ghost use Rattle.td_command.specs.Flags.{is_asked};
 ghost use Rattle.td_command.specs.CommandLine.{IsCarriedOut};
-ghost use Rattle.td_delivery.specs.Disks.{disk_of};
 ghost use Rattle.td_cli.specs.Requests.{RequestEnds};
 ghost use Rattle.td_json.specs.Holding.{held_output};
 ghost use Rattle.td_json.specs.Ends.{shown, SaysJson, SaysHeld, EndsAsJson, JsonEnds};
@@ -51,7 +50,7 @@ fn show<O: Sink, E: Sink>(
     ensures { SaysJson report.now ending result (streams (O.output out.old) (E.output err.old)) (streams (O.output out.new) (E.output err.new)) }
 {
     match text_of(alloc, report) {
-        Ok(text) => say(&text, ending, out, err),
+        Ok(text) => say(text.as_slice(), ending, out, err),
         Err(_) => tell(err, b"tdelay: out of memory\n", Status::Device),
     }
 }
@@ -82,7 +81,7 @@ fn carry_out_json<R: Threads + Wait + Sync, F: Files, O: Sink, E: Sink>(
     err: &mut E,
 ) -> Status
     requires { IsCarriedOut request.now }
-    ensures { Takes (F.did files.old files.new) (λ steps. EndsAsJson (RequestEnds (disk_of (F.holds files.old) (F.fails files.old) (F.breaks files.old) (F.is_one files.old)) request.now steps) result
+    ensures { Takes (F.did files.old files.new) (λ steps. EndsAsJson (RequestEnds (F.disk files.old) request.now steps) result
         (streams (O.output out.old) (E.output err.old)) (streams (O.output out.new) (E.output err.new))) }
 {
     let mut held = Held::new(alloc);
@@ -101,7 +100,7 @@ pub fn run_json<R: Threads + Wait + Sync, S: AsStr, F: Files, O: Sink, E: Sink>(
     out: &mut O,
     err: &mut E,
 ) -> Status
-    ensures { Takes (F.did files.old files.new) (λ steps. JsonEnds (disk_of (F.holds files.old) (F.fails files.old) (F.breaks files.old) (F.is_one files.old)) (map S.text words.now) steps result
+    ensures { Takes (F.did files.old files.new) (λ steps. JsonEnds (F.disk files.old) (map S.text words.now) steps result
         (streams (O.output out.old) (E.output err.old)) (streams (O.output out.new) (E.output err.new))) }
 {
     match parse(alloc, words) {
