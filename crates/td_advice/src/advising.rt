@@ -5,12 +5,14 @@ ghost use Rattle.td_command.specs.Flags.{is_asked};
 ghost use Rattle.td_advice.specs.Hinted.{AreLines, Hinted};
 
 use crate::commands::about;
+use crate::naming::about_names;
 use crate::system::Reasons;
 use std::alloc::{AllocError, Global};
 use std::convert::AsStr;
 use td_command::{is_asked, parse};
 use td_delivery::telling::tell;
 use td_files::Files;
+use td_naming::Refusal;
 use td_report::status::Status;
 use td_report::text::Text;
 use td_text::Sink;
@@ -39,6 +41,26 @@ pub fn advise<S: AsStr, F: Files, R: Reasons, E: Sink>(
 {
     if let Some(text) = hint(alloc, words, ended, files, reasons) {
         let _reported = tell(err, text.bytes(), ended);
+    }
+}
+
+/// After options by name were refused, says what to do.
+pub fn advise_names<E: Sink>(alloc: Global, refusal: &Refusal<'_>, err: &mut E)
+    ensures { Hinted (E.output err.old) (E.output err.new) }
+{
+    if let Some(text) = names_hint(alloc, refusal) {
+        let _reported = tell(err, text.bytes(), refusal.status());
+    }
+}
+
+/// What there is to say of options by name that were refused, if anything.
+fn names_hint(alloc: Global, refusal: &Refusal<'_>) -> Option<Text>
+    ensures { IfSome result AreLines }
+{
+    let mut text = Text::new(alloc);
+    match about_names(&mut text, refusal) {
+        Ok(()) => whole(text),
+        Err(_) => None,
     }
 }
 

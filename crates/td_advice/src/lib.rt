@@ -9,6 +9,7 @@ pub mod advising;
 mod certificates;
 mod commands;
 pub mod lines;
+mod naming;
 mod refusals;
 pub mod system;
 mod vectors;

@@ -3,12 +3,10 @@
 use std::io::ErrorKind;
 use std::path::Path;
 use std::{fs, rt};
+use td_naming::Streams;
 
 /// Who says why a file can't be read or written.
-pub trait Reasons {
-    /// Whether what has this name is read once, as a pipe or a terminal.
-    fn is_stream(&self, name: &str) -> bool;
-
+pub trait Reasons: Streams {
     /// Why a file of this name can't be read, where that is known.
     fn unreadable(&self, name: &str) -> Option<&'static [u8]>;
 
@@ -29,14 +27,16 @@ impl<'r, R: rt::Files> System<'r, R> {
     }
 }
 
-impl<'r, R: rt::Files> Reasons for System<'r, R> {
+impl<'r, R: rt::Files> Streams for System<'r, R> {
     fn is_stream(&self, name: &str) -> bool {
         match fs::metadata(self.rt, name) {
             Ok(known) => !known.is_file() && !known.is_dir(),
             Err(_) => false,
         }
     }
+}
 
+impl<'r, R: rt::Files> Reasons for System<'r, R> {
     fn unreadable(&self, name: &str) -> Option<&'static [u8]> {
         match fs::metadata(self.rt, name) {
             Ok(known) if known.is_dir() => Some(b"it is a folder"),

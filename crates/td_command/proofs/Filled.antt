@@ -109,16 +109,16 @@ pub path_is_plain : IsPlainLeaf path
 path_is_plain = record { known = (known_one refl refl refl refl (omega arith), (known_one refl refl refl refl (omega arith), (known_one refl refl refl refl (omega arith), (known_one refl refl refl refl (omega arith), (known_one refl refl refl refl (omega arith), (known_one refl refl refl refl (omega arith), (known_one refl refl refl refl (omega arith), (known_flag refl refl refl refl refl (omega arith), (known_flag refl refl refl refl refl (omega arith), (known_help refl refl (omega arith), tt)))))))))); once = refl }
 
 pub bound_is_plain : IsPlainLeaf bound
-bound_is_plain = record { known = (known_one refl refl refl refl (omega arith), (known_one refl refl refl refl (omega arith), (known_one refl refl refl refl (omega arith), (known_one refl refl refl refl (omega arith), (known_flag refl refl refl refl refl (omega arith), (known_one refl refl refl refl (omega arith), (known_one refl refl refl refl (omega arith), (known_flag refl refl refl refl refl (omega arith), (known_flag refl refl refl refl refl (omega arith), (known_help refl refl (omega arith), tt)))))))))); once = refl }
+bound_is_plain = record { known = (known_one refl refl refl refl (omega arith), (known_one refl refl refl refl (omega arith), (known_one refl refl refl refl (omega arith), (known_one refl refl refl refl (omega arith), (known_one refl refl refl refl (omega arith), (known_flag refl refl refl refl refl (omega arith), (known_one refl refl refl refl (omega arith), (known_one refl refl refl refl (omega arith), (known_flag refl refl refl refl refl (omega arith), (known_flag refl refl refl refl refl (omega arith), (known_help refl refl (omega arith), tt))))))))))); once = refl }
 
 pub worst_is_plain : IsPlainLeaf worst
-worst_is_plain = record { known = (known_one refl refl refl refl (omega arith), (known_one refl refl refl refl (omega arith), (known_one refl refl refl refl (omega arith), (known_one refl refl refl refl (omega arith), (known_one refl refl refl refl (omega arith), (known_one refl refl refl refl (omega arith), (known_one refl refl refl refl (omega arith), (known_one refl refl refl refl (omega arith), (known_one refl refl refl refl (omega arith), (known_one refl refl refl refl (omega arith), (known_one refl refl refl refl (omega arith), (known_flag refl refl refl refl refl (omega arith), (known_flag refl refl refl refl refl (omega arith), (known_one refl refl refl refl (omega arith), (known_one refl refl refl refl (omega arith), (known_flag refl refl refl refl refl (omega arith), (known_flag refl refl refl refl refl (omega arith), (known_help refl refl (omega arith), tt)))))))))))))))))); once = refl }
+worst_is_plain = record { known = (known_one refl refl refl refl (omega arith), (known_one refl refl refl refl (omega arith), (known_one refl refl refl refl (omega arith), (known_one refl refl refl refl (omega arith), (known_one refl refl refl refl (omega arith), (known_one refl refl refl refl (omega arith), (known_one refl refl refl refl (omega arith), (known_one refl refl refl refl (omega arith), (known_one refl refl refl refl (omega arith), (known_one refl refl refl refl (omega arith), (known_one refl refl refl refl (omega arith), (known_one refl refl refl refl (omega arith), (known_one refl refl refl refl (omega arith), (known_flag refl refl refl refl refl (omega arith), (known_flag refl refl refl refl refl (omega arith), (known_one refl refl refl refl (omega arith), (known_one refl refl refl refl (omega arith), (known_flag refl refl refl refl refl (omega arith), (known_flag refl refl refl refl refl (omega arith), (known_help refl refl (omega arith), tt)))))))))))))))))))); once = refl }
 
 pub parts_is_plain : IsPlainLeaf parts
-parts_is_plain = record { known = (known_one refl refl refl refl (omega arith), (known_one refl refl refl refl (omega arith), (known_one refl refl refl refl (omega arith), (known_one refl refl refl refl (omega arith), (known_one refl refl refl refl (omega arith), (known_one refl refl refl refl (omega arith), (known_one refl refl refl refl (omega arith), (known_one refl refl refl refl (omega arith), (known_one refl refl refl refl (omega arith), (known_one refl refl refl refl (omega arith), (known_flag refl refl refl refl refl (omega arith), (known_flag refl refl refl refl refl (omega arith), (known_help refl refl (omega arith), tt))))))))))))); once = refl }
+parts_is_plain = record { known = (known_one refl refl refl refl (omega arith), (known_one refl refl refl refl (omega arith), (known_one refl refl refl refl (omega arith), (known_one refl refl refl refl (omega arith), (known_one refl refl refl refl (omega arith), (known_one refl refl refl refl (omega arith), (known_one refl refl refl refl (omega arith), (known_one refl refl refl refl (omega arith), (known_one refl refl refl refl (omega arith), (known_one refl refl refl refl (omega arith), (known_one refl refl refl refl (omega arith), (known_one refl refl refl refl (omega arith), (known_flag refl refl refl refl refl (omega arith), (known_flag refl refl refl refl refl (omega arith), (known_help refl refl (omega arith), tt))))))))))))))); once = refl }
 
 pub join_is_plain : IsPlainLeaf join
-join_is_plain = record { known = (known_one refl refl refl refl (omega arith), (known_more refl refl refl refl (omega arith), (known_one refl refl refl refl (omega arith), (known_flag refl refl refl refl refl (omega arith), (known_one refl refl refl refl (omega arith), (known_one refl refl refl refl (omega arith), (known_one refl refl refl refl (omega arith), (known_one refl refl refl refl (omega arith), (known_flag refl refl refl refl refl (omega arith), (known_flag refl refl refl refl refl (omega arith), (known_help refl refl (omega arith), tt))))))))))); once = refl }
+join_is_plain = record { known = (known_one refl refl refl refl (omega arith), (known_more refl refl refl refl (omega arith), (known_one refl refl refl refl (omega arith), (known_flag refl refl refl refl refl (omega arith), (known_one refl refl refl refl (omega arith), (known_one refl refl refl refl (omega arith), (known_one refl refl refl refl (omega arith), (known_one refl refl refl refl (omega arith), (known_one refl refl refl refl (omega arith), (known_flag refl refl refl refl refl (omega arith), (known_flag refl refl refl refl refl (omega arith), (known_help refl refl (omega arith), tt)))))))))))); once = refl }
 
 pub check_is_plain : IsPlainLeaf check
 check_is_plain = record { known = (known_one refl refl refl refl (omega arith), (known_one refl refl refl refl (omega arith), (known_one refl refl refl refl (omega arith), (known_one refl refl refl refl (omega arith), (known_flag refl refl refl refl refl (omega arith), (known_flag refl refl refl refl refl (omega arith), (known_help refl refl (omega arith), tt))))))); once = refl }

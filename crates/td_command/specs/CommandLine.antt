@@ -56,6 +56,11 @@ Listed = Bor (List (Bor Text))
 abbrev pub texts_of : Listed → List Text
 texts_of names = map (λ name. name.now) names.now
 
+-- An option about an input by its name, of which the parser takes no value: a stage before it puts
+-- options by place there (`td_naming`), and where one still stands, the words have a fault.
+abbrev pub named_option : Text → Rule
+named_option id = record (option id) { parser = Some (Unsigned 1 0) }
+
 -- an option that has a letter too
 abbrev pub with_letter : ℕ → Rule → Rule
 with_letter letter rule = record rule { short = Some letter }
@@ -102,9 +107,9 @@ with_output app = with_rule app (option (codes "output"))
 abbrev pub with_pair : App → App
 with_pair app = with_rule (with_rule (with_rule app (needed (codes "FILE"))) (needed (codes "FROM"))) (needed (codes "TO"))
 
--- the pairs of a cube, by the trits of their two vectors
+-- the pairs of a cube, by the trits of their two vectors, or by names of inputs
 abbrev pub with_cube : App → App
-with_cube app = with_rule (with_rule app (option (codes "first"))) (option (codes "second"))
+with_cube app = with_rule (with_rule (with_rule app (option (codes "first"))) (option (codes "second"))) (named_option (codes "pin"))
 
 -- whether the bounds by edges are asked for too
 abbrev pub with_edges : App → App
@@ -117,7 +122,8 @@ with_reported app = with_rule (with_rule app (flag (codes "path"))) (flag (codes
 -- the pairs that a search admits: those of a cube, where some inputs are held and the number of
 -- flips has a limit
 abbrev pub with_admitted : App → App
-with_admitted app = with_rule (with_rule (with_cube app) (option (codes "hold"))) (count_option (codes "flips"))
+with_admitted app =
+    with_rule (with_rule (with_rule (with_cube app) (option (codes "hold"))) (named_option (codes "hold-input"))) (count_option (codes "flips"))
 
 -- by which strategy a search goes
 abbrev pub with_strategy : Listed → App → App

@@ -2,7 +2,7 @@
 
 ghost use Rattle.std.specs.Prelude.{◌≡◌, [], codes, false, IfOk, OnOk};
 ghost use Rattle.clap.specs.Words.{app_of, new_app, rule_of, with_rule};
-ghost use Rattle.td_command.specs.CommandLine.{needed, needed_words, needed_number, option, number_option, count_option, name_option, flag};
+ghost use Rattle.td_command.specs.CommandLine.{needed, needed_words, needed_number, option, named_option, number_option, count_option, name_option, flag};
 ghost use Rattle.td_command.specs.CommandLine.{with_pair, out_letter, with_common, with_default, with_letter, workers_letter, with_moments, with_vcd, with_output, with_cube, with_edges, with_reported, with_admitted, with_parts, with_strategy, with_search, with_joined};
 ghost use Rattle.td_command.specs.Telling.{reported, TellsMore, TellsRule};
 
@@ -106,6 +106,15 @@ impl<'a> Arguments<'a> {
         ensures { OnOk result (TellsRule (option id.entry.now) self.old self.new) }
     {
         self.add(option(self.alloc, id, value, help))
+    }
+
+    /// An option about an input by its name. The parser takes no value of it: it is gone from the
+    /// words once `td_naming` has put options by place there.
+    fn named(&mut self, id: &'a str, value: &'a str, help: &'a str) -> Result<(), AllocError>
+        ensures { OnOk result (TellsRule (named_option id.entry.now) self.old self.new) }
+    {
+        let named = option(self.alloc, id, value, help).value_parser(ValueParser::unsigned(1, 0));
+        self.add(named)
     }
 
     /// An option with a number in a range, and the number where it is left out.
@@ -243,7 +252,8 @@ impl<'a> Arguments<'a> {
         self.option(
             "at",
             "MOMENTS",
-            "When each input takes its second level: a number of steps for each in order, separated by commas; all 0 where left out",
+            "When each input takes its second level: a number of steps for each in order, separated by commas; all 0 where left out. \
+Or NAME=M, the moment of the input of this name, any number of times",
         )
     }
 
@@ -284,7 +294,7 @@ impl<'a> Arguments<'a> {
         )
     }
 
-    /// The pairs of a cube, as two options.
+    /// The pairs of a cube, as two options, and an option that pins inputs by their names.
     pub(crate) fn cube(&mut self, first_help: &'a str) -> Result<(), AllocError>
         ensures { OnOk result (TellsMore with_cube self.old self.new) }
     {
@@ -293,6 +303,12 @@ impl<'a> Arguments<'a> {
             "second",
             "TRITS",
             "The second vector, which the inputs take from moment 0 or those of --at on",
+        )?;
+        self.named(
+            "pin",
+            "NAME=VALUE",
+            "Both vectors have this level, 0 or 1, at the input of this name; `.` leaves it free. \
+Of a vector the value is a number, as 8'hff. Any number of times",
         )
     }
 
@@ -329,6 +345,11 @@ impl<'a> Arguments<'a> {
             "hold",
             "MASK",
             "The inputs whose two levels are the same: = (held) or . for each in order; none held where left out",
+        )?;
+        self.named(
+            "hold-input",
+            "NAME",
+            "The two levels of the input of this name are the same. Any number of times",
         )?;
         self.count(
             "flips",

@@ -3,10 +3,11 @@
 
 use std::process::ExitCode;
 use std::{env, io};
-use td_advice::advising::{advise, asks_hints};
+use td_advice::advising::{advise, advise_names, asks_hints};
 use td_advice::system::System;
 use td_cli::{ReadFault, RealFiles, WriterSink, refuse_words, run};
 use td_json::{asks_json, run_json};
+use td_naming::{positional, refuse};
 
 fn main(rt: HostRuntime) -> ExitCode {
     let alloc = rt.alloc();
@@ -17,26 +18,31 @@ fn main(rt: HostRuntime) -> ExitCode {
     };
     let status = match words {
         Ok(words) => {
-            let words = words.as_slice();
             let mut files = RealFiles::new(&rt);
             let mut out = WriterSink::new(rt.stdout());
-            let status = if asks_json(words) {
-                run_json(&rt, alloc, words, &mut files, &mut out, &mut err)
-            } else {
-                run(&rt, alloc, words, &mut files, &mut out, &mut err)
-            };
-            // Hints stand after all that the run wrote.
-            if asks_hints(words) {
-                advise(
-                    alloc,
-                    words,
-                    status,
-                    &mut files,
-                    &System::new(&rt),
-                    &mut err,
-                );
+            let system = System::new(&rt);
+            match positional(alloc, words.as_slice(), &mut files, &system) {
+                Ok(words) => {
+                    let words = words.as_slice();
+                    let status = if asks_json(words) {
+                        run_json(&rt, alloc, words, &mut files, &mut out, &mut err)
+                    } else {
+                        run(&rt, alloc, words, &mut files, &mut out, &mut err)
+                    };
+                    // Hints stand after all that the run wrote.
+                    if asks_hints(words) {
+                        advise(alloc, words, status, &mut files, &system, &mut err);
+                    }
+                    status
+                }
+                Err(refusal) => {
+                    let status = refuse(alloc, &refusal, &mut err);
+                    if asks_hints(words.as_slice()) {
+                        advise_names(alloc, &refusal, &mut err);
+                    }
+                    status
+                }
             }
-            status
         }
         Err(error) => refuse_words(&mut err, ReadFault::from(error)),
     };

@@ -1,0 +1,5 @@
+use Rattle.std.proofs.Common.{◌≡◌, ℕ, Option, None, replicate}
+use Rattle.td_inputs.proofs.placing.nothing.Given as goal
+
+abbrev pub invariant-loop-input : goal.invariant-loop-input
+invariant-loop-input l = l.cells.items ≡ replicate l._input None

@@ -1,0 +1,3 @@
+mod Texts
+mod Inputs
+mod Replacing
