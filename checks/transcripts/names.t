@@ -396,7 +396,7 @@ Hints say which inputs there are, and what a word has to be.
   $ tdelay worst bus.v --pin q=1 --hints
   tdelay: no input q
   there are the inputs v[3] v[2] v[1] v[0] a \e+
-    help: a has nearly that name
+    help: give one of these, or a vector's name for all of its bits
   [2]
   $ tdelay worst bus.v --pin 'v[4]=1' --hints
   tdelay: no input v[4]
