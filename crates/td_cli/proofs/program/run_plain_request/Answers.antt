@@ -3,7 +3,7 @@ use Rattle.td_cli.proofs.program.run_plain_request.Goals as goal
 
 pub returns-in-Sim : goal.returns-in-Sim
 returns-in-Sim g c = asked_as _ (g.F.Files.disk c.args.files.now)
-    _ _ _ _ _ c.in-Sim.is c.run-in-Sim.ensures
+    _ _ _ _ _ c.in-Sim.is c.run.ensures
 
 pub returns-in-Path : goal.returns-in-Path
 returns-in-Path g c = asked_as _ (g.F.Files.disk c.args.files.now)

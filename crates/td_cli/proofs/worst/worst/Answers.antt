@@ -16,20 +16,20 @@ pub found_of-requires-clause-flips : goal.found_of-requires-clause-flips
 found_of-requires-clause-flips g c = asked_flips c.args.text.now c.args.request.now.default c.args.request.now.question _ c.in_ok-asked.ensures.asked
 
 pub found_of-requires-clause-first_fits : goal.found_of-requires-clause-first_fits
-found_of-requires-clause-first_fits g c = (pair_fits (strategy_of c.args.request.now.question.strategy) _ c.args.request.now.budget c.in-Ok.answer c.in-Ok.ensures.answer).0
+found_of-requires-clause-first_fits g c = (pair_fits c.strategy_of-method.result _ c.from.result c.in-Ok.answer c.in-Ok.ensures.answer).0
 
 pub found_of-requires-clause-second_fits : goal.found_of-requires-clause-second_fits
-found_of-requires-clause-second_fits g c = (pair_fits (strategy_of c.args.request.now.question.strategy) _ c.args.request.now.budget c.in-Ok.answer c.in-Ok.ensures.answer).1
+found_of-requires-clause-second_fits g c = (pair_fits c.strategy_of-method.result _ c.from.result c.in-Ok.answer c.in-Ok.ensures.answer).1
 
 pub returns-clause-spelled : goal.returns-clause-spelled
 returns-clause-spelled g c =
     rw c.in_ok-found.ensures.certified (certificate_spelled (problem_by (tree_of (strategy_of c.args.request.now.question.strategy)) c.in_ok-asked.asked.circuit c.in_ok-asked.asked.admit) c.in-Ok.answer c.in-Ok.ensures.text)
 
 pub returns-in-Err-clause-reported : goal.returns-in-Err-clause-reported
-returns-in-Err-clause-reported g c = inr (problem_by (tree_of (strategy_of c.args.request.now.question.strategy)) c.in_ok-asked.asked.circuit c.in_ok-asked.asked.admit, c.in_ok-asked.ensures.asked, c.worst-searched.ensures.reported)
+returns-in-Err-clause-reported g c = inr (problem_by (tree_of (strategy_of c.args.request.now.question.strategy)) c.in_ok-asked.asked.circuit c.in_ok-asked.asked.admit, c.in_ok-asked.ensures.asked, rw c.strategy_of-method.ensures at c.worst-searched.ensures.reported)
 
 pub returns-in_err-found-clause-reported : goal.returns-in_err-found-clause-reported
-returns-in_err-found-clause-reported g c = inr (problem_by (tree_of (strategy_of c.args.request.now.question.strategy)) c.in_ok-asked.asked.circuit c.in_ok-asked.asked.admit, c.in_ok-asked.ensures.asked, c.worst-searched.ensures.reported)
+returns-in_err-found-clause-reported g c = inr (problem_by (tree_of (strategy_of c.args.request.now.question.strategy)) c.in_ok-asked.asked.circuit c.in_ok-asked.asked.admit, c.in_ok-asked.ensures.asked, rw c.strategy_of-method.ensures at c.worst-searched.ensures.reported)
 
 pub returns-clause-reported : goal.returns-clause-reported
-returns-clause-reported g c = inr (problem_by (tree_of (strategy_of c.args.request.now.question.strategy)) c.in_ok-asked.asked.circuit c.in_ok-asked.asked.admit, c.in_ok-asked.ensures.asked, c.worst-searched.ensures.reported)
+returns-clause-reported g c = inr (problem_by (tree_of (strategy_of c.args.request.now.question.strategy)) c.in_ok-asked.asked.circuit c.in_ok-asked.asked.admit, c.in_ok-asked.ensures.asked, rw c.strategy_of-method.ensures at c.worst-searched.ensures.reported)
