@@ -2,4 +2,5 @@ pub mod Cuts
 pub mod Endings
 pub mod Readings
 pub mod Steps
+pub mod Truths
 pub mod Turns

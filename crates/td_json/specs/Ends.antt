@@ -1,5 +1,5 @@
 -- How the program ends where its report is JSON.
-use Rattle.std.specs.Prelude.{◌≡◌, ℕ, List, [], ◌∷◌, ◌⊎◌}
+use Rattle.std.specs.Prelude.{◌≡◌, ℕ, List, [], ◌∷◌, ◌++◌, ◌⊎◌}
 use Rattle.std.specs.Str.Lossy.{utf8_lossy}
 use Rattle.td_text.specs.Output.{Output}
 use Rattle.td_command.specs.declared.command.Request.{Request}
@@ -10,6 +10,7 @@ use Rattle.td_report.specs.Ends.{Streams, streams, Says}
 use Rattle.td_files.specs.Disks.{Disk}
 use Rattle.td_delivery.specs.Shown.{IsOutOfMemory}
 use Rattle.td_cli.specs.Requests.{RequestEnds, TellsOf}
+use Rattle.td_cli.specs.Sentences.{IsTrueReport}
 use Rattle.td_json.specs.Holding.{nothing_yet, IsWhole, IsTorn}
 use Rattle.td_json.specs.Reports.{json_text}
 
@@ -47,3 +48,13 @@ abbrev pub JsonEnds : Disk → List (List ℕ) → List FileStep → Status → 
 JsonEnds disk words steps status old new =
     ((asked : Request) × Asks words asked × EndsAsJson (RequestEnds disk asked steps) status old new)
     ⊎ ((steps ≡ []) × (TellsOf words status old new ⊎ IsOutOfMemory status old new))
+
+-- ---- what is true of it
+
+-- The text is a beginning of the JSON of a report that is true of what the words ask. It is the
+-- whole, unless standard output failed or memory ran out.
+pub record IsTrueJson (disk : Disk) (words : List (List ℕ)) (text : List ℕ) : Type 0 where
+  pub report : List ℕ
+  pub is_true : IsTrueReport disk words report
+  pub rest : List ℕ
+  pub is : shown report ≡ text ++ rest

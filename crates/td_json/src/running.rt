@@ -1,13 +1,14 @@
 //! The program with its report as JSON.
 
-ghost use Rattle.std.specs.Prelude.{◌≡◌, map, codes, IfOk};
+ghost use Rattle.std.specs.Prelude.{◌≡◌, ◌++◌, ℕ, List, Some, map, codes, IfOk};
 ghost use Rattle.td_files.specs.Files.{Takes};
 ghost use Rattle.td_report.specs.Ends.{streams};
 ghost use Rattle.td_command.specs.Flags.{is_asked};
 ghost use Rattle.td_command.specs.CommandLine.{IsCarriedOut};
 ghost use Rattle.td_cli.specs.Requests.{RequestEnds};
 ghost use Rattle.td_json.specs.Holding.{held_output};
-ghost use Rattle.td_json.specs.Ends.{shown, SaysJson, SaysHeld, EndsAsJson, JsonEnds};
+ghost use Rattle.td_json.specs.Ends.{shown, SaysJson, SaysHeld, EndsAsJson, JsonEnds, IsTrueJson};
+ghost use Rattle.td_cli.specs.Sentences.{AskForWorst};
 
 use crate::held::Held;
 use crate::reporting::json;
@@ -100,8 +101,11 @@ pub fn run_json<R: Threads + Wait + Sync, S: AsStr, F: Files, O: Sink, E: Sink>(
     out: &mut O,
     err: &mut E,
 ) -> Status
-    ensures { Takes (F.did files.old files.new) (λ steps. JsonEnds (F.disk files.old) (map S.text words.now) steps result
+    ensures ends { Takes (F.did files.old files.new) (λ steps. JsonEnds (F.disk files.old) (map S.text words.now) steps result
         (streams (O.output out.old) (E.output err.old)) (streams (O.output out.new) (E.output err.new))) }
+    // What the JSON says of a worst delay is true.
+    ensures says_true { AskForWorst (map S.text words.now) → (before text : List ℕ) → (O.output out.old).sent ≡ Some before
+        → (O.output out.new).sent ≡ Some (before ++ text) → IsTrueJson (F.disk files.old) (map S.text words.now) text }
 {
     match parse(alloc, words) {
         Ok(request) => carry_out_json(rt, alloc, files, &request, out, err),
