@@ -58,8 +58,8 @@ fn joined<'a>(word: &'a [u8]) -> Option<Taken<'a>>
     Some(Taken { topic, text })
 }
 
-/// Whether an option that has this word says something of inputs by their names. `--at` does so with
-/// a `=` alone.
+/// Whether an option that has this word says something of inputs by their names. `--at` does so
+/// with a `=` alone.
 fn is_by_name(topic: Topic, text: &[u8]) -> bool
     ensures { result ≡ is_by_name topic text.now }
 {

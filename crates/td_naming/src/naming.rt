@@ -77,8 +77,8 @@ fn copies<S: AsStr>(alloc: Global, words: &[S]) -> Result<Vec<String>, AllocErro
 /// The words of a command line for `td_cli::run`: options that name inputs are replaced by options
 /// that say the same by place, after the netlist was read for its inputs. Where there are none,
 /// nothing is read. Where the rest of the words has a fault, or the netlist, they are left out
-/// alone, and the run reports it. Where the command doesn't take one of them, the words stay as they
-/// are, and the run refuses it.
+/// alone, and the run reports it. Where the command doesn't take one of them, the words stay as
+/// they are, and the run refuses it.
 pub fn positional<'a, S: AsStr, F: Files, T: Streams>(
     alloc: Global,
     words: &'a [S],
