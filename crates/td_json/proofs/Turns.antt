@@ -59,9 +59,8 @@ module _ (form : Form) (text : List ℕ) (old now next : Written) (place : ℕ) 
 
 -- ---- lines
 
--- The tokens that are left where the array of a key is open: it goes on with the first member, or it
+-- The tokens that are left where the array of a key is open: it goes on with the first member, or
 -- ends.
--- ends
 abbrev tail : List ℕ → Members → List Token
 tail key no_members = end_array ∷ members_tokens no_members
 tail key (member other (array items) below) =
