@@ -1,20 +1,20 @@
 -- What the JSON of a report says of a worst delay is true.
-use Rattle.std.proofs.Common.{◌≡◌, ◌⊎◌, ◌∙◌, ℕ, List, [], ◌∷◌, ◌++◌, Option, Some, None, codes, sym, ap, subst, refl, inl, inr, append-nil}
+use Rattle.std.proofs.Common.{◌≡◌, ◌∙◌, ℕ, List, [], ◌++◌, Option, Some, None, sym, ap, subst, refl, inl, inr, append-nil}
 use Rattle.std.specs.Io.KnownBytes.{Appends}
 use Rattle.clap.specs.declared.error.kind.ErrorKind.{ErrorKind}
 use Rattle.clap.specs.Words.{IsAmong}
-use Rattle.td_text.specs.Output.{Output, Sent}
+use Rattle.td_text.specs.Output.{Output}
 use Rattle.td_files.specs.Files.{FileStep}
 use Rattle.td_files.specs.Disks.{Disk}
 use Rattle.td_report.specs.declared.status.Status.{Status}
 use Rattle.td_report.specs.declared.status.Status.TheVariants.{Device}
-use Rattle.td_report.specs.Ends.{Streams, streams, Says}
+use Rattle.td_report.specs.Ends.{Streams, streams}
 use Rattle.td_command.specs.CommandLine.{kinds_of}
 use Rattle.td_cli.specs.Sentences.{IsTrueReport, AskForWorst}
 use Rattle.td_cli.proofs.Lines.{cut}
 use Rattle.td_cli.proofs.Sentences.{is_true}
-use Rattle.td_json.specs.Holding.{nothing_yet, IsWhole}
-use Rattle.td_json.specs.Ends.{shown, SaysJson, SaysHeld, EndsAsJson, JsonEnds, IsTrueJson}
+use Rattle.td_json.specs.Holding.{nothing_yet}
+use Rattle.td_json.specs.Ends.{shown, SaysJson, JsonEnds, IsTrueJson}
 
 some-same : (xs ys : List ℕ) → Some xs ≡ Some ys → xs ≡ ys
 some-same xs ys same = cc
