@@ -1,5 +1,5 @@
 -- The names by which an input is called.
-use Rattle.std.specs.Prelude.{ℕ, List, Bool, true, false, ◌||◌, Option, None, Some, option_map}
+use Rattle.std.specs.Prelude.{ℕ, List, Bool, false, ◌||◌, Option, None, Some, option_map}
 use Rattle.std.specs.Str.{bytes_eq}
 use Rattle.td_nets.specs.Netlist.{Name}
 use Rattle.td_nets.specs.Printed.{printed}

@@ -1,5 +1,5 @@
 -- Options by place that say what options by name and by place say together.
-use Rattle.std.specs.Prelude.{◌≡◌, ℕ, List, [], ◌∷◌, ◌++◌, map, length, replicate, take, drop, String, string_bytes, Bool, true, false, ◌⊎◌, Option, None, Some, option_map, Result, Ok, Err, if◌then◌else◌}
+use Rattle.std.specs.Prelude.{◌≡◌, ℕ, List, [], ◌∷◌, ◌++◌, map, length, replicate, String, string_bytes, true, false, ◌⊎◌, Option, None, Some, option_map, Result, Ok, Err, if◌then◌else◌}
 use Rattle.std.specs.Borrow.{Bor}
 use Rattle.td_inputs.specs.declared.placing.Placing.{Placing as CodePlacing}
 use Rattle.td_inputs.specs.declared.placing.Placing.TheVariants as code

@@ -1,6 +1,6 @@
 -- The JSON of a report is flat, and its numbers are numbers, so that its text reads back.
 use Rattle.std.proofs.Common.{◌≡◌, ◌≤◌, ℕ, suc, Bool, true, false, cond, List, [], ◌∷◌, Option, Some, None, refl, sym, subst, arith, bytes_eq, codes}
-use Rattle.json.specs.Json.{Json, array, Items, no_items, item, Members, no_members, member, document, max_depth}
+use Rattle.json.specs.Json.{Json, array, Items, no_items, item, Members, no_members, member, document}
 use Rattle.json.specs.Json as json
 use Rattle.json.specs.Print.{print}
 use Rattle.json.specs.Tree.{json_tokens, depth, items_depth, members_depth, HasNumbers, ItemsHaveNumbers, MembersHaveNumbers}

@@ -1,7 +1,7 @@
 -- How loops over fields and lines write what is left.
 use Rattle.std.proofs.Common.{◌≡◌, ◌∙◌, ◌<◌, ◌≤◌, ◌+◌, ◌==◌, ℕ, suc, Bool, true, false, cond, List, [], ◌∷◌, ◌++◌, length, refl, sym, ap, arith, append_assoc, bytes_eq, IsUtf8}
 use Rattle.std.proofs.lemmas.Slice.Eq.{bytes_eq-Decides}
-use Rattle.json.specs.Json.{Json, array, Items, no_items, item, Members, no_members, member}
+use Rattle.json.specs.Json.{Json, array, no_items, item, Members, no_members, member}
 use Rattle.json.specs.Json as json
 use Rattle.json.specs.Token.{Token, begin_array, end_array}
 use Rattle.json.specs.Token as token

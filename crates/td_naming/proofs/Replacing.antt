@@ -1,5 +1,5 @@
 -- What comes of options by name, over words that are equal.
-use Rattle.std.proofs.Common.{◌≡◌, ◌⊎◌, Bool, true, List, subst, sym, inl, inr}
+use Rattle.std.proofs.Common.{◌≡◌, true, List, subst, inr}
 use Rattle.td_inputs.specs.Scans.{Scan, Taken, Text, scan_of}
 use Rattle.td_naming.specs.declared.refusal.Refusal.{Refusal}
 use Rattle.td_naming.specs.Positional.{IsPositional, IsRefused, IsReplaced, OfWords, Outcome, WordsRefuse, hold_names, plain_in, words_after}

@@ -1,5 +1,5 @@
 -- The words that a run gets in place of options by name.
-use Rattle.std.specs.Prelude.{◌≡◌, ℕ, List, map, Bool, true, false, ◌&&◌, ◌⊎◌}
+use Rattle.std.specs.Prelude.{◌≡◌, List, map, Bool, true, false, ◌&&◌, ◌⊎◌}
 use Rattle.clap.specs.Words.{HasKind}
 use Rattle.clap.specs.declared.error.Error.{Error}
 use Rattle.td_gates.specs.Delays.{Delays}

@@ -1,4 +1,4 @@
-use Rattle.std.proofs.Common.{◌≡◌, ℕ, Option, None, replicate}
+use Rattle.std.proofs.Common.{◌≡◌, None, replicate}
 use Rattle.td_inputs.proofs.placing.nothing.Given as goal
 
 abbrev pub invariant-loop-input : goal.invariant-loop-input

@@ -1,4 +1,4 @@
-use Rattle.std.proofs.Common.{◌≡◌, ℕ, ◌%◌, sym, ap}
+use Rattle.std.proofs.Common.{ℕ, ◌%◌, sym, ap}
 use Rattle.td_inputs.proofs.Loops.{no_bits}
 use Rattle.td_inputs.proofs.value.bit.Goals as goal
 

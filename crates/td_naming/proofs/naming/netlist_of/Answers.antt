@@ -1,7 +1,6 @@
 use Rattle.std.proofs.Common.{sym, subst}
 use Rattle.td_gates.specs.Delays.{Delays}
 use Rattle.td_netlist.specs.Means.{Means}
-use Rattle.td_nets.specs.Netlist.{Netlist}
 use Rattle.td_naming.proofs.naming.netlist_of.Goals as goal
 
 pub returns-in_default : goal.returns-in_default

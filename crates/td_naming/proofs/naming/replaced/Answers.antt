@@ -1,4 +1,4 @@
-use Rattle.std.proofs.Common.{◌≡◌, ◌∙◌, List, ap, map, rules}
+use Rattle.std.proofs.Common.{◌≡◌, ◌∙◌, ap, map}
 use Rattle.td_inputs.specs.Placings.{texts_of}
 use Rattle.td_inputs.specs.Scans.{scan_in, taken_in}
 use Rattle.td_naming.specs.Positional.{outcome_in, plain_in}
