@@ -18,6 +18,10 @@ pub(crate) fn about_names(text: &mut Text, refusal: &Refusal<'_>) -> Result<(), 
             text.push(b"the netlist is read twice, first for the names of its inputs")?;
             help(text, b"save it in a file, and give the file's name")
         }
+        Refusal::Unreadable(_) => {
+            text.push(b"the netlist's file can't be read")?;
+            help(text, b"look at its name, and at who may read it")
+        }
         Refusal::Wrong(fault, labels) => about_word(text, *fault, labels),
     }
 }

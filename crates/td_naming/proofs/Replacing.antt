@@ -21,9 +21,9 @@ module _ (holds : Text → Text → Type 0) (fails : Text → Type 0) where
       inr (subst (λ (scan : Scan). hold_names scan words ≡ true) is named, subst (λ (scan : Scan). IsReplaced holds fails words scan new) is replaced)
 
   pub refused_by : (words : List Text) (scan : Scan) (reason : Refusal) → scan ≡ scan_of words → hold_names scan words ≡ true
-      → WordsRefuse holds (plain_in scan) scan.taken reason → IsRefused holds words reason
+      → WordsRefuse holds fails (plain_in scan) scan.taken reason → IsRefused holds fails words reason
   refused_by words scan reason is named refused =
       inr (
         subst (λ (scan : Scan). hold_names scan words ≡ true) is named,
-        subst (λ (scan : Scan). WordsRefuse holds (plain_in scan) scan.taken reason) is refused,
+        subst (λ (scan : Scan). WordsRefuse holds fails (plain_in scan) scan.taken reason) is refused,
       )

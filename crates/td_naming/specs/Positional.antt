@@ -1,7 +1,8 @@
 -- The words that a run gets in place of options by name.
-use Rattle.std.specs.Prelude.{◌≡◌, List, map, Bool, true, false, ◌&&◌, ◌⊎◌}
-use Rattle.clap.specs.Words.{HasKind}
-use Rattle.clap.specs.declared.error.Error.{Error}
+use Rattle.std.specs.Prelude.{◌≡◌, ℕ, List, map, Bool, true, false, ◌&&◌, ◌⊎◌}
+use Rattle.std.specs.Global.{Vec}
+use Rattle.clap.specs.Words.{IsAmong}
+use Rattle.clap.specs.declared.error.kind.ErrorKind.{ErrorKind}
 use Rattle.td_gates.specs.Delays.{Delays}
 use Rattle.td_nets.specs.Netlist.{Name, Netlist}
 use Rattle.td_netlist.specs.Means.{Means}
@@ -51,18 +52,16 @@ OfText text given taken outcome =
     ((outcome ≡ Left) × ((netlist : Netlist) → ¬ Means text one_step netlist))
     ⊎ ((netlist : Netlist) × Means text one_step netlist × OfInputs (labels_of netlist) given taken outcome)
 
--- for a question: the command doesn't take one of them, the netlist can't be read, or its text is
--- asked for
+-- for a question: the command doesn't take one of them, or the netlist's text is asked for
 abbrev pub OfQuestion : (Text → Text → Type 0) → (Text → Type 0) → Question → List Taken → Outcome → Type 0
 OfQuestion holds fails question taken outcome =
     ((outcome ≡ Untaken) × (takes question taken ≡ false))
-    ⊎ ((outcome ≡ Left) × (takes question taken ≡ true) × fails question.file)
     ⊎ ((takes question taken ≡ true) × ((text : Text) × holds question.file text × OfText text question.given taken outcome))
 
 -- beside these words: they have a fault, or their question is asked
 abbrev pub OfWords : (Text → Text → Type 0) → (Text → Type 0) → List Text → List Taken → Outcome → Type 0
 OfWords holds fails plain taken outcome =
-    ((outcome ≡ Left) × ((error : Error) × HasKind (kinds_of plain) error))
+    ((outcome ≡ Left) × ((kind : ErrorKind) × IsAmong kind (kinds_of plain)))
     ⊎ ((asked : Request) × Asks plain asked × OfQuestion holds fails (question_of asked) taken outcome)
 
 -- ---- the words that come out
@@ -105,25 +104,27 @@ IsPositional holds fails words new =
 abbrev pub InputsRefuse : List Label → Placed → List Taken → Refusal → Type 0
 InputsRefuse labels given taken refusal.OutOfMemory = Unit {0}
 InputsRefuse labels given taken refusal.Stream = ⊥
+InputsRefuse labels given taken (refusal.Unreadable name) = ⊥
 InputsRefuse labels given taken (refusal.Wrong fault names) = (map label_in names.items ≡ labels) × IsWrong labels taken given (fault_in fault)
 
 abbrev pub TextRefuses : Text → Placed → List Taken → Refusal → Type 0
 TextRefuses text given taken reason =
     (reason ≡ refusal.OutOfMemory) ⊎ ((netlist : Netlist) × Means text one_step netlist × InputsRefuse (labels_of netlist) given taken reason)
 
--- for a question: the netlist is read once only, or this is wrong with a word for the inputs of its
--- text
-abbrev pub QuestionRefuses : (Text → Text → Type 0) → Question → List Taken → Refusal → Type 0
-QuestionRefuses holds question taken reason =
+-- for a question: the netlist is read once only, or a device may fail to read it, or this is wrong
+-- with a word for the inputs of its text
+abbrev pub QuestionRefuses : (Text → Text → Type 0) → (Text → Type 0) → Question → List Taken → Refusal → Type 0
+QuestionRefuses holds fails question taken reason =
     (reason ≡ refusal.OutOfMemory)
     ⊎ ((reason ≡ refusal.Stream) × (takes question taken ≡ true))
+    ⊎ ((name : Vec ℕ) × (name.items ≡ question.file) × (reason ≡ refusal.Unreadable name) × fails question.file)
     ⊎ ((takes question taken ≡ true) × ((text : Text) × holds question.file text × TextRefuses text question.given taken reason))
 
-abbrev pub WordsRefuse : (Text → Text → Type 0) → List Text → List Taken → Refusal → Type 0
-WordsRefuse holds plain taken reason =
-    (reason ≡ refusal.OutOfMemory) ⊎ ((asked : Request) × Asks plain asked × QuestionRefuses holds (question_of asked) taken reason)
+abbrev pub WordsRefuse : (Text → Text → Type 0) → (Text → Type 0) → List Text → List Taken → Refusal → Type 0
+WordsRefuse holds fails plain taken reason =
+    (reason ≡ refusal.OutOfMemory) ⊎ ((asked : Request) × Asks plain asked × QuestionRefuses holds fails (question_of asked) taken reason)
 
 -- why no words come out
-abbrev pub IsRefused : (Text → Text → Type 0) → List Text → Refusal → Type 0
-IsRefused holds words reason =
-    (reason ≡ refusal.OutOfMemory) ⊎ ((name_inputs words ≡ true) × WordsRefuse holds (plain_of words) (scan_of words).taken reason)
+abbrev pub IsRefused : (Text → Text → Type 0) → (Text → Type 0) → List Text → Refusal → Type 0
+IsRefused holds fails words reason =
+    (reason ≡ refusal.OutOfMemory) ⊎ ((name_inputs words ≡ true) × WordsRefuse holds fails (plain_of words) (scan_of words).taken reason)

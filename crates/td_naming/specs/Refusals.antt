@@ -9,11 +9,12 @@ use Rattle.td_report.specs.declared.status.Status.{Status}
 use Rattle.td_report.specs.declared.status.Status.TheVariants.{BadCommand, Device}
 use Rattle.td_report.specs.Ends.{Tells}
 use Rattle.td_naming.specs.declared.refusal.Refusal.{Refusal}
-use Rattle.td_naming.specs.declared.refusal.Refusal.TheVariants.{OutOfMemory, Stream, Wrong}
+use Rattle.td_naming.specs.declared.refusal.Refusal.TheVariants.{OutOfMemory, Stream, Unreadable, Wrong}
 
 abbrev pub status_of : Refusal → Status
 status_of OutOfMemory = Device
 status_of Stream = BadCommand
+status_of (Unreadable name) = Device
 status_of (Wrong fault labels) = BadCommand
 
 -- what a word of an option is called in messages
@@ -32,6 +33,9 @@ input_text (Some label) = label.name
 unfoldable pub bad_text : Topic → List ℕ → List ℕ
 bad_text topic word = codes "bad " ++ called topic ++ word
 
+unfoldable pub unreadable_text : List ℕ → List ℕ
+unreadable_text name = codes "cannot read " ++ name
+
 unfoldable pub no_input_text : List ℕ → List ℕ
 no_input_text name = codes "no input " ++ name
 
@@ -47,6 +51,7 @@ fault_text TwoForms labels = codes "--at by name and by place"
 abbrev pub reason_text : Refusal → List ℕ
 reason_text OutOfMemory = codes "out of memory"
 reason_text Stream = codes "inputs by name need a netlist in a file"
+reason_text (Unreadable name) = unreadable_text name.items
 reason_text (Wrong fault labels) = fault_text (fault_in fault) (map label_in labels.items)
 
 -- the line that says why options by name are refused

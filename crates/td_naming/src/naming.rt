@@ -1,5 +1,6 @@
 //! From options by name to options by place.
 
+ghost use Rattle.std.specs.Global.{Vec};
 ghost use Rattle.std.specs.Prelude.{◌≡◌, ◌⊎◌, ℕ, List, map, string_bytes, IfOk, IfErr, IfSome, IfNone};
 ghost use Rattle.td_netlist.specs.Means.{Means};
 ghost use Rattle.td_nets.specs.Netlist as netlist;
@@ -13,6 +14,7 @@ ghost use Rattle.td_naming.specs.declared.refusal.Refusal.TheVariants as Reason;
 use crate::question::Question;
 use crate::refusal::Refusal;
 use crate::streams::{Streams, is_read_once};
+use clap::error::ErrorKind;
 use std::alloc::{AllocError, Global};
 use std::convert::AsStr;
 use td_command::parse;
@@ -76,8 +78,8 @@ fn copies<S: AsStr>(alloc: Global, words: &[S]) -> Result<Vec<String>, AllocErro
 
 /// The words of a command line for `td_cli::run`: options that name inputs are replaced by options
 /// that say the same by place, after the netlist was read for its inputs. Where there are none,
-/// nothing is read. Where the rest of the words has a fault, or the netlist, they are left out
-/// alone, and the run reports it. Where the command doesn't take one of them, the words stay as
+/// nothing is read. Where the rest of the words has a fault, or the netlist's text, they are left
+/// out alone, and the run reports it. Where the command doesn't take one of them, the words stay as
 /// they are, and the run refuses it.
 pub fn positional<'a, S: AsStr, F: Files, T: Streams>(
     alloc: Global,
@@ -86,7 +88,7 @@ pub fn positional<'a, S: AsStr, F: Files, T: Streams>(
     streams: &T,
 ) -> Result<Vec<String>, Refusal<'a>>
     ensures words { IfOk result (λ new. IsPositional (F.disk files.old).holds (F.disk files.old).fails (map S.text words.entry.now) (texts_of new.items)) }
-    ensures refused { IfErr result (IsRefused (F.disk files.old).holds (map S.text words.entry.now)) }
+    ensures refused { IfErr result (IsRefused (F.disk files.old).holds (F.disk files.old).fails (map S.text words.entry.now)) }
     ensures stays { files.new ≡ files.old }
 {
     let scan = parted(alloc, words)?;
@@ -113,7 +115,7 @@ fn replaced<'a, S: AsStr, F: Files, T: Streams>(
     streams: &T,
 ) -> Result<Vec<String>, Refusal<'a>>
     ensures words { IfOk result (λ new. IsReplaced (F.disk files.old).holds (F.disk files.old).fails (map S.text words.now) (scan_in scan.now) (texts_of new.items)) }
-    ensures refused { IfErr result (WordsRefuse (F.disk files.old).holds (plain_in (scan_in scan.now)) (scan_in scan.now).taken) }
+    ensures refused { IfErr result (WordsRefuse (F.disk files.old).holds (F.disk files.old).fails (plain_in (scan_in scan.now)) (scan_in scan.now).taken) }
     ensures stays { files.new ≡ files.old }
 {
     let plain = with_words(alloc, &scan.rest, &scan.given)?;
@@ -139,12 +141,27 @@ fn considered<'a, F: Files, T: Streams>(
     streams: &T,
 ) -> Result<Outcome, Refusal<'a>>
     ensures outcome { IfOk result (λ outcome. OfWords (F.disk files.old).holds (F.disk files.old).fails (texts_of plain.now) (map taken_in taken.now) (outcome_in outcome)) }
-    ensures refused { IfErr result (WordsRefuse (F.disk files.old).holds (texts_of plain.now) (map taken_in taken.now)) }
+    ensures refused { IfErr result (WordsRefuse (F.disk files.old).holds (F.disk files.old).fails (texts_of plain.now) (map taken_in taken.now)) }
     ensures stays { files.new ≡ files.old }
 {
     match parse(alloc, plain) {
         Ok(request) => asked(alloc, Question::of(&request), taken, files, streams),
-        Err(_) => Ok(Outcome::Left),
+        Err(error) => {
+            if error.kind() == ErrorKind::OutOfMemory {
+                return Err(Refusal::OutOfMemory);
+            }
+            Ok(Outcome::Left)
+        }
+    }
+}
+
+/// Why options by name are refused beside a netlist's file that a device fails to read.
+fn unread<'a>(alloc: Global, file: &str) -> Refusal<'a>
+    ensures { (result ≡ Reason.OutOfMemory) ⊎ ((name : Vec ℕ) × (name.items ≡ file.now) × (result ≡ Reason.Unreadable name)) }
+{
+    match Vec::from_slice(alloc, file.as_bytes()) {
+        Ok(name) => Refusal::Unreadable(name),
+        Err(_) => Refusal::OutOfMemory,
     }
 }
 
@@ -157,7 +174,7 @@ fn asked<'a, F: Files, T: Streams>(
     streams: &T,
 ) -> Result<Outcome, Refusal<'a>>
     ensures outcome { IfOk result (λ outcome. OfQuestion (F.disk files.old).holds (F.disk files.old).fails (question_in question.entry) (map taken_in taken.now) (outcome_in outcome)) }
-    ensures refused { IfErr result (QuestionRefuses (F.disk files.old).holds (question_in question.entry) (map taken_in taken.now)) }
+    ensures refused { IfErr result (QuestionRefuses (F.disk files.old).holds (F.disk files.old).fails (question_in question.entry) (map taken_in taken.now)) }
     ensures stays { files.new ≡ files.old }
 {
     if !question.takes(taken) {
@@ -169,7 +186,7 @@ fn asked<'a, F: Files, T: Streams>(
     match files.read(alloc, question.file) {
         Ok(text) => of_text(alloc, &text, question.given, taken),
         Err(ReadFault::OutOfMemory) => Err(Refusal::OutOfMemory),
-        Err(ReadFault::Device) => Ok(Outcome::Left),
+        Err(ReadFault::Device) => Err(unread(alloc, question.file)),
     }
 }
 

@@ -3,7 +3,7 @@
 ghost use Rattle.std.specs.Prelude.{◌≡◌, ◌++◌, map, slice_get, OnOk};
 ghost use Rattle.td_inputs.specs.Labels.{label_in};
 ghost use Rattle.td_inputs.specs.Readings.{fault_in};
-ghost use Rattle.td_naming.specs.Refusals.{IsRefusedBy, bad_text, called, clash_text, fault_text, input_text, no_input_text, reason_text, refusal_text, status_of};
+ghost use Rattle.td_naming.specs.Refusals.{IsRefusedBy, bad_text, called, clash_text, fault_text, input_text, no_input_text, reason_text, refusal_text, status_of, unreadable_text};
 
 use std::alloc::{AllocError, Global};
 use td_delivery::telling::tell;
@@ -18,6 +18,8 @@ pub enum Refusal<'a> {
     OutOfMemory,
     /// The netlist comes from a stream, which is read once.
     Stream,
+    /// A device fails to read the netlist's file, which has this name.
+    Unreadable(Vec<u8>),
     /// A word of an option by name is wrong for inputs of these names.
     Wrong(WordFault<'a>, Vec<Label>),
 }
@@ -55,6 +57,7 @@ impl<'a> Refusal<'a> {
         match self {
             Refusal::OutOfMemory => Status::Device,
             Refusal::Stream => Status::BadCommand,
+            Refusal::Unreadable(_) => Status::Device,
             Refusal::Wrong(..) => Status::BadCommand,
         }
     }
@@ -75,6 +78,7 @@ impl<'a> Refusal<'a> {
         match self {
             Refusal::OutOfMemory => text.push(b"out of memory"),
             Refusal::Stream => text.push(b"inputs by name need a netlist in a file"),
+            Refusal::Unreadable(name) => tell_unreadable(text, name),
             Refusal::Wrong(fault, labels) => tell_fault(text, *fault, labels),
         }
     }
@@ -104,6 +108,14 @@ fn tell_bad(text: &mut Text, topic: Topic, word: &[u8]) -> Result<(), AllocError
     text.push(b"bad ")?;
     text.push(called(topic))?;
     text.push(word)
+}
+
+/// Appends that a file can't be read.
+fn tell_unreadable(text: &mut Text, name: &[u8]) -> Result<(), AllocError>
+    ensures { OnOk result (text.new ≡ text.old ++ unreadable_text name.now) }
+{
+    text.push(b"cannot read ")?;
+    text.push(name)
 }
 
 /// Appends that no input has a name.

@@ -18,7 +18,7 @@ pub returns-in-Ok-clause-refused : goal.returns-in-Ok-clause-refused
 returns-in-Ok-clause-refused g c = IfErr-weaker c.asked.result _ _ (λ reason of. inr (
   c.in-Ok.request,
   c.in-Ok.ensures.asked,
-  subst (λ (question : Question). QuestionRefuses (g.F.Files.disk c.args.files.now).holds question
+  subst (λ (question : Question). QuestionRefuses (g.F.Files.disk c.args.files.now).holds (g.F.Files.disk c.args.files.now).fails question
       (map taken_in c.args.taken.now) reason) c.of.ensures of,
 ))
     c.asked.ensures.refused
