@@ -1,0 +1,10 @@
+//! From a netlist's text to the circuit that is asked about.
+#![tactic(auto)]
+
+mod fault;
+pub mod laws;
+mod outputs;
+mod source;
+
+pub use fault::SourceFault;
+pub use source::circuit_of;
