@@ -1,5 +1,5 @@
 -- The commands as the parser fills them in, and what their words ask for where they have no fault.
-use Rattle.std.proofs.Common.{◌≡◌, ◌≤◌, List, [], ◌∷◌, length, Option, Some, codes, refl, inl, inr, arith, ℕ, false, true}
+use Rattle.std.proofs.Common.{◌≡◌, ◌≤◌, List, [], ◌∷◌, length, Option, Some, None, codes, refl, inl, inr, arith, ℕ, false, true}
 use Rattle.std.specs.Prelude.{option_map, pos}
 use Rattle.std.specs.Borrow.{Bor}
 use Rattle.std.specs.List.{list_any}
@@ -8,7 +8,8 @@ use Rattle.clap.specs.Simple.{App, Shape, built_leaf, inherited, marked_built, w
 use Rattle.clap.specs.declared.builder.value_parser.ValueParser.TheVariants.{Bool as AsBool, Names, Signed, Unsigned}
 use Rattle.clap.specs.Walk.{Row, Rule, Text, action_of, arg_by_id, first_of, most_values}
 use Rattle.clap.specs.declared.builder.action.ArgAction.TheVariants.{Append, Set, SetTrue, Help}
-use Rattle.td_command.specs.CommandLine.{AsksBound, AsksCheck, AsksInfo, AsksJoin, AsksParts, AsksPath, AsksQuestion, AsksSim, AsksWorst, HasWord, behind, bound_command, check_command, info_command, join_command, listed, parts_command, path_command, program, sim_command, strategy_names, worst_command}
+use Rattle.td_command.specs.CommandLine.{AsksBound, AsksCheck, AsksInfo, AsksJoin, AsksParts, AsksPath, AsksQuestion, AsksSim, AsksWorst, HasWord, HasReading, HasWholeReading, behind, bound_command, check_command, info_command, join_command, listed, parts_command, path_command, program, sim_command, strategy_names, worst_command}
+use Rattle.td_reading.specs.declared.reading.Reading.{Reading}
 use Rattle.td_command.specs.declared.command.SimRequest.{SimRequest}
 use Rattle.td_command.specs.declared.command.PathRequest.{PathRequest}
 use Rattle.td_command.specs.declared.command.BoundRequest.{BoundRequest}
@@ -103,25 +104,25 @@ is_flag : {shape : Shape} {id : Text} (rule : Rule) → arg_by_id shape.rules id
 is_flag rule named parser left_out = record { rule = rule; named = named; parser = parser; left_out = left_out }
 
 pub sim_is_plain : IsPlainLeaf sim
-sim_is_plain = record { known = (known_one refl refl refl refl (omega arith), (known_one refl refl refl refl (omega arith), (known_one refl refl refl refl (omega arith), (known_one refl refl refl refl (omega arith), (known_one refl refl refl refl (omega arith), (known_one refl refl refl refl (omega arith), (known_one refl refl refl refl (omega arith), (known_flag refl refl refl refl refl (omega arith), (known_flag refl refl refl refl refl (omega arith), (known_help refl refl (omega arith), tt)))))))))); once = refl }
+sim_is_plain = record { known = (known_one refl refl refl refl (omega arith), (known_one refl refl refl refl (omega arith), (known_one refl refl refl refl (omega arith), (known_one refl refl refl refl (omega arith), (known_one refl refl refl refl (omega arith), (known_flag refl refl refl refl refl (omega arith), (known_one refl refl refl refl (omega arith), (known_one refl refl refl refl (omega arith), (known_flag refl refl refl refl refl (omega arith), (known_flag refl refl refl refl refl (omega arith), (known_help refl refl (omega arith), tt))))))))))); once = refl }
 
 pub path_is_plain : IsPlainLeaf path
 path_is_plain = record { known = (known_one refl refl refl refl (omega arith), (known_one refl refl refl refl (omega arith), (known_one refl refl refl refl (omega arith), (known_one refl refl refl refl (omega arith), (known_one refl refl refl refl (omega arith), (known_one refl refl refl refl (omega arith), (known_one refl refl refl refl (omega arith), (known_flag refl refl refl refl refl (omega arith), (known_flag refl refl refl refl refl (omega arith), (known_help refl refl (omega arith), tt)))))))))); once = refl }
 
 pub bound_is_plain : IsPlainLeaf bound
-bound_is_plain = record { known = (known_one refl refl refl refl (omega arith), (known_one refl refl refl refl (omega arith), (known_one refl refl refl refl (omega arith), (known_one refl refl refl refl (omega arith), (known_one refl refl refl refl (omega arith), (known_flag refl refl refl refl refl (omega arith), (known_one refl refl refl refl (omega arith), (known_one refl refl refl refl (omega arith), (known_flag refl refl refl refl refl (omega arith), (known_flag refl refl refl refl refl (omega arith), (known_help refl refl (omega arith), tt))))))))))); once = refl }
+bound_is_plain = record { known = (known_one refl refl refl refl (omega arith), (known_one refl refl refl refl (omega arith), (known_one refl refl refl refl (omega arith), (known_one refl refl refl refl (omega arith), (known_one refl refl refl refl (omega arith), (known_flag refl refl refl refl refl (omega arith), (known_one refl refl refl refl (omega arith), (known_one refl refl refl refl (omega arith), (known_one refl refl refl refl (omega arith), (known_flag refl refl refl refl refl (omega arith), (known_flag refl refl refl refl refl (omega arith), (known_help refl refl (omega arith), tt)))))))))))); once = refl }
 
 pub worst_is_plain : IsPlainLeaf worst
-worst_is_plain = record { known = (known_one refl refl refl refl (omega arith), (known_one refl refl refl refl (omega arith), (known_one refl refl refl refl (omega arith), (known_one refl refl refl refl (omega arith), (known_one refl refl refl refl (omega arith), (known_one refl refl refl refl (omega arith), (known_one refl refl refl refl (omega arith), (known_one refl refl refl refl (omega arith), (known_one refl refl refl refl (omega arith), (known_one refl refl refl refl (omega arith), (known_one refl refl refl refl (omega arith), (known_one refl refl refl refl (omega arith), (known_one refl refl refl refl (omega arith), (known_flag refl refl refl refl refl (omega arith), (known_flag refl refl refl refl refl (omega arith), (known_one refl refl refl refl (omega arith), (known_one refl refl refl refl (omega arith), (known_flag refl refl refl refl refl (omega arith), (known_flag refl refl refl refl refl (omega arith), (known_help refl refl (omega arith), tt)))))))))))))))))))); once = refl }
+worst_is_plain = record { known = (known_one refl refl refl refl (omega arith), (known_one refl refl refl refl (omega arith), (known_one refl refl refl refl (omega arith), (known_one refl refl refl refl (omega arith), (known_one refl refl refl refl (omega arith), (known_one refl refl refl refl (omega arith), (known_one refl refl refl refl (omega arith), (known_one refl refl refl refl (omega arith), (known_one refl refl refl refl (omega arith), (known_one refl refl refl refl (omega arith), (known_one refl refl refl refl (omega arith), (known_one refl refl refl refl (omega arith), (known_one refl refl refl refl (omega arith), (known_one refl refl refl refl (omega arith), (known_flag refl refl refl refl refl (omega arith), (known_flag refl refl refl refl refl (omega arith), (known_flag refl refl refl refl refl (omega arith), (known_one refl refl refl refl (omega arith), (known_one refl refl refl refl (omega arith), (known_one refl refl refl refl (omega arith), (known_flag refl refl refl refl refl (omega arith), (known_flag refl refl refl refl refl (omega arith), (known_help refl refl (omega arith), tt))))))))))))))))))))))); once = refl }
 
 pub parts_is_plain : IsPlainLeaf parts
-parts_is_plain = record { known = (known_one refl refl refl refl (omega arith), (known_one refl refl refl refl (omega arith), (known_one refl refl refl refl (omega arith), (known_one refl refl refl refl (omega arith), (known_one refl refl refl refl (omega arith), (known_one refl refl refl refl (omega arith), (known_one refl refl refl refl (omega arith), (known_one refl refl refl refl (omega arith), (known_one refl refl refl refl (omega arith), (known_one refl refl refl refl (omega arith), (known_one refl refl refl refl (omega arith), (known_one refl refl refl refl (omega arith), (known_flag refl refl refl refl refl (omega arith), (known_flag refl refl refl refl refl (omega arith), (known_help refl refl (omega arith), tt))))))))))))))); once = refl }
+parts_is_plain = record { known = (known_one refl refl refl refl (omega arith), (known_one refl refl refl refl (omega arith), (known_one refl refl refl refl (omega arith), (known_one refl refl refl refl (omega arith), (known_one refl refl refl refl (omega arith), (known_one refl refl refl refl (omega arith), (known_one refl refl refl refl (omega arith), (known_one refl refl refl refl (omega arith), (known_one refl refl refl refl (omega arith), (known_one refl refl refl refl (omega arith), (known_one refl refl refl refl (omega arith), (known_one refl refl refl refl (omega arith), (known_one refl refl refl refl (omega arith), (known_flag refl refl refl refl refl (omega arith), (known_flag refl refl refl refl refl (omega arith), (known_help refl refl (omega arith), tt)))))))))))))))); once = refl }
 
 pub join_is_plain : IsPlainLeaf join
-join_is_plain = record { known = (known_one refl refl refl refl (omega arith), (known_more refl refl refl refl (omega arith), (known_one refl refl refl refl (omega arith), (known_flag refl refl refl refl refl (omega arith), (known_one refl refl refl refl (omega arith), (known_one refl refl refl refl (omega arith), (known_one refl refl refl refl (omega arith), (known_one refl refl refl refl (omega arith), (known_one refl refl refl refl (omega arith), (known_flag refl refl refl refl refl (omega arith), (known_flag refl refl refl refl refl (omega arith), (known_help refl refl (omega arith), tt)))))))))))); once = refl }
+join_is_plain = record { known = (known_one refl refl refl refl (omega arith), (known_more refl refl refl refl (omega arith), (known_one refl refl refl refl (omega arith), (known_flag refl refl refl refl refl (omega arith), (known_one refl refl refl refl (omega arith), (known_one refl refl refl refl (omega arith), (known_one refl refl refl refl (omega arith), (known_one refl refl refl refl (omega arith), (known_one refl refl refl refl (omega arith), (known_one refl refl refl refl (omega arith), (known_flag refl refl refl refl refl (omega arith), (known_flag refl refl refl refl refl (omega arith), (known_help refl refl (omega arith), tt))))))))))))); once = refl }
 
 pub check_is_plain : IsPlainLeaf check
-check_is_plain = record { known = (known_one refl refl refl refl (omega arith), (known_one refl refl refl refl (omega arith), (known_one refl refl refl refl (omega arith), (known_one refl refl refl refl (omega arith), (known_flag refl refl refl refl refl (omega arith), (known_flag refl refl refl refl refl (omega arith), (known_help refl refl (omega arith), tt))))))); once = refl }
+check_is_plain = record { known = (known_one refl refl refl refl (omega arith), (known_one refl refl refl refl (omega arith), (known_one refl refl refl refl (omega arith), (known_one refl refl refl refl (omega arith), (known_one refl refl refl refl (omega arith), (known_flag refl refl refl refl refl (omega arith), (known_flag refl refl refl refl refl (omega arith), (known_help refl refl (omega arith), tt)))))))); once = refl }
 
 pub info_is_plain : IsPlainLeaf info
 info_is_plain = record { known = (known_one refl refl refl refl (omega arith), (known_one refl refl refl refl (omega arith), (known_one refl refl refl refl (omega arith), (known_flag refl refl refl refl refl (omega arith), (known_flag refl refl refl refl refl (omega arith), (known_help refl refl (omega arith), tt)))))); once = refl }
@@ -135,19 +136,37 @@ word_of id rows = option_map behind (first_of id rows)
 word_there : (id : Text) (rows : List Row) → HasWord id rows (word_of id rows)
 word_there id rows = given_text (first_of id rows)
 
+-- how the text is read, of all outputs
+whole_there : {shape : Shape} (rows : List Row) → HasOption shape (codes "default-rise") 1 1000000000
+    → HasOption shape (codes "default-fall") 1 1000000000 → IsTaken shape rows → (asked : Reading) × HasWholeReading rows asked
+whole_there {shape} rows has_rise has_fall taken =
+    let default = default_there shape rows has_rise has_fall taken in
+    (record { default = default.0; output = None }, record { default = default.1; output = refl })
+
+-- how the text is read, of the output that is asked about
+reading_there : {shape : Shape} (rows : List Row) → HasOption shape (codes "default-rise") 1 1000000000
+    → HasOption shape (codes "default-fall") 1 1000000000 → IsTaken shape rows → (asked : Reading) × HasReading rows asked
+reading_there {shape} rows has_rise has_fall taken =
+    let default = default_there shape rows has_rise has_fall taken in (
+      record { default = default.0; output = word_of (codes "output") rows },
+      record { default = default.1; output = word_there (codes "output") rows },
+    )
+
 pub asks_sim : (rows : List Row) → IsTaken sim rows → (asked : SimRequest) × AsksSim rows asked
 asks_sim rows taken =
     let file = text_there sim.rules (codes "FILE") rows (taken.given.0 refl) taken.rules in
     let from = text_there sim.rules (codes "FROM") rows (taken.given.1.0 refl) taken.rules in
     let to = text_there sim.rules (codes "TO") rows (taken.given.1.1.0 refl) taken.rules in
-    let default = default_there sim rows (has_option _ refl refl refl) (has_option _ refl refl refl) taken in (
+    let outputs = flag_there sim (codes "outputs") rows (is_flag _ refl refl refl) taken in
+    let reading = whole_there {shape = sim} rows (has_option _ refl refl refl) (has_option _ refl refl refl) taken in (
       record {
         file = behind file.0;
         from = behind from.0;
         to = behind to.0;
         at = word_of (codes "at") rows;
         vcd = word_of (codes "vcd") rows;
-        default = default.0;
+        outputs = outputs.0;
+        reading = reading.0;
       },
       record {
         file = file.1;
@@ -155,7 +174,8 @@ asks_sim rows taken =
         to = to.1;
         at = word_there (codes "at") rows;
         vcd = word_there (codes "vcd") rows;
-        default = default.1;
+        outputs = outputs.1;
+        reading = reading.1;
       },
     )
 
@@ -164,14 +184,14 @@ asks_path rows taken =
     let file = text_there path.rules (codes "FILE") rows (taken.given.0 refl) taken.rules in
     let from = text_there path.rules (codes "FROM") rows (taken.given.1.0 refl) taken.rules in
     let to = text_there path.rules (codes "TO") rows (taken.given.1.1.0 refl) taken.rules in
-    let default = default_there path rows (has_option _ refl refl refl) (has_option _ refl refl refl) taken in (
+    let reading = whole_there {shape = path} rows (has_option _ refl refl refl) (has_option _ refl refl refl) taken in (
       record {
         file = behind file.0;
         from = behind from.0;
         to = behind to.0;
         at = word_of (codes "at") rows;
         output = word_of (codes "output") rows;
-        default = default.0;
+        reading = reading.0;
       },
       record {
         file = file.1;
@@ -179,7 +199,7 @@ asks_path rows taken =
         to = to.1;
         at = word_there (codes "at") rows;
         output = word_there (codes "output") rows;
-        default = default.1;
+        reading = reading.1;
       },
     )
 
@@ -187,14 +207,14 @@ pub asks_bound : (rows : List Row) → IsTaken bound rows → (asked : BoundRequ
 asks_bound rows taken =
     let file = text_there bound.rules (codes "FILE") rows (taken.given.0 refl) taken.rules in
     let edges = flag_there bound (codes "edges") rows (is_flag _ refl refl refl) taken in
-    let default = default_there bound rows (has_option _ refl refl refl) (has_option _ refl refl refl) taken in (
+    let reading = reading_there {shape = bound} rows (has_option _ refl refl refl) (has_option _ refl refl refl) taken in (
       record {
         file = behind file.0;
         first = word_of (codes "first") rows;
         second = word_of (codes "second") rows;
         at = word_of (codes "at") rows;
         edges = edges.0;
-        default = default.0;
+        reading = reading.0;
       },
       record {
         file = file.1;
@@ -202,7 +222,7 @@ asks_bound rows taken =
         second = word_there (codes "second") rows;
         at = word_there (codes "at") rows;
         edges = edges.1;
-        default = default.1;
+        reading = reading.1;
       },
     )
 
@@ -239,7 +259,9 @@ asks_worst rows taken =
     let budget = number_there worst (codes "budget") 0 10000000 rows (has_option _ refl refl refl) taken in
     let path = flag_there worst (codes "path") rows (is_flag _ refl refl refl) taken in
     let progress = flag_there worst (codes "progress") rows (is_flag _ refl refl refl) taken in
-    let default = default_there worst rows (has_option _ refl refl refl) (has_option _ refl refl refl) taken in (
+    let outputs = flag_there worst (codes "outputs") rows (is_flag _ refl refl refl) taken in
+    let seconds = count_there worst (codes "seconds") rows (has_count_option _ refl refl) taken in
+    let reading = reading_there {shape = worst} rows (has_option _ refl refl refl) (has_option _ refl refl refl) taken in (
       record {
         file = behind file.0;
         question = question.0;
@@ -249,7 +271,9 @@ asks_worst rows taken =
         vcd = word_of (codes "vcd") rows;
         path = path.0;
         progress = progress.0;
-        default = default.0;
+        outputs = outputs.0;
+        seconds = seconds.0;
+        reading = reading.0;
       },
       record {
         file = file.1;
@@ -260,7 +284,9 @@ asks_worst rows taken =
         vcd = word_there (codes "vcd") rows;
         path = path.1;
         progress = progress.1;
-        default = default.1;
+        outputs = outputs.1;
+        seconds = seconds.1;
+        reading = reading.1;
       },
     )
 
@@ -269,18 +295,18 @@ asks_parts rows taken =
     let file = text_there parts.rules (codes "FILE") rows (taken.given.0 refl) taken.rules in
     let number = needed_there parts (codes "parts") 1 65536 rows (has_needed _ refl refl) (taken.given.1.0 refl) taken.rules in
     let question = asks_question parts rows (has_count_option _ refl refl) (has_name_option _ refl refl refl refl) taken in
-    let default = default_there parts rows (has_option _ refl refl refl) (has_option _ refl refl refl) taken in (
+    let reading = reading_there {shape = parts} rows (has_option _ refl refl refl) (has_option _ refl refl refl) taken in (
       record {
         file = behind file.0;
         parts = number.0;
         question = question.0;
-        default = default.0;
+        reading = reading.0;
       },
       record {
         file = file.1;
         parts = (number.1, number.2, number.3);
         question = question.1;
-        default = default.1;
+        reading = reading.1;
       },
     )
 
@@ -289,7 +315,7 @@ asks_join rows taken =
     let file = text_there join.rules (codes "FILE") rows (taken.given.0 refl) taken.rules in
     let certificates = words_there join.rules (codes "CERT") rows (taken.given.1.0 refl) taken.rules in
     let check = flag_there join (codes "check") rows (is_flag _ refl refl refl) taken in
-    let default = default_there join rows (has_option _ refl refl refl) (has_option _ refl refl refl) taken in (
+    let reading = reading_there {shape = join} rows (has_option _ refl refl refl) (has_option _ refl refl refl) taken in (
       record {
         file = behind file.0;
         certificates = certificates.0;
@@ -297,7 +323,7 @@ asks_join rows taken =
         check = check.0;
         first = word_of (codes "first") rows;
         second = word_of (codes "second") rows;
-        default = default.0;
+        reading = reading.0;
       },
       record {
         file = file.1;
@@ -306,7 +332,7 @@ asks_join rows taken =
         check = check.1;
         first = word_there (codes "first") rows;
         second = word_there (codes "second") rows;
-        default = default.1;
+        reading = reading.1;
       },
     )
 
@@ -314,15 +340,15 @@ pub asks_check : (rows : List Row) → IsTaken check rows → (asked : CheckRequ
 asks_check rows taken =
     let file = text_there check.rules (codes "FILE") rows (taken.given.0 refl) taken.rules in
     let certificate = text_there check.rules (codes "CERT") rows (taken.given.1.0 refl) taken.rules in
-    let default = default_there check rows (has_option _ refl refl refl) (has_option _ refl refl refl) taken in (
-      record { file = behind file.0; certificate = behind certificate.0; default = default.0 },
-      record { file = file.1; certificate = certificate.1; default = default.1 },
+    let reading = reading_there {shape = check} rows (has_option _ refl refl refl) (has_option _ refl refl refl) taken in (
+      record { file = behind file.0; certificate = behind certificate.0; reading = reading.0 },
+      record { file = file.1; certificate = certificate.1; reading = reading.1 },
     )
 
 pub asks_info : (rows : List Row) → IsTaken info rows → (asked : InfoRequest) × AsksInfo rows asked
 asks_info rows taken =
     let file = text_there info.rules (codes "FILE") rows (taken.given.0 refl) taken.rules in
-    let default = default_there info rows (has_option _ refl refl refl) (has_option _ refl refl refl) taken in (
-      record { file = behind file.0; default = default.0 },
-      record { file = file.1; default = default.1 },
+    let reading = whole_there {shape = info} rows (has_option _ refl refl refl) (has_option _ refl refl refl) taken in (
+      record { file = behind file.0; reading = reading.0 },
+      record { file = file.1; reading = reading.1 },
     )

@@ -7,6 +7,7 @@ use Rattle.clap.specs.Values.{bool_text}
 use Rattle.clap.specs.declared.builder.action.ArgAction.TheVariants.{Append, SetTrue}
 use Rattle.clap.specs.declared.builder.value_parser.ValueParser.TheVariants.{Names, Signed, Unsigned}
 use Rattle.td_gates.specs.Delays.{Delays, IsInRange}
+use Rattle.td_reading.specs.declared.reading.Reading.{Reading}
 use Rattle.td_command.specs.declared.command.SimRequest.{SimRequest}
 use Rattle.td_command.specs.declared.command.PathRequest.{PathRequest}
 use Rattle.td_command.specs.declared.command.BoundRequest.{BoundRequest}
@@ -103,6 +104,10 @@ with_vcd app = with_rule app (option (codes "vcd"))
 abbrev pub with_output : App → App
 with_output app = with_rule app (option (codes "output"))
 
+-- whether it is asked which output changes last
+abbrev pub with_outputs : App → App
+with_outputs app = with_rule app (flag (codes "outputs"))
+
 -- a netlist and a pair of vectors
 abbrev pub with_pair : App → App
 with_pair app = with_rule (with_rule (with_rule app (needed (codes "FILE"))) (needed (codes "FROM"))) (needed (codes "TO"))
@@ -115,9 +120,10 @@ with_cube app = with_rule (with_rule (with_rule app (option (codes "first"))) (o
 abbrev pub with_edges : App → App
 with_edges app = with_rule app (flag (codes "edges"))
 
--- whether the chain of the given pair is asked for too, and how far the search is
+-- whether the chain of the given pair is asked for too, how far the search is, and which output
+-- changes last
 abbrev pub with_reported : App → App
-with_reported app = with_rule (with_rule app (flag (codes "path"))) (flag (codes "progress"))
+with_reported app = with_outputs (with_rule (with_rule app (flag (codes "path"))) (flag (codes "progress")))
 
 -- the pairs that a search admits: those of a cube, where some inputs are held and the number of
 -- flips has a limit
@@ -132,8 +138,8 @@ with_strategy strategies app = with_rule app (name_option (codes "strategy") str
 -- how a search goes, and where its certificate goes
 abbrev pub with_search : Listed → App → App
 with_search strategies app =
-    with_rule (with_rule (with_strategy strategies (with_rule app (with_letter workers_letter (number_option (codes "workers") 1 64 (codes "1")))))
-    (number_option (codes "budget") 0 10000000 (codes "1000000"))) (with_letter out_letter (option (codes "cert")))
+    with_rule (with_rule (with_rule (with_strategy strategies (with_rule app (with_letter workers_letter (number_option (codes "workers") 1 64 (codes "1")))))
+    (number_option (codes "budget") 0 10000000 (codes "1000000"))) (count_option (codes "seconds"))) (with_letter out_letter (option (codes "cert")))
 
 -- how many parts a question has
 abbrev pub with_parts : App → App
@@ -145,28 +151,27 @@ with_joined app =
     with_rule (with_rule (with_rule app (needed_words (codes "CERT"))) (with_letter out_letter (option (codes "cert")))) (flag (codes "check"))
 
 abbrev pub sim_command : App
-sim_command = with_common (with_vcd (with_moments (with_pair (new_app (codes "sim")))))
+sim_command = with_common (with_outputs (with_vcd (with_moments (with_pair (new_app (codes "sim"))))))
 
 abbrev pub path_command : App
 path_command = with_common (with_output (with_moments (with_pair (new_app (codes "path")))))
 
 abbrev pub bound_command : App
-bound_command = with_common (with_edges (with_moments (with_cube (with_rule (new_app (codes "bound")) (needed (codes "FILE"))))))
+bound_command = with_common (with_output (with_edges (with_moments (with_cube (with_rule (new_app (codes "bound")) (needed (codes "FILE")))))))
 
 abbrev pub worst_command : Listed → App
 worst_command strategies =
-    with_common (with_reported (with_vcd (with_search strategies (with_moments (with_admitted (with_rule (new_app (codes "worst")) (needed (codes "FILE"))))))))
+    with_common (with_output (with_reported (with_vcd (with_search strategies (with_moments (with_admitted (with_rule (new_app (codes "worst")) (needed (codes "FILE")))))))))
 
 abbrev pub parts_command : Listed → App
 parts_command strategies =
-    with_common (with_strategy strategies (with_moments (with_admitted (with_parts (with_rule (new_app (codes "parts")) (needed (codes "FILE")))))))
+    with_common (with_output (with_strategy strategies (with_moments (with_admitted (with_parts (with_rule (new_app (codes "parts")) (needed (codes "FILE"))))))))
 
 abbrev pub join_command : App
-join_command = with_common (with_cube (with_joined (with_rule (new_app (codes "join")) (needed (codes "FILE")))))
+join_command = with_common (with_output (with_cube (with_joined (with_rule (new_app (codes "join")) (needed (codes "FILE"))))))
 
 abbrev pub check_command : App
-check_command = with_common (with_rule (with_rule (new_app (codes "check"))
-    (needed (codes "FILE"))) (needed (codes "CERT")))
+check_command = with_common (with_output (with_rule (with_rule (new_app (codes "check")) (needed (codes "FILE"))) (needed (codes "CERT"))))
 
 abbrev pub info_command : App
 info_command = with_common (with_rule (new_app (codes "info")) (needed (codes "FILE")))
@@ -262,6 +267,16 @@ pub record HasDefault (rows : List Row) (default : Delays) : Type 0 where
   pub fall : HasNumber (codes "default-fall") rows default.fall
   pub in_range : IsInRange default
 
+-- the netlist's text is read so, of the output that the option names, where it is given
+pub record HasReading (rows : List Row) (reading : Reading) : Type 0 where
+  pub default : HasDefault rows reading.default
+  pub output : HasWord (codes "output") rows reading.output
+
+-- the netlist's text is read so, of all outputs
+pub record HasWholeReading (rows : List Row) (reading : Reading) : Type 0 where
+  pub default : HasDefault rows reading.default
+  pub output : reading.output ≡ None
+
 -- the most nodes of a search
 abbrev pub HasBudget : List Row → ℕ → Type 0
 HasBudget rows budget = HasNumber (codes "budget") rows budget × (budget ≤ 10000000)
@@ -269,6 +284,15 @@ HasBudget rows budget = HasNumber (codes "budget") rows budget × (budget ≤ 10
 -- how many threads search
 abbrev pub HasWorkers : List Row → ℕ → Type 0
 HasWorkers rows workers = HasNumber (codes "workers") rows workers × (0 < workers) × (workers ≤ 64)
+
+-- how many threads search, the most nodes, and the seconds after which the search ends
+abbrev pub AsksEffort : List Row → ℕ × ℕ × Option ℕ → Type 0
+AsksEffort rows asked = HasWorkers rows asked.0 × HasBudget rows asked.1 × HasCount (codes "seconds") rows asked.2
+
+-- what a search reports beside its answer
+abbrev pub AsksBeside : List Row → Bool × Bool × Bool → Type 0
+AsksBeside rows asked =
+    HasFlag (codes "path") rows asked.0 × HasFlag (codes "progress") rows asked.1 × HasFlag (codes "outputs") rows asked.2
 
 -- how many parts a question has
 abbrev pub HasParts : List Row → ℕ → Type 0
@@ -281,7 +305,8 @@ pub record AsksSim (rows : List Row) (asked : SimRequest) : Type 0 where
   pub to : first_of (codes "TO") rows ≡ Some asked.to.now
   pub at : HasWord (codes "at") rows asked.at
   pub vcd : HasWord (codes "vcd") rows asked.vcd
-  pub default : HasDefault rows asked.default
+  pub outputs : HasFlag (codes "outputs") rows asked.outputs
+  pub reading : HasWholeReading rows asked.reading
 
 -- the words of `path` ask for this
 pub record AsksPath (rows : List Row) (asked : PathRequest) : Type 0 where
@@ -290,7 +315,7 @@ pub record AsksPath (rows : List Row) (asked : PathRequest) : Type 0 where
   pub to : first_of (codes "TO") rows ≡ Some asked.to.now
   pub at : HasWord (codes "at") rows asked.at
   pub output : HasWord (codes "output") rows asked.output
-  pub default : HasDefault rows asked.default
+  pub reading : HasWholeReading rows asked.reading
 
 -- the words of `bound` ask for this
 pub record AsksBound (rows : List Row) (asked : BoundRequest) : Type 0 where
@@ -299,7 +324,7 @@ pub record AsksBound (rows : List Row) (asked : BoundRequest) : Type 0 where
   pub second : HasWord (codes "second") rows asked.second
   pub at : HasWord (codes "at") rows asked.at
   pub edges : HasFlag (codes "edges") rows asked.edges
-  pub default : HasDefault rows asked.default
+  pub reading : HasReading rows asked.reading
 
 -- the words say that a search is asked this
 pub record AsksQuestion (rows : List Row) (asked : QuestionWords) : Type 0 where
@@ -316,18 +341,20 @@ pub record AsksWorst (rows : List Row) (asked : WorstRequest) : Type 0 where
   pub question : AsksQuestion rows asked.question
   pub workers : HasWorkers rows asked.workers
   pub budget : HasBudget rows asked.budget
+  pub seconds : HasCount (codes "seconds") rows asked.seconds
   pub certificate : HasWord (codes "cert") rows asked.certificate
   pub vcd : HasWord (codes "vcd") rows asked.vcd
   pub path : HasFlag (codes "path") rows asked.path
   pub progress : HasFlag (codes "progress") rows asked.progress
-  pub default : HasDefault rows asked.default
+  pub outputs : HasFlag (codes "outputs") rows asked.outputs
+  pub reading : HasReading rows asked.reading
 
 -- the words of `parts` ask for this
 pub record AsksParts (rows : List Row) (asked : PartsRequest) : Type 0 where
   pub file : first_of (codes "FILE") rows ≡ Some asked.file.now
   pub parts : HasParts rows asked.parts
   pub question : AsksQuestion rows asked.question
-  pub default : HasDefault rows asked.default
+  pub reading : HasReading rows asked.reading
 
 -- the words of `join` ask for this
 pub record AsksJoin (rows : List Row) (asked : JoinRequest) : Type 0 where
@@ -337,18 +364,18 @@ pub record AsksJoin (rows : List Row) (asked : JoinRequest) : Type 0 where
   pub check : HasFlag (codes "check") rows asked.check
   pub first : HasWord (codes "first") rows asked.first
   pub second : HasWord (codes "second") rows asked.second
-  pub default : HasDefault rows asked.default
+  pub reading : HasReading rows asked.reading
 
 -- the words of `check` ask for this
 pub record AsksCheck (rows : List Row) (asked : CheckRequest) : Type 0 where
   pub file : first_of (codes "FILE") rows ≡ Some asked.file.now
   pub certificate : first_of (codes "CERT") rows ≡ Some asked.certificate.now
-  pub default : HasDefault rows asked.default
+  pub reading : HasReading rows asked.reading
 
 -- the words of `info` ask for this
 pub record AsksInfo (rows : List Row) (asked : InfoRequest) : Type 0 where
   pub file : first_of (codes "FILE") rows ≡ Some asked.file.now
-  pub default : HasDefault rows asked.default
+  pub reading : HasWholeReading rows asked.reading
 
 -- the command of this name, with these words, asks for this
 abbrev pub CommandAsks : Text → List Row → Request → Type 0

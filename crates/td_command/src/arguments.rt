@@ -3,7 +3,7 @@
 ghost use Rattle.std.specs.Prelude.{◌≡◌, [], codes, false, IfOk, OnOk};
 ghost use Rattle.clap.specs.Words.{app_of, new_app, rule_of, with_rule};
 ghost use Rattle.td_command.specs.CommandLine.{needed, needed_words, needed_number, option, named_option, number_option, count_option, name_option, flag};
-ghost use Rattle.td_command.specs.CommandLine.{with_pair, out_letter, with_common, with_default, with_letter, workers_letter, with_moments, with_vcd, with_output, with_cube, with_edges, with_reported, with_admitted, with_parts, with_strategy, with_search, with_joined};
+ghost use Rattle.td_command.specs.CommandLine.{with_pair, out_letter, with_common, with_default, with_letter, workers_letter, with_moments, with_vcd, with_output, with_outputs, with_cube, with_edges, with_reported, with_admitted, with_parts, with_strategy, with_search, with_joined};
 ghost use Rattle.td_command.specs.Telling.{reported, TellsMore, TellsRule};
 
 use crate::help::{FREE_HELP, WHOLE_HELP};
@@ -269,13 +269,19 @@ Or NAME=M, the moment of the input of this name, any number of times",
     }
 
     /// Which output is asked about, as an option.
-    pub(crate) fn output(&mut self) -> Result<(), AllocError>
+    pub(crate) fn output(&mut self, help: &'a str) -> Result<(), AllocError>
         ensures { OnOk result (TellsMore with_output self.old self.new) }
     {
-        self.option(
-            "output",
-            "NAME",
-            "The output, as the report of `sim` names it; the one that changes last where left out",
+        self.option("output", "NAME", help)
+    }
+
+    /// Whether it is asked which output changes last, as a flag.
+    pub(crate) fn outputs(&mut self) -> Result<(), AllocError>
+        ensures { OnOk result (TellsMore with_outputs self.old self.new) }
+    {
+        self.flag(
+            "outputs",
+            "After the other lines, which output changes last, the first of several: `output NAME`",
         )
     }
 
@@ -322,7 +328,8 @@ Of a vector the value is a number, as 8'hff. Any number of times",
         )
     }
 
-    /// Whether the chain of the given pair is asked for, and how far the search is, as flags.
+    /// Whether the chain of the given pair is asked for, how far the search is, and which output
+    /// changes last, as flags.
     pub(crate) fn reported(&mut self) -> Result<(), AllocError>
         ensures { OnOk result (TellsMore with_reported self.old self.new) }
     {
@@ -333,7 +340,8 @@ Of a vector the value is a number, as 8'hff. Any number of times",
         self.flag(
             "progress",
             "Writes to standard error how far the search is, each time that the nodes handled pass 1, 2, 5, 10, 20, .. thousand",
-        )
+        )?;
+        self.outputs()
     }
 
     /// The pairs that a search admits, as options.
@@ -406,6 +414,10 @@ certificates are of version 4. `refute` asks a solver which changes of nets are 
             MOST_NODES,
             "1000000",
             "The most nodes of trees of cubes that are handled, and the most conflicts that a solver meets",
+        )?;
+        self.count(
+            "seconds",
+            "Ends the search after this many seconds of the clock; the answer then lies between two figures",
         )?;
         self.certificate_out("Writes the certificate of an exact answer to this file")
     }

@@ -2,7 +2,7 @@
 
 ghost use Rattle.std.specs.Prelude.{◌<◌, ◌^◌, ℕ, codes, map, IfOk, IfErr, IfSome, IfNone};
 ghost use Rattle.clap.specs.Words.{found_of, rows_of, subcommand_rows_of, HasKind};
-ghost use Rattle.td_command.specs.CommandLine.{HasNumber, HasCount, HasFlag, HasStrategy, AsksQuestion, HasDefault, HasWorkers, HasBudget, HasParts, HasWords, CommandAsks, EnteredAsks, kinds_of, Asks, IsAnswered};
+ghost use Rattle.td_command.specs.CommandLine.{HasNumber, HasCount, HasFlag, HasStrategy, AsksQuestion, HasDefault, HasReading, HasWholeReading, AsksEffort, AsksBeside, HasWorkers, HasBudget, HasParts, HasWords, CommandAsks, EnteredAsks, kinds_of, Asks, IsAnswered};
 
 use crate::arguments::{MOST_NODES, MOST_PARTS, MOST_WORKERS};
 use crate::certificates::{Certificates, words_given};
@@ -11,6 +11,7 @@ use clap::{ArgMatches, Error};
 use std::alloc::{AllocError, Global};
 use std::convert::AsStr;
 use td_gates::Delay;
+use td_reading::Reading;
 
 /// The run of a pair of vectors.
 #[derive(Clone, Copy, Debug)]
@@ -22,8 +23,10 @@ pub struct SimRequest<'a> {
     pub at: Option<&'a str>,
     /// Where the waves of the run go.
     pub vcd: Option<&'a str>,
-    /// The delay of gates that state none.
-    pub default: Delay,
+    /// Whether it is asked which output changes last.
+    pub outputs: bool,
+    /// How the netlist's text is read.
+    pub reading: Reading<'a>,
 }
 
 /// Why an output changes last when it does, in the run of a pair of vectors.
@@ -36,8 +39,8 @@ pub struct PathRequest<'a> {
     pub at: Option<&'a str>,
     /// The output that is asked about; the one that changes last where there is none.
     pub output: Option<&'a str>,
-    /// The delay of gates that state none.
-    pub default: Delay,
+    /// How the netlist's text is read.
+    pub reading: Reading<'a>,
 }
 
 /// The bounds of a cube of pairs.
@@ -50,8 +53,8 @@ pub struct BoundRequest<'a> {
     pub at: Option<&'a str>,
     /// Whether the bounds by edges are asked for too.
     pub edges: bool,
-    /// The delay of gates that state none.
-    pub default: Delay,
+    /// How the netlist's text is read.
+    pub reading: Reading<'a>,
 }
 
 /// By which strategy a search goes.
@@ -87,6 +90,8 @@ pub struct WorstRequest<'a> {
     pub workers: u32,
     /// The most nodes that the search handles, at most 10,000,000.
     pub budget: u32,
+    /// After how many seconds of the clock the search ends; none where left out.
+    pub seconds: Option<u64>,
     /// Where the certificate of an exact answer goes.
     pub certificate: Option<&'a str>,
     /// Where the waves of the given pair's run go.
@@ -95,8 +100,10 @@ pub struct WorstRequest<'a> {
     pub path: bool,
     /// Whether the search reports on standard error how far it is.
     pub progress: bool,
-    /// The delay of gates that state none.
-    pub default: Delay,
+    /// Whether it is asked which output changes last under the given pair.
+    pub outputs: bool,
+    /// How the netlist's text is read.
+    pub reading: Reading<'a>,
 }
 
 /// The parts of a search's question.
@@ -106,8 +113,8 @@ pub struct PartsRequest<'a> {
     /// How many parts, from 1 to 65,536.
     pub parts: u32,
     pub question: QuestionWords<'a>,
-    /// The delay of gates that state none.
-    pub default: Delay,
+    /// How the netlist's text is read.
+    pub reading: Reading<'a>,
 }
 
 /// One certificate of those of a question's parts.
@@ -122,8 +129,8 @@ pub struct JoinRequest<'a> {
     pub check: bool,
     pub first: Option<&'a str>,
     pub second: Option<&'a str>,
-    /// The delay of gates that state none.
-    pub default: Delay,
+    /// How the netlist's text is read.
+    pub reading: Reading<'a>,
 }
 
 /// The verdict on a certificate.
@@ -131,16 +138,16 @@ pub struct JoinRequest<'a> {
 pub struct CheckRequest<'a> {
     pub file: &'a str,
     pub certificate: &'a str,
-    /// The delay of gates that state none.
-    pub default: Delay,
+    /// How the netlist's text is read.
+    pub reading: Reading<'a>,
 }
 
 /// What is in a netlist.
 #[derive(Clone, Copy, Debug)]
 pub struct InfoRequest<'a> {
     pub file: &'a str,
-    /// The delay of gates that state none.
-    pub default: Delay,
+    /// How the netlist's text is read.
+    pub reading: Reading<'a>,
 }
 
 /// What the words of a command line ask for.
@@ -201,20 +208,46 @@ fn default(matches: &ArgMatches<'_>) -> Option<Delay>
     Delay::new(rise, fall)
 }
 
+/// How the netlist's text is read, of all outputs.
+fn whole_reading<'a>(matches: &ArgMatches<'a>) -> Option<Reading<'a>>
+    ensures { IsAnswered (HasWholeReading (rows_of (found_of matches.now))) result }
+{
+    let default = default(matches)?;
+    Some(Reading {
+        default,
+        output: None,
+    })
+}
+
+/// How the netlist's text is read, of the output that is asked about.
+fn reading<'a>(matches: &ArgMatches<'a>) -> Option<Reading<'a>>
+    ensures { IsAnswered (HasReading (rows_of (found_of matches.now))) result }
+{
+    let default = default(matches)?;
+    Some(Reading {
+        default,
+        output: matches.get_str("output"),
+    })
+}
+
 fn sim_of<'a>(matches: &ArgMatches<'a>) -> Option<Request<'a>>
     ensures { IsAnswered (CommandAsks (codes "sim") (rows_of (found_of matches.now))) result }
 {
     let file = matches.get_str("FILE")?;
     let from = matches.get_str("FROM")?;
     let to = matches.get_str("TO")?;
-    let default = default(matches)?;
+    let outputs = flag_given(matches, "outputs")?;
+    let Some(reading) = whole_reading(matches) else {
+        return None;
+    };
     Some(Request::Sim(SimRequest {
         file,
         from,
         to,
         at: matches.get_str("at"),
         vcd: matches.get_str("vcd"),
-        default,
+        outputs,
+        reading,
     }))
 }
 
@@ -224,14 +257,16 @@ fn path_of<'a>(matches: &ArgMatches<'a>) -> Option<Request<'a>>
     let file = matches.get_str("FILE")?;
     let from = matches.get_str("FROM")?;
     let to = matches.get_str("TO")?;
-    let default = default(matches)?;
+    let Some(reading) = whole_reading(matches) else {
+        return None;
+    };
     Some(Request::Path(PathRequest {
         file,
         from,
         to,
         at: matches.get_str("at"),
         output: matches.get_str("output"),
-        default,
+        reading,
     }))
 }
 
@@ -240,14 +275,16 @@ fn bound_of<'a>(matches: &ArgMatches<'a>) -> Option<Request<'a>>
 {
     let file = matches.get_str("FILE")?;
     let edges = flag_given(matches, "edges")?;
-    let default = default(matches)?;
+    let Some(reading) = reading(matches) else {
+        return None;
+    };
     Some(Request::Bound(BoundRequest {
         file,
         first: matches.get_str("first"),
         second: matches.get_str("second"),
         at: matches.get_str("at"),
         edges,
-        default,
+        reading,
     }))
 }
 
@@ -304,23 +341,25 @@ fn question<'a>(matches: &ArgMatches<'a>) -> Option<QuestionWords<'a>>
     })
 }
 
-/// How many threads search, and the most nodes.
-fn effort(matches: &ArgMatches<'_>) -> Option<(u32, u32)>
-    ensures { IsAnswered (λ effort. HasWorkers (rows_of (found_of matches.now)) effort.0 × HasBudget (rows_of (found_of matches.now)) effort.1) result }
+/// How many threads search, the most nodes, and the seconds after which it ends.
+fn effort(matches: &ArgMatches<'_>) -> Option<(u32, u32, Option<u64>)>
+    ensures { IsAnswered (AsksEffort (rows_of (found_of matches.now))) result }
 {
     let workers = workers(matches)?;
     let budget = budget(matches)?;
-    Some((workers, budget))
+    let seconds = count(matches, "seconds")?;
+    Some((workers, budget, seconds))
 }
 
-/// What a search reports beside its answer: whether it shows the chain of the given pair, and
-/// whether it shows how far it is.
-fn reported(matches: &ArgMatches<'_>) -> Option<(bool, bool)>
-    ensures { IsAnswered (λ reported. HasFlag (codes "path") (rows_of (found_of matches.now)) reported.0 × HasFlag (codes "progress") (rows_of (found_of matches.now)) reported.1) result }
+/// What a search reports beside its answer: whether it shows the chain of the given pair, how far
+/// it is, and which output changes last.
+fn reported(matches: &ArgMatches<'_>) -> Option<(bool, bool, bool)>
+    ensures { IsAnswered (AsksBeside (rows_of (found_of matches.now))) result }
 {
     let path = flag_given(matches, "path")?;
     let progress = flag_given(matches, "progress")?;
-    Some((path, progress))
+    let outputs = flag_given(matches, "outputs")?;
+    Some((path, progress, outputs))
 }
 
 fn worst_of<'a>(matches: &ArgMatches<'a>) -> Option<Request<'a>>
@@ -328,19 +367,23 @@ fn worst_of<'a>(matches: &ArgMatches<'a>) -> Option<Request<'a>>
 {
     let file = matches.get_str("FILE")?;
     let question = question(matches)?;
-    let (workers, budget) = effort(matches)?;
-    let (path, progress) = reported(matches)?;
-    let default = default(matches)?;
+    let (workers, budget, seconds) = effort(matches)?;
+    let (path, progress, outputs) = reported(matches)?;
+    let Some(reading) = reading(matches) else {
+        return None;
+    };
     Some(Request::Worst(WorstRequest {
         file,
         question,
         workers,
         budget,
+        seconds,
         certificate: matches.get_str("cert"),
         vcd: matches.get_str("vcd"),
         path,
         progress,
-        default,
+        outputs,
+        reading,
     }))
 }
 
@@ -362,12 +405,14 @@ fn parts_of<'a>(matches: &ArgMatches<'a>) -> Option<Request<'a>>
     let file = matches.get_str("FILE")?;
     let parts = parts(matches)?;
     let question = question(matches)?;
-    let default = default(matches)?;
+    let Some(reading) = reading(matches) else {
+        return None;
+    };
     Some(Request::Parts(PartsRequest {
         file,
         parts,
         question,
-        default,
+        reading,
     }))
 }
 
@@ -378,7 +423,9 @@ fn joined<'a>(matches: &ArgMatches<'a>, certificates: Certificates<'a>) -> Optio
 {
     let file = matches.get_str("FILE")?;
     let check = flag_given(matches, "check")?;
-    let default = default(matches)?;
+    let Some(reading) = reading(matches) else {
+        return None;
+    };
     Some(Request::Join(JoinRequest {
         file,
         certificates,
@@ -386,7 +433,7 @@ fn joined<'a>(matches: &ArgMatches<'a>, certificates: Certificates<'a>) -> Optio
         check,
         first: matches.get_str("first"),
         second: matches.get_str("second"),
-        default,
+        reading,
     }))
 }
 
@@ -405,11 +452,13 @@ fn check_of<'a>(matches: &ArgMatches<'a>) -> Option<Request<'a>>
 {
     let file = matches.get_str("FILE")?;
     let certificate = matches.get_str("CERT")?;
-    let default = default(matches)?;
+    let Some(reading) = reading(matches) else {
+        return None;
+    };
     Some(Request::Check(CheckRequest {
         file,
         certificate,
-        default,
+        reading,
     }))
 }
 
@@ -417,8 +466,10 @@ fn info_of<'a>(matches: &ArgMatches<'a>) -> Option<Request<'a>>
     ensures { IsAnswered (CommandAsks (codes "info") (rows_of (found_of matches.now))) result }
 {
     let file = matches.get_str("FILE")?;
-    let default = default(matches)?;
-    Some(Request::Info(InfoRequest { file, default }))
+    let Some(reading) = whole_reading(matches) else {
+        return None;
+    };
+    Some(Request::Info(InfoRequest { file, reading }))
 }
 
 /// What the command of this name asks for.

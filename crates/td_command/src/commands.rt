@@ -7,8 +7,8 @@ ghost use Rattle.td_command.specs.Telling.{reported, offering, OffersMore, Offer
 
 use crate::arguments::Arguments;
 use crate::help::{
-    BOUND_HELP, CHECK_HELP, FREE_HELP, HELP, INFO_HELP, JOIN_HELP, PARTS_HELP, PATH_HELP, SIM_HELP,
-    VERSION, WHOLE_HELP, WORST_HELP,
+    BOUND_HELP, CHAIN_HELP, CHECK_HELP, FREE_HELP, HELP, INFO_HELP, JOIN_HELP, OUTPUT_HELP,
+    PARTS_HELP, PATH_HELP, SIM_HELP, VERSION, WHOLE_HELP, WORST_HELP,
 };
 use clap::Command;
 use std::alloc::{AllocError, Global};
@@ -66,6 +66,7 @@ impl<'a> Commands<'a> {
         arguments.pair()?;
         arguments.moments()?;
         arguments.vcd()?;
+        arguments.outputs()?;
         arguments.common()?;
         self.add(
             "sim",
@@ -81,7 +82,7 @@ impl<'a> Commands<'a> {
         let mut arguments = Arguments::new(self.alloc);
         arguments.pair()?;
         arguments.moments()?;
-        arguments.output()?;
+        arguments.output(CHAIN_HELP)?;
         arguments.common()?;
         self.add(
             "path",
@@ -99,6 +100,7 @@ impl<'a> Commands<'a> {
         arguments.cube(FREE_HELP)?;
         arguments.moments()?;
         arguments.edges()?;
+        arguments.output(OUTPUT_HELP)?;
         arguments.common()?;
         self.add(
             "bound",
@@ -115,6 +117,7 @@ impl<'a> Commands<'a> {
         arguments.searched(strategies)?;
         arguments.vcd()?;
         arguments.reported()?;
+        arguments.output(OUTPUT_HELP)?;
         arguments.common()?;
         self.add(
             "worst",
@@ -133,6 +136,7 @@ impl<'a> Commands<'a> {
         arguments.admitted()?;
         arguments.moments()?;
         arguments.strategy(strategies)?;
+        arguments.output(OUTPUT_HELP)?;
         arguments.common()?;
         self.add(
             "parts",
@@ -149,6 +153,7 @@ impl<'a> Commands<'a> {
         arguments.file()?;
         arguments.joined()?;
         arguments.cube(WHOLE_HELP)?;
+        arguments.output(OUTPUT_HELP)?;
         arguments.common()?;
         self.add(
             "join",
@@ -164,6 +169,7 @@ impl<'a> Commands<'a> {
         let mut arguments = Arguments::new(self.alloc);
         arguments.file()?;
         arguments.certificate()?;
+        arguments.output(OUTPUT_HELP)?;
         arguments.common()?;
         self.add(
             "check",

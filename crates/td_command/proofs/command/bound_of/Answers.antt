@@ -11,8 +11,8 @@ returns-in_err-file c = rw c.from_residual.ensures (only_bound (λ asked has.
 pub returns-in_err-edges : goal.returns-in_err-edges
 returns-in_err-edges c = rw c.from_residual-in_err-edges.ensures (only_bound (λ asked has. c.in_err-edges.ensures _ has.edges))
 
-pub returns-in_err-default : goal.returns-in_err-default
-returns-in_err-default c = rw c.from_residual-in_err-default.ensures (only_bound (λ asked has. c.in_err-default.ensures _ has.default))
+pub returns-in_default : goal.returns-in_default
+returns-in_default c = only_bound (λ asked has. c.in_default.ensures _ has.reading)
 
 pub returns : goal.returns
 returns c = (
@@ -23,6 +23,6 @@ returns c = (
     second = sym (c.get_str-3.ensures ∙ first_value-rows (found_of c.args.matches.now) (codes "second"));
     at = sym (c.get_str-4.ensures ∙ first_value-rows (found_of c.args.matches.now) (codes "at"));
     edges = c.in_ok-edges.ensures;
-    default = c.in_ok-default.ensures;
+    reading = c.in-Some.ensures;
   },
 )

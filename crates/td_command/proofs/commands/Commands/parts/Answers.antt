@@ -1,6 +1,6 @@
 use Rattle.std.proofs.Common.{◌∙◌, List, OnOk, ap, codes, subst}
 use Rattle.clap.specs.Words.{App, Rule, Shape, new_app, with_rule}
-use Rattle.td_command.specs.CommandLine.{needed, with_admitted, with_common, with_moments, with_parts, with_strategy}
+use Rattle.td_command.specs.CommandLine.{needed, with_admitted, with_common, with_moments, with_output, with_parts, with_strategy}
 use Rattle.td_command.specs.Telling.{reported, OffersCommand}
 use Rattle.td_command.proofs.commands.Commands.parts.Goals as goal
 
@@ -12,5 +12,6 @@ returns c =
     let admitted_is = c.in_ok-admitted.ensures bare ∙ ap with_admitted parts_is in
     let moments_is = c.in_ok-moments.ensures bare ∙ ap with_moments admitted_is in
     let strategy_is = c.in_ok-strategy.ensures bare ∙ ap (with_strategy c.args.strategies) moments_is in
-    let common_is = c.in_ok-common.ensures bare ∙ ap with_common strategy_is in
+    let output_is = c.in_ok-output.ensures bare ∙ ap with_output strategy_is in
+    let common_is = c.in_ok-common.ensures bare ∙ ap with_common output_is in
     subst (λ (shape : Shape). OnOk c.add.result (OffersCommand shape c.args.self.now c.add.new.self)) (ap (λ (app : App). app.top) common_is) c.add.ensures
