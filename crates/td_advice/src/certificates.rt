@@ -6,7 +6,7 @@ use td_certificate::{CertFaultKind, Certificate, read};
 use td_checker::{CheckFault, Verdict, check};
 use td_circuit::Circuit;
 use td_domain::{Cube, Trit};
-use td_gates::Delay;
+use td_reading::Reading;
 use td_join::{JoinFault, join, join_in};
 use td_report::hindrance::{first_place, name_at, second_place};
 use td_report::refusal::Refusal;
@@ -19,7 +19,7 @@ use td_report::vector::given;
 pub(crate) struct Judging<'a> {
     pub(crate) alloc: Global,
     pub(crate) netlist: NetlistText<'a>,
-    pub(crate) default: Delay,
+    pub(crate) reading: Reading<'a>,
     pub(crate) ended: Status,
 }
 
@@ -34,7 +34,7 @@ impl<'a> Judging<'a> {
         if let Status::Device = self.ended {
             return not_written(text);
         }
-        match check(self.alloc, self.netlist.bytes, self.default, bytes) {
+        match check(self.alloc, self.netlist.bytes, self.reading, bytes) {
             Ok(checked) => match checked.verdict {
                 Verdict::Accepted => Ok(()),
                 verdict => not_accepted(text, name, verdict),
@@ -51,7 +51,7 @@ impl<'a> Judging<'a> {
 pub(crate) struct Joining<'a> {
     pub(crate) alloc: Global,
     pub(crate) netlist: NetlistText<'a>,
-    pub(crate) default: Delay,
+    pub(crate) reading: Reading<'a>,
     pub(crate) circuit: &'a Circuit,
     pub(crate) is_checked: bool,
     pub(crate) first: Option<&'a str>,
@@ -66,7 +66,7 @@ impl<'a> Joining<'a> {
             Err(fault) => return Err(Refusal::BadPart(name, fault)),
         };
         if self.is_checked {
-            match check(self.alloc, self.netlist.bytes, self.default, bytes) {
+            match check(self.alloc, self.netlist.bytes, self.reading, bytes) {
                 Ok(checked) => match checked.verdict {
                     Verdict::Accepted => {}
                     verdict => return Err(Refusal::Unaccepted(name, verdict)),

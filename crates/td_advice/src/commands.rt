@@ -14,22 +14,22 @@ use td_command::{
 };
 use td_delivery::overwriting::overwriting;
 use td_files::{Files, ReadFault};
-use td_gates::Delay;
+use td_reading::Reading;
 use td_report::simulate::circuit;
 use td_report::status::Status;
 use td_report::text::Text;
 
-/// The file of a request, and the delay of gates that state none.
-fn netlist_of<'a>(request: &Request<'a>) -> (&'a str, Delay) {
+/// The file of a request, and how its text is read.
+fn netlist_of<'a>(request: &Request<'a>) -> (&'a str, Reading<'a>) {
     match request {
-        Request::Sim(request) => (request.file, request.default),
-        Request::Path(request) => (request.file, request.default),
-        Request::Bound(request) => (request.file, request.default),
-        Request::Worst(request) => (request.file, request.default),
-        Request::Parts(request) => (request.file, request.default),
-        Request::Join(request) => (request.file, request.default),
-        Request::Check(request) => (request.file, request.default),
-        Request::Info(request) => (request.file, request.default),
+        Request::Sim(request) => (request.file, request.reading),
+        Request::Path(request) => (request.file, request.reading),
+        Request::Bound(request) => (request.file, request.reading),
+        Request::Worst(request) => (request.file, request.reading),
+        Request::Parts(request) => (request.file, request.reading),
+        Request::Join(request) => (request.file, request.reading),
+        Request::Check(request) => (request.file, request.reading),
+        Request::Info(request) => (request.file, request.reading),
     }
 }
 
@@ -159,7 +159,7 @@ fn about_netlist<F: Files, R: Reasons>(
 ) -> Result<(), AllocError>
     ensures { files.new ≡ files.old }
 {
-    let (file, default) = netlist_of(request);
+    let (file, reading) = netlist_of(request);
     let Some(bytes) = bytes_of(alloc, text, files, reasons, file)? else {
         return Ok(());
     };
@@ -167,7 +167,7 @@ fn about_netlist<F: Files, R: Reasons>(
         file,
         bytes: bytes.as_slice(),
     };
-    let circuit = match circuit(alloc, netlist.bytes, default) {
+    let circuit = match circuit(alloc, netlist.bytes, reading) {
         Ok(circuit) => circuit,
         Err(refusal) => return explain(text, &netlist, &refusal),
     };
@@ -179,7 +179,7 @@ fn about_netlist<F: Files, R: Reasons>(
             let judging = Judging {
                 alloc,
                 netlist,
-                default,
+                reading,
                 ended,
             };
             about_certificate(text, request, &judging, files, reasons)
@@ -188,7 +188,7 @@ fn about_netlist<F: Files, R: Reasons>(
             let joining = Joining {
                 alloc,
                 netlist,
-                default,
+                reading,
                 circuit: &circuit,
                 is_checked: request.check,
                 first: request.first,

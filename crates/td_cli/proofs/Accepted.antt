@@ -2,7 +2,7 @@
 use Rattle.std.proofs.Common.{◌≡◌, ◌∙◌, ◌<◌, ◌≤◌, ◌^◌, ℕ, List, [], ◌++◌, codes, Some, sym, ap, subst, refl, arith, inl, inr, append_assoc}
 use Rattle.clap.specs.Words.{Row, Text}
 use Rattle.td_gates.proofs.Places.{some-same}
-use Rattle.td_gates.specs.declared.timing.Delay.{Delay}
+use Rattle.td_reading.specs.declared.reading.Reading.{Reading}
 use Rattle.td_certificate.specs.declared.certificate.Certificate.{Certificate}
 use Rattle.td_certificate.specs.Spelling.{version_in, question_text}
 use Rattle.td_checker.specs.declared.verdict.Verdict.{Verdict}
@@ -44,7 +44,7 @@ accepts (verdict.BadStep line flaw) certificate time rest fits fit same = absurd
 
 module _ (disk : Disk) (words : List Text) where
   checked : (asked : CheckRequest) → AskCheck words asked → (text spelled : List ℕ) → disk.holds asked.file.now text → disk.holds asked.certificate.now spelled
-      → (ending : Status) (shown report more : List ℕ) → IsCheckReport text asked.default spelled ending shown → report ++ more ≡ shown → IsTrueCheck disk words report
+      → (ending : Status) (shown report more : List ℕ) → IsCheckReport text asked.reading spelled ending shown → report ++ more ≡ shown → IsTrueCheck disk words report
   checked asked is text spelled held spelled_held ending shown report more it same time rest fits begins =
       let certificate = it.certificate in
       let whole : accepted_line time ++ (rest ++ more) ≡ verdict_text certificate it.verdict =

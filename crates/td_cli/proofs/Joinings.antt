@@ -5,7 +5,7 @@ use Rattle.std.specs.List.{AllZip}
 use Rattle.std.specs.Borrow.{Bor}
 use Rattle.std.proofs.lemmas.List.{take_more, take_all}
 use Rattle.std.proofs.lemmas.List.Elements.{All-cons}
-use Rattle.td_gates.specs.declared.timing.Delay.{Delay}
+use Rattle.td_reading.specs.declared.reading.Reading.{Reading}
 use Rattle.td_nets.specs.Netlist.{Netlist}
 use Rattle.td_circuit.specs.Numbering.{Numbered}
 use Rattle.td_domain.specs.declared.cubes.Trit.{Trit}
@@ -59,32 +59,32 @@ zip_mapped f R (a ∷ xs) (b ∷ ys) all = (all.0, zip_mapped f R xs ys all.1)
 -- ---- the parts
 
 -- a fault of a part's text
-pub bad_part : (text : List ℕ) (default : Delay) (netlist : Netlist) (check : Bool) (name : Bor (List ℕ)) (read : List ℕ) (fault : CertFault) (reason : Refusal)
-    → IsFault fault.kind fault.line read → IsOfPart name fault reason → TellsNoPart text default netlist check name.now read reason
-bad_part text default netlist check name read fault reason is (inl memory) =
-    subst (λ (r : Refusal). TellsNoPart text default netlist check name.now read r) (sym memory) tt
-bad_part text default netlist check name read fault reason is (inr reported) =
-    subst (λ (r : Refusal). TellsNoPart text default netlist check name.now read r) (sym reported.1) (reported.0, refl, is)
+pub bad_part : (text : List ℕ) (reading : Reading) (netlist : Netlist) (check : Bool) (name : Bor (List ℕ)) (read : List ℕ) (fault : CertFault) (reason : Refusal)
+    → IsFault fault.kind fault.line read → IsOfPart name fault reason → TellsNoPart text reading netlist check name.now read reason
+bad_part text reading netlist check name read fault reason is (inl memory) =
+    subst (λ (r : Refusal). TellsNoPart text reading netlist check name.now read r) (sym memory) tt
+bad_part text reading netlist check name read fault reason is (inr reported) =
+    subst (λ (r : Refusal). TellsNoPart text reading netlist check name.now read r) (sym reported.1) (reported.0, refl, is)
 
 -- why a certificate wasn't judged
-pub not_judged : (text : List ℕ) (default : Delay) (netlist : Netlist) (checked : Bool) (name : Bor (List ℕ)) (read : List ℕ) (fault : CheckFault)
-    → IsCheckFault text default read fault → TellsNoPart text default netlist checked name.now read (unjudged name fault)
-not_judged text default netlist checked name read check.OutOfMemory is = tt
-not_judged text default netlist checked name read (check.Netlist reported) is = record { reported = is.0; means_none = is.1; has = is.2 }
-not_judged text default netlist checked name read (check.Loop net) is = is
-not_judged text default netlist checked name read (check.Certificate reported) is = (is.2, refl, is.3)
+pub not_judged : (text : List ℕ) (reading : Reading) (netlist : Netlist) (checked : Bool) (name : Bor (List ℕ)) (read : List ℕ) (fault : CheckFault)
+    → IsCheckFault text reading read fault → TellsNoPart text reading netlist checked name.now read (unjudged name fault)
+not_judged text reading netlist checked name read check.OutOfMemory is = tt
+not_judged text reading netlist checked name read (check.Netlist reported) is = record { reported = is.0; means_none = is.1; has = is.2 }
+not_judged text reading netlist checked name read (check.Loop net) is = is
+not_judged text reading netlist checked name read (check.Certificate reported) is = (is.2, refl, is.3)
 
-module _ (disk : Disk) (text : List ℕ) (default : Delay) (netlist : Netlist) (check : Bool) where
+module _ (disk : Disk) (text : List ℕ) (reading : Reading) (netlist : Netlist) (check : Bool) where
   -- all files were read
   pub parts_read : (words : List (Bor (List ℕ))) (parts : List Certificate) (i : ℕ) → length words ≤ i
-      → AllZip (λ (word : Bor (List ℕ)) (part : Certificate). GivesPart disk text default netlist check word.now part) (take i words) parts
-      → AreParts disk text default netlist check (map now_of words) parts
+      → AllZip (λ (word : Bor (List ℕ)) (part : Certificate). GivesPart disk text reading netlist check word.now part) (take i words) parts
+      → AreParts disk text reading netlist check (map now_of words) parts
   parts_read words parts i past all =
-      zip_mapped now_of (GivesPart disk text default netlist check) words parts
-      (zip_all (λ (word : Bor (List ℕ)) (part : Certificate). GivesPart disk text default netlist check word.now part) words parts i past all)
+      zip_mapped now_of (GivesPart disk text reading netlist check) words parts
+      (zip_all (λ (word : Bor (List ℕ)) (part : Certificate). GivesPart disk text reading netlist check word.now part) words parts i past all)
 
   -- parts have texts
-  pub parts_spelled : (names : List (List ℕ)) (parts : List Certificate) → AreParts disk text default netlist check names parts → All HasSpelling parts
+  pub parts_spelled : (names : List (List ℕ)) (parts : List Certificate) → AreParts disk text reading netlist check names parts → All HasSpelling parts
   parts_spelled [] [] all = λ k d less. absurd (omega (arith, less))
   parts_spelled [] (p ∷ parts) all = absurd all
   parts_spelled (n ∷ names) [] all = absurd all
@@ -92,17 +92,17 @@ module _ (disk : Disk) (text : List ℕ) (default : Delay) (netlist : Netlist) (
       All-cons HasSpelling p parts (all.0.2.spells.has) (parts_spelled names parts all.1)
 
 -- the file of one word tells no part
-pub no_part : (disk : Disk) (text : List ℕ) (default : Delay) (netlist : Netlist) (check : Bool) (words : List (Bor (List ℕ))) (i : ℕ) (d : Bor (List ℕ)) (reason : Refusal)
-    → i < length words → HoldsOnFile disk (get_or words i d).now (TellsNoPart text default netlist check (get_or words i d).now) reason
-    → HasNoPart disk text default netlist check (map now_of words) reason
-no_part disk text default netlist check words i d reason less holds = ((get_or words i d).now, contains_word words i d less, holds)
+pub no_part : (disk : Disk) (text : List ℕ) (reading : Reading) (netlist : Netlist) (check : Bool) (words : List (Bor (List ℕ))) (i : ℕ) (d : Bor (List ℕ)) (reason : Refusal)
+    → i < length words → HoldsOnFile disk (get_or words i d).now (TellsNoPart text reading netlist check (get_or words i d).now) reason
+    → HasNoPart disk text reading netlist check (map now_of words) reason
+no_part disk text reading netlist check words i d reason less holds = ((get_or words i d).now, contains_word words i d less, holds)
 
 -- ---- what is joined
 
 -- what is to be joined
 pub to_join : (disk : Disk) (text : List ℕ) (asked : JoinRequest) (circuit : Numbered) (count : ℕ) (parts : List Certificate) (given : Option (List Trit))
-    → IsCircuitOf text asked.default circuit → count ≡ length circuit.netlist.inputs
-    → AreParts disk text asked.default circuit.netlist asked.check asked.certificates parts
+    → IsCircuitOf text asked.reading circuit → count ≡ length circuit.netlist.inputs
+    → AreParts disk text asked.reading circuit.netlist asked.check asked.certificates parts
     → ArePinned count (words_of asked.first) (words_of asked.second) given
     → IsToJoin disk text asked circuit.netlist parts (whole_pins given parts)
 to_join disk text asked circuit count parts given is counts are pinned = record {
@@ -114,12 +114,12 @@ to_join disk text asked circuit count parts given is counts are pinned = record 
 }
 
 -- without parts no pair is admitted
-pub no_parts : (text : List ℕ) (default : Delay) (words : QuestionWords) (asked : Problem) (cubes : List (List Trit)) (reason : Refusal)
-    → IsAsked text default words asked → IsPartition asked.admit cubes → (reason ≡ refusal.OutOfMemory) ⊎ ((reason ≡ refusal.NoPair) × (length cubes ≡ 0))
-    → HasNoAnswer text default words reason
-no_parts text default words asked cubes reason is partition (inl memory) = subst (λ (r : Refusal). HasNoAnswer text default words r) (sym memory) tt
-no_parts text default words asked cubes reason is partition (inr none) =
-    subst (λ (r : Refusal). HasNoAnswer text default words r) (sym none.0) (
+pub no_parts : (text : List ℕ) (reading : Reading) (words : QuestionWords) (asked : Problem) (cubes : List (List Trit)) (reason : Refusal)
+    → IsAsked text reading words asked → IsPartition asked.admit cubes → (reason ≡ refusal.OutOfMemory) ⊎ ((reason ≡ refusal.NoPair) × (length cubes ≡ 0))
+    → HasNoAnswer text reading words reason
+no_parts text reading words asked cubes reason is partition (inl memory) = subst (λ (r : Refusal). HasNoAnswer text reading words r) (sym memory) tt
+no_parts text reading words asked cubes reason is partition (inr none) =
+    subst (λ (r : Refusal). HasNoAnswer text reading words r) (sym none.0) (
       asked,
       is,
       λ pair admitted.

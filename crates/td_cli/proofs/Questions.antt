@@ -2,7 +2,7 @@
 use Rattle.std.proofs.Common.{◌≡◌, ◌∙◌, ℕ, suc, ◌≤◌, Bool, List, [], ◌∷◌, ◌++◌, length, arith, refl, sym, ap, subst, inl, inr}
 use Rattle.std.proofs.lemmas.List.{length-map}
 use Rattle.std.specs.Prelude.{Option, None, Some, IfSome}
-use Rattle.td_gates.specs.declared.timing.Delay.{Delay}
+use Rattle.td_reading.specs.declared.reading.Reading.{Reading}
 use Rattle.td_gates.specs.declared.primitives.Level.{Level}
 use Rattle.td_gates.specs.Table.{level_from}
 use Rattle.td_nets.specs.Netlist.{Name, Named}
@@ -40,33 +40,33 @@ first_bad_more count (given ∷ others) more word (inl bad) = inl bad
 first_bad_more count (given ∷ others) more word (inr (gives, bad)) = inr (gives, first_bad_more count others more word bad)
 
 -- a word that says which pairs are admitted gives nothing
-pub bad_pair_word : (text : List ℕ) (default : Delay) (circuit : Numbered) (count : ℕ) (words : QuestionWords) (word : VectorWord)
-    → IsCircuitOf text default circuit → count ≡ length circuit.netlist.inputs → IsFirstBad count (pair_words words) word
-    → HasBadWord text default (question_words words) word
-bad_pair_word text default circuit count words word is counts bad =
-    bad_word text default circuit count (question_words words) word is counts (first_bad_more count (pair_words words) ((At, GivesMoments (words_of words.at)) ∷ []) word bad)
+pub bad_pair_word : (text : List ℕ) (reading : Reading) (circuit : Numbered) (count : ℕ) (words : QuestionWords) (word : VectorWord)
+    → IsCircuitOf text reading circuit → count ≡ length circuit.netlist.inputs → IsFirstBad count (pair_words words) word
+    → HasBadWord text reading (question_words words) word
+bad_pair_word text reading circuit count words word is counts bad =
+    bad_word text reading circuit count (question_words words) word is counts (first_bad_more count (pair_words words) ((At, GivesMoments (words_of words.at)) ∷ []) word bad)
 
 -- the word of the moments gives nothing
-pub bad_moments : (text : List ℕ) (default : Delay) (circuit : Numbered) (count : ℕ) (words : QuestionWords) (admit : Admitted)
-    → IsCircuitOf text default circuit → count ≡ length circuit.netlist.inputs → WordsAdmit count words admit
-    → ((moments : List ℕ) → ¬ AreMomentsOf count (words_of words.at) moments) → HasBadWord text default (question_words words) At
-bad_moments text default circuit count words admit is counts admits none =
-    bad_word text default circuit count (question_words words) At is counts
+pub bad_moments : (text : List ℕ) (reading : Reading) (circuit : Numbered) (count : ℕ) (words : QuestionWords) (admit : Admitted)
+    → IsCircuitOf text reading circuit → count ≡ length circuit.netlist.inputs → WordsAdmit count words admit
+    → ((moments : List ℕ) → ¬ AreMomentsOf count (words_of words.at) moments) → HasBadWord text reading (question_words words) At
+bad_moments text reading circuit count words admit is counts admits none =
+    bad_word text reading circuit count (question_words words) At is counts
     (inr ((admits.firsts, admits.first_is), inr ((admits.seconds, admits.second_is), inr ((admit.held, admits.held), inl (refl, λ given. none given.0 given.1)))))
 
-pub is_asked : (text : List ℕ) (default : Delay) (words : QuestionWords) (circuit timed : Numbered) (count : ℕ) (admit : Admitted) (moments : List ℕ)
-    → IsCircuitOf text default circuit → count ≡ length circuit.netlist.inputs → WordsAdmit count words admit
-    → AreMomentsOf count (words_of words.at) moments → timed ≡ with_moments circuit moments → IsAsked text default words (problem_by (tree_of (strategy_of words.strategy)) timed admit)
-is_asked text default words circuit timed count admit moments is counts admits are timed_is =
-    subst (λ timed. IsAsked text default words (problem_by (tree_of (strategy_of words.strategy)) timed admit)) (sym timed_is) (record {
+pub is_asked : (text : List ℕ) (reading : Reading) (words : QuestionWords) (circuit timed : Numbered) (count : ℕ) (admit : Admitted) (moments : List ℕ)
+    → IsCircuitOf text reading circuit → count ≡ length circuit.netlist.inputs → WordsAdmit count words admit
+    → AreMomentsOf count (words_of words.at) moments → timed ≡ with_moments circuit moments → IsAsked text reading words (problem_by (tree_of (strategy_of words.strategy)) timed admit)
+is_asked text reading words circuit timed count admit moments is counts admits are timed_is =
+    subst (λ timed. IsAsked text reading words (problem_by (tree_of (strategy_of words.strategy)) timed admit)) (sym timed_is) (record {
       is_setting = record { means = is.means; acyclic = is.acyclic; moments = subst (λ count. AreMomentsOf count (words_of words.at) moments) counts are };
       admits = subst (λ count. WordsAdmit count words admit) counts admits;
       strategy = refl;
     })
 
-module _ (text : List ℕ) (default : Delay) (words : QuestionWords) where
+module _ (text : List ℕ) (reading : Reading) (words : QuestionWords) where
   -- the pairs are of the circuit's inputs
-  pub asked_held : (asked : Problem) → IsAsked text default words asked → length asked.admit.held ≡ length asked.setting.netlist.inputs
+  pub asked_held : (asked : Problem) → IsAsked text reading words asked → length asked.admit.held ≡ length asked.setting.netlist.inputs
   asked_held asked is = given-length _ _ _ _ _ is.admits.held
 
   within_inputs : (inputs : ℕ) (flips : Option ℕ) → most_flips inputs flips ≤ inputs
@@ -74,12 +74,12 @@ module _ (text : List ℕ) (default : Delay) (words : QuestionWords) where
   within_inputs inputs (Some flips) = omega arith
 
   -- no more flips are admitted than there are inputs
-  pub asked_flips : (asked : Problem) → IsAsked text default words asked → asked.admit.flips ≤ length asked.admit.held
+  pub asked_flips : (asked : Problem) → IsAsked text reading words asked → asked.admit.flips ≤ length asked.admit.held
   asked_flips asked is = omega (arith, asked_held asked is, is.admits.flips, within_inputs (length asked.setting.netlist.inputs) words.flips)
 
   -- a search of what is asked has no answer
-  pub no_answer : (asked : Problem) (fault : SearchFault) → IsAsked text default words asked → IsSearchFault asked fault
-      → HasNoAnswer text default words (unanswered fault)
+  pub no_answer : (asked : Problem) (fault : SearchFault) → IsAsked text reading words asked → IsSearchFault asked fault
+      → HasNoAnswer text reading words (unanswered fault)
   no_answer asked search.OutOfMemory is fits = tt
   no_answer asked search.NoPair is none = (asked, is, λ pair admitted. none (pair, admitted, admitted.pinned))
 

@@ -1,7 +1,7 @@
 -- What `join` prints, and why it joins nothing.
 use Rattle.std.specs.Prelude.{◌≡◌, ◌≢◌, ◌<◌, ◌≤◌, ℕ, Bool, true, List, [], ◌∷◌, All, length, get_or, ◌⊎◌, Option, Some, None}
 use Rattle.std.specs.List.{AllZip, Contains}
-use Rattle.td_gates.specs.declared.timing.Delay.{Delay}
+use Rattle.td_reading.specs.declared.reading.Reading.{Reading}
 use Rattle.td_nets.specs.Netlist.{Netlist}
 use Rattle.td_domain.specs.declared.cubes.Trit.{Trit}
 use Rattle.td_certificate.specs.declared.certificate.Certificate.{Certificate}
@@ -10,7 +10,8 @@ use Rattle.td_certificate.specs.declared.fault.CertFaultKind.TheVariants as cert
 use Rattle.td_certificate.specs.Faults.{IsFault}
 use Rattle.td_certificate.specs.Spelling.{Spells, HasSpelling}
 use Rattle.td_checker.specs.declared.verdict.Verdict.TheVariants.{Accepted}
-use Rattle.td_checker.specs.Checks.{HasCircuit, HaveVerdict}
+use Rattle.td_source.specs.Reads.{HasCircuit}
+use Rattle.td_checker.specs.Checks.{HaveVerdict}
 use Rattle.td_join.specs.declared.fault.JoinFault.TheVariants as fault
 use Rattle.td_join.specs.Joining.{IsJoined, hull}
 use Rattle.td_join.specs.Faults.{IsJoinFault}
@@ -50,42 +51,42 @@ whole_pins (Some pins) parts = pins
 
 -- For a netlist, a file's bytes spell this certificate, which is of a circuit of its size, and
 -- accepted where that is asked for.
-pub record TellsPart (text : List ℕ) (default : Delay) (netlist : Netlist) (check : Bool) (read : List ℕ) (part : Certificate) : Type 0 where
+pub record TellsPart (text : List ℕ) (reading : Reading) (netlist : Netlist) (check : Bool) (read : List ℕ) (part : Certificate) : Type 0 where
   pub spells : Spells part read
   pub sized : IsOfSize netlist part
-  pub accepted : check ≡ true → HaveVerdict text default read Accepted
+  pub accepted : check ≡ true → HaveVerdict text reading read Accepted
 
 -- why a file's bytes give no part, another verdict only where parts are checked; the refusal names
 -- the file
-abbrev pub TellsNoPart : List ℕ → Delay → Netlist → Bool → List ℕ → List ℕ → Refusal → Type 0
-TellsNoPart text default netlist check name read (refusal.BadPart reported fault) =
+abbrev pub TellsNoPart : List ℕ → Reading → Netlist → Bool → List ℕ → List ℕ → Refusal → Type 0
+TellsNoPart text reading netlist check name read (refusal.BadPart reported fault) =
     (fault.kind ≢ certificate_kind.OutOfMemory) × (reported.now ≡ name) × IsFault fault.kind fault.line read
-TellsNoPart text default netlist check name read (refusal.Unaccepted reported verdict) =
-    (check ≡ true) × (reported.now ≡ name) × (verdict ≢ Accepted) × HaveVerdict text default read verdict
-TellsNoPart text default netlist check name read (refusal.OtherCircuit reported) =
+TellsNoPart text reading netlist check name read (refusal.Unaccepted reported verdict) =
+    (check ≡ true) × (reported.now ≡ name) × (verdict ≢ Accepted) × HaveVerdict text reading read verdict
+TellsNoPart text reading netlist check name read (refusal.OtherCircuit reported) =
     (reported.now ≡ name) × (part : Certificate) × Spells part read × ¬ IsOfSize netlist part
-TellsNoPart text default netlist check name read other = HasNoCircuit text default other
+TellsNoPart text reading netlist check name read other = HasNoCircuit text reading other
 
 -- the file of this name was read as this part
-abbrev pub GivesPart : Disk → List ℕ → Delay → Netlist → Bool → List ℕ → Certificate → Type 0
-GivesPart disk text default netlist check name part = Reads disk name (λ read. TellsPart text default netlist check read part)
+abbrev pub GivesPart : Disk → List ℕ → Reading → Netlist → Bool → List ℕ → Certificate → Type 0
+GivesPart disk text reading netlist check name part = Reads disk name (λ read. TellsPart text reading netlist check read part)
 
 -- the files of these names were read as these parts, in order
-abbrev pub AreParts : Disk → List ℕ → Delay → Netlist → Bool → List (List ℕ) → List Certificate → Type 0
-AreParts disk text default netlist check names parts = AllZip (GivesPart disk text default netlist check) names parts
+abbrev pub AreParts : Disk → List ℕ → Reading → Netlist → Bool → List (List ℕ) → List Certificate → Type 0
+AreParts disk text reading netlist check names parts = AllZip (GivesPart disk text reading netlist check) names parts
 
 -- a file of these names can't be read, or tells no part
-abbrev pub HasNoPart : Disk → List ℕ → Delay → Netlist → Bool → List (List ℕ) → Refusal → Type 0
-HasNoPart disk text default netlist check names reason =
-    (name : List ℕ) × Contains names name × HoldsOnFile disk name (TellsNoPart text default netlist check name) reason
+abbrev pub HasNoPart : Disk → List ℕ → Reading → Netlist → Bool → List (List ℕ) → Refusal → Type 0
+HasNoPart disk text reading netlist check names reason =
+    (name : List ℕ) × Contains names name × HoldsOnFile disk name (TellsNoPart text reading netlist check name) reason
 
 -- ---- what is joined
 
 -- the text means a netlist without a loop, the files hold parts of a question about it, and the
 -- options give the pins of the whole
 pub record IsToJoin (disk : Disk) (text : List ℕ) (request : JoinRequest) (netlist : Netlist) (parts : List Certificate) (pins : List Trit) : Type 0 where
-  pub circuit : HasCircuit text request.default netlist
-  pub are_parts : AreParts disk text request.default netlist request.check request.certificates parts
+  pub circuit : HasCircuit text request.reading netlist
+  pub are_parts : AreParts disk text request.reading netlist request.check request.certificates parts
   pub given : Option (List Trit)
   pub pinned : ArePinned (length netlist.inputs) (words_of request.first) (words_of request.second) given
   pub pins_are : pins ≡ whole_pins given parts
@@ -131,7 +132,7 @@ pub record IsNotJoined (disk : Disk) (text : List ℕ) (request : JoinRequest) (
 -- parts aren't joined
 abbrev pub HasNoJoin : Disk → List ℕ → JoinRequest → Refusal → Type 0
 HasNoJoin disk text request reason =
-    IsRefusedFor text request.default (pin_words (words_of request.first) (words_of request.second)) reason
-    ⊎ (((netlist : Netlist) × HasCircuit text request.default netlist
-    × HasNoPart disk text request.default netlist request.check request.certificates reason)
+    IsRefusedFor text request.reading (pin_words (words_of request.first) (words_of request.second)) reason
+    ⊎ (((netlist : Netlist) × HasCircuit text request.reading netlist
+    × HasNoPart disk text request.reading netlist request.check request.certificates reason)
     ⊎ IsNotJoined disk text request reason)

@@ -1,6 +1,6 @@
 -- When a search is refused, and why.
 use Rattle.std.specs.Prelude.{ℕ, List, [], ◌∷◌, ◌++◌}
-use Rattle.td_gates.specs.declared.timing.Delay.{Delay}
+use Rattle.td_reading.specs.declared.reading.Reading.{Reading}
 use Rattle.td_report.specs.declared.vector.VectorWord.TheVariants as vector
 use Rattle.td_command.specs.declared.command.QuestionWords.{QuestionWords}
 use Rattle.td_report.specs.declared.refusal.Refusal.{Refusal}
@@ -20,8 +20,8 @@ abbrev pub question_words : QuestionWords → VectorWords
 question_words words = pair_words words ++ (vector.At, GivesMoments (words_of words.at)) ∷ []
 
 -- the words ask for a worst delay, and admit no pair
-abbrev pub AdmitsNone : List ℕ → Delay → QuestionWords → Type 0
-AdmitsNone text default words = (asked : Problem) × IsAsked text default words asked × ((pair : Pair) → ¬ IsAdmitted asked.admit pair)
+abbrev pub AdmitsNone : List ℕ → Reading → QuestionWords → Type 0
+AdmitsNone text reading words = (asked : Problem) × IsAsked text reading words asked × ((pair : Pair) → ¬ IsAdmitted asked.admit pair)
 
 -- the reason that tells a fault of a search
 abbrev pub unanswered : SearchFault → Refusal
@@ -29,6 +29,6 @@ unanswered search.OutOfMemory = refusal.OutOfMemory
 unanswered search.NoPair = refusal.NoPair
 
 -- why a search has no answer
-abbrev pub HasNoAnswer : List ℕ → Delay → QuestionWords → Refusal → Type 0
-HasNoAnswer text default words refusal.NoPair = AdmitsNone text default words
-HasNoAnswer text default words other = IsRefusedFor text default (question_words words) other
+abbrev pub HasNoAnswer : List ℕ → Reading → QuestionWords → Refusal → Type 0
+HasNoAnswer text reading words refusal.NoPair = AdmitsNone text reading words
+HasNoAnswer text reading words other = IsRefusedFor text reading (question_words words) other

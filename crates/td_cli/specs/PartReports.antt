@@ -1,7 +1,8 @@
 -- What `parts` prints.
 use Rattle.std.specs.Prelude.{◌≡◌, ◌<◌, ◌≤◌, ◌==◌, ℕ, List, [], ◌++◌, if◌then◌else◌, All, codes, decimal, length, Option, Some, None}
 use Rattle.std.specs.List.{flat_map}
-use Rattle.td_gates.specs.declared.timing.Delay.{Delay}
+use Rattle.td_reading.specs.declared.reading.Reading.{Reading}
+use Rattle.td_reading.specs.Outputs.{output_asked}
 use Rattle.td_domain.specs.declared.cubes.Trit.{Trit}
 use Rattle.td_domain.specs.Admits.{HasAdmitted}
 use Rattle.td_search.specs.Problems.{Problem, IsPart}
@@ -34,10 +35,11 @@ part_options words pins =
     pins_text pins ++ option_text (codes " --hold ") (words_of words.hold) ++ flips_text words.flips
     ++ option_text (codes " --at ") (words_of words.at)
 
--- its line: after these the delays of gates that state none
-abbrev pub part_line : Delay → QuestionWords → List Trit → List ℕ
-part_line default words pins =
-    part_options words pins ++ default_text (codes " --default-rise ") default.rise ++ default_text (codes " --default-fall ") default.fall ++ newline
+-- its line: after these how the netlist's text is read
+abbrev pub part_line : Reading → QuestionWords → List Trit → List ℕ
+part_line reading words pins =
+    part_options words pins ++ default_text (codes " --default-rise ") reading.default.rise
+    ++ default_text (codes " --default-fall ") reading.default.fall ++ option_text (codes " --output ") (output_asked reading) ++ newline
 
 -- The report has a line for each cube. There are at most as many cubes as parts are asked for, at
 -- least one, and fewer only where a search would split none of them. They share out the admitted
@@ -45,7 +47,7 @@ part_line default words pins =
 -- one. No cube has a pair that isn't one of the pins.
 pub record IsPartsReport (text : List ℕ) (request : PartsRequest) (report : List ℕ) : Type 0 where
   pub asked : Problem
-  pub is_asked : IsAsked text request.default request.question asked
+  pub is_asked : IsAsked text request.reading request.question asked
   pub cubes : List (List Trit)
   pub partition : IsPartition asked.admit cubes
   pub any : 0 < length cubes
@@ -53,4 +55,4 @@ pub record IsPartsReport (text : List ℕ) (request : PartsRequest) (report : Li
   pub enough : length cubes < request.parts → All (IsWhole asked.strategy asked.setting) cubes
   pub some : All (HasAdmitted asked.admit) cubes
   pub inside : All (λ cube. IsPart cube asked.admit.pins) cubes
-  pub is : report ≡ flat_map (part_line request.default request.question) cubes
+  pub is : report ≡ flat_map (part_line request.reading request.question) cubes

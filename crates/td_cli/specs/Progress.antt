@@ -1,7 +1,7 @@
 -- What a program writes of a search while it goes on.
 use Rattle.std.specs.Prelude.{◌≡◌, ℕ, Bool, true, false, List, [], ◌∷◌, ◌++◌, ◌⊎◌, codes, decimal}
 use Rattle.td_text.specs.Output.{Output}
-use Rattle.td_gates.specs.declared.timing.Delay.{Delay}
+use Rattle.td_reading.specs.declared.reading.Reading.{Reading}
 use Rattle.td_search.specs.Problems.{Problem}
 use Rattle.td_pool.specs.declared.watch.Progress.{Progress}
 use Rattle.td_pool.specs.Watched.{IsTrueProgress}
@@ -29,7 +29,7 @@ TellsProgress asked old new = (reported : List Progress) × TellsLines asked rep
 
 -- what standard error gets while a search goes on: lines of progress where they are asked for, and
 -- else nothing
-abbrev pub TellsSearch : Bool → List ℕ → Delay → QuestionWords → Output → Output → Type 0
-TellsSearch false text default words old new = new ≡ old
-TellsSearch true text default words old new =
-    (new ≡ old) ⊎ ((asked : Problem) × IsAsked text default words asked × TellsProgress asked old new)
+abbrev pub TellsSearch : Bool → List ℕ → Reading → QuestionWords → Output → Output → Type 0
+TellsSearch false text reading words old new = new ≡ old
+TellsSearch true text reading words old new =
+    (new ≡ old) ⊎ ((asked : Problem) × IsAsked text reading words asked × TellsProgress asked old new)

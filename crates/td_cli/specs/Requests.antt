@@ -2,7 +2,7 @@
 use Rattle.std.specs.Prelude.{◌≡◌, ℕ, Bool, true, false, List, [], ◌++◌, ◌⊎◌, Option, Some, None, codes}
 use Rattle.clap.specs.Words.{IsAmong}
 use Rattle.clap.specs.declared.error.kind.ErrorKind.{ErrorKind}
-use Rattle.td_gates.specs.declared.timing.Delay.{Delay}
+use Rattle.td_reading.specs.declared.reading.Reading.{Reading}
 use Rattle.td_text.specs.Output.{Output}
 use Rattle.td_certificate.specs.declared.certificate.Certificate.{Certificate}
 use Rattle.td_report.specs.declared.status.Status.{Status}
@@ -46,32 +46,32 @@ use Rattle.td_delivery.specs.Shown.{TellsText, IsOutOfMemory}
 -- what `sim` says
 pub record IsSimProduct (text : List ℕ) (asked : SimRequest) (product : Product) : Type 0 where
   pub report : List ℕ
-  pub is : IsSimReport text asked.default asked.from.now asked.to.now (words_of asked.at) (words_of asked.vcd) report product.files
+  pub is : IsSimReport text asked.reading asked.from.now asked.to.now (words_of asked.at) (words_of asked.vcd) report product.files
   pub shown : IsBeside product.files report product.report
   pub ends : product.ending ≡ Done
 
 -- what `path` says
 abbrev pub IsPathProduct : List ℕ → PathRequest → Product → Type 0
 IsPathProduct text asked =
-    IsReportOnly (IsPathReport text asked.default asked.from.now asked.to.now (words_of asked.at) (words_of asked.output)) Done
+    IsReportOnly (IsPathReport text asked.reading asked.from.now asked.to.now (words_of asked.at) (words_of asked.output)) Done
 
 -- what `bound` says
 abbrev pub IsBoundProduct : List ℕ → BoundRequest → Product → Type 0
 IsBoundProduct text asked =
-    IsReportOnly (IsBoundReport text asked.default (words_of asked.first) (words_of asked.second) (words_of asked.at) asked.edges) Done
+    IsReportOnly (IsBoundReport text asked.reading (words_of asked.first) (words_of asked.second) (words_of asked.at) asked.edges) Done
 
 -- what `check` says
-abbrev pub IsCheckProduct : List ℕ → Delay → List ℕ → Product → Type 0
-IsCheckProduct text default certificate product =
-    IsReportOnly (IsCheckReport text default certificate product.ending) product.ending product
+abbrev pub IsCheckProduct : List ℕ → Reading → List ℕ → Product → Type 0
+IsCheckProduct text reading certificate product =
+    IsReportOnly (IsCheckReport text reading certificate product.ending) product.ending product
 
 -- what `parts` says
 abbrev pub IsPartsProduct : List ℕ → PartsRequest → Product → Type 0
 IsPartsProduct text asked = IsReportOnly (IsPartsReport text asked) Done
 
 -- what `info` says
-abbrev pub IsInfoProduct : List ℕ → Delay → Product → Type 0
-IsInfoProduct text default = IsReportOnly (IsInfoReport text default) Done
+abbrev pub IsInfoProduct : List ℕ → Reading → Product → Type 0
+IsInfoProduct text reading = IsReportOnly (IsInfoReport text reading) Done
 
 -- a search with an exact answer ends so
 abbrev pub search_ending : Option Certificate → Status
@@ -106,25 +106,25 @@ IsProductOf disk (request.Path asked) product = Reads disk asked.file.now (λ te
 IsProductOf disk (request.Bound asked) product = Reads disk asked.file.now (λ text. IsBoundProduct text asked product)
 IsProductOf disk (request.Worst asked) product = ⊥
 IsProductOf disk (request.Check asked) product =
-    Reads disk asked.file.now (λ text. Reads disk asked.certificate.now (λ certificate. IsCheckProduct text asked.default certificate product))
+    Reads disk asked.file.now (λ text. Reads disk asked.certificate.now (λ certificate. IsCheckProduct text asked.reading certificate product))
 IsProductOf disk (request.Parts asked) product = Reads disk asked.file.now (λ text. IsPartsProduct text asked product)
 IsProductOf disk (request.Join asked) product = Reads disk asked.file.now (λ text. IsJoinProduct disk text asked product)
-IsProductOf disk (request.Info asked) product = Reads disk asked.file.now (λ text. IsInfoProduct text asked.default product)
+IsProductOf disk (request.Info asked) product = Reads disk asked.file.now (λ text. IsInfoProduct text asked.reading product)
 
 -- why a request is refused that is no search
 abbrev pub HoldsOf : Disk → Request → Refusal → Type 0
 HoldsOf disk (request.Sim asked) =
-    HoldsOnFile disk asked.file.now (λ text. HasNoReport text asked.default asked.from.now asked.to.now (words_of asked.at))
+    HoldsOnFile disk asked.file.now (λ text. HasNoReport text asked.reading asked.from.now asked.to.now (words_of asked.at))
 HoldsOf disk (request.Path asked) =
-    HoldsOnFile disk asked.file.now (λ text. HasNoPath text asked.default asked.from.now asked.to.now (words_of asked.at) (words_of asked.output))
+    HoldsOnFile disk asked.file.now (λ text. HasNoPath text asked.reading asked.from.now asked.to.now (words_of asked.at) (words_of asked.output))
 HoldsOf disk (request.Bound asked) =
-    HoldsOnFile disk asked.file.now (λ text. HasNoBounds text asked.default (words_of asked.first) (words_of asked.second) (words_of asked.at))
+    HoldsOnFile disk asked.file.now (λ text. HasNoBounds text asked.reading (words_of asked.first) (words_of asked.second) (words_of asked.at))
 HoldsOf disk (request.Worst asked) = λ reason. ⊥
 HoldsOf disk (request.Check asked) =
-    HoldsOnFile disk asked.file.now (λ text. HoldsOnFile disk asked.certificate.now (HasNoVerdict text asked.default))
-HoldsOf disk (request.Parts asked) = HoldsOnFile disk asked.file.now (λ text. HasNoAnswer text asked.default asked.question)
+    HoldsOnFile disk asked.file.now (λ text. HoldsOnFile disk asked.certificate.now (HasNoVerdict text asked.reading))
+HoldsOf disk (request.Parts asked) = HoldsOnFile disk asked.file.now (λ text. HasNoAnswer text asked.reading asked.question)
 HoldsOf disk (request.Join asked) = HoldsOnFile disk asked.file.now (λ text. HasNoJoin disk text asked)
-HoldsOf disk (request.Info asked) = HoldsOnFile disk asked.file.now (λ text. HasNoCircuit text asked.default)
+HoldsOf disk (request.Info asked) = HoldsOnFile disk asked.file.now (λ text. HasNoCircuit text asked.reading)
 
 -- whether a search is asked for
 abbrev pub is_search : Request → Bool
@@ -138,7 +138,7 @@ AsksSearch words = (asked : Request) × Asks words asked × (is_search asked ≡
 -- how a search of a text ends: lines of progress come first, where they are asked for
 abbrev pub SearchRuns : WorstRequest → List ℕ → (List ℕ → Type 0) → List FileStep → Status → Streams → Streams → Type 0
 SearchRuns asked text =
-    EndsBehind (TellsSearch asked.progress text asked.default asked.question) (IsWorstProduct text asked) (HasNoAnswer text asked.default asked.question)
+    EndsBehind (TellsSearch asked.progress text asked.reading asked.question) (IsWorstProduct text asked) (HasNoAnswer text asked.reading asked.question)
 
 -- How the command that is asked for ends, once it is known that no file of it is written over
 -- another. A search that can't read its netlist tells that and nothing before it.

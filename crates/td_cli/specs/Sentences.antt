@@ -5,7 +5,7 @@ use Rattle.td_circuit.specs.Settings.{Setting}
 use Rattle.td_domain.specs.Admits.{Admitted}
 use Rattle.td_domain.specs.Worst.{IsWorst}
 use Rattle.td_nets.specs.Netlist.{Netlist}
-use Rattle.td_netlist.specs.Means.{Means}
+use Rattle.td_source.specs.Reads.{Reads as ReadsNetlist}
 use Rattle.td_certificate.specs.declared.certificate.Certificate.{Certificate}
 use Rattle.td_certificate.specs.Accepts.{setting_of}
 use Rattle.td_certificate.specs.Spelling.{Spells}
@@ -54,7 +54,7 @@ pub record AreAbout (disk : Disk) (words : List Text) (setting : Setting) (admit
   pub asked : AskWorst words request
   pub text : List ℕ
   pub read : disk.holds request.file.now text
-  pub is_setting : IsSetting text request.default (words_of request.question.at) setting
+  pub is_setting : IsSetting text request.reading (words_of request.question.at) setting
   pub admits : WordsAdmit (length setting.netlist.inputs) request.question admit
 
 -- ---- the sentence
@@ -90,7 +90,7 @@ pub record IsCheckedWorst (disk : Disk) (words : List Text) (time : ℕ) : Type 
   pub text : List ℕ
   pub read : disk.holds request.file.now text
   pub netlist : Netlist
-  pub means : Means text request.default netlist
+  pub reads : ReadsNetlist text request.reading netlist
   pub spelled : List ℕ
   pub spelled_read : disk.holds request.certificate.now spelled
   pub certificate : Certificate

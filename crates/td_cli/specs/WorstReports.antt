@@ -1,6 +1,6 @@
 -- What `worst` prints.
 use Rattle.std.specs.Prelude.{◌≡◌, ℕ, List, ◌++◌, codes, decimal, length, Bool, Option, Some, None}
-use Rattle.td_gates.specs.declared.timing.Delay.{Delay}
+use Rattle.td_reading.specs.declared.reading.Reading.{Reading}
 use Rattle.td_nets.specs.Netlist.{Netlist}
 use Rattle.td_domain.specs.Pairs.{Pair}
 use Rattle.td_certificate.specs.declared.certificate.Certificate.{Certificate}
@@ -72,8 +72,8 @@ strategy_of word.Auto = method.Auto
 
 -- what the words of a search ask of a text: the setting, which pairs of its inputs are admitted,
 -- and the strategy of the first tree
-pub record IsAsked (text : List ℕ) (default : Delay) (words : QuestionWords) (asked : Problem) : Type 0 where
-  pub is_setting : IsSetting text default (words_of words.at) asked.setting
+pub record IsAsked (text : List ℕ) (reading : Reading) (words : QuestionWords) (asked : Problem) : Type 0 where
+  pub is_setting : IsSetting text reading (words_of words.at) asked.setting
   pub admits : WordsAdmit (length asked.setting.netlist.inputs) words asked.admit
   pub strategy : asked.strategy ≡ tree_of (strategy_of words.strategy)
 
@@ -86,7 +86,7 @@ pair_in (answer.Between low high pair nodes why) = pair
 -- lines after the report and the dump are those of its pair.
 pub record IsWorstReport (text : List ℕ) (request : WorstRequest) (report : List ℕ) (certificate : Option Certificate) (dumps : List FileText) : Type 0 where
   pub asked : Problem
-  pub is_asked : IsAsked text request.default request.question asked
+  pub is_asked : IsAsked text request.reading request.question asked
   pub found : Answer
   pub is_answer : IsAnswerBy (strategy_of request.question.strategy) asked request.budget found
   pub chain : List ℕ

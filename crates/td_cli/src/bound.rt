@@ -43,13 +43,13 @@ pub fn run_on<O: Sink, E: Sink>(
     err: &mut E,
 ) -> Status
     ensures { Ends (IsBoundProduct text.now request.now)
-        (HasNoBounds text.now request.now.default (words_of request.now.first) (words_of request.now.second) (words_of request.now.at)) (λ _. ⊥) [] result
+        (HasNoBounds text.now request.now.reading (words_of request.now.first) (words_of request.now.second) (words_of request.now.at)) (λ _. ⊥) [] result
         (streams (O.output out.old) (E.output err.old)) (streams (O.output out.new) (E.output err.new)) }
 {
     let bounded = bounds(
         alloc,
         text,
-        request.default,
+        request.reading,
         request.first,
         request.second,
         request.at,

@@ -12,7 +12,7 @@ use std::alloc::Global;
 use td_command::CheckRequest;
 use td_delivery::telling::{say, tell_refusal, tell_unread};
 use td_files::Files;
-use td_gates::Delay;
+use td_reading::Reading;
 use td_report::checking::verdict_on;
 use td_report::status::Status;
 use td_text::Sink;
@@ -43,13 +43,13 @@ fn check_file<F: Files, O: Sink, E: Sink>(
     out: &mut O,
     err: &mut E,
 ) -> Status
-    ensures ends { Ends (λ product. Reads (F.disk files.old) request.now.certificate.now (λ certificate. IsCheckProduct text.now request.now.default certificate product))
-        (HoldsOnFile (F.disk files.old) request.now.certificate.now (HasNoVerdict text.now request.now.default)) (λ _. ⊥) [] result
+    ensures ends { Ends (λ product. Reads (F.disk files.old) request.now.certificate.now (λ certificate. IsCheckProduct text.now request.now.reading certificate product))
+        (HoldsOnFile (F.disk files.old) request.now.certificate.now (HasNoVerdict text.now request.now.reading)) (λ _. ⊥) [] result
         (streams (O.output out.old) (E.output err.old)) (streams (O.output out.new) (E.output err.new)) }
     ensures stays { files.new ≡ files.old }
 {
     match files.read(alloc, request.certificate) {
-        Ok(certificate) => run_on(alloc, text, request.default, &certificate, out, err),
+        Ok(certificate) => run_on(alloc, text, request.reading, &certificate, out, err),
         Err(fault) => tell_unread(alloc, err, request.certificate, fault),
     }
 }
@@ -59,15 +59,15 @@ fn check_file<F: Files, O: Sink, E: Sink>(
 pub fn run_on<O: Sink, E: Sink>(
     alloc: Global,
     text: &[u8],
-    default: Delay,
+    reading: Reading<'_>,
     certificate: &[u8],
     out: &mut O,
     err: &mut E,
 ) -> Status
-    ensures { Ends (IsCheckProduct text.now default certificate.now) (HasNoVerdict text.now default certificate.now) (λ _. ⊥) [] result
+    ensures { Ends (IsCheckProduct text.now reading.entry certificate.now) (HasNoVerdict text.now reading.entry certificate.now) (λ _. ⊥) [] result
         (streams (O.output out.old) (E.output err.old)) (streams (O.output out.new) (E.output err.new)) }
 {
-    match verdict_on(alloc, text, default, certificate) {
+    match verdict_on(alloc, text, reading, certificate) {
         Ok(checked) => say(checked.report.bytes(), checked.ending, out, err),
         Err(refusal) => tell_refusal(alloc, err, &refusal),
     }

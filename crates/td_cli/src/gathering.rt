@@ -2,7 +2,7 @@
 
 ghost use Rattle.std.specs.Prelude.{◌≡◌, ◌≢◌, ℕ, Bool, List, true, map, IfOk, IfErr};
 ghost use Rattle.td_nets.specs.Netlist.{Netlist};
-ghost use Rattle.td_gates.specs.declared.timing.Delay.{Delay as Default};
+ghost use Rattle.td_reading.specs.declared.reading.Reading.{Reading as Read};
 ghost use Rattle.td_certificate.specs.Spelling.{Spells};
 ghost use Rattle.td_checker.specs.declared.verdict.Verdict.TheVariants as Reported;
 ghost use Rattle.td_checker.specs.Checks.{HaveVerdict};
@@ -16,7 +16,7 @@ use td_certificate::{CertFault, CertFaultKind, Certificate, read};
 use td_checker::{CheckFault, Verdict, check, is_of_size};
 use td_circuit::Circuit;
 use td_files::{Files, ReadFault};
-use td_gates::Delay;
+use td_reading::Reading;
 use td_report::refusal::Refusal;
 
 /// The reason that tells a fault of a part's text, in the file of this name.
@@ -32,7 +32,7 @@ fn unread<'a>(name: &'a str, fault: CertFault) -> Refusal<'a>
 /// The certificate that a file's bytes spell.
 fn read_part<'a>(alloc: Global, name: &'a str, bytes: &[u8]) -> Result<Certificate, Refusal<'a>>
     ensures spelled { IfOk result (λ part. Spells part bytes.now) }
-    ensures refusal { IfErr result (λ reason. (text : List ℕ) (default : Default) (netlist : Netlist) (check : Bool) → TellsNoPart text default netlist check name.now bytes.now reason) }
+    ensures refusal { IfErr result (λ reason. (text : List ℕ) (reading : Read) (netlist : Netlist) (check : Bool) → TellsNoPart text reading netlist check name.now bytes.now reason) }
 {
     match read(alloc, bytes) {
         Ok(part) => Ok(part),
@@ -56,15 +56,15 @@ fn unjudged<'a>(name: &'a str, fault: CheckFault<'a>) -> Refusal<'a>
 fn accepted_part<'a>(
     alloc: Global,
     text: &'a [u8],
-    default: Delay,
+    reading: Reading<'_>,
     name: &'a str,
     bytes: &[u8],
 ) -> Result<Certificate, Refusal<'a>>
     ensures spelled { IfOk result (λ part. Spells part bytes.now) }
-    ensures accepted { IfOk result (λ part. HaveVerdict text.now default bytes.now Reported.Accepted) }
-    ensures refusal { IfErr result (λ reason. (netlist : Netlist) → TellsNoPart text.now default netlist true name.now bytes.now reason) }
+    ensures accepted { IfOk result (λ part. HaveVerdict text.now reading.entry bytes.now Reported.Accepted) }
+    ensures refusal { IfErr result (λ reason. (netlist : Netlist) → TellsNoPart text.now reading.entry netlist true name.now bytes.now reason) }
 {
-    let checked = match check(alloc, text, default, bytes) {
+    let checked = match check(alloc, text, reading, bytes) {
         Ok(checked) => checked,
         Err(fault) => return Err(unjudged(name, fault)),
     };
@@ -78,17 +78,17 @@ fn accepted_part<'a>(
 fn judged_part<'a>(
     alloc: Global,
     text: &'a [u8],
-    default: Delay,
+    reading: Reading<'_>,
     is_checked: bool,
     name: &'a str,
     bytes: &[u8],
 ) -> Result<Certificate, Refusal<'a>>
     ensures spelled { IfOk result (λ part. Spells part bytes.now) }
-    ensures accepted { IfOk result (λ part. is_checked ≡ true → HaveVerdict text.now default bytes.now Reported.Accepted) }
-    ensures refusal { IfErr result (λ reason. (netlist : Netlist) → TellsNoPart text.now default netlist is_checked name.now bytes.now reason) }
+    ensures accepted { IfOk result (λ part. is_checked ≡ true → HaveVerdict text.now reading.entry bytes.now Reported.Accepted) }
+    ensures refusal { IfErr result (λ reason. (netlist : Netlist) → TellsNoPart text.now reading.entry netlist is_checked name.now bytes.now reason) }
 {
     if is_checked {
-        accepted_part(alloc, text, default, name, bytes)
+        accepted_part(alloc, text, reading, name, bytes)
     } else {
         read_part(alloc, name, bytes)
     }
@@ -98,16 +98,16 @@ fn judged_part<'a>(
 fn part<'a>(
     alloc: Global,
     text: &'a [u8],
-    default: Delay,
+    reading: Reading<'_>,
     circuit: &Circuit,
     is_checked: bool,
     name: &'a str,
     bytes: &[u8],
 ) -> Result<Certificate, Refusal<'a>>
-    ensures part { IfOk result (TellsPart text.now default circuit.now.netlist is_checked bytes.now) }
-    ensures refusal { IfErr result (TellsNoPart text.now default circuit.now.netlist is_checked name.now bytes.now) }
+    ensures part { IfOk result (TellsPart text.now reading.entry circuit.now.netlist is_checked bytes.now) }
+    ensures refusal { IfErr result (TellsNoPart text.now reading.entry circuit.now.netlist is_checked name.now bytes.now) }
 {
-    let part = judged_part(alloc, text, default, is_checked, name, bytes)?;
+    let part = judged_part(alloc, text, reading, is_checked, name, bytes)?;
     if is_of_size(circuit, &part) {
         Ok(part)
     } else {
@@ -120,18 +120,18 @@ fn part_in<'a, F: Files>(
     alloc: Global,
     files: &mut F,
     text: &'a [u8],
-    default: Delay,
+    reading: Reading<'_>,
     circuit: &Circuit,
     is_checked: bool,
     name: &'a str,
 ) -> Result<Certificate, Refusal<'a>>
-    ensures part { IfOk result (GivesPart (F.disk files.old) text.now default circuit.now.netlist is_checked name.now) }
+    ensures part { IfOk result (GivesPart (F.disk files.old) text.now reading.entry circuit.now.netlist is_checked name.now) }
     ensures refusal { IfErr result (λ reason. reason ≢ Reason.OutOfMemory
-        → HoldsOnFile (F.disk files.old) name.now (TellsNoPart text.now default circuit.now.netlist is_checked name.now) reason) }
+        → HoldsOnFile (F.disk files.old) name.now (TellsNoPart text.now reading.entry circuit.now.netlist is_checked name.now) reason) }
     ensures stays { files.new ≡ files.old }
 {
     match files.read(alloc, name) {
-        Ok(bytes) => part(alloc, text, default, circuit, is_checked, name, &bytes),
+        Ok(bytes) => part(alloc, text, reading, circuit, is_checked, name, &bytes),
         Err(ReadFault::OutOfMemory) => Err(Refusal::OutOfMemory),
         Err(ReadFault::Device) => Err(Refusal::Unreadable(name)),
     }
@@ -143,21 +143,21 @@ pub fn parts_in<'a, F: Files>(
     alloc: Global,
     files: &mut F,
     text: &'a [u8],
-    default: Delay,
+    reading: Reading<'_>,
     circuit: &Circuit,
     is_checked: bool,
     names: &[&'a str],
 ) -> Result<Vec<Certificate>, Refusal<'a>>
-    ensures parts { IfOk result (λ parts. AreParts (F.disk files.old) text.now default circuit.now.netlist is_checked
+    ensures parts { IfOk result (λ parts. AreParts (F.disk files.old) text.now reading.entry circuit.now.netlist is_checked
         (map (λ name. name.now) names.now) parts.items) }
     ensures refusal { IfErr result (λ reason. reason ≢ Reason.OutOfMemory
-        → HasNoPart (F.disk files.old) text.now default circuit.now.netlist is_checked
+        → HasNoPart (F.disk files.old) text.now reading.entry circuit.now.netlist is_checked
         (map (λ name. name.now) names.now) reason) }
     ensures stays { files.new ≡ files.old }
 {
     let mut parts = Vec::new(alloc);
     for name in names {
-        let part = part_in(alloc, files, text, default, circuit, is_checked, name)?;
+        let part = part_in(alloc, files, text, reading, circuit, is_checked, name)?;
         parts.push(part)?;
     }
     Ok(parts)

@@ -11,7 +11,7 @@ use std::alloc::Global;
 use td_command::InfoRequest;
 use td_delivery::telling::{say, tell_refusal, tell_unread};
 use td_files::Files;
-use td_gates::Delay;
+use td_reading::Reading;
 use td_report::describing::info;
 use td_report::status::Status;
 use td_text::Sink;
@@ -28,7 +28,7 @@ pub fn run<F: Files, O: Sink, E: Sink>(
         (streams (O.output out.old) (E.output err.old)) (streams (O.output out.new) (E.output err.new))) }
 {
     match files.read(alloc, request.file) {
-        Ok(text) => run_on(alloc, &text, request.default, out, err),
+        Ok(text) => run_on(alloc, &text, request.reading, out, err),
         Err(fault) => tell_unread(alloc, err, request.file, fault),
     }
 }
@@ -38,14 +38,14 @@ pub fn run<F: Files, O: Sink, E: Sink>(
 pub fn run_on<O: Sink, E: Sink>(
     alloc: Global,
     text: &[u8],
-    default: Delay,
+    reading: Reading<'_>,
     out: &mut O,
     err: &mut E,
 ) -> Status
-    ensures { Ends (IsInfoProduct text.now default) (HasNoCircuit text.now default) (λ _. ⊥) [] result
+    ensures { Ends (IsInfoProduct text.now reading.entry) (HasNoCircuit text.now reading.entry) (λ _. ⊥) [] result
         (streams (O.output out.old) (E.output err.old)) (streams (O.output out.new) (E.output err.new)) }
 {
-    match info(alloc, text, default) {
+    match info(alloc, text, reading) {
         Ok(report) => say(report.bytes(), Status::Done, out, err),
         Err(refusal) => tell_refusal(alloc, err, &refusal),
     }

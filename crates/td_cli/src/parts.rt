@@ -17,7 +17,7 @@ use td_command::{PartsRequest, QuestionWords};
 use td_delivery::telling::{say, tell_refusal, tell_unread};
 use td_domain::Cube;
 use td_files::Files;
-use td_gates::Delay;
+use td_reading::Reading;
 use td_parts::cut;
 use td_report::pinning::push_pins;
 use td_report::refusal::Refusal;
@@ -35,32 +35,32 @@ pub fn parts<'a>(
 ) -> Result<Text, Refusal<'a>>
     requires { 0 < request.now.parts }
     ensures report { IfOk result (IsPartsReport text.now request.now) }
-    ensures refusal { IfErr result (HasNoAnswer text.now request.now.default request.now.question) }
+    ensures refusal { IfErr result (HasNoAnswer text.now request.now.reading request.now.question) }
 {
-    let asked = question_of(alloc, text, request.default, request.question)?;
+    let asked = question_of(alloc, text, request.reading, request.question)?;
     let problem = Problem {
         circuit: &asked.circuit,
         admit: &asked.admit,
         strategy: strategy_of(request.question.strategy).strategy(),
     };
     let cubes = cut(alloc, &problem, request.parts as usize)?;
-    some_lines(alloc, &cubes, request.default, request.question)
+    some_lines(alloc, &cubes, request.reading, request.question)
 }
 
 /// A line for each part, of which there has to be one.
 fn some_lines<'a>(
     alloc: Global,
     cubes: &[Cube],
-    default: Delay,
+    reading: Reading<'_>,
     words: QuestionWords<'_>,
 ) -> Result<Text, Refusal<'a>>
-    ensures lines { IfOk result (λ text. (0 < length cubes.now) × (text ≡ flat_map (part_line default words.entry) cubes.now)) }
+    ensures lines { IfOk result (λ text. (0 < length cubes.now) × (text ≡ flat_map (part_line reading.entry words.entry) cubes.now)) }
     ensures none { IfErr result (λ reason. (reason ≡ Reason.OutOfMemory) ⊎ ((reason ≡ Reason.NoPair) × (length cubes.now ≡ 0))) }
 {
     if cubes.is_empty() {
         return Err(Refusal::NoPair);
     }
-    let text = lines(alloc, cubes, default, words)?;
+    let text = lines(alloc, cubes, reading, words)?;
     Ok(text)
 }
 
@@ -68,14 +68,14 @@ fn some_lines<'a>(
 fn lines(
     alloc: Global,
     cubes: &[Cube],
-    default: Delay,
+    reading: Reading<'_>,
     words: QuestionWords<'_>,
 ) -> Result<Text, AllocError>
-    ensures { IfOk result (λ text. text ≡ flat_map (part_line default words.entry) cubes.now) }
+    ensures { IfOk result (λ text. text ≡ flat_map (part_line reading.entry words.entry) cubes.now) }
 {
     let mut text = Text::new(alloc);
     for cube in cubes {
-        push_part(&mut text, cube, default, words)?;
+        push_part(&mut text, cube, reading, words)?;
     }
     Ok(text)
 }
@@ -84,14 +84,15 @@ fn lines(
 fn push_part(
     text: &mut Text,
     cube: &Cube,
-    default: Delay,
+    reading: Reading<'_>,
     words: QuestionWords<'_>,
 ) -> Result<(), AllocError>
-    ensures { OnOk result (text.new ≡ text.old ++ part_line default words.entry cube.now) }
+    ensures { OnOk result (text.new ≡ text.old ++ part_line reading.entry words.entry cube.now) }
 {
     push_options(text, cube, words)?;
-    push_default(text, b" --default-rise ", default.rise)?;
-    push_default(text, b" --default-fall ", default.fall)?;
+    push_default(text, b" --default-rise ", reading.default.rise)?;
+    push_default(text, b" --default-fall ", reading.default.fall)?;
+    push_option(text, b" --output ", reading.output)?;
     text.push(b"\n")
 }
 
@@ -163,7 +164,7 @@ pub fn run_on<O: Sink, E: Sink>(
     err: &mut E,
 ) -> Status
     requires { 0 < request.now.parts }
-    ensures { Ends (IsPartsProduct text.now request.now) (HasNoAnswer text.now request.now.default request.now.question) (λ _. ⊥) [] result
+    ensures { Ends (IsPartsProduct text.now request.now) (HasNoAnswer text.now request.now.reading request.now.question) (λ _. ⊥) [] result
         (streams (O.output out.old) (E.output err.old)) (streams (O.output out.new) (E.output err.new)) }
 {
     match parts(alloc, text, request) {

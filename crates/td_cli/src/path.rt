@@ -43,13 +43,13 @@ pub fn run_on<O: Sink, E: Sink>(
     err: &mut E,
 ) -> Status
     ensures { Ends (IsPathProduct text.now request.now)
-        (HasNoPath text.now request.now.default request.now.from.now request.now.to.now (words_of request.now.at) (words_of request.now.output)) (λ _. ⊥) [] result
+        (HasNoPath text.now request.now.reading request.now.from.now request.now.to.now (words_of request.now.at) (words_of request.now.output)) (λ _. ⊥) [] result
         (streams (O.output out.old) (E.output err.old)) (streams (O.output out.new) (E.output err.new)) }
 {
     let explained = path(
         alloc,
         text,
-        request.default,
+        request.reading,
         request.from,
         request.to,
         request.at,

@@ -91,10 +91,10 @@ fn watched<'a, 'v, R: Threads + Wait + Sync, E: Sink>(
     requires some { 0 < request.now.workers }
     requires few { request.now.workers ≤ 64 }
     ensures report { IfOk result (λ found. IsWorstReport text.now request.now found.report found.certificate (dump_files found.dump)) }
-    ensures refusal { IfErr result (HasNoAnswer text.now request.now.default request.now.question) }
+    ensures refusal { IfErr result (HasNoAnswer text.now request.now.reading request.now.question) }
     ensures spelled { IfOk result (λ found. IfSome found.certificate HasSpelling) }
     ensures has { IfOk result (λ found. IfSome found.dump HasRun) }
-    ensures reported { TellsSearch true text.now request.now.default request.now.question (E.output err.old) (E.output err.new) }
+    ensures reported { TellsSearch true text.now request.now.reading request.now.question (E.output err.old) (E.output err.new) }
 {
     let mut lines = ProgressLines { alloc, err };
     let found = worst(rt, alloc, text, request, &mut lines);
@@ -115,10 +115,10 @@ pub fn searched<'a, 'v, R: Threads + Wait + Sync, E: Sink>(
     requires some { 0 < request.now.workers }
     requires few { request.now.workers ≤ 64 }
     ensures report { IfOk result (λ found. IsWorstReport text.now request.now found.report found.certificate (dump_files found.dump)) }
-    ensures refusal { IfErr result (HasNoAnswer text.now request.now.default request.now.question) }
+    ensures refusal { IfErr result (HasNoAnswer text.now request.now.reading request.now.question) }
     ensures spelled { IfOk result (λ found. IfSome found.certificate HasSpelling) }
     ensures has { IfOk result (λ found. IfSome found.dump HasRun) }
-    ensures reported { TellsSearch request.now.progress text.now request.now.default request.now.question (E.output err.old) (E.output err.new) }
+    ensures reported { TellsSearch request.now.progress text.now request.now.reading request.now.question (E.output err.old) (E.output err.new) }
 {
     if request.progress {
         return watched(rt, alloc, text, request, err);

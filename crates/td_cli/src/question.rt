@@ -1,7 +1,7 @@
 //! What the words of a command line ask of a netlist's text.
 
 ghost use Rattle.std.specs.Prelude.{◌≡◌, ◌<◌, ◌^◌, ℕ, List, length, IfOk, IfErr};
-ghost use Rattle.td_gates.specs.declared.timing.Delay.{Delay as Default};
+ghost use Rattle.td_reading.specs.declared.reading.Reading.{Reading as Read};
 ghost use Rattle.td_search.specs.Problems.{problem_by};
 ghost use Rattle.td_worst.specs.Methods.{tree_of};
 ghost use Rattle.td_report.specs.Outcomes.{IsCircuitOf, HasBadWord, IsRefusedFor};
@@ -14,7 +14,7 @@ use std::alloc::{AllocError, Global};
 use td_circuit::Circuit;
 use td_command::{QuestionWords, StrategyWord};
 use td_domain::{Admit, Cube, Trit};
-use td_gates::Delay;
+use td_reading::Reading;
 use td_report::refusal::Refusal;
 use td_report::simulate::circuit;
 use td_report::timing::moments;
@@ -44,13 +44,13 @@ pub struct Asked {
 pub fn question_of<'a>(
     alloc: Global,
     text: &'a [u8],
-    default: Delay,
+    reading: Reading<'_>,
     words: QuestionWords<'_>,
 ) -> Result<Asked, Refusal<'a>>
-    ensures asked { IfOk result (λ asked. IsAsked text.now default words.entry (problem_by (tree_of (strategy_of words.entry.strategy)) asked.circuit asked.admit)) }
-    ensures refusal { IfErr result (IsRefusedFor text.now default (question_words words.entry)) }
+    ensures asked { IfOk result (λ asked. IsAsked text.now reading.entry words.entry (problem_by (tree_of (strategy_of words.entry.strategy)) asked.circuit asked.admit)) }
+    ensures refusal { IfErr result (IsRefusedFor text.now reading.entry (question_words words.entry)) }
 {
-    let mut circuit = circuit(alloc, text, default)?;
+    let mut circuit = circuit(alloc, text, reading)?;
     let admit = match admit_in(alloc, &mut circuit, words)? {
         Ok(admit) => admit,
         Err(word) => return Err(Refusal::BadVector(word)),
@@ -66,10 +66,10 @@ fn admit_in(
     words: QuestionWords<'_>,
 ) -> Result<Result<Admit, VectorWord>, AllocError>
     requires { length circuit.old.netlist.inputs < 2 ^ 32 }
-    ensures asked { IfOk result (λ reported. IfOk reported (λ admit. (text : List ℕ) (default : Default) → IsCircuitOf text default circuit.old
-        → IsAsked text default words.entry (problem_by (tree_of (strategy_of words.entry.strategy)) circuit.new admit))) }
-    ensures bad { IfOk result (λ reported. IfErr reported (λ word. (text : List ℕ) (default : Default) → IsCircuitOf text default circuit.old
-        → HasBadWord text default (question_words words.entry) word)) }
+    ensures asked { IfOk result (λ reported. IfOk reported (λ admit. (text : List ℕ) (reading : Read) → IsCircuitOf text reading circuit.old
+        → IsAsked text reading words.entry (problem_by (tree_of (strategy_of words.entry.strategy)) circuit.new admit))) }
+    ensures bad { IfOk result (λ reported. IfErr reported (λ word. (text : List ℕ) (reading : Read) → IsCircuitOf text reading circuit.old
+        → HasBadWord text reading (question_words words.entry) word)) }
 {
     let inputs = circuit.input_count();
     let admit = match admit(alloc, words, inputs)? {

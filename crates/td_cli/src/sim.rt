@@ -43,14 +43,14 @@ pub fn run_on<F: Files, O: Sink, E: Sink>(
     err: &mut E,
 ) -> Status
     ensures { Takes (F.did files.old files.new) (λ steps.
-        Ends (IsSimProduct text.now request.now) (HasNoReport text.now request.now.default request.now.from.now request.now.to.now (words_of request.now.at))
+        Ends (IsSimProduct text.now request.now) (HasNoReport text.now request.now.reading request.now.from.now request.now.to.now (words_of request.now.at))
         (F.disk files.old).breaks steps result
         (streams (O.output out.old) (E.output err.old)) (streams (O.output out.new) (E.output err.new))) }
 {
     let simulated = sim(
         alloc,
         text,
-        request.default,
+        request.reading,
         request.from,
         request.to,
         request.at,

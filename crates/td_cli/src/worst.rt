@@ -65,8 +65,8 @@ pub fn run_on<R: Threads + Wait + Sync, F: Files, O: Sink, E: Sink>(
     requires some { 0 < request.now.workers }
     requires few { request.now.workers ≤ 64 }
     ensures { Takes (F.did files.old files.new) (λ steps.
-        EndsBehind (TellsSearch request.now.progress text.now request.now.default request.now.question) (IsWorstProduct text.now request.now)
-        (HasNoAnswer text.now request.now.default request.now.question) (F.disk files.old).breaks steps result
+        EndsBehind (TellsSearch request.now.progress text.now request.now.reading request.now.question) (IsWorstProduct text.now request.now)
+        (HasNoAnswer text.now request.now.reading request.now.question) (F.disk files.old).breaks steps result
         (streams (O.output out.old) (E.output err.old)) (streams (O.output out.new) (E.output err.new))) }
 {
     match searched(rt, alloc, text, request, err) {
@@ -112,15 +112,15 @@ pub fn worst<'a, 'v, W: Watch, R: Threads + Wait + Sync>(
     // The report and the certificate are those of an answer of the search, and the waves those of
     // its pair's run.
     ensures report { IfOk result (λ found. IsWorstReport text.now request.now found.report found.certificate (dump_files found.dump)) }
-    ensures refusal { IfErr result (HasNoAnswer text.now request.now.default request.now.question) }
+    ensures refusal { IfErr result (HasNoAnswer text.now request.now.reading request.now.question) }
     // A certificate has a text.
     ensures spelled { IfOk result (λ found. IfSome found.certificate HasSpelling) }
     ensures has { IfOk result (λ found. IfSome found.dump HasRun) }
     // The progress that the watch got, if any, is true of what is asked.
     ensures reported { (watch.new ≡ watch.old)
-        ⊎ ((asked : Given) × IsAsked text.now request.now.default request.now.question asked × W.reported asked watch.old watch.new) }
+        ⊎ ((asked : Given) × IsAsked text.now request.now.reading request.now.question asked × W.reported asked watch.old watch.new) }
 {
-    let asked = question_of(alloc, text, request.default, request.question)?;
+    let asked = question_of(alloc, text, request.reading, request.question)?;
     let method = strategy_of(request.question.strategy);
     let effort = Effort {
         workers: request.workers,

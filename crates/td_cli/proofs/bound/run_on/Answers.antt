@@ -8,10 +8,10 @@ use Rattle.td_cli.proofs.bound.run_on.Goals as goal
 
 pub returns-in-Ok : goal.returns-in-Ok
 returns-in-Ok g c =
-    said (IsBoundProduct c.args.text.now c.args.request.now) (HasNoBounds c.args.text.now c.args.request.now.default (words_of c.args.request.now.first) (words_of c.args.request.now.second) (words_of c.args.request.now.at)) _ c.in-Ok.report Done _ _ _
+    said (IsBoundProduct c.args.text.now c.args.request.now) (HasNoBounds c.args.text.now c.args.request.now.reading (words_of c.args.request.now.first) (words_of c.args.request.now.second) (words_of c.args.request.now.at)) _ c.in-Ok.report Done _ _ _
     (record { is = c.in-Ok.ensures.report; no_file = refl; ends = refl })
     _ c.bytes.ensures c.say.ensures
 
 pub returns-in-Err : goal.returns-in-Err
 returns-in-Err g c =
-    refused (IsBoundProduct c.args.text.now c.args.request.now) (HasNoBounds c.args.text.now c.args.request.now.default (words_of c.args.request.now.first) (words_of c.args.request.now.second) (words_of c.args.request.now.at)) _ c.in-Err.refusal _ _ _ _ (λ _. c.in-Err.ensures.refusal) c.tell_refusal.ensures
+    refused (IsBoundProduct c.args.text.now c.args.request.now) (HasNoBounds c.args.text.now c.args.request.now.reading (words_of c.args.request.now.first) (words_of c.args.request.now.second) (words_of c.args.request.now.at)) _ c.in-Err.refusal _ _ _ _ (λ _. c.in-Err.ensures.refusal) c.tell_refusal.ensures

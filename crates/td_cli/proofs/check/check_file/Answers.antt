@@ -8,7 +8,7 @@ pub returns-in-Ok-clause-ends : goal.returns-in-Ok-clause-ends
 returns-in-Ok-clause-ends g c =
     on_file (g.F.Files.disk c.args.files.now) c.args.request.now.certificate.now c.deref.result.now
     (subst (λ bytes. (g.F.Files.disk c.args.files.now).holds c.args.request.now.certificate.now bytes) (sym c.deref.ensures.value) c.in-Ok.ensures.bytes)
-    (IsCheckProduct c.args.text.now c.args.request.now.default) (HasNoVerdict c.args.text.now c.args.request.now.default) (λ _. ⊥) (λ _. ⊥) (λ name none. none) _ _ _ _
+    (IsCheckProduct c.args.text.now c.args.request.now.reading) (HasNoVerdict c.args.text.now c.args.request.now.reading) (λ _. ⊥) (λ _. ⊥) (λ name none. none) _ _ _ _
     c.run_on.ensures
 
 pub returns-in-Err-clause-ends : goal.returns-in-Err-clause-ends

@@ -19,5 +19,5 @@ returns-in-Ok g c =
     on_file_plain (g.F.Files.did c.args.files.now c.check_file.new.files) disk c.args.request.now.file.now c.deref.result.now
     (nothing_done g.F.Files.did g.met.F.Files.did_nothing _ _ (c.check_file.ensures.stays ∙ c.read.ensures.stays))
     (subst (λ bytes. (g.F.Files.disk c.args.files.now).holds c.args.request.now.file.now bytes) (sym c.deref.ensures.value) c.in-Ok.ensures.bytes)
-    (λ text product. Reads disk c.args.request.now.certificate.now (λ certificate. IsCheckProduct text c.args.request.now.default certificate product))
-    (λ text. HoldsOnFile disk c.args.request.now.certificate.now (HasNoVerdict text c.args.request.now.default)) _ _ _ (rw c.read.ensures.stays at c.check_file.ensures.ends)
+    (λ text product. Reads disk c.args.request.now.certificate.now (λ certificate. IsCheckProduct text c.args.request.now.reading certificate product))
+    (λ text. HoldsOnFile disk c.args.request.now.certificate.now (HasNoVerdict text c.args.request.now.reading)) _ _ _ (rw c.read.ensures.stays at c.check_file.ensures.ends)

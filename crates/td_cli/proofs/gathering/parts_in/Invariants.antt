@@ -9,4 +9,4 @@ abbrev pub invariant-loop-name : goal.invariant-loop-name
 invariant-loop-name g l =
     (l.files ≡ l.initial.files)
     × AllZip (λ (word : Bor (List ℕ)) (part : Certificate). GivesPart (g.F.Files.disk l.initial.files)
-    l.text l.default l.circuit.netlist l.is_checked word.now part) (take l.name-index l.names) l.parts.items
+    l.text l.reading l.circuit.netlist l.is_checked word.now part) (take l.name-index l.names) l.parts.items

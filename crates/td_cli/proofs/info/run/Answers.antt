@@ -17,4 +17,4 @@ returns-in-Ok g c =
     on_file_plain (g.F.Files.did c.args.files.now c.read.new.self) (g.F.Files.disk c.args.files.now) c.args.request.now.file.now c.deref.result.now
     (nothing_done g.F.Files.did g.met.F.Files.did_nothing _ _ c.read.ensures.stays)
     (subst (λ bytes. (g.F.Files.disk c.args.files.now).holds c.args.request.now.file.now bytes) (sym c.deref.ensures.value) c.in-Ok.ensures.bytes)
-    (λ text. IsInfoProduct text c.args.request.now.default) (λ text. HasNoCircuit text c.args.request.now.default) _ _ _ c.run_on.ensures
+    (λ text. IsInfoProduct text c.args.request.now.reading) (λ text. HasNoCircuit text c.args.request.now.reading) _ _ _ c.run_on.ensures

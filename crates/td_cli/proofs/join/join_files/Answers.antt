@@ -8,7 +8,7 @@ use Rattle.td_cli.proofs.join.join_files.Goals as goal
 
 pub returns-in-Err-clause-refusal : goal.returns-in-Err-clause-refusal
 returns-in-Err-clause-refusal g c = λ other. inl
-    (bad_word c.args.text.now c.args.request.now.default c.in_ok-circuit.circuit c.input_count-inputs.result (pin_words (words_of c.args.request.now.first) (words_of c.args.request.now.second)) c.in-Err.word
+    (bad_word c.args.text.now c.args.request.now.reading c.in_ok-circuit.circuit c.input_count-inputs.result (pin_words (words_of c.args.request.now.first) (words_of c.args.request.now.second)) c.in-Err.word
     c.in_ok-circuit.ensures.circuit c.input_count-inputs.ensures (rw c.in-Err.is at c.in_ok-pins.ensures.bad))
 
 pub returns-in_err-parts-clause-refusal : goal.returns-in_err-parts-clause-refusal
@@ -41,7 +41,7 @@ returns-in_err-report-clause-refusal g c =
 pub returns-clause-spelled : goal.returns-clause-spelled
 returns-clause-spelled g c =
     let disk = g.F.Files.disk c.args.files.now in
-    c.in_ok-whole.ensures.spelled (parts_spelled disk c.args.text.now c.args.request.now.default c.in_ok-circuit.circuit.netlist c.args.request.now.check c.args.request.now.certificates
+    c.in_ok-whole.ensures.spelled (parts_spelled disk c.args.text.now c.args.request.now.reading c.in_ok-circuit.circuit.netlist c.args.request.now.check c.args.request.now.certificates
     c.in_ok-parts.parts.items (rw c.as_slice-names.ensures at c.in_ok-parts.ensures.parts))
 
 pub returns-clause-report : goal.returns-clause-report

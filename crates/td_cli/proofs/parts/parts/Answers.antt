@@ -8,12 +8,12 @@ use Rattle.td_cli.proofs.Joinings.{no_parts}
 use Rattle.td_cli.proofs.parts.parts.Goals as goal
 
 pub invariant_of-problem : goal.invariant_of-problem
-invariant_of-problem c = record { held = asked_held c.args.text.now c.args.request.now.default c.args.request.now.question _ c.in_ok-asked.ensures.asked }
+invariant_of-problem c = record { held = asked_held c.args.text.now c.args.request.now.reading c.args.request.now.question _ c.in_ok-asked.ensures.asked }
 
 pub returns-clause-refusal : goal.returns-clause-refusal
 returns-clause-refusal c =
     IfErr-weaker c.some_lines.result _ _
-    (λ reason has. no_parts c.args.text.now c.args.request.now.default c.args.request.now.question (problem_by (tree_of (strategy_of c.args.request.now.question.strategy)) c.in_ok-asked.asked.circuit c.in_ok-asked.asked.admit)
+    (λ reason has. no_parts c.args.text.now c.args.request.now.reading c.args.request.now.question (problem_by (tree_of (strategy_of c.args.request.now.question.strategy)) c.in_ok-asked.asked.circuit c.in_ok-asked.asked.admit)
     c.in_ok-cubes.cubes.items reason c.in_ok-asked.ensures.asked c.in_ok-cubes.ensures.partition has)
     (rw c.deref.ensures.value at c.some_lines.ensures.none)
 

@@ -7,10 +7,10 @@ use Rattle.td_cli.proofs.parts.run_on.Goals as goal
 
 pub returns-in-Ok : goal.returns-in-Ok
 returns-in-Ok g c =
-    said (IsPartsProduct c.args.text.now c.args.request.now) (HasNoAnswer c.args.text.now c.args.request.now.default c.args.request.now.question) _ c.in-Ok.report Done _ _ _
+    said (IsPartsProduct c.args.text.now c.args.request.now) (HasNoAnswer c.args.text.now c.args.request.now.reading c.args.request.now.question) _ c.in-Ok.report Done _ _ _
     (record { is = c.in-Ok.ensures.report; no_file = refl; ends = refl })
     _ c.bytes.ensures c.say.ensures
 
 pub returns-in-Err : goal.returns-in-Err
 returns-in-Err g c =
-    refused (IsPartsProduct c.args.text.now c.args.request.now) (HasNoAnswer c.args.text.now c.args.request.now.default c.args.request.now.question) _ c.in-Err.refusal _ _ _ _ (λ _. c.in-Err.ensures.refusal) c.tell_refusal.ensures
+    refused (IsPartsProduct c.args.text.now c.args.request.now) (HasNoAnswer c.args.text.now c.args.request.now.reading c.args.request.now.question) _ c.in-Err.refusal _ _ _ _ (λ _. c.in-Err.ensures.refusal) c.tell_refusal.ensures

@@ -8,10 +8,10 @@ use Rattle.td_cli.proofs.path.run_on.Goals as goal
 
 pub returns-in-Ok : goal.returns-in-Ok
 returns-in-Ok g c =
-    said (IsPathProduct c.args.text.now c.args.request.now) (HasNoPath c.args.text.now c.args.request.now.default c.args.request.now.from.now c.args.request.now.to.now (words_of c.args.request.now.at) (words_of c.args.request.now.output)) _ c.in-Ok.report Done _ _ _
+    said (IsPathProduct c.args.text.now c.args.request.now) (HasNoPath c.args.text.now c.args.request.now.reading c.args.request.now.from.now c.args.request.now.to.now (words_of c.args.request.now.at) (words_of c.args.request.now.output)) _ c.in-Ok.report Done _ _ _
     (record { is = c.in-Ok.ensures.report; no_file = refl; ends = refl })
     _ c.bytes.ensures c.say.ensures
 
 pub returns-in-Err : goal.returns-in-Err
 returns-in-Err g c =
-    refused (IsPathProduct c.args.text.now c.args.request.now) (HasNoPath c.args.text.now c.args.request.now.default c.args.request.now.from.now c.args.request.now.to.now (words_of c.args.request.now.at) (words_of c.args.request.now.output)) _ c.in-Err.refusal _ _ _ _ (λ _. c.in-Err.ensures.refusal) c.tell_refusal.ensures
+    refused (IsPathProduct c.args.text.now c.args.request.now) (HasNoPath c.args.text.now c.args.request.now.reading c.args.request.now.from.now c.args.request.now.to.now (words_of c.args.request.now.at) (words_of c.args.request.now.output)) _ c.in-Err.refusal _ _ _ _ (λ _. c.in-Err.ensures.refusal) c.tell_refusal.ensures

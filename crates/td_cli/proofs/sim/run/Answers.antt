@@ -17,5 +17,5 @@ pub returns-in-Ok : goal.returns-in-Ok
 returns-in-Ok g c =
     on_file_taking (g.F.Files.did c.args.files.now c.run_on.new.files) (g.F.Files.disk c.args.files.now) c.args.request.now.file.now c.deref.result.now
     (subst (λ bytes. (g.F.Files.disk c.args.files.now).holds c.args.request.now.file.now bytes) (sym c.deref.ensures.value) c.in-Ok.ensures.bytes)
-    (λ text. IsSimProduct text c.args.request.now) (λ text. HasNoReport text c.args.request.now.default c.args.request.now.from.now c.args.request.now.to.now (words_of c.args.request.now.at)) _ _ _
+    (λ text. IsSimProduct text c.args.request.now) (λ text. HasNoReport text c.args.request.now.reading c.args.request.now.from.now c.args.request.now.to.now (words_of c.args.request.now.at)) _ _ _
     (rw c.read.ensures.stays at c.run_on.ensures)

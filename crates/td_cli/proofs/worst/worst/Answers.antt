@@ -6,14 +6,14 @@ use Rattle.td_cli.proofs.Questions.{asked_held, asked_flips, no_answer, certific
 use Rattle.td_cli.proofs.worst.worst.Goals as goal
 
 pub worst-searched-requires-clause-held : goal.worst-searched-requires-clause-held
-worst-searched-requires-clause-held g c κs within = asked_held c.args.text.now c.args.request.now.default c.args.request.now.question _ c.in_ok-asked.ensures.asked
+worst-searched-requires-clause-held g c κs within = asked_held c.args.text.now c.args.request.now.reading c.args.request.now.question _ c.in_ok-asked.ensures.asked
 
 pub returns-in-Err-clause-refusal : goal.returns-in-Err-clause-refusal
 returns-in-Err-clause-refusal g c =
-    rw c.unanswered.ensures (no_answer c.args.text.now c.args.request.now.default c.args.request.now.question _ c.in-Err.fault c.in_ok-asked.ensures.asked c.in-Err.ensures.fault)
+    rw c.unanswered.ensures (no_answer c.args.text.now c.args.request.now.reading c.args.request.now.question _ c.in-Err.fault c.in_ok-asked.ensures.asked c.in-Err.ensures.fault)
 
 pub found_of-requires-clause-flips : goal.found_of-requires-clause-flips
-found_of-requires-clause-flips g c = asked_flips c.args.text.now c.args.request.now.default c.args.request.now.question _ c.in_ok-asked.ensures.asked
+found_of-requires-clause-flips g c = asked_flips c.args.text.now c.args.request.now.reading c.args.request.now.question _ c.in_ok-asked.ensures.asked
 
 pub found_of-requires-clause-first_fits : goal.found_of-requires-clause-first_fits
 found_of-requires-clause-first_fits g c = (pair_fits c.strategy_of-method.result _ c.from.result c.in-Ok.answer c.in-Ok.ensures.answer).0
