@@ -15,6 +15,7 @@ use td_command::{
 use td_delivery::overwriting::overwriting;
 use td_files::{Files, ReadFault};
 use td_reading::Reading;
+use td_report::refusal::Refusal;
 use td_report::simulate::circuit;
 use td_report::status::Status;
 use td_report::text::Text;
@@ -169,6 +170,7 @@ fn about_netlist<F: Files, R: Reasons>(
     };
     let circuit = match circuit(alloc, netlist.bytes, reading) {
         Ok(circuit) => circuit,
+        Err(Refusal::NoOutput) => return about_output(alloc, text, &netlist, reading),
         Err(refusal) => return explain(text, &netlist, &refusal),
     };
     if bad_words(alloc, text, request, &circuit)? {
@@ -197,6 +199,19 @@ fn about_netlist<F: Files, R: Reasons>(
             about_parts(text, request, ended, &joining, files, reasons)
         }
         _ => about_answer(text, request, ended, &circuit, reasons),
+    }
+}
+
+/// Appends that no output has the name that is asked about, and which outputs there are.
+fn about_output(
+    alloc: Global,
+    text: &mut Text,
+    netlist: &NetlistText<'_>,
+    reading: Reading<'_>,
+) -> Result<(), AllocError> {
+    match circuit(alloc, netlist.bytes, Reading::whole(reading.default)) {
+        Ok(circuit) => no_output(text, &circuit, reading.output.unwrap_or("")),
+        Err(refusal) => explain(text, netlist, &refusal),
     }
 }
 

@@ -138,7 +138,7 @@ module _ (circuit : Numbered) (run : NetWaves) (numbering : IsNumbering circuit)
       ]
 
   -- the latest output by its name
-  named_latest : (number : ℕ) → IsFirstAt run.waves circuit.outputs moment (Some number)
+  pub named_latest : (number : ℕ) → IsFirstAt run.waves circuit.outputs moment (Some number)
       → (output : Name) × (slice_get (nets circuit) number ≡ Some (Named output))
       × IsLatest circuit.netlist (net_wave (nets circuit) run.waves) output
   named_latest number found =

@@ -56,3 +56,10 @@ ExplainsLatest circuit run None =
 ExplainsLatest circuit run (Some links) =
     (output : Name) × IsLatest circuit.netlist (net_wave (nets circuit) run.waves) output
     × IsChain (setting circuit) (net_wave (nets circuit) run.waves) (Named output) (map (link_of (nets circuit)) links.items)
+
+-- this is the net of the output that changes last; where there is none no output changes
+abbrev pub IsLatestNet : Numbered → NetWaves → Option ℕ → Type 0
+IsLatestNet circuit run None = ExplainsLatest circuit run None
+IsLatestNet circuit run (Some net) =
+    (output : Name) × (slice_get (nets circuit) net ≡ Some (Named output))
+    × IsLatest circuit.netlist (net_wave (nets circuit) run.waves) output

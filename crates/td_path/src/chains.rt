@@ -2,7 +2,7 @@
 
 ghost use Rattle.std.specs.Prelude.{◌≡◌, ◌<◌, length, IfOk};
 ghost use Rattle.td_circuit.specs.Numbering.{nets, IsNumbering};
-ghost use Rattle.td_path.specs.Chains.{IsRunFor, Explains, ExplainsLatest};
+ghost use Rattle.td_path.specs.Chains.{IsRunFor, Explains, ExplainsLatest, IsLatestNet};
 ghost use Rattle.td_path.specs.Walks.{ArePlaces, ChangesAt, LeadsFrom, wave_at, link_by};
 
 use crate::latest::{last_of, latest_net};
@@ -10,7 +10,7 @@ use crate::links::{Cause, Link};
 use crate::places::places_of;
 use crate::terminals::{first_change, level_before};
 use std::alloc::{AllocError, Global};
-use td_circuit::Circuit;
+use td_circuit::{Circuit, Net};
 use td_run::Run;
 
 /// The change of a net at a moment.
@@ -113,4 +113,15 @@ pub fn latest_chain(
         Some(net) => chain_of(alloc, circuit, run, net),
         None => Ok(None),
     }
+}
+
+/// The net of the output that changes last in a run, the first of several. None where no output
+/// changes.
+pub fn latest_output(circuit: &Circuit, run: &Run) -> Option<Net>
+    requires run { IsRunFor circuit.now run.now }
+    ensures { IsLatestNet circuit.now run.now result }
+{
+    // For the prover: this call says that the gates are in order.
+    let _gates = circuit.gates();
+    latest_net(run, circuit.outputs())
 }

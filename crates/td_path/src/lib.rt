@@ -7,5 +7,5 @@ mod links;
 mod places;
 mod terminals;
 
-pub use chains::{chain_of, latest_chain};
+pub use chains::{chain_of, latest_chain, latest_output};
 pub use links::{Cause, Link};
