@@ -1,11 +1,12 @@
 -- From what is said of two texts to what the checker answers.
-use Rattle.std.proofs.Common.{◌≡◌, ◌≢◌, ◌≤◌, ℕ, List, [], ◌∷◌, ◌++◌, length, map, length-append, Some, refl, sym, ap, subst, ◌∙◌, arith}
+use Rattle.std.proofs.Common.{◌≡◌, ◌≢◌, ◌≤◌, ℕ, List, [], ◌∷◌, ◌++◌, length, map, length-append, Option, Some, refl, sym, ap, subst, ◌∙◌, arith}
 use Rattle.std.specs.Prelude.{codes, decimal, Result, Ok, Err, IfOk, IfErr}
 use Rattle.std.specs.List.{flat_map}
 use Rattle.std.proofs.lemmas.List.{append-nil}
 use Rattle.std.proofs.lemmas.List.Concat.{flat_map-append, flat_map-cons}
 use Rattle.std.proofs.lemmas.List.Elements.{All-from_recursion}
 use Rattle.td_reading.specs.declared.reading.Reading.{Reading}
+use Rattle.td_reading.specs.Outputs.{output_asked}
 use Rattle.td_gates.proofs.Places.{slice_get-Contains}
 use Rattle.td_nets.specs.Netlist.{Netlist}
 use Rattle.td_nets.specs.WellFormed.{IsWellFormed}
@@ -113,7 +114,8 @@ source_fault netlist_text reading text (source.Loop name) is = is
 reads_named : (text : List ℕ) (reading : Reading) (netlist : Netlist) → Reads text reading netlist → ¬ NamesNone text reading
 reads_named text reading netlist reads none =
     let same : reads.whole ≡ none.whole = one_netlist text reading.default reads.whole none.whole reads.means none.means in
-    let asked : IsAskedAbout none.whole (Some none.word) netlist = rw (same, none.asked) at reads.asked in
+    let whole : IsAskedAbout none.whole (output_asked reading) netlist = subst (λ (w : Netlist). IsAskedAbout w (output_asked reading) netlist) same reads.asked in
+    let asked : IsAskedAbout none.whole (Some none.word) netlist = subst (λ (word : Option (List ℕ)). IsAskedAbout none.whole word netlist) none.asked whole in
     let first = asked.1 in
     none.none first.output (slice_get-Contains none.whole.outputs asked.0 first.output first.stands) first.named
 
