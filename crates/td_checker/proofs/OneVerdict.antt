@@ -7,7 +7,7 @@ use Rattle.std.proofs.lemmas.List.{append-nil}
 use Rattle.td_nets.specs.Netlist.{Netlist}
 use Rattle.td_circuit.specs.Settings.{Setting}
 use Rattle.td_domain.specs.Admits.{Admitted}
-use Rattle.td_netlist.proofs.Readings.{one_netlist}
+use Rattle.td_source.proofs.Naming.{reads_one}
 use Rattle.td_certificate.specs.declared.certificate.Certificate.{Certificate}
 use Rattle.td_domain.specs.declared.cubes.Trit.{Trit}
 use Rattle.td_refutation.specs.declared.flaw.Flaw as step_flaw
@@ -229,8 +229,8 @@ pub one_verdict : OneVerdict
 one_verdict netlist c this that none h k = one_reported netlist c this that none (reported_as netlist c this h) (reported_as netlist c that k)
 
 pub texts_have_one_verdict : TextsHaveOneVerdict
-texts_have_one_verdict netlist_text default text this that plain h k =
-    let netlist : h.netlist ≡ k.netlist = one_netlist netlist_text default h.netlist k.netlist h.circuit.means k.circuit.means in
+texts_have_one_verdict netlist_text reading text this that plain h k =
+    let netlist : h.netlist ≡ k.netlist = reads_one netlist_text reading h.netlist k.netlist h.circuit.reads k.circuit.reads in
     let certificate : h.certificate ≡ k.certificate =
     (spells_once h.certificate k.certificate text text [] h.spells k.spells (sym (append-nil text))).0 in
     one_verdict k.netlist k.certificate this that (plain k.certificate k.spells) (rw (netlist, certificate) at h.is) k.is

@@ -1,21 +1,23 @@
 -- From what is said of two texts to what the checker answers.
-use Rattle.std.proofs.Common.{◌≡◌, ◌≢◌, ◌≤◌, ℕ, List, [], ◌∷◌, ◌++◌, length, map, length-append, refl, sym, ap, subst, ◌∙◌, arith}
+use Rattle.std.proofs.Common.{◌≡◌, ◌≢◌, ◌≤◌, ℕ, List, [], ◌∷◌, ◌++◌, length, map, length-append, Option, Some, refl, sym, ap, subst, ◌∙◌, arith}
 use Rattle.std.specs.Prelude.{codes, decimal, Result, Ok, Err, IfOk, IfErr}
 use Rattle.std.specs.List.{flat_map}
 use Rattle.std.proofs.lemmas.List.{append-nil}
 use Rattle.std.proofs.lemmas.List.Concat.{flat_map-append, flat_map-cons}
 use Rattle.std.proofs.lemmas.List.Elements.{All-from_recursion}
-use Rattle.td_gates.specs.declared.timing.Delay.{Delay}
+use Rattle.td_reading.specs.declared.reading.Reading.{Reading}
+use Rattle.td_reading.specs.Outputs.{output_asked}
+use Rattle.td_gates.proofs.Places.{slice_get-Contains}
 use Rattle.td_nets.specs.Netlist.{Netlist}
-use Rattle.td_netlist.specs.declared.fault.Fault.{Fault}
-use Rattle.td_netlist.specs.declared.fault.FaultKind.TheVariants as netlist_kind
-use Rattle.td_netlist.specs.Faults.{IsUnlessMemory}
-use Rattle.td_netlist.specs.NameFaults.{IsFaultIn}
-use Rattle.td_netlist.specs.Means.{Means}
 use Rattle.td_nets.specs.WellFormed.{IsWellFormed}
 use Rattle.td_nets.specs.Views.{name_of}
 use Rattle.td_netlist.proofs.Readings.{one_netlist}
 use Rattle.td_circuit.specs.Loops.{LiesOnLoop}
+use Rattle.td_source.specs.declared.fault.SourceFault.{SourceFault}
+use Rattle.td_source.specs.declared.fault.SourceFault.TheVariants as source
+use Rattle.td_source.specs.Reads.{IsAskedAbout, Reads, HasCircuit}
+use Rattle.td_source.specs.Faults.{NamesNone, IsSourceFault}
+use Rattle.td_source.proofs.Naming.{reads_one}
 use Rattle.td_circuit.specs.Settings.{AreMoments}
 use Rattle.td_certificate.specs.declared.certificate.Certificate.{Certificate}
 use Rattle.td_certificate.specs.declared.fault.CertFaultKind.{CertFaultKind}
@@ -40,7 +42,7 @@ use Rattle.td_checker.specs.declared.verdict.Checked.{Checked}
 use Rattle.td_checker.specs.declared.verdict.CheckFault.{CheckFault}
 use Rattle.td_checker.specs.declared.verdict.CheckFault.TheVariants as fault
 use Rattle.td_checker.specs.Verdicts.{IsVerdict, line_count, line_total}
-use Rattle.td_checker.specs.Checks.{HasCircuit, HaveVerdict, IsCheckFault, IsCertificateFault, IsReportedAs, TellsWorst, IsUnrefuted}
+use Rattle.td_checker.specs.Checks.{HaveVerdict, IsCheckFault, fault_of, IsCertificateFault, IsReportedAs, TellsWorst, IsUnrefuted}
 use Rattle.td_checker.proofs.OneVerdict.{texts_have_one_verdict}
 
 -- ---- a text is at least as long as its lines are many
@@ -101,45 +103,54 @@ spelled_fault kind.Syntax line text c spells within other is = spells-stops text
 spelled_fault kind.NumberTooLarge line text c spells within other is = spells-stops text c line spells is.1
 spelled_fault kind.Version line text c spells within other is = spells-stops text c line spells is.1
 
-pub refused : (text : List ℕ) (default : Delay) (result : Result Netlist Fault) (reported : Fault) → result ≡ Err reported
-    → ((netlist : Netlist) → Means text default netlist → IsUnlessMemory result netlist)
-    → IsFaultIn text reported.kind reported.line → reported.kind ≢ netlist_kind.OutOfMemory
-    → (certificate : List ℕ) → IsCheckFault text default certificate (fault.Netlist reported)
-refused text default result reported is only has other certificate = (
-  other,
-  λ netlist means. other (subst (λ (r : Result Netlist Fault). IsUnlessMemory r netlist) is (only netlist means)),
-  has,
-)
+pub source_fault : (netlist_text : List ℕ) (reading : Reading) (text : List ℕ) (reported : SourceFault) → IsSourceFault netlist_text reading reported
+    → IsCheckFault netlist_text reading text (fault_of reported)
+source_fault netlist_text reading text source.OutOfMemory is = tt
+source_fault netlist_text reading text (source.Netlist reported) is = is
+source_fault netlist_text reading text source.NoOutput is = is
+source_fault netlist_text reading text (source.Loop name) is = is
+
+-- where a netlist is read of the text, an output has the name that is asked about
+reads_named : (text : List ℕ) (reading : Reading) (netlist : Netlist) → Reads text reading netlist → ¬ NamesNone text reading
+reads_named text reading netlist reads none =
+    let same : reads.whole ≡ none.whole = one_netlist text reading.default reads.whole none.whole reads.means none.means in
+    let whole : IsAskedAbout none.whole (output_asked reading) netlist = subst (λ (w : Netlist). IsAskedAbout w (output_asked reading) netlist) same reads.asked in
+    let asked : IsAskedAbout none.whole (Some none.word) netlist = subst (λ (word : Option (List ℕ)). IsAskedAbout none.whole word netlist) none.asked whole in
+    let first = asked.1 in
+    none.none first.output (slice_get-Contains none.whole.outputs asked.0 first.output first.stands) first.named
 
 -- texts that have a verdict have no fault
-fault_is_memory : (netlist_text : List ℕ) (default : Delay) (text : List ℕ) (reported : CheckFault) (v : Verdict)
-    → IsCheckFault netlist_text default text reported → HaveVerdict netlist_text default text v → reported ≡ fault.OutOfMemory
-fault_is_memory netlist_text default text fault.OutOfMemory v is have = refl
-fault_is_memory netlist_text default text (fault.Netlist reported) v is have = absurd (is.1 have.netlist have.circuit.means)
-fault_is_memory netlist_text default text (fault.Loop name) v is have =
-    let same : is.0 ≡ have.netlist = one_netlist netlist_text default is.0 have.netlist is.1 have.circuit.means in
+fault_is_memory : (netlist_text : List ℕ) (reading : Reading) (text : List ℕ) (reported : CheckFault) (v : Verdict)
+    → IsCheckFault netlist_text reading text reported → HaveVerdict netlist_text reading text v → reported ≡ fault.OutOfMemory
+fault_is_memory netlist_text reading text fault.OutOfMemory v is have = refl
+fault_is_memory netlist_text reading text (fault.Netlist reported) v is have = absurd (is.means_none have.circuit.reads.whole have.circuit.reads.means)
+fault_is_memory netlist_text reading text fault.NoOutput v is have =
+    absurd (reads_named netlist_text reading have.netlist have.circuit.reads is)
+fault_is_memory netlist_text reading text (fault.Loop name) v is have =
+    let same : is.0 ≡ have.netlist = reads_one netlist_text reading is.0 have.netlist is.1 have.circuit.reads in
     let loop : LiesOnLoop have.netlist (name_of name) = subst (λ (n : Netlist). LiesOnLoop n (name_of name)) same is.2 in
     absurd (have.circuit.acyclic loop.0)
-fault_is_memory netlist_text default text (fault.Certificate reported) v is have =
+fault_is_memory netlist_text reading text (fault.Certificate reported) v is have =
     spelled_fault reported.kind reported.line text have.certificate have.spells have.within is.2 is.3
 
-pub reported_only : (netlist_text : List ℕ) (default : Delay) (text : List ℕ) (result : Result Checked CheckFault)
-    → IfOk result (λ reported. HaveVerdict netlist_text default text reported.verdict) → IfErr result (λ reported. IsCheckFault netlist_text default text reported)
-    → (v : Verdict) → IsUnrefuted text → HaveVerdict netlist_text default text v → IsReportedAs v result
-reported_only netlist_text default text (Ok reported) found fails v plain have = texts_have_one_verdict netlist_text default text reported.verdict v plain found have
-reported_only netlist_text default text (Err reported) found fails v plain have = fault_is_memory netlist_text default text reported v fails have
+pub reported_only : (netlist_text : List ℕ) (reading : Reading) (text : List ℕ) (result : Result Checked CheckFault)
+    → IfOk result (λ reported. HaveVerdict netlist_text reading text reported.verdict) → IfErr result (λ reported. IsCheckFault netlist_text reading text reported)
+    → (v : Verdict) → IsUnrefuted text → HaveVerdict netlist_text reading text v → IsReportedAs v result
+reported_only netlist_text reading text (Ok reported) found fails v plain have = texts_have_one_verdict netlist_text reading text reported.verdict v plain found have
+reported_only netlist_text reading text (Err reported) found fails v plain have = fault_is_memory netlist_text reading text reported v fails have
 
-pub certificate_fault : (netlist_text : List ℕ) (default : Delay) (text : List ℕ) (netlist : Netlist) (reported : CheckFault)
-    → HasCircuit netlist_text default netlist → IsCertificateFault text reported → IsCheckFault netlist_text default text reported
-certificate_fault netlist_text default text netlist fault.OutOfMemory circuit is = tt
-certificate_fault netlist_text default text netlist (fault.Netlist reported) circuit is = absurd is
-certificate_fault netlist_text default text netlist (fault.Loop name) circuit is = absurd is
-certificate_fault netlist_text default text netlist (fault.Certificate reported) circuit is = (netlist, circuit, is.0, is.1)
+pub certificate_fault : (netlist_text : List ℕ) (reading : Reading) (text : List ℕ) (netlist : Netlist) (reported : CheckFault)
+    → HasCircuit netlist_text reading netlist → IsCertificateFault text reported → IsCheckFault netlist_text reading text reported
+certificate_fault netlist_text reading text netlist fault.OutOfMemory circuit is = tt
+certificate_fault netlist_text reading text netlist (fault.Netlist reported) circuit is = absurd is
+certificate_fault netlist_text reading text netlist fault.NoOutput circuit is = absurd is
+certificate_fault netlist_text reading text netlist (fault.Loop name) circuit is = absurd is
+certificate_fault netlist_text reading text netlist (fault.Certificate reported) circuit is = (netlist, circuit, is.0, is.1)
 
-pub have_verdict : (netlist_text : List ℕ) (default : Delay) (text : List ℕ) (netlist : Netlist) (c : Certificate) (v : Verdict)
-    → HasCircuit netlist_text default netlist → Spells c text × IsWithinLimit text → IsVerdict netlist c v
-    → HaveVerdict netlist_text default text v
-have_verdict netlist_text default text netlist c v circuit spells is = record {
+pub have_verdict : (netlist_text : List ℕ) (reading : Reading) (text : List ℕ) (netlist : Netlist) (c : Certificate) (v : Verdict)
+    → HasCircuit netlist_text reading netlist → Spells c text × IsWithinLimit text → IsVerdict netlist c v
+    → HaveVerdict netlist_text reading text v
+have_verdict netlist_text reading text netlist c v circuit spells is = record {
   netlist = netlist;
   circuit = circuit;
   certificate = c;
@@ -153,11 +164,11 @@ pub moments_fit : (netlist : Netlist) (c : Certificate) → IsOfSize netlist c �
 moments_fit netlist c size has =
     record { count = has.count ∙ sym size.inputs; within = All-from_recursion (λ moment. moment ≤ 1000000000) c.question.moments has.moments }
 
-pub tells_worst : (netlist_text : List ℕ) (default : Delay) (text : List ℕ) (netlist : Netlist) (c : Certificate) (v : Verdict)
-    → HasCircuit netlist_text default netlist → IsWellFormed netlist → Spells c text × IsWithinLimit text → IsVerdict netlist c v
-    → v ≡ verdict.Accepted → TellsWorst netlist_text default text
-tells_worst netlist_text default text netlist c v circuit formed spells is accepted other d means spelled =
-    let same : netlist ≡ other = one_netlist netlist_text default netlist other circuit.means means in
+pub tells_worst : (netlist_text : List ℕ) (reading : Reading) (text : List ℕ) (netlist : Netlist) (c : Certificate) (v : Verdict)
+    → HasCircuit netlist_text reading netlist → IsWellFormed netlist → Spells c text × IsWithinLimit text → IsVerdict netlist c v
+    → v ≡ verdict.Accepted → TellsWorst netlist_text reading text
+tells_worst netlist_text reading text netlist c v circuit formed spells is accepted other d reads spelled =
+    let same : netlist ≡ other = reads_one netlist_text reading netlist other circuit.reads reads in
     let one : c ≡ d = (spells_once c d text text [] spells.0 spelled (sym (append-nil text))).0 in
     let accepts : Accepts netlist c = rw accepted at is in
     rw (same, one) at (accepted_is_worst netlist c formed circuit.acyclic (moments_fit netlist c accepts.size spells.0.has) accepts)

@@ -144,7 +144,7 @@ are_nodes version (n ∷ nodes) all = (all.0.1, are_nodes version nodes all.1)
 -- ---- what is written
 
 pub accepted_is_written : AcceptedIsWritten
-accepted_is_written netlist_text default netlist c means acyclic fit flips accepts few none =
+accepted_is_written netlist_text reading netlist c reads acyclic fit flips accepts few none =
     let given : Setting = setting_of netlist c in
     let long = cube_fits c.question.admit.pins c.pair.first c.pair.second accepts.admitted.pinned in
     let first : length c.pair.first ≡ length netlist.inputs = vector_fits given c.pair.first c.pair.second c.time accepts.reached in
@@ -174,7 +174,7 @@ accepted_is_written netlist_text default netlist c means acyclic fit flips accep
       within = within;
       verdict = record {
         netlist = netlist;
-        circuit = record { means = means; acyclic = acyclic.acyclic };
+        circuit = record { reads = reads; acyclic = acyclic.acyclic };
         certificate = c;
         spells = record { has = has; parts = refl };
         within = within;

@@ -1,12 +1,13 @@
 -- What the checker says of two texts.
 use Rattle.std.specs.Prelude.{◌≡◌, ◌≢◌, ℕ, false, List, Result, Ok, Err}
-use Rattle.td_gates.specs.declared.timing.Delay.{Delay}
-use Rattle.td_netlist.specs.declared.fault.FaultKind.TheVariants as netlist_kind
+use Rattle.td_reading.specs.declared.reading.Reading.{Reading}
 use Rattle.td_nets.specs.Netlist.{Netlist}
-use Rattle.td_netlist.specs.NameFaults.{IsFaultIn}
-use Rattle.td_netlist.specs.Means.{Means}
 use Rattle.td_nets.specs.Views.{name_of}
-use Rattle.td_circuit.specs.Loops.{Loop, LiesOnLoop}
+use Rattle.td_circuit.specs.Loops.{LiesOnLoop}
+use Rattle.td_source.specs.declared.fault.SourceFault.{SourceFault}
+use Rattle.td_source.specs.declared.fault.SourceFault.TheVariants as source
+use Rattle.td_source.specs.Reads.{Reads, HasCircuit}
+use Rattle.td_source.specs.Faults.{IsNetlistFault, NamesNone}
 use Rattle.td_domain.specs.Worst.{IsWorst}
 use Rattle.td_certificate.specs.declared.certificate.Certificate.{Certificate}
 use Rattle.td_certificate.specs.declared.fault.CertFaultKind.TheVariants as certificate_kind
@@ -20,35 +21,35 @@ use Rattle.td_checker.specs.declared.verdict.CheckFault.{CheckFault}
 use Rattle.td_checker.specs.declared.verdict.CheckFault.TheVariants as fault
 use Rattle.td_checker.specs.Verdicts.{IsVerdict}
 
--- the netlist's text, with this delay for gates that state none, means this netlist, which has no
--- loop
-pub record HasCircuit (text : List ℕ) (default : Delay) (netlist : Netlist) : Type 0 where
-  pub means : Means text default netlist
-  pub acyclic : ¬ Loop netlist
-
--- The texts have this verdict: the netlist's means a netlist without a loop, the certificate's
--- spells a certificate within its limit, and the verdict is that of both.
-pub record HaveVerdict (netlist_text : List ℕ) (default : Delay) (text : List ℕ) (verdict : Verdict) : Type 0 where
+-- The texts have this verdict: the netlist that is read of the one has no loop, the other spells a
+-- certificate within its limit, and the verdict is that of both.
+pub record HaveVerdict (netlist_text : List ℕ) (reading : Reading) (text : List ℕ) (verdict : Verdict) : Type 0 where
   pub netlist : Netlist
-  pub circuit : HasCircuit netlist_text default netlist
+  pub circuit : HasCircuit netlist_text reading netlist
   pub certificate : Certificate
   pub spells : Spells certificate text
   pub within : IsWithinLimit text
   pub is : IsVerdict netlist certificate verdict
 
 -- What a fault says of the texts, looked for in this order: the netlist's text means none, and has
--- the fault; the netlist has a loop; the certificate's text has the fault. That memory ran out says
--- nothing of them.
-abbrev pub IsCheckFault : List ℕ → Delay → List ℕ → CheckFault → Type 0
-IsCheckFault netlist_text default text fault.OutOfMemory = Unit {0}
-IsCheckFault netlist_text default text (fault.Netlist reported) =
-    (reported.kind ≢ netlist_kind.OutOfMemory) × ((netlist : Netlist) → ¬ Means netlist_text default netlist)
-    × IsFaultIn netlist_text reported.kind reported.line
-IsCheckFault netlist_text default text (fault.Loop name) =
-    (netlist : Netlist) × Means netlist_text default netlist × LiesOnLoop netlist (name_of name)
-IsCheckFault netlist_text default text (fault.Certificate reported) =
-    (netlist : Netlist) × HasCircuit netlist_text default netlist
+-- the fault; no output has the name that is asked about; the netlist that is asked about has a loop;
+-- the certificate's text has the fault. That memory ran out says nothing of them.
+abbrev pub IsCheckFault : List ℕ → Reading → List ℕ → CheckFault → Type 0
+IsCheckFault netlist_text reading text fault.OutOfMemory = Unit {0}
+IsCheckFault netlist_text reading text (fault.Netlist reported) = IsNetlistFault netlist_text reading reported
+IsCheckFault netlist_text reading text fault.NoOutput = NamesNone netlist_text reading
+IsCheckFault netlist_text reading text (fault.Loop name) =
+    (netlist : Netlist) × Reads netlist_text reading netlist × LiesOnLoop netlist (name_of name)
+IsCheckFault netlist_text reading text (fault.Certificate reported) =
+    (netlist : Netlist) × HasCircuit netlist_text reading netlist
     × (reported.kind ≢ certificate_kind.OutOfMemory) × IsFault reported.kind reported.line text
+
+-- the fault of the checker that says why a text gives no circuit
+abbrev pub fault_of : SourceFault → CheckFault
+fault_of source.OutOfMemory = fault.OutOfMemory
+fault_of (source.Netlist reported) = fault.Netlist reported
+fault_of source.NoOutput = fault.NoOutput
+fault_of (source.Loop name) = fault.Loop name
 
 -- memory aside, the result is this verdict
 abbrev pub IsReportedAs : Verdict → Result Checked CheckFault → Type 0
@@ -61,19 +62,20 @@ IsUnrefuted text = (certificate : Certificate) → Spells certificate text → h
 
 -- two texts have at most one verdict, where no leaf is refuted by steps
 abbrev pub TextsHaveOneVerdict : Type 0
-TextsHaveOneVerdict = (netlist_text : List ℕ) (default : Delay) (text : List ℕ) (this that : Verdict) → IsUnrefuted text
-    → HaveVerdict netlist_text default text this → HaveVerdict netlist_text default text that → this ≡ that
+TextsHaveOneVerdict = (netlist_text : List ℕ) (reading : Reading) (text : List ℕ) (this that : Verdict) → IsUnrefuted text
+    → HaveVerdict netlist_text reading text this → HaveVerdict netlist_text reading text that → this ≡ that
 
--- The time of the certificate that the text spells is the worst delay of the netlist that the
--- netlist's text means, over the pairs that the certificate admits and with its moments of the
+-- The time of the certificate that the text spells is the worst delay of the netlist that is read
+-- of the netlist's text, over the pairs that the certificate admits and with its moments of the
 -- inputs.
-abbrev pub TellsWorst : List ℕ → Delay → List ℕ → Type 0
-TellsWorst netlist_text default text = (netlist : Netlist) (certificate : Certificate) → Means netlist_text default netlist
+abbrev pub TellsWorst : List ℕ → Reading → List ℕ → Type 0
+TellsWorst netlist_text reading text = (netlist : Netlist) (certificate : Certificate) → Reads netlist_text reading netlist
     → Spells certificate text → IsWorst (setting_of netlist certificate) certificate.question.admit certificate.time
 
 -- what a fault says of the certificate's text alone
 abbrev pub IsCertificateFault : List ℕ → CheckFault → Type 0
 IsCertificateFault text fault.OutOfMemory = Unit {0}
 IsCertificateFault text (fault.Netlist reported) = ⊥
+IsCertificateFault text fault.NoOutput = ⊥
 IsCertificateFault text (fault.Loop name) = ⊥
 IsCertificateFault text (fault.Certificate reported) = (reported.kind ≢ certificate_kind.OutOfMemory) × IsFault reported.kind reported.line text

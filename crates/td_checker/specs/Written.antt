@@ -1,8 +1,8 @@
 -- Certificates that are accepted, and their texts.
 use Rattle.std.specs.Prelude.{◌≡◌, ℕ, ◌≤◌, false, List, length}
-use Rattle.td_gates.specs.declared.timing.Delay.{Delay}
+use Rattle.td_reading.specs.declared.reading.Reading.{Reading}
 use Rattle.td_nets.specs.Netlist.{Netlist}
-use Rattle.td_netlist.specs.Means.{Means}
+use Rattle.td_source.specs.Reads.{Reads}
 use Rattle.td_circuit.specs.Settings.{AreMoments}
 use Rattle.td_run.specs.Laws.{IsAcyclic}
 use Rattle.td_certificate.specs.Questions.{inputs_of}
@@ -16,15 +16,15 @@ use Rattle.td_checker.specs.Checks.{HaveVerdict}
 
 -- the certificate can be written, what is written is within the limit, and the verdict on it is
 -- Accepted
-pub record IsAcceptedAsWritten (netlist_text : List ℕ) (default : Delay) (c : Certificate) : Type 0 where
+pub record IsAcceptedAsWritten (netlist_text : List ℕ) (reading : Reading) (c : Certificate) : Type 0 where
   pub has : HasSpelling c
   pub within : IsWithinLimit (spelling c)
-  pub verdict : HaveVerdict netlist_text default (spelling c) verdict.Accepted
+  pub verdict : HaveVerdict netlist_text reading (spelling c) verdict.Accepted
 
--- A certificate that is accepted of the netlist that a text means, with a moment for each input, no
--- more flips than inputs, and a tree of at most 10,000,000 lines of which none is a step's, as an
--- exact answer of a search gives it, is accepted as it is written.
+-- A certificate that is accepted of the netlist that is read of a text, with a moment for each
+-- input, no more flips than inputs, and a tree of at most 10,000,000 lines of which none is a
+-- step's, as an exact answer of a search gives it, is accepted as it is written.
 abbrev pub AcceptedIsWritten : Type 0
-AcceptedIsWritten = (netlist_text : List ℕ) (default : Delay) (netlist : Netlist) (c : Certificate) → Means netlist_text default netlist
+AcceptedIsWritten = (netlist_text : List ℕ) (reading : Reading) (netlist : Netlist) (c : Certificate) → Reads netlist_text reading netlist
     → IsAcyclic netlist → AreMoments netlist c.question.moments → c.question.admit.flips ≤ inputs_of c.question → Accepts netlist c
-    → length c.tree ≤ 10000000 → has_refuted c.tree ≡ false → IsAcceptedAsWritten netlist_text default c
+    → length c.tree ≤ 10000000 → has_refuted c.tree ≡ false → IsAcceptedAsWritten netlist_text reading c

@@ -1,7 +1,6 @@
 //! The verdict on a certificate.
 
 ghost use Rattle.std.specs.Prelude.{◌≡◌, ◌≤◌, ◌<◌, ◌+◌, ◌*◌, ◌↔◌, ℕ, List, length, IfOk, IfErr, IfSome, IsTrue};
-ghost use Rattle.td_netlist.specs.Means.{Means};
 ghost use Rattle.td_nets.specs.WellFormed.{IsWellFormed};
 ghost use Rattle.td_circuit.specs.Numbering.{setting};
 ghost use Rattle.td_circuit.specs.Run.{IsDelayOfBits};
@@ -12,7 +11,7 @@ ghost use Rattle.td_event_sim.specs.Scratch.{IsFor};
 ghost use Rattle.td_checker.specs.Judging.{AreJudged, reported_as};
 ghost use Rattle.td_checker.specs.Verdicts.{IsVerdict, line_total};
 ghost use Rattle.td_checker.specs.declared.verdict.Verdict.{Verdict as Reported};
-ghost use Rattle.td_checker.specs.Checks.{HaveVerdict, HasCircuit, IsCheckFault, IsCertificateFault, IsReportedAs, TellsWorst, IsUnrefuted};
+ghost use Rattle.td_checker.specs.Checks.{HaveVerdict, IsCheckFault, IsCertificateFault, IsReportedAs, TellsWorst, IsUnrefuted};
 
 use crate::admitting::is_admitted;
 use crate::judging::{Flaw, Judged, judge};
@@ -20,11 +19,10 @@ use crate::verdict::{CheckFault, Checked, Verdict};
 use crate::walking::Walk;
 use std::alloc::{AllocError, Global};
 use td_certificate::{CertFaultKind, Certificate, Version};
-use td_circuit::{BuildFault, Circuit, build};
+use td_circuit::Circuit;
 use td_event_sim::{Scratch, delay_of};
-use td_gates::Delay;
-use td_netlist::FaultKind;
-use td_nets::Netlist;
+use td_reading::Reading;
+use td_source::circuit_of;
 
 /// The first bad line of a tree: how many of its lines stand before it, and what is wrong with it.
 #[derive(Clone, Copy, Drop)]
@@ -170,41 +168,6 @@ fn verdict_on(
     verdict_of_lines(alloc, &circuit, certificate)
 }
 
-/// The netlist that a text means.
-fn netlist_of<'a>(alloc: Global, text: &'a [u8], default: Delay) -> Result<Netlist, CheckFault<'a>>
-    ensures found { IfOk result (λ netlist. Means text.now default netlist) }
-    ensures formed { IfOk result (λ netlist. IsWellFormed netlist) }
-    ensures fault { IfErr result (λ fault. (certificate : List ℕ) → IsCheckFault text.now default certificate fault) }
-{
-    match td_netlist::read(alloc, text, default) {
-        Ok(netlist) => {
-            // For the prover: this call says that the netlist is well-formed.
-            let _gates = netlist.gates();
-            Ok(netlist)
-        }
-        Err(fault) => match fault.kind {
-            FaultKind::OutOfMemory => Err(CheckFault::OutOfMemory),
-            _ => Err(CheckFault::Netlist(fault)),
-        },
-    }
-}
-
-/// The circuit of a netlist, which this text means.
-fn circuit_of<'a>(alloc: Global, text: &'a [u8], default: Delay) -> Result<Circuit, CheckFault<'a>>
-    ensures found { IfOk result (λ circuit. HasCircuit text.now default circuit.netlist) }
-    ensures formed { IfOk result (λ circuit. IsWellFormed circuit.netlist) }
-    ensures fault { IfErr result (λ fault. (certificate : List ℕ) → IsCheckFault text.now default certificate fault) }
-{
-    let netlist = netlist_of(alloc, text, default)?;
-    match build(alloc, netlist) {
-        Ok(circuit) => Ok(circuit),
-        Err((_netlist, fault)) => match fault {
-            BuildFault::OutOfMemory => Err(CheckFault::OutOfMemory),
-            BuildFault::Loop(name) => Err(CheckFault::Loop(name)),
-        },
-    }
-}
-
 /// The certificate that a text spells.
 fn spelled_by<'a>(alloc: Global, text: &[u8]) -> Result<Certificate, CheckFault<'a>>
     ensures found { IfOk result (λ certificate. Spells certificate text.now × IsWithinLimit text.now) }
@@ -219,20 +182,20 @@ fn spelled_by<'a>(alloc: Global, text: &[u8]) -> Result<Certificate, CheckFault<
     }
 }
 
-/// The verdict on the certificate that a text spells, for the netlist that another text means.
+/// The verdict on the certificate that a text spells, for the netlist that is read of another.
 #[tactic(auto, using(crate::proofs::Texts::few_lines, crate::proofs::Texts::have_verdict))]
 fn verdict_of_texts<'a>(
     alloc: Global,
     netlist: &'a [u8],
-    default: Delay,
+    reading: Reading<'_>,
     certificate: &[u8],
 ) -> Result<Checked, CheckFault<'a>>
-    ensures reported { IfOk result (λ checked. HaveVerdict netlist.now default certificate.now checked.verdict) }
+    ensures reported { IfOk result (λ checked. HaveVerdict netlist.now reading.entry certificate.now checked.verdict) }
     ensures spelled { IfOk result (λ checked. Spells checked.certificate certificate.now) }
-    ensures fault { IfErr result (λ fault. IsCheckFault netlist.now default certificate.now fault) }
-    ensures worst { IfOk result (λ checked. checked.verdict ≡ Verdict.Accepted → TellsWorst netlist.now default certificate.now) }
+    ensures fault { IfErr result (λ fault. IsCheckFault netlist.now reading.entry certificate.now fault) }
+    ensures worst { IfOk result (λ checked. checked.verdict ≡ Verdict.Accepted → TellsWorst netlist.now reading.entry certificate.now) }
 {
-    let circuit = circuit_of(alloc, netlist, default)?;
+    let circuit = circuit_of(alloc, netlist, reading)?;
     let spelled = spelled_by(alloc, certificate)?;
     let verdict = verdict_on(alloc, circuit, &spelled)?;
     Ok(Checked {
@@ -241,30 +204,30 @@ fn verdict_of_texts<'a>(
     })
 }
 
-/// The verdict on a certificate's text, for a netlist's text in which gates that state no delay
-/// have the default one.
+/// The verdict on a certificate's text, for the netlist that is read of a netlist's text.
 ///
 /// # Errors
 ///
-/// The first that is there of a fault of the netlist's text, a loop of the netlist and a fault of
-/// the certificate's text. `OutOfMemory` where a growth was refused.
+/// The first that is there of a fault of the netlist's text, an output that is not there, a loop of
+/// the netlist that is asked about and a fault of the certificate's text. `OutOfMemory` where a
+/// growth was refused.
 pub fn check<'a>(
     alloc: Global,
     netlist: &'a [u8],
-    default: Delay,
+    reading: Reading<'_>,
     certificate: &[u8],
 ) -> Result<Checked, CheckFault<'a>>
     // The verdict is the one on the two texts. The certificate is the one that the second text
     // spells. A fault is one of theirs.
-    ensures reported { IfOk result (λ checked. HaveVerdict netlist.now default certificate.now checked.verdict) }
+    ensures reported { IfOk result (λ checked. HaveVerdict netlist.now reading.entry certificate.now checked.verdict) }
     ensures spelled { IfOk result (λ checked. Spells checked.certificate certificate.now) }
-    ensures fault { IfErr result (λ fault. IsCheckFault netlist.now default certificate.now fault) }
+    ensures fault { IfErr result (λ fault. IsCheckFault netlist.now reading.entry certificate.now fault) }
 
     // Unless memory runs out, texts that have a verdict get it, where no leaf is refuted by steps.
-    ensures only { (verdict : Reported) → IsUnrefuted certificate.now → HaveVerdict netlist.now default certificate.now verdict → IsReportedAs verdict result }
+    ensures only { (verdict : Reported) → IsUnrefuted certificate.now → HaveVerdict netlist.now reading.entry certificate.now verdict → IsReportedAs verdict result }
 
     // An accepted time is the worst delay of the admitted pairs.
-    ensures worst { IfOk result (λ checked. checked.verdict ≡ Verdict.Accepted → TellsWorst netlist.now default certificate.now) }
+    ensures worst { IfOk result (λ checked. checked.verdict ≡ Verdict.Accepted → TellsWorst netlist.now reading.entry certificate.now) }
 {
-    verdict_of_texts(alloc, netlist, default, certificate)
+    verdict_of_texts(alloc, netlist, reading, certificate)
 }

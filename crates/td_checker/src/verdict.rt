@@ -2,6 +2,7 @@
 
 ghost use Rattle.std.specs.Prelude.{◌≡◌};
 ghost use Rattle.td_checker.specs.declared.verdict.CheckFault.TheVariants as fault;
+ghost use Rattle.td_checker.specs.Checks.{fault_of};
 ghost use Rattle.td_checker.specs.Verdicts.{verdict_number, verdict_name, verdict_line};
 
 use std::alloc::AllocError;
@@ -9,6 +10,7 @@ use td_certificate::{CertFault, Certificate};
 use td_netlist::Fault;
 use td_nets::Name;
 use td_refutation::Flaw as StepFlaw;
+use td_source::SourceFault;
 use thiserror::Error;
 
 /// The verdict on a certificate: the first that applies of another circuit, a pair that isn't
@@ -103,8 +105,8 @@ pub struct Checked {
     pub certificate: Certificate,
 }
 
-/// Why two texts have no verdict: the first that is there of a fault of the netlist's text, a loop
-/// and a fault of the certificate's text.
+/// Why two texts have no verdict: the first that is there of a fault of the netlist's text, an output
+/// that is not there, a loop and a fault of the certificate's text.
 #[derive(Debug, Drop, Error)]
 pub enum CheckFault<'a> {
     /// A growth was refused.
@@ -113,6 +115,9 @@ pub enum CheckFault<'a> {
     /// The netlist's text is refused.
     #[error("the netlist: {0}")]
     Netlist(Fault<'a>),
+    /// No output has the name that is asked about.
+    #[error("no such output")]
+    NoOutput,
     /// This net lies on a loop.
     #[error("a loop")]
     Loop(Name),
@@ -126,5 +131,18 @@ impl<'a> From<AllocError> for CheckFault<'a> {
 
     fn from(_e: AllocError) -> CheckFault<'a> {
         CheckFault::OutOfMemory
+    }
+}
+
+impl<'a> From<SourceFault<'a>> for CheckFault<'a> {
+    ghost from_gives = { λ source fault. fault ≡ fault_of source };
+
+    fn from(source: SourceFault<'a>) -> CheckFault<'a> {
+        match source {
+            SourceFault::OutOfMemory => CheckFault::OutOfMemory,
+            SourceFault::Netlist(fault) => CheckFault::Netlist(fault),
+            SourceFault::NoOutput => CheckFault::NoOutput,
+            SourceFault::Loop(name) => CheckFault::Loop(name),
+        }
     }
 }

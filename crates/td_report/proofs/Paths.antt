@@ -11,7 +11,7 @@ use Rattle.std.proofs.lemmas.List.{length-map, get_or_past}
 use Rattle.td_gates.specs.declared.primitives.Level.TheVariants.{Zero}
 use Rattle.td_gates.specs.Wave.{Wave}
 use Rattle.td_nets.specs.Netlist.{Name, Net, Low, Named, Netlist}
-use Rattle.td_gates.specs.declared.timing.Delay.{Delay}
+use Rattle.td_reading.specs.declared.reading.Reading.{Reading}
 use Rattle.td_report.specs.Simulations.{IsSimulation}
 use Rattle.td_nets.specs.Printed.{printed}
 use Rattle.td_circuit.specs.Numbering.{Numbered, setting, nets, IsNumbering}
@@ -192,11 +192,11 @@ tells_latest circuit run links old new is added = (
 
 -- ---- the report
 
-module _ (text : List ℕ) (default : Delay) (from to : List ℕ) (at : Option (List ℕ)) (circuit : Numbered) (run : NetWaves)
-    (is : IsSimulation text default from to at circuit run) where
+module _ (text : List ℕ) (reading : Reading) (from to : List ℕ) (at : Option (List ℕ)) (circuit : Numbered) (run : NetWaves)
+    (is : IsSimulation text reading from to at circuit run) where
   pub path_report : (output : Option (List ℕ)) (lines head report : List ℕ)
       → TellsPath (setting circuit) (net_wave (nets circuit) run.waves) output lines → head ≡ unit_lines circuit.netlist → report ≡ head ++ lines
-      → IsPathReport text default from to at output report
+      → IsPathReport text reading from to at output report
   path_report output lines head report tells is_head added = record {
     setting = setting circuit;
     is_setting = is.is_setting;
@@ -212,7 +212,7 @@ module _ (text : List ℕ) (default : Delay) (from to : List ℕ) (at : Option (
   }
 
   pub no_output : (word : List ℕ) → ((output : Name) → Contains circuit.netlist.outputs output → printed output ≢ word)
-      → NamesNoOutput text default from to at word
+      → NamesNoOutput text reading from to at word
   no_output word none = record {
     setting = setting circuit;
     is_setting = is.is_setting;

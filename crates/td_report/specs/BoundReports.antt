@@ -1,6 +1,6 @@
 -- What `bound` prints.
 use Rattle.std.specs.Prelude.{◌≡◌, ℕ, Bool, true, false, List, ◌++◌, length, codes, decimal, Option, Some, None}
-use Rattle.td_gates.specs.declared.timing.Delay.{Delay}
+use Rattle.td_reading.specs.declared.reading.Reading.{Reading}
 use Rattle.td_nets.specs.Netlist.{Netlist}
 use Rattle.td_circuit.specs.Settings.{Setting}
 use Rattle.td_domain.specs.declared.cubes.Trit.{Trit}
@@ -54,9 +54,9 @@ HasEdges true setting cube report whole = EndsWithEdges setting cube report whol
 
 -- The text and the last option give a setting, the other two options give trits for its inputs, and
 -- the report has the bounds of their cube, those by edges where they are asked for.
-pub record IsBoundReport (text : List ℕ) (default : Delay) (first second at : Option (List ℕ)) (edges : Bool) (report : List ℕ) : Type 0 where
+pub record IsBoundReport (text : List ℕ) (reading : Reading) (first second at : Option (List ℕ)) (edges : Bool) (report : List ℕ) : Type 0 where
   pub setting : Setting
-  pub is_setting : IsSetting text default at setting
+  pub is_setting : IsSetting text reading at setting
   pub firsts : List Trit
   pub seconds : List Trit
   pub first_is : AreTrits (length setting.netlist.inputs) first firsts

@@ -1,6 +1,6 @@
 -- What `check` prints.
 use Rattle.std.specs.Prelude.{◌≡◌, ℕ, List, [], ◌++◌, codes, decimal, Option, Some, None}
-use Rattle.td_gates.specs.declared.timing.Delay.{Delay}
+use Rattle.td_reading.specs.declared.reading.Reading.{Reading}
 use Rattle.td_certificate.specs.declared.certificate.Certificate.{Certificate}
 use Rattle.td_certificate.specs.Spelling.{Spells, version_in, question_text}
 use Rattle.td_checker.specs.declared.verdict.Verdict.{Verdict}
@@ -40,13 +40,13 @@ verdict_text certificate Accepted = accepted_text certificate
 verdict_text certificate other = refused_text other
 
 -- The two texts have a verdict, by which the program ends, and the report tells it. An accepted
--- time is the worst delay of the pairs that the certificate admits, in the netlist that its text
--- means, with the certificate's moments.
-pub record IsCheckReport (text : List ℕ) (default : Delay) (certificate_text : List ℕ) (ending : Status) (report : List ℕ) : Type 0 where
+-- time is the worst delay of the pairs that the certificate admits, in the netlist that is read of
+-- its text, with the certificate's moments.
+pub record IsCheckReport (text : List ℕ) (reading : Reading) (certificate_text : List ℕ) (ending : Status) (report : List ℕ) : Type 0 where
   pub verdict : Verdict
-  pub has : HaveVerdict text default certificate_text verdict
+  pub has : HaveVerdict text reading certificate_text verdict
   pub certificate : Certificate
   pub spells : Spells certificate certificate_text
   pub ends : ending ≡ ending_of verdict
   pub is : report ≡ verdict_text certificate verdict
-  pub worst : verdict ≡ Accepted → TellsWorst text default certificate_text
+  pub worst : verdict ≡ Accepted → TellsWorst text reading certificate_text

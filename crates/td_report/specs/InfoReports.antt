@@ -1,10 +1,9 @@
 -- What `info` prints.
 use Rattle.std.specs.Prelude.{◌≡◌, ℕ, ◌+◌, List, [], ◌∷◌, ◌++◌, length, codes, decimal, Option, Some, None}
-use Rattle.td_gates.specs.declared.timing.Delay.{Delay}
+use Rattle.td_reading.specs.declared.reading.Reading.{Reading}
 use Rattle.td_nets.specs.Netlist.{Name, Netlist}
 use Rattle.td_nets.specs.Printed.{printed}
-use Rattle.td_netlist.specs.Means.{Means}
-use Rattle.td_circuit.specs.Loops.{Loop}
+use Rattle.td_source.specs.Reads.{HasCircuit}
 use Rattle.td_info.specs.declared.ranges.Range.{Range}
 use Rattle.td_info.specs.Sizes.{IsDepth, HasRange}
 use Rattle.td_report.specs.Reports.{newline, unit_line, defaulted_line}
@@ -55,9 +54,8 @@ pub record TellsNetlist (netlist : Netlist) (report : List ℕ) : Type 0 where
   pub has_range : HasRange netlist range
   pub is : report ≡ info_text netlist depth range
 
--- The text means a netlist without a loop, and the report tells what is in it.
-pub record IsInfoReport (text : List ℕ) (default : Delay) (report : List ℕ) : Type 0 where
+-- The netlist that is read of the text has no loop, and the report tells what is in it.
+pub record IsInfoReport (text : List ℕ) (reading : Reading) (report : List ℕ) : Type 0 where
   pub netlist : Netlist
-  pub means : Means text default netlist
-  pub acyclic : ¬ Loop netlist
+  pub circuit : HasCircuit text reading netlist
   pub tells : TellsNetlist netlist report

@@ -4,7 +4,7 @@ use Rattle.std.specs.List.{flat_map, Contains}
 use Rattle.td_gates.specs.declared.primitives.Kind.{Kind}
 use Rattle.td_gates.specs.declared.primitives.Kind.TheVariants as kind
 use Rattle.td_gates.specs.declared.primitives.Level.{Level}
-use Rattle.td_gates.specs.declared.timing.Delay.{Delay}
+use Rattle.td_reading.specs.declared.reading.Reading.{Reading}
 use Rattle.td_gates.specs.Wave.{Wave}
 use Rattle.td_nets.specs.Netlist.{Name, Net, Low, High, Named, Netlist}
 use Rattle.td_nets.specs.Printed.{printed}
@@ -68,9 +68,9 @@ TellsPath setting waves None lines =
 
 -- The text and the option give a setting, the two words are vectors of its inputs, and the report
 -- has the head and the lines of their run.
-pub record IsPathReport (text : List ℕ) (default : Delay) (from to : List ℕ) (at output : Option (List ℕ)) (report : List ℕ) : Type 0 where
+pub record IsPathReport (text : List ℕ) (reading : Reading) (from to : List ℕ) (at output : Option (List ℕ)) (report : List ℕ) : Type 0 where
   pub setting : Setting
-  pub is_setting : IsSetting text default at setting
+  pub is_setting : IsSetting text reading at setting
   pub first : List Level
   pub second : List Level
   pub from_is : SpellsVector level_character (length setting.netlist.inputs) from first
@@ -82,9 +82,9 @@ pub record IsPathReport (text : List ℕ) (default : Delay) (from to : List ℕ)
   pub is : report ≡ unit_lines setting.netlist ++ lines
 
 -- the text and the words give a run, and no output has this name
-pub record NamesNoOutput (text : List ℕ) (default : Delay) (from to : List ℕ) (at : Option (List ℕ)) (word : List ℕ) : Type 0 where
+pub record NamesNoOutput (text : List ℕ) (reading : Reading) (from to : List ℕ) (at : Option (List ℕ)) (word : List ℕ) : Type 0 where
   pub setting : Setting
-  pub is_setting : IsSetting text default at setting
+  pub is_setting : IsSetting text reading at setting
   pub first : List Level
   pub second : List Level
   pub from_is : SpellsVector level_character (length setting.netlist.inputs) from first

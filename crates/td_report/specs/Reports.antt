@@ -2,14 +2,13 @@
 use Rattle.std.specs.Prelude.{◌≡◌, ℕ, List, [], ◌∷◌, ◌++◌, length, map, codes, decimal, Option, Some, None}
 use Rattle.std.specs.List.{flat_map}
 use Rattle.td_gates.specs.declared.primitives.Level.{Level}
-use Rattle.td_gates.specs.declared.timing.Delay.{Delay}
+use Rattle.td_reading.specs.declared.reading.Reading.{Reading}
 use Rattle.td_gates.specs.Wave.{Wave, last}
 use Rattle.td_nets.specs.declared.netlist.Unit.{Unit as Step}
 use Rattle.td_nets.specs.Netlist.{Name, Net, Named, Netlist}
 use Rattle.td_nets.specs.Printed.{printed}
 use Rattle.td_nets.specs.Scales.{scale_text}
-use Rattle.td_netlist.specs.Means.{Means}
-use Rattle.td_circuit.specs.Loops.{Loop}
+use Rattle.td_source.specs.Reads.{HasCircuit}
 use Rattle.td_circuit.specs.Settings.{Setting}
 use Rattle.td_circuit.specs.Run.{Runs, latest_change}
 use Rattle.td_vcd.specs.Text.{dump, variable_waves}
@@ -52,19 +51,18 @@ sim_text netlist waves =
     ++ output_lines netlist waves
     ++ time_line (latest_change (map (λ name. waves (Named name)) netlist.outputs))
 
--- The text means a netlist without a loop, and the option gives a moment for each of its inputs,
--- all of them 0 where it is left out.
-pub record IsSetting (text : List ℕ) (default : Delay) (at : Option (List ℕ)) (setting : Setting) : Type 0 where
-  pub means : Means text default setting.netlist
-  pub acyclic : ¬ Loop setting.netlist
+-- The netlist that is read of the text has no loop, and the option gives a moment for each of its
+-- inputs, all of them 0 where it is left out.
+pub record IsSetting (text : List ℕ) (reading : Reading) (at : Option (List ℕ)) (setting : Setting) : Type 0 where
+  pub circuit : HasCircuit text reading setting.netlist
   pub moments : AreMomentsOf (length setting.netlist.inputs) at setting.moments
 
 -- The text and the option give a setting, the two words are vectors of its inputs, the report is
 -- that of their run, and where a name is given for its waves, their dump is the one file.
-pub record IsSimReport (text : List ℕ) (default : Delay) (from to : List ℕ) (at vcd : Option (List ℕ)) (report : List ℕ)
+pub record IsSimReport (text : List ℕ) (reading : Reading) (from to : List ℕ) (at vcd : Option (List ℕ)) (report : List ℕ)
     (files : List FileText) : Type 0 where
   pub setting : Setting
-  pub is_setting : IsSetting text default at setting
+  pub is_setting : IsSetting text reading at setting
   pub first : List Level
   pub second : List Level
   pub from_is : SpellsVector level_character (length setting.netlist.inputs) from first

@@ -1,7 +1,7 @@
 -- Internal: the run of the vectors that words give.
 use Rattle.std.specs.Prelude.{◌≡◌, ℕ, List, length, map, Option}
 use Rattle.td_gates.specs.declared.primitives.Level.{Level}
-use Rattle.td_gates.specs.declared.timing.Delay.{Delay}
+use Rattle.td_reading.specs.declared.reading.Reading.{Reading}
 use Rattle.td_nets.specs.Netlist.{Named}
 use Rattle.td_circuit.specs.Numbering.{Numbered, setting, nets}
 use Rattle.td_circuit.specs.NetValues.{net_wave}
@@ -12,9 +12,9 @@ use Rattle.td_report.specs.Vectors.{level_character, SpellsVector}
 
 -- the circuit is that of the text, with the moments of the option, and the run is that of the
 -- vectors which the two words spell
-pub record IsSimulation (text : List ℕ) (default : Delay) (from to : List ℕ) (at : Option (List ℕ)) (circuit : Numbered) (run : NetWaves)
+pub record IsSimulation (text : List ℕ) (reading : Reading) (from to : List ℕ) (at : Option (List ℕ)) (circuit : Numbered) (run : NetWaves)
     : Type 0 where
-  pub is_setting : IsSetting text default at (setting circuit)
+  pub is_setting : IsSetting text reading at (setting circuit)
   pub first : List Level
   pub second : List Level
   pub from_is : SpellsVector level_character (length circuit.netlist.inputs) from first

@@ -1,7 +1,7 @@
 //! The command `bound`: the bounds of a cube of pairs.
 
 ghost use Rattle.std.specs.Prelude.{◌≡◌, ◌*◌, ◌++◌, ℕ, List, length, Option, Some, IfOk, IfErr, OnOk};
-ghost use Rattle.td_gates.specs.declared.timing.Delay.{Delay as Default};
+ghost use Rattle.td_reading.specs.declared.reading.Reading.{Reading as Asked};
 ghost use Rattle.td_circuit.specs.Numbering.{setting};
 ghost use Rattle.td_certificate.specs.declared.tree.BoundedBy.TheVariants as by;
 ghost use Rattle.td_report.specs.Vectors.{words_of};
@@ -21,7 +21,7 @@ use td_arrival::Arrival;
 use td_circuit::Circuit;
 use td_domain::{Both, Cube, Trit, bound};
 use td_edges::Edges;
-use td_gates::Delay;
+use td_reading::Reading;
 use td_ternary::Possible;
 
 /// The report of the bounds of a cube, which is given by trits for the first vector and for the
@@ -31,19 +31,19 @@ use td_ternary::Possible;
 pub fn bounds<'a>(
     alloc: Global,
     text: &'a [u8],
-    default: Delay,
+    reading: Reading<'_>,
     first: Option<&str>,
     second: Option<&str>,
     at: Option<&str>,
     edges: bool,
 ) -> Result<Text, Refusal<'a>>
-    // The report is that of the cube's bounds in what the text means.
+    // The report is that of the cube's bounds in the netlist that is read of the text.
     ensures report { IfOk result (λ report.
-        IsBoundReport text.now default (words_of first.entry) (words_of second.entry) (words_of at.entry) edges report) }
+        IsBoundReport text.now reading.entry (words_of first.entry) (words_of second.entry) (words_of at.entry) edges report) }
     ensures refusal { IfErr result (λ refusal.
-        HasNoBounds text.now default (words_of first.entry) (words_of second.entry) (words_of at.entry) refusal) }
+        HasNoBounds text.now reading.entry (words_of first.entry) (words_of second.entry) (words_of at.entry) refusal) }
 {
-    let mut circuit = circuit(alloc, text, default)?;
+    let mut circuit = circuit(alloc, text, reading)?;
     let reported = bounds_in(alloc, &mut circuit, first, second, at, edges)?;
     match reported {
         Ok(report) => Ok(report),
@@ -61,10 +61,10 @@ fn bounds_in(
     at: Option<&str>,
     edges: bool,
 ) -> Result<Result<Text, VectorWord>, AllocError>
-    ensures report { IfOk result (λ reported. IfOk reported (λ report. (text : List ℕ) (default : Default) → IsCircuitOf text default circuit.old
-        → IsBoundReport text default (words_of first.entry) (words_of second.entry) (words_of at.entry) edges report)) }
-    ensures bad { IfOk result (λ reported. IfErr reported (λ word. (text : List ℕ) (default : Default) → IsCircuitOf text default circuit.old
-        → HasNoBounds text default (words_of first.entry) (words_of second.entry) (words_of at.entry) (Reason.BadVector word))) }
+    ensures report { IfOk result (λ reported. IfOk reported (λ report. (text : List ℕ) (reading : Asked) → IsCircuitOf text reading circuit.old
+        → IsBoundReport text reading (words_of first.entry) (words_of second.entry) (words_of at.entry) edges report)) }
+    ensures bad { IfOk result (λ reported. IfErr reported (λ word. (text : List ℕ) (reading : Asked) → IsCircuitOf text reading circuit.old
+        → HasNoBounds text reading (words_of first.entry) (words_of second.entry) (words_of at.entry) (Reason.BadVector word))) }
 {
     let inputs = circuit.input_count();
     let Some(firsts) = given(alloc, first, inputs, Trit::Free)? else {

@@ -12,7 +12,7 @@ use crate::text::Text;
 use std::alloc::{AllocError, Global};
 use td_certificate::{Certificate, push_question};
 use td_checker::{CheckFault, Verdict, check};
-use td_gates::Delay;
+use td_reading::Reading;
 
 /// The report of a verdict, and how the program ends with it.
 #[derive(Drop)]
@@ -21,20 +21,21 @@ pub struct Checked {
     pub ending: Status,
 }
 
-/// The report of the verdict on a certificate's text, for a netlist's text.
+/// The report of the verdict on a certificate's text, for the netlist that is read of a netlist's
+/// text.
 pub fn verdict_on<'a>(
     alloc: Global,
     text: &'a [u8],
-    default: Delay,
+    reading: Reading<'_>,
     certificate: &[u8],
 ) -> Result<Checked, Refusal<'a>>
     // The report tells the verdict on the two texts.
     ensures report { IfOk result (λ checked.
-        IsCheckReport text.now default certificate.now checked.ending checked.report) }
+        IsCheckReport text.now reading.entry certificate.now checked.ending checked.report) }
     ensures refusal { IfErr result (λ refusal.
-        HasNoVerdict text.now default certificate.now refusal) }
+        HasNoVerdict text.now reading.entry certificate.now refusal) }
 {
-    let found = match check(alloc, text, default, certificate) {
+    let found = match check(alloc, text, reading, certificate) {
         Ok(found) => found,
         Err(fault) => return Err(refused(fault)),
     };
@@ -54,6 +55,7 @@ pub fn refused<'a>(fault: CheckFault<'a>) -> Refusal<'a>
     match fault {
         CheckFault::OutOfMemory => Refusal::OutOfMemory,
         CheckFault::Netlist(fault) => Refusal::Netlist(fault),
+        CheckFault::NoOutput => Refusal::NoOutput,
         CheckFault::Loop(name) => Refusal::Loop(name),
         CheckFault::Certificate(fault) => Refusal::Certificate(fault),
     }

@@ -12,18 +12,18 @@ use crate::simulate::circuit;
 use crate::text::Text;
 use std::alloc::{AllocError, Global};
 use td_circuit::Circuit;
-use td_gates::Delay;
 use td_info::{Range, depth, range_of};
 use td_nets::Name;
+use td_reading::Reading;
 
 /// The report that tells what is in a netlist: the module's name, the unit of a step, how many
 /// inputs, outputs and gates there are and how many gates the default delay serves, the depth, the
 /// least and the greatest delay, and the inputs and the outputs in order.
-pub fn info<'a>(alloc: Global, text: &'a [u8], default: Delay) -> Result<Text, Refusal<'a>>
-    ensures report { IfOk result (IsInfoReport text.now default) }
-    ensures refusal { IfErr result (HasNoCircuit text.now default) }
+pub fn info<'a>(alloc: Global, text: &'a [u8], reading: Reading<'_>) -> Result<Text, Refusal<'a>>
+    ensures report { IfOk result (IsInfoReport text.now reading.entry) }
+    ensures refusal { IfErr result (HasNoCircuit text.now reading.entry) }
 {
-    let circuit = circuit(alloc, text, default)?;
+    let circuit = circuit(alloc, text, reading)?;
     let report = report_of(alloc, &circuit)?;
     Ok(report)
 }

@@ -18,9 +18,10 @@ use crate::simulate::simulated_run;
 use crate::text::Text;
 use std::alloc::{AllocError, Global};
 use td_circuit::Circuit;
-use td_gates::{Delay, Kind, Level};
+use td_gates::{Kind, Level};
 use td_nets::Name;
 use td_path::{Cause, Link, chain_of, latest_chain};
+use td_reading::Reading;
 use td_run::Run;
 
 /// The report that tells why an output changes last when it does, in the run of a pair of vectors
@@ -30,16 +31,16 @@ use td_run::Run;
 pub fn path<'a>(
     alloc: Global,
     text: &'a [u8],
-    default: Delay,
+    reading: Reading<'_>,
     from: &str,
     to: &str,
     at: Option<&str>,
     output: Option<&str>,
 ) -> Result<Text, Refusal<'a>>
-    ensures report { IfOk result (IsPathReport text.now default from.now to.now (words_of at.entry) (words_of output.entry)) }
-    ensures refusal { IfErr result (HasNoPath text.now default from.now to.now (words_of at.entry) (words_of output.entry)) }
+    ensures report { IfOk result (IsPathReport text.now reading.entry from.now to.now (words_of at.entry) (words_of output.entry)) }
+    ensures refusal { IfErr result (HasNoPath text.now reading.entry from.now to.now (words_of at.entry) (words_of output.entry)) }
 {
-    let simulation = simulated_run(alloc, text, default, from, to, at)?;
+    let simulation = simulated_run(alloc, text, reading, from, to, at)?;
     let reported = path_in(alloc, &simulation.circuit, &simulation.run, output)?;
     match reported {
         Some(report) => Ok(report),

@@ -4,12 +4,12 @@ ghost use Rattle.td_report.specs.DumpLaws.{NamesOfTexts, DumpsOfTextsSay, FilesO
 
 use td_vcd::laws::says_the_waves;
 
-/// No name of the netlist that a text means has a newline.
+/// No name of the netlist that is read of a text has a newline.
 pub fn names_of_texts()
     ensures { NamesOfTexts }
 {}
 
-/// Read back, a dump of the netlist that a text means says exactly its waves.
+/// Read back, a dump of the netlist that is read of a text says exactly its waves.
 pub fn dumps_of_texts_say()
     ensures { DumpsOfTextsSay }
 {

@@ -14,6 +14,8 @@ pub mod refusal;
 pub mod report;
 pub mod simulate;
 pub mod status;
+#[cfg(test)]
+mod tests;
 pub mod text;
 pub mod timing;
 pub mod vector;

@@ -15,6 +15,7 @@ use td_certificate::CertFault;
 use td_checker::Verdict;
 use td_join::JoinFault;
 use td_netlist::{Fault, FaultKind};
+use td_source::SourceFault;
 
 /// Why a command was not carried out.
 #[derive(Drop)]
@@ -67,6 +68,22 @@ impl<'a, T: Drop> From<AllocFailed<T>> for Refusal<'a> {
 
     fn from(_failed: AllocFailed<T>) -> Self {
         Refusal::OutOfMemory
+    }
+}
+
+impl<'a> From<SourceFault<'a>> for Refusal<'a> {
+    ghost use Rattle.std.specs.Prelude.{◌≡◌};
+    ghost use Rattle.td_report.specs.Outcomes.{refusal_by};
+
+    ghost from_gives = { λ source refusal. refusal ≡ refusal_by source };
+
+    fn from(source: SourceFault<'a>) -> Self {
+        match source {
+            SourceFault::OutOfMemory => Refusal::OutOfMemory,
+            SourceFault::Netlist(fault) => Refusal::Netlist(fault),
+            SourceFault::NoOutput => Refusal::NoOutput,
+            SourceFault::Loop(name) => Refusal::Loop(name),
+        }
     }
 }
 

@@ -1,7 +1,7 @@
 //! The command `sim`: the run of one pair of vectors.
 
 ghost use Rattle.std.specs.Prelude.{◌≡◌, ◌++◌, ℕ, List, length, map, IfOk, IfErr, IfSome, OnOk};
-ghost use Rattle.td_gates.specs.declared.timing.Delay.{Delay as Default};
+ghost use Rattle.td_reading.specs.declared.reading.Reading.{Reading as Asked};
 ghost use Rattle.td_circuit.specs.Numbering.{nets};
 ghost use Rattle.td_circuit.specs.Run.{latest_change};
 ghost use Rattle.td_circuit.specs.NetValues.{net_wave};
@@ -13,7 +13,7 @@ ghost use Rattle.td_report.specs.Reports.{output_lines, sim_text, IsSimReport};
 ghost use Rattle.td_report.specs.Dumps.{dump_files, HasRun};
 ghost use Rattle.td_report.specs.Vectors.{words_of};
 ghost use Rattle.td_report.specs.declared.refusal.Refusal.TheVariants as Reason;
-ghost use Rattle.td_report.specs.Outcomes.{IsOfLoop, IsOfFault, IsCircuitOf, HasNoCircuit, HasNoReport};
+ghost use Rattle.td_report.specs.Outcomes.{IsCircuitOf, HasNoCircuit, HasNoReport};
 
 use crate::dumping::{Dump, dump_to};
 use crate::refusal::Refusal;
@@ -22,10 +22,11 @@ use crate::text::Text;
 use crate::timing::moments;
 use crate::vector::{VectorWord, vector};
 use std::alloc::{AllocError, Global};
-use td_circuit::{BuildFault, Circuit, build};
-use td_gates::{Delay, Level};
-use td_netlist::{Fault, FaultKind, read};
+use td_circuit::Circuit;
+use td_gates::Level;
+use td_reading::Reading;
 use td_run::{Run, waves};
+use td_source::circuit_of;
 
 /// The report of a run, and its waves where a name is given for their file.
 #[derive(Drop)]
@@ -39,20 +40,21 @@ pub struct Simulated<'v> {
 pub fn sim<'a, 'v>(
     alloc: Global,
     text: &'a [u8],
-    default: Delay,
+    reading: Reading<'_>,
     from: &str,
     to: &str,
     at: Option<&str>,
     vcd: Option<&'v str>,
 ) -> Result<Simulated<'v>, Refusal<'a>>
-    // The report is that of the run of what the text means, with the moments of the option.
+    // The report is that of the run of the netlist that is read of the text, with the moments of
+    // the option.
     ensures report { IfOk result (λ simulated.
-        IsSimReport text.now default from.now to.now (words_of at.entry) (words_of vcd.entry) simulated.report (dump_files simulated.dump)) }
+        IsSimReport text.now reading.entry from.now to.now (words_of at.entry) (words_of vcd.entry) simulated.report (dump_files simulated.dump)) }
     ensures refusal { IfErr result (λ refusal.
-        HasNoReport text.now default from.now to.now (words_of at.entry) refusal) }
+        HasNoReport text.now reading.entry from.now to.now (words_of at.entry) refusal) }
     ensures has { IfOk result (λ simulated. IfSome simulated.dump HasRun) }
 {
-    let simulation = simulated_run(alloc, text, default, from, to, at)?;
+    let simulation = simulated_run(alloc, text, reading, from, to, at)?;
     let report = report_of(alloc, &simulation.circuit, &simulation.run)?;
     let dump = dump_to(vcd, simulation.circuit, simulation.run);
     Ok(Simulated { report, dump })
@@ -70,18 +72,18 @@ pub struct Simulation {
 pub fn simulated_run<'a>(
     alloc: Global,
     text: &'a [u8],
-    default: Delay,
+    reading: Reading<'_>,
     from: &str,
     to: &str,
     at: Option<&str>,
 ) -> Result<Simulation, Refusal<'a>>
     ensures is { IfOk result (λ simulation.
-        IsSimulation text.now default from.now to.now (words_of at.entry) simulation.circuit simulation.run) }
+        IsSimulation text.now reading.entry from.now to.now (words_of at.entry) simulation.circuit simulation.run) }
     ensures has { IfOk result (λ simulation. IsRunFor simulation.circuit simulation.run) }
     ensures refusal { IfErr result (λ refusal.
-        HasNoReport text.now default from.now to.now (words_of at.entry) refusal) }
+        HasNoReport text.now reading.entry from.now to.now (words_of at.entry) refusal) }
 {
-    let mut circuit = circuit(alloc, text, default)?;
+    let mut circuit = circuit(alloc, text, reading)?;
     let run = match run_in(alloc, &mut circuit, from, to, at)? {
         Ok(run) => run,
         Err(word) => return Err(Refusal::BadVector(word)),
@@ -98,11 +100,11 @@ fn run_in(
     to: &str,
     at: Option<&str>,
 ) -> Result<Result<Run, VectorWord>, AllocError>
-    ensures is { IfOk result (λ reported. IfOk reported (λ run. (text : List ℕ) (default : Default) → IsCircuitOf text default circuit.old
-        → IsSimulation text default from.now to.now (words_of at.entry) circuit.new run)) }
+    ensures is { IfOk result (λ reported. IfOk reported (λ run. (text : List ℕ) (reading : Asked) → IsCircuitOf text reading circuit.old
+        → IsSimulation text reading from.now to.now (words_of at.entry) circuit.new run)) }
     ensures has { IfOk result (λ reported. IfOk reported (IsRunFor circuit.new)) }
-    ensures bad { IfOk result (λ reported. IfErr reported (λ word. (text : List ℕ) (default : Default) → IsCircuitOf text default circuit.old
-        → HasNoReport text default from.now to.now (words_of at.entry) (Reason.BadVector word))) }
+    ensures bad { IfOk result (λ reported. IfErr reported (λ word. (text : List ℕ) (reading : Asked) → IsCircuitOf text reading circuit.old
+        → HasNoReport text reading from.now to.now (words_of at.entry) (Reason.BadVector word))) }
 {
     let inputs = circuit.input_count();
     let Some(first) = vector::<Level>(alloc, from, inputs)? else {
@@ -119,39 +121,17 @@ fn run_in(
     Ok(Ok(run))
 }
 
-/// The circuit of a netlist's text.
-pub fn circuit<'a>(alloc: Global, text: &'a [u8], default: Delay) -> Result<Circuit, Refusal<'a>>
-    ensures circuit { IfOk result (λ circuit. IsCircuitOf text.now default circuit) }
-    ensures refusal { IfErr result (λ refusal. HasNoCircuit text.now default refusal) }
+/// The circuit of the netlist that is read of a text.
+pub fn circuit<'a>(
+    alloc: Global,
+    text: &'a [u8],
+    reading: Reading<'_>,
+) -> Result<Circuit, Refusal<'a>>
+    ensures circuit { IfOk result (λ circuit. IsCircuitOf text.now reading.entry circuit) }
+    ensures refusal { IfErr result (λ refusal. HasNoCircuit text.now reading.entry refusal) }
 {
-    let netlist = match read(alloc, text, default) {
-        Ok(netlist) => netlist,
-        Err(fault) => return Err(refused(fault)),
-    };
-    match build(alloc, netlist) {
-        Ok(circuit) => Ok(circuit),
-        Err((_netlist, fault)) => Err(looped(fault)),
-    }
-}
-
-/// The refusal of a netlist with a loop, or out of memory.
-fn looped<'a>(fault: BuildFault) -> Refusal<'a>
-    ensures { IsOfLoop fault result }
-{
-    match fault {
-        BuildFault::OutOfMemory => Refusal::OutOfMemory,
-        BuildFault::Loop(name) => Refusal::Loop(name),
-    }
-}
-
-/// The refusal of a netlist's text, or out of memory.
-fn refused<'a>(fault: Fault<'a>) -> Refusal<'a>
-    ensures { IsOfFault fault.entry result }
-{
-    match fault.kind {
-        FaultKind::OutOfMemory => Refusal::OutOfMemory,
-        _ => Refusal::Netlist(fault),
-    }
+    let circuit = circuit_of(alloc, text, reading)?;
+    Ok(circuit)
 }
 
 /// Appends a line for each output.

@@ -7,21 +7,21 @@ use Rattle.td_report.proofs.Vectors.{given-length}
 use Rattle.td_report.proofs.bounding.bounds_in.Goals as goal
 
 pub returns-in_default-clause-bad : goal.returns-in_default-clause-bad
-returns-in_default-clause-bad c = λ text default is.
-    bad_word text default c.args.circuit.now c.input_count-inputs.result _ _ is c.input_count-inputs.ensures
+returns-in_default-clause-bad c = λ text reading is.
+    bad_word text reading c.args.circuit.now c.input_count-inputs.result _ _ is c.input_count-inputs.ensures
     (inl (refl, λ given. (rw c.in_default.is at c.in_ok-firsts.ensures.none) given.0 given.1))
 
 pub returns-in_default-2-clause-bad : goal.returns-in_default-2-clause-bad
-returns-in_default-2-clause-bad c = λ text default is.
-    bad_word text default c.args.circuit.now c.input_count-inputs.result _ _ is c.input_count-inputs.ensures
+returns-in_default-2-clause-bad c = λ text reading is.
+    bad_word text reading c.args.circuit.now c.input_count-inputs.result _ _ is c.input_count-inputs.ensures
     (inr (
       (c.in-Some.firsts.items, rw c.in-Some.is at c.in_ok-firsts.ensures.some),
       inl (refl, λ given. (rw c.in_default-2.is at c.in_ok-seconds.ensures.none) given.0 given.1),
     ))
 
 pub returns-in_default-3-clause-bad : goal.returns-in_default-3-clause-bad
-returns-in_default-3-clause-bad c = λ text default is.
-    bad_word text default c.args.circuit.now c.input_count-inputs.result _ _ is c.input_count-inputs.ensures
+returns-in_default-3-clause-bad c = λ text reading is.
+    bad_word text reading c.args.circuit.now c.input_count-inputs.result _ _ is c.input_count-inputs.ensures
     (inr (
       (c.in-Some.firsts.items, rw c.in-Some.is at c.in_ok-firsts.ensures.some),
       inr (
@@ -50,14 +50,13 @@ report_on-requires c =
     omega (arith, first, netlist, c.input_count-inputs.ensures, ap length c.deref.ensures.value, ap length c.in_ok-cube.ensures, weave-length _ _ same)
 
 pub returns-clause-report : goal.returns-clause-report
-returns-clause-report c = λ text default is.
+returns-clause-report c = λ text reading is.
     let cube = rw (c.deref.ensures.value, c.deref-2.ensures.value) at c.in_ok-cube.ensures in
     let bounds = rw cube at c.in_ok-report.ensures in
     record {
       setting = setting c.set_moments.new.self;
       is_setting = rw c.set_moments.ensures (record {
-        means = is.means;
-        acyclic = is.acyclic;
+        circuit = is;
         moments = rw (c.in-Some-3.is, c.input_count-inputs.ensures) at c.in_ok-moments.ensures.some;
       });
       firsts = c.in-Some.firsts.items;

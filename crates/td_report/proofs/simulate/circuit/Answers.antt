@@ -1,9 +1,8 @@
-use Rattle.td_report.proofs.Refusing.{refused-fits, looped-fits}
+use Rattle.std.proofs.lemmas.Result.{err_from_is_err_and}
+use Rattle.td_report.proofs.Refusing.{source_refused}
 use Rattle.td_report.proofs.simulate.circuit.Goals as goal
 
-pub returns-in-Err-clause-refusal : goal.returns-in-Err-clause-refusal
-returns-in-Err-clause-refusal c = refused-fits c.args.text.now c.args.default c.in-Err.fault c.refused.result c.refused.ensures c.in-Err.ensures.only c.in-Err.ensures.fault
-
-pub returns-in-Err-build-clause-refusal : goal.returns-in-Err-build-clause-refusal
-returns-in-Err-build-clause-refusal c = looped-fits c.args.text.now c.args.default c.in-Ok.netlist c.in-Ok.ensures.found c.in-Err-build.fault c.looped.result
-    c.looped.ensures c.in-Err-build.ensures.fault
+pub returns-in_err-circuit-clause-refusal : goal.returns-in_err-circuit-clause-refusal
+returns-in_err-circuit-clause-refusal c =
+    let reported = err_from_is_err_and c.from_residual.result c.from_residual.ensures.1 in
+    rw (reported.1, reported.2) (source_refused c.args.text.now c.args.reading c.in_err-circuit.field-0.0 c.in_err-circuit.ensures.refusal)

@@ -6,21 +6,21 @@ use Rattle.td_report.proofs.Refusing.{bad_word}
 use Rattle.td_report.proofs.simulate.run_in.Goals as goal
 
 pub returns-in_default-clause-bad : goal.returns-in_default-clause-bad
-returns-in_default-clause-bad c = λ text default is.
-    bad_word text default c.args.circuit.now c.input_count-inputs.result _ _ is c.input_count-inputs.ensures
+returns-in_default-clause-bad c = λ text reading is.
+    bad_word text reading c.args.circuit.now c.input_count-inputs.result _ _ is c.input_count-inputs.ensures
     (inl (refl, λ given. (rw c.in_default.is at c.in_ok-first.ensures.none) given.0 given.1))
 
 pub returns-in_default-2-clause-bad : goal.returns-in_default-2-clause-bad
-returns-in_default-2-clause-bad c = λ text default is.
-    bad_word text default c.args.circuit.now c.input_count-inputs.result _ _ is c.input_count-inputs.ensures
+returns-in_default-2-clause-bad c = λ text reading is.
+    bad_word text reading c.args.circuit.now c.input_count-inputs.result _ _ is c.input_count-inputs.ensures
     (inr (
       (c.in-Some.first.items, rw c.in-Some.is at c.in_ok-first.ensures.some),
       inl (refl, λ given. (rw c.in_default-2.is at c.in_ok-second.ensures.none) given.0 given.1),
     ))
 
 pub returns-in_default-3-clause-bad : goal.returns-in_default-3-clause-bad
-returns-in_default-3-clause-bad c = λ text default is.
-    bad_word text default c.args.circuit.now c.input_count-inputs.result _ _ is c.input_count-inputs.ensures
+returns-in_default-3-clause-bad c = λ text reading is.
+    bad_word text reading c.args.circuit.now c.input_count-inputs.result _ _ is c.input_count-inputs.ensures
     (inr (
       (c.in-Some.first.items, rw c.in-Some.is at c.in_ok-first.ensures.some),
       inr (
@@ -34,10 +34,9 @@ set_moments-requires c =
     moments_fit c.args.circuit.now.netlist _ _ (rw (c.in-Some-3.is, c.input_count-inputs.ensures) at c.in_ok-moments.ensures.some)
 
 pub returns-clause-is : goal.returns-clause-is
-returns-clause-is c = λ text default is. record {
+returns-clause-is c = λ text reading is. record {
   is_setting = rw c.set_moments.ensures (record {
-    means = is.means;
-    acyclic = is.acyclic;
+    circuit = is;
     moments = rw (c.in-Some-3.is, c.input_count-inputs.ensures) at c.in_ok-moments.ensures.some;
   });
   first = c.in-Some.first.items;

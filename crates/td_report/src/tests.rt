@@ -1,0 +1,126 @@
+//! Reports on one output alone.
+
+use crate::bounding::bounds;
+use crate::checking::verdict_on;
+use crate::describing::info;
+use crate::explaining::path;
+use crate::refusal::Refusal;
+use crate::simulate::sim;
+use crate::text::Text;
+use std::alloc::Global;
+use std::test::*;
+use td_gates::Delay;
+use td_reading::Reading;
+
+/// A gate of two steps before the one output, and one of five before the other.
+const NETLIST: &[u8] =
+    b"`timescale 1ns/1ns\nmodule m(a, b, y, z); input a, b; output y, z; and #2 (y, a, b); not #5 (z, a); endmodule\n";
+
+/// A certificate of the output `y` alone.
+const CERTIFICATE: &[u8] = b"tdelay-cert 1\ncircuit 2 2\ntime 2\nfrom 00\nto 11\nb a 2\n";
+
+/// The reading that asks about this output, or about all of them.
+fn asking<'a>(output: Option<&'a str>) -> Reading<'a> {
+    Reading {
+        default: Delay { rise: 1, fall: 1 },
+        output,
+    }
+}
+
+/// Whether a report is this one.
+fn is<'a>(report: Result<Text, Refusal<'a>>, expected: &[u8]) -> bool {
+    match report {
+        Ok(report) => report.bytes() == expected,
+        Err(_) => false,
+    }
+}
+
+/// Whether a report is refused, since no output has the name that is asked about.
+fn is_missed<'a>(report: Result<Text, Refusal<'a>>) -> bool {
+    match report {
+        Err(Refusal::NoOutput) => true,
+        Ok(_) | Err(_) => false,
+    }
+}
+
+fn bounds_for<'a>(alloc: Global, output: Option<&'a str>) -> Result<Text, Refusal<'static>> {
+    bounds(alloc, NETLIST, asking(output), None, None, None, false)
+}
+
+#[test]
+fn bounds_of_an_output(rt: HostRuntime) -> Result<(), Fail> {
+    let alloc = rt.alloc();
+    assert!(rt;
+        is(
+            bounds_for(alloc, None),
+            b"unit 1 ns\ndefaulted 0\na 5\nt none\nm 5\n"
+        )
+    );
+    assert!(rt;
+        is(
+            bounds_for(alloc, Some("z")),
+            b"unit 1 ns\ndefaulted 0\na 5\nt none\nm 5\n"
+        )
+    );
+    assert!(rt;
+        is(
+            bounds_for(alloc, Some("y")),
+            b"unit 1 ns\ndefaulted 0\na 2\nt none\nm 2\n"
+        )
+    );
+    assert!(rt; is_missed(bounds_for(alloc, Some("a"))));
+    Ok(())
+}
+
+/// The report on a run.
+fn run_for<'a>(alloc: Global, output: Option<&'a str>) -> Result<Text, Refusal<'static>> {
+    let simulated = sim(alloc, NETLIST, asking(output), "00", "11", None, None)?;
+    Ok(simulated.report)
+}
+
+/// The report on the path to an output, where this one is asked about.
+fn path_for<'a>(
+    alloc: Global,
+    asked: Option<&'a str>,
+    output: Option<&str>,
+) -> Result<Text, Refusal<'static>> {
+    path(alloc, NETLIST, asking(asked), "00", "11", None, output)
+}
+
+#[test]
+fn runs_of_an_output(rt: HostRuntime) -> Result<(), Fail> {
+    let alloc = rt.alloc();
+    assert!(rt;
+        is(
+            run_for(alloc, None),
+            b"unit 1 ns\ndefaulted 0\nlast y 2\nlast z 5\ntime 5\n"
+        )
+    );
+    assert!(rt;
+        is(
+            run_for(alloc, Some("y")),
+            b"unit 1 ns\ndefaulted 0\nlast y 2\ntime 2\n"
+        )
+    );
+    assert!(rt; is_missed(run_for(alloc, Some("x"))));
+    assert!(rt; is_missed(path_for(alloc, Some("x"), None)));
+    assert!(rt; is_missed(path_for(alloc, Some("y"), Some("z"))));
+    assert!(rt; path_for(alloc, Some("y"), Some("y")).is_ok());
+    assert!(rt; is_missed(info(alloc, NETLIST, asking(Some("x")))));
+    Ok(())
+}
+
+/// The report of the verdict on the certificate, where this output is asked about.
+fn verdict_for<'a>(alloc: Global, output: Option<&'a str>) -> Result<Text, Refusal<'static>> {
+    let checked = verdict_on(alloc, NETLIST, asking(output), CERTIFICATE)?;
+    Ok(checked.report)
+}
+
+#[test]
+fn verdicts_of_an_output(rt: HostRuntime) -> Result<(), Fail> {
+    let alloc = rt.alloc();
+    assert!(rt; is(verdict_for(alloc, Some("y")), b"accepted 2\n"));
+    assert!(rt; is(verdict_for(alloc, None), b"refused 2 PairTime\n"));
+    assert!(rt; is_missed(verdict_for(alloc, Some("x"))));
+    Ok(())
+}
