@@ -19,11 +19,12 @@ use Rattle.td_delivery.specs.HandingOver.{IsHandedOver}
 
 -- a run
 pub sim_said : (text : List ℕ) (asked : SimRequest) (report : List ℕ) (dumps : List FileText)
-    → IsSimReport text asked.reading asked.from.now asked.to.now (words_of asked.at) (words_of asked.vcd) report dumps
+    → IsSimReport text asked.reading asked.from.now asked.to.now (words_of asked.at) (words_of asked.vcd) asked.outputs report dumps
     → (product : Product) → IsHandedOver report dumps Done product → IsSimProduct text asked product
 sim_said text asked report dumps is product over = record {
   report = report;
-  is = subst (λ (files : List FileText). IsSimReport text asked.reading asked.from.now asked.to.now (words_of asked.at) (words_of asked.vcd) report files)
+  is = subst (λ (files : List FileText).
+      IsSimReport text asked.reading asked.from.now asked.to.now (words_of asked.at) (words_of asked.vcd) asked.outputs report files)
       (sym over.files_are) is;
   shown = over.shown;
   ends = over.ends;

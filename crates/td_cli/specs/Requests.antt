@@ -46,7 +46,8 @@ use Rattle.td_delivery.specs.Shown.{TellsText, IsOutOfMemory}
 -- what `sim` says
 pub record IsSimProduct (text : List ℕ) (asked : SimRequest) (product : Product) : Type 0 where
   pub report : List ℕ
-  pub is : IsSimReport text asked.reading asked.from.now asked.to.now (words_of asked.at) (words_of asked.vcd) report product.files
+  pub is : IsSimReport text asked.reading asked.from.now asked.to.now (words_of asked.at) (words_of asked.vcd) asked.outputs report
+      product.files
   pub shown : IsBeside product.files report product.report
   pub ends : product.ending ≡ Done
 

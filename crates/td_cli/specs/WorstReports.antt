@@ -22,6 +22,7 @@ use Rattle.td_report.specs.Vectors.{words_of}
 use Rattle.td_files.specs.Files.{FileText}
 use Rattle.td_cli.specs.Admitting.{WordsAdmit}
 use Rattle.td_report.specs.Reports.{newline, unit_lines, IsSetting}
+use Rattle.td_report.specs.declared.beside.Beside.{Beside}
 use Rattle.td_report.specs.PairReports.{IsDumpOf, TellsPair}
 
 abbrev pub exact_line : ℕ → List ℕ
@@ -82,6 +83,10 @@ abbrev pub pair_in : Answer → Pair
 pair_in (answer.Exact time pair tree) = pair
 pair_in (answer.Between low high pair nodes why) = pair
 
+-- what is asked of the run of its pair
+abbrev pub beside_of : WorstRequest → Beside
+beside_of request = record { outputs = request.outputs; path = request.path }
+
 -- The report and the certificate are those of an answer to what the request asks of the text. The
 -- lines after the report and the dump are those of its pair.
 pub record IsWorstReport (text : List ℕ) (request : WorstRequest) (report : List ℕ) (certificate : Option Certificate) (dumps : List FileText) : Type 0 where
@@ -90,7 +95,7 @@ pub record IsWorstReport (text : List ℕ) (request : WorstRequest) (report : Li
   pub found : Answer
   pub is_answer : IsAnswerBy (strategy_of request.question.strategy) asked request.budget found
   pub chain : List ℕ
-  pub tells : TellsPair request.path asked.setting (pair_in found) chain
+  pub tells : TellsPair (beside_of request) asked.setting (pair_in found) chain
   pub is : report ≡ worst_text asked.setting.netlist found ++ chain
   pub certified : certificate ≡ certificate_in asked found
   pub dumped : IsDumpOf asked.setting (pair_in found) (words_of request.vcd) dumps

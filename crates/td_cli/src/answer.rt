@@ -5,7 +5,7 @@ ghost use Rattle.td_search.specs.Problems.{problem_by};
 ghost use Rattle.td_certificate.specs.Text.{bits};
 ghost use Rattle.td_circuit.specs.Numbering.{setting};
 ghost use Rattle.td_report.specs.Dumps.{dump_files, HasRun};
-ghost use Rattle.td_report.specs.Chains.{AddsChain};
+ghost use Rattle.td_report.specs.Chains.{AddsRun};
 ghost use Rattle.td_report.specs.PairReports.{IsDumpOf};
 ghost use Rattle.td_report.specs.Vectors.{words_of};
 ghost use Rattle.td_cli.specs.WorstReports.{exact_line, between_line, cause_line, pair_lines};
@@ -17,7 +17,8 @@ use std::alloc::{AllocError, Global};
 use td_certificate::{Certificate, Question, Tree};
 use td_circuit::Circuit;
 use td_domain::{Admit, Pair};
-use td_report::chaining::with_chain;
+use td_report::beside::Beside;
+use td_report::chaining::with_run;
 use td_report::dumping::{Dump, pair_dump};
 use td_report::refusal::Refusal;
 use td_report::report;
@@ -39,19 +40,19 @@ pub fn found_of<'v>(
     asked: Asked,
     strategy: Strategy,
     answer: Answer,
-    path: bool,
+    beside: Beside,
     vcd: Option<&'v str>,
 ) -> Result<Found<'v>, AllocError>
     requires flips { asked.admit.flips ≤ length asked.admit.held }
     requires first_fits { length (pair_in answer).first ≡ length asked.circuit.netlist.inputs }
     requires second_fits { length (pair_in answer).second ≡ length asked.circuit.netlist.inputs }
-    ensures report { IfOk result (λ found. AddsChain path (setting asked.circuit) (pair_in answer) (worst_text asked.circuit.netlist answer) found.report) }
+    ensures report { IfOk result (λ found. AddsRun beside (setting asked.circuit) (pair_in answer) (worst_text asked.circuit.netlist answer) found.report) }
     ensures certified { IfOk result (λ found. found.certificate ≡ certificate_in (problem_by strategy asked.circuit asked.admit) answer) }
     ensures dumped { IfOk result (λ found. IsDumpOf (setting asked.circuit) (pair_in answer) (words_of vcd.entry) (dump_files found.dump)) }
     ensures has { IfOk result (λ found. IfSome found.dump HasRun) }
 {
     let Asked { circuit, admit } = asked;
-    let report = explained(alloc, &circuit, &answer, path)?;
+    let report = explained(alloc, &circuit, &answer, beside)?;
     let pair = pair_in(&answer).copy(alloc)?;
     let moments = Vec::from_slice(alloc, circuit.moments())?;
     let certificate = certificate(&circuit, admit, moments, strategy, answer);
@@ -63,20 +64,19 @@ pub fn found_of<'v>(
     })
 }
 
-/// The report of an answer. After it come the changes that lead to the last change of its pair's
-/// run, where they are asked for.
+/// The report of an answer. After it comes what is asked of its pair's run.
 fn explained(
     alloc: Global,
     circuit: &Circuit,
     answer: &Answer,
-    path: bool,
+    beside: Beside,
 ) -> Result<Text, AllocError>
     requires first_fits { length (pair_in answer.now).first ≡ length circuit.now.netlist.inputs }
     requires second_fits { length (pair_in answer.now).second ≡ length circuit.now.netlist.inputs }
-    ensures { IfOk result (AddsChain path (setting circuit.now) (pair_in answer.now) (worst_text circuit.now.netlist answer.now)) }
+    ensures { IfOk result (AddsRun beside (setting circuit.now) (pair_in answer.now) (worst_text circuit.now.netlist answer.now)) }
 {
     let report = report_of(alloc, circuit, answer)?;
-    with_chain(alloc, circuit, pair_in(answer), path, report)
+    with_run(alloc, circuit, pair_in(answer), beside, report)
 }
 
 /// The pair of an answer.

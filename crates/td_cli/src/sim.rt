@@ -11,7 +11,7 @@ use std::alloc::Global;
 use td_command::SimRequest;
 use td_delivery::telling::{hand_over, tell_refusal, tell_unread};
 use td_files::Files;
-use td_report::simulate::sim;
+use td_report::simulate::{Shown, sim};
 use td_report::status::Status;
 use td_text::Sink;
 
@@ -54,7 +54,10 @@ pub fn run_on<F: Files, O: Sink, E: Sink>(
         request.from,
         request.to,
         request.at,
-        request.vcd,
+        Shown {
+            outputs: request.outputs,
+            vcd: request.vcd,
+        },
     );
     match simulated {
         Ok(simulated) => hand_over(

@@ -23,6 +23,7 @@ use td_command::WorstRequest;
 use td_delivery::telling::{hand_over, tell_refusal, tell_unread};
 use td_files::Files;
 use td_pool::{Effort, Watch};
+use td_report::beside::Beside;
 use td_report::refusal::Refusal;
 use td_report::status::Status;
 use td_text::Sink;
@@ -144,7 +145,10 @@ pub fn worst<'a, 'v, W: Watch, R: Threads + Wait + Sync>(
         asked,
         method.strategy(),
         answer,
-        request.path,
+        Beside {
+            outputs: request.outputs,
+            path: request.path,
+        },
         request.vcd,
     )?;
     Ok(found)

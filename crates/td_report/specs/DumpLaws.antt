@@ -1,5 +1,5 @@
 -- Laws of the dumps of netlists that are read of texts.
-use Rattle.std.specs.Prelude.{◌≡◌, ℕ, List, [], ◌∷◌, length, Option, Some}
+use Rattle.std.specs.Prelude.{◌≡◌, ℕ, Bool, List, [], ◌∷◌, length, Option, Some}
 use Rattle.std.specs.List.{AllByRecursion}
 use Rattle.td_reading.specs.declared.reading.Reading.{Reading}
 use Rattle.td_gates.specs.Wave.{Wave, IsWave}
@@ -31,8 +31,8 @@ IsFileOf name waves files = (text : List ℕ) × (files ≡ record { name = name
 
 -- the file that `sim` writes says exactly the waves of the run that its report tells
 abbrev pub FilesOfSimSay : Type 0
-FilesOfSimSay = (text : List ℕ) (reading : Reading) (from to : List ℕ) (at : Option (List ℕ)) (name report : List ℕ) (files : List FileText)
-    → (reported : IsSimReport text reading from to at (Some name) report files)
+FilesOfSimSay = (text : List ℕ) (reading : Reading) (from to : List ℕ) (at : Option (List ℕ)) (name : List ℕ) (outputs : Bool) (report : List ℕ)
+    (files : List FileText) → (reported : IsSimReport text reading from to at (Some name) outputs report files)
     → IsFileOf name (variable_waves reported.setting.netlist reported.waves) files
 
 -- the file of a pair's dump says exactly the waves of the pair's run, where the netlist is that of

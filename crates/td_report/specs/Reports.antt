@@ -1,6 +1,6 @@
 -- What `sim` prints.
-use Rattle.std.specs.Prelude.{◌≡◌, ℕ, List, [], ◌∷◌, ◌++◌, length, map, codes, decimal, Option, Some, None}
-use Rattle.std.specs.List.{flat_map}
+use Rattle.std.specs.Prelude.{◌≡◌, ℕ, List, [], ◌∷◌, ◌++◌, length, map, codes, decimal, ◌⊎◌, Bool, true, false, Option, Some, None}
+use Rattle.std.specs.List.{flat_map, Contains}
 use Rattle.td_gates.specs.declared.primitives.Level.{Level}
 use Rattle.td_reading.specs.declared.reading.Reading.{Reading}
 use Rattle.td_gates.specs.Wave.{Wave, last}
@@ -11,6 +11,7 @@ use Rattle.td_nets.specs.Scales.{scale_text}
 use Rattle.td_source.specs.Reads.{HasCircuit}
 use Rattle.td_circuit.specs.Settings.{Setting}
 use Rattle.td_circuit.specs.Run.{Runs, latest_change}
+use Rattle.td_path.specs.Chains.{IsLatest}
 use Rattle.td_vcd.specs.Text.{dump, variable_waves}
 use Rattle.td_files.specs.Files.{FileText, file_for}
 use Rattle.td_report.specs.Vectors.{level_character, SpellsVector, AreMomentsOf}
@@ -51,6 +52,17 @@ sim_text netlist waves =
     ++ output_lines netlist waves
     ++ time_line (latest_change (map (λ name. waves (Named name)) netlist.outputs))
 
+abbrev pub named_line : Name → List ℕ
+named_line name = codes "output " ++ printed name ++ newline
+
+-- where it is asked for, the line names the output that changes last, the first of several; there
+-- is none where no output changes
+abbrev pub TellsLast : Bool → Netlist → (Net → Wave) → List ℕ → Type 0
+TellsLast false netlist waves lines = lines ≡ []
+TellsLast true netlist waves lines =
+    (((output : Name) → Contains netlist.outputs output → (waves (Named output)).changes ≡ []) × (lines ≡ []))
+    ⊎ ((output : Name) × IsLatest netlist waves output × (lines ≡ named_line output))
+
 -- The netlist that is read of the text has no loop, and the option gives a moment for each of its
 -- inputs, all of them 0 where it is left out.
 pub record IsSetting (text : List ℕ) (reading : Reading) (at : Option (List ℕ)) (setting : Setting) : Type 0 where
@@ -58,8 +70,9 @@ pub record IsSetting (text : List ℕ) (reading : Reading) (at : Option (List �
   pub moments : AreMomentsOf (length setting.netlist.inputs) at setting.moments
 
 -- The text and the option give a setting, the two words are vectors of its inputs, the report is
--- that of their run, and where a name is given for its waves, their dump is the one file.
-pub record IsSimReport (text : List ℕ) (reading : Reading) (from to : List ℕ) (at vcd : Option (List ℕ)) (report : List ℕ)
+-- that of their run, with a line for the output that changes last where it is asked for, and where
+-- a name is given for its waves, their dump is the one file.
+pub record IsSimReport (text : List ℕ) (reading : Reading) (from to : List ℕ) (at vcd : Option (List ℕ)) (outputs : Bool) (report : List ℕ)
     (files : List FileText) : Type 0 where
   pub setting : Setting
   pub is_setting : IsSetting text reading at setting
@@ -69,5 +82,7 @@ pub record IsSimReport (text : List ℕ) (reading : Reading) (from to : List ℕ
   pub to_is : SpellsVector level_character (length setting.netlist.inputs) to second
   pub waves : Net → Wave
   pub runs : Runs setting first second waves
-  pub is : report ≡ sim_text setting.netlist waves
+  pub named : List ℕ
+  pub tells : TellsLast outputs setting.netlist waves named
+  pub is : report ≡ sim_text setting.netlist waves ++ named
   pub dumped : files ≡ file_for vcd (dump setting.netlist (variable_waves setting.netlist waves))

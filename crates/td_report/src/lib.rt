@@ -1,6 +1,7 @@
 //! What the commands of `tdelay` print that do not search, and why a command is refused.
 #![tactic(auto)]
 
+pub mod beside;
 pub mod bounding;
 pub mod chaining;
 pub mod checking;

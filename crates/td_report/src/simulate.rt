@@ -15,6 +15,7 @@ ghost use Rattle.td_report.specs.Vectors.{words_of};
 ghost use Rattle.td_report.specs.declared.refusal.Refusal.TheVariants as Reason;
 ghost use Rattle.td_report.specs.Outcomes.{IsCircuitOf, HasNoCircuit, HasNoReport};
 
+use crate::chaining::push_last;
 use crate::dumping::{Dump, dump_to};
 use crate::refusal::Refusal;
 use crate::report;
@@ -28,6 +29,14 @@ use td_reading::Reading;
 use td_run::{Run, waves};
 use td_source::circuit_of;
 
+/// What is shown of a run besides the moments of its outputs: which output changes last, and the
+/// waves, in a file of this name.
+#[derive(Clone, Copy, Debug)]
+pub struct Shown<'v> {
+    pub outputs: bool,
+    pub vcd: Option<&'v str>,
+}
+
 /// The report of a run, and its waves where a name is given for their file.
 #[derive(Drop)]
 pub struct Simulated<'v> {
@@ -36,7 +45,8 @@ pub struct Simulated<'v> {
 }
 
 /// The report of the run of a pair of vectors, whose inputs change at the moments of an option:
-/// when each output changes last. Its waves too, where a name is given for their file.
+/// when each output changes last, and which one does so last of all, where it is asked for. Its
+/// waves too, where a name is given for their file.
 pub fn sim<'a, 'v>(
     alloc: Global,
     text: &'a [u8],
@@ -44,19 +54,26 @@ pub fn sim<'a, 'v>(
     from: &str,
     to: &str,
     at: Option<&str>,
-    vcd: Option<&'v str>,
+    shown: Shown<'v>,
 ) -> Result<Simulated<'v>, Refusal<'a>>
     // The report is that of the run of the netlist that is read of the text, with the moments of
     // the option.
     ensures report { IfOk result (λ simulated.
-        IsSimReport text.now reading.entry from.now to.now (words_of at.entry) (words_of vcd.entry) simulated.report (dump_files simulated.dump)) }
+        IsSimReport text.now reading.entry from.now to.now (words_of at.entry) (words_of shown.entry.vcd) shown.entry.outputs
+            simulated.report (dump_files simulated.dump)) }
     ensures refusal { IfErr result (λ refusal.
         HasNoReport text.now reading.entry from.now to.now (words_of at.entry) refusal) }
     ensures has { IfOk result (λ simulated. IfSome simulated.dump HasRun) }
 {
     let simulation = simulated_run(alloc, text, reading, from, to, at)?;
-    let report = report_of(alloc, &simulation.circuit, &simulation.run)?;
-    let dump = dump_to(vcd, simulation.circuit, simulation.run);
+    let mut report = report_of(alloc, &simulation.circuit, &simulation.run)?;
+    push_last(
+        &mut report,
+        &simulation.circuit,
+        &simulation.run,
+        shown.outputs,
+    )?;
+    let dump = dump_to(shown.vcd, simulation.circuit, simulation.run);
     Ok(Simulated { report, dump })
 }
 
