@@ -70,7 +70,8 @@ bad_part text reading netlist check name read fault reason is (inr reported) =
 pub not_judged : (text : List ℕ) (reading : Reading) (netlist : Netlist) (checked : Bool) (name : Bor (List ℕ)) (read : List ℕ) (fault : CheckFault)
     → IsCheckFault text reading read fault → TellsNoPart text reading netlist checked name.now read (unjudged name fault)
 not_judged text reading netlist checked name read check.OutOfMemory is = tt
-not_judged text reading netlist checked name read (check.Netlist reported) is = record { reported = is.0; means_none = is.1; has = is.2 }
+not_judged text reading netlist checked name read (check.Netlist reported) is = is
+not_judged text reading netlist checked name read check.NoOutput is = is
 not_judged text reading netlist checked name read (check.Loop net) is = is
 not_judged text reading netlist checked name read (check.Certificate reported) is = (is.2, refl, is.3)
 

@@ -20,6 +20,7 @@ IsOfPart name fault reason =
 abbrev pub unjudged : Bor (List ℕ) → CheckFault → Refusal
 unjudged name check.OutOfMemory = refusal.OutOfMemory
 unjudged name (check.Netlist fault) = refusal.Netlist fault
+unjudged name check.NoOutput = refusal.NoOutput
 unjudged name (check.Loop net) = refusal.Loop net
 unjudged name (check.Certificate fault) = refusal.BadPart name fault
 

@@ -47,6 +47,7 @@ fn unjudged<'a>(name: &'a str, fault: CheckFault<'a>) -> Refusal<'a>
     match fault {
         CheckFault::OutOfMemory => Refusal::OutOfMemory,
         CheckFault::Netlist(fault) => Refusal::Netlist(fault),
+        CheckFault::NoOutput => Refusal::NoOutput,
         CheckFault::Loop(net) => Refusal::Loop(net),
         CheckFault::Certificate(fault) => Refusal::BadPart(name, fault),
     }

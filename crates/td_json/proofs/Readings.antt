@@ -11,7 +11,7 @@ use Rattle.td_json.specs.declared.forms.Form.{Form}
 use Rattle.td_json.specs.declared.forms.Form.TheVariants.{Words, Number, Numbers, Last, Change, Place, Verdict, Part}
 use Rattle.td_json.specs.Pieces.{pieces}
 use Rattle.td_json.specs.Forms.{form_of, is_list, is_number_at}
-use Rattle.td_json.specs.Reports.{is_whole, json_number, field_of, items_of, row, value_of, key_of, rest_of, joined, added, members_of, report_json}
+use Rattle.td_json.specs.Reports.{is_whole, json_number, field_of, items_of, row, has_place, value_of, key_of, rest_of, joined, added, members_of, report_json}
 
 -- numbers are numbers, and nothing nests deeper
 record Fits (value : Json) (most : ℕ) : Type 0 where
@@ -73,7 +73,11 @@ value_fits Numbers rest = go (bytes_eq rest (codes "none")) refl
     go false is = subst (λ test. Fits (cond test json.null (row Numbers rest)) 1) (sym is) (row_fits Numbers rest)
 value_fits Last rest = row_fits Last rest
 value_fits Change rest = row_fits Change rest
-value_fits Place rest = row_fits Place rest
+value_fits Place rest = go (has_place rest) refl
+  where
+    go : (test : Bool) → has_place rest ≡ test → Fits (value_of Place rest) 1
+    go true is = subst (λ test. Fits (cond test (row Place rest) (json.string rest)) 1) (sym is) (row_fits Place rest)
+    go false is = subst (λ test. Fits (cond test (row Place rest) (json.string rest)) 1) (sym is) (above (string_fits rest))
 value_fits Verdict rest = row_fits Verdict rest
 value_fits Part rest = row_fits Part rest
 

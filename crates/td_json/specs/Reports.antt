@@ -1,5 +1,5 @@
 -- The JSON of a report.
-use Rattle.std.specs.Prelude.{ℕ, suc, Bool, true, false, cond, ◌==◌, List, [], ◌∷◌, ◌++◌, get_or, Option, Some, None, codes}
+use Rattle.std.specs.Prelude.{ℕ, suc, Bool, true, false, cond, not, nat_lt, ◌&&◌, ◌==◌, List, [], ◌∷◌, ◌++◌, get_or, Option, Some, None, codes}
 use Rattle.std.specs.Str.{bytes_eq}
 use Rattle.json.specs.Json.{Json, null, number, string, array, object, Items, no_items, item, Members, no_members, member}
 use Rattle.json.specs.Print.{print}
@@ -37,6 +37,11 @@ items_of form place (field ∷ fields) = item (field_of form place field) (items
 abbrev pub row : Form → List ℕ → Json
 row form rest = array (items_of form 0 (pieces Field rest))
 
+-- the text begins with a digit: with the place of what it names
+abbrev pub has_place : List ℕ → Bool
+has_place [] = false
+has_place (byte ∷ rest) = not (nat_lt byte 48) && nat_lt byte 58
+
 -- the value of a line, by what comes after its key
 abbrev pub value_of : Form → List ℕ → Json
 value_of Words rest = string rest
@@ -44,7 +49,7 @@ value_of Number rest = json_number rest
 value_of Numbers rest = cond (bytes_eq rest (codes "none")) null (row Numbers rest)
 value_of Last rest = row Last rest
 value_of Change rest = row Change rest
-value_of Place rest = row Place rest
+value_of Place rest = cond (has_place rest) (row Place rest) (string rest)
 value_of Verdict rest = row Verdict rest
 value_of Part rest = row Part rest
 

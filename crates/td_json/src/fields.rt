@@ -5,7 +5,7 @@ ghost use Rattle.json.specs.Tree.{json_tokens, items_tokens};
 ghost use Rattle.td_json.specs.declared.pieces.End.TheVariants as Ending;
 ghost use Rattle.td_json.specs.declared.forms.Form.TheVariants as Shape;
 ghost use Rattle.td_json.specs.Pieces.{pieces};
-ghost use Rattle.td_json.specs.Reports.{json_number, field_of, items_of, row, value_of};
+ghost use Rattle.td_json.specs.Reports.{json_number, field_of, has_place, items_of, row, value_of};
 ghost use Rattle.td_json.specs.Writing.{Adds};
 
 use crate::forms::Form;
@@ -66,6 +66,27 @@ fn numbers(writer: &mut Writer, text: &str) -> Result<(), AllocError>
     row(writer, Form::Numbers, text)
 }
 
+/// Whether a text begins with a digit: with the place of what it names.
+fn has_place(text: &str) -> bool
+    ensures { result ≡ has_place text.now }
+{
+    match text.as_bytes() {
+        [byte, ..] => !(*byte < b'0') && *byte < b':',
+        [] => false,
+    }
+}
+
+/// A place and a name, or a name alone.
+fn placed(writer: &mut Writer, text: &str) -> Result<(), AllocError>
+    ensures { OnOk result (Adds writer.old writer.new (json_tokens (value_of Shape.Place text.now))) }
+{
+    if has_place(text) {
+        row(writer, Form::Place, text)
+    } else {
+        writer.string(text)
+    }
+}
+
 /// The value of a line, by what comes after its key.
 pub fn value(writer: &mut Writer, form: Form, text: &str) -> Result<(), AllocError>
     ensures { OnOk result (Adds writer.old writer.new (json_tokens (value_of form text.now))) }
@@ -74,6 +95,7 @@ pub fn value(writer: &mut Writer, form: Form, text: &str) -> Result<(), AllocErr
         Form::Words => writer.string(text),
         Form::Number => number(writer, text),
         Form::Numbers => numbers(writer, text),
+        Form::Place => placed(writer, text),
         _ => row(writer, form, text),
     }
 }

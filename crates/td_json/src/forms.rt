@@ -16,7 +16,7 @@ pub enum Form {
     Last,
     /// A change, one after another.
     Change,
-    /// A place and a name, for each input or output.
+    /// A place and a name, for each input or output; a name alone, of the output that is latest.
     Place,
     /// The number and the name of a verdict, and the line that it is about.
     Verdict,

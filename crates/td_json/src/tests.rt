@@ -18,9 +18,9 @@ const FILES: [(&str, &[u8]); 1] = [("inverter.v", INVERTER)];
 #[test]
 fn writes_each_form(rt: HostRuntime) -> Result<(), Fail> {
     let report =
-        "unit 1 ns\ndelay none\nat 0 7\nlast \\y\" [1] 5\nlast 12 never\nt none\nrefused 9 LeafNotEmpty line 12\n";
+        "unit 1 ns\ndelay none\nat 0 7\nlast \\y\" [1] 5\nlast 12 never\nt none\nrefused 9 LeafNotEmpty line 12\noutput y[3]\n";
     let wanted =
-        "{\"unit\":\"1 ns\",\"delay\":null,\"at\":[0,7],\"last\":[[\"\\\\y\\\" [1]\",5],[\"12\",null]],\"t\":null,\"refused\":[9,\"LeafNotEmpty\",\"line\",12]}\n";
+        "{\"unit\":\"1 ns\",\"delay\":null,\"at\":[0,7],\"last\":[[\"\\\\y\\\" [1]\",5],[\"12\",null]],\"t\":null,\"refused\":[9,\"LeafNotEmpty\",\"line\",12],\"output\":[\"y[3]\"]}\n";
     let text = json(rt.alloc(), report)?;
     assert_eq!(rt; text.as_slice(), wanted.as_bytes());
     Ok(())
