@@ -9,8 +9,8 @@ file, without imports. `--without Means` leaves a definition out, and what it al
 the names of files.
 
 `model.py --check` compares the numbers of docs/model/README.md, and the index docs/model/names.md,
-with the sources (exit status 1 where one differs). `model.py --names` prints that index. Run it at
-the top of the repository.
+with the sources, and wants one crate for each name of the index (exit status 1 where one differs).
+`model.py --names` prints that index. Run it at the top of the repository.
 """
 
 import functools
@@ -387,8 +387,14 @@ def check():
             + ("" if right else f", {FIGURES_IN} says {stated[1] if stated else 'nothing'}")
         )
         wrong += not right
-    right = open(NAMES).read() == names(model)
+    index = names(model)
+    right = open(NAMES).read() == index
     print(f"{NAMES}: {'as the sources' if right else 'make it again by tools/model.py --names'}")
+    for row in index.splitlines():
+        crates = sorted(set(re.findall(r"`(td_\w+)/", row)))
+        if len(crates) > 1:
+            print(f"{NAMES}: {row.split('`')[1]} is defined in {' and '.join(crates)}")
+            wrong += 1
     return wrong + (not right)
 
 

@@ -28,7 +28,7 @@ use Rattle.td_gates.proofs.KnownLaws.{levels_before, length-levels, IsClear, con
 use Rattle.td_arrival.specs.declared.signals.Span.{Span}
 use Rattle.td_arrival.specs.declared.signals.Signal.{Signal}
 use Rattle.td_arrival.specs.Arrivals.{input_changes, input_signal, constant_signal, around, hull, is_held, earliest_of, latest_of, opens_at, closes_at, is_lost, last_delay, delayed_span, gate_changes, gate_start, gate_finish, gate_signal}
-use Rattle.td_arrival.specs.Coverage.{ChangesWithin, Covers, IsEnd, HasMoment, span_reach}
+use Rattle.td_arrival.specs.Coverage.{ChangesWithin, ArrivalsCover, IsEnd, HasMoment, span_reach}
 
 -- whether some level is the controlling one
 abbrev IsControlled : Option Level → List Level → Type 0
@@ -48,7 +48,7 @@ controlled Not levels others one two = absurd (nothing_controls levels one)
 
 -- waves that the signals cover, one by one
 abbrev Covered : List Signal → List Wave → Type 0
-Covered signals ins = AllZip Covers signals ins
+Covered signals ins = AllZip ArrivalsCover signals ins
 
 starts_agree : (signals : List Signal) (ins : List Wave) → Covered signals ins
     → AllAgree (map (λ signal. signal.start) signals) (levels_before ins 0)
@@ -139,7 +139,7 @@ closes_within control latest (s ∷ signals) = omega (arith, closes_within contr
 
 module _ (control : Option Level) (clear : IsClear control) where
   -- an input that is held at the controlling level
-  held_here : (s : Signal) (w : Wave) → Covers s w → controls control s.finish ≡ true → (changes : Option Span) → changes ≡ None
+  held_here : (s : Signal) (w : Wave) → ArrivalsCover s w → controls control s.finish ≡ true → (changes : Option Span) → changes ≡ None
       → ChangesWithin changes w → (n : ℕ) → controls control (before w n) ≡ true
   held_here s w covered at_control None none never n =
       let known = clear s.finish at_control in
@@ -162,7 +162,7 @@ module _ (control : Option Level) (clear : IsClear control) where
   ]
 
   -- an input that starts at the controlling level, until its earliest change
-  opens_here : (s : Signal) (w : Wave) → Covers s w → controls control s.start ≡ true → (changes : Option Span) → ChangesWithin changes w
+  opens_here : (s : Signal) (w : Wave) → ArrivalsCover s w → controls control s.start ≡ true → (changes : Option Span) → ChangesWithin changes w
       → (n : ℕ) → n ≤ earliest_of changes → controls control (before w n) ≡ true
   opens_here s w covered at_control None within n low =
       let same : before w n ≡ s.start = never_until n w within n (omega arith) ∙ covered.start (clear s.start at_control) in
@@ -193,7 +193,7 @@ module _ (control : Option Level) (clear : IsClear control) where
   ]
 
   -- an input that finishes at the controlling level, from its latest change on
-  closes_here : (s : Signal) (w : Wave) → Covers s w → controls control s.finish ≡ true → (span : Span) → ChangesWithin (Some span) w
+  closes_here : (s : Signal) (w : Wave) → ArrivalsCover s w → controls control s.finish ≡ true → (span : Span) → ChangesWithin (Some span) w
       → (n : ℕ) → span.latest < n → controls control (before w n) ≡ true
   closes_here s w covered at_control span within n high =
       let final = covered.finish (clear s.finish at_control) in
@@ -205,13 +205,13 @@ module _ (control : Option Level) (clear : IsClear control) where
   abbrev closing : ℕ → Signal → ℕ
   closing latest s = if controls control s.finish then latest_of latest s.changes else latest
 
-  closes_changes : (latest : ℕ) (s : Signal) (w : Wave) → Covers s w → controls control s.finish ≡ true → (changes : Option Span)
+  closes_changes : (latest : ℕ) (s : Signal) (w : Wave) → ArrivalsCover s w → controls control s.finish ≡ true → (changes : Option Span)
       → ChangesWithin changes w
       → (latest ≤ latest_of latest changes) ⊎ ((n : ℕ) → latest_of latest changes < n → controls control (before w n) ≡ true)
   closes_changes latest s w covered here None within = inl (omega arith)
   closes_changes latest s w covered here (Some span) within = inr (closes_here s w covered here span within)
 
-  closes_one : (latest : ℕ) (s : Signal) (w : Wave) → Covers s w
+  closes_one : (latest : ℕ) (s : Signal) (w : Wave) → ArrivalsCover s w
       → (latest ≤ closing latest s) ⊎ ((n : ℕ) → closing latest s < n → controls control (before w n) ≡ true)
   closes_one latest s w covered = elim (cases_Bool (controls control s.finish)) [
     | inr other ↦ rw other (inl (omega arith))
@@ -380,7 +380,7 @@ module _ (kind : Kind) (delay : Delay) (signals : List Signal) (ins : List Wave)
       finish_at zero after known = absurd (omega arith)
       finish_at (suc n) after known = target_finishes.1 n (omega arith) known
 
-  covers_output : Covers (gate_signal kind delay signals) out
+  covers_output : ArrivalsCover (gate_signal kind delay signals) out
   covers_output = record {
     start = λ known. is.opening ∙ target_starts known;
     finish = finishes;
@@ -388,8 +388,8 @@ module _ (kind : Kind) (delay : Delay) (signals : List Signal) (ins : List Wave)
   }
 
 pub covers_gate : (kind : Kind) (delay : Delay) (signals : List Signal) (ins : List Wave) (out : Wave)
-    → IsInRange delay → TakesInputs kind (length ins) → All IsBoolean ins → AllZip Covers signals ins → Obeys kind delay ins out
-    → Covers (gate_signal kind delay signals) out
+    → IsInRange delay → TakesInputs kind (length ins) → All IsBoolean ins → AllZip ArrivalsCover signals ins → Obeys kind delay ins out
+    → ArrivalsCover (gate_signal kind delay signals) out
 covers_gate kind delay signals ins out fits takes boolean covered obeys =
     covers_output kind delay signals ins out fits takes boolean covered (delayed kind delay fits ins out obeys)
 
@@ -415,7 +415,7 @@ input_within One Free moment wave a b changes = changes
 input_within Free second moment wave a b changes = changes
 
 pub covers_input : (first second : Trit) (moment : ℕ) (wave : Wave) → IsInputWave first second moment wave
-    → Covers (input_signal first second moment) wave
+    → ArrivalsCover (input_signal first second moment) wave
 covers_input first second moment wave is =
     let a : Agrees (level_of_trit first) wave.start = λ known. is.starts ∙ bit_known first is.before is.first_allows known in
     let b : (t : ℕ) → moment ≤ t → Agrees (level_of_trit second) (at wave t) =
@@ -428,7 +428,7 @@ covers_input first second moment wave is =
           ((λ t early. is.keeps t early ∙ sym is.starts), (λ t late. is.then t late ∙ sym (is.then moment now)));
     }
 
-pub covers_constant : (one : Bool) (wave : Wave) → IsConstant (level_from one) wave → Covers (constant_signal one) wave
+pub covers_constant : (one : Bool) (wave : Wave) → IsConstant (level_from one) wave → ArrivalsCover (constant_signal one) wave
 covers_constant one wave is = record {
   start = λ known. is 0;
   finish = λ known. (0, λ t h. is (suc t));
@@ -439,7 +439,7 @@ quiet_by : (changes : Option Span) (wave : Wave) → ChangesWithin changes wave 
 quiet_by None wave within = λ t h. within t ∙ sym (within 0)
 quiet_by (Some span) wave within = within.1
 
-pub quiet_after_last : (signal : Signal) (moment : ℕ) (wave : Wave) → Some (latest_of 0 signal.changes) ≡ Some moment → Covers signal wave
+pub quiet_after_last : (signal : Signal) (moment : ℕ) (wave : Wave) → Some (latest_of 0 signal.changes) ≡ Some moment → ArrivalsCover signal wave
     → IsQuietAfter moment wave
 quiet_after_last signal moment wave is covered =
     let same : latest_of 0 signal.changes ≡ moment = cc in rw same at (quiet_by signal.changes wave covered.changes)

@@ -12,7 +12,7 @@ ChangesWithin None wave = (t : ℕ) → at wave t ≡ wave.start
 ChangesWithin (Some span) wave = ((t : ℕ) → t < span.earliest → at wave t ≡ wave.start) × IsQuietAfter span.latest wave
 
 -- the signal covers the wave
-pub record Covers (signal : Signal) (wave : Wave) : Type 0 where
+pub record ArrivalsCover (signal : Signal) (wave : Wave) : Type 0 where
   pub start : Agrees signal.start wave.start
   pub finish : Finishes signal.finish wave
   pub changes : ChangesWithin signal.changes wave

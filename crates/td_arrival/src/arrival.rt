@@ -1,7 +1,7 @@
 //! The domain.
 
 ghost use Rattle.td_arrival.specs.Arrivals.{arrival_functions};
-ghost use Rattle.td_arrival.specs.Coverage.{Covers, HasMoment, span_reach};
+ghost use Rattle.td_arrival.specs.Coverage.{ArrivalsCover, HasMoment, span_reach};
 ghost use Rattle.td_arrival.specs.ArrivalLaws.{covers_input, covers_constant, covers_gate, quiet_after_last, reach_input, reach_gate, last_is_moment, reach_each};
 ghost use Rattle.std.specs.Prelude.{refl};
 
@@ -20,7 +20,7 @@ impl Domain for Arrival {
     /// The signals of the inputs of a gate with many.
     type Scratch = Vec<Signal>;
 
-    ghost covers = { Covers };
+    ghost covers = { ArrivalsCover };
 
     ghost functions = { arrival_functions };
 

@@ -161,37 +161,37 @@ module _ (circuit : Numbered) (numbering : IsNumbering circuit) (fit : AreMoment
   below_bound : (domain : BoundedBy) (cube : List Trit) → length cube ≡ 2 * length circuit.netlist.inputs → IsIn pair cube
       → (bound : ℕ) → IsBoundBy domain (setting circuit) cube (Some bound) → delay ≤ bound
   below_bound by.Arrival cube count is_in bound of_cube =
-      rw is.is_latest (no_later arrival_coverage.Covers arrival.arrival_functions
+      rw is.is_latest (no_later arrival_coverage.ArrivalsCover arrival.arrival_functions
       arrival_laws.covers_input arrival_laws.covers_constant arrival_laws.covers_gate
       circuit numbering fit cube count of_cube.signals of_cube.are_signals pair is_in is.waves is.runs
       arrival_laws.quiet_after_last bound (sym of_cube.is_greatest))
   below_bound by.Possible cube count is_in bound of_cube =
-      rw is.is_latest (no_later possible_coverage.Covers possible.possible_functions
+      rw is.is_latest (no_later possible_coverage.LevelsCover possible.possible_functions
       possible_laws.covers_input possible_laws.covers_constant possible_laws.covers_gate
       circuit numbering fit cube count of_cube.signals of_cube.are_signals pair is_in is.waves is.runs
       possible_laws.quiet_after_last bound (sym of_cube.is_greatest))
   below_bound by.Both cube count is_in bound of_cube =
-      rw is.is_latest (no_later (λ signal wave. arrival_coverage.Covers signal.0 wave × possible_coverage.Covers signal.1 wave)
+      rw is.is_latest (no_later (λ signal wave. arrival_coverage.ArrivalsCover signal.0 wave × possible_coverage.LevelsCover signal.1 wave)
       (both_functions arrival.arrival_functions possible.possible_functions)
       (λ first second moment wave h. (arrival_laws.covers_input first second moment wave h, possible_laws.covers_input first second moment wave h))
       (λ one wave h. (arrival_laws.covers_constant one wave h, possible_laws.covers_constant one wave h))
-      (both_covers_gate arrival_coverage.Covers possible_coverage.Covers arrival.gate_signal possible.gate_signal arrival_laws.covers_gate possible_laws.covers_gate)
+      (both_covers_gate arrival_coverage.ArrivalsCover possible_coverage.LevelsCover arrival.gate_signal possible.gate_signal arrival_laws.covers_gate possible_laws.covers_gate)
       circuit numbering fit cube count of_cube.signals of_cube.are_signals pair is_in is.waves is.runs
-      (both_quiet arrival_coverage.Covers possible_coverage.Covers arrival.last_of possible.last_of arrival_laws.quiet_after_last possible_laws.quiet_after_last)
+      (both_quiet arrival_coverage.ArrivalsCover possible_coverage.LevelsCover arrival.last_of possible.last_of arrival_laws.quiet_after_last possible_laws.quiet_after_last)
       bound (sym of_cube.is_greatest))
   below_bound by.Edges cube count is_in bound of_cube =
-      rw is.is_latest (no_later edges_coverage.Covers edges.edge_functions
+      rw is.is_latest (no_later edges_coverage.EdgesCover edges.edge_functions
       edges_laws.covers_input edges_laws.covers_constant edges_laws.covers_gate
       circuit numbering fit cube count of_cube.signals of_cube.are_signals pair is_in is.waves is.runs
       edges_laws.quiet_after_last bound (sym of_cube.is_greatest))
   below_bound by.EdgesAndPossible cube count is_in bound of_cube =
-      rw is.is_latest (no_later (λ signal wave. edges_coverage.Covers signal.0 wave × possible_coverage.Covers signal.1 wave)
+      rw is.is_latest (no_later (λ signal wave. edges_coverage.EdgesCover signal.0 wave × possible_coverage.LevelsCover signal.1 wave)
       (both_functions edges.edge_functions possible.possible_functions)
       (λ first second moment wave h. (edges_laws.covers_input first second moment wave h, possible_laws.covers_input first second moment wave h))
       (λ one wave h. (edges_laws.covers_constant one wave h, possible_laws.covers_constant one wave h))
-      (both_covers_gate edges_coverage.Covers possible_coverage.Covers edges.gate_signal possible.gate_signal edges_laws.covers_gate possible_laws.covers_gate)
+      (both_covers_gate edges_coverage.EdgesCover possible_coverage.LevelsCover edges.gate_signal possible.gate_signal edges_laws.covers_gate possible_laws.covers_gate)
       circuit numbering fit cube count of_cube.signals of_cube.are_signals pair is_in is.waves is.runs
-      (both_quiet edges_coverage.Covers possible_coverage.Covers edges.last_of possible.last_of edges_laws.quiet_after_last possible_laws.quiet_after_last)
+      (both_quiet edges_coverage.EdgesCover possible_coverage.LevelsCover edges.last_of possible.last_of edges_laws.quiet_after_last possible_laws.quiet_after_last)
       bound (sym of_cube.is_greatest))
 
   -- the delay of a point's pair

@@ -93,8 +93,8 @@ abbrev pub setting_of : Netlist → Certificate → Setting
 setting_of netlist c = record { netlist = netlist; moments = c.question.moments }
 
 -- the certificate's pair has its time
-abbrev pub IsReached : Netlist → Certificate → Type 0
-IsReached netlist c = IsDelayOfBits (setting_of netlist c) c.pair.first c.pair.second c.time
+abbrev pub HasItsTime : Netlist → Certificate → Type 0
+HasItsTime netlist c = IsDelayOfBits (setting_of netlist c) c.pair.first c.pair.second c.time
 
 -- the lines of the tree, whose root has the pins as its cube
 abbrev pub lines_in : Certificate → List Line
@@ -105,7 +105,7 @@ lines_in c = lines_from (c.question.admit.pins ∷ []) c.tree
 pub record Accepts (netlist : Netlist) (c : Certificate) : Type 0 where
   pub size : IsOfSize netlist c
   pub admitted : IsAdmitted c.question.admit c.pair
-  pub reached : IsReached netlist c
+  pub reached : HasItsTime netlist c
   pub tree : IsTree c.tree
   pub good : AllByRecursion (IsGood (setting_of netlist c) c.question.admit c.time) (lines_in c)
 

@@ -17,7 +17,7 @@ use Rattle.td_certificate.specs.Trees.{is_refuted, has_refuted}
 use Rattle.td_certificate.specs.Cubes.{cubes_past}
 use Rattle.td_certificate.specs.Spelling.{head_lines}
 use Rattle.td_certificate.specs.Walks.{position_of, Line, lines_from}
-use Rattle.td_certificate.specs.Accepts.{lines_in, IsOfCube, IsGood, IsOfSize, setting_of, IsReached, Accepts}
+use Rattle.td_certificate.specs.Accepts.{lines_in, IsOfCube, IsGood, IsOfSize, setting_of, HasItsTime, Accepts}
 use Rattle.td_certificate.proofs.Texts.{spells_once}
 use Rattle.td_certificate.proofs.VectorCodes.{cases, none_not, some_is}
 use Rattle.td_checker.specs.declared.verdict.Verdict.{Verdict}
@@ -179,7 +179,7 @@ verdict_of (BadStep place why) line = verdict.BadStep line why
 data Reported (netlist : Netlist) (c : Certificate) (reported : Verdict) : Type 0 where
   other_circuit : reported ≡ verdict.OtherCircuit → (¬ IsOfSize netlist c) → Reported netlist c reported
   not_admitted : reported ≡ verdict.PairNotAdmitted → IsOfSize netlist c → (¬ HasAdmittedPair c) → Reported netlist c reported
-  pair_time : reported ≡ verdict.PairTime → IsOfSize netlist c → HasAdmittedPair c → (¬ IsReached netlist c) → Reported netlist c reported
+  pair_time : reported ≡ verdict.PairTime → IsOfSize netlist c → HasAdmittedPair c → (¬ HasItsTime netlist c) → Reported netlist c reported
   bad_line : (flaw : Flaw) (line : ℕ) → reported ≡ verdict_of flaw line → IsFirstBad netlist c flaw line → Reported netlist c reported
   all_good : reported ≡ verdict.Accepted → Accepts netlist c → Reported netlist c reported
 

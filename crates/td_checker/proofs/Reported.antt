@@ -9,7 +9,7 @@ use Rattle.td_certificate.specs.declared.question.Version.TheVariants.{First, Se
 use Rattle.td_certificate.specs.Questions.{Question}
 use Rattle.td_certificate.specs.Trees.{IsTree}
 use Rattle.td_certificate.specs.Spelling.{head_lines, fields_of, field_line, HasSpelling}
-use Rattle.td_certificate.specs.Accepts.{lines_in, IsGood, IsOfSize, setting_of, IsReached, Accepts}
+use Rattle.td_certificate.specs.Accepts.{lines_in, IsGood, IsOfSize, setting_of, HasItsTime, Accepts}
 use Rattle.td_certificate.proofs.Acceptance.{at_moments}
 use Rattle.td_checker.specs.declared.judging.Flaw as code_flaw
 use Rattle.td_checker.specs.declared.judging.Flaw.TheVariants as code
@@ -20,7 +20,7 @@ use Rattle.td_checker.specs.Judging.{flaw_of, IsBadAt, IsFoundBad, reported_as}
 pub setting_is : (netlist : Netlist) (moments : List ℕ) (c : Certificate) → moments ≡ c.question.moments → at_moments netlist moments ≡ setting_of netlist c
 setting_is netlist moments c e = ap (at_moments netlist) e
 
-first_bad : (netlist : Netlist) (c : Certificate) (flaw : Flaw) (before line : ℕ) → IsOfSize netlist c → HasAdmittedPair c → IsReached netlist c → IsTree c.tree
+first_bad : (netlist : Netlist) (c : Certificate) (flaw : Flaw) (before line : ℕ) → IsOfSize netlist c → HasAdmittedPair c → HasItsTime netlist c → IsTree c.tree
     → line ≡ 1 + length (head_lines c) + before → IsBadAt (setting_of netlist c) c.question.admit c.time (lines_in c) flaw before → IsFirstBad netlist c flaw line
 first_bad netlist c flaw before line size admitted reached is_tree at bad = record {
   size = size;
@@ -35,7 +35,7 @@ first_bad netlist c flaw before line size admitted reached is_tree at bad = reco
   line_is = at ∙ ap (λ (n : ℕ). 1 + length (head_lines c) + n) bad.before_is;
 }
 
-reported : (netlist : Netlist) (c : Certificate) (flaw : code_flaw.Flaw) (at before line : ℕ) → IsOfSize netlist c → HasAdmittedPair c → IsReached netlist c
+reported : (netlist : Netlist) (c : Certificate) (flaw : code_flaw.Flaw) (at before line : ℕ) → IsOfSize netlist c → HasAdmittedPair c → HasItsTime netlist c
     → IsTree c.tree → line ≡ 1 + length (head_lines c) + before → IsBadAt (setting_of netlist c) c.question.admit c.time (lines_in c) (flaw_of flaw at) before
     → IsVerdict netlist c (reported_as flaw line)
 reported netlist c code.Misplaced at before line size admitted reached is_tree is bad = first_bad netlist c Misplaced before line size admitted reached is_tree is bad

@@ -13,7 +13,7 @@ use Rattle.td_refutation.specs.Whole.{IsTooLarge, IsBadStep, IsAboveBound}
 use Rattle.td_certificate.specs.Trees.{IsTree, has_refuted}
 use Rattle.td_certificate.specs.Walks.{Line}
 use Rattle.td_certificate.specs.Spelling.{head_lines}
-use Rattle.td_certificate.specs.Accepts.{lines_in, SplitsFree, IsOfOnePair, IsOfCube, IsWithin, IsGood, IsOfSize, setting_of, IsReached, Accepts}
+use Rattle.td_certificate.specs.Accepts.{lines_in, SplitsFree, IsOfOnePair, IsOfCube, IsWithin, IsGood, IsOfSize, setting_of, HasItsTime, Accepts}
 use Rattle.td_checker.specs.declared.verdict.Verdict.{Verdict}
 use Rattle.td_checker.specs.declared.verdict.Verdict.TheVariants as verdict
 
@@ -141,7 +141,7 @@ HasAdmittedPair c = IsAdmitted c.question.admit c.pair
 pub record IsFirstBad (netlist : Netlist) (c : Certificate) (flaw : Flaw) (line : ℕ) : Type 0 where
   pub size : IsOfSize netlist c
   pub admitted : HasAdmittedPair c
-  pub reached : IsReached netlist c
+  pub reached : HasItsTime netlist c
   pub tree : IsTree c.tree
   pub place : ℕ
   pub bad : Line
@@ -156,7 +156,7 @@ abbrev pub IsVerdict : Netlist → Certificate → Verdict → Type 0
 IsVerdict netlist c verdict.Accepted = Accepts netlist c
 IsVerdict netlist c verdict.OtherCircuit = ¬ IsOfSize netlist c
 IsVerdict netlist c verdict.PairNotAdmitted = IsOfSize netlist c × (¬ HasAdmittedPair c)
-IsVerdict netlist c verdict.PairTime = IsOfSize netlist c × HasAdmittedPair c × (¬ IsReached netlist c)
+IsVerdict netlist c verdict.PairTime = IsOfSize netlist c × HasAdmittedPair c × (¬ HasItsTime netlist c)
 IsVerdict netlist c (verdict.BadPosition line) = IsFirstBad netlist c Misplaced line
 IsVerdict netlist c (verdict.NotAPoint line) = IsFirstBad netlist c NotOnePair line
 IsVerdict netlist c (verdict.LeafBound line) = IsFirstBad netlist c WrongNumber line ⊎ IsFirstBad netlist c TooLarge line

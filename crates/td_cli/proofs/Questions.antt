@@ -17,7 +17,7 @@ use Rattle.td_search.specs.declared.answers.Answer.TheVariants as answer
 use Rattle.td_search.specs.declared.answers.SearchFault.{SearchFault}
 use Rattle.td_search.specs.declared.answers.SearchFault.TheVariants as search
 use Rattle.td_worst.specs.declared.method.Method.{Method}
-use Rattle.td_worst.specs.Methods.{tree_of, IsOutcome, IsAnswerBy}
+use Rattle.td_worst.specs.Methods.{tree_of, IsSoundAnswer, IsAnswerBy}
 use Rattle.td_worst.proofs.Outcomes.{outcome_by}
 use Rattle.td_search.specs.Problems.{Problem, problem_by, has_delay}
 use Rattle.td_search.specs.Answers.{IsSearchFault}
@@ -26,7 +26,7 @@ use Rattle.td_command.specs.declared.command.QuestionWords.{QuestionWords}
 use Rattle.td_report.specs.declared.vector.VectorWord.{VectorWord}
 use Rattle.td_report.specs.declared.vector.VectorWord.TheVariants.{At}
 use Rattle.td_report.specs.Vectors.{words_of, VectorWords, IsFirstBad, AreMomentsOf, GivesMoments}
-use Rattle.td_cli.specs.Admitting.{most_flips, AreAdmitted, pair_words}
+use Rattle.td_cli.specs.Admitting.{most_flips, WordsAdmit, pair_words}
 use Rattle.td_cli.specs.WorstReports.{strategy_of, IsAsked, certificate_in, pair_in}
 use Rattle.td_cli.specs.Outcomes.{question_words, HasNoAnswer, unanswered}
 use Rattle.td_report.specs.Outcomes.{IsCircuitOf, HasBadWord}
@@ -48,19 +48,19 @@ bad_pair_word text default circuit count words word is counts bad =
 
 -- the word of the moments gives nothing
 pub bad_moments : (text : List ℕ) (default : Delay) (circuit : Numbered) (count : ℕ) (words : QuestionWords) (admit : Admitted)
-    → IsCircuitOf text default circuit → count ≡ length circuit.netlist.inputs → AreAdmitted count words admit
+    → IsCircuitOf text default circuit → count ≡ length circuit.netlist.inputs → WordsAdmit count words admit
     → ((moments : List ℕ) → ¬ AreMomentsOf count (words_of words.at) moments) → HasBadWord text default (question_words words) At
 bad_moments text default circuit count words admit is counts admits none =
     bad_word text default circuit count (question_words words) At is counts
     (inr ((admits.firsts, admits.first_is), inr ((admits.seconds, admits.second_is), inr ((admit.held, admits.held), inl (refl, λ given. none given.0 given.1)))))
 
 pub is_asked : (text : List ℕ) (default : Delay) (words : QuestionWords) (circuit timed : Numbered) (count : ℕ) (admit : Admitted) (moments : List ℕ)
-    → IsCircuitOf text default circuit → count ≡ length circuit.netlist.inputs → AreAdmitted count words admit
+    → IsCircuitOf text default circuit → count ≡ length circuit.netlist.inputs → WordsAdmit count words admit
     → AreMomentsOf count (words_of words.at) moments → timed ≡ with_moments circuit moments → IsAsked text default words (problem_by (tree_of (strategy_of words.strategy)) timed admit)
 is_asked text default words circuit timed count admit moments is counts admits are timed_is =
     subst (λ timed. IsAsked text default words (problem_by (tree_of (strategy_of words.strategy)) timed admit)) (sym timed_is) (record {
       is_setting = record { means = is.means; acyclic = is.acyclic; moments = subst (λ count. AreMomentsOf count (words_of words.at) moments) counts are };
-      admits = subst (λ count. AreAdmitted count words admit) counts admits;
+      admits = subst (λ count. WordsAdmit count words admit) counts admits;
       strategy = refl;
     })
 
@@ -111,7 +111,7 @@ pub pair_fits : (method : Method) (asked : Problem) (budget : ℕ) (found : Answ
     → (length (pair_in found).first ≡ length asked.setting.netlist.inputs) × (length (pair_in found).second ≡ length asked.setting.netlist.inputs)
 pair_fits method asked budget found is = outcome_fits asked budget found (outcome_by method asked budget found is)
   where
-    outcome_fits : (asked : Problem) (budget : ℕ) (found : Answer) → IsOutcome asked budget found
+    outcome_fits : (asked : Problem) (budget : ℕ) (found : Answer) → IsSoundAnswer asked budget found
         → (length (pair_in found).first ≡ length asked.setting.netlist.inputs) × (length (pair_in found).second ≡ length asked.setting.netlist.inputs)
     outcome_fits asked budget (answer.Exact time pair tree) is = delay_fits asked pair time is.reached
     outcome_fits asked budget (answer.Between low high pair nodes why) is = delay_fits asked pair low is.reached

@@ -9,7 +9,7 @@ use Rattle.td_certificate.specs.declared.certificate.Certificate.{Certificate}
 use Rattle.td_search.specs.declared.answers.Answer.{Answer}
 use Rattle.td_search.specs.declared.answers.Answer.TheVariants as answer
 use Rattle.td_search.specs.Problems.{Problem}
-use Rattle.td_worst.specs.Methods.{IsOutcome}
+use Rattle.td_worst.specs.Methods.{IsSoundAnswer}
 use Rattle.td_worst.proofs.Outcomes.{outcome_by}
 use Rattle.td_text.specs.Output.{Output}
 use Rattle.td_files.specs.Files.{FileStep, FileText}
@@ -17,7 +17,7 @@ use Rattle.td_files.specs.Disks.{Disk}
 use Rattle.td_report.specs.declared.status.Status.{Status}
 use Rattle.td_report.specs.declared.refusal.Refusal.{Refusal}
 use Rattle.td_report.specs.Ends.{Product, Streams, Ends}
-use Rattle.td_report.specs.Reports.{newline, head_lines}
+use Rattle.td_report.specs.Reports.{newline, unit_lines}
 use Rattle.td_command.specs.declared.command.WorstRequest.{WorstRequest}
 use Rattle.td_command.specs.declared.command.Request.{Request}
 use Rattle.td_command.specs.declared.command.Request.TheVariants as request
@@ -87,11 +87,11 @@ after_head : (text : List ℕ) (search : WorstRequest) (product : Product) (it :
     → line ++ (third.rest ++ rest) ≡ answer_lines it.is.found ++ it.is.chain
 after_head text search product it report line rest third same = elim it.shown [
   | inl shown ↦ third_is report line (answer_lines it.is.found ++ it.is.chain) rest it.is.asked.setting.netlist.unit it.is.asked.setting.netlist.defaulted third
-      (same ∙ shown.1 ∙ it.is.is ∙ append_assoc (head_lines it.is.asked.setting.netlist) (answer_lines it.is.found) it.is.chain)
+      (same ∙ shown.1 ∙ it.is.is ∙ append_assoc (unit_lines it.is.asked.setting.netlist) (answer_lines it.is.found) it.is.chain)
   | inr gone ↦ absurd (third_of_none report line third (front_empty report rest (same ∙ gone.1)))
 ]
 
-exact_of : (asked : Problem) (budget time : ℕ) (found : Answer) (r chain : List ℕ) → IsOutcome asked budget found → time < 2 ^ 64
+exact_of : (asked : Problem) (budget time : ℕ) (found : Answer) (r chain : List ℕ) → IsSoundAnswer asked budget found → time < 2 ^ 64
     → exact_line time ++ r ≡ answer_lines found ++ chain → IsWorst asked.setting asked.admit time
 exact_of asked budget time (answer.Exact this pair tree) r chain is fits same =
     let one : time ≡ this = one_exact time this r (pair_lines pair (length tree) ++ chain) fits (omega (arith, is.small))
@@ -103,7 +103,7 @@ exact_of asked budget time (answer.Between low high pair nodes why) r chain is f
     ∙ append_assoc (between_line low high ++ cause_line why) (pair_lines pair nodes) chain
     ∙ append_assoc (between_line low high) (cause_line why) (pair_lines pair nodes ++ chain)))
 
-between_of : (asked : Problem) (budget low high : ℕ) (found : Answer) (r chain : List ℕ) → IsOutcome asked budget found → low < 2 ^ 64 → high < 2 ^ 64
+between_of : (asked : Problem) (budget low high : ℕ) (found : Answer) (r chain : List ℕ) → IsSoundAnswer asked budget found → low < 2 ^ 64 → high < 2 ^ 64
     → between_line low high ++ r ≡ answer_lines found ++ chain
     → (worst : ℕ) → IsWorst asked.setting asked.admit worst → (low ≤ worst) × (worst ≤ high)
 between_of asked budget low high (answer.Exact this pair tree) r chain is low_fits high_fits same worst is_worst =

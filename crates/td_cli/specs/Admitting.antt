@@ -14,7 +14,7 @@ most_flips inputs (Some flips) = min flips inputs
 
 -- for that many inputs, the words admit the pairs of the cube of the two patterns that keep the
 -- held inputs and flip few enough
-pub record AreAdmitted (inputs : ℕ) (words : QuestionWords) (admit : Admitted) : Type 0 where
+pub record WordsAdmit (inputs : ℕ) (words : QuestionWords) (admit : Admitted) : Type 0 where
   pub firsts : List Trit
   pub seconds : List Trit
   pub first_is : AreTrits inputs (words_of words.first) firsts

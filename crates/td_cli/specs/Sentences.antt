@@ -15,7 +15,7 @@ use Rattle.td_command.specs.CommandLine.{program, kinds_of, AsksCheck, AsksWorst
 use Rattle.td_files.specs.Disks.{Disk}
 use Rattle.td_report.specs.Reports.{newline, IsSetting}
 use Rattle.td_report.specs.Vectors.{words_of}
-use Rattle.td_cli.specs.Admitting.{AreAdmitted}
+use Rattle.td_cli.specs.Admitting.{WordsAdmit}
 use Rattle.td_cli.specs.WorstReports.{exact_line, between_line}
 
 -- ---- lines
@@ -55,7 +55,7 @@ pub record AreAbout (disk : Disk) (words : List Text) (setting : Setting) (admit
   pub text : List ℕ
   pub read : disk.holds request.file.now text
   pub is_setting : IsSetting text request.default (words_of request.question.at) setting
-  pub admits : AreAdmitted (length setting.netlist.inputs) request.question admit
+  pub admits : WordsAdmit (length setting.netlist.inputs) request.question admit
 
 -- ---- the sentence
 

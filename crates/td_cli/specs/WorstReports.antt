@@ -20,8 +20,8 @@ use Rattle.td_worst.specs.Methods.{tree_of, IsAnswerBy}
 use Rattle.td_command.specs.declared.command.QuestionWords.{QuestionWords}
 use Rattle.td_report.specs.Vectors.{words_of}
 use Rattle.td_files.specs.Files.{FileText}
-use Rattle.td_cli.specs.Admitting.{AreAdmitted}
-use Rattle.td_report.specs.Reports.{newline, head_lines, IsSetting}
+use Rattle.td_cli.specs.Admitting.{WordsAdmit}
+use Rattle.td_report.specs.Reports.{newline, unit_lines, IsSetting}
 use Rattle.td_report.specs.PairReports.{IsDumpOf, TellsPair}
 
 abbrev pub exact_line : ℕ → List ℕ
@@ -56,7 +56,7 @@ answer_lines (answer.Between low high pair nodes why) = between_line low high ++
 
 -- the head, and the answer
 abbrev pub worst_text : Netlist → Answer → List ℕ
-worst_text netlist found = head_lines netlist ++ answer_lines found
+worst_text netlist found = unit_lines netlist ++ answer_lines found
 
 -- the certificate of an exact answer
 abbrev pub certificate_in : Problem → Answer → Option Certificate
@@ -74,7 +74,7 @@ strategy_of word.Auto = method.Auto
 -- and the strategy of the first tree
 pub record IsAsked (text : List ℕ) (default : Delay) (words : QuestionWords) (asked : Problem) : Type 0 where
   pub is_setting : IsSetting text default (words_of words.at) asked.setting
-  pub admits : AreAdmitted (length asked.setting.netlist.inputs) words asked.admit
+  pub admits : WordsAdmit (length asked.setting.netlist.inputs) words asked.admit
   pub strategy : asked.strategy ≡ tree_of (strategy_of words.strategy)
 
 -- the pair of an answer

@@ -6,7 +6,7 @@ ghost use Rattle.td_search.specs.Problems.{problem_by};
 ghost use Rattle.td_worst.specs.Methods.{tree_of};
 ghost use Rattle.td_report.specs.Outcomes.{IsCircuitOf, HasBadWord, IsRefusedFor};
 ghost use Rattle.td_report.specs.Vectors.{IsFirstBad};
-ghost use Rattle.td_cli.specs.Admitting.{most_flips, AreAdmitted, pair_words};
+ghost use Rattle.td_cli.specs.Admitting.{most_flips, WordsAdmit, pair_words};
 ghost use Rattle.td_cli.specs.Outcomes.{question_words};
 ghost use Rattle.td_cli.specs.WorstReports.{strategy_of, IsAsked};
 
@@ -103,7 +103,7 @@ pub fn admit(
     inputs: usize,
 ) -> Result<Result<Admit, VectorWord>, AllocError>
     requires { inputs < 2 ^ 32 }
-    ensures admitted { IfOk result (λ reported. IfOk reported (AreAdmitted inputs words.entry)) }
+    ensures admitted { IfOk result (λ reported. IfOk reported (WordsAdmit inputs words.entry)) }
     ensures bad { IfOk result (λ reported. IfErr reported (IsFirstBad inputs (pair_words words.entry))) }
 {
     let Some(firsts) = given(alloc, words.first, inputs, Trit::Free)? else {

@@ -17,7 +17,7 @@ use Rattle.td_report.specs.declared.refusal.Refusal.TheVariants as refusal
 use Rattle.td_files.specs.Files.{FileStep, Made, Ended, FileText, HasBeginning, IsWritten, IsLeft, AreWritten, Takes}
 use Rattle.td_report.specs.Vectors.{words_of}
 use Rattle.td_report.specs.Refusals.{refusal_text, unwritten_text}
-use Rattle.td_report.specs.Ends.{Product, Streams, streams, Tells, TellsReason, TellsUnread, TellsUnwritten, IsWrittenAs, LosesOne, Says, Ends}
+use Rattle.td_report.specs.Ends.{Product, Streams, streams, Tells, TellsReason, TellsUnread, TellsUnwritten, IsWrittenAs, LosesOne, SaysReport, Ends}
 use Rattle.td_delivery.specs.Beside.{IsBeside, certificate_files}
 use Rattle.td_delivery.specs.HandingOver.{IsHandedOver}
 use Rattle.td_delivery.specs.Shown.{IsShown}
@@ -169,7 +169,7 @@ module _ (P : Product → Type 0) (H : Refusal → Type 0) (b : List ℕ → Typ
 
   -- a report was said, and no file is due
   pub said : (report : List ℕ) (ending status : Status) (old new : Streams)
-      → P (record { report = report; files = []; ending = ending }) → (text : List ℕ) → text ≡ report → Says text ending status old new
+      → P (record { report = report; files = []; ending = ending }) → (text : List ℕ) → text ≡ report → SaysReport text ending status old new
       → Ends P H b [] status old new
   said report ending status old new is text same (inl sent) = inl (record {
     product = record { report = report; files = []; ending = ending };

@@ -14,7 +14,7 @@ ChangesWithin None wave = (t : ℕ) → at wave t ≡ before wave t
 ChangesWithin (Some span) wave = (t : ℕ) → at wave t ≢ before wave t → (span.earliest ≤ t) × (t < until (at wave t) span)
 
 -- the signal covers the wave
-pub record Covers (signal : Signal) (wave : Wave) : Type 0 where
+pub record EdgesCover (signal : Signal) (wave : Wave) : Type 0 where
   pub start : Agrees signal.start wave.start
   pub finish : Finishes signal.finish wave
   pub changes : ChangesWithin signal.changes wave

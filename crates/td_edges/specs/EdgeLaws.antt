@@ -30,7 +30,7 @@ use Rattle.td_edges.specs.declared.parting.Parting.{Parting}
 use Rattle.td_edges.specs.Spans.{until, until_of, earliest_of, moving}
 use Rattle.td_edges.specs.Parting.{odd, no_parts, parted_with, parted, parity_span}
 use Rattle.td_edges.specs.EdgeSignals.{input_until, input_changes, input_signal, constant_signal, around, hull, target_span, settled, limited, capped, raised, kept_by, filtered, after_earliest, timely, never_changes, put_off, output_changes, gate_changes, gate_start, gate_finish, gate_signal}
-use Rattle.td_edges.specs.Coverage.{ChangesWithin, Covers, IsEnd, HasMoment, span_reach}
+use Rattle.td_edges.specs.Coverage.{ChangesWithin, EdgesCover, IsEnd, HasMoment, span_reach}
 use Rattle.td_edges.specs.WindowLaws.{Ends, MovesIn, output_ends, delayed_holds}
 use Rattle.td_edges.specs.ParityLaws.{Covered, until_greatest, change_low, wave_ends}
 use Rattle.td_edges.specs.TargetLaws.{target_in, target_still, kept_in}
@@ -96,7 +96,7 @@ module _ (kind : Kind) (delay : Delay) (signals : List Signal) (ins : List Wave)
   within None moves = moves
   within (Some span) moves = moves
 
-  covers_output : Covers (gate_signal kind delay signals) out
+  covers_output : EdgesCover (gate_signal kind delay signals) out
   covers_output = record {
     start = λ known. is.opening ∙ target_starts known;
     finish = finishes;
@@ -104,8 +104,8 @@ module _ (kind : Kind) (delay : Delay) (signals : List Signal) (ins : List Wave)
   }
 
 pub covers_gate : (kind : Kind) (delay : Delay) (signals : List Signal) (ins : List Wave) (out : Wave)
-    → IsInRange delay → TakesInputs kind (length ins) → All IsBoolean ins → AllZip Covers signals ins → Obeys kind delay ins out
-    → Covers (gate_signal kind delay signals) out
+    → IsInRange delay → TakesInputs kind (length ins) → All IsBoolean ins → AllZip EdgesCover signals ins → Obeys kind delay ins out
+    → EdgesCover (gate_signal kind delay signals) out
 covers_gate kind delay signals ins out fits takes boolean covered obeys =
     covers_output kind delay signals ins out fits takes boolean covered (delayed kind delay fits ins out obeys)
 
@@ -195,7 +195,7 @@ module _ (first second : Trit) (moment : ℕ) (wave : Wave) (is : IsInputWave fi
       inverse_boolean true = λ e. cc
       inverse_boolean false = λ e. cc
 
-  input_covered : Covers (input_signal first second moment) wave
+  input_covered : EdgesCover (input_signal first second moment) wave
   input_covered = record {
     start = λ known. is.starts ∙ input_starts known;
     finish = λ known. (moment, λ t high. is.then t high ∙ input_ends known);
@@ -203,10 +203,10 @@ module _ (first second : Trit) (moment : ℕ) (wave : Wave) (is : IsInputWave fi
   }
 
 pub covers_input : (first second : Trit) (moment : ℕ) (wave : Wave) → IsInputWave first second moment wave
-    → Covers (input_signal first second moment) wave
+    → EdgesCover (input_signal first second moment) wave
 covers_input first second moment wave is = input_covered first second moment wave is
 
-pub covers_constant : (one : Bool) (wave : Wave) → IsConstant (level_from one) wave → Covers (constant_signal one) wave
+pub covers_constant : (one : Bool) (wave : Wave) → IsConstant (level_from one) wave → EdgesCover (constant_signal one) wave
 covers_constant one wave is = record {
   start = λ known. is 0;
   finish = λ known. (0, λ t h. is (suc t));
@@ -228,7 +228,7 @@ quiet_by changes wave within (suc k) =
           absurd (omega arith)
     ])
 
-pub quiet_after_last : (signal : Signal) (moment : ℕ) (wave : Wave) → Some (until_of X signal.changes - 1) ≡ Some moment → Covers signal wave
+pub quiet_after_last : (signal : Signal) (moment : ℕ) (wave : Wave) → Some (until_of X signal.changes - 1) ≡ Some moment → EdgesCover signal wave
     → IsQuietAfter moment wave
 quiet_after_last signal moment wave is covered t late =
     let same : until_of X signal.changes - 1 ≡ moment = cc in

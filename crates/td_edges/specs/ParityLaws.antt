@@ -18,12 +18,12 @@ use Rattle.td_edges.specs.declared.signals.Signal.{Signal}
 use Rattle.td_edges.specs.declared.parting.Parting.{Parting}
 use Rattle.td_edges.specs.Spans.{until_of}
 use Rattle.td_edges.specs.Parting.{odd, no_parts, parted_with, parted, parity_until}
-use Rattle.td_edges.specs.Coverage.{ChangesWithin, Covers}
+use Rattle.td_edges.specs.Coverage.{ChangesWithin, EdgesCover}
 use Rattle.td_edges.specs.WindowLaws.{Ends}
 
 -- waves that the signals cover, one by one
 abbrev pub Covered : List Signal → List Wave → Type 0
-Covered signals ins = AllZip Covers signals ins
+Covered signals ins = AllZip EdgesCover signals ins
 
 -- a change of a covered wave comes before the moment for its level
 pub change_low : (changes : Option Span) (wave : Wave) (t : ℕ) → ChangesWithin changes wave → before wave (suc t) ≢ before wave t
@@ -39,7 +39,7 @@ until_greatest Low (Some span) = omega arith
 until_greatest High (Some span) = omega arith
 until_greatest X (Some span) = omega arith
 
-wave_still : (signal : Signal) (wave : Wave) (t : ℕ) → Covers signal wave → until_of X signal.changes ≤ t → before wave (suc t) ≡ before wave t
+wave_still : (signal : Signal) (wave : Wave) (t : ℕ) → EdgesCover signal wave → until_of X signal.changes ≤ t → before wave (suc t) ≡ before wave t
 wave_still signal wave t covered late = elim (cases_level (before wave (suc t)) (before wave t)) [
   | inl same ↦ same
   | inr differ ↦
@@ -142,7 +142,7 @@ xor-odds parity (level ∷ levels) boolean =
 -- others
 pub record IsParted (parts : Parting) (e : ℕ → Level) : Type 0 where
   pub wave : Wave
-  pub covered : Covers parts.latest wave
+  pub covered : EdgesCover parts.latest wave
   pub others : ℕ → Level
   pub splits : (n : ℕ) → e n ≡ odd (others n) (before wave n)
   pub still : (t : ℕ) → parts.others_until ≤ t → others (suc t) ≡ others t
@@ -172,7 +172,7 @@ final_both p f a b one two = record {
   ends = λ n late. odd-agrees p f (a n) (b n) (one.ends n (omega arith)) (two.ends n (omega arith));
 }
 
-with_one : (parts : Parting) (e : ℕ → Level) (signal : Signal) (wave : Wave) → IsParted parts e → Covers signal wave
+with_one : (parts : Parting) (e : ℕ → Level) (signal : Signal) (wave : Wave) → IsParted parts e → EdgesCover signal wave
     → IsParted (parted_with signal parts) (λ n. odd (e n) (before wave n))
 with_one parts e signal wave is covered = elim (cases_Bool (nat_lt (until_of X parts.latest.changes) (until_of X signal.changes))) [
   | inl later ↦ rw later (record {

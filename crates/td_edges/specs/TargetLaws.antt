@@ -17,7 +17,7 @@ use Rattle.td_edges.specs.declared.signals.Signal.{Signal}
 use Rattle.td_edges.specs.Spans.{until, until_of, earliest_of}
 use Rattle.td_edges.specs.Parting.{parity_span, parity_until, parted, no_parts}
 use Rattle.td_edges.specs.EdgeSignals.{around, hull, turned, target_span, settled, capped, raised, kept_by}
-use Rattle.td_edges.specs.Coverage.{ChangesWithin, Covers}
+use Rattle.td_edges.specs.Coverage.{ChangesWithin, EdgesCover}
 use Rattle.td_edges.specs.WindowLaws.{StaysIn, turns_to_end, limited_at, limited-earliest}
 use Rattle.td_edges.specs.ParityLaws.{Covered, change_low, wave_ends, odds, xor-odds, parity_low}
 
@@ -321,7 +321,7 @@ settles Buf levels some = absurd (nothing_controls levels some)
 settles Not levels some = absurd (nothing_controls levels some)
 
 -- an input with a known finish is at that level after its last change to it
-input_late : (signal : Signal) (wave : Wave) → Covers signal wave → signal.finish ≢ X → (n : ℕ) → until_of signal.finish signal.changes ≤ n
+input_late : (signal : Signal) (wave : Wave) → EdgesCover signal wave → signal.finish ≢ X → (n : ℕ) → until_of signal.finish signal.changes ≤ n
     → before wave n ≡ signal.finish
 input_late signal wave covered known n late = elim (cases_level (before wave n) signal.finish) [
   | inl same ↦ same
@@ -334,7 +334,7 @@ input_late signal wave covered known n late = elim (cases_level (before wave n) 
 ]
 
 -- an input with a known start is there until its earliest change
-input_early : (signal : Signal) (wave : Wave) → Covers signal wave → signal.start ≢ X → (n : ℕ) → n ≤ earliest_of signal.changes
+input_early : (signal : Signal) (wave : Wave) → EdgesCover signal wave → signal.start ≢ X → (n : ℕ) → n ≤ earliest_of signal.changes
     → before wave n ≡ signal.start
 input_early signal wave covered known n low = from signal.changes covered.changes n low ∙ covered.start known
   where
@@ -348,7 +348,7 @@ input_early signal wave covered known n low = from signal.changes covered.change
 
 module _ (control : Option Level) (clear : IsClear control) (out : Level) (e : ℕ → Level) (boolean : (n : ℕ) → e n ≢ X) where
   -- step 3
-  cap_holds : (signal : Signal) (wave : Wave) → Covers signal wave → ((n : ℕ) → controls control (before wave n) ≡ true → e n ≡ out)
+  cap_holds : (signal : Signal) (wave : Wave) → EdgesCover signal wave → ((n : ℕ) → controls control (before wave n) ≡ true → e n ≡ out)
       → (span : Span) → StaysIn span e → StaysIn (capped control out signal span) e
   cap_holds signal wave covered gives span all = elim (cases_Bool (controls control signal.finish)) [
     | inr other ↦ rw other all
@@ -375,7 +375,7 @@ module _ (control : Option Level) (clear : IsClear control) (out : Level) (e : �
   raised_until X earliest t span low = low
 
   -- step 4
-  raise_holds : (signal : Signal) (wave : Wave) → Covers signal wave → ((n : ℕ) → controls control (before wave n) ≡ true → e n ≡ out)
+  raise_holds : (signal : Signal) (wave : Wave) → EdgesCover signal wave → ((n : ℕ) → controls control (before wave n) ≡ true → e n ≡ out)
       → (span : Span) → StaysIn span e → StaysIn (raised control signal span) e
   raise_holds signal wave covered gives span all = elim (cases_Bool (controls control signal.start)) [
     | inr other ↦ rw other all

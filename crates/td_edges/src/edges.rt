@@ -1,7 +1,7 @@
 //! The domain.
 
 ghost use Rattle.td_edges.specs.EdgeSignals.{edge_functions, input_until};
-ghost use Rattle.td_edges.specs.Coverage.{Covers, HasMoment, span_reach};
+ghost use Rattle.td_edges.specs.Coverage.{EdgesCover, HasMoment, span_reach};
 ghost use Rattle.td_edges.specs.EdgeLaws.{covers_input, covers_constant, covers_gate, quiet_after_last, reach_input, reach_gate, last_is_moment, reach_each};
 ghost use Rattle.std.specs.Prelude.{◌≡◌, ◌≤◌, ◌^◌, refl};
 
@@ -21,7 +21,7 @@ impl Domain for Edges {
     /// A gate needs no room.
     type Scratch = ();
 
-    ghost covers = { Covers };
+    ghost covers = { EdgesCover };
 
     ghost functions = { edge_functions };
 

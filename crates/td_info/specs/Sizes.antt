@@ -28,7 +28,7 @@ abbrev pub IsDelayIn : Netlist → ℕ → Type 0
 IsDelayIn netlist steps = (gate : Gate) × Contains netlist.gates gate × ((steps ≡ gate.delay.rise) ⊎ (steps ≡ gate.delay.fall))
 
 -- the least and the greatest delay of the netlist's gates
-pub record IsRange (netlist : Netlist) (range : Range) : Type 0 where
+pub record IsDelayRange (netlist : Netlist) (range : Range) : Type 0 where
   pub least : IsDelayIn netlist range.least
   pub greatest : IsDelayIn netlist range.greatest
   pub between : (steps : ℕ) → IsDelayIn netlist steps → (range.least ≤ steps) × (steps ≤ range.greatest)
@@ -36,4 +36,4 @@ pub record IsRange (netlist : Netlist) (range : Range) : Type 0 where
 -- the same, and none where there are no gates
 abbrev pub HasRange : Netlist → Option Range → Type 0
 HasRange netlist None = netlist.gates ≡ []
-HasRange netlist (Some range) = IsRange netlist range
+HasRange netlist (Some range) = IsDelayRange netlist range

@@ -44,8 +44,8 @@ patterned letters (Err fault) = Wrong fault
 
 -- The word of an option by place, into which the words of an option by name are merged. Where there
 -- are none it is the given one.
-abbrev pub IsPlaced : Letters → Topic → List Label → List Taken → Option Text → Placing → Type 0
-IsPlaced letters topic labels taken given placing =
+abbrev pub IsPlacing : Letters → Topic → List Label → List Taken → Option Text → Placing → Type 0
+IsPlacing letters topic labels taken given placing =
     ((has topic taken ≡ false) × (placing ≡ Word given))
     ⊎ ((has topic taken ≡ true) × ((start : Cells) × GivesCells letters (length labels) given start × (placing ≡ patterned letters (merge topic labels start taken))))
     ⊎ ((has topic taken ≡ true) × (placing ≡ Unread) × ((start : Cells) → ¬ GivesCells letters (length labels) given start))
@@ -102,22 +102,22 @@ given_in given = record {
 
 -- the words of the options by place that say what all words say together
 pub record ArePlaced (labels : List Label) (taken : List Taken) (given options : Placed) : Type 0 where
-  pub first : IsPlaced Trits Pin labels taken given.first (Word options.first)
-  pub second : IsPlaced Trits Pin labels taken given.second (Word options.second)
-  pub hold : IsPlaced Holds HoldInput labels taken given.hold (Word options.hold)
+  pub first : IsPlacing Trits Pin labels taken given.first (Word options.first)
+  pub second : IsPlacing Trits Pin labels taken given.second (Word options.second)
+  pub hold : IsPlacing Holds HoldInput labels taken given.hold (Word options.hold)
   pub at : placed_moments labels taken given.at ≡ Word options.at
 
 -- a given word into which a word by name is to be merged gives nothing for the inputs
 abbrev pub IsUnread : List Label → List Taken → Placed → Type 0
 IsUnread labels taken given =
-    IsPlaced Trits Pin labels taken given.first Unread
-    ⊎ IsPlaced Trits Pin labels taken given.second Unread
-    ⊎ IsPlaced Holds HoldInput labels taken given.hold Unread
+    IsPlacing Trits Pin labels taken given.first Unread
+    ⊎ IsPlacing Trits Pin labels taken given.second Unread
+    ⊎ IsPlacing Holds HoldInput labels taken given.hold Unread
 
 -- this is wrong with a word by name
 abbrev pub IsWrong : List Label → List Taken → Placed → Fault → Type 0
 IsWrong labels taken given fault =
-    IsPlaced Trits Pin labels taken given.first (Wrong fault)
-    ⊎ IsPlaced Trits Pin labels taken given.second (Wrong fault)
-    ⊎ IsPlaced Holds HoldInput labels taken given.hold (Wrong fault)
+    IsPlacing Trits Pin labels taken given.first (Wrong fault)
+    ⊎ IsPlacing Trits Pin labels taken given.second (Wrong fault)
+    ⊎ IsPlacing Holds HoldInput labels taken given.hold (Wrong fault)
     ⊎ (placed_moments labels taken given.at ≡ Wrong fault)

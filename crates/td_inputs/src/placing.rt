@@ -4,7 +4,7 @@ ghost use Rattle.std.specs.Prelude.{◌≡◌, ℕ, List, Option, None, Some, ma
 ghost use Rattle.td_inputs.specs.Labels.{label_in};
 ghost use Rattle.td_inputs.specs.Scans.{taken_in};
 ghost use Rattle.td_inputs.specs.Readings.{fault_in, merge};
-ghost use Rattle.td_inputs.specs.Placings.{ArePlaced, GivesCells, IsPlaced, IsUnread, IsWrong, Word, given_in, patterned, placed_moments, placing_in, text_of, timed, words_by_place};
+ghost use Rattle.td_inputs.specs.Placings.{ArePlaced, GivesCells, IsPlacing, IsUnread, IsWrong, Word, given_in, patterned, placed_moments, placing_in, text_of, timed, words_by_place};
 
 use crate::labels::Label;
 use crate::sayings::{WordFault, has, merged};
@@ -98,7 +98,7 @@ pub fn placed<'a>(
     taken: &[Taken<'a>],
     given: Option<&str>,
 ) -> Result<Placing<'a>, AllocError>
-    ensures { IfOk result (λ placing. IsPlaced letters topic (map label_in labels.now) (map taken_in taken.now) (text_of given.entry) (placing_in placing)) }
+    ensures { IfOk result (λ placing. IsPlacing letters topic (map label_in labels.now) (map taken_in taken.now) (text_of given.entry) (placing_in placing)) }
 {
     if !has(topic, taken) {
         return kept(alloc, given);

@@ -6,7 +6,7 @@ use Rattle.clap.specs.declared.error.kind.ErrorKind.TheVariants as kind
 use Rattle.td_text.specs.Output.{Output}
 use Rattle.td_files.specs.Files.{FileStep, Takes}
 use Rattle.td_report.specs.declared.status.Status.{Status}
-use Rattle.td_report.specs.Ends.{Streams, streams, Says}
+use Rattle.td_report.specs.Ends.{Streams, streams, SaysReport}
 use Rattle.td_command.specs.declared.command.Request.{Request}
 use Rattle.td_command.specs.CommandLine.{Asks, kinds_of}
 use Rattle.td_files.specs.Disks.{Disk}
@@ -17,8 +17,8 @@ use Rattle.td_json.specs.Ends.{shown, SaysJson, SaysHeld, EndsAsJson, JsonEnds}
 
 -- the JSON of a report was said
 pub said : (report text : List ℕ) (ending status : Status) (old new : Streams) → text ≡ shown report
-    → Says text ending status old new → SaysJson report ending status old new
-said report text ending status old new is says = inl (subst (λ t. Says t ending status old new) is says)
+    → SaysReport text ending status old new → SaysJson report ending status old new
+said report text ending status old new is says = inl (subst (λ t. SaysReport t ending status old new) is says)
 
 -- what ran with a report that was held, and then said it
 pub as_json : (WereTaken : List FileStep → Type 0) (Runs : List FileStep → Status → Streams → Streams → Type 0)

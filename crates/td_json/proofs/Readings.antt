@@ -11,7 +11,7 @@ use Rattle.td_json.specs.declared.forms.Form.{Form}
 use Rattle.td_json.specs.declared.forms.Form.TheVariants.{Words, Number, Numbers, Last, Change, Place, Verdict, Part}
 use Rattle.td_json.specs.Pieces.{pieces}
 use Rattle.td_json.specs.Forms.{form_of, is_list, is_number_at}
-use Rattle.td_json.specs.Reports.{is_whole, number_of, field_of, items_of, row, value_of, key_of, rest_of, joined, added, members_of, report_json}
+use Rattle.td_json.specs.Reports.{is_whole, json_number, field_of, items_of, row, value_of, key_of, rest_of, joined, added, members_of, report_json}
 
 -- numbers are numbers, and nothing nests deeper
 record Fits (value : Json) (most : ℕ) : Type 0 where
@@ -31,10 +31,10 @@ whole None is = absurd cc
 whole (Some []) is = refl
 whole (Some (byte ∷ rest)) is = absurd cc
 
-number_fits : (field : List ℕ) → Fits (number_of field) 0
+number_fits : (field : List ℕ) → Fits (json_number field) 0
 number_fits field = go (is_whole (after_number field)) refl
   where
-    go : (test : Bool) → is_whole (after_number field) ≡ test → Fits (number_of field) 0
+    go : (test : Bool) → is_whole (after_number field) ≡ test → Fits (json_number field) 0
     go true is = subst (λ test. Fits (cond test (json.number field) json.null) 0) (sym is) (record { numbers = whole (after_number field) is; flat = omega arith })
     go false is = subst (λ test. Fits (cond test (json.number field) json.null) 0) (sym is) (record { numbers = tt; flat = omega arith })
 
@@ -45,8 +45,8 @@ field_fits : (form : Form) (place : ℕ) (field : List ℕ) → Fits (field_of f
 field_fits form place field = go (is_number_at form place) refl
   where
     go : (test : Bool) → is_number_at form place ≡ test → Fits (field_of form place field) 0
-    go true is = subst (λ test. Fits (cond test (number_of field) (json.string field)) 0) (sym is) (number_fits field)
-    go false is = subst (λ test. Fits (cond test (number_of field) (json.string field)) 0) (sym is) (string_fits field)
+    go true is = subst (λ test. Fits (cond test (json_number field) (json.string field)) 0) (sym is) (number_fits field)
+    go false is = subst (λ test. Fits (cond test (json_number field) (json.string field)) 0) (sym is) (string_fits field)
 
 items_fit : (form : Form) (place : ℕ) (fields : List (List ℕ)) → ItemsFit (items_of form place fields) 0
 items_fit form place [] = record { numbers = tt; flat = omega arith }

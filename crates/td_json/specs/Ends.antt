@@ -6,12 +6,12 @@ use Rattle.td_command.specs.declared.command.Request.{Request}
 use Rattle.td_command.specs.CommandLine.{Asks}
 use Rattle.td_files.specs.Files.{FileStep}
 use Rattle.td_report.specs.declared.status.Status.{Status}
-use Rattle.td_report.specs.Ends.{Streams, streams, Says}
+use Rattle.td_report.specs.Ends.{Streams, streams, SaysReport}
 use Rattle.td_files.specs.Disks.{Disk}
 use Rattle.td_delivery.specs.Shown.{IsOutOfMemory}
 use Rattle.td_cli.specs.Requests.{RequestEnds, TellsOf}
 use Rattle.td_cli.specs.Sentences.{IsTrueReport}
-use Rattle.td_json.specs.Holding.{nothing_yet, IsWhole, IsTorn}
+use Rattle.td_json.specs.Holding.{nothing_yet, IsAllWritten, IsTorn}
 use Rattle.td_json.specs.Reports.{json_text}
 
 -- ---- what goes out in its place
@@ -25,12 +25,12 @@ shown (byte ∷ rest) = json_text (utf8_lossy (byte ∷ rest))
 -- a report that was held goes out as JSON, with this ending, or memory runs out for that and the
 -- program says so
 abbrev pub SaysJson : List ℕ → Status → Status → Streams → Streams → Type 0
-SaysJson report ending status old new = Says (shown report) ending status old new ⊎ IsOutOfMemory status old new
+SaysJson report ending status old new = SaysReport (shown report) ending status old new ⊎ IsOutOfMemory status old new
 
 -- what was held goes out where it is whole; else nothing does
 abbrev pub SaysHeld : Output → Status → Status → Streams → Streams → Type 0
 SaysHeld held ending status old new =
-    ((report : List ℕ) × IsWhole report held × SaysJson report ending status old new)
+    ((report : List ℕ) × IsAllWritten report held × SaysJson report ending status old new)
     ⊎ (IsTorn held × (new ≡ old) × (status ≡ ending))
 
 -- What runs so writes its report to memory, and its files and messages as always. Then the JSON of

@@ -10,8 +10,8 @@ abbrev pub nothing_yet : Output
 nothing_yet = record { sent = Some []; failures = 0 }
 
 -- all of this was written, without a failure
-abbrev pub IsWhole : List ℕ → Output → Type 0
-IsWhole report held = held ≡ record { sent = Some report; failures = 0 }
+abbrev pub IsAllWritten : List ℕ → Output → Type 0
+IsAllWritten report held = held ≡ record { sent = Some report; failures = 0 }
 
 -- memory ran out before all was written
 abbrev pub IsTorn : Output → Type 0

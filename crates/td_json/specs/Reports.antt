@@ -20,11 +20,11 @@ is_whole (Some []) = true
 is_whole (Some (byte ∷ rest)) = false
 
 -- a number by its digits; null for a word in its place, as `none` and `never`
-abbrev pub number_of : List ℕ → Json
-number_of field = cond (is_whole (after_number field)) (number field) null
+abbrev pub json_number : List ℕ → Json
+json_number field = cond (is_whole (after_number field)) (number field) null
 
 abbrev pub field_of : Form → ℕ → List ℕ → Json
-field_of form place field = cond (is_number_at form place) (number_of field) (string field)
+field_of form place field = cond (is_number_at form place) (json_number field) (string field)
 
 -- the fields from this place on
 abbrev pub items_of : Form → ℕ → List (List ℕ) → Items
@@ -40,7 +40,7 @@ row form rest = array (items_of form 0 (pieces Field rest))
 -- the value of a line, by what comes after its key
 abbrev pub value_of : Form → List ℕ → Json
 value_of Words rest = string rest
-value_of Number rest = number_of rest
+value_of Number rest = json_number rest
 value_of Numbers rest = cond (bytes_eq rest (codes "none")) null (row Numbers rest)
 value_of Last rest = row Last rest
 value_of Change rest = row Change rest

@@ -5,7 +5,7 @@ ghost use Rattle.json.specs.Tree.{json_tokens, items_tokens};
 ghost use Rattle.td_json.specs.declared.pieces.End.TheVariants as Ending;
 ghost use Rattle.td_json.specs.declared.forms.Form.TheVariants as Shape;
 ghost use Rattle.td_json.specs.Pieces.{pieces};
-ghost use Rattle.td_json.specs.Reports.{number_of, field_of, items_of, row, value_of};
+ghost use Rattle.td_json.specs.Reports.{json_number, field_of, items_of, row, value_of};
 ghost use Rattle.td_json.specs.Writing.{Adds};
 
 use crate::forms::Form;
@@ -15,7 +15,7 @@ use std::alloc::AllocError;
 
 /// A number, or null for a word in its place.
 fn number(writer: &mut Writer, field: &str) -> Result<(), AllocError>
-    ensures { OnOk result (Adds writer.old writer.new (json_tokens (number_of field.now))) }
+    ensures { OnOk result (Adds writer.old writer.new (json_tokens (json_number field.now))) }
 {
     if is_number(field) {
         return writer.number(field);

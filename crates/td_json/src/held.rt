@@ -12,7 +12,7 @@ pub struct Held {
 
 impl Held {
     ghost use Rattle.std.specs.Prelude.{◌≡◌, IfSome, IfNone};
-    ghost use Rattle.td_json.specs.Holding.{held_output, nothing_yet, IsWhole, IsTorn};
+    ghost use Rattle.td_json.specs.Holding.{held_output, nothing_yet, IsAllWritten, IsTorn};
 
     /// Holds nothing yet.
     pub fn new(alloc: Global) -> Held
@@ -26,7 +26,7 @@ impl Held {
 
     /// All that was written, unless a write failed.
     pub fn whole(&self) -> Option<&[u8]>
-        ensures whole { IfSome result (λ bytes. IsWhole bytes.now (held_output self.now)) }
+        ensures whole { IfSome result (λ bytes. IsAllWritten bytes.now (held_output self.now)) }
         ensures torn { IfNone result (IsTorn (held_output self.now)) }
     {
         if self.failures != 0 {

@@ -16,7 +16,7 @@ use Rattle.td_naming.specs.declared.naming.Outcome.{Outcome as CodeOutcome}
 use Rattle.td_naming.specs.declared.naming.Outcome.TheVariants as code
 use Rattle.td_naming.specs.declared.refusal.Refusal.{Refusal}
 use Rattle.td_naming.specs.declared.refusal.Refusal.TheVariants as refusal
-use Rattle.td_naming.specs.Questions.{Question, are_named, begin_with_command, question_of, takes}
+use Rattle.td_naming.specs.Questions.{Question, are_named, begin_with_command, inputs_question, takes}
 
 -- the delay of gates that state none, for as long as only inputs are asked for
 abbrev pub one_step : Delays
@@ -62,7 +62,7 @@ OfQuestion holds fails question taken outcome =
 abbrev pub OfWords : (Text → Text → Type 0) → (Text → Type 0) → List Text → List Taken → Outcome → Type 0
 OfWords holds fails plain taken outcome =
     ((outcome ≡ Left) × ((kind : ErrorKind) × IsAmong kind (kinds_of plain)))
-    ⊎ ((asked : Request) × Asks plain asked × OfQuestion holds fails (question_of asked) taken outcome)
+    ⊎ ((asked : Request) × Asks plain asked × OfQuestion holds fails (inputs_question asked) taken outcome)
 
 -- ---- the words that come out
 
@@ -122,7 +122,7 @@ QuestionRefuses holds fails question taken reason =
 
 abbrev pub WordsRefuse : (Text → Text → Type 0) → (Text → Type 0) → List Text → List Taken → Refusal → Type 0
 WordsRefuse holds fails plain taken reason =
-    (reason ≡ refusal.OutOfMemory) ⊎ ((asked : Request) × Asks plain asked × QuestionRefuses holds fails (question_of asked) taken reason)
+    (reason ≡ refusal.OutOfMemory) ⊎ ((asked : Request) × Asks plain asked × QuestionRefuses holds fails (inputs_question asked) taken reason)
 
 -- why no words come out
 abbrev pub IsRefused : (Text → Text → Type 0) → (Text → Type 0) → List Text → Refusal → Type 0

@@ -57,39 +57,39 @@ words_of_question question = record {
 }
 
 -- what a request asks about inputs
-abbrev pub question_of : Request → Question
-question_of (request.Sim asked) = of_pair asked.file.now (text_of asked.at)
-question_of (request.Path asked) = of_pair asked.file.now (text_of asked.at)
-question_of (request.Bound asked) = record {
+abbrev pub inputs_question : Request → Question
+inputs_question (request.Sim asked) = of_pair asked.file.now (text_of asked.at)
+inputs_question (request.Path asked) = of_pair asked.file.now (text_of asked.at)
+inputs_question (request.Bound asked) = record {
   file = asked.file.now;
   given = record { first = text_of asked.first; second = text_of asked.second; hold = None; at = text_of asked.at };
   pins = true;
   holds = false;
   moments = true;
 }
-question_of (request.Worst asked) = record {
+inputs_question (request.Worst asked) = record {
   file = asked.file.now;
   given = words_of_question asked.question;
   pins = true;
   holds = true;
   moments = true;
 }
-question_of (request.Parts asked) = record {
+inputs_question (request.Parts asked) = record {
   file = asked.file.now;
   given = words_of_question asked.question;
   pins = true;
   holds = true;
   moments = true;
 }
-question_of (request.Join asked) = record {
+inputs_question (request.Join asked) = record {
   file = asked.file.now;
   given = record { first = text_of asked.first; second = text_of asked.second; hold = None; at = None };
   pins = true;
   holds = false;
   moments = false;
 }
-question_of (request.Check asked) = of_none asked.file.now
-question_of (request.Info asked) = of_none asked.file.now
+inputs_question (request.Check asked) = of_none asked.file.now
+inputs_question (request.Info asked) = of_none asked.file.now
 
 -- the command takes these options by name
 abbrev pub takes : Question → List Taken → Bool

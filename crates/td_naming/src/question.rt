@@ -46,7 +46,7 @@ impl<'a> Question<'a> {
     ghost use Rattle.std.specs.Prelude.{◌≡◌, map};
     ghost use Rattle.td_inputs.specs.Placings.{text_of};
     ghost use Rattle.td_inputs.specs.Scans.{taken_in};
-    ghost use Rattle.td_naming.specs.Questions.{of_none, of_pair, question_in, question_of, takes};
+    ghost use Rattle.td_naming.specs.Questions.{of_none, of_pair, question_in, inputs_question, takes};
 
     /// A question about one pair, whose inputs have moments.
     fn of_pair(file: &'a str, at: Option<&'a str>) -> Question<'a>
@@ -63,7 +63,7 @@ impl<'a> Question<'a> {
 
     /// What a request asks about inputs.
     pub(crate) fn of(request: &Request<'a>) -> Question<'a>
-        ensures { question_in result ≡ question_of request.now }
+        ensures { question_in result ≡ inputs_question request.now }
     {
         match request {
             Request::Sim(request) => Question::of_pair(request.file, request.at),

@@ -15,7 +15,7 @@ use Rattle.td_netlist.specs.PlacedNets.{different, Placed, nets_at, outputs_in, 
 use Rattle.td_netlist.specs.Module.{scalar, names_of, Declared, is_input, is_output, is_wire, is_direction, ports, ports_as, declarations, declared, declared_names, range_in, nets_named, source_of, terminals_in, inputs_of, Primitive, primitives}
 use Rattle.td_netlist.specs.Conditions.{IsConsistent}
 use Rattle.td_netlist.specs.NameFaults.{RepeatedOn, MissingOn, AgainOn, LeftOutOn, IsNameFault}
-use Rattle.td_netlist.specs.Means.{AreDeclared, IsJoined}
+use Rattle.td_netlist.specs.Means.{AreDeclared, JoinsNet}
 use Rattle.td_netlist.specs.Checks.{Known, nets_known, each, Lists, declare_ports, declare_item, Sides, sideless, take_side, Drivers, drive_all, read_all, read_placed, sides_at, declared_at, driven_at}
 use Rattle.td_netlist.proofs.Members.{in_front, behind, mapped, of_mapped, filtered, of_filtered, gathered, of_gathered, either_side}
 use Rattle.td_netlist.proofs.Distinct.{not_distinct}
@@ -123,8 +123,8 @@ module _ (m : grammar.Module) where
   at_drivers s ks = refl
 
   -- the inputs of a gate are among its terminals
-  all_joined : ((t : grammar.Terminal) → Contains (terminals_in m) t → IsJoined (source_of m t)) → AllByRecursion (λ (t : grammar.Terminal). IsJoined (source_of m t)) (flat_map inputs_of (primitives m))
-  all_joined joined = all_by (λ (t : grammar.Terminal). IsJoined (source_of m t)) (flat_map inputs_of (primitives m))
+  all_joined : ((t : grammar.Terminal) → Contains (terminals_in m) t → JoinsNet (source_of m t)) → AllByRecursion (λ (t : grammar.Terminal). JoinsNet (source_of m t)) (flat_map inputs_of (primitives m))
+  all_joined joined = all_by (λ (t : grammar.Terminal). JoinsNet (source_of m t)) (flat_map inputs_of (primitives m))
       (λ t has. (let one = of_gathered inputs_of t (primitives m) has in
       let count = output_count one.0.kind (length one.0.terminals) in
       joined t (gathered (λ (p : Primitive). p.terminals) one.0 t (primitives m) one.1
@@ -285,8 +285,8 @@ module _ (m : grammar.Module) (line : ℕ) (keeps : IsConsistent m) where
     | inl inputs ↦ absurd (omega (arith, inputs, keeps.within.few_inputs))
     | inr nets ↦ absurd (omega (arith, nets, keeps.within.few_nets))
   ]
-  refuted kind.UnknownBit at = subst IsJoined at.is (keeps.joined.each at.terminal at.stands)
-  refuted kind.WidthNotOne at = subst IsJoined at.is (keeps.joined.each at.terminal at.stands)
+  refuted kind.UnknownBit at = subst JoinsNet at.is (keeps.joined.each at.terminal at.stands)
+  refuted kind.WidthNotOne at = subst JoinsNet at.is (keeps.joined.each at.terminal at.stands)
   refuted kind.OutOfMemory at = at
   refuted kind.BadByte at = at
   refuted kind.UnexpectedEnd at = at

@@ -18,7 +18,7 @@ use Rattle.td_netlist.specs.Faults.{◌>>=◌}
 use Rattle.td_netlist.specs.PlacedNets.{different, line_of, Placed, placed_net, placed_in, nets_at, outputs_in, plain_name, names_in, net_count}
 use Rattle.td_netlist.specs.Module.{scalar, names_of, is_input, ports_as, declarations, range_in, Source, Joins, source_of, net_of, net_from, terminals_in, outputs_of, inputs_of, Primitive, primitives}
 use Rattle.td_netlist.specs.NameFaults.{LeftOutOn, IsNameFault}
-use Rattle.td_netlist.specs.Means.{IsJoined}
+use Rattle.td_netlist.specs.Means.{JoinsNet}
 use Rattle.td_netlist.specs.Checks.{each, Known, nets_known, know, meet, resolve, Drivers, second_driver, drive_fault, drive_net, seen, see, drives, drive, drive_all, read_from, read_net, read_all, read_placed}
 use Rattle.td_netlist.proofs.Members.{either_side, one_of, nowhere, first, later, in_front, behind, between, gathered}
 use Rattle.td_netlist.proofs.Distinct.{distinct_nil, distinct_push, distinct_head, distinct_tail}
@@ -188,16 +188,16 @@ module _ (m : grammar.Module) where
     driven : s.driven ≡ inputs ++ nets_at (driven_by ts)
     names : KnowsModule m s.names (plain_names (all_of ts))
     few_nets : nets_known s.names ≤ 1000000
-    joined : (t : grammar.Terminal) → Contains (all_of ts) t → IsJoined (source_of m t)
+    joined : (t : grammar.Terminal) → Contains (all_of ts) t → JoinsNet (source_of m t)
     once : IsDistinct (nets_at (driven_by ts))
     free : (name : Name) → Contains (nets_at (driven_by ts)) name → ¬ Contains inputs name
 
-  joined_more : (ts : List Terminal) (t : Terminal) (net : Net) → ((x : grammar.Terminal) → Contains (all_of ts) x → IsJoined (source_of m x)) → source_of m t.at ≡ Joins net
-      → (x : grammar.Terminal) → Contains (all_of (ts ++ t ∷ [])) x → IsJoined (source_of m x)
+  joined_more : (ts : List Terminal) (t : Terminal) (net : Net) → ((x : grammar.Terminal) → Contains (all_of ts) x → JoinsNet (source_of m x)) → source_of m t.at ≡ Joins net
+      → (x : grammar.Terminal) → Contains (all_of (ts ++ t ∷ [])) x → JoinsNet (source_of m x)
   joined_more ts t net so_far is x has = elim (either_side x (all_of ts) (t.at ∷ []) (subst (λ (xs : List grammar.Terminal). Contains xs x) (map_push (λ (y : Terminal). y.at) ts t) has)) [
     | inl before ↦ so_far x before
     | inr last ↦ elim (one_of x t.at [] last) [
-      | inl same ↦ subst (λ (y : grammar.Terminal). IsJoined (source_of m y)) same (is_joined_to (source_of m t.at) net is)
+      | inl same ↦ subst (λ (y : grammar.Terminal). JoinsNet (source_of m y)) same (is_joined_to (source_of m t.at) net is)
       | inr none ↦ nowhere x none
     ]
   ]
@@ -301,7 +301,7 @@ module _ (m : grammar.Module) where
     pub driven : s.driven ≡ ports_as is_input m ++ nets_at (outputs_in m)
     pub names : KnowsModule m s.names (plain_names (terminals_in m))
     pub few_nets : nets_known s.names ≤ 1000000
-    pub joined : (t : grammar.Terminal) → Contains (terminals_in m) t → IsJoined (source_of m t)
+    pub joined : (t : grammar.Terminal) → Contains (terminals_in m) t → JoinsNet (source_of m t)
     pub once : IsDistinct (nets_at (outputs_in m))
     pub free : (name : Name) → Contains (nets_at (outputs_in m)) name → ¬ Contains (ports_as is_input m) name
 
@@ -317,7 +317,7 @@ module _ (m : grammar.Module) where
         driven = all.driven ∙ ap (λ (ps : List Placed). inputs ++ nets_at ps) outputs;
         names = subst (λ (xs : List grammar.Terminal). KnowsModule m s.names (plain_names xs)) every all.names;
         few_nets = all.few_nets;
-        joined = subst (λ (xs : List grammar.Terminal). (t : grammar.Terminal) → Contains xs t → IsJoined (source_of m t)) every all.joined;
+        joined = subst (λ (xs : List grammar.Terminal). (t : grammar.Terminal) → Contains xs t → JoinsNet (source_of m t)) every all.joined;
         once = subst (λ (ps : List Placed). IsDistinct (nets_at ps)) outputs all.once;
         free = subst (λ (ps : List Placed). (name : Name) → Contains (nets_at ps) name → ¬ Contains inputs name) outputs all.free;
       }
@@ -480,7 +480,7 @@ module _ (m : grammar.Module) where
     ReadsDriven u ts = (name : Name) → Contains (nets_at (placed_in m ts)) name → Contains d.driven name
 
     abbrev Joined : grammar.Terminal → Type 0
-    Joined t = IsJoined (source_of m t)
+    Joined t = JoinsNet (source_of m t)
 
     bits_read : (ts : List grammar.Terminal) (t : grammar.Terminal) → nets_at (placed_in m (ts ++ t ∷ [])) ≡ nets_at (placed_in m ts) ++ bits_at (line_of t) (net_of m t)
     bits_read ts t =

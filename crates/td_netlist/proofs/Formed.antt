@@ -15,7 +15,7 @@ use Rattle.td_gates.proofs.Places.{map-fuse}
 use Rattle.td_syntax.specs.declared.syntax.Role.{Role}
 use Rattle.td_syntax.specs.declared.syntax.Role.TheVariants as role
 use Rattle.td_syntax.specs.Grammar as grammar
-use Rattle.td_syntax.specs.Grammar.{IsItem, IsNet, IsInstance, IsBetween, IsStatedDelay, output_count, item_gates, instance_gates, unit_exponent, decimal_value}
+use Rattle.td_syntax.specs.Grammar.{IsItem, IsNet, IsInstance, LiesWithin, IsStatedDelay, output_count, item_gates, instance_gates, unit_exponent, decimal_value}
 use Rattle.td_netlist.specs.declared.ranges.Range.{Range}
 use Rattle.td_nets.specs.Netlist.{Name, Net, Named, Gate}
 use Rattle.td_nets.specs.WellFormed.{IsDistinct, IsWellFormed, IsGate, driven, gate_outputs}
@@ -23,7 +23,7 @@ use Rattle.td_netlist.specs.Ranges.{width_of, holds, bits_from, bit_name, nets_o
 use Rattle.td_netlist.specs.PlacedNets.{line_of, Placed, placed_net, placed_in, nets_at, outputs_in, inputs_in, output_bits, driven_in}
 use Rattle.td_netlist.specs.Module.{scalar, names_of, Declared, is_input, is_output, is_direction, ports, ports_as, declarations, declared, declared_names, range_in, nets_named, whole_source, bit_source, Joins, NotOne, NoBit, source_of, net_from, net_of, outputs_of, inputs_of, Primitive, primitives, item_primitives, as_primitive, delay_of, name_from, gate_by, primitive_gates, gates_of, netlist_in}
 use Rattle.td_netlist.specs.Conditions.{IsConsistent}
-use Rattle.td_netlist.specs.Means.{IsJoined, AreJoined}
+use Rattle.td_netlist.specs.Means.{JoinsNet, TerminalsJoinNets}
 use Rattle.td_netlist.specs.Checks.{direction_of}
 use Rattle.td_netlist.proofs.Members.{first, later, one_of, nowhere, in_front, mapped, of_mapped, filtered, of_filtered, gathered, of_gathered, either_side}
 use Rattle.td_netlist.proofs.Distinct.{distinct_append, no_more}
@@ -43,7 +43,7 @@ one_item P x (y ∷ xs) all has = elim (one_of x y xs has) [
 
 pub record IsPrimitive (tens : ℕ) (p : Primitive) : Type 0 where
   pub delay : IsStatedDelay tens p.delay
-  pub terminals : IsBetween 2 1024 (length p.terminals)
+  pub terminals : LiesWithin 2 1024 (length p.terminals)
   pub outputs : AllByRecursion IsNet (outputs_of p)
 
 in_item : (tens : ℕ) (i : grammar.Item) (p : Primitive) → IsItem tens i → Contains (item_primitives i) p → IsPrimitive tens p
@@ -94,7 +94,7 @@ gates_below (i ∷ is) =
 
 -- ---- the terminals of a gate
 
-takes_inputs : (k : Kind) (n : ℕ) (inputs : ℕ) → IsBetween 2 1024 n → inputs ≡ n - output_count k n → TakesInputs k inputs × (inputs ≤ 1023)
+takes_inputs : (k : Kind) (n : ℕ) (inputs : ℕ) → LiesWithin 2 1024 n → inputs ≡ n - output_count k n → TakesInputs k inputs × (inputs ≤ 1023)
 takes_inputs gate.Buf n inputs within is = (omega (arith, within.0, within.1), omega (arith, within.0, within.1))
 takes_inputs gate.Not n inputs within is = (omega (arith, within.0, within.1), omega (arith, within.0, within.1))
 takes_inputs gate.And n inputs within is = (omega (arith, within.0, within.1), omega (arith, within.0, within.1))
@@ -108,7 +108,7 @@ delay_in_range : (tens : ℕ) (default : Delay) (stated : Option grammar.Delay) 
 delay_in_range tens default None range keeps = range
 delay_in_range tens default (Some (grammar.Plain n)) range keeps = record { least_rise = keeps.within.0; greatest_rise = keeps.within.1; least_fall = keeps.within.0; greatest_fall = keeps.within.1 }
 delay_in_range tens default (Some (grammar.Single n)) range keeps = record { least_rise = keeps.within.0; greatest_rise = keeps.within.1; least_fall = keeps.within.0; greatest_fall = keeps.within.1 }
-delay_in_range tens default (Some (grammar.Pair n k)) range keeps = record { least_rise = keeps.0.within.0; greatest_rise = keeps.0.within.1; least_fall = keeps.1.within.0; greatest_fall = keeps.1.within.1 }
+delay_in_range tens default (Some (grammar.RiseFall n k)) range keeps = record { least_rise = keeps.0.within.0; greatest_rise = keeps.0.within.1; least_fall = keeps.1.within.0; greatest_fall = keeps.1.within.1 }
 
 -- ---- the outputs of the gates
 
@@ -116,28 +116,28 @@ delay_in_range tens default (Some (grammar.Pair n k)) range keeps = record { lea
 abbrev pub IsNamed : grammar.Module → grammar.Terminal → Type 0
 IsNamed m t = (name : Name) × (net_of m t ≡ Named name)
 
-whole_named : (text : List ℕ) (range : Option Range) → IsJoined (whole_source text range) → (name : Name) × (net_from (whole_source text range) ≡ Named name)
+whole_named : (text : List ℕ) (range : Option Range) → JoinsNet (whole_source text range) → (name : Name) × (net_from (whole_source text range) ≡ Named name)
 whole_named text None joined = (record { text = text; bit = None }, refl)
 whole_named text (Some r) joined = by (r.left == r.right) joined
   where
-    by : (b : Bool) → IsJoined (cond b (Joins (Named (bit_name text r.left))) NotOne) → (name : Name) × (net_from (cond b (Joins (Named (bit_name text r.left))) NotOne) ≡ Named name)
+    by : (b : Bool) → JoinsNet (cond b (Joins (Named (bit_name text r.left))) NotOne) → (name : Name) × (net_from (cond b (Joins (Named (bit_name text r.left))) NotOne) ≡ Named name)
     by true joined = (bit_name text r.left, refl)
     by false joined = absurd joined
 
-bit_named : (text : List ℕ) (bit : ℕ) (range : Option Range) → IsJoined (bit_source text bit range) → (name : Name) × (net_from (bit_source text bit range) ≡ Named name)
+bit_named : (text : List ℕ) (bit : ℕ) (range : Option Range) → JoinsNet (bit_source text bit range) → (name : Name) × (net_from (bit_source text bit range) ≡ Named name)
 bit_named text bit None joined = absurd joined
 bit_named text bit (Some r) joined = by (holds r bit) joined
   where
-    by : (b : Bool) → IsJoined (cond b (Joins (Named (bit_name text bit))) NoBit) → (name : Name) × (net_from (cond b (Joins (Named (bit_name text bit))) NoBit) ≡ Named name)
+    by : (b : Bool) → JoinsNet (cond b (Joins (Named (bit_name text bit))) NoBit) → (name : Name) × (net_from (cond b (Joins (Named (bit_name text bit))) NoBit) ≡ Named name)
     by true joined = (bit_name text bit, refl)
     by false joined = absurd joined
 
-is_named : (m : grammar.Module) (t : grammar.Terminal) → IsNet t → IsJoined (source_of m t) → IsNamed m t
+is_named : (m : grammar.Module) (t : grammar.Terminal) → IsNet t → JoinsNet (source_of m t) → IsNamed m t
 is_named m (grammar.Whole n) net joined = whole_named n.name (range_in m n.name) joined
 is_named m (grammar.Select n digits) net joined = bit_named n.name (decimal_value digits) (range_in m n.name) joined
 is_named m (grammar.Level b) net joined = absurd net
 
-all_named : (m : grammar.Module) (ts : List grammar.Terminal) → AllByRecursion IsNet ts → ((t : grammar.Terminal) → Contains ts t → IsJoined (source_of m t)) → AllByRecursion (IsNamed m) ts
+all_named : (m : grammar.Module) (ts : List grammar.Terminal) → AllByRecursion IsNet ts → ((t : grammar.Terminal) → Contains ts t → JoinsNet (source_of m t)) → AllByRecursion (IsNamed m) ts
 all_named m [] nets joined = tt
 all_named m (t ∷ ts) nets joined = (is_named m t nets.0 (joined t (first t ts)), all_named m ts nets.1 (λ x has. joined x (later x t ts has)))
 
@@ -218,7 +218,7 @@ record SideOf (is : Role → Bool) (m : grammar.Module) (name : Name) : Type 0 w
   text : name.text ≡ port.name
   is_bit : Contains (nets_of declares.name.name declares.range) name
 
-module _ (m : grammar.Module) (joined : AreJoined m) where
+module _ (m : grammar.Module) (joined : TerminalsJoinNets m) where
   pub outputs_named : AllByRecursion (IsItem (unit_exponent m.fronts)) m.items → (p : Primitive) → Contains (primitives m) p → AllByRecursion (IsNamed m) (outputs_of p)
   outputs_named items p has =
       let kept = in_module (unit_exponent m.fronts) m p items has in

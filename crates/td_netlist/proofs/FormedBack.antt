@@ -8,13 +8,13 @@ use Rattle.td_gates.specs.declared.primitives.Kind.TheVariants as kinds
 use Rattle.td_gates.specs.declared.timing.Delay.{Delay}
 use Rattle.td_syntax.specs.declared.syntax.Role.{Role}
 use Rattle.td_syntax.specs.Grammar as grammar
-use Rattle.td_syntax.specs.Grammar.{IsItem, IsBetween, output_count, unit_exponent}
+use Rattle.td_syntax.specs.Grammar.{IsItem, LiesWithin, output_count, unit_exponent}
 use Rattle.td_nets.specs.Netlist.{Name, Net, Low, High, Named, Gate}
 use Rattle.td_nets.specs.WellFormed.{IsDistinct, IsWellFormed, gate_outputs, driven}
 use Rattle.td_netlist.specs.Ranges.{nets_of}
 use Rattle.td_netlist.specs.Module.{scalar, names_of, Declared, is_input, is_output, is_direction, ports, ports_as, declarations, declared, declared_names, range_in, nets_named, net_of, primitives, outputs_of, inputs_of, gate_by, primitive_gates, gates_of, netlist_in}
 use Rattle.td_netlist.specs.PlacedNets.{line_of, Placed, placed_net, nets_at, outputs_in, inputs_in, output_bits, driven_in, input_count}
-use Rattle.td_netlist.specs.Means.{AreDeclared, AreJoined, HasFewNets}
+use Rattle.td_netlist.specs.Means.{AreDeclared, TerminalsJoinNets, HasFewNets}
 use Rattle.td_netlist.specs.Conditions.{IsConsistent}
 use Rattle.td_netlist.proofs.Members.{first, one_of, nowhere, behind, mapped, of_mapped, filtered, of_filtered, gathered, of_gathered}
 use Rattle.td_netlist.proofs.Distinct.{Distinct, distinct_nil, distinct_cons, distinct_head, distinct_tail, distinct_append, no_more}
@@ -45,7 +45,7 @@ placed_is line (Named name) p has = elim (one_of p (record { net = name; line = 
   | inr none ↦ nowhere p none
 ]
 
-counts : (k : Kind) (n : ℕ) → IsBetween 2 1024 n → 1 ≤ output_count k n
+counts : (k : Kind) (n : ℕ) → LiesWithin 2 1024 n → 1 ≤ output_count k n
 counts kinds.Buf n within = omega (arith, within.0)
 counts kinds.Not n within = omega (arith, within.0)
 counts k n within = omega arith
@@ -110,7 +110,7 @@ module _ (m : grammar.Module) (keeps : AreDeclared m) (is : Role → Bool) (dire
 
 -- ---- the whole
 
-module _ (m : grammar.Module) (keeps : AreDeclared m) (joined : AreJoined m) (items : AllByRecursion (IsItem (unit_exponent m.fronts)) m.items) (default : Delay) (formed : IsWellFormed (netlist_in default m)) where
+module _ (m : grammar.Module) (keeps : AreDeclared m) (joined : TerminalsJoinNets m) (items : AllByRecursion (IsItem (unit_exponent m.fronts)) m.items) (default : Delay) (formed : IsWellFormed (netlist_in default m)) where
   outputs_are : gate_outputs (netlist_in default m) ≡ nets_at (outputs_in m)
   outputs_are = gate_names m joined default items
 

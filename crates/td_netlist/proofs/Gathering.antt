@@ -10,7 +10,7 @@ use Rattle.td_netlist.specs.declared.fault.Fault.{Fault}
 use Rattle.td_nets.specs.Netlist.{Name, Net, Gate}
 use Rattle.td_netlist.specs.Faults.{◌>>=◌}
 use Rattle.td_netlist.specs.Module.{source_of, net_of, terminals_in, outputs_of, inputs_of, Primitive, primitives, delay_of, name_from, gate_by, primitive_gates, gates_of}
-use Rattle.td_netlist.specs.Means.{IsJoined}
+use Rattle.td_netlist.specs.Means.{JoinsNet}
 use Rattle.td_netlist.specs.Making.{with_net, gate_at, gate_driving, with_gate, with_gates}
 use Rattle.td_netlist.specs.Checks.{each, Known}
 use Rattle.td_netlist.proofs.Members.{first, later, in_front, behind, gathered}
@@ -37,13 +37,13 @@ each_gathers step f s (x ∷ xs) steps =
     ∙ each_gathers step f (s ++ f x) xs (λ t y has. steps t y (later y x xs has))
     ∙ ap (λ (ys : List _). Ok ys) (append_assoc s (f x) (flat_map f xs) ∙ ap (λ (zs : List _). s ++ zs) (sym (flat_map-cons f x xs)))
 
-module _ (m : grammar.Module) (ks : List Known) (others : List Name) (knows : KnowsModule m ks others) (joined : (t : grammar.Terminal) → Contains (terminals_in m) t → IsJoined (source_of m t)) where
-  nets_are : (ts : List grammar.Terminal) → ((t : grammar.Terminal) → Contains ts t → IsJoined (source_of m t)) → each (with_net ks) [] ts ≡ Ok (map (net_of m) ts)
+module _ (m : grammar.Module) (ks : List Known) (others : List Name) (knows : KnowsModule m ks others) (joined : (t : grammar.Terminal) → Contains (terminals_in m) t → JoinsNet (source_of m t)) where
+  nets_are : (ts : List grammar.Terminal) → ((t : grammar.Terminal) → Contains ts t → JoinsNet (source_of m t)) → each (with_net ks) [] ts ≡ Ok (map (net_of m) ts)
   unfolding with_net
   nets_are ts are = each_maps (with_net ks) (net_of m) [] ts (λ s t has. ap (λ (r : Result Net Fault). r >>= λ net. Ok (s ++ net ∷ [])) (resolved_ok m ks others knows t (are t has)))
 
   module _ (default : Delay) (p : Primitive) (has : Contains (primitives m) p) where
-    terminal_joined : (t : grammar.Terminal) → Contains (outputs_of p ++ inputs_of p) t → IsJoined (source_of m t)
+    terminal_joined : (t : grammar.Terminal) → Contains (outputs_of p ++ inputs_of p) t → JoinsNet (source_of m t)
     terminal_joined t in_it = joined t (gathered (λ (q : Primitive). q.terminals) p t (primitives m) has
         (subst (λ (ts : List grammar.Terminal). Contains ts t) (take-append-drop (output_count p.kind (length p.terminals)) p.terminals) in_it))
 

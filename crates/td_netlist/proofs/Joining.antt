@@ -12,7 +12,7 @@ use Rattle.td_nets.specs.Netlist.{Name, Net}
 use Rattle.td_netlist.specs.Faults.{fault}
 use Rattle.td_netlist.specs.PlacedNets.{line_of, plain_name}
 use Rattle.td_netlist.specs.Module.{scalar, names_of, declarations, range_in, whole_source, bit_source, Source, Joins, NoBit, NotOne, source_of, net_from, net_of}
-use Rattle.td_netlist.specs.Means.{IsJoined}
+use Rattle.td_netlist.specs.Means.{JoinsNet}
 use Rattle.td_netlist.specs.Checks.{Known, joined, resolve, meet, Drivers, seen}
 use Rattle.td_netlist.proofs.Members.{in_front}
 use Rattle.td_netlist.proofs.Steps.{ok_both, err_either}
@@ -47,17 +47,17 @@ joined_ok line (Joins x) net e = let same : x ≡ net = cc in ap (λ (y : Net). 
 joined_ok line NoBit net e = absurd cc
 joined_ok line NotOne net e = absurd cc
 
-pub is_joined_to : (why : Source) (net : Net) → why ≡ Joins net → IsJoined why
-is_joined_to why net e = subst IsJoined (sym e) tt
+pub is_joined_to : (why : Source) (net : Net) → why ≡ Joins net → JoinsNet why
+is_joined_to why net e = subst JoinsNet (sym e) tt
 
 -- what it is joined to
 pub source_is : (m : grammar.Module) (ks : List Known) (others : List Name) → KnowsModule m ks others → (t : grammar.Terminal) (net : Net) → resolve ks t ≡ Ok net → source_of m t ≡ Joins net
 source_is m ks others keeps t net e = joined_ok (line_of t) (source_of m t) net (sym (resolved m ks others keeps t) ∙ e)
 
-pub resolved_ok : (m : grammar.Module) (ks : List Known) (others : List Name) → KnowsModule m ks others → (t : grammar.Terminal) → IsJoined (source_of m t) → resolve ks t ≡ Ok (net_of m t)
+pub resolved_ok : (m : grammar.Module) (ks : List Known) (others : List Name) → KnowsModule m ks others → (t : grammar.Terminal) → JoinsNet (source_of m t) → resolve ks t ≡ Ok (net_of m t)
 resolved_ok m ks others keeps t is = resolved m ks others keeps t ∙ by (source_of m t) is
   where
-    by : (why : Source) → IsJoined why → joined (line_of t) why ≡ Ok (net_from why)
+    by : (why : Source) → JoinsNet why → joined (line_of t) why ≡ Ok (net_from why)
     by (Joins net) is = refl
     by NoBit is = absurd is
     by NotOne is = absurd is

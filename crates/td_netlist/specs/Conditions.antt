@@ -5,7 +5,7 @@ use Rattle.std.specs.List.{Contains}
 use Rattle.td_syntax.specs.Grammar as grammar
 use Rattle.td_nets.specs.Netlist.{Name}
 use Rattle.td_nets.specs.WellFormed.{IsDistinct}
-use Rattle.td_netlist.specs.Means.{AreDeclared, AreJoined}
+use Rattle.td_netlist.specs.Means.{AreDeclared, TerminalsJoinNets}
 use Rattle.td_netlist.specs.Module.{is_input, ports_as}
 use Rattle.td_netlist.specs.PlacedNets.{nets_at, outputs_in, inputs_in, output_bits, net_count, input_count, driven_in}
 
@@ -24,6 +24,6 @@ pub record IsWithin (m : grammar.Module) : Type 0 where
 -- the conditions on the names of a module
 pub record IsConsistent (m : grammar.Module) : Type 0 where
   pub declared : AreDeclared m
-  pub joined : AreJoined m
+  pub joined : TerminalsJoinNets m
   pub driven : AreDriven m
   pub within : IsWithin m

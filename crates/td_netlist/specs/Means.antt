@@ -19,13 +19,13 @@ pub record AreDeclared (m : grammar.Module) : Type 0 where
   pub one_range : (d : Declared) → Contains (declarations m) d → d.range ≡ range_in m d.name.name
 
 -- a terminal is joined to a net
-abbrev pub IsJoined : Source → Type 0
-IsJoined (Joins net) = Unit {0}
-IsJoined none = ⊥
+abbrev pub JoinsNet : Source → Type 0
+JoinsNet (Joins net) = Unit {0}
+JoinsNet none = ⊥
 
 -- each terminal is a constant, a scalar, a vector of one bit or a bit that its vector has
-pub record AreJoined (m : grammar.Module) : Type 0 where
-  pub each : (t : grammar.Terminal) → Contains (terminals_in m) t → IsJoined (source_of m t)
+pub record TerminalsJoinNets (m : grammar.Module) : Type 0 where
+  pub each : (t : grammar.Terminal) → Contains (terminals_in m) t → JoinsNet (source_of m t)
 
 -- The nets of the declared names and of the plain names of terminals are a million at most.
 pub record HasFewNets (m : grammar.Module) : Type 0 where
@@ -41,7 +41,7 @@ pub record Means (text : List ℕ) (default : Delay) (netlist : Netlist) : Type 
   pub tree : grammar.Module
   pub parses : Parses text tree
   pub declared : AreDeclared tree
-  pub joined : AreJoined tree
+  pub joined : TerminalsJoinNets tree
   pub few_nets : HasFewNets tree
   pub lists : netlist ≡ netlist_in default tree
   pub formed : IsWellFormed netlist

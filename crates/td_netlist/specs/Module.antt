@@ -169,7 +169,7 @@ abbrev pub delay_of : ℕ → Delay → Option grammar.Delay → Delay
 delay_of tens default None = default
 delay_of tens default (Some (grammar.Plain n)) = record { rise = steps_of tens n; fall = steps_of tens n }
 delay_of tens default (Some (grammar.Single n)) = record { rise = steps_of tens n; fall = steps_of tens n }
-delay_of tens default (Some (grammar.Pair n m)) = record { rise = steps_of tens n; fall = steps_of tens m }
+delay_of tens default (Some (grammar.RiseFall n m)) = record { rise = steps_of tens n; fall = steps_of tens m }
 
 -- the name of a net that an output drives
 abbrev pub name_from : Net → Name

@@ -79,8 +79,8 @@ abbrev pub IsUndrivenOn : ℕ → grammar.Module → Type 0
 IsUndrivenOn line m = LeftOutOn line (inputs_in m ++ output_bits m) (driven_in m)
 
 -- TooMany: a limit is passed.
-abbrev pub IsTooLarge : grammar.Module → Type 0
-IsTooLarge m = (4096 < input_count m) ⊎ (1000000 < net_count m)
+abbrev pub PassesALimit : grammar.Module → Type 0
+PassesALimit m = (4096 < input_count m) ⊎ (1000000 < net_count m)
 
 -- What a fault says of the names of a module. The other kinds say nothing of names.
 abbrev pub IsNameFault : FaultKind → ℕ → grammar.Module → Type 0
@@ -89,7 +89,7 @@ IsNameFault kind.PortUndeclared line m = IsUndeclaredOn line m
 IsNameFault kind.DrivenInput line m = TakenOn line (outputs_in m) (ports_as is_input m)
 IsNameFault kind.TwoDrivers line m = AgainOn line (outputs_in m)
 IsNameFault kind.Undriven line m = IsUndrivenOn line m
-IsNameFault kind.TooMany line m = IsTooLarge m
+IsNameFault kind.TooMany line m = PassesALimit m
 IsNameFault kind.UnknownBit line m = UnjoinedOn line m NoBit
 IsNameFault kind.WidthNotOne line m = UnjoinedOn line m NotOne
 IsNameFault k line m = ⊥

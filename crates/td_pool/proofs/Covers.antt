@@ -16,7 +16,7 @@ use Rattle.td_certificate.proofs.Acceptance.{side, low, high}
 use Rattle.td_search.specs.CutShort.{greatest_of}
 use Rattle.td_search.specs.declared.findings.Finding.{Finding}
 use Rattle.td_search.specs.declared.findings.Finding.TheVariants.{Closed, Split}
-use Rattle.td_search.specs.Findings.{IsTrueOf, AreTrue}
+use Rattle.td_search.specs.Findings.{IsTrueFinding, AreTrueFindings}
 use Rattle.td_circuit.specs.Settings.{AreMoments}
 use Rattle.td_circuit.specs.Numbering.{Numbered, setting, IsNumbering}
 use Rattle.td_domain.specs.Admits.{Admitted}
@@ -29,7 +29,7 @@ use Rattle.td_pool.specs.declared.leaf.OpenLeaf.{OpenLeaf}
 use Rattle.td_search.specs.declared.root.Root.{Root}
 use Rattle.td_search.specs.Roots.{IsRoot}
 use Rattle.td_pool.specs.Watched.{IsFound, FoundIsAtMostWorst}
-use Rattle.td_pool.specs.Frontiers.{IsWithin, IsCover, IsSplit, IsSettled, AreSettled, leaf_of, bounds_of}
+use Rattle.td_pool.specs.Frontiers.{IsWithin, IsCover, IsSplit, IsLeafSettled, AreSettled, leaf_of, bounds_of}
 
 module _ {X : Type 0} (P : X → Type 0) where
   all_behind : (xs : List X) (y : X) → AllByRecursion P xs → P y → AllByRecursion P (xs ++ y ∷ [])
@@ -218,21 +218,21 @@ pub record IsWalk (asked : Problem) (leaves : List OpenLeaf) (findings : List Fi
   pub front : List OpenLeaf
   pub stack : List OpenLeaf
   pub is : leaves ≡ piled front stack
-  pub holds : AreTrue asked (cubes_in stack) findings
+  pub holds : AreTrueFindings asked (cubes_in stack) findings
 
 -- the next finding is true of the last leaf, and once that is settled so the walk goes on
 pub record IsAt (asked : Problem) (leaves : List OpenLeaf) (f : Finding) (findings : List Finding) : Type 0 where
   pub rest : List OpenLeaf
   pub leaf : OpenLeaf
   pub is : leaves ≡ rest ++ leaf ∷ []
-  pub holds : IsTrueOf asked leaf.cube f
-  pub goes_on : (later : List OpenLeaf) → IsSettled rest leaf f later → IsWalk asked later findings
+  pub holds : IsTrueFinding asked leaf.cube f
+  pub goes_on : (later : List OpenLeaf) → IsLeafSettled rest leaf f later → IsWalk asked later findings
 
 pub walk_at : (asked : Problem) (leaves : List OpenLeaf) (f : Finding) (findings : List Finding) → IsWalk asked leaves (f ∷ findings) → IsAt asked leaves f findings
 walk_at asked leaves f findings walk = at walk.front walk.stack walk.is walk.holds
   where
-    goes : (front stack : List OpenLeaf) (leaf : OpenLeaf) (g : Finding) → AreTrue asked (cubes_in (leaf ∷ stack)) (g ∷ findings) → (later : List OpenLeaf)
-        → IsSettled (piled front stack) leaf g later → IsWalk asked later findings
+    goes : (front stack : List OpenLeaf) (leaf : OpenLeaf) (g : Finding) → AreTrueFindings asked (cubes_in (leaf ∷ stack)) (g ∷ findings) → (later : List OpenLeaf)
+        → IsLeafSettled (piled front stack) leaf g later → IsWalk asked later findings
     goes front stack leaf (Closed mark bound) holds later is = record { front = front; stack = stack; is = is; holds = holds.1 }
     goes front stack leaf (Split position bound delay) holds later is = record {
       front = front;
@@ -241,15 +241,15 @@ walk_at asked leaves f findings walk = at walk.front walk.stack walk.is walk.hol
       holds = holds.1;
     }
 
-    at : (front stack : List OpenLeaf) → leaves ≡ piled front stack → AreTrue asked (cubes_in stack) (f ∷ findings) → IsAt asked leaves f findings
+    at : (front stack : List OpenLeaf) → leaves ≡ piled front stack → AreTrueFindings asked (cubes_in stack) (f ∷ findings) → IsAt asked leaves f findings
     at front [] is holds = absurd holds
     at front (leaf ∷ stack) is holds = record { rest = piled front stack; leaf = leaf; is = is; holds = holds.0; goes_on = goes front stack leaf f holds }
 
 -- a walk begins at the last leaf
 pub walk_begins : (asked : Problem) (front : List OpenLeaf) (leaf : OpenLeaf) (cube : List Trit) (findings : List Finding) (leaves : List OpenLeaf)
-    → leaves ≡ front ++ leaf ∷ [] → leaf.cube ≡ cube → AreTrue asked (cube ∷ []) findings → IsWalk asked leaves findings
+    → leaves ≡ front ++ leaf ∷ [] → leaf.cube ≡ cube → AreTrueFindings asked (cube ∷ []) findings → IsWalk asked leaves findings
 walk_begins asked front leaf cube findings leaves is same holds =
-    record { front = front; stack = leaf ∷ []; is = is; holds = subst (λ (c : List Trit). AreTrue asked (c ∷ []) findings) (sym same) holds }
+    record { front = front; stack = leaf ∷ []; is = is; holds = subst (λ (c : List Trit). AreTrueFindings asked (c ∷ []) findings) (sym same) holds }
 
 -- the next of what was found, where a walk has come to it
 drop_step : (findings : List Finding) (i : ℕ) (f : Finding) → slice_get findings i ≡ Some f → drop i findings ≡ f ∷ drop (suc i) findings
@@ -276,7 +276,7 @@ finding_at asked leaves findings i inside walk =
 
 -- one finding more, before the others
 pub settled_more : (leaves later after : List OpenLeaf) (findings : List Finding) (i : ℕ) (rest : List OpenLeaf) (leaf : OpenLeaf) → i < length findings → leaves ≡ rest ++ leaf ∷ []
-    → IsSettled rest leaf (get_or findings i nothing) later → AreSettled later (drop (i + 1) findings) after → AreSettled leaves (drop i findings) after
+    → IsLeafSettled rest leaf (get_or findings i nothing) later → AreSettled later (drop (i + 1) findings) after → AreSettled leaves (drop i findings) after
 settled_more leaves later after findings i rest leaf inside is done others =
     let next : i + 1 ≡ suc i = omega arith in
     subst (λ (l : List Finding). AreSettled leaves l after) (sym (drop_step findings i (get_or findings i nothing) (slice_get-get_or findings i nothing inside)))

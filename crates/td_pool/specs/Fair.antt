@@ -48,7 +48,7 @@ pub record Port : Type 0 where
   pub history : History
 
 -- a worker's own deque, and those of others
-pub record Ports : Type 0 where
+pub record DequePorts : Type 0 where
   pub own : Port
   pub others : List Port
 
@@ -63,18 +63,18 @@ abbrev pub takes : Port → ℕ → Port
 takes p number = record { deque = p.deque; history = history p.history.put (p.history.taken ++ number ∷ []) }
 
 -- a fresh user of a seat's own deque
-abbrev pub fresh_other : Ports → Port
+abbrev pub fresh_other : DequePorts → Port
 fresh_other s = fresh s.own.deque
 
 -- fresh users of the own deques of all seats but that at k: first those after it, then those before
 -- it
-abbrev pub ring : List Ports → ℕ → List Port
+abbrev pub ring : List DequePorts → ℕ → List Port
 ring seats k = map fresh_other (drop (k + 1) seats) ++ map fresh_other (take k seats)
 
 -- nothing was put or taken yet, and each steals from the deques of all others
-pub record AreDealt (seats : List Ports) : Type 0 where
-  pub own : (k : ℕ) (s : Ports) → slice_get seats k ≡ Some s → s.own ≡ fresh s.own.deque
-  pub others : (k : ℕ) (s : Ports) → slice_get seats k ≡ Some s → s.others ≡ ring seats k
+pub record AreDealt (seats : List DequePorts) : Type 0 where
+  pub own : (k : ℕ) (s : DequePorts) → slice_get seats k ≡ Some s → s.own ≡ fresh s.own.deque
+  pub others : (k : ℕ) (s : DequePorts) → slice_get seats k ≡ Some s → s.others ≡ ring seats k
 
 -- the number was taken from one of these deques, and nothing else changed
 pub record StealsAt (old : List Port) (number : ℕ) (new : List Port) : Type 0 where
@@ -84,5 +84,5 @@ pub record StealsAt (old : List Port) (number : ℕ) (new : List Port) : Type 0 
   pub now : new ≡ slice_set old place (takes port number)
 
 -- the number was taken from the deque of one of the others, and nothing else changed
-abbrev pub Steals : Ports → ℕ → Ports → Type 0
+abbrev pub Steals : DequePorts → ℕ → DequePorts → Type 0
 Steals old number new = StealsAt old.others number new.others × (new.own ≡ old.own)

@@ -30,15 +30,15 @@ IsSplit rest leaf position bound leaves = (zero_number one_number : ℕ)
     × (leaves ≡ (rest ++ leaf_of one_number (one_side leaf.cube position) bound ∷ []) ++ leaf_of zero_number (zero_side leaf.cube position) bound ∷ [])
 
 -- the leaf after these was closed or split, as it was found of its cube
-abbrev pub IsSettled : List OpenLeaf → OpenLeaf → Finding → List OpenLeaf → Type 0
-IsSettled rest leaf (Closed mark bound) leaves = leaves ≡ rest
-IsSettled rest leaf (Split position bound delay) leaves = IsSplit rest leaf position bound leaves
+abbrev pub IsLeafSettled : List OpenLeaf → OpenLeaf → Finding → List OpenLeaf → Type 0
+IsLeafSettled rest leaf (Closed mark bound) leaves = leaves ≡ rest
+IsLeafSettled rest leaf (Split position bound delay) leaves = IsSplit rest leaf position bound leaves
 
 -- these were found one after another, each of the leaf that was the last one then
 abbrev pub AreSettled : List OpenLeaf → List Finding → List OpenLeaf → Type 0
 AreSettled before [] after = after ≡ before
 AreSettled before (finding ∷ findings) after = (rest : List OpenLeaf) × (leaf : OpenLeaf) × (middle : List OpenLeaf)
-    × (before ≡ rest ++ leaf ∷ []) × IsSettled rest leaf finding middle × AreSettled middle findings after
+    × (before ≡ rest ++ leaf ∷ []) × IsLeafSettled rest leaf finding middle × AreSettled middle findings after
 
 -- the evidence begins at this leaf
 abbrev pub BeginsAt : Evidence → OpenLeaf → Type 0

@@ -16,9 +16,9 @@ pub struct Deck {
 }
 
 impl Model for Deck {
-    ghost use Rattle.td_pool.specs.Fair.{Ports};
+    ghost use Rattle.td_pool.specs.Fair.{DequePorts};
 
-    ghost Value = { Ports };
+    ghost Value = { DequePorts };
 
     ghost view = { λ deck. record { own = deck.own; others = deck.others.items } };
 }

@@ -4,10 +4,10 @@ ghost use Rattle.std.specs.Prelude.{◌≡◌, ◌↔◌, ℕ, ◌+◌, ◌<◌,
 ghost use Rattle.td_domain.specs.declared.cubes.Trit.TheVariants.{Free};
 ghost use Rattle.td_domain.specs.Worst.{IsUpperBound};
 ghost use Rattle.td_search.specs.CutShort.{greatest_of};
-ghost use Rattle.td_search.specs.Findings.{IsTrueOf, IsTrueEvidence};
+ghost use Rattle.td_search.specs.Findings.{IsTrueFinding, IsTrueEvidence};
 ghost use Rattle.td_search.specs.Problems.{problem_of, IsAbove};
 ghost use Rattle.td_pool.specs.declared.leaf.OpenLeaf.{OpenLeaf};
-ghost use Rattle.td_pool.specs.Frontiers.{AreReportedOf, BeginsAt, IsCover, IsSplit, IsSettled, leaf_of, bounds_of};
+ghost use Rattle.td_pool.specs.Frontiers.{AreReportedOf, BeginsAt, IsCover, IsSplit, IsLeafSettled, leaf_of, bounds_of};
 ghost use Rattle.td_search.specs.Roots.{IsRoot};
 ghost use Rattle.td_pool.specs.Watched.{IsFound};
 
@@ -253,8 +253,8 @@ impl<L: Subject> Frontier<L> {
     // Closes or splits the last leaf, as it was found of its cube. The error is out of memory.
     fn settle_last(&mut self, problem: &Problem<'_>, finding: Finding) -> Result<(), AllocError>
         requires asked { L.asked ≡ problem_of problem.now }
-        requires last { (rest : List OpenLeaf) × (leaf : OpenLeaf) × (self.old.leaves.items ≡ rest ++ leaf ∷ []) × IsTrueOf (problem_of problem.now) leaf.cube finding }
-        ensures { OnOk result ((rest : List OpenLeaf) (leaf : OpenLeaf) → self.old.leaves.items ≡ rest ++ leaf ∷ [] → IsSettled rest leaf finding self.new.leaves.items) }
+        requires last { (rest : List OpenLeaf) × (leaf : OpenLeaf) × (self.old.leaves.items ≡ rest ++ leaf ∷ []) × IsTrueFinding (problem_of problem.now) leaf.cube finding }
+        ensures { OnOk result ((rest : List OpenLeaf) (leaf : OpenLeaf) → self.old.leaves.items ≡ rest ++ leaf ∷ [] → IsLeafSettled rest leaf finding self.new.leaves.items) }
     {
         // For the prover: gates are in order and each input has a moment.
         let _numbering = problem.circuit.gates();

@@ -23,7 +23,7 @@ use Rattle.td_path.specs.Links.{Link, IsChain, LeadTo}
 use Rattle.td_path.specs.Chains.{link_of, net_at, IsLatest}
 use Rattle.td_report.specs.Paths.{AreNamed, numbered_line, named_line, change_lines, IsOutputNamed, TellsNet, TellsLatest}
 use Rattle.td_report.specs.PathReports.{change_line, cause_text, net_text, IsPathReport, NamesNoOutput, TellsChain, TellsPath}
-use Rattle.td_report.specs.Reports.{newline, last_line, head_lines}
+use Rattle.td_report.specs.Reports.{newline, last_line, unit_lines}
 use Rattle.td_report.specs.Vectors.{level_character}
 use Rattle.td_report.proofs.Outputs.{output_at, no_low}
 
@@ -195,7 +195,7 @@ tells_latest circuit run links old new is added = (
 module _ (text : List ℕ) (default : Delay) (from to : List ℕ) (at : Option (List ℕ)) (circuit : Numbered) (run : NetWaves)
     (is : IsSimulation text default from to at circuit run) where
   pub path_report : (output : Option (List ℕ)) (lines head report : List ℕ)
-      → TellsPath (setting circuit) (net_wave (nets circuit) run.waves) output lines → head ≡ head_lines circuit.netlist → report ≡ head ++ lines
+      → TellsPath (setting circuit) (net_wave (nets circuit) run.waves) output lines → head ≡ unit_lines circuit.netlist → report ≡ head ++ lines
       → IsPathReport text default from to at output report
   path_report output lines head report tells is_head added = record {
     setting = setting circuit;

@@ -8,7 +8,7 @@ use Rattle.td_domain.specs.Bounds.{IsUpperBoundIn}
 use Rattle.td_certificate.specs.declared.tree.BoundedBy.{BoundedBy}
 use Rattle.td_certificate.specs.declared.tree.BoundedBy.TheVariants as by
 use Rattle.td_certificate.specs.Accepts.{IsBoundBy}
-use Rattle.td_report.specs.Reports.{newline, head_lines, IsSetting}
+use Rattle.td_report.specs.Reports.{newline, unit_lines, IsSetting}
 use Rattle.td_domain.specs.Cubes.{weave}
 use Rattle.td_report.specs.Vectors.{AreTrits}
 
@@ -24,7 +24,7 @@ bound_line letter bound = letter ++ codes " " ++ bound_text bound ++ newline
 -- the head, and a line for each domain
 abbrev pub bounds_text : Netlist → Option ℕ → Option ℕ → Option ℕ → List ℕ
 bounds_text netlist arrivals possibles together =
-    head_lines netlist
+    unit_lines netlist
     ++ bound_line (codes "a") arrivals
     ++ bound_line (codes "t") possibles
     ++ bound_line (codes "m") together

@@ -9,7 +9,7 @@ use Rattle.td_netlist.specs.Means.{Means}
 use Rattle.td_circuit.specs.Settings.{Setting}
 use Rattle.td_domain.specs.Pairs.{Pair}
 use Rattle.td_vcd.specs.Text.{dump, variable_waves}
-use Rattle.td_vcd.specs.Says.{Says}
+use Rattle.td_vcd.specs.Says.{SaysWaves}
 use Rattle.td_vcd.specs.Laws.{HasNamesOnOneLine}
 use Rattle.td_files.specs.Files.{FileText}
 use Rattle.td_report.specs.PairReports.{IsDumpOf}
@@ -23,11 +23,11 @@ NamesOfTexts = (text : List ℕ) (default : Delay) (netlist : Netlist) → Means
 -- these waves
 abbrev pub DumpsOfTextsSay : Type 0
 DumpsOfTextsSay = (text : List ℕ) (default : Delay) (netlist : Netlist) (waves : List Wave) → Means text default netlist
-    → AllByRecursion IsWave waves → length waves ≡ length (driven netlist) → Says (dump netlist waves) waves
+    → AllByRecursion IsWave waves → length waves ≡ length (driven netlist) → SaysWaves (dump netlist waves) waves
 
 -- there is one file, it has this name, and its text says exactly these waves
 abbrev pub IsFileOf : List ℕ → List Wave → List FileText → Type 0
-IsFileOf name waves files = (text : List ℕ) × (files ≡ record { name = name; text = text } ∷ []) × Says text waves
+IsFileOf name waves files = (text : List ℕ) × (files ≡ record { name = name; text = text } ∷ []) × SaysWaves text waves
 
 -- the file that `sim` writes says exactly the waves of the run that its report tells
 abbrev pub FilesOfSimSay : Type 0

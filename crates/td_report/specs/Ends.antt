@@ -76,8 +76,8 @@ TellsUnread file unread.Device = TellsReason (refusal.Unreadable file)
 
 -- a report went out, with this ending; or standard output failed after a beginning of it, and a
 -- line says so
-abbrev pub Says : List ℕ → Status → Status → Streams → Streams → Type 0
-Says report ending status old new =
+abbrev pub SaysReport : List ℕ → Status → Status → Streams → Streams → Type 0
+SaysReport report ending status old new =
     (Sent old.out new.out report × (new.err ≡ old.err) × (status ≡ ending))
     ⊎ (Failed old.out new.out report × Tells old.err new.err (unwritten_text (codes "stdout")) × (status ≡ Device))
 

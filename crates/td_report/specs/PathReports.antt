@@ -13,7 +13,7 @@ use Rattle.td_circuit.specs.Run.{Runs}
 use Rattle.td_path.specs.declared.links.Cause.{Cause}
 use Rattle.td_path.specs.Links.{Link, IsChain}
 use Rattle.td_path.specs.Chains.{IsLatest}
-use Rattle.td_report.specs.Reports.{newline, head_lines, last_line, time_line, IsSetting}
+use Rattle.td_report.specs.Reports.{newline, unit_lines, last_line, time_line, IsSetting}
 use Rattle.td_report.specs.Vectors.{level_character, SpellsVector}
 
 abbrev pub kind_text : Kind → List ℕ
@@ -79,7 +79,7 @@ pub record IsPathReport (text : List ℕ) (default : Delay) (from to : List ℕ)
   pub runs : Runs setting first second waves
   pub lines : List ℕ
   pub tells : TellsPath setting waves output lines
-  pub is : report ≡ head_lines setting.netlist ++ lines
+  pub is : report ≡ unit_lines setting.netlist ++ lines
 
 -- the text and the words give a run, and no output has this name
 pub record NamesNoOutput (text : List ℕ) (default : Delay) (from to : List ℕ) (at : Option (List ℕ)) (word : List ℕ) : Type 0 where

@@ -27,8 +27,8 @@ unit_line unit = codes "unit " ++ decimal unit.magnitude ++ codes " " ++ scale_t
 abbrev pub defaulted_line : ℕ → List ℕ
 defaulted_line count = codes "defaulted " ++ decimal count ++ newline
 
-abbrev pub head_lines : Netlist → List ℕ
-head_lines netlist = unit_line netlist.unit ++ defaulted_line netlist.defaulted
+abbrev pub unit_lines : Netlist → List ℕ
+unit_lines netlist = unit_line netlist.unit ++ defaulted_line netlist.defaulted
 
 -- when an output changes last
 abbrev pub moment_text : Option ℕ → List ℕ
@@ -48,7 +48,7 @@ output_lines netlist waves = flat_map (λ name. last_line name (last (waves (Nam
 -- the head, a line for each output, and the latest change of any
 abbrev pub sim_text : Netlist → (Net → Wave) → List ℕ
 sim_text netlist waves =
-    head_lines netlist
+    unit_lines netlist
     ++ output_lines netlist waves
     ++ time_line (latest_change (map (λ name. waves (Named name)) netlist.outputs))
 

@@ -2,7 +2,7 @@
 
 ghost use Rattle.std.specs.Prelude.{◌≡◌, ◌++◌, OnOk};
 ghost use Rattle.td_nets.specs.Views.{name_of};
-ghost use Rattle.td_report.specs.Reports.{unit_line, defaulted_line, head_lines, moment_text, last_line, time_line};
+ghost use Rattle.td_report.specs.Reports.{unit_line, defaulted_line, unit_lines, moment_text, last_line, time_line};
 ghost use Rattle.td_report.specs.BoundReports.{bound_text, bound_line};
 
 use crate::text::Text;
@@ -28,7 +28,7 @@ pub fn defaulted(text: &mut Text, count: usize) -> Result<(), AllocError>
 
 /// The first lines of a report: how long a step takes, and how many gates the default delay serves.
 pub fn head(text: &mut Text, circuit: &Circuit) -> Result<(), AllocError>
-    ensures { OnOk result (text.new ≡ text.old ++ head_lines circuit.now.netlist) }
+    ensures { OnOk result (text.new ≡ text.old ++ unit_lines circuit.now.netlist) }
 {
     unit(text, circuit.unit())?;
     defaulted(text, circuit.defaulted())

@@ -10,7 +10,7 @@ use Rattle.td_search.specs.declared.answers.Cause.{Cause}
 use Rattle.td_search.specs.declared.answers.Cause.TheVariants as cause
 use Rattle.td_search.specs.declared.strategy.Strategy.{Strategy}
 use Rattle.td_search.specs.declared.strategy.Strategy.TheVariants.{Lead}
-use Rattle.td_search.specs.Splitting.{IsReached}
+use Rattle.td_search.specs.Splitting.{IsReachedDelay}
 use Rattle.td_search.specs.Answers.{IsBetween}
 use Rattle.td_search.specs.Problems.{Problem, problem_by, has_delay, has_bound}
 use Rattle.td_search.specs.Progress.{IsSearch}
@@ -21,7 +21,7 @@ use Rattle.td_search.proofs.Ending.{ends_between}
 module _ (strategy : Strategy) (circuit : Numbered) (numbering : IsNumbering circuit) (fit : AreMoments circuit.netlist circuit.moments) (admit : Admitted)
     (budget : ℕ) (modest : budget ≤ 10000000) (pair : Pair) (time root : ℕ)
     (delay : has_delay (problem_by strategy circuit admit) pair time) (bound : has_bound (problem_by strategy circuit admit) admit.pins root) (small : root < 10 ^ 15)
-    (start : strategy ≡ Lead → IsReached (problem_by strategy circuit admit) time) where
+    (start : strategy ≡ Lead → IsReachedDelay (problem_by strategy circuit admit) time) where
   abbrev asked : Problem
   asked = problem_by strategy circuit admit
 

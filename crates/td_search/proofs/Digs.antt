@@ -10,7 +10,7 @@ use Rattle.td_book.specs.Board.{position_of}
 use Rattle.td_book.specs.Grafting.{cubes_left}
 use Rattle.td_search.specs.declared.findings.Finding.{Finding}
 use Rattle.td_search.specs.declared.findings.Finding.TheVariants.{Closed, Split}
-use Rattle.td_search.specs.Findings.{IsTrueOf, AreTrue, split_at}
+use Rattle.td_search.specs.Findings.{IsTrueFinding, AreTrueFindings, split_at}
 use Rattle.td_search.specs.Problems.{Problem}
 use Rattle.td_search.specs.Below.{IsWithin}
 use Rattle.td_search.proofs.Going.{side_inside}
@@ -23,9 +23,9 @@ rest_is x y xs ys e = cc
 
 -- one more finding is true
 pub true_more : (asked : Problem) (states : List State) (findings : List Finding) (cubes : List (List Trit)) (cube : List Trit) (rest : List (List Trit)) (f : Finding)
-    → map position_of states ≡ map split_at findings → AreTrue asked cubes findings → cubes_left states cubes ≡ cube ∷ rest → IsTrueOf asked cube f
-    → AreTrue asked cubes (findings ++ f ∷ [])
-true_more asked [] [] cubes cube rest f e h is of = subst (λ (l : List (List Trit)). AreTrue asked l (f ∷ [])) (sym is) (of, tt)
+    → map position_of states ≡ map split_at findings → AreTrueFindings asked cubes findings → cubes_left states cubes ≡ cube ∷ rest → IsTrueFinding asked cube f
+    → AreTrueFindings asked cubes (findings ++ f ∷ [])
+true_more asked [] [] cubes cube rest f e h is of = subst (λ (l : List (List Trit)). AreTrueFindings asked l (f ∷ [])) (sym is) (of, tt)
 true_more asked [] (g ∷ findings) cubes cube rest f e h is of = cc
 true_more asked (s ∷ states) [] cubes cube rest f e h is of = cc
 true_more asked (s ∷ states) (g ∷ findings) [] cube rest f e h is of = absurd h
@@ -43,7 +43,7 @@ left_more (x ∷ states) s [] cube rest is = cc
 left_more (x ∷ states) s (top ∷ cubes) cube rest is = left_more states s (cubes_past top (position_of x) cubes) cube rest is
 
 -- the sides of a cube within the pins are within them
-pub within_past : (asked : Problem) (cube : List Trit) (rest : List (List Trit)) (f : Finding) → IsTrueOf asked cube f → AllByRecursion (IsWithin asked) (cube ∷ rest)
+pub within_past : (asked : Problem) (cube : List Trit) (rest : List (List Trit)) (f : Finding) → IsTrueFinding asked cube f → AllByRecursion (IsWithin asked) (cube ∷ rest)
     → AllByRecursion (IsWithin asked) (cubes_past cube (split_at f) rest)
 within_past asked cube rest (Closed mark bound) of h = h.1
 within_past asked cube rest (Split position bound delay) of h = (

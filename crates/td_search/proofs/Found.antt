@@ -11,7 +11,7 @@ use Rattle.td_book.specs.Board.{position_of}
 use Rattle.td_book.specs.Grafting.{cubes_left}
 use Rattle.td_search.specs.declared.findings.Finding.{Finding}
 use Rattle.td_search.specs.declared.findings.Finding.TheVariants.{Closed, Split}
-use Rattle.td_search.specs.Findings.{IsTrueOf, AreTrue, IsUsable, split_at, state_of, side_bounds}
+use Rattle.td_search.specs.Findings.{IsTrueFinding, AreTrueFindings, IsUsable, split_at, state_of, side_bounds}
 use Rattle.td_search.specs.Problems.{Problem}
 
 abbrev pub nothing : Finding
@@ -46,7 +46,7 @@ state_splits best (Closed mark bound) = refl
 state_splits best (Split position bound delay) = refl
 
 -- a beginning of what is true is true
-pub true_front : (asked : Problem) (cubes : List (List Trit)) (findings : List Finding) (n : ℕ) → AreTrue asked cubes findings → AreTrue asked cubes (take n findings)
+pub true_front : (asked : Problem) (cubes : List (List Trit)) (findings : List Finding) (n : ℕ) → AreTrueFindings asked cubes findings → AreTrueFindings asked cubes (take n findings)
 true_front asked cubes [] zero h = tt
 true_front asked cubes [] (suc n) h = tt
 true_front asked [] (f ∷ findings) n h = absurd h
@@ -58,14 +58,14 @@ pub record IsNext (asked : Problem) (cubes : List (List Trit)) (f : Finding) : T
   pub cube : List Trit
   pub rest : List (List Trit)
   pub is : cubes ≡ cube ∷ rest
-  pub holds : IsTrueOf asked cube f
+  pub holds : IsTrueFinding asked cube f
 
-pub next_of : (asked : Problem) (best : ℕ) (cubes : List (List Trit)) (findings : List Finding) (i : ℕ) (f : Finding) → AreTrue asked cubes findings
+pub next_of : (asked : Problem) (best : ℕ) (cubes : List (List Trit)) (findings : List Finding) (i : ℕ) (f : Finding) → AreTrueFindings asked cubes findings
     → slice_get findings i ≡ Some f → IsNext asked (cubes_left (map (state_of best) (take i findings)) cubes) f
 next_of asked best cubes [] i f h is = cc
 next_of asked best [] (g ∷ findings) i f h is = absurd h
 next_of asked best (cube ∷ cubes) (g ∷ findings) zero f h is =
-    let same : g ≡ f = cc in record { cube = cube; rest = cubes; is = refl; holds = subst (IsTrueOf asked cube) same h.0 }
+    let same : g ≡ f = cc in record { cube = cube; rest = cubes; is = refl; holds = subst (IsTrueFinding asked cube) same h.0 }
 next_of asked best (cube ∷ cubes) (g ∷ findings) (suc i) f h is =
     subst (λ (position : Option ℕ). IsNext asked (cubes_left (map (state_of best) (take i findings)) (cubes_past cube position cubes)) f) (sym (state_splits best g))
     (next_of asked best (cubes_past cube (split_at g) cubes) findings i f h.1 is)

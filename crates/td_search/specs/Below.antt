@@ -7,7 +7,7 @@ use Rattle.td_book.specs.Board.{position_of}
 use Rattle.td_book.specs.Grafting.{cubes_left}
 use Rattle.td_search.specs.declared.below.Below.{Below}
 use Rattle.td_search.specs.declared.findings.Finding.{Finding}
-use Rattle.td_search.specs.Findings.{AreTrue, split_at, state_of}
+use Rattle.td_search.specs.Findings.{AreTrueFindings, split_at, state_of}
 use Rattle.td_search.specs.Problems.{Problem, IsPart}
 
 -- a cube of the circuit's vectors, and a part of the pins
@@ -21,7 +21,7 @@ pub record IsBelow (asked : Problem) (lease : Lease) (below : Below) : Type 0 wh
   pub cube : below.subtree.cube ≡ lease.cube
   pub allowance : below.subtree.allowance ≡ lease.allowance
   pub positions : map position_of below.subtree.states ≡ map split_at below.findings.items
-  pub found : AreTrue asked (lease.cube ∷ []) below.findings.items
+  pub found : AreTrueFindings asked (lease.cube ∷ []) below.findings.items
   pub coming : AllByRecursion (IsWithin asked) (cubes_left below.subtree.states (below.subtree.cube ∷ []))
   pub few : length below.subtree.states ≤ lease.allowance
   pub space : lease.allowance ≤ vec_capacity below.findings

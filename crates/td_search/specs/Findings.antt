@@ -17,9 +17,9 @@ use Rattle.td_search.specs.Splitting.{splits_above}
 -- What was found is true of a cube: a bound is its mark's, and at least each delay of the cube's
 -- pairs. A cube that was split has the strongest domain's bound, and may be split above a delay
 -- that is less.
-abbrev pub IsTrueOf : Problem → List Trit → Finding → Type 0
-IsTrueOf asked cube (Closed mark bound) = IsMarked asked cube mark bound × IsAbove asked cube bound
-IsTrueOf asked cube (Split position bound delay) =
+abbrev pub IsTrueFinding : Problem → List Trit → Finding → Type 0
+IsTrueFinding asked cube (Closed mark bound) = IsMarked asked cube mark bound × IsAbove asked cube bound
+IsTrueFinding asked cube (Split position bound delay) =
     (slice_get cube position ≡ Some Free) × has_bound asked cube bound × (bound < 10 ^ 15)
     × splits_above asked cube delay × (delay < bound)
 
@@ -29,14 +29,14 @@ split_at (Closed mark bound) = None
 split_at (Split position bound delay) = Some position
 
 -- Each finding is true of the cube that comes next, where the trees still to come have these cubes.
-abbrev pub AreTrue : Problem → List (List Trit) → List Finding → Type 0
-AreTrue asked cubes [] = Unit {0}
-AreTrue asked [] (finding ∷ findings) = ⊥
-AreTrue asked (cube ∷ cubes) (finding ∷ findings) = IsTrueOf asked cube finding × AreTrue asked (cubes_past cube (split_at finding) cubes) findings
+abbrev pub AreTrueFindings : Problem → List (List Trit) → List Finding → Type 0
+AreTrueFindings asked cubes [] = Unit {0}
+AreTrueFindings asked [] (finding ∷ findings) = ⊥
+AreTrueFindings asked (cube ∷ cubes) (finding ∷ findings) = IsTrueFinding asked cube finding × AreTrueFindings asked (cubes_past cube (split_at finding) cubes) findings
 
 -- what was found is true of the cube and of what its splits made of it
 abbrev pub IsTrueEvidence : Problem → Evidence → Type 0
-IsTrueEvidence asked evidence = AreTrue asked (evidence.cube ∷ []) evidence.findings.items
+IsTrueEvidence asked evidence = AreTrueFindings asked (evidence.cube ∷ []) evidence.findings.items
 
 abbrev pub IsTrueTrail : Problem → Trail → Type 0
 IsTrueTrail asked trail = All (IsTrueEvidence asked) trail.evidence.items

@@ -8,7 +8,7 @@ use Rattle.td_search.specs.Problems.{Problem, has_delay}
 use Rattle.td_search.specs.Representatives.{representative}
 
 -- an admitted pair has this delay, and it is no less than that of the pair that stands for the pins
-pub record IsReached (asked : Problem) (delay : ℕ) : Type 0 where
+pub record IsReachedDelay (asked : Problem) (delay : ℕ) : Type 0 where
   pub pair : Pair
   pub is : has_delay asked pair delay
   pub first : ℕ
@@ -20,7 +20,7 @@ pub record IsReached (asked : Problem) (delay : ℕ) : Type 0 where
 -- than that of the pair that stands for the pins.
 abbrev pub splits_by : Strategy → Problem → List Trit → ℕ → Type 0
 splits_by Least asked cube delay = has_delay asked (representative asked.admit cube) delay
-splits_by Lead asked cube delay = IsReached asked delay
+splits_by Lead asked cube delay = IsReachedDelay asked delay
 
 abbrev pub splits_above : Problem → List Trit → ℕ → Type 0
 splits_above asked cube delay = splits_by asked.strategy asked cube delay

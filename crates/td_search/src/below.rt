@@ -3,7 +3,7 @@
 ghost use Rattle.std.specs.Prelude.{◌≡◌, ◌↔◌, false, List, IsTrue, IfOk, MatchOption};
 ghost use Rattle.td_domain.specs.declared.cubes.Trit.{Trit};
 ghost use Rattle.td_search.specs.Below.{IsBelow, IsComing, IsDone, IsSettledBy, IsWithin};
-ghost use Rattle.td_search.specs.Findings.{IsTrueOf, IsUsable};
+ghost use Rattle.td_search.specs.Findings.{IsTrueFinding, IsUsable};
 ghost use Rattle.td_search.specs.Problems.{problem_of};
 
 use crate::findings::Finding;
@@ -54,7 +54,7 @@ impl Below {
         cut: u64,
     ) -> bool
         requires below { IsBelow (problem_of problem.now) lease.now self.old }
-        requires next { (cube : List Trit) × IsComing (problem_of problem.now) lease.now self.old cube × IsTrueOf (problem_of problem.now) cube finding }
+        requires next { (cube : List Trit) × IsComing (problem_of problem.now) lease.now self.old cube × IsTrueFinding (problem_of problem.now) cube finding }
         ensures below { IsBelow (problem_of problem.now) lease.now self.new }
         ensures usable { IsTrue result ↔ IsUsable cut finding }
         ensures done { IsTrue result → IsSettledBy finding cut self.old self.new }

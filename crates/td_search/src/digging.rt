@@ -3,7 +3,7 @@
 
 ghost use Rattle.std.specs.Prelude.{◌≡◌, ◌≤◌, IfOk};
 ghost use Rattle.td_search.specs.Below.{IsBelow, IsWithin};
-ghost use Rattle.td_search.specs.Findings.{IsTrueOf, IsUsable};
+ghost use Rattle.td_search.specs.Findings.{IsTrueFinding, IsUsable};
 ghost use Rattle.td_search.specs.Problems.{problem_of};
 ghost use Rattle.td_search.specs.Progress.{IsUnderWay};
 
@@ -118,7 +118,7 @@ impl Search {
         ensures kept { self.old.best.time ≤ self.new.best.time }
         ensures book { self.new.book ≡ self.old.book }
         ensures scratch { R.is_for scratch.new task.now.problem.now.circuit.now }
-        ensures finding { IfOk result (IsTrueOf (problem_of task.now.problem.now) cube.now) }
+        ensures finding { IfOk result (IsTrueFinding (problem_of task.now.problem.now) cube.now) }
         ensures usable { IfOk result (IsUsable self.new.best.time) }
     {
         find(task, scratch, &mut self.best, cube)

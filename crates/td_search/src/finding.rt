@@ -3,7 +3,7 @@
 ghost use Rattle.std.specs.Prelude.{◌≡◌, ◌≤◌, IfOk, true, false};
 ghost use Rattle.td_domain.specs.Admits.{HasAdmitted};
 ghost use Rattle.td_search.specs.Below.{IsWithin};
-ghost use Rattle.td_search.specs.Findings.{IsTrueOf, IsUsable};
+ghost use Rattle.td_search.specs.Findings.{IsTrueFinding, IsUsable};
 ghost use Rattle.td_search.specs.Problems.{problem_of, measures_first};
 
 use crate::findings::Finding;
@@ -30,7 +30,7 @@ pub fn find<R: Rule, K: Keeper>(
     ensures scratch { R.is_for scratch.new task.now.problem.now.circuit.now }
     ensures keeps { K.keeps (problem_of task.now.problem.now) keeper.new }
     ensures kept { K.time_of keeper.old ≤ K.time_of keeper.new }
-    ensures finding { IfOk result (IsTrueOf (problem_of task.now.problem.now) cube.now) }
+    ensures finding { IfOk result (IsTrueFinding (problem_of task.now.problem.now) cube.now) }
     ensures usable { IfOk result (IsUsable (K.cut_of keeper.new)) }
 {
     // For the prover: pins have two positions for each input.
@@ -61,7 +61,7 @@ fn find_measured<R: Rule, K: Keeper>(
     ensures scratch { R.is_for scratch.new task.now.problem.now.circuit.now }
     ensures keeps { K.keeps (problem_of task.now.problem.now) keeper.new }
     ensures kept { K.time_of keeper.old ≤ K.time_of keeper.new }
-    ensures finding { IfOk result (IsTrueOf (problem_of task.now.problem.now) cube.now) }
+    ensures finding { IfOk result (IsTrueFinding (problem_of task.now.problem.now) cube.now) }
     ensures usable { IfOk result (IsUsable (K.cut_of keeper.new)) }
 {
     let Task {
@@ -96,7 +96,7 @@ fn find_bounded<R: Rule, K: Keeper>(
     ensures scratch { R.is_for scratch.new task.now.problem.now.circuit.now }
     ensures keeps { K.keeps (problem_of task.now.problem.now) keeper.new }
     ensures kept { K.time_of keeper.old ≤ K.time_of keeper.new }
-    ensures finding { IfOk result (IsTrueOf (problem_of task.now.problem.now) cube.now) }
+    ensures finding { IfOk result (IsTrueFinding (problem_of task.now.problem.now) cube.now) }
     ensures usable { IfOk result (IsUsable (K.cut_of keeper.new)) }
 {
     let Task {

@@ -6,7 +6,7 @@ ghost use Rattle.td_lead.specs.Timed.{IsTimed};
 ghost use Rattle.td_search.specs.Deciding.{IsMeasured};
 ghost use Rattle.td_search.specs.Problems.{Problem, problem_of, has_delay};
 ghost use Rattle.td_search.specs.Representatives.{representative};
-ghost use Rattle.td_search.specs.Splitting.{IsReached};
+ghost use Rattle.td_search.specs.Splitting.{IsReachedDelay};
 ghost use Rattle.td_search.specs.declared.strategy.Strategy.TheVariants.{Lead};
 
 use crate::best::Best;
@@ -63,5 +63,5 @@ pub trait Keeper {
     ghost least: { (asked : Problem) (keeper : Self) → keeps asked keeper → time_of keeper ≤ cut_of keeper };
 
     /// With `lead` that delay is one that the search has reached.
-    ghost reached: { (asked : Problem) (keeper : Self) → keeps asked keeper → asked.strategy ≡ Lead → IsReached asked (time_of keeper) };
+    ghost reached: { (asked : Problem) (keeper : Self) → keeps asked keeper → asked.strategy ≡ Lead → IsReachedDelay asked (time_of keeper) };
 }

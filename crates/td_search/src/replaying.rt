@@ -5,7 +5,7 @@ ghost use Rattle.std.specs.List.{All};
 ghost use Rattle.td_domain.specs.declared.cubes.Trit.{Trit};
 ghost use Rattle.td_domain.specs.declared.cubes.Trit.TheVariants.{Free};
 ghost use Rattle.td_book.specs.Grafting.{cubes_left};
-ghost use Rattle.td_search.specs.Findings.{IsTrueOf, IsUsable, AreTrue, IsTrueEvidence, IsTrueTrail, state_of};
+ghost use Rattle.td_search.specs.Findings.{IsTrueFinding, IsUsable, AreTrueFindings, IsTrueEvidence, IsTrueTrail, state_of};
 ghost use Rattle.td_search.specs.Below.{IsWithin};
 ghost use Rattle.td_search.specs.Problems.{problem_of, has_bound};
 ghost use Rattle.td_search.specs.Progress.{IsUnderWay, MustSplit};
@@ -30,7 +30,7 @@ fn is_free_at(cube: &Cube, position: usize) -> bool
 /// under this best time: a bound is at most the best, and so is the delay above which a cube was
 /// split. Answers whether it is.
 pub fn dig_by(problem: &Problem<'_>, subtree: &mut Subtree, finding: Finding, best: u64) -> bool
-    requires next { (cube : List Trit) × (rest : List (List Trit)) × (cubes_left subtree.old.states (subtree.old.cube ∷ []) ≡ cube ∷ rest) × IsTrueOf (problem_of problem.now) cube finding }
+    requires next { (cube : List Trit) × (rest : List (List Trit)) × (cubes_left subtree.old.states (subtree.old.cube ∷ []) ≡ cube ∷ rest) × IsTrueFinding (problem_of problem.now) cube finding }
     requires space { length subtree.old.states < subtree.old.allowance }
     ensures usable { IsTrue result ↔ IsUsable best finding }
     ensures done { IsTrue result → subtree.new ≡ record subtree.old { states = subtree.old.states ++ state_of best finding ∷ [] } }
@@ -48,7 +48,7 @@ pub fn dig_by(problem: &Problem<'_>, subtree: &mut Subtree, finding: Finding, be
 // time. Answers how many.
 fn dig_again(problem: &Problem<'_>, subtree: &mut Subtree, findings: &[Finding], best: u64) -> usize
     requires states { subtree.old.states ≡ [] }
-    requires found { AreTrue (problem_of problem.now) (subtree.old.cube ∷ []) findings.now }
+    requires found { AreTrueFindings (problem_of problem.now) (subtree.old.cube ∷ []) findings.now }
     ensures within { result ≤ length findings.now }
     ensures subtree { subtree.new ≡ record subtree.old { states = map (state_of best) (take result findings.now) } }
     ensures usable { All (IsUsable best) (take result findings.now) }
@@ -285,7 +285,7 @@ impl Search {
         findings: &[Finding],
     ) -> Result<Option<(usize, Vec<u32>)>, AllocError>
         requires search { IsUnderWay (problem_of problem.now) self.old.book.budget self.old }
-        requires found { AreTrue (problem_of problem.now) (lease.cube ∷ []) findings.now }
+        requires found { AreTrueFindings (problem_of problem.now) (lease.cube ∷ []) findings.now }
         ensures search { IsUnderWay (problem_of problem.now) self.old.book.budget self.new }
         ensures kept { self.old.best.time ≤ self.new.best.time }
     {

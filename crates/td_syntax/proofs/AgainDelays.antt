@@ -60,7 +60,7 @@ single_again tens n s tail h e =
     let c = second_not a.rest tail a.tokens in
     record { rest = c.rest; gives = rw (a.gives, c.gives) refl; tokens = c.tokens }
 
-pair_again : (tens : ℕ) (n m : Numeral) (s : Remainder) (tail : List Placed) → IsSteps tens n → IsSteps tens m → Begins s (grammar.number n ++ (grammar.mark symbol.Comma ++ (grammar.number m ++ (grammar.mark symbol.Close ++ tail)))) → Reads (bracketed_at tens s) (grammar.Pair n m) tail
+pair_again : (tens : ℕ) (n m : Numeral) (s : Remainder) (tail : List Placed) → IsSteps tens n → IsSteps tens m → Begins s (grammar.number n ++ (grammar.mark symbol.Comma ++ (grammar.number m ++ (grammar.mark symbol.Close ++ tail)))) → Reads (bracketed_at tens s) (grammar.RiseFall n m) tail
 unfolding bracketed_at
 pair_again tens n m s tail h k e =
     let a = steps_again tens s n (grammar.mark symbol.Comma ++ (grammar.number m ++ (grammar.mark symbol.Close ++ tail))) h e in
@@ -86,7 +86,7 @@ delay_again tens s (Some (grammar.Single n)) t more h other e =
     let b = maybe_mark_again symbol.Open a.rest inner a.tokens in
     let c = single_again tens n b.rest (t ∷ more) h b.tokens in
     record { rest = c.rest; gives = rw (a.gives, b.gives, c.gives) refl; tokens = c.tokens }
-delay_again tens s (Some (grammar.Pair n m)) t more h other e =
+delay_again tens s (Some (grammar.RiseFall n m)) t more h other e =
     let inner = grammar.number n ++ (grammar.mark symbol.Comma ++ (grammar.number m ++ (grammar.mark symbol.Close ++ (t ∷ more)))) in
     let a = maybe_mark_again symbol.Hash s (grammar.mark symbol.Open ++ inner) e in
     let b = maybe_mark_again symbol.Open a.rest inner a.tokens in

@@ -11,7 +11,7 @@ use Rattle.td_syntax.specs.Token.{Placed, placed_on}
 use Rattle.td_syntax.specs.Tokens.{Stream}
 use Rattle.td_syntax.specs.Grammar as grammar
 use Rattle.td_syntax.proofs.Plain.{plain}
-use Rattle.td_syntax.specs.Grammar.{IsBetween, IsNet, IsInstance, IsStatement, has_many_outputs, output_count, instance_gates}
+use Rattle.td_syntax.specs.Grammar.{LiesWithin, IsNet, IsInstance, IsStatement, has_many_outputs, output_count, instance_gates}
 use Rattle.td_syntax.proofs.Plain.{statement_gates}
 use Rattle.td_syntax.specs.Faults.{Fault}
 use Rattle.td_syntax.specs.Readers.{Remainder, behind_front, is_mark, as_name, many, maybe_at}
@@ -195,14 +195,14 @@ one_rest kind k (x ∷ y ∷ ys) is some high =
     let next : suc k + 1 ≡ suc (k + 1) = omega arith in
     ((omega arith, later_if k x, no_output kind (suc k) x is), subst (λ (j : ℕ). AllFrom (MoreTerminal kind) LastTerminal j (y ∷ ys)) (sym next) (one_rest kind (k + 1) (y ∷ ys) is (omega arith) (omega arith)))
 
-terminals_all : (kind : Kind) (b : Bool) (xs : List grammar.Terminal) → has_many_outputs kind ≡ b → IsBetween 2 1024 (length xs) → AllByRecursion IsNet (take (cond b (length xs - 1) 1) xs) → AllFrom (MoreTerminal kind) LastTerminal 0 xs
+terminals_all : (kind : Kind) (b : Bool) (xs : List grammar.Terminal) → has_many_outputs kind ≡ b → LiesWithin 2 1024 (length xs) → AllByRecursion IsNet (take (cond b (length xs - 1) 1) xs) → AllFrom (MoreTerminal kind) LastTerminal 0 xs
 terminals_all kind true xs is within h = many_all kind 0 xs (length xs - 1) (omega (arith, within.0)) (omega (arith, within.0)) (omega (arith, within.1)) h
 terminals_all kind false [] is within h = absurd (omega (arith, within.0))
 terminals_all kind false (x ∷ []) is within h = absurd (omega (arith, within.0))
 terminals_all kind false (x ∷ y ∷ ys) is within h =
     ((omega arith, h.0, no_output kind 0 x is), one_rest kind 0 (y ∷ ys) is (omega arith) (omega (arith, within.1)))
 
-terminals_again : (kind : Kind) (xs : List grammar.Terminal) (s : Remainder) (tail : List Placed) → IsBetween 2 1024 (length xs) → AllByRecursion IsNet (take (output_count kind (length xs)) xs) → s.gates + output_count kind (length xs) ≤ 200000
+terminals_again : (kind : Kind) (xs : List grammar.Terminal) (s : Remainder) (tail : List Placed) → LiesWithin 2 1024 (length xs) → AllByRecursion IsNet (take (output_count kind (length xs)) xs) → s.gates + output_count kind (length xs) ≤ 200000
     → Begins s (grammar.separated grammar.terminal xs ++ (grammar.mark symbol.Close ++ tail)) → Reads (many (terminal_step kind) s) xs tail
 terminals_again kind xs s tail within nets le e =
     let all = terminals_all kind (has_many_outputs kind) xs refl within nets in

@@ -9,7 +9,7 @@ use Rattle.td_syntax.specs.Tokens.{front_of, rest_of}
 use Rattle.td_syntax.specs.Grammar as grammar
 use Rattle.td_syntax.proofs.Plain.{plain}
 use Rattle.td_syntax.specs.Faults.{Fault, refused}
-use Rattle.td_syntax.specs.Readers.{Remainder, behind_front, Step, More, Final, is_mark, as_name, as_whole, behind, next_at, name_at, whole_at, take_at, maybe_at, mark_at, maybe_mark_at, separator_at, name_step, names_at, many_from}
+use Rattle.td_syntax.specs.Readers.{Remainder, behind_front, ListStep, More, Final, is_mark, as_name, as_whole, behind, next_at, name_at, whole_at, take_at, maybe_at, mark_at, maybe_mark_at, separator_at, name_step, names_at, many_from}
 use Rattle.td_syntax.proofs.Lists.{Shortens, unrolled}
 use Rattle.td_syntax.proofs.Takes.{Classifies, names_classified, MemberTakes, AllFrom, gates_from}
 use Rattle.td_syntax.proofs.SoundDelays.{Any, no_gates, any_gates, name_member, names_shorten, wholes_classified}
@@ -136,7 +136,7 @@ end_again end a s more other e =
     record { rest = behind_front s; gives = rw (f.gives, mark_plain symbol.Comma f.placed _ f.same, other, mark_plain end f.placed _ f.same, same_code end) refl; tokens = f.tokens }
 
 -- a step that reads what a member is spelled by
-pub record MemberAgain {A : Type 0} (step : ℕ → Remainder → Result (Step A × Remainder) Fault) (spell : A → List Placed) (P Q : ℕ → A → Type 0) (g h : ℕ → A → ℕ) (closing : List Placed) : Type 0 where
+pub record MemberAgain {A : Type 0} (step : ℕ → Remainder → Result (ListStep A × Remainder) Fault) (spell : A → List Placed) (P Q : ℕ → A → Type 0) (g h : ℕ → A → ℕ) (closing : List Placed) : Type 0 where
   pub more : (k : ℕ) (s : Remainder) (a : A) (tail : List Placed) → P k a → s.gates + g k a ≤ 200000 → Begins s (spell a ++ (grammar.mark symbol.Comma ++ tail)) → Reads (step k s) (More a) tail
   pub final : (k : ℕ) (s : Remainder) (a : A) (tail : List Placed) → Q k a → s.gates + h k a ≤ 200000 → Begins s (spell a ++ (closing ++ tail)) → Reads (step k s) (Final a) tail
 
@@ -159,7 +159,7 @@ group4 a b c d = simp append_assoc
 pub group5 : (a b c d e : List Placed) → a ++ b ++ c ++ d ++ e ≡ a ++ (b ++ (c ++ (d ++ e)))
 group5 a b c d e = simp append_assoc
 
-module _ {A : Type 0} (step : ℕ → Remainder → Result (Step A × Remainder) Fault) (shortens : Shortens step) (spell : A → List Placed) (P Q : ℕ → A → Type 0) (g h : ℕ → A → ℕ) (closing : List Placed)
+module _ {A : Type 0} (step : ℕ → Remainder → Result (ListStep A × Remainder) Fault) (shortens : Shortens step) (spell : A → List Placed) (P Q : ℕ → A → Type 0) (g h : ℕ → A → ℕ) (closing : List Placed)
     (takes : MemberTakes step spell P Q g h closing) (again : MemberAgain step spell P Q g h closing) where
   pub list_again : (k : ℕ) (xs : List A) (s : Remainder) (tail : List Placed) → AllFrom P Q k xs → s.gates + gates_from g h k xs ≤ 200000 → Begins s (grammar.separated spell xs ++ (closing ++ tail)) → Reads (many_from step k s) xs tail
   unfolding grammar.separated

@@ -80,7 +80,7 @@ delay : (d : Option grammar.Delay) → Inside (grammar.delay d)
 delay None = record { all = refl }
 delay (Some (grammar.Plain n)) = record { all = refl }
 delay (Some (grammar.Single n)) = record { all = refl }
-delay (Some (grammar.Pair n m)) = record { all = refl }
+delay (Some (grammar.RiseFall n m)) = record { all = refl }
 
 terminal : (t : grammar.Terminal) → Inside (grammar.terminal t)
 terminal (grammar.Whole n) = record { all = refl }

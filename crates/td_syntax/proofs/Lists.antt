@@ -4,13 +4,13 @@ use Rattle.std.specs.Prelude.{MatchOption}
 use Rattle.std.proofs.lemmas.List.{append-nil}
 use Rattle.td_syntax.specs.declared.fault.Fault as code_fault
 use Rattle.td_syntax.specs.Faults.{Fault, FaultKind, fault, reported, Fails, ◌>>=◌}
-use Rattle.td_syntax.specs.Readers.{Remainder, Step, More, Final, Done, go_on, many_within, many_from}
+use Rattle.td_syntax.specs.Readers.{Remainder, ListStep, More, Final, Done, go_on, many_within, many_from}
 
 abbrev pub left : Remainder → ℕ
 left s = length s.stream.tokens
 
 -- each member with more to come takes a token
-pub record Shortens {A : Type 0} (step : ℕ → Remainder → Result (Step A × Remainder) Fault) : Type 0 where
+pub record Shortens {A : Type 0} (step : ℕ → Remainder → Result (ListStep A × Remainder) Fault) : Type 0 where
   pub by : (k : ℕ) (s : Remainder) (a : A) (rest : Remainder) → step k s ≡ Ok (More a, rest) → left rest < left s
 
 -- what was read before, and what is still read
@@ -28,13 +28,13 @@ length_map view (x ∷ xs) = ap suc (length_map view xs)
 pushed_length : {X A : Type 0} (view : X → A) (xs ys : List X) (a : A) → map view ys ≡ map view xs ++ a ∷ [] → length ys ≡ length xs + 1
 pushed_length view xs ys a e = sym (length_map view ys) ∙ ap length e ∙ length-append (map view xs) (a ∷ []) ∙ ap (λ (n : ℕ). n + 1) (length_map view xs)
 
-module _ {A : Type 0} (step : ℕ → Remainder → Result (Step A × Remainder) Fault) (shortens : Shortens step) where
-  same_by : (f g : Remainder → Result (List A × Remainder) Fault) (k : ℕ) (s : Remainder) (r : Result (Step A × Remainder) Fault) → step k s ≡ r
+module _ {A : Type 0} (step : ℕ → Remainder → Result (ListStep A × Remainder) Fault) (shortens : Shortens step) where
+  same_by : (f g : Remainder → Result (List A × Remainder) Fault) (k : ℕ) (s : Remainder) (r : Result (ListStep A × Remainder) Fault) → step k s ≡ r
       → ((rest : Remainder) → left rest < left s → f rest ≡ g rest)
       → (r >>= go_on f) ≡ (r >>= go_on g)
   same_by f g k s (Err e) is same = refl
-  same_by f g k s (Ok x) e same = elim x.0 as (λ (y : Step A). x.0 ≡ y → go_on f (y, x.1) ≡ go_on g (y, x.1)) [
-    | More a ↦ λ is. ap (λ (r : Result (List A × Remainder) Fault). r >>= λ y. Ok (a ∷ y.0, y.1)) (same x.1 (shortens.by k s a x.1 (e ∙ ap (λ (y : Step A). Ok (y, x.1)) is)))
+  same_by f g k s (Ok x) e same = elim x.0 as (λ (y : ListStep A). x.0 ≡ y → go_on f (y, x.1) ≡ go_on g (y, x.1)) [
+    | More a ↦ λ is. ap (λ (r : Result (List A × Remainder) Fault). r >>= λ y. Ok (a ∷ y.0, y.1)) (same x.1 (shortens.by k s a x.1 (e ∙ ap (λ (y : ListStep A). Ok (y, x.1)) is)))
     | Final a ↦ λ is. refl
     | Done ↦ λ is. refl
   ] refl

@@ -167,26 +167,26 @@ second_takes s x e =
 abbrev pub inside : grammar.Delay → List Placed
 inside (grammar.Plain n) = grammar.number n
 inside (grammar.Single n) = grammar.number n ++ grammar.mark symbol.Close
-inside (grammar.Pair n m) = grammar.number n ++ grammar.mark symbol.Comma ++ grammar.number m ++ grammar.mark symbol.Close
+inside (grammar.RiseFall n m) = grammar.number n ++ grammar.mark symbol.Comma ++ grammar.number m ++ grammar.mark symbol.Close
 
 -- in brackets
 abbrev pub IsBracketed : ℕ → grammar.Delay → Type 0
 IsBracketed tens (grammar.Plain n) = ⊥
 IsBracketed tens (grammar.Single n) = IsSteps tens n
-IsBracketed tens (grammar.Pair n m) = IsSteps tens n × IsSteps tens m
+IsBracketed tens (grammar.RiseFall n m) = IsSteps tens n × IsSteps tens m
 
 abbrev Bracketed : ℕ → Remainder → grammar.Delay × Remainder → Type 0
 Bracketed tens s x = Takes s (inside x.0) 0 x.1 × IsBracketed tens x.0
 
 pair_takes : (tens : ℕ) (s : Remainder) (first : Numeral) (mid : Remainder) (b : Bool) (u : Remainder) (x : grammar.Delay × Remainder) → Takes s (grammar.number first) 0 mid → IsSteps tens first → Takes mid (second_text b) 0 u → pair_at tens first (b, u) ≡ Ok x → Bracketed tens s x
 pair_takes tens s first mid true u x t h comma e =
-    let a = bind_ok (steps_at tens u) (λ second. close_at second.1 >>= λ rest. Ok (grammar.Pair first second.0, rest)) x e in
-    let b = bind_ok (close_at a.0.1) (λ rest. Ok (grammar.Pair first a.0.0, rest)) x a.2 in
+    let a = bind_ok (steps_at tens u) (λ second. close_at second.1 >>= λ rest. Ok (grammar.RiseFall first second.0, rest)) x e in
+    let b = bind_ok (close_at a.0.1) (λ rest. Ok (grammar.RiseFall first a.0.0, rest)) x a.2 in
     let second = steps_takes tens u a.0 a.1 in
     let t1 = takes_then s (grammar.number first) 0 mid (grammar.mark symbol.Comma) 0 u t comma in
     let t2 = takes_then s _ 0 u (grammar.number a.0.0) 0 a.0.1 t1 second.0 in
     let t3 = takes_then s _ 0 a.0.1 (grammar.mark symbol.Close) 0 b.0 t2 (close_takes a.0.1 b.0 b.1) in
-    subst (Bracketed tens s) (ok_is (grammar.Pair first a.0.0, b.0) x b.2) (t3, (h, second.1))
+    subst (Bracketed tens s) (ok_is (grammar.RiseFall first a.0.0, b.0) x b.2) (t3, (h, second.1))
 pair_takes tens s first mid false u x t h close e =
     subst (Bracketed tens s) (ok_is (grammar.Single first, u) x e) (takes_then s (grammar.number first) 0 mid (grammar.mark symbol.Close) 0 u t close, h)
 
@@ -202,12 +202,12 @@ bracketed_takes tens s x e =
 delay_of : (tens : ℕ) (d : grammar.Delay) → IsBracketed tens d → grammar.mark symbol.Hash ++ (grammar.mark symbol.Open ++ inside d) ≡ grammar.delay (Some d)
 delay_of tens (grammar.Plain n) h = absurd h
 delay_of tens (grammar.Single n) h = refl
-delay_of tens (grammar.Pair n m) h = refl
+delay_of tens (grammar.RiseFall n m) h = refl
 
 bracketed_delay : (tens : ℕ) (d : grammar.Delay) → IsBracketed tens d → IsStatedDelay tens (Some d)
 bracketed_delay tens (grammar.Plain n) h = absurd h
 bracketed_delay tens (grammar.Single n) h = h
-bracketed_delay tens (grammar.Pair n m) h = h
+bracketed_delay tens (grammar.RiseFall n m) h = h
 
 abbrev HasValue : ℕ → Remainder → grammar.Delay × Remainder → Type 0
 HasValue tens s x = Takes s (grammar.delay (Some x.0)) 0 x.1 × IsStatedDelay tens (Some x.0)

@@ -12,10 +12,10 @@ use Rattle.td_syntax.specs.Token.{Token, Name, Escaped, Reserved, Number, Consta
 use Rattle.td_syntax.specs.Token.{Placed, placed_on}
 use Rattle.td_syntax.specs.Grammar as grammar
 use Rattle.td_syntax.proofs.Plain.{plain}
-use Rattle.td_syntax.specs.Grammar.{IsBetween, IsNet, IsInstance, IsStatement, has_many_outputs, output_count, instance_gates}
+use Rattle.td_syntax.specs.Grammar.{LiesWithin, IsNet, IsInstance, IsStatement, has_many_outputs, output_count, instance_gates}
 use Rattle.td_syntax.proofs.Plain.{statement_gates}
 use Rattle.td_syntax.specs.Faults.{Syntax, TooMany, fault, refused, ◌>>=◌}
-use Rattle.td_syntax.specs.Readers.{Remainder, Step, More, Final, Done, is_mark, as_name, behind, many, next_at, whole_at, maybe_at, mark_at, maybe_mark_at}
+use Rattle.td_syntax.specs.Readers.{Remainder, ListStep, More, Final, Done, is_mark, as_name, behind, many, next_at, whole_at, maybe_at, mark_at, maybe_mark_at}
 use Rattle.td_syntax.specs.Parsing.{as_base, base_by, count_at, output_at, begin_terminal, more_terminals, end_terminals, terminal_end, bit_at, selected_by, selected_at, terminal_by, terminal_step, opening_refusal, opening_at, instance_at, instance_step, delay_at, statement_at}
 use Rattle.td_syntax.proofs.Lists.{Shortens}
 use Rattle.td_syntax.proofs.Takes.{Takes, takes_nothing, takes_then, regrouped, then_two, bind_ok, chosen, done, ok_is, err_is_no_ok, taken, next_takes, maybe_takes, names_classified, mark_taken, mark_takes, if_mark, maybe_mark_takes, MemberTakes, behind_never, behind_more, behind_final, AllFrom, gates_from, list_takes, list_shortens}
@@ -82,14 +82,14 @@ end_terminals_take k line s rest e = by (k == 0) refl e
     by false is e = (subst (λ (u : Remainder). Takes s [] 0 u) (ok_is s rest e) (takes_nothing s), positive k is)
 
 -- what follows a terminal, by the step
-abbrev TerminalEnd : Kind → ℕ → grammar.Terminal → Remainder → Step grammar.Terminal × Remainder → Type 0
+abbrev TerminalEnd : Kind → ℕ → grammar.Terminal → Remainder → ListStep grammar.Terminal × Remainder → Type 0
 TerminalEnd kind k t s x = elim x.0 [
   | More m ↦ Takes s (grammar.mark symbol.Comma) (later_gates kind k) x.1 × (t ≡ m) × OutputIf (has_many_outputs kind && nat_lt 0 k) t
   | Final m ↦ Takes s (grammar.mark symbol.Close) 0 x.1 × (t ≡ m) × (1 ≤ k)
   | Done ↦ ⊥
 ]
 
-terminal_end_takes : (kind : Kind) (k line : ℕ) (n : grammar.Terminal) (s : Remainder) (x : Step grammar.Terminal × Remainder) → terminal_end kind k line n s ≡ Ok x → TerminalEnd kind k n s x
+terminal_end_takes : (kind : Kind) (k line : ℕ) (n : grammar.Terminal) (s : Remainder) (x : ListStep grammar.Terminal × Remainder) → terminal_end kind k line n s ≡ Ok x → TerminalEnd kind k n s x
 unfolding terminal_end
 terminal_end_takes kind k line n s x e =
     let b = bind_ok (next_at s) (λ p. cond (is_mark symbol.Comma p.0.token) (more_terminals kind k line n p.1 >>= λ rest. Ok (More n, rest)) (cond (is_mark symbol.Close p.0.token) (end_terminals k p.0.line p.1 >>= λ rest. Ok (Final n, rest)) (Err (refused p.0)))) x e in
@@ -160,7 +160,7 @@ output_if true base t net h = net h
 output_if false base t net h = tt
 
 -- a terminal and what follows it
-record Terminal (kind : Kind) (k : ℕ) (s : Remainder) (x : Step grammar.Terminal × Remainder) : Type 0 where
+record Terminal (kind : Kind) (k : ℕ) (s : Remainder) (x : ListStep grammar.Terminal × Remainder) : Type 0 where
   terminal : grammar.Terminal
   mid : Remainder
   takes : Takes s (grammar.terminal terminal) (first_gates k) mid
@@ -168,7 +168,7 @@ record Terminal (kind : Kind) (k : ℕ) (s : Remainder) (x : Step grammar.Termin
   first : OutputIf (k == 0) terminal
   end : TerminalEnd kind k terminal mid x
 
-terminal_from : (kind : Kind) (k : ℕ) (s rest : Remainder) (p : Placed) (o : Option grammar.Terminal) (x : Step grammar.Terminal × Remainder) → as_base p ≡ o → Takes s (plain p ∷ []) 0 rest → terminal_by kind k p rest o ≡ Ok x → Terminal kind k s x
+terminal_from : (kind : Kind) (k : ℕ) (s rest : Remainder) (p : Placed) (o : Option grammar.Terminal) (x : ListStep grammar.Terminal × Remainder) → as_base p ≡ o → Takes s (plain p ∷ []) 0 rest → terminal_by kind k p rest o ≡ Ok x → Terminal kind k s x
 terminal_from kind k s rest p None x is t e = absurd (err_is_no_ok _ x (sym e))
 terminal_from kind k s rest p (Some base) x is t e =
     let v = bind_ok (begin_terminal k p.line base rest >>= selected_at base) (λ y. terminal_end kind k p.line y.0 y.1) x e in
@@ -187,7 +187,7 @@ terminal_from kind k s rest p (Some base) x is t e =
       end = terminal_end_takes kind k p.line v.0.0 v.0.1 x v.2;
     }
 
-terminal_is : (kind : Kind) (k : ℕ) (s : Remainder) (x : Step grammar.Terminal × Remainder) → terminal_step kind k s ≡ Ok x → Terminal kind k s x
+terminal_is : (kind : Kind) (k : ℕ) (s : Remainder) (x : ListStep grammar.Terminal × Remainder) → terminal_step kind k s ≡ Ok x → Terminal kind k s x
 unfolding terminal_step
 terminal_is kind k s x e =
     let a = bind_ok (next_at s) (λ p. terminal_by kind k p.0 p.1 (as_base p.0)) x e in
@@ -268,7 +268,7 @@ outputs_by kind false (a ∷ []) is two h = absurd (omega (arith, two))
 outputs_by kind false (a ∷ b ∷ bs) is two h = (h.0.1, tt)
 
 pub terminals_take : (kind : Kind) (s : Remainder) (y : List grammar.Terminal × Remainder) → many (terminal_step kind) s ≡ Ok y
-    → Takes s (grammar.separated grammar.terminal y.0 ++ grammar.mark symbol.Close) (output_count kind (length y.0)) y.1 × IsBetween 2 1024 (length y.0) × AllByRecursion IsNet (take (output_count kind (length y.0)) y.0)
+    → Takes s (grammar.separated grammar.terminal y.0 ++ grammar.mark symbol.Close) (output_count kind (length y.0)) y.1 × LiesWithin 2 1024 (length y.0) × AllByRecursion IsNet (take (output_count kind (length y.0)) y.0)
 terminals_take kind s y e =
     let l = list_takes (terminal_step kind) grammar.terminal (MoreTerminal kind) LastTerminal (more_gates kind) last_gates (grammar.mark symbol.Close) (terminal_member kind) 0 s y e in
     let w = terminals_within kind 0 y.0 l.holds in

@@ -15,7 +15,7 @@ use Rattle.td_syntax.specs.Tokens.{front_of}
 use Rattle.td_syntax.specs.Grammar as grammar
 use Rattle.td_syntax.proofs.Plain.{plain}
 use Rattle.td_syntax.specs.Faults.{Fault, refused, ◌>>=◌}
-use Rattle.td_syntax.specs.Readers.{Remainder, Step, More, Final, Done, as_attribute, as_directive, many, next_at, maybe_at}
+use Rattle.td_syntax.specs.Readers.{Remainder, ListStep, More, Final, Done, as_attribute, as_directive, many, next_at, maybe_at}
 use Rattle.td_syntax.specs.Parsing.{as_module, attribute_member, attribute_step, attributes_at, directive_at, front_directive, front_by, front_step, is_behind, behind_by, behind_step}
 use Rattle.td_syntax.proofs.Lists.{Shortens}
 use Rattle.td_syntax.proofs.Takes.{Takes, takes_nothing, regrouped, bind_ok, done, ok_is, err_is_no_ok, next_takes, Classifies, maybe_takes, SequenceTakes, all_takes, all_shortens}
@@ -57,18 +57,18 @@ spelled_attribute l (Outside w) u e = absurd cc
 pub attributes_classified : Classifies as_attribute grammar.attribute
 attributes_classified = record { stable = λ p. stable_attribute p.line p.token; spelled = λ p u e. spelled_attribute p.line p.token u e }
 
-abbrev AttributeStep : Remainder → Step (Unit {0}) × Remainder → Type 0
+abbrev AttributeStep : Remainder → ListStep (Unit {0}) × Remainder → Type 0
 AttributeStep s x = elim x.0 [
   | More u ↦ Takes s (grammar.attribute u) 0 x.1
   | Final u ↦ ⊥
   | Done ↦ Takes s [] 0 x.1
 ]
 
-attribute_by_takes : (s : Remainder) (o : Option (Unit {0})) (rest : Remainder) (x : Step (Unit {0}) × Remainder) → Takes s (grammar.optional grammar.attribute o) 0 rest → done (attribute_member o, rest) ≡ Ok x → AttributeStep s x
-attribute_by_takes s None rest x t e = let none : Step (Unit {0}) = Done in subst (AttributeStep s) (ok_is (none, rest) x e) t
+attribute_by_takes : (s : Remainder) (o : Option (Unit {0})) (rest : Remainder) (x : ListStep (Unit {0}) × Remainder) → Takes s (grammar.optional grammar.attribute o) 0 rest → done (attribute_member o, rest) ≡ Ok x → AttributeStep s x
+attribute_by_takes s None rest x t e = let none : ListStep (Unit {0}) = Done in subst (AttributeStep s) (ok_is (none, rest) x e) t
 attribute_by_takes s (Some u) rest x t e = subst (AttributeStep s) (ok_is (More u, rest) x e) t
 
-attribute_is : (k : ℕ) (s : Remainder) (x : Step (Unit {0}) × Remainder) → attribute_step k s ≡ Ok x → AttributeStep s x
+attribute_is : (k : ℕ) (s : Remainder) (x : ListStep (Unit {0}) × Remainder) → attribute_step k s ≡ Ok x → AttributeStep s x
 unfolding attribute_step
 attribute_is k s x e =
     let m = bind_ok (maybe_at as_attribute s) (λ y. Ok (attribute_member y.0, y.1)) x e in
@@ -164,34 +164,34 @@ modules_classified = record { stable = λ p. stable_module p.line p.token; spell
 
 -- ---- what stands before the module
 
-abbrev FrontStep : Remainder → Step Fronted × Remainder → Type 0
+abbrev FrontStep : Remainder → ListStep Fronted × Remainder → Type 0
 FrontStep s x = elim x.0 [
   | More f ↦ Takes s (grammar.front f) 0 x.1
   | Final f ↦ ⊥
   | Done ↦ Takes s (grammar.word keyword.Module) 0 x.1
 ]
 
-abbrev pub module_read : Placed → Remainder → Option (Unit {0}) → Result (Step Fronted × Remainder) Fault
+abbrev pub module_read : Placed → Remainder → Option (Unit {0}) → Result (ListStep Fronted × Remainder) Fault
 module_read p rest o = elim o [ None ↦ Err (refused p) | Some u ↦ Ok (Done, rest) ]
 
-front_module : (s rest : Remainder) (p : Placed) (o : Option (Unit {0})) (x : Step Fronted × Remainder) → as_module p ≡ o → Takes s (plain p ∷ []) 0 rest
+front_module : (s rest : Remainder) (p : Placed) (o : Option (Unit {0})) (x : ListStep Fronted × Remainder) → as_module p ≡ o → Takes s (plain p ∷ []) 0 rest
     → module_read p rest o ≡ Ok x → FrontStep s x
 front_module s rest p None x is t e = absurd (err_is_no_ok _ x (sym e))
 front_module s rest p (Some u) x is t e =
-    let end : Step Fronted = Done in
+    let end : ListStep Fronted = Done in
     subst (FrontStep s) (ok_is (end, rest) x e) (regrouped s _ _ 0 0 rest (modules_classified.spelled p u is) refl t)
 
-front_directed : (s rest : Remainder) (p : Placed) (o : Option (Result Directive Unread)) (x : Step Fronted × Remainder) → as_directive p ≡ o → Takes s (plain p ∷ []) 0 rest → front_directive p rest o ≡ Ok x → FrontStep s x
+front_directed : (s rest : Remainder) (p : Placed) (o : Option (Result Directive Unread)) (x : ListStep Fronted × Remainder) → as_directive p ≡ o → Takes s (plain p ∷ []) 0 rest → front_directive p rest o ≡ Ok x → FrontStep s x
 front_directed s rest p None x is t e = front_module s rest p (as_module p) x refl t e
 front_directed s rest p (Some r) x is t e =
     let d = bind_ok (directive_at p.line r rest) (λ y. Ok (More (fronts.Directed y.0), y.1)) x e in
     subst (FrontStep s) (ok_is (More (fronts.Directed d.0.0), d.0.1) x d.2) (directive_taken s rest p r d.0 is t d.1)
 
-front_attributed : (s rest : Remainder) (p : Placed) (o : Option (Unit {0})) (x : Step Fronted × Remainder) → as_attribute p ≡ o → Takes s (plain p ∷ []) 0 rest → front_by p rest o ≡ Ok x → FrontStep s x
+front_attributed : (s rest : Remainder) (p : Placed) (o : Option (Unit {0})) (x : ListStep Fronted × Remainder) → as_attribute p ≡ o → Takes s (plain p ∷ []) 0 rest → front_by p rest o ≡ Ok x → FrontStep s x
 front_attributed s rest p None x is t e = front_directed s rest p (as_directive p) x refl t e
 front_attributed s rest p (Some u) x is t e = subst (FrontStep s) (ok_is (More fronts.Attributed, rest) x e) (regrouped s _ _ 0 0 rest (attributes_classified.spelled p u is) refl t)
 
-front_is : (k : ℕ) (s : Remainder) (x : Step Fronted × Remainder) → front_step k s ≡ Ok x → FrontStep s x
+front_is : (k : ℕ) (s : Remainder) (x : ListStep Fronted × Remainder) → front_step k s ≡ Ok x → FrontStep s x
 unfolding front_step
 front_is k s x e =
     let b = bind_ok (next_at s) (λ p. front_by p.0 p.1 (as_attribute p.0)) x e in
@@ -219,29 +219,29 @@ fronts_take s y e =
 
 -- ---- what follows it
 
-abbrev BehindStep : Remainder → Step Directive × Remainder → Type 0
+abbrev BehindStep : Remainder → ListStep Directive × Remainder → Type 0
 BehindStep s x = elim x.0 [
   | More d ↦ Takes s (grammar.directed d) 0 x.1
   | Final d ↦ ⊥
   | Done ↦ Takes s [] 0 x.1
 ]
 
-nothing_behind : (s : Remainder) (x : Step Directive × Remainder) → done (Done, s) ≡ Ok x → BehindStep s x
-nothing_behind s x e = let end : Step Directive = Done in subst (BehindStep s) (ok_is (end, s) x e) (takes_nothing s)
+nothing_behind : (s : Remainder) (x : ListStep Directive × Remainder) → done (Done, s) ≡ Ok x → BehindStep s x
+nothing_behind s x e = let end : ListStep Directive = Done in subst (BehindStep s) (ok_is (end, s) x e) (takes_nothing s)
 
-behind_directed : (s rest : Remainder) (p : Placed) (o : Option (Result Directive Unread)) (x : Step Directive × Remainder) → as_directive p ≡ o → Takes s (plain p ∷ []) 0 rest → behind_by p.line s rest o ≡ Ok x → BehindStep s x
+behind_directed : (s rest : Remainder) (p : Placed) (o : Option (Result Directive Unread)) (x : ListStep Directive × Remainder) → as_directive p ≡ o → Takes s (plain p ∷ []) 0 rest → behind_by p.line s rest o ≡ Ok x → BehindStep s x
 behind_directed s rest p None x is t e = nothing_behind s x e
 behind_directed s rest p (Some r) x is t e =
     let d = bind_ok (directive_at p.line r rest) (λ y. Ok (More y.0, y.1)) x e in
     subst (BehindStep s) (ok_is (More d.0.0, d.0.1) x d.2) (directive_taken s rest p r d.0 is t d.1)
 
-behind_in : (s : Remainder) (b : Bool) (x : Step Directive × Remainder) → cond b (Ok (Done, s)) (next_at s >>= λ p. behind_by p.0.line s p.1 (as_directive p.0)) ≡ done x → BehindStep s x
+behind_in : (s : Remainder) (b : Bool) (x : ListStep Directive × Remainder) → cond b (Ok (Done, s)) (next_at s >>= λ p. behind_by p.0.line s p.1 (as_directive p.0)) ≡ done x → BehindStep s x
 behind_in s true x e = nothing_behind s x e
 behind_in s false x e =
     let b = bind_ok (next_at s) (λ p. behind_by p.0.line s p.1 (as_directive p.0)) x e in
     behind_directed s b.0.1 b.0.0 (as_directive b.0.0) x refl (next_takes s b.0 b.1) b.2
 
-behind_is : (k : ℕ) (s : Remainder) (x : Step Directive × Remainder) → behind_step k s ≡ Ok x → BehindStep s x
+behind_is : (k : ℕ) (s : Remainder) (x : ListStep Directive × Remainder) → behind_step k s ≡ Ok x → BehindStep s x
 unfolding behind_step
 behind_is k s x e = behind_in s (is_behind (front_of s.stream)) x e
 

@@ -19,7 +19,7 @@ use Rattle.td_syntax.proofs.Plain.{plain}
 use Rattle.td_syntax.specs.Grammar.{IsItem, ArePorts, item_gates, unit_exponent}
 use Rattle.td_syntax.proofs.Plain.{statement_gates}
 use Rattle.td_syntax.specs.Faults.{refused, ◌>>=◌}
-use Rattle.td_syntax.specs.Readers.{Remainder, Step, More, Final, Done, as_keyword, many, next_at, name_at, mark_at}
+use Rattle.td_syntax.specs.Readers.{Remainder, ListStep, More, Final, Done, as_keyword, many, next_at, name_at, mark_at}
 use Rattle.td_syntax.specs.Parsing.{attributes_at, front_step, behind_step, declaration_at, statement_at, declares, gates, item_word, item_by, item_step, ports_at, end_by, end_at, module_at}
 use Rattle.td_syntax.proofs.Lists.{Shortens}
 use Rattle.td_syntax.proofs.Takes.{Takes, takes_then, regrouped, then_two, bind_ok, done, ok_is, err_is_no_ok, next_takes, name_takes, mark_takes, SequenceTakes, TakesAll, all_takes, all_shortens}
@@ -30,7 +30,7 @@ use Rattle.td_syntax.proofs.SoundGates.{statement_rest, statement_takes}
 -- ---- items
 
 -- what an item's step takes
-abbrev ItemStep : ℕ → Remainder → Step grammar.Item × Remainder → Type 0
+abbrev ItemStep : ℕ → Remainder → ListStep grammar.Item × Remainder → Type 0
 ItemStep tens s x = elim x.0 [
   | More i ↦ Takes s (grammar.item i) (item_gates i) x.1 × IsItem tens i
   | Final i ↦ ⊥
@@ -53,7 +53,7 @@ gates_text g =
     regroup : (a b c d : List Placed) → a ++ (b ++ c ++ d) ≡ a ++ b ++ c ++ d
     regroup a b c d = simp append_assoc
 
-declared : (tens attributes : ℕ) (r : Role) (s mid : Remainder) (x : Step grammar.Item × Remainder) → Takes s (grammar.attributes attributes ++ grammar.role_word r) 0 mid → (declaration_at attributes r mid >>= declares) ≡ Ok x → ItemStep tens s x
+declared : (tens attributes : ℕ) (r : Role) (s mid : Remainder) (x : ListStep grammar.Item × Remainder) → Takes s (grammar.attributes attributes ++ grammar.role_word r) 0 mid → (declaration_at attributes r mid >>= declares) ≡ Ok x → ItemStep tens s x
 declared tens attributes r s mid x word e =
     let m = bind_ok (declaration_at attributes r mid) declares x e in
     let d = declaration_takes attributes r mid m.0 m.1 in
@@ -64,7 +64,7 @@ declared tens attributes r s mid x word e =
     ∙ declared_text m.0.0 in
     subst (ItemStep tens s) (ok_is (More (grammar.Declares m.0.0), m.0.1) x m.2) (regrouped s _ _ 0 0 m.0.1 text refl t, d.1)
 
-gated : (tens attributes : ℕ) (kind : Kind) (s mid : Remainder) (x : Step grammar.Item × Remainder) → Takes s (grammar.attributes attributes ++ grammar.word (keyword.Gate kind)) 0 mid → (statement_at tens attributes kind mid >>= gates) ≡ Ok x → ItemStep tens s x
+gated : (tens attributes : ℕ) (kind : Kind) (s mid : Remainder) (x : ListStep grammar.Item × Remainder) → Takes s (grammar.attributes attributes ++ grammar.word (keyword.Gate kind)) 0 mid → (statement_at tens attributes kind mid >>= gates) ≡ Ok x → ItemStep tens s x
 gated tens attributes kind s mid x word e =
     let m = bind_ok (statement_at tens attributes kind mid) gates x e in
     let g = statement_takes tens attributes kind mid m.0 m.1 in
@@ -75,15 +75,15 @@ gated tens attributes kind s mid x word e =
     ∙ gates_text m.0.0 in
     subst (ItemStep tens s) (ok_is (More (grammar.Gates m.0.0), m.0.1) x m.2) (regrouped s _ _ _ (statement_gates m.0.0) m.0.1 text (omega arith) t, g.1)
 
-ended_by : (tens attributes : ℕ) (p : Placed) (s mid : Remainder) (b : Bool) (x : Step grammar.Item × Remainder) → (attributes == 0) ≡ b → Takes s (grammar.attributes attributes ++ grammar.word keyword.EndModule) 0 mid
+ended_by : (tens attributes : ℕ) (p : Placed) (s mid : Remainder) (b : Bool) (x : ListStep grammar.Item × Remainder) → (attributes == 0) ≡ b → Takes s (grammar.attributes attributes ++ grammar.word keyword.EndModule) 0 mid
     → cond b (done (Done, mid)) (Err (refused p)) ≡ Ok x → ItemStep tens s x
 ended_by tens attributes p s mid false x is t e = absurd (err_is_no_ok _ x (sym e))
 ended_by tens attributes p s mid true x is t e =
-    let end : Step grammar.Item = Done in
+    let end : ListStep grammar.Item = Done in
     let none : attributes ≡ 0 = eqb-true attributes 0 is in
     subst (ItemStep tens s) (ok_is (end, mid) x e) (subst (λ (n : ℕ). Takes s (grammar.attributes n ++ grammar.word keyword.EndModule) 0 mid) none t)
 
-item_of : (tens attributes : ℕ) (p : Placed) (s mid : Remainder) (k : Keyword) (x : Step grammar.Item × Remainder) → Takes s (grammar.attributes attributes ++ grammar.word k) 0 mid → item_word tens attributes p mid k ≡ Ok x → ItemStep tens s x
+item_of : (tens attributes : ℕ) (p : Placed) (s mid : Remainder) (k : Keyword) (x : ListStep grammar.Item × Remainder) → Takes s (grammar.attributes attributes ++ grammar.word k) 0 mid → item_word tens attributes p mid k ≡ Ok x → ItemStep tens s x
 item_of tens attributes p s mid keyword.Input x word e = declared tens attributes role.Input s mid x word e
 item_of tens attributes p s mid keyword.Output x word e = declared tens attributes role.Output s mid x word e
 item_of tens attributes p s mid keyword.Wire x word e = declared tens attributes role.Wire s mid x word e
@@ -102,13 +102,13 @@ spelled_keyword l Attribute k e = absurd cc
 spelled_keyword l (Directs d w) k e = absurd cc
 spelled_keyword l (Outside w) k e = absurd cc
 
-item_from : (tens attributes : ℕ) (s before rest : Remainder) (p : Placed) (o : Option Keyword) (x : Step grammar.Item × Remainder) → as_keyword p ≡ o → Takes s (grammar.attributes attributes) 0 before → Takes before (plain p ∷ []) 0 rest
+item_from : (tens attributes : ℕ) (s before rest : Remainder) (p : Placed) (o : Option Keyword) (x : ListStep grammar.Item × Remainder) → as_keyword p ≡ o → Takes s (grammar.attributes attributes) 0 before → Takes before (plain p ∷ []) 0 rest
     → item_by tens attributes p rest o ≡ Ok x → ItemStep tens s x
 item_from tens attributes s before rest p None x is first t e = absurd (err_is_no_ok _ x (sym e))
 item_from tens attributes s before rest p (Some k) x is first t e =
     item_of tens attributes p s rest k x (takes_then s (grammar.attributes attributes) 0 before (grammar.word k) 0 rest first (regrouped before _ _ 0 0 rest (spelled_keyword p.line p.token k is) refl t)) e
 
-item_takes : (tens k : ℕ) (s : Remainder) (x : Step grammar.Item × Remainder) → item_step tens k s ≡ Ok x → ItemStep tens s x
+item_takes : (tens k : ℕ) (s : Remainder) (x : ListStep grammar.Item × Remainder) → item_step tens k s ≡ Ok x → ItemStep tens s x
 unfolding item_step
 item_takes tens k s x e =
     let a = bind_ok (attributes_at s) (λ a. next_at a.1 >>= λ p. item_by tens a.0 p.0 p.1 (as_keyword p.0)) x e in

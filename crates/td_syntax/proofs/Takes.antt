@@ -13,7 +13,7 @@ use Rattle.td_syntax.specs.Tokens.{front_in, front_of, rest_of}
 use Rattle.td_syntax.specs.Grammar as grammar
 use Rattle.td_syntax.proofs.Plain.{plain}
 use Rattle.td_syntax.specs.Faults.{Fault, refused, ◌>>=◌}
-use Rattle.td_syntax.specs.Readers.{Remainder, next_by, read_as, read_if, code_of, is_mark, as_name, Step, More, Final, Done, go_on, step_of, behind, next_at, take_at, maybe_at, name_at, mark_at, maybe_mark_at, many_within, many_from, separator_at}
+use Rattle.td_syntax.specs.Readers.{Remainder, next_by, read_as, read_if, code_of, is_mark, as_name, ListStep, More, Final, Done, go_on, step_of, behind, next_at, take_at, maybe_at, name_at, mark_at, maybe_mark_at, many_within, many_from, separator_at}
 use Rattle.td_syntax.proofs.Lists.{left, Shortens}
 
 -- s is the tokens of text, up to lines, and then those of rest, which counts `gates` gates more
@@ -231,7 +231,7 @@ separator_takes end s x e =
 
 -- What a step of a list with commas takes, and what its members keep. The gates and the facts may
 -- depend on a member's number.
-pub record MemberTakes {A : Type 0} (step : ℕ → Remainder → Result (Step A × Remainder) Fault) (spell : A → List Placed) (P Q : ℕ → A → Type 0) (g h : ℕ → A → ℕ) (closing : List Placed) : Type 0 where
+pub record MemberTakes {A : Type 0} (step : ℕ → Remainder → Result (ListStep A × Remainder) Fault) (spell : A → List Placed) (P Q : ℕ → A → Type 0) (g h : ℕ → A → ℕ) (closing : List Placed) : Type 0 where
   pub more : (k : ℕ) (s : Remainder) (a : A) (rest : Remainder) → step k s ≡ Ok (More a, rest) → Takes s (spell a ++ grammar.mark symbol.Comma) (g k a) rest × P k a
   pub final : (k : ℕ) (s : Remainder) (a : A) (rest : Remainder) → step k s ≡ Ok (Final a, rest) → Takes s (spell a ++ closing) (h k a) rest × Q k a
   pub never : (k : ℕ) (s : Remainder) (rest : Remainder) → step k s ≡ Ok (Done, rest) → ⊥
@@ -251,7 +251,7 @@ no_done a false e = cc
 pub behind_never : {A : Type 0} (end : Symbol) (a : A) (t rest : Remainder) → behind end a t ≡ Ok (Done, rest) → ⊥
 behind_never {A} end a t rest e =
     let m = bind_ok (separator_at end t) (λ x. Ok (step_of a x.0, x.1)) (Done, rest) e in
-    no_done a m.0.0 (ap (λ (p : Step A × Remainder). p.0) (ok_is (step_of a m.0.0, m.0.1) (Done, rest) m.2))
+    no_done a m.0.0 (ap (λ (p : ListStep A × Remainder). p.0) (ok_is (step_of a m.0.0, m.0.1) (Done, rest) m.2))
 
 text_is : {A : Type 0} (spell : A → List Placed) (end : Symbol) (a b : A) (m n : Bool) → a ≡ b → m ≡ n → spell a ++ separator_text end m ≡ spell b ++ separator_text end n
 text_is {A} spell end a b m n p q = ap (λ (x : A). spell x ++ separator_text end m) p ∙ ap (λ (y : Bool). spell b ++ separator_text end y) q
@@ -262,11 +262,11 @@ pub behind_more : {A : Type 0} (spell : A → List Placed) (end : Symbol) (s : R
 behind_more {A} spell end s a n t b rest first e =
     let m = bind_ok (separator_at end t) (λ x. Ok (step_of a x.0, x.1)) (More b, rest) e in
     let same = ok_is (step_of a m.0.0, m.0.1) (More b, rest) m.2 in
-    let is = more_is a b m.0.0 (ap (λ (p : Step A × Remainder). p.0) same) in
+    let is = more_is a b m.0.0 (ap (λ (p : ListStep A × Remainder). p.0) same) in
     let second = separator_takes end t m.0 m.1 in
     let both = takes_then s (spell a) n t (separator_text end m.0.0) 0 m.0.1 first second in (
       is.0,
-      subst (λ (u : Remainder). Takes s (spell b ++ grammar.mark symbol.Comma) n u) (ap (λ (p : Step A × Remainder). p.1) same)
+      subst (λ (u : Remainder). Takes s (spell b ++ grammar.mark symbol.Comma) n u) (ap (λ (p : ListStep A × Remainder). p.1) same)
           (regrouped s _ _ (n + 0) n m.0.1 (text_is spell end a b m.0.0 _ is.0 is.1) (omega arith) both),
     )
 
@@ -275,11 +275,11 @@ pub behind_final : {A : Type 0} (spell : A → List Placed) (end : Symbol) (s : 
 behind_final {A} spell end s a n t b rest first e =
     let m = bind_ok (separator_at end t) (λ x. Ok (step_of a x.0, x.1)) (Final b, rest) e in
     let same = ok_is (step_of a m.0.0, m.0.1) (Final b, rest) m.2 in
-    let is = final_is a b m.0.0 (ap (λ (p : Step A × Remainder). p.0) same) in
+    let is = final_is a b m.0.0 (ap (λ (p : ListStep A × Remainder). p.0) same) in
     let second = separator_takes end t m.0 m.1 in
     let both = takes_then s (spell a) n t (separator_text end m.0.0) 0 m.0.1 first second in (
       is.0,
-      subst (λ (u : Remainder). Takes s (spell b ++ grammar.mark end) n u) (ap (λ (p : Step A × Remainder). p.1) same)
+      subst (λ (u : Remainder). Takes s (spell b ++ grammar.mark end) n u) (ap (λ (p : ListStep A × Remainder). p.1) same)
           (regrouped s _ _ (n + 0) n m.0.1 (text_is spell end a b m.0.0 _ is.0 is.1) (omega arith) both),
     )
 
@@ -299,7 +299,7 @@ pub record TakesList {A : Type 0} (spell : A → List Placed) (P Q : ℕ → A �
   pub takes : Takes s (grammar.separated spell xs ++ closing) (gates_from g h k xs) rest
   pub holds : AllFrom P Q k xs
 
-module _ {A : Type 0} (step : ℕ → Remainder → Result (Step A × Remainder) Fault) (spell : A → List Placed) (P Q : ℕ → A → Type 0) (g h : ℕ → A → ℕ) (closing : List Placed) (member : MemberTakes step spell P Q g h closing) where
+module _ {A : Type 0} (step : ℕ → Remainder → Result (ListStep A × Remainder) Fault) (spell : A → List Placed) (P Q : ℕ → A → Type 0) (g h : ℕ → A → ℕ) (closing : List Placed) (member : MemberTakes step spell P Q g h closing) where
   list_one : (k : ℕ) (s : Remainder) (a : A) (rest : Remainder) → Takes s (spell a ++ closing) (h k a) rest × Q k a → TakesList spell P Q g h closing k s (a ∷ []) rest
   unfolding grammar.separated
   list_one k s a rest t = record { takes = t.0; holds = t.1 }
@@ -318,18 +318,18 @@ module _ {A : Type 0} (step : ℕ → Remainder → Result (Step A × Remainder)
   list_within (suc m) k s y e =
       let b = bind_ok (step k s) (go_on (many_within step (k + 1) m)) y e in
       let x = b.0 in
-      elim x.0 as (λ (z : Step A). x.0 ≡ z → go_on (many_within step (k + 1) m) (z, x.1) ≡ Ok y → TakesList spell P Q g h closing k s y.0 y.1) [
+      elim x.0 as (λ (z : ListStep A). x.0 ≡ z → go_on (many_within step (k + 1) m) (z, x.1) ≡ Ok y → TakesList spell P Q g h closing k s y.0 y.1) [
         | More a ↦ λ is after.
-            let at_more = b.1 ∙ ap (λ (z : Step A). Ok (z, x.1)) is in
+            let at_more = b.1 ∙ ap (λ (z : ListStep A). Ok (z, x.1)) is in
             let r = bind_ok (many_within step (k + 1) m x.1) (λ z. Ok (a ∷ z.0, z.1)) y after in
             let rest = list_within m (k + 1) x.1 r.0 r.1 in
             subst (λ (z : List A × Remainder). TakesList spell P Q g h closing k s z.0 z.1) (ok_is (a ∷ r.0.0, r.0.1) y r.2)
             (list_more k s a x.1 r.0.0 r.0.1 (member.more k s a x.1 at_more) rest)
         | Final a ↦ λ is after.
-            let at_final = b.1 ∙ ap (λ (z : Step A). Ok (z, x.1)) is in
+            let at_final = b.1 ∙ ap (λ (z : ListStep A). Ok (z, x.1)) is in
             subst (λ (z : List A × Remainder). TakesList spell P Q g h closing k s z.0 z.1) (ok_is (a ∷ [], x.1) y after)
             (list_one k s a x.1 (member.final k s a x.1 at_final))
-        | Done ↦ λ is after. absurd (member.never k s x.1 (b.1 ∙ ap (λ (z : Step A). Ok (z, x.1)) is))
+        | Done ↦ λ is after. absurd (member.never k s x.1 (b.1 ∙ ap (λ (z : ListStep A). Ok (z, x.1)) is))
       ] refl b.2
 
   pub list_takes : (k : ℕ) (s : Remainder) (y : List A × Remainder) → many_from step k s ≡ Ok y → TakesList spell P Q g h closing k s y.0 y.1
@@ -343,7 +343,7 @@ module _ {A : Type 0} (step : ℕ → Remainder → Result (Step A × Remainder)
 
 -- ---- members one after another
 
-pub record SequenceTakes {A : Type 0} (step : ℕ → Remainder → Result (Step A × Remainder) Fault) (spell : A → List Placed) (P : A → Type 0) (g : A → ℕ) (closing : List Placed) : Type 0 where
+pub record SequenceTakes {A : Type 0} (step : ℕ → Remainder → Result (ListStep A × Remainder) Fault) (spell : A → List Placed) (P : A → Type 0) (g : A → ℕ) (closing : List Placed) : Type 0 where
   pub more : (k : ℕ) (s : Remainder) (a : A) (rest : Remainder) → step k s ≡ Ok (More a, rest) → Takes s (spell a) (g a) rest × P a
   pub end : (k : ℕ) (s : Remainder) (rest : Remainder) → step k s ≡ Ok (Done, rest) → Takes s closing 0 rest
   pub never : (k : ℕ) (s : Remainder) (a : A) (rest : Remainder) → step k s ≡ Ok (Final a, rest) → ⊥
@@ -353,7 +353,7 @@ pub record TakesAll {A : Type 0} (spell : A → List Placed) (P : A → Type 0) 
   pub takes : Takes s (flat_map spell xs ++ closing) (sum_by g xs) rest
   pub holds : AllByRecursion P xs
 
-module _ {A : Type 0} (step : ℕ → Remainder → Result (Step A × Remainder) Fault) (spell : A → List Placed) (P : A → Type 0) (g : A → ℕ) (closing : List Placed) (sequence : SequenceTakes step spell P g closing) where
+module _ {A : Type 0} (step : ℕ → Remainder → Result (ListStep A × Remainder) Fault) (spell : A → List Placed) (P : A → Type 0) (g : A → ℕ) (closing : List Placed) (sequence : SequenceTakes step spell P g closing) where
   all_more : (s : Remainder) (a : A) (mid : Remainder) (xs : List A) (rest : Remainder) → Takes s (spell a) (g a) mid × P a → TakesAll spell P g closing mid xs rest → TakesAll spell P g closing s (a ∷ xs) rest
   all_more s a mid xs rest t l = record {
     takes = regrouped s _ _ _ _ rest
@@ -369,16 +369,16 @@ module _ {A : Type 0} (step : ℕ → Remainder → Result (Step A × Remainder)
   all_within (suc m) k s y e =
       let b = bind_ok (step k s) (go_on (many_within step (k + 1) m)) y e in
       let x = b.0 in
-      elim x.0 as (λ (z : Step A). x.0 ≡ z → go_on (many_within step (k + 1) m) (z, x.1) ≡ Ok y → TakesAll spell P g closing s y.0 y.1) [
+      elim x.0 as (λ (z : ListStep A). x.0 ≡ z → go_on (many_within step (k + 1) m) (z, x.1) ≡ Ok y → TakesAll spell P g closing s y.0 y.1) [
         | More a ↦ λ is after.
-            let at_more = b.1 ∙ ap (λ (z : Step A). Ok (z, x.1)) is in
+            let at_more = b.1 ∙ ap (λ (z : ListStep A). Ok (z, x.1)) is in
             let r = bind_ok (many_within step (k + 1) m x.1) (λ z. Ok (a ∷ z.0, z.1)) y after in
             let rest = all_within m (k + 1) x.1 r.0 r.1 in
             subst (λ (z : List A × Remainder). TakesAll spell P g closing s z.0 z.1) (ok_is (a ∷ r.0.0, r.0.1) y r.2)
             (all_more s a x.1 r.0.0 r.0.1 (sequence.more k s a x.1 at_more) rest)
-        | Final a ↦ λ is after. absurd (sequence.never k s a x.1 (b.1 ∙ ap (λ (z : Step A). Ok (z, x.1)) is))
+        | Final a ↦ λ is after. absurd (sequence.never k s a x.1 (b.1 ∙ ap (λ (z : ListStep A). Ok (z, x.1)) is))
         | Done ↦ λ is after.
-            let at_done = b.1 ∙ ap (λ (z : Step A). Ok (z, x.1)) is in
+            let at_done = b.1 ∙ ap (λ (z : ListStep A). Ok (z, x.1)) is in
             subst (λ (z : List A × Remainder). TakesAll spell P g closing s z.0 z.1) (ok_is ([], x.1) y after)
             (record { takes = sequence.end k s x.1 at_done; holds = tt })
       ] refl b.2

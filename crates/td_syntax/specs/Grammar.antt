@@ -59,7 +59,7 @@ pub data Ports : Type 0 where
 pub data Delay : Type 0 where
   Plain : Numeral → Delay
   Single : Numeral → Delay
-  Pair : Numeral → Numeral → Delay
+  RiseFall : Numeral → Numeral → Delay
 
 -- a name, a bit by the digits of its number, or a constant
 pub data Terminal : Type 0 where
@@ -165,7 +165,7 @@ abbrev pub delay : Option Delay → List Placed
 delay None = []
 delay (Some (Plain n)) = mark symbol.Hash ++ number n
 delay (Some (Single n)) = mark symbol.Hash ++ mark symbol.Open ++ number n ++ mark symbol.Close
-delay (Some (Pair n m)) = mark symbol.Hash ++ mark symbol.Open ++ number n ++ mark symbol.Comma ++ number m ++ mark symbol.Close
+delay (Some (RiseFall n m)) = mark symbol.Hash ++ mark symbol.Open ++ number n ++ mark symbol.Comma ++ number m ++ mark symbol.Close
 
 -- the number of a bit
 abbrev pub select : List ℕ → List Placed
@@ -193,8 +193,8 @@ module_tokens m =
 
 -- ---- numbers
 
-abbrev pub IsBetween : ℕ → ℕ → ℕ → Type 0
-IsBetween low high n = (low ≤ n) × (n ≤ high)
+abbrev pub LiesWithin : ℕ → ℕ → ℕ → Type 0
+LiesWithin low high n = (low ≤ n) × (n ≤ high)
 
 -- the number so far with one more character at its end
 abbrev pub with_digit : ℕ → ℕ → ℕ
@@ -232,13 +232,13 @@ is_whole tens n = list_all is_zero (drop tens (fraction_digits n.fraction))
 -- a whole number of steps, from 1 to the greatest delay
 pub record IsSteps (tens : ℕ) (n : Numeral) : Type 0 where
   pub whole : is_whole tens n ≡ true
-  pub within : IsBetween 1 1000000000 (steps_of tens n)
+  pub within : LiesWithin 1 1000000000 (steps_of tens n)
 
 abbrev pub IsStatedDelay : ℕ → Option Delay → Type 0
 IsStatedDelay tens None = Unit {0}
 IsStatedDelay tens (Some (Plain n)) = IsSteps tens n
 IsStatedDelay tens (Some (Single n)) = IsSteps tens n
-IsStatedDelay tens (Some (Pair n m)) = IsSteps tens n × IsSteps tens m
+IsStatedDelay tens (Some (RiseFall n m)) = IsSteps tens n × IsSteps tens m
 
 -- The power of ten of a step that a unit is, by the last directive: 0 without one.
 abbrev pub exponent_behind : ℕ → Front → ℕ
@@ -310,7 +310,7 @@ IsNet t = Unit {0}
 
 -- an output and an input, or more; no output is a constant
 pub record IsInstance (k : Kind) (i : Instance) : Type 0 where
-  pub terminals : IsBetween 2 1024 (length i.terminals)
+  pub terminals : LiesWithin 2 1024 (length i.terminals)
   pub outputs : AllByRecursion IsNet (take (instance_gates k i) i.terminals)
 
 pub record IsStatement (tens : ℕ) (s : Statement) : Type 0 where

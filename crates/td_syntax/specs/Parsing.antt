@@ -19,15 +19,15 @@ use Rattle.td_syntax.specs.Tokens.{Front, Next, Behind, front_of}
 use Rattle.td_syntax.specs.Grammar as grammar
 use Rattle.td_syntax.specs.Grammar.{has_many_outputs, unit_exponent, steps_of, is_whole, decimal_value}
 use Rattle.td_syntax.specs.Faults.{Fault, Syntax, OutOfSubset, ZeroDelay, DelayTooFine, DelayTooLarge, TooMany, fault, refused, stopped, ◌>>=◌}
-use Rattle.td_syntax.specs.Readers.{Remainder, next_at, take_at, maybe_at, is_mark, as_name, as_number, as_whole, as_keyword, as_attribute, as_directive, refused_name, name_at, whole_at, mark_at, maybe_mark_at, Step, More, Final, Done, many, behind, names_at}
+use Rattle.td_syntax.specs.Readers.{Remainder, next_at, take_at, maybe_at, is_mark, as_name, as_number, as_whole, as_keyword, as_attribute, as_directive, refused_name, name_at, whole_at, mark_at, maybe_mark_at, ListStep, More, Final, Done, many, behind, names_at}
 
 -- ---- attributes and directives
 
-abbrev pub attribute_member : Option (Unit {0}) → Step (Unit {0})
+abbrev pub attribute_member : Option (Unit {0}) → ListStep (Unit {0})
 attribute_member None = Done
 attribute_member (Some u) = More u
 
-unfoldable pub attribute_step : ℕ → Remainder → Result (Step (Unit {0}) × Remainder) Fault
+unfoldable pub attribute_step : ℕ → Remainder → Result (ListStep (Unit {0}) × Remainder) Fault
 attribute_step k s = maybe_at as_attribute s >>= λ x. Ok (attribute_member x.0, x.1)
 
 -- how many attributes stand in front
@@ -51,16 +51,16 @@ module_by (keyword.Gate k) = None
 abbrev pub as_module : Placed → Option (Unit {0})
 as_module p = elim (as_keyword p) [ None ↦ None | Some k ↦ module_by k ]
 
-abbrev pub front_directive : Placed → Remainder → Option (Result Directive Unread) → Result (Step Fronted × Remainder) Fault
+abbrev pub front_directive : Placed → Remainder → Option (Result Directive Unread) → Result (ListStep Fronted × Remainder) Fault
 front_directive p s (Some d) = directive_at p.line d s >>= λ x. Ok (More (fronts.Directed x.0), x.1)
 front_directive p s None = elim (as_module p) [ None ↦ Err (refused p) | Some u ↦ Ok (Done, s) ]
 
-abbrev pub front_by : Placed → Remainder → Option (Unit {0}) → Result (Step Fronted × Remainder) Fault
+abbrev pub front_by : Placed → Remainder → Option (Unit {0}) → Result (ListStep Fronted × Remainder) Fault
 front_by p s (Some u) = Ok (More fronts.Attributed, s)
 front_by p s None = front_directive p s (as_directive p)
 
 -- an attribute, a directive or the word `module`
-unfoldable pub front_step : ℕ → Remainder → Result (Step Fronted × Remainder) Fault
+unfoldable pub front_step : ℕ → Remainder → Result (ListStep Fronted × Remainder) Fault
 front_step k s = next_at s >>= λ p. front_by p.0 p.1 (as_attribute p.0)
 
 -- whether no token stands in front
@@ -68,12 +68,12 @@ abbrev pub is_behind : Front → Bool
 is_behind (Behind stop line) = true
 is_behind (Next p) = false
 
-abbrev pub behind_by : ℕ → Remainder → Remainder → Option (Result Directive Unread) → Result (Step Directive × Remainder) Fault
+abbrev pub behind_by : ℕ → Remainder → Remainder → Option (Result Directive Unread) → Result (ListStep Directive × Remainder) Fault
 behind_by line s rest None = Ok (Done, s)
 behind_by line s rest (Some d) = directive_at line d rest >>= λ x. Ok (More x.0, x.1)
 
 -- a directive after the module, if one is in front
-unfoldable pub behind_step : ℕ → Remainder → Result (Step Directive × Remainder) Fault
+unfoldable pub behind_step : ℕ → Remainder → Result (ListStep Directive × Remainder) Fault
 behind_step k s = if is_behind (front_of s.stream) then Ok (Done, s) else (next_at s >>= λ p. behind_by p.0.line s p.1 (as_directive p.0))
 
 -- ---- delays
@@ -110,7 +110,7 @@ second_at s = next_at s >>= λ p.
 
 abbrev pub pair_at : ℕ → Numeral → Bool × Remainder → Result (grammar.Delay × Remainder) Fault
 pair_at tens first x = elim x.0 [
-  | true ↦ steps_at tens x.1 >>= λ second. close_at second.1 >>= λ rest. Ok (grammar.Pair first second.0, rest)
+  | true ↦ steps_at tens x.1 >>= λ second. close_at second.1 >>= λ rest. Ok (grammar.RiseFall first second.0, rest)
   | false ↦ Ok (grammar.Single first, x.1)
 ]
 
@@ -159,7 +159,7 @@ more_terminals kind k line t s = if has_many_outputs kind && nat_lt 0 k then out
 unfoldable pub end_terminals : ℕ → ℕ → Remainder → Result Remainder Fault
 end_terminals k line s = if k == 0 then Err (fault Syntax line) else Ok s
 
-unfoldable pub terminal_end : Kind → ℕ → ℕ → grammar.Terminal → Remainder → Result (Step grammar.Terminal × Remainder) Fault
+unfoldable pub terminal_end : Kind → ℕ → ℕ → grammar.Terminal → Remainder → Result (ListStep grammar.Terminal × Remainder) Fault
 terminal_end kind k line t s = next_at s >>= λ p.
     if is_mark symbol.Comma p.0.token then (more_terminals kind k line t p.1 >>= λ rest. Ok (More t, rest))
     else (if is_mark symbol.Close p.0.token then (end_terminals k p.0.line p.1 >>= λ rest. Ok (Final t, rest))
@@ -196,11 +196,11 @@ selected_at (grammar.Whole n) s = maybe_mark_at symbol.LeftBracket s >>= selecte
 selected_at (grammar.Select n digits) s = Ok (grammar.Select n digits, s)
 selected_at (grammar.Level b) s = Ok (grammar.Level b, s)
 
-abbrev pub terminal_by : Kind → ℕ → Placed → Remainder → Option grammar.Terminal → Result (Step grammar.Terminal × Remainder) Fault
+abbrev pub terminal_by : Kind → ℕ → Placed → Remainder → Option grammar.Terminal → Result (ListStep grammar.Terminal × Remainder) Fault
 terminal_by kind k p s None = Err (refused p)
 terminal_by kind k p s (Some base) = begin_terminal k p.line base s >>= selected_at base >>= λ t. terminal_end kind k p.line t.0 t.1
 
-unfoldable pub terminal_step : Kind → ℕ → Remainder → Result (Step grammar.Terminal × Remainder) Fault
+unfoldable pub terminal_step : Kind → ℕ → Remainder → Result (ListStep grammar.Terminal × Remainder) Fault
 terminal_step kind k s = next_at s >>= λ p. terminal_by kind k p.0 p.1 (as_base p.0)
 
 -- ---- gates
@@ -220,7 +220,7 @@ instance_at kind s = do
   terminals ← many (terminal_step kind) bracket
   Ok (record { name = name.0; terminals = terminals.0 }, terminals.1)
 
-unfoldable pub instance_step : Kind → ℕ → Remainder → Result (Step grammar.Instance × Remainder) Fault
+unfoldable pub instance_step : Kind → ℕ → Remainder → Result (ListStep grammar.Instance × Remainder) Fault
 instance_step kind k s = instance_at kind s >>= λ i. behind symbol.Semicolon i.0 i.1
 
 -- after the word of the kind
@@ -334,7 +334,7 @@ port_by x = elim x.0 [
 unfoldable pub port_at : ℕ → Remainder → Result (grammar.Port × Remainder) Fault
 port_at k s = if k == 0 then headed_at s else (maybe_at as_name s >>= port_by)
 
-unfoldable pub port_step : ℕ → Remainder → Result (Step grammar.Port × Remainder) Fault
+unfoldable pub port_step : ℕ → Remainder → Result (ListStep grammar.Port × Remainder) Fault
 port_step k s = port_at k s >>= λ p. behind symbol.Close p.0 p.1
 
 -- whether a declared port begins so
@@ -364,13 +364,13 @@ ports_at s = maybe_mark_at symbol.Open s >>= ports_by
 
 -- ---- items
 
-abbrev pub declares : grammar.Declaration × Remainder → Result (Step grammar.Item × Remainder) Fault
+abbrev pub declares : grammar.Declaration × Remainder → Result (ListStep grammar.Item × Remainder) Fault
 declares d = Ok (More (grammar.Declares d.0), d.1)
 
-abbrev pub gates : grammar.Statement × Remainder → Result (Step grammar.Item × Remainder) Fault
+abbrev pub gates : grammar.Statement × Remainder → Result (ListStep grammar.Item × Remainder) Fault
 gates g = Ok (More (grammar.Gates g.0), g.1)
 
-abbrev pub item_word : ℕ → ℕ → Placed → Remainder → Keyword → Result (Step grammar.Item × Remainder) Fault
+abbrev pub item_word : ℕ → ℕ → Placed → Remainder → Keyword → Result (ListStep grammar.Item × Remainder) Fault
 item_word tens attributes p s keyword.Input = declaration_at attributes role.Input s >>= declares
 item_word tens attributes p s keyword.Output = declaration_at attributes role.Output s >>= declares
 item_word tens attributes p s keyword.Wire = declaration_at attributes role.Wire s >>= declares
@@ -380,11 +380,11 @@ item_word tens attributes p s keyword.EndModule = if attributes == 0 then Ok (Do
 item_word tens attributes p s keyword.Module = Err (refused p)
 
 -- a name begins an instance of a module
-abbrev pub item_by : ℕ → ℕ → Placed → Remainder → Option Keyword → Result (Step grammar.Item × Remainder) Fault
+abbrev pub item_by : ℕ → ℕ → Placed → Remainder → Option Keyword → Result (ListStep grammar.Item × Remainder) Fault
 item_by tens attributes p s None = Err (refused_name p)
 item_by tens attributes p s (Some k) = item_word tens attributes p s k
 
-unfoldable pub item_step : ℕ → ℕ → Remainder → Result (Step grammar.Item × Remainder) Fault
+unfoldable pub item_step : ℕ → ℕ → Remainder → Result (ListStep grammar.Item × Remainder) Fault
 item_step tens k s = attributes_at s >>= λ a. next_at a.1 >>= λ p. item_by tens a.0 p.0 p.1 (as_keyword p.0)
 
 -- ---- the module

@@ -195,12 +195,12 @@ maybe_mark_at m s = next_at s >>= λ p. if is_mark m p.0.token then Ok (true, p.
 -- ---- lists
 
 -- a member with more to come, the last member, or the end
-pub data Step (A : Type 0) : Type 0 where
-  More : A → Step A
-  Final : A → Step A
-  Done : Step A
+pub data ListStep (A : Type 0) : Type 0 where
+  More : A → ListStep A
+  Final : A → ListStep A
+  Done : ListStep A
 
-abbrev pub go_on : {A : Type 0} → (Remainder → Result (List A × Remainder) Fault) → Step A × Remainder → Result (List A × Remainder) Fault
+abbrev pub go_on : {A : Type 0} → (Remainder → Result (List A × Remainder) Fault) → ListStep A × Remainder → Result (List A × Remainder) Fault
 go_on rest x = elim x.0 [
   | More a ↦ rest x.1 >>= λ y. Ok (a ∷ y.0, y.1)
   | Final a ↦ Ok (a ∷ [], x.1)
@@ -208,28 +208,28 @@ go_on rest x = elim x.0 [
 ]
 
 -- the members from the one with this number on
-unfoldable pub many_within : {A : Type 0} → (ℕ → Remainder → Result (Step A × Remainder) Fault) → ℕ → ℕ → Remainder → Result (List A × Remainder) Fault
+unfoldable pub many_within : {A : Type 0} → (ℕ → Remainder → Result (ListStep A × Remainder) Fault) → ℕ → ℕ → Remainder → Result (List A × Remainder) Fault
 many_within step k zero s = Err (fault Syntax 0)
 many_within step k (suc n) s = step k s >>= go_on (many_within step (k + 1) n)
 
-unfoldable pub many_from : {A : Type 0} → (ℕ → Remainder → Result (Step A × Remainder) Fault) → ℕ → Remainder → Result (List A × Remainder) Fault
+unfoldable pub many_from : {A : Type 0} → (ℕ → Remainder → Result (ListStep A × Remainder) Fault) → ℕ → Remainder → Result (List A × Remainder) Fault
 many_from step k s = many_within step k (suc (length s.stream.tokens)) s
 
-abbrev pub many : {A : Type 0} → (ℕ → Remainder → Result (Step A × Remainder) Fault) → Remainder → Result (List A × Remainder) Fault
+abbrev pub many : {A : Type 0} → (ℕ → Remainder → Result (ListStep A × Remainder) Fault) → Remainder → Result (List A × Remainder) Fault
 many step s = many_from step 0 s
 
 -- whether a comma is in front, and not the mark that ends the list; either is taken
 unfoldable pub separator_at : Symbol → Remainder → Result (Bool × Remainder) Fault
 separator_at end s = next_at s >>= λ p. if is_mark symbol.Comma p.0.token then Ok (true, p.1) else (if is_mark end p.0.token then Ok (false, p.1) else Err (refused p.0))
 
-abbrev pub step_of : {A : Type 0} → A → Bool → Step A
+abbrev pub step_of : {A : Type 0} → A → Bool → ListStep A
 step_of a true = More a
 step_of a false = Final a
 
-abbrev pub behind : {A : Type 0} → Symbol → A → Remainder → Result (Step A × Remainder) Fault
+abbrev pub behind : {A : Type 0} → Symbol → A → Remainder → Result (ListStep A × Remainder) Fault
 behind end a s = separator_at end s >>= λ x. Ok (step_of a x.0, x.1)
 
-unfoldable pub name_step : Symbol → ℕ → Remainder → Result (Step grammar.Name × Remainder) Fault
+unfoldable pub name_step : Symbol → ℕ → Remainder → Result (ListStep grammar.Name × Remainder) Fault
 name_step end k s = name_at s >>= λ n. behind end n.0 n.1
 
 unfoldable pub names_at : Symbol → Remainder → Result (List grammar.Name × Remainder) Fault

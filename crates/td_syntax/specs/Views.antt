@@ -92,7 +92,7 @@ option_range_view (Some r) = Some (range_view r)
 abbrev pub delay_view : syntax_delay.Delay → grammar.Delay
 delay_view (delay.Plain n) = grammar.Plain (numeral_view n)
 delay_view (delay.Single n) = grammar.Single (numeral_view n)
-delay_view (delay.Pair n m) = grammar.Pair (numeral_view n) (numeral_view m)
+delay_view (delay.Pair n m) = grammar.RiseFall (numeral_view n) (numeral_view m)
 
 abbrev pub option_delay_view : Option syntax_delay.Delay → Option grammar.Delay
 option_delay_view None = None
@@ -138,7 +138,7 @@ item_view (item.Gates s) = grammar.Gates (statement_view s)
 abbrev pub module_view : syntax_module.Module → grammar.Module
 module_view m = record { fronts = m.fronts.items; name = name_view m.name; ports = ports_view m.ports; items = map item_view m.items.items; behind = m.behind.items }
 
-abbrev pub step_view : {A B : Type 0} → (A → B) → steps.Step A → readers.Step B
+abbrev pub step_view : {A B : Type 0} → (A → B) → steps.Step A → readers.ListStep B
 step_view view (step.More a) = readers.More (view a)
 step_view view (step.Final a) = readers.Final (view a)
 step_view view step.Done = readers.Done

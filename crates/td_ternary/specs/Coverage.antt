@@ -5,8 +5,8 @@ use Rattle.td_gates.specs.Wave.{Wave, before}
 use Rattle.td_ternary.specs.Possibles.{has}
 
 -- before each moment the wave's level is among those that the signal's stands for
-abbrev pub Covers : Wave → Wave → Type 0
-Covers signal wave = (n : ℕ) → has (before signal n) (before wave n) ≡ true
+abbrev pub LevelsCover : Wave → Wave → Type 0
+LevelsCover signal wave = (n : ℕ) → has (before signal n) (before wave n) ≡ true
 
 -- the moments in a signal are those of its changes
 abbrev pub HasMoment : Wave → ℕ → Type 0

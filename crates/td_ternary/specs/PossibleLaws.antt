@@ -25,7 +25,7 @@ use Rattle.td_gates.proofs.TableLaws.{Booleans, table-boolean, table_known}
 use Rattle.td_gates.specs.Known.{Agrees}
 use Rattle.td_gates.proofs.KnownLaws.{length-levels}
 use Rattle.td_ternary.specs.Possibles.{has, set_of, change_at, input_signal, constant_signal, held_for, is_possible, possible, changes_below, last_change, last_input, last_level, widened, capped, gate_signal, last_of}
-use Rattle.td_ternary.specs.Coverage.{Covers, HasMoment}
+use Rattle.td_ternary.specs.Coverage.{LevelsCover, HasMoment}
 
 -- windows of tests
 pub held_true : (test : ℕ → Bool) (d t : ℕ) → ((k : ℕ) → k < d → test (t - k) ≡ true) → held_for test d t ≡ true
@@ -103,14 +103,14 @@ agrees_has X Low boolean agree = refl
 agrees_has X High boolean agree = refl
 agrees_has X X boolean agree = absurd (boolean refl)
 
-agree_at : (signals ins : List Wave) (n : ℕ) → AllZip Covers signals ins
+agree_at : (signals ins : List Wave) (n : ℕ) → AllZip LevelsCover signals ins
     → AllZip Agrees (map (λ wave. before wave n) signals) (map (λ wave. before wave n) ins)
 agree_at [] [] n covered = tt
 agree_at (s ∷ signals) [] n covered = absurd covered
 agree_at [] (w ∷ ins) n covered = absurd covered
 agree_at (s ∷ signals) (w ∷ ins) n covered = (has_agrees _ _ (covered.0 n), agree_at signals ins n covered.1)
 
-booleans_at : (signals ins : List Wave) (n : ℕ) → AllZip Covers signals ins → Booleans (map (λ wave. before wave n) ins)
+booleans_at : (signals ins : List Wave) (n : ℕ) → AllZip LevelsCover signals ins → Booleans (map (λ wave. before wave n) ins)
 booleans_at [] [] n covered = tt
 booleans_at (s ∷ signals) [] n covered = absurd covered
 booleans_at [] (w ∷ ins) n covered = absurd covered
@@ -118,7 +118,7 @@ booleans_at (s ∷ signals) (w ∷ ins) n covered = (covered_boolean _ _ (covere
 
 -- the output's level is possible
 pub covers_possible : (kind : Kind) (delay : Delay) (signals : List Wave) (ins : List Wave) (out : Wave)
-    → TakesInputs kind (length ins) → AllZip Covers signals ins → IsDelayed (target_before kind ins) delay (before out)
+    → TakesInputs kind (length ins) → AllZip LevelsCover signals ins → IsDelayed (target_before kind ins) delay (before out)
     → (n : ℕ) → before out n ≢ X → has (possible kind delay signals n) (before out n) ≡ true
 covers_possible kind delay signals ins out takes covered is n boolean = go (before out n) refl boolean
   where
@@ -331,8 +331,8 @@ listed kind delay fits signals t =
     ]
 
 pub covers_gate : (kind : Kind) (delay : Delay) (signals : List Wave) (ins : List Wave) (out : Wave)
-    → IsInRange delay → TakesInputs kind (length ins) → All IsBoolean ins → AllZip Covers signals ins → Obeys kind delay ins out
-    → Covers (gate_signal kind delay signals) out
+    → IsInRange delay → TakesInputs kind (length ins) → All IsBoolean ins → AllZip LevelsCover signals ins → Obeys kind delay ins out
+    → LevelsCover (gate_signal kind delay signals) out
 covers_gate kind delay signals ins out fits takes boolean covered obeys n = go n
   where
     is : IsDelayed (target_before kind ins) delay (before out)
@@ -370,7 +370,7 @@ after_change s new moment t late = elim (cases_Bool (level_eq s new)) [
 ]
 
 pub covers_input : (first second : Trit) (moment : ℕ) (wave : Wave) → IsInputWave first second moment wave
-    → Covers (input_signal first second moment) wave
+    → LevelsCover (input_signal first second moment) wave
 covers_input first second moment wave is zero = rw is.starts (allowed_has first is.before is.first_allows)
 covers_input first second moment wave is (suc t) = elim (cases_lt t moment) [
   | inl early ↦ rw (before_change (level_of_trit first) (level_of_trit second) moment t early, is.keeps t early)
@@ -379,7 +379,7 @@ covers_input first second moment wave is (suc t) = elim (cases_lt t moment) [
       (allowed_has second is.after is.second_allows)
 ]
 
-pub covers_constant : (one : Bool) (wave : Wave) → IsConstant (level_from one) wave → Covers (constant_signal one) wave
+pub covers_constant : (one : Bool) (wave : Wave) → IsConstant (level_from one) wave → LevelsCover (constant_signal one) wave
 covers_constant true wave is zero = rw (is 0) refl
 covers_constant true wave is (suc t) = rw (is (suc t)) refl
 covers_constant false wave is zero = rw (is 0) refl
@@ -399,7 +399,7 @@ one_level set X w single h k = absurd (never_x set h)
 one_level set Low X single h k = absurd (never_x set k)
 one_level set High X single h k = absurd (never_x set k)
 
-pub quiet_after_last : (signal : Wave) (moment : ℕ) (wave : Wave) → last_of signal ≡ Some moment → Covers signal wave
+pub quiet_after_last : (signal : Wave) (moment : ℕ) (wave : Wave) → last_of signal ≡ Some moment → LevelsCover signal wave
     → IsQuietAfter moment wave
 quiet_after_last signal moment wave is covered =
     elim (cases_Bool (level_eq (last_level signal.start signal.changes) X)) [

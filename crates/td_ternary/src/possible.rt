@@ -4,7 +4,7 @@ ghost use Rattle.std.specs.Prelude.{◌≡◌, None, Some, if◌then◌else◌};
 ghost use Rattle.td_gates.specs.declared.primitives.Level.TheVariants.{X};
 ghost use Rattle.td_gates.specs.Table.{level_eq};
 ghost use Rattle.td_ternary.specs.Possibles.{possible_functions, last_change};
-ghost use Rattle.td_ternary.specs.Coverage.{Covers, HasMoment};
+ghost use Rattle.td_ternary.specs.Coverage.{LevelsCover, HasMoment};
 ghost use Rattle.td_ternary.specs.PossibleLaws.{covers_input, covers_constant, covers_gate, quiet_after_last, reach_input, reach_constant, reach_gate, last_is_moment, reach_each};
 
 use crate::gates;
@@ -22,7 +22,7 @@ impl Domain for Possible {
 
     type Scratch = Scratch;
 
-    ghost covers = { Covers };
+    ghost covers = { LevelsCover };
 
     ghost functions = { possible_functions };
 

@@ -6,7 +6,7 @@ use Rattle.td_gates.specs.Wave.{Wave}
 use Rattle.td_nets.specs.Netlist.{Name, Netlist}
 use Rattle.td_nets.specs.WellFormed.{driven}
 use Rattle.td_vcd.specs.declared.events.Event.{Event}
-use Rattle.td_vcd.specs.Text.{Line, numbered, start_line, declaration, events_from, events_at, event_line, moment_of, moment_lines, rising, change_lines, dump_lines, head_lines, dump_begins, dump_ends}
+use Rattle.td_vcd.specs.Text.{Line, numbered, start_line, declaration, events_from, events_at, event_line, moment_of, moment_lines, rising, change_lines, dump_lines, dump_head, dump_begins, dump_ends}
 use Rattle.td_vcd.specs.Says.{declares, declared}
 
 step : (is : Bool) (all front back : ℕ) → all ≡ front + back → (if is then suc all else all) ≡ (if is then suc front else front) + back
@@ -35,7 +35,7 @@ moments events (t ∷ times) =
     let all = both (moment_lines events t) (flat_map (moment_lines events) times) in
     let now = sets (events_at t events) in let later = moments events times in omega (arith, all, now, later)
 
-head : (netlist : Netlist) → declared (head_lines netlist) ≡ 0
+head : (netlist : Netlist) → declared (dump_head netlist) ≡ 0
 head netlist = refl
 
 pub dump_declares : (netlist : Netlist) (waves : List Wave) → declared (dump_lines netlist waves) ≡ length (driven netlist)
@@ -43,11 +43,11 @@ dump_declares netlist waves =
     let names : List Line = numbered declaration 0 (driven netlist) in
     let begun : List Line = numbered start_line 0 waves in
     let changes : List Line = change_lines (events_from 0 waves) in
-    let five = both ((((head_lines netlist ++ names) ++ dump_begins) ++ begun) ++ dump_ends) changes in
-    let four = both (((head_lines netlist ++ names) ++ dump_begins) ++ begun) dump_ends in
-    let three = both ((head_lines netlist ++ names) ++ dump_begins) begun in
-    let two = both (head_lines netlist ++ names) dump_begins in
-    let one = both (head_lines netlist) names in
+    let five = both ((((dump_head netlist ++ names) ++ dump_begins) ++ begun) ++ dump_ends) changes in
+    let four = both (((dump_head netlist ++ names) ++ dump_begins) ++ begun) dump_ends in
+    let three = both ((dump_head netlist ++ names) ++ dump_begins) begun in
+    let two = both (dump_head netlist ++ names) dump_begins in
+    let one = both (dump_head netlist) names in
     let none = moments (events_from 0 waves) (rising (map moment_of (events_from 0 waves))) in
     let still = starts 0 waves in
     let each = declarations 0 (driven netlist) in

@@ -11,7 +11,7 @@ use Rattle.std.proofs.lemmas.List.Sorted.{Contains-permutation, IsPermutation-ma
 use Rattle.td_gates.specs.declared.primitives.Level.TheVariants.{Zero}
 use Rattle.td_run.proofs.Sampling.{IsIncreasingFrom}
 use Rattle.td_vcd.specs.declared.events.Event.{Event}
-use Rattle.td_vcd.specs.Text.{Line, Number, number_of, moment_of, events_at, event_line, moment_lines, with_number, rising, change_lines}
+use Rattle.td_vcd.specs.Text.{Line, Number, time_number, moment_of, events_at, event_line, moment_lines, with_number, rising, change_lines}
 use Rattle.td_vcd.specs.Walks.{lines_from}
 
 -- ---- numbers in a list
@@ -140,13 +140,13 @@ rising-has t (x ∷ xs) found = with_number-has t x (rising xs) (elim found [
 -- each event's number is at least this one, and no less than that of the one before it
 abbrev pub IsSortedFrom : ℕ → List Event → Type 0
 IsSortedFrom n [] = Unit {0}
-IsSortedFrom n (event ∷ later) = (n ≤ number_of event.moment) × IsSortedFrom (number_of event.moment) later
+IsSortedFrom n (event ∷ later) = (n ≤ time_number event.moment) × IsSortedFrom (time_number event.moment) later
 
 pub IsSortedFrom-sorted : (events : List Event) → IsNonDecreasingBy moment_of events → IsSortedFrom 0 events
 IsSortedFrom-sorted [] sorted = tt
 IsSortedFrom-sorted (event ∷ later) sorted = (omega arith, from event later sorted)
   where
-    from : (first : Event) (others : List Event) → IsNonDecreasingBy moment_of (first ∷ others) → IsSortedFrom (number_of first.moment) others
+    from : (first : Event) (others : List Event) → IsNonDecreasingBy moment_of (first ∷ others) → IsSortedFrom (time_number first.moment) others
     from first [] order = tt
     from first (next ∷ others) order =
         let up : first.moment ≤ next.moment = order 0 1 first (omega arith) (omega arith) in
@@ -156,44 +156,44 @@ IsSortedFrom-sorted (event ∷ later) sorted = (omega arith, from event later so
 abbrev moments_from : ℕ → List Event → List ℕ
 moments_from n [] = []
 moments_from n (event ∷ later) =
-    if number_of event.moment == n then moments_from n later else event.moment ∷ moments_from (number_of event.moment) later
+    if time_number event.moment == n then moments_from n later else event.moment ∷ moments_from (time_number event.moment) later
 
 -- the events whose number is this one
 abbrev numbered_so : ℕ → List Event → List Event
-numbered_so n events = filter (λ event. number_of event.moment == n) events
+numbered_so n events = filter (λ event. time_number event.moment == n) events
 
 moments_from-increasing : (n : ℕ) (events : List Event) → IsSortedFrom n events → IsIncreasingFrom n (moments_from n events)
 moments_from-increasing n [] sorted = tt
-moments_from-increasing n (event ∷ later) sorted = elim (cases_eq (number_of event.moment) n) [
+moments_from-increasing n (event ∷ later) sorted = elim (cases_eq (time_number event.moment) n) [
   | inl same ↦
       let rest : IsSortedFrom n later = rw same at sorted.1 in
-      rw (eq-eqb (number_of event.moment) n same) (moments_from-increasing n later rest)
-  | inr other ↦ rw (ne_eqb (number_of event.moment) n other)
-      (omega (arith, sorted.0, other), moments_from-increasing (number_of event.moment) later sorted.1)
+      rw (eq-eqb (time_number event.moment) n same) (moments_from-increasing n later rest)
+  | inr other ↦ rw (ne_eqb (time_number event.moment) n other)
+      (omega (arith, sorted.0, other), moments_from-increasing (time_number event.moment) later sorted.1)
 ]
 
 in_moments : (n t : ℕ) (events : List Event) → Has t (moments_from n events) → Has t (map moment_of events)
 in_moments n t [] found = found
-in_moments n t (event ∷ later) found = elim (cases_eq (number_of event.moment) n) [
-  | inl same ↦ inr (in_moments n t later (rw (eq-eqb (number_of event.moment) n same) at found))
+in_moments n t (event ∷ later) found = elim (cases_eq (time_number event.moment) n) [
+  | inl same ↦ inr (in_moments n t later (rw (eq-eqb (time_number event.moment) n same) at found))
   | inr other ↦
-      let split : (event.moment ≡ t) ⊎ Has t (moments_from (number_of event.moment) later) = rw (ne_eqb (number_of event.moment) n other) at found in
+      let split : (event.moment ≡ t) ⊎ Has t (moments_from (time_number event.moment) later) = rw (ne_eqb (time_number event.moment) n other) at found in
       elim split [
         | inl is ↦ inl is
-        | inr further ↦ inr (in_moments (number_of event.moment) t later further)
+        | inr further ↦ inr (in_moments (time_number event.moment) t later further)
       ]
 ]
 
-moments-have : (n t : ℕ) (events : List Event) → number_of t ≢ n → Has t (map moment_of events) → Has t (moments_from n events)
+moments-have : (n t : ℕ) (events : List Event) → time_number t ≢ n → Has t (map moment_of events) → Has t (moments_from n events)
 moments-have n t [] apart found = found
-moments-have n t (event ∷ later) apart found = elim (cases_eq (number_of event.moment) n) [
-  | inl same ↦ rw (eq-eqb (number_of event.moment) n same) (elim found [
-    | inl is ↦ absurd (apart (sym (ap number_of is) ∙ same))
+moments-have n t (event ∷ later) apart found = elim (cases_eq (time_number event.moment) n) [
+  | inl same ↦ rw (eq-eqb (time_number event.moment) n same) (elim found [
+    | inl is ↦ absurd (apart (sym (ap time_number is) ∙ same))
     | inr further ↦ moments-have n t later apart further
   ])
-  | inr other ↦ rw (ne_eqb (number_of event.moment) n other) (elim (cases_eq event.moment t) [
+  | inr other ↦ rw (ne_eqb (time_number event.moment) n other) (elim (cases_eq event.moment t) [
     | inl now ↦ inl now
-    | inr past ↦ inr (moments-have (number_of event.moment) t later (λ same. past (omega (arith, same))) (elim found [
+    | inr past ↦ inr (moments-have (time_number event.moment) t later (λ same. past (omega (arith, same))) (elim found [
       | inl is ↦ absurd (past is)
       | inr further ↦ further
     ]))
@@ -205,21 +205,21 @@ moments-have n t (event ∷ later) apart found = elim (cases_eq (number_of event
 none_before : (n m : ℕ) (events : List Event) → IsSortedFrom m events → n < m → numbered_so n events ≡ []
 none_before n m [] sorted less = refl
 none_before n m (event ∷ later) sorted less =
-    rw (ne_eqb (number_of event.moment) n (λ same. omega (arith, same, sorted.0, less)))
-    (none_before n (number_of event.moment) later sorted.1 (omega (arith, sorted.0, less)))
+    rw (ne_eqb (time_number event.moment) n (λ same. omega (arith, same, sorted.0, less)))
+    (none_before n (time_number event.moment) later sorted.1 (omega (arith, sorted.0, less)))
 
 none_at_zero : (events : List Event) → numbered_so 0 events ≡ []
 none_at_zero [] = refl
-none_at_zero (event ∷ later) = rw (ne_eqb (number_of event.moment) 0 (λ same. omega (arith, same))) (none_at_zero later)
+none_at_zero (event ∷ later) = rw (ne_eqb (time_number event.moment) 0 (λ same. omega (arith, same))) (none_at_zero later)
 
-same_number : (a t : ℕ) → (number_of a == number_of t) ≡ (a == t)
+same_number : (a t : ℕ) → (time_number a == time_number t) ≡ (a == t)
 same_number a t = elim (cases_eq a t) [
-  | inl same ↦ rw (eq-eqb (number_of a) (number_of t) (ap suc same), eq-eqb a t same) refl
-  | inr other ↦ rw (ne_eqb (number_of a) (number_of t) (λ same. other (omega (arith, same))), ne_eqb a t other) refl
+  | inl same ↦ rw (eq-eqb (time_number a) (time_number t) (ap suc same), eq-eqb a t same) refl
+  | inr other ↦ rw (ne_eqb (time_number a) (time_number t) (λ same. other (omega (arith, same))), ne_eqb a t other) refl
 ]
 
-at_moment : (t : ℕ) (events : List Event) → numbered_so (number_of t) events ≡ events_at t events
-at_moment t events = filter_agree (λ (event : Event). number_of event.moment == number_of t) (λ (event : Event). event.moment == t)
+at_moment : (t : ℕ) (events : List Event) → numbered_so (time_number t) events ≡ events_at t events
+at_moment t events = filter_agree (λ (event : Event). time_number event.moment == time_number t) (λ (event : Event). event.moment == t)
     (λ event. same_number event.moment t) events
 
 -- what comes before the first of the moments has no part in their lines
@@ -229,18 +229,18 @@ early event later n [] less increasing = refl
 early event later n (t ∷ moments) less increasing =
     let apart : event.moment ≢ t = λ same. omega (arith, same, less, increasing.0) in
     let none : events_at t (event ∷ later) ≡ events_at t later = rw (ne_eqb event.moment t apart) refl in
-    ap (λ (es : List Event). (Number (number_of t) ∷ map event_line es) ++ flat_map (moment_lines (event ∷ later)) moments) none
+    ap (λ (es : List Event). (Number (time_number t) ∷ map event_line es) ++ flat_map (moment_lines (event ∷ later)) moments) none
     ∙ ap (λ (ls : List Line). moment_lines later t ++ ls) (early event later (suc t) moments (omega (arith, less, increasing.0)) increasing.1)
 
 -- the lines after a number: what is left of it, and then the later moments
 grouped : (n : ℕ) (events : List Event) → IsSortedFrom n events
     → lines_from n events ≡ map event_line (numbered_so n events) ++ flat_map (moment_lines events) (moments_from n events)
 grouped n [] sorted = refl
-grouped n (event ∷ later) sorted = elim (cases_eq (number_of event.moment) n) [
+grouped n (event ∷ later) sorted = elim (cases_eq (time_number event.moment) n) [
   | inl same ↦
       let rest : IsSortedFrom n later = rw same at sorted.1 in
       let first : lines_from n (event ∷ later) ≡ event_line event ∷ lines_from n later =
-      rw (eq-eqb (number_of event.moment) n same) (ap (λ (m : ℕ). event_line event ∷ lines_from m later) same) in
+      rw (eq-eqb (time_number event.moment) n same) (ap (λ (m : ℕ). event_line event ∷ lines_from m later) same) in
       let moments : List ℕ = moments_from n later in
       let tail = early event later n moments (omega (arith, same)) (moments_from-increasing n later rest) in
       first
@@ -248,7 +248,7 @@ grouped n (event ∷ later) sorted = elim (cases_eq (number_of event.moment) n) 
       ∙ ap (λ (ls : List Line). event_line event ∷ (map event_line (numbered_so n later) ++ ls)) (sym tail)
       ∙ sym (now_same same)
   | inr other ↦
-      let own : ℕ = number_of event.moment in
+      let own : ℕ = time_number event.moment in
       let moments : List ℕ = moments_from own later in
       let first : lines_from n (event ∷ later) ≡ Number own ∷ event_line event ∷ lines_from own later =
       rw (ne_eqb own n other) refl in
@@ -260,25 +260,25 @@ grouped n (event ∷ later) sorted = elim (cases_eq (number_of event.moment) n) 
       ∙ sym (now_other other)
 ]
   where
-    now_same : number_of event.moment ≡ n
+    now_same : time_number event.moment ≡ n
         → map event_line (numbered_so n (event ∷ later)) ++ flat_map (moment_lines (event ∷ later)) (moments_from n (event ∷ later))
         ≡ event_line event ∷ (map event_line (numbered_so n later) ++ flat_map (moment_lines (event ∷ later)) (moments_from n later))
-    now_same same = rw (eq-eqb (number_of event.moment) n same) refl
+    now_same same = rw (eq-eqb (time_number event.moment) n same) refl
 
-    now_other : number_of event.moment ≢ n
+    now_other : time_number event.moment ≢ n
         → map event_line (numbered_so n (event ∷ later)) ++ flat_map (moment_lines (event ∷ later)) (moments_from n (event ∷ later))
-        ≡ Number (number_of event.moment) ∷ event_line event ∷ (map event_line (events_at event.moment later)
-        ++ flat_map (moment_lines (event ∷ later)) (moments_from (number_of event.moment) later))
+        ≡ Number (time_number event.moment) ∷ event_line event ∷ (map event_line (events_at event.moment later)
+        ++ flat_map (moment_lines (event ∷ later)) (moments_from (time_number event.moment) later))
     now_other other =
-        let none : numbered_so n later ≡ [] = none_before n (number_of event.moment) later sorted.1 (omega (arith, sorted.0, other)) in
-        rw (ne_eqb (number_of event.moment) n other, none, eq-eqb event.moment event.moment refl) refl
+        let none : numbered_so n later ≡ [] = none_before n (time_number event.moment) later sorted.1 (omega (arith, sorted.0, other)) in
+        rw (ne_eqb (time_number event.moment) n other, none, eq-eqb event.moment event.moment refl) refl
 
 -- the same lines where each moment has the same events
 agree : (these those : List Event) → ((t : ℕ) → events_at t these ≡ events_at t those) → (moments : List ℕ)
     → flat_map (moment_lines these) moments ≡ flat_map (moment_lines those) moments
 agree these those same [] = refl
 agree these those same (t ∷ moments) =
-    ap (λ (es : List Event). (Number (number_of t) ∷ map event_line es) ++ flat_map (moment_lines these) moments) (same t)
+    ap (λ (es : List Event). (Number (time_number t) ∷ map event_line es) ++ flat_map (moment_lines these) moments) (same t)
     ∙ ap (λ (ls : List Line). moment_lines those t ++ ls) (agree these those same moments)
 
 -- ---- a stable sort

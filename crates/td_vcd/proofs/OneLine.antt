@@ -14,7 +14,7 @@ use Rattle.td_nets.specs.Printed.{printed, bit_text}
 use Rattle.td_nets.specs.WellFormed.{driven}
 use Rattle.td_nets.specs.Scales.{scale_text}
 use Rattle.td_vcd.specs.declared.events.Event.{Event}
-use Rattle.td_vcd.specs.Text.{Line, code_within, code, timescale, scope, head_lines, declaration, start_line, numbered, dump_begins, dump_ends, event_line, events_at, moment_lines, change_lines, events_from, dump_lines, rising, moment_of}
+use Rattle.td_vcd.specs.Text.{Line, code_within, code, timescale, scope, dump_head, declaration, start_line, numbered, dump_begins, dump_ends, event_line, events_at, moment_lines, change_lines, events_from, dump_lines, rising, moment_of}
 use Rattle.td_vcd.specs.Says.{IsOnOneLine, IsOneLine}
 use Rattle.td_vcd.specs.Laws.{HasNamesOnOneLine}
 
@@ -137,11 +137,11 @@ dump_fine netlist waves fine =
     let changes : List Line = change_lines (events_from 0 waves) in
     let starts : List Line = numbered start_line 0 waves in
     let names : List Line = numbered declaration 0 (driven netlist) in
-    both IsOneLine ((((head_lines netlist ++ names) ++ dump_begins) ++ starts) ++ dump_ends) changes
-    (both IsOneLine (((head_lines netlist ++ names) ++ dump_begins) ++ starts) dump_ends
-    (both IsOneLine ((head_lines netlist ++ names) ++ dump_begins) starts
-    (both IsOneLine (head_lines netlist ++ names) dump_begins
-    (both IsOneLine (head_lines netlist) names
+    both IsOneLine ((((dump_head netlist ++ names) ++ dump_begins) ++ starts) ++ dump_ends) changes
+    (both IsOneLine (((dump_head netlist ++ names) ++ dump_begins) ++ starts) dump_ends
+    (both IsOneLine ((dump_head netlist ++ names) ++ dump_begins) starts
+    (both IsOneLine (dump_head netlist ++ names) dump_begins
+    (both IsOneLine (dump_head netlist) names
     (by_look (codes "version tdelay 1 $end") refl, (timescale_fine netlist.unit, (scope_fine netlist.name fine.own, tt)))
     (declarations_fine 0 (driven netlist) fine.nets))
     (by_look (codes "upscope $end") refl, (by_look (codes "enddefinitions $end") refl, (tt, (by_look (codes "dumpvars") refl, tt)))))

@@ -6,7 +6,7 @@ use Rattle.td_nets.specs.Netlist.{Name, Netlist}
 use Rattle.td_nets.specs.WellFormed.{driven}
 use Rattle.td_run.proofs.Sampling.{IsIncreasingFrom}
 use Rattle.td_vcd.specs.declared.events.Event.{Event}
-use Rattle.td_vcd.specs.Text.{Line, numbered, start_line, declaration, events_from, events_at, event_line, moment_of, moment_lines, rising, change_lines, dump_lines, head_lines, dump_begins, dump_ends}
+use Rattle.td_vcd.specs.Text.{Line, numbered, start_line, declaration, events_from, events_at, event_line, moment_of, moment_lines, rising, change_lines, dump_lines, dump_head, dump_begins, dump_ends}
 use Rattle.td_vcd.specs.Says.{numbers, AreRisingFrom}
 use Rattle.td_vcd.proofs.Moments.{rising-increasing}
 use Rattle.td_vcd.proofs.Steps.{regroup}
@@ -33,7 +33,7 @@ of_dump netlist waves =
     let starts : List Line = numbered start_line 0 waves in
     let changes : List Line = change_lines (events_from 0 waves) in
     ap (λ (ls : List Line). numbers ls)
-    (regroup (head_lines netlist) (numbered declaration 0 (driven netlist)) dump_begins starts dump_ends changes)
+    (regroup (dump_head netlist) (numbered declaration 0 (driven netlist)) dump_begins starts dump_ends changes)
     ∙ declarations_none 0 (driven netlist) (dump_begins ++ (starts ++ (dump_ends ++ changes)))
     ∙ ap (λ (ns : List ℕ). 0 ∷ ns) (starts_none 0 waves (dump_ends ++ changes)
     ∙ of_moments (events_from 0 waves) (rising (map moment_of (events_from 0 waves))))

@@ -13,7 +13,7 @@ use Rattle.td_nets.specs.Netlist.{Name, Netlist}
 use Rattle.td_nets.specs.WellFormed.{driven}
 use Rattle.td_run.proofs.Sampling.{IsIncreasingFrom}
 use Rattle.td_vcd.specs.declared.events.Event.{Event}
-use Rattle.td_vcd.specs.Text.{Line, numbered, start_line, declaration, event_of, events_from, events_at, event_line, moment_of, moment_lines, rising, change_lines, dump_lines, head_lines, dump_begins, dump_ends}
+use Rattle.td_vcd.specs.Text.{Line, numbered, start_line, declaration, event_of, events_from, events_at, event_line, moment_of, moment_lines, rising, change_lines, dump_lines, dump_head, dump_begins, dump_ends}
 use Rattle.td_vcd.specs.Says.{level_by}
 use Rattle.td_vcd.proofs.Moments.{Has, above, rising-increasing, rising-has}
 use Rattle.td_vcd.proofs.Playing.{under_after, level_by-append, starts_set, set_at, too_late, under_after-sets, set_among, set_at-next}
@@ -152,7 +152,7 @@ said netlist waves k n wave level is rises =
     let starts : List Line = numbered start_line 0 waves in
     let changes : List Line = change_lines (events_from 0 waves) in
     ap (λ (ls : List Line). level_by k n 0 level ls)
-    (regroup (head_lines netlist) (numbered declaration 0 (driven netlist)) dump_begins starts dump_ends changes)
+    (regroup (dump_head netlist) (numbered declaration 0 (driven netlist)) dump_begins starts dump_ends changes)
     ∙ declarations_pass k n 0 0 level (driven netlist) (dump_begins ++ (starts ++ (dump_ends ++ changes)))
     ∙ level_by-append k n 0 level starts (dump_ends ++ changes)
     ∙ ap (λ (u : ℕ). level_by k n u (level_by k n 0 level starts) (dump_ends ++ changes)) (under_after-starts 0 0 waves)

@@ -14,7 +14,7 @@ use Rattle.td_nets.specs.WellFormed.{driven}
 use Rattle.td_run.specs.Waves.{constant, AreWithin, waves_of}
 use Rattle.td_run.proofs.Turning.{change_origin}
 use Rattle.td_vcd.specs.declared.events.Event.{Event}
-use Rattle.td_vcd.specs.Text.{Line, ended, text_of, numbered, number_of, event_of, events_from, head_lines, declaration, start_line, dump_begins, dump_ends, change_lines, dump_lines, dump}
+use Rattle.td_vcd.specs.Text.{Line, ended, text_of, numbered, time_number, event_of, events_from, dump_head, declaration, start_line, dump_begins, dump_ends, change_lines, dump_lines, dump}
 use Rattle.td_vcd.specs.Walks.{event_lines, lines_from}
 
 -- ---- lines that are numbered
@@ -40,9 +40,9 @@ pub lines_step : (number : ℕ) (events : List Event) (i : ℕ) (d : Event) → 
     ≡ text_of (event_lines number (get_or events i d)) ++ text_of (lines_from ((get_or events i d).moment + 1) (drop (i + 1) events))
 lines_step number events i d inside =
     let event : Event = get_or events i d in
-    let next : number_of event.moment ≡ event.moment + 1 = omega arith in
+    let next : time_number event.moment ≡ event.moment + 1 = omega arith in
     ap (λ (es : List Event). text_of (lines_from number es)) (drop_more events i d inside)
-    ∙ flat_map-append ended (event_lines number event) (lines_from (number_of event.moment) (drop (i + 1) events))
+    ∙ flat_map-append ended (event_lines number event) (lines_from (time_number event.moment) (drop (i + 1) events))
     ∙ ap (λ (n : ℕ). text_of (event_lines number event) ++ text_of (lines_from n (drop (i + 1) events))) next
 
 pub lines_end : (number : ℕ) (events : List Event) (i : ℕ) → length events ≤ i → text_of (lines_from number (drop i events)) ≡ []
@@ -114,10 +114,10 @@ unfolding dump
 dump_is netlist waves = refl
 
 pub dump_parts : (netlist : Netlist) (waves : List Wave) → dump netlist waves
-    ≡ text_of (head_lines netlist) ++ (text_of (numbered declaration 0 (driven netlist)) ++ (text_of dump_begins
+    ≡ text_of (dump_head netlist) ++ (text_of (numbered declaration 0 (driven netlist)) ++ (text_of dump_begins
     ++ (text_of (numbered start_line 0 waves) ++ (text_of dump_ends ++ text_of (change_lines (events_from 0 waves))))))
 dump_parts netlist waves =
-    dump_is netlist waves ∙ six (head_lines netlist) (numbered declaration 0 (driven netlist)) dump_begins (numbered start_line 0 waves) dump_ends
+    dump_is netlist waves ∙ six (dump_head netlist) (numbered declaration 0 (driven netlist)) dump_begins (numbered start_line 0 waves) dump_ends
     (change_lines (events_from 0 waves))
 
 -- one more change of a variable

@@ -5,7 +5,7 @@ use Rattle.td_gates.specs.Wave.{Wave, IsWave}
 use Rattle.td_nets.specs.Netlist.{Name, Netlist}
 use Rattle.td_nets.specs.WellFormed.{driven}
 use Rattle.td_vcd.specs.Text.{dump}
-use Rattle.td_vcd.specs.Says.{IsOnOneLine, Says}
+use Rattle.td_vcd.specs.Says.{IsOnOneLine, SaysWaves}
 
 -- no name of the netlist has a newline
 pub record HasNamesOnOneLine (netlist : Netlist) : Type 0 where
@@ -15,4 +15,4 @@ pub record HasNamesOnOneLine (netlist : Netlist) : Type 0 where
 -- read back, a dump of a wave for each driven net says exactly these waves
 abbrev pub SaysTheWaves : Type 0
 SaysTheWaves = (netlist : Netlist) (waves : List Wave) → HasNamesOnOneLine netlist → AllByRecursion IsWave waves
-    → length waves ≡ length (driven netlist) → Says (dump netlist waves) waves
+    → length waves ≡ length (driven netlist) → SaysWaves (dump netlist waves) waves

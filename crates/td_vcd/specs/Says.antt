@@ -49,7 +49,7 @@ declared (line ∷ lines) = if declares line then suc (declared lines) else decl
 
 -- As many variables are declared as there are waves. The numbers rise, and at each of them the
 -- lines give each variable the level of its wave: 0 is before moment 0, and t + 1 is moment t.
-pub record Says (text : List ℕ) (waves : List Wave) : Type 0 where
+pub record SaysWaves (text : List ℕ) (waves : List Wave) : Type 0 where
   pub lines : List Line
   pub each : AllByRecursion IsOneLine lines
   pub parts : text ≡ text_of lines

@@ -57,8 +57,8 @@ timescale unit = Keyword (codes "timescale " ++ decimal unit.magnitude ++ codes 
 abbrev pub scope : List ℕ → Line
 scope name = Keyword (codes "scope module " ++ printed (record { text = name; bit = None }) ++ codes " $end")
 
-abbrev pub head_lines : Netlist → List Line
-head_lines netlist = Keyword (codes "version tdelay 1 $end") ∷ timescale netlist.unit ∷ scope netlist.name ∷ []
+abbrev pub dump_head : Netlist → List Line
+dump_head netlist = Keyword (codes "version tdelay 1 $end") ∷ timescale netlist.unit ∷ scope netlist.name ∷ []
 
 -- a variable of this number and name
 abbrev pub declaration : ℕ → Name → Line
@@ -102,12 +102,12 @@ abbrev pub event_line : Event → Line
 event_line event = Sets event.variable event.level
 
 -- the number that stands for a moment, since 0 stands for the settled levels
-abbrev pub number_of : ℕ → ℕ
-number_of moment = suc moment
+abbrev pub time_number : ℕ → ℕ
+time_number moment = suc moment
 
 -- the lines of a moment: its number, and its changes in the order of the variables
 abbrev pub moment_lines : List Event → ℕ → List Line
-moment_lines events moment = Number (number_of moment) ∷ map event_line (events_at moment events)
+moment_lines events moment = Number (time_number moment) ∷ map event_line (events_at moment events)
 
 -- a number put among rising ones, unless it is there
 abbrev pub with_number : ℕ → List ℕ → List ℕ
@@ -131,7 +131,7 @@ change_lines events = flat_map (moment_lines events) (rising (map moment_of even
 -- the gates
 abbrev pub dump_lines : Netlist → List Wave → List Line
 dump_lines netlist waves =
-    head_lines netlist
+    dump_head netlist
     ++ numbered declaration 0 (driven netlist)
     ++ dump_begins
     ++ numbered start_line 0 waves

@@ -7,17 +7,17 @@ use Rattle.td_circuit.specs.Numbering.{Numbered, nets, AreNumbersOf}
 use Rattle.td_run.specs.Runs.{NetWaves}
 use Rattle.td_run.specs.Waves.{waves_of}
 use Rattle.td_vcd.specs.declared.events.Event.{Event}
-use Rattle.td_vcd.specs.Text.{Line, Number, text_of, numbered, declaration, start_line, number_of, event_line}
+use Rattle.td_vcd.specs.Text.{Line, Number, text_of, numbered, declaration, start_line, time_number, event_line}
 
 -- the lines of a change after the line of this number
 abbrev pub event_lines : ℕ → Event → List Line
 event_lines number event =
-    if number_of event.moment == number then event_line event ∷ [] else Number (number_of event.moment) ∷ event_line event ∷ []
+    if time_number event.moment == number then event_line event ∷ [] else Number (time_number event.moment) ∷ event_line event ∷ []
 
 -- the lines of changes after the line of this number
 abbrev pub lines_from : ℕ → List Event → List Line
 lines_from number [] = []
-lines_from number (event ∷ later) = event_lines number event ++ lines_from (number_of event.moment) later
+lines_from number (event ∷ later) = event_lines number event ++ lines_from (time_number event.moment) later
 
 -- between the declarations and the settled levels
 abbrev pub begins_text : List ℕ

@@ -6,7 +6,7 @@ ghost use Rattle.td_text.specs.Output.{Sent, SentTo};
 ghost use Rattle.td_nets.specs.WellFormed.{driven};
 ghost use Rattle.td_circuit.specs.Numbering.{IsNumbering};
 ghost use Rattle.td_run.specs.Waves.{waves_of};
-ghost use Rattle.td_vcd.specs.Text.{head_lines, text_of, numbered, declaration, start_line};
+ghost use Rattle.td_vcd.specs.Text.{dump_head, text_of, numbered, declaration, start_line};
 ghost use Rattle.td_vcd.specs.Walks.{AreVariables, body_text, event_lines, lines_from};
 ghost use Rattle.td_vcd.specs.Writes.{IsRunFor, IsRefused, dump_of};
 
@@ -36,7 +36,7 @@ fn variable_nets(alloc: Global, circuit: &Circuit) -> Result<Vec<u32>, AllocErro
 
 /// The lines before the declarations.
 fn push_head(alloc: Global, batch: &mut Batch, circuit: &Circuit) -> Result<(), AllocError>
-    ensures { OnOk result (batch.new ≡ batch.old ++ text_of (head_lines circuit.now.netlist)) }
+    ensures { OnOk result (batch.new ≡ batch.old ++ text_of (dump_head circuit.now.netlist)) }
 {
     batch.push(b"$version tdelay 1 $end\n")?;
     batch.timescale(circuit.unit())?;

@@ -21,7 +21,7 @@ use Rattle.td_search.specs.Problems.{Problem}
 use Rattle.td_search.specs.Answers.{certificate_of, IsExact}
 use Rattle.td_search.specs.Written.{CanBeWritten}
 use Rattle.td_worst.specs.Leaves.{leaf_of, IsLeafOf, IsSpellable}
-use Rattle.td_worst.specs.Methods.{IsOutcome}
+use Rattle.td_worst.specs.Methods.{IsSoundAnswer}
 
 few_flips : (before after : List Bool) → flips_of before after ≤ length before
 few_flips [] after = omega arith
@@ -91,5 +91,5 @@ module _ (asked : Problem) (budget : ℕ) (some : 0 < budget) (sizes : IsSpellab
     tree = leaf_tree refuted tree leaf.is;
   }
 
-  pub exact_reported : IsOutcome asked budget (answer.Exact time pair tree) × CanBeWritten asked (answer.Exact time pair tree)
+  pub exact_reported : IsSoundAnswer asked budget (answer.Exact time pair tree) × CanBeWritten asked (answer.Exact time pair tree)
   exact_reported = (is_exact, (spelled, refuted_texts_fit (certificate_of asked time pair tree) (leaf_of refuted) spelled small leaf.is leaf.few))

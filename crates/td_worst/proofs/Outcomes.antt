@@ -8,10 +8,10 @@ use Rattle.td_search.specs.Answers.{IsAnswer}
 use Rattle.td_search.specs.Written.{CanBeWritten}
 use Rattle.td_worst.specs.declared.method.Method.{Method}
 use Rattle.td_worst.specs.declared.method.Method.TheVariants as method
-use Rattle.td_worst.specs.Methods.{IsOutcome, IsAnswerBy}
+use Rattle.td_worst.specs.Methods.{IsSoundAnswer, IsAnswerBy}
 
 -- an answer says at least what an outcome does
-pub outcome_of : (asked : Problem) (budget : ℕ) (found : Answer) → IsAnswer asked budget found → IsOutcome asked budget found
+pub outcome_of : (asked : Problem) (budget : ℕ) (found : Answer) → IsAnswer asked budget found → IsSoundAnswer asked budget found
 outcome_of asked budget (answer.Exact time pair tree) is = is
 outcome_of asked budget (answer.Between low high pair nodes why) is = record {
   reached = is.reached;
@@ -22,14 +22,14 @@ outcome_of asked budget (answer.Between low high pair nodes why) is = record {
   small = is.small;
 }
 
-pub outcome_by : (by : Method) (asked : Problem) (budget : ℕ) (found : Answer) → IsAnswerBy by asked budget found → IsOutcome asked budget found
+pub outcome_by : (by : Method) (asked : Problem) (budget : ℕ) (found : Answer) → IsAnswerBy by asked budget found → IsSoundAnswer asked budget found
 outcome_by method.Least asked budget found is = outcome_of asked budget found is
 outcome_by method.Lead asked budget found is = outcome_of asked budget found is
 outcome_by method.Refute asked budget found is = is
 outcome_by method.Auto asked budget found is = is
 
 -- with a greater budget
-pub more_budget : (asked : Problem) (budget more : ℕ) (found : Answer) → budget ≤ more → IsOutcome asked budget found → IsOutcome asked more found
+pub more_budget : (asked : Problem) (budget more : ℕ) (found : Answer) → budget ≤ more → IsSoundAnswer asked budget found → IsSoundAnswer asked more found
 more_budget asked budget more (answer.Exact time pair tree) le is = record {
   reached = is.reached;
   greatest = is.greatest;
@@ -47,8 +47,8 @@ more_budget asked budget more (answer.Between low high pair nodes why) le is = r
 }
 
 -- by another strategy
-pub outcome_alike : (asked : Problem) (strategy : Strategy) (budget : ℕ) (found : Answer) → IsOutcome asked budget found
-    → IsOutcome (record asked { strategy = strategy }) budget found
+pub outcome_alike : (asked : Problem) (strategy : Strategy) (budget : ℕ) (found : Answer) → IsSoundAnswer asked budget found
+    → IsSoundAnswer (record asked { strategy = strategy }) budget found
 outcome_alike asked strategy budget (answer.Exact time pair tree) is = record {
   reached = is.reached;
   greatest = is.greatest;

@@ -12,12 +12,12 @@ use Rattle.td_worst.specs.declared.refuting.OpenAnswer.{OpenAnswer}
 use Rattle.td_search.specs.declared.answers.Answer.{Answer}
 use Rattle.td_search.specs.Problems.{has_delay}
 use Rattle.td_search.specs.Answers.{low_of}
-use Rattle.td_worst.specs.Methods.{IsBounded, IsOutcome, high_of, IsNarrower}
+use Rattle.td_worst.specs.Methods.{IsBoundedAnswer, IsSoundAnswer, high_of, IsNarrower}
 use Rattle.td_worst.specs.OpenAnswer.{IsOpenAnswer}
 
 -- what is known bounds the worst delay
 pub bounded : (asked : Problem) (budget : ℕ) (known : OpenAnswer) → IsOpenAnswer asked budget known
-    → IsBounded asked budget known.best.time known.high known.best.pair known.nodes
+    → IsBoundedAnswer asked budget known.best.time known.high known.best.pair known.nodes
 bounded asked budget known is = record {
   reached = (is.best.admitted, is.best.delay);
   greatest = is.high;
@@ -31,12 +31,12 @@ bounded asked budget known is = record {
 }
 
 pub reported_between : (asked : Problem) (budget : ℕ) (known : OpenAnswer) (why : Cause) → IsOpenAnswer asked budget known
-    → IsOutcome asked budget (answer.Between known.best.time known.high known.best.pair known.nodes why)
+    → IsSoundAnswer asked budget (answer.Between known.best.time known.high known.best.pair known.nodes why)
     × CanBeWritten asked (answer.Between known.best.time known.high known.best.pair known.nodes why)
 reported_between asked budget known why is = (bounded asked budget known is, tt)
 
 -- from bounds
-pub open_answer : (asked : Problem) (budget low high : ℕ) (pair : Pair) (nodes : ℕ) → IsBounded asked budget low high pair nodes
+pub open_answer : (asked : Problem) (budget low high : ℕ) (pair : Pair) (nodes : ℕ) → IsBoundedAnswer asked budget low high pair nodes
     → IsOpenAnswer asked budget (record { best = record { pair = pair; time = low }; high = high; nodes = nodes })
 open_answer asked budget low high pair nodes is = record {
   best = record { admitted = is.reached.0; delay = is.reached.1 };
@@ -88,23 +88,23 @@ with_best asked budget known best is timed = record { best = timed; high = is.hi
 -- ---- figures of answers to one question
 
 -- some admitted pair has the lower figure
-found_low : (asked : Problem) (budget : ℕ) (found : Answer) → IsOutcome asked budget found → (pair : Pair) × has_delay asked pair (low_of found)
+found_low : (asked : Problem) (budget : ℕ) (found : Answer) → IsSoundAnswer asked budget found → (pair : Pair) × has_delay asked pair (low_of found)
 found_low asked budget (answer.Exact time pair tree) is = (pair, is.reached)
 found_low asked budget (answer.Between low high pair nodes why) is = (pair, is.reached)
 
 -- no admitted pair is above the upper one
-above_high : (asked : Problem) (budget : ℕ) (found : Answer) → IsOutcome asked budget found → IsUpperBound asked.setting asked.admit (high_of found)
+above_high : (asked : Problem) (budget : ℕ) (found : Answer) → IsSoundAnswer asked budget found → IsUpperBound asked.setting asked.admit (high_of found)
 above_high asked budget (answer.Exact time pair tree) is = is.greatest
 above_high asked budget (answer.Between low high pair nodes why) is = is.greatest
 
 -- the lower figure of one is at most the upper figure of the other
-pub crossing : (asked : Problem) (budget more : ℕ) (one other : Answer) → IsOutcome asked budget one → IsOutcome asked more other → low_of one ≤ high_of other
+pub crossing : (asked : Problem) (budget more : ℕ) (one other : Answer) → IsSoundAnswer asked budget one → IsSoundAnswer asked more other → low_of one ≤ high_of other
 crossing asked budget more one other is also =
     let pair = found_low asked budget one is in
     above_high asked more other also pair.0 (low_of one) pair.1.0 pair.1.1
 
 -- what is exact is within any other
-pub exact_narrower : (asked : Problem) (budget more : ℕ) (one other : Answer) → IsOutcome asked budget one → IsOutcome asked more other → low_of other ≡ high_of other
+pub exact_narrower : (asked : Problem) (budget more : ℕ) (one other : Answer) → IsSoundAnswer asked budget one → IsSoundAnswer asked more other → low_of other ≡ high_of other
     → IsNarrower one other
 exact_narrower asked budget more one other is also same = record {
   low = omega (arith, crossing asked budget more one other is also, same);

@@ -21,7 +21,7 @@ tree_of method.Refute = strategy.Lead
 -- The pair is admitted and has the lower figure, and no admitted pair has a delay above the upper
 -- one, so the worst delay lies between the two. The trees that were searched had at most as many
 -- nodes as the budget says.
-pub record IsBounded (asked : Problem) (budget low high : ℕ) (pair : Pair) (nodes : ℕ) : Type 0 where
+pub record IsBoundedAnswer (asked : Problem) (budget low high : ℕ) (pair : Pair) (nodes : ℕ) : Type 0 where
   pub reached : has_delay asked pair low
   pub greatest : IsUpperBound asked.setting asked.admit high
   pub ordered : low ≤ high
@@ -30,16 +30,16 @@ pub record IsBounded (asked : Problem) (budget low high : ℕ) (pair : Pair) (no
   pub small : high < 10 ^ 15
 
 -- an answer that says nothing of a tree that was cut short
-abbrev pub IsOutcome : Problem → ℕ → Answer → Type 0
-IsOutcome asked budget (answer.Exact time pair tree) = IsExact asked budget time pair tree
-IsOutcome asked budget (answer.Between low high pair nodes why) = IsBounded asked budget low high pair nodes
+abbrev pub IsSoundAnswer : Problem → ℕ → Answer → Type 0
+IsSoundAnswer asked budget (answer.Exact time pair tree) = IsExact asked budget time pair tree
+IsSoundAnswer asked budget (answer.Between low high pair nodes why) = IsBoundedAnswer asked budget low high pair nodes
 
 -- an answer of a method
 abbrev pub IsAnswerBy : Method → Problem → ℕ → Answer → Type 0
 IsAnswerBy method.Least asked budget found = IsAnswer asked budget found
 IsAnswerBy method.Lead asked budget found = IsAnswer asked budget found
-IsAnswerBy method.Refute asked budget found = IsOutcome asked budget found
-IsAnswerBy method.Auto asked budget found = IsOutcome asked budget found
+IsAnswerBy method.Refute asked budget found = IsSoundAnswer asked budget found
+IsAnswerBy method.Auto asked budget found = IsSoundAnswer asked budget found
 
 -- the upper figure, or the time of an exact answer
 abbrev pub high_of : Answer → ℕ

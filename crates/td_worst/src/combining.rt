@@ -4,7 +4,7 @@ ghost use Rattle.std.specs.Prelude.{◌≡◌, ◌⊎◌, ◌+◌, ◌≤◌, �
 ghost use Rattle.td_search.specs.Problems.{Problem as Asked};
 ghost use Rattle.td_search.specs.Written.{CanBeWritten};
 ghost use Rattle.td_search.specs.Answers.{low_of};
-ghost use Rattle.td_worst.specs.Methods.{high_of, IsNarrower, IsOutcome};
+ghost use Rattle.td_worst.specs.Methods.{high_of, IsNarrower, IsSoundAnswer};
 ghost use Rattle.td_worst.specs.OpenAnswer.{IsOpenAnswer};
 
 use crate::refuting::OpenAnswer;
@@ -14,9 +14,9 @@ use td_search::Answer;
 /// What two searches of one question know together: an answer that is exact, or else the better
 /// pair and the lesser bound.
 pub fn combined(first: Answer, second: Answer) -> Answer
-    ensures answer { (asked : Asked) (budget more : ℕ) → IsOutcome asked budget first → CanBeWritten asked first → IsOutcome asked more second
-        → CanBeWritten asked second → IsOutcome asked (budget + more) result × CanBeWritten asked result }
-    ensures narrower { (asked : Asked) (budget more : ℕ) → IsOutcome asked budget first → IsOutcome asked more second
+    ensures answer { (asked : Asked) (budget more : ℕ) → IsSoundAnswer asked budget first → CanBeWritten asked first → IsSoundAnswer asked more second
+        → CanBeWritten asked second → IsSoundAnswer asked (budget + more) result × CanBeWritten asked result }
+    ensures narrower { (asked : Asked) (budget more : ℕ) → IsSoundAnswer asked budget first → IsSoundAnswer asked more second
         → IsNarrower first result × IsNarrower second result }
 {
     match first {
@@ -36,9 +36,9 @@ pub fn combined(first: Answer, second: Answer) -> Answer
 
 // As `combined`, where this is known of a first search.
 fn with_second(first: OpenAnswer, second: Answer) -> Answer
-    ensures answer { (asked : Asked) (budget more : ℕ) → IsOpenAnswer asked budget first → IsOutcome asked more second → CanBeWritten asked second
-        → IsOutcome asked (budget + more) result × CanBeWritten asked result }
-    ensures narrower { (asked : Asked) (budget more : ℕ) → IsOpenAnswer asked budget first → IsOutcome asked more second
+    ensures answer { (asked : Asked) (budget more : ℕ) → IsOpenAnswer asked budget first → IsSoundAnswer asked more second → CanBeWritten asked second
+        → IsSoundAnswer asked (budget + more) result × CanBeWritten asked result }
+    ensures narrower { (asked : Asked) (budget more : ℕ) → IsOpenAnswer asked budget first → IsSoundAnswer asked more second
         → (first.best.time ≤ low_of result) × (high_of result ≤ first.high) × IsNarrower second result }
 {
     match second {

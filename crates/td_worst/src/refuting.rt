@@ -9,7 +9,7 @@ ghost use Rattle.td_search.specs.Answers.{low_of};
 ghost use Rattle.td_search.specs.Problems.{Problem as Asked, problem_of};
 ghost use Rattle.td_search.specs.Written.{CanBeWritten};
 ghost use Rattle.td_worst.specs.Leaves.{IsSpellable};
-ghost use Rattle.td_worst.specs.Methods.{high_of, IsNarrower, IsOutcome};
+ghost use Rattle.td_worst.specs.Methods.{high_of, IsNarrower, IsSoundAnswer};
 ghost use Rattle.td_worst.specs.OpenAnswer.{IsOpenAnswer};
 
 use crate::leaf::tree_of_leaf;
@@ -48,7 +48,7 @@ impl OpenAnswer {
     fn refuted(self, alloc: Global, refuted: &Refuted) -> Answer
         requires small { self.best.time < 10 ^ 15 }
         ensures answer { (asked : Asked) (budget : ℕ) → 0 < budget → IsSpellable asked → IsOpenAnswer asked budget self
-            → IsShown asked.setting asked.admit refuted.now → IsOutcome asked budget result × CanBeWritten asked result }
+            → IsShown asked.setting asked.admit refuted.now → IsSoundAnswer asked budget result × CanBeWritten asked result }
         ensures low { low_of result ≡ self.best.time }
         ensures high { self.best.time ≤ self.high → high_of result ≤ self.high }
     {
@@ -78,9 +78,9 @@ impl OpenAnswer {
 /// as many conflicts as the budget says. Where memory runs out, what was known stands.
 pub fn refuted_further(alloc: Global, problem: &Problem<'_>, known: Answer, budget: u64) -> Answer
     requires some { 0 < budget }
-    requires known { IsOutcome (problem_of problem.now) budget known }
+    requires known { IsSoundAnswer (problem_of problem.now) budget known }
     requires text { CanBeWritten (problem_of problem.now) known }
-    ensures answer { IsOutcome (problem_of problem.now) budget result }
+    ensures answer { IsSoundAnswer (problem_of problem.now) budget result }
     ensures text { CanBeWritten (problem_of problem.now) result }
     ensures narrower { IsNarrower known result }
 {
@@ -108,7 +108,7 @@ fn refute_open_answer(
 ) -> Answer
     requires some { 0 < budget }
     requires known { IsOpenAnswer (problem_of problem.now) budget known }
-    ensures answer { IsOutcome (problem_of problem.now) budget result }
+    ensures answer { IsSoundAnswer (problem_of problem.now) budget result }
     ensures text { CanBeWritten (problem_of problem.now) result }
     ensures low { known.best.time ≤ low_of result }
     ensures high { high_of result ≤ known.high }

@@ -5,7 +5,7 @@ ghost use Rattle.td_search.specs.Answers.{IsSearchFault};
 ghost use Rattle.td_search.specs.Problems.{problem_by};
 ghost use Rattle.td_search.specs.declared.strategy.Strategy.TheVariants as strategy;
 ghost use Rattle.td_search.specs.Written.{CanBeWritten};
-ghost use Rattle.td_worst.specs.Methods.{tree_of, IsAnswerBy, IsOutcome};
+ghost use Rattle.td_worst.specs.Methods.{tree_of, IsAnswerBy, IsSoundAnswer};
 
 use crate::combining::combined;
 use crate::method::Method;
@@ -73,7 +73,7 @@ fn by_refutation<W: Watch, R: Threads + Wait + Sync>(
     watch: &mut W,
 ) -> Result<Answer, SearchFault>
     requires held { length admit.now.held ≡ length circuit.now.netlist.inputs }
-    ensures answer { IfOk result (IsOutcome (problem_by strategy.Lead circuit.now admit.now) effort.budget) }
+    ensures answer { IfOk result (IsSoundAnswer (problem_by strategy.Lead circuit.now admit.now) effort.budget) }
     ensures text { IfOk result (CanBeWritten (problem_by strategy.Lead circuit.now admit.now)) }
     ensures fault { IfErr result (IsSearchFault (problem_by strategy.Lead circuit.now admit.now)) }
     ensures reported { W.reported (problem_by strategy.Lead circuit.now admit.now) watch.old watch.new }
@@ -105,7 +105,7 @@ fn by_all<W: Watch, R: Threads + Wait + Sync>(
     watch: &mut W,
 ) -> Result<Answer, SearchFault>
     requires held { length admit.now.held ≡ length circuit.now.netlist.inputs }
-    ensures answer { IfOk result (IsOutcome (problem_by strategy.Least circuit.now admit.now) effort.budget) }
+    ensures answer { IfOk result (IsSoundAnswer (problem_by strategy.Least circuit.now admit.now) effort.budget) }
     ensures text { IfOk result (CanBeWritten (problem_by strategy.Least circuit.now admit.now)) }
     ensures fault { IfErr result (IsSearchFault (problem_by strategy.Least circuit.now admit.now)) }
     ensures reported { W.reported (problem_by strategy.Least circuit.now admit.now) watch.old watch.new }
@@ -162,9 +162,9 @@ fn led_further<W: Watch, R: Threads + Wait + Sync>(
     watch: &mut W,
 ) -> Answer
     requires held { length admit.now.held ≡ length circuit.now.netlist.inputs }
-    ensures answer { (budget : ℕ) → IsOutcome (problem_by strategy.Least circuit.now admit.now) budget known
+    ensures answer { (budget : ℕ) → IsSoundAnswer (problem_by strategy.Least circuit.now admit.now) budget known
         → CanBeWritten (problem_by strategy.Least circuit.now admit.now) known
-        → IsOutcome (problem_by strategy.Least circuit.now admit.now) (budget + effort.budget) result
+        → IsSoundAnswer (problem_by strategy.Least circuit.now admit.now) (budget + effort.budget) result
         × CanBeWritten (problem_by strategy.Least circuit.now admit.now) result }
     ensures reported { W.reported (problem_by strategy.Least circuit.now admit.now) watch.old watch.new }
 {

@@ -5,7 +5,7 @@ use Rattle.td_circuit.specs.Numbering.{Numbered}
 use Rattle.td_run.specs.Runs.{NetWaves}
 use Rattle.td_report.specs.declared.refusal.Refusal.TheVariants.{NoOutput}
 use Rattle.td_report.specs.Outcomes.{HasNoPath}
-use Rattle.td_report.specs.Reports.{head_lines}
+use Rattle.td_report.specs.Reports.{unit_lines}
 use Rattle.td_report.specs.RunPaths.{HasNoneNamed}
 use Rattle.td_report.specs.Simulations.{IsSimulation}
 use Rattle.td_report.specs.Vectors.{words_of}
@@ -22,7 +22,7 @@ pub returns-in-Some-clause-report : goal.returns-in-Some-clause-report
 returns-in-Some-clause-report c =
     let reported = rw c.in-Some.is at c.in_ok-reported.ensures.reported in
     path_report c.args.text.now c.args.default c.args.from.now c.args.to.now (words_of c.args.at) c.in_ok-simulation.simulation.circuit
-    c.in_ok-simulation.simulation.run c.in_ok-simulation.ensures.is (words_of c.args.output) reported.0 (head_lines c.in_ok-simulation.simulation.circuit.netlist)
+    c.in_ok-simulation.simulation.run c.in_ok-simulation.ensures.is (words_of c.args.output) reported.0 (unit_lines c.in_ok-simulation.simulation.circuit.netlist)
     c.in-Some.report reported.2 refl reported.1
 
 pub returns-clause-refusal : goal.returns-clause-refusal

@@ -5,7 +5,7 @@ use Rattle.td_circuit.specs.Numbering.{setting}
 use Rattle.td_search.specs.declared.step.Step.TheVariants as step
 use Rattle.td_search.specs.Deciding.{IsStep}
 use Rattle.td_search.specs.Problems.{problem_of}
-use Rattle.td_search.specs.Splitting.{IsReached}
+use Rattle.td_search.specs.Splitting.{IsReachedDelay}
 use Rattle.td_search.proofs.Decided.{closed_there, split_there, point_there, by_reached}
 use Rattle.td_search.proofs.finding.find_bounded.Goals as goal
 
@@ -44,4 +44,4 @@ returns-in-Split-clause-finding g c =
     let cut = c.cut.ensures in
     split_there (problem_of given) c.args.cube.now g.R.Rule.by c.args.task.now.by c.cut.result c.in-Split.position c.in-Split.bound c.time-delay.result done (omega (arith, least, cut, same))
     (by_reached (problem_of given) c.args.cube.now g.R.Rule.by c.args.task.now.by c.cut.result c.requires.first c.time-delay.result
-    (λ lead. subst (λ (n : ℕ). IsReached (problem_of given) n) (sym same) (g.met.K.Keeper.reached (problem_of given) keeper c.look.ensures.keeps lead)))
+    (λ lead. subst (λ (n : ℕ). IsReachedDelay (problem_of given) n) (sym same) (g.met.K.Keeper.reached (problem_of given) keeper c.look.ensures.keeps lead)))

@@ -1,7 +1,7 @@
 use Rattle.std.proofs.Common.{◌≡◌, ◌+◌, List, [], ◌∷◌, ◌++◌, take, drop, sym, subst, inl, arith}
 use Rattle.std.specs.Prelude.{slice_get, slice_index_or, Some}
 use Rattle.td_search.specs.declared.findings.Finding.{Finding}
-use Rattle.td_search.specs.Findings.{AreTrue}
+use Rattle.td_search.specs.Findings.{AreTrueFindings}
 use Rattle.td_search.specs.Problems.{Problem, problem_by}
 use Rattle.td_search.proofs.Found.{nothing}
 use Rattle.td_pool.specs.declared.leaf.OpenLeaf.{OpenLeaf}
@@ -15,8 +15,8 @@ loop-finding-init g c =
     let leaf : OpenLeaf = c.in-Some.ensures.0 in
     let old : List OpenLeaf = c.args.self.now.leaves.items in
     let at : slice_get old c.in-Some.place ≡ Some leaf = subst (λ (l : List OpenLeaf). slice_get l c.in-Some.place ≡ Some leaf) c.deref.ensures.value c.in-Some.ensures.1 in
-    let found : AreTrue asked (c.args.evidence.now.cube ∷ []) c.deref-finding-items.result.now =
-    subst (λ (l : List Finding). AreTrue asked (c.args.evidence.now.cube ∷ []) l) (sym c.deref-finding-items.ensures.value) c.requires.evidence in
+    let found : AreTrueFindings asked (c.args.evidence.now.cube ∷ []) c.deref-finding-items.result.now =
+    subst (λ (l : List Finding). AreTrueFindings asked (c.args.evidence.now.cube ∷ []) l) (sym c.deref-finding-items.ensures.value) c.requires.evidence in
     record {
       walk = walk_begins asked (take c.in-Some.place old ++ drop (c.in-Some.place + 1) old) leaf c.args.evidence.now.cube c.deref-finding-items.result.now c.bring_last.new.self.leaves.items
           (c.bring_last.ensures leaf at) c.in-Some.ensures.2.1 found;

@@ -8,7 +8,7 @@ use Rattle.td_book.specs.Board.{position_of}
 use Rattle.td_book.specs.Grafting.{PrivateTree, cubes_left}
 use Rattle.td_search.specs.declared.findings.Finding.{Finding}
 use Rattle.td_search.specs.Below.{IsWithin}
-use Rattle.td_search.specs.Findings.{AreTrue, split_at, state_of}
+use Rattle.td_search.specs.Findings.{AreTrueFindings, split_at, state_of}
 use Rattle.td_search.specs.Problems.{Problem, problem_by}
 use Rattle.td_search.proofs.Found.{state_splits}
 use Rattle.td_search.proofs.Digs.{true_more, left_more, within_past}
@@ -43,7 +43,7 @@ returns-clause-below c =
           ∙ (map-append position_of old.subtree.states (s ∷ [])
           ∙ (joined was.positions (state_splits cut f)
           ∙ (sym (map-append split_at old.findings.items (f ∷ [])) ∙ sym (ap (λ (l : List Finding). map split_at l) findings))));
-      found = subst (λ (l : List Finding). AreTrue asked (c.args.lease.now.cube ∷ []) l) (sym findings)
+      found = subst (λ (l : List Finding). AreTrueFindings asked (c.args.lease.now.cube ∷ []) l) (sym findings)
           (true_more asked old.subtree.states old.findings.items (c.args.lease.now.cube ∷ []) cube coming.rest f was.positions was.found
           (subst (λ (q : List Trit). cubes_left old.subtree.states (q ∷ []) ≡ cube ∷ coming.rest) was.cube coming.is) holds);
       coming = subst (AllByRecursion (IsWithin asked)) (sym left) (within_past asked cube coming.rest f holds before);
