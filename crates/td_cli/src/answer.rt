@@ -184,6 +184,7 @@ fn cause_of(text: &mut Text, cause: Cause) -> Result<(), AllocError>
     match cause {
         Cause::Budget => text.push(b"budget")?,
         Cause::Memory => text.push(b"memory")?,
+        Cause::Time => text.push(b"time")?,
     }
     text.push(b"\n")
 }
