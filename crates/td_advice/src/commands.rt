@@ -426,7 +426,7 @@ fn search_cut_short(text: &mut Text, request: &WorstRequest<'_>) -> Result<(), A
     text.number_between(
         b"the search ended before it was done: ",
         u64::from(request.budget),
-        b" nodes are its budget, unless `cause` is memory; both figures are true",
+        b" nodes are its budget, unless `cause` is memory or time; both figures are true",
     )?;
     if let StrategyWord::Least = request.question.strategy {
         help(text, b"--strategy auto, which goes on by other ways")?;

@@ -29,6 +29,7 @@ pub(crate) fn explain(
         Refusal::Netlist(fault) => netlist_fault(text, netlist, *fault),
         Refusal::Loop(name) => on_loop(text, netlist.file, name),
         Refusal::NoPair => no_pair(text),
+        Refusal::NoTimer => no_timer(text),
         Refusal::OneFile(out, file) => one_file(text, out, file),
         Refusal::BadPart(name, fault) => certificate_fault(text, name, *fault),
         Refusal::Unaccepted(name, verdict) => not_accepted(text, name, *verdict),
@@ -49,6 +50,12 @@ pub(crate) fn memory(text: &mut Text) -> Result<(), AllocError> {
         text,
         b"give it more memory (ulimit -v shows the limit), or a smaller netlist, --budget or --workers",
     )
+}
+
+/// Appends what to do where a search can't be timed.
+fn no_timer(text: &mut Text) -> Result<(), AllocError> {
+    text.push(b"the system gives no thread for a timer, or no clock")?;
+    help(text, b"fewer --workers, or no --seconds: --budget limits a search too")
 }
 
 /// Appends what is wrong with the netlist's text, with the line.

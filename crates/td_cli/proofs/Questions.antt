@@ -14,13 +14,14 @@ use Rattle.td_domain.specs.Admits.{Admitted}
 use Rattle.td_certificate.specs.Spelling.{HasSpelling}
 use Rattle.td_search.specs.declared.answers.Answer.{Answer}
 use Rattle.td_search.specs.declared.answers.Answer.TheVariants as answer
-use Rattle.td_search.specs.declared.answers.SearchFault.{SearchFault}
+use Rattle.td_worst.specs.declared.fault.WorstFault.{WorstFault}
+use Rattle.td_worst.specs.declared.fault.WorstFault.TheVariants as worst
 use Rattle.td_search.specs.declared.answers.SearchFault.TheVariants as search
 use Rattle.td_worst.specs.declared.method.Method.{Method}
 use Rattle.td_worst.specs.Methods.{tree_of, IsSoundAnswer, IsAnswerBy}
 use Rattle.td_worst.proofs.Outcomes.{outcome_by}
 use Rattle.td_search.specs.Problems.{Problem, problem_by, has_delay}
-use Rattle.td_search.specs.Answers.{IsSearchFault}
+use Rattle.td_worst.specs.Faults.{IsWorstFault}
 use Rattle.td_search.specs.Written.{CanBeWritten}
 use Rattle.td_command.specs.declared.command.QuestionWords.{QuestionWords}
 use Rattle.td_report.specs.declared.vector.VectorWord.{VectorWord}
@@ -78,10 +79,11 @@ module _ (text : List ℕ) (reading : Reading) (words : QuestionWords) where
   asked_flips asked is = omega (arith, asked_held asked is, is.admits.flips, within_inputs (length asked.setting.netlist.inputs) words.flips)
 
   -- a search of what is asked has no answer
-  pub no_answer : (asked : Problem) (fault : SearchFault) → IsAsked text reading words asked → IsSearchFault asked fault
+  pub no_answer : (asked : Problem) (fault : WorstFault) → IsAsked text reading words asked → IsWorstFault false asked fault
       → HasNoAnswer text reading words (unanswered fault)
-  no_answer asked search.OutOfMemory is fits = tt
-  no_answer asked search.NoPair is none = (asked, is, λ pair admitted. none (pair, admitted, admitted.pinned))
+  no_answer asked (worst.Search search.OutOfMemory) is fits = tt
+  no_answer asked (worst.Search search.NoPair) is none = (asked, is, λ pair admitted. none (pair, admitted, admitted.pinned))
+  no_answer asked worst.NoTimer is timed = absurd (let isnt : false ≡ true = timed in cc)
 
 -- the certificate of an answer has a text
 pub certificate_spelled : (asked : Problem) (found : Answer) → CanBeWritten asked found → IfSome (certificate_in asked found) HasSpelling

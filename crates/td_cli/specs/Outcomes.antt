@@ -7,7 +7,8 @@ use Rattle.td_report.specs.declared.refusal.Refusal.{Refusal}
 use Rattle.td_report.specs.declared.refusal.Refusal.TheVariants as refusal
 use Rattle.td_domain.specs.Pairs.{Pair}
 use Rattle.td_domain.specs.Admits.{IsAdmitted}
-use Rattle.td_search.specs.declared.answers.SearchFault.{SearchFault}
+use Rattle.td_worst.specs.declared.fault.WorstFault.{WorstFault}
+use Rattle.td_worst.specs.declared.fault.WorstFault.TheVariants as fault
 use Rattle.td_search.specs.declared.answers.SearchFault.TheVariants as search
 use Rattle.td_search.specs.Problems.{Problem}
 use Rattle.td_report.specs.Vectors.{words_of, VectorWords, GivesMoments}
@@ -24,9 +25,10 @@ abbrev pub AdmitsNone : List ℕ → Reading → QuestionWords → Type 0
 AdmitsNone text reading words = (asked : Problem) × IsAsked text reading words asked × ((pair : Pair) → ¬ IsAdmitted asked.admit pair)
 
 -- the reason that tells a fault of a search
-abbrev pub unanswered : SearchFault → Refusal
-unanswered search.OutOfMemory = refusal.OutOfMemory
-unanswered search.NoPair = refusal.NoPair
+abbrev pub unanswered : WorstFault → Refusal
+unanswered (fault.Search search.OutOfMemory) = refusal.OutOfMemory
+unanswered (fault.Search search.NoPair) = refusal.NoPair
+unanswered fault.NoTimer = refusal.NoTimer
 
 -- why a search has no answer
 abbrev pub HasNoAnswer : List ℕ → Reading → QuestionWords → Refusal → Type 0

@@ -34,6 +34,7 @@ between_line low high = codes "between " ++ decimal low ++ codes " " ++ decimal 
 abbrev pub cause_name : Cause → List ℕ
 cause_name cause.Budget = codes "budget"
 cause_name cause.Memory = codes "memory"
+cause_name cause.Time = codes "time"
 
 abbrev pub cause_line : Cause → List ℕ
 cause_line why = codes "cause " ++ cause_name why ++ newline

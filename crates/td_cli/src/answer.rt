@@ -24,6 +24,7 @@ use td_report::refusal::Refusal;
 use td_report::report;
 use td_report::text::Text;
 use td_search::{Answer, Cause, SearchFault, Strategy, certificate_of};
+use td_worst::WorstFault;
 
 /// The report of a search, the certificate of an exact answer, and the waves of the given pair's
 /// run where a name is given for their file.
@@ -90,12 +91,13 @@ fn pair_in(answer: &Answer) -> &Pair
 }
 
 /// The refusal of a search without an answer.
-pub fn unanswered<'a>(fault: SearchFault) -> Refusal<'a>
+pub fn unanswered<'a>(fault: WorstFault) -> Refusal<'a>
     ensures { result ≡ unanswered fault }
 {
     match fault {
-        SearchFault::OutOfMemory => Refusal::OutOfMemory,
-        SearchFault::NoPair => Refusal::NoPair,
+        WorstFault::Search(SearchFault::OutOfMemory) => Refusal::OutOfMemory,
+        WorstFault::Search(SearchFault::NoPair) => Refusal::NoPair,
+        WorstFault::NoTimer => Refusal::NoTimer,
     }
 }
 
@@ -184,6 +186,7 @@ fn cause_of(text: &mut Text, cause: Cause) -> Result<(), AllocError>
     match cause {
         Cause::Budget => text.push(b"budget")?,
         Cause::Memory => text.push(b"memory")?,
+        Cause::Time => text.push(b"time")?,
     }
     text.push(b"\n")
 }

@@ -13,6 +13,7 @@ use std::alloc::Global;
 use std::convert::AsStr;
 use std::sync::Wait;
 use std::thread::Threads;
+use std::time::Clock;
 use td_command::{Request, parse};
 use td_delivery::overwriting::overwriting;
 use td_delivery::telling::{tell, tell_error, tell_refusal};
@@ -22,7 +23,7 @@ use td_text::Sink;
 
 /// Carries out the command that the words ask for: what it answers goes to `out`, why it was
 /// refused to `err`. The first word is the program's name.
-pub fn run<R: Threads + Wait + Sync, S: AsStr, F: Files, O: Sink, E: Sink>(
+pub fn run<R: Threads + Wait + Clock + Sync, S: AsStr, F: Files, O: Sink, E: Sink>(
     rt: &R,
     alloc: Global,
     words: &[S],
@@ -93,7 +94,7 @@ pub fn refuse_words<E: Sink>(err: &mut E, fault: ReadFault) -> Status
 }
 
 /// Carries out what is asked.
-pub fn carry_out<R: Threads + Wait + Sync, F: Files, O: Sink, E: Sink>(
+pub fn carry_out<R: Threads + Wait + Clock + Sync, F: Files, O: Sink, E: Sink>(
     rt: &R,
     alloc: Global,
     files: &mut F,
@@ -131,7 +132,7 @@ fn carry_out_plain<F: Files, O: Sink, E: Sink>(
 }
 
 /// Carries out what is asked, where no file of it is written over another.
-fn run_request<R: Threads + Wait + Sync, F: Files, O: Sink, E: Sink>(
+fn run_request<R: Threads + Wait + Clock + Sync, F: Files, O: Sink, E: Sink>(
     rt: &R,
     alloc: Global,
     files: &mut F,

@@ -12,6 +12,7 @@ use crate::worst::worst;
 use std::alloc::{AllocError, Global};
 use std::sync::Wait;
 use std::thread::Threads;
+use std::time::Clock;
 use td_command::WorstRequest;
 use td_delivery::telling::tell;
 use td_pool::{Progress, Unwatched, Watch};
@@ -80,7 +81,7 @@ fn take_back<E>(err: &mut E)
 
 /// As `worst`, with a line on standard error each time that the nodes handled have passed 1, 2 or
 /// 5 thousand, ten thousand and so on.
-fn watched<'a, 'v, R: Threads + Wait + Sync, E: Sink>(
+fn watched<'a, 'v, R: Threads + Wait + Clock + Sync, E: Sink>(
     rt: &R,
     alloc: Global,
     text: &'a [u8],
@@ -104,7 +105,7 @@ fn watched<'a, 'v, R: Threads + Wait + Sync, E: Sink>(
 }
 
 /// As `worst`, with lines that say how far the search has come where they are asked for.
-pub fn searched<'a, 'v, R: Threads + Wait + Sync, E: Sink>(
+pub fn searched<'a, 'v, R: Threads + Wait + Clock + Sync, E: Sink>(
     rt: &R,
     alloc: Global,
     text: &'a [u8],

@@ -18,6 +18,7 @@ use crate::question::{Asked, question_of, strategy_of};
 use std::alloc::Global;
 use std::sync::Wait;
 use std::thread::Threads;
+use std::time::Clock;
 use td_certificate::Certificate;
 use td_command::WorstRequest;
 use td_delivery::telling::{hand_over, tell_refusal, tell_unread};
@@ -27,9 +28,10 @@ use td_report::beside::Beside;
 use td_report::refusal::Refusal;
 use td_report::status::Status;
 use td_text::Sink;
+use td_worst::TimedEffort;
 
 /// Carries out `worst`.
-pub fn run<R: Threads + Wait + Sync, F: Files, O: Sink, E: Sink>(
+pub fn run<R: Threads + Wait + Clock + Sync, F: Files, O: Sink, E: Sink>(
     rt: &R,
     alloc: Global,
     files: &mut F,
@@ -53,7 +55,7 @@ pub fn run<R: Threads + Wait + Sync, F: Files, O: Sink, E: Sink>(
 /// 10,000,000 nodes: the report goes to `out`, unless a file does, then the certificate of an exact
 /// answer to its file, and then the waves of the given pair to theirs; why there is none goes to
 /// `err`, and before that, where it is asked for, lines that say how far the search has come.
-pub fn run_on<R: Threads + Wait + Sync, F: Files, O: Sink, E: Sink>(
+pub fn run_on<R: Threads + Wait + Clock + Sync, F: Files, O: Sink, E: Sink>(
     rt: &R,
     alloc: Global,
     files: &mut F,
@@ -100,7 +102,7 @@ fn ending(certificate: &Option<Certificate>) -> Status
 /// There are 1 to 64 workers, and they handle at most 10,000,000 nodes. Where the changes that lead
 /// to the last change of the given pair's run are asked for, they stand after the report's other
 /// lines. The watch gets the progress of the search.
-pub fn worst<'a, 'v, W: Watch, R: Threads + Wait + Sync>(
+pub fn worst<'a, 'v, W: Watch, R: Threads + Wait + Clock + Sync>(
     rt: &R,
     alloc: Global,
     text: &'a [u8],
@@ -123,9 +125,12 @@ pub fn worst<'a, 'v, W: Watch, R: Threads + Wait + Sync>(
 {
     let asked = question_of(alloc, text, request.reading, request.question)?;
     let method = strategy_of(request.question.strategy);
-    let effort = Effort {
-        workers: request.workers,
-        budget: u64::from(request.budget),
+    let effort = TimedEffort {
+        effort: Effort {
+            workers: request.workers,
+            budget: u64::from(request.budget),
+        },
+        seconds: None,
     };
     let searched = td_worst::worst(
         rt,

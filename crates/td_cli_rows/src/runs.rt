@@ -4,6 +4,7 @@ use std::alloc::Global;
 use std::sync::Wait;
 use std::test::*;
 use std::thread::Threads;
+use std::time::Clock;
 use td_cli::{MemoryFiles, ReadFault, refuse_words, run};
 use td_text::MemorySink;
 
@@ -20,7 +21,7 @@ pub struct Ended<'a> {
 pub const ROOM: usize = 1 << 16;
 
 /// Carries out a command over files in memory. Standard output takes `space` bytes, some at a time.
-pub fn carried_out<'a, R: Threads + Wait + Sync>(
+pub fn carried_out<'a, R: Threads + Wait + Clock + Sync>(
     rt: &R,
     alloc: Global,
     words: &[&str],
@@ -48,7 +49,7 @@ pub const FILES: [(&str, &[u8]); 2] = [("inverter.v", INVERTER), ("-", INVERTER)
 
 /// The status of a command whose reader fails after `readable` bytes, and whether the command
 /// reports that and shows nothing else.
-fn failing_to_read<R: Threads + Wait + Sync>(
+fn failing_to_read<R: Threads + Wait + Clock + Sync>(
     rt: &R,
     alloc: Global,
     readable: usize,

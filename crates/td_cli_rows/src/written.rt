@@ -5,6 +5,7 @@ use std::alloc::Global;
 use std::sync::Wait;
 use std::test::*;
 use std::thread::Threads;
+use std::time::Clock;
 use td_cli::{MemoryFile, MemoryFiles, MemoryStep};
 
 const CERTIFICATE: &[u8] = b"tdelay-cert 1\ncircuit 1 1\ntime 3\nfrom 0\nto 1\nb a 3\n";
@@ -47,7 +48,7 @@ fn are_both(steps: &[MemoryStep], certificate: &[u8], waves: &[u8]) -> bool {
 }
 
 /// Carries out a command over the inverter, whose files take `space` bytes.
-fn over_files<R: Threads + Wait + Sync>(
+fn over_files<R: Threads + Wait + Clock + Sync>(
     rt: &R,
     alloc: Global,
     words: &[&str],
@@ -59,7 +60,7 @@ fn over_files<R: Threads + Wait + Sync>(
 
 /// The status of a search that writes a certificate and waves, whether it reports, and whether it
 /// put them there in this order.
-fn writing_both<R: Threads + Wait + Sync>(rt: &R, alloc: Global) -> Result<(u8, bool, bool), Fail> {
+fn writing_both<R: Threads + Wait + Clock + Sync>(rt: &R, alloc: Global) -> Result<(u8, bool, bool), Fail> {
     let words = ["tdelay", "worst", "inverter.v", "--cert", "c", "--vcd", "o"];
     let ended = over_files(rt, alloc, &words, ROOM)?;
     let is_reported = ended.out.bytes() == REPORT && ended.err.bytes().is_empty();
@@ -76,7 +77,7 @@ fn waves_behind_a_certificate(rt: HostRuntime) -> Result<(), Fail> {
 
 /// The status of a run whose files take `space` bytes, whether the run reports this text, and
 /// whether it gives up the file of this name and does nothing else.
-fn failing<R: Threads + Wait + Sync>(
+fn failing<R: Threads + Wait + Clock + Sync>(
     rt: &R,
     alloc: Global,
     words: &[&str],

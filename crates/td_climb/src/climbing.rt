@@ -15,6 +15,7 @@ use std::alloc::{AllocError, Global};
 use std::marker::Model;
 use td_circuit::Circuit;
 use td_domain::{Admit, Bits, Pair};
+use td_stop::Stop;
 
 /// How many inputs a move changes at most.
 const PARTS: usize = 4;
@@ -119,25 +120,32 @@ impl Climb {
         })
     }
 
-    /// Tries `tries` more pairs, rounded up to a multiple of 64. It stops early where the best has
-    /// a delay that is enough, or where it met nothing better for long. Answers whether it is of
-    /// use to go on. The error is out of memory, and the climb may go on after it.
+    /// Tries `tries` more pairs, rounded up to a multiple of 64. It ends early where the best has a
+    /// delay that is enough, where it met nothing better for long, or once the stop is set. Answers
+    /// whether it is of use to go on. The error is out of memory, and the climb may go on after it.
     pub fn go_on(
         &mut self,
         circuit: &Circuit,
         admit: &Admit,
         tries: u32,
         enough: u64,
+        stop: &Stop,
     ) -> Result<bool, AllocError>
         requires { AreAdmitted admit.now self.old }
         ensures { AreAdmitted admit.now self.new }
     {
         for _ in 0..tries.div_ceil(LANES) {
-            if self.time >= enough || self.idle >= IDLE || !self.try_batch(circuit, admit)? {
+            if self.is_over(enough, stop) || !self.try_batch(circuit, admit)? {
                 return Ok(false);
             }
         }
         Ok(true)
+    }
+
+    /// Whether it is of no use to go on: the best has a delay that is enough, it met nothing better
+    /// for long, or the stop is set.
+    fn is_over(&self, enough: u64, stop: &Stop) -> bool {
+        self.time >= enough || self.idle >= IDLE || stop.is_set()
     }
 
     /// The delay of the best pair as the lanes say it, 0 before the first try.

@@ -101,8 +101,9 @@ fn met(
     }
     let start = representative(alloc, pins, admit)?;
     let mut climb = Climb::new(alloc, circuit, admit, start, 1)?;
-    climb.go_on(circuit, admit, first, u64::MAX)?;
-    climb.go_on(circuit, admit, then, u64::MAX)?;
+    let never = Stop::never();
+    climb.go_on(circuit, admit, first, u64::MAX, &never)?;
+    climb.go_on(circuit, admit, then, u64::MAX, &never)?;
     let said = climb.time();
     let pair = climb.into_pair();
     let delay = measured(alloc, circuit, &pair)?;

@@ -7,9 +7,11 @@ use crate::variables::WireVariable;
 use std::alloc::AllocError;
 use td_circuit::{Circuit, FIRST_INPUT, Gate};
 use td_solver::{ClauseNumber, Outcome};
+use td_stop::Stop;
 
 /// What became of a question: the clauses show that the net can't change so, by the lemma with a
-/// number; they have a model in which it does; or the budget of conflicts was used up.
+/// number; they have a model in which it does; or the budget of conflicts was used up, or the stop
+/// was set.
 #[derive(Clone, Copy, Debug, PartialEq, Eq, Drop)]
 pub enum Reply {
     Refuted(ClauseNumber),
@@ -26,8 +28,9 @@ impl Formula {
     }
 
     /// Asks whether the clauses that were named so far allow that a net changes to a level at the
-    /// moment of a variable of its level, until as many conflicts were met as `conflicts` says. The
-    /// clauses of the two variables that this is about are named. The error is out of memory.
+    /// moment of a variable of its level, until as many conflicts were met as `conflicts` says, or
+    /// the stop is set. The clauses of the two variables that this is about are named. The error is
+    /// out of memory.
     pub fn ask(
         &mut self,
         circuit: &Circuit,
@@ -35,6 +38,7 @@ impl Formula {
         number: u32,
         level: bool,
         conflicts: u64,
+        stop: &Stop,
     ) -> Result<Reply, AllocError> {
         let (before, there) = self.asked(net, number);
         self.ensure(circuit, before)?;
@@ -42,7 +46,7 @@ impl Formula {
         let was = self.numbered(before)?;
         let is = self.numbered(there)?;
         let assumptions = [Formula::literal(was, !level), Formula::literal(is, level)];
-        match self.solver.solve(&assumptions, conflicts)? {
+        match self.solver.solve(&assumptions, conflicts, stop)? {
             Outcome::Satisfied => Ok(Reply::Model),
             Outcome::Open => Ok(Reply::Open),
             Outcome::Refuted => match self.solver.refutation() {

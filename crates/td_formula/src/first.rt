@@ -11,6 +11,7 @@ use td_circuit::{Circuit, Gate};
 use td_clauses::{NetSets, add_net, target_changes};
 use td_domain::{Admit, Trit};
 use td_moments::{Changes, Directions};
+use td_stop::Stop;
 
 /// The sets of the first nets, and how many variables they have.
 #[derive(Drop)]
@@ -128,15 +129,19 @@ fn with_inputs(
     Ok(Some(all))
 }
 
-// The sets with those of the gates' outputs more; none where they have too many variables then. The
-// error is out of memory.
+// The sets with those of the gates' outputs more; none where they have too many variables then, or
+// the stop was set. The error is out of memory.
 fn with_gates(
     alloc: Global,
     building: Building,
     circuit: &Circuit,
+    stop: &Stop,
 ) -> Result<Option<Building>, AllocError> {
     let mut all = building;
     for gate in circuit.gates() {
+        if stop.is_set() {
+            return Ok(None);
+        }
         match with_gate(alloc, all, gate)? {
             Some(more) => all = more,
             None => return Ok(None),
@@ -145,12 +150,13 @@ fn with_gates(
     Ok(Some(all))
 }
 
-/// The first sets of the admitted pairs; none where they have too many variables. The error is out
-/// of memory.
+/// The first sets of the admitted pairs; none where they have too many variables, or the stop was
+/// set. The error is out of memory.
 pub fn first_sets(
     alloc: Global,
     circuit: &Circuit,
     admit: &Admit,
+    stop: &Stop,
 ) -> Result<Option<Sets>, AllocError> {
     let Some(constants) = constants(alloc)? else {
         return Ok(None);
@@ -158,7 +164,7 @@ pub fn first_sets(
     let Some(inputs) = with_inputs(alloc, constants, circuit, admit)? else {
         return Ok(None);
     };
-    match with_gates(alloc, inputs, circuit)? {
+    match with_gates(alloc, inputs, circuit, stop)? {
         Some(all) => Ok(Some(all.into_sets())),
         None => Ok(None),
     }

@@ -11,6 +11,7 @@ use td_circuit::Circuit;
 use td_domain::{Admit, Cube};
 use td_propagation::Literal;
 use td_solver::Solver;
+use td_stop::Stop;
 
 /// What is known of a variable of the solver.
 #[derive(Drop)]
@@ -61,13 +62,14 @@ fn names_of(alloc: Global, circuit: &Circuit) -> Result<Vec<u64>, AllocError> {
 
 impl Formula {
     /// The formula of the runs of the admitted pairs, with no clauses yet; none where the sets of
-    /// possible changes have too many variables. The error is out of memory.
+    /// possible changes have too many variables, or the stop was set. The error is out of memory.
     pub fn new(
         alloc: Global,
         circuit: &Circuit,
         admit: &Admit,
+        stop: &Stop,
     ) -> Result<Option<Formula>, AllocError> {
-        let Some(sets) = first_sets(alloc, circuit, admit)? else {
+        let Some(sets) = first_sets(alloc, circuit, admit, stop)? else {
             return Ok(None);
         };
         let numbers = vec![in alloc; 0u32; sets.variables()]?;

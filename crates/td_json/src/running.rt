@@ -16,6 +16,7 @@ use std::alloc::{AllocError, Global};
 use std::convert::AsStr;
 use std::sync::Wait;
 use std::thread::Threads;
+use std::time::Clock;
 use td_cli::{Files, Request, Status, carry_out, parse};
 use td_command::is_asked;
 use td_delivery::telling::{say, tell, tell_error};
@@ -73,7 +74,7 @@ fn show_held<O: Sink, E: Sink>(
 }
 
 /// Carries out what is asked, with its report as JSON.
-fn carry_out_json<R: Threads + Wait + Sync, F: Files, O: Sink, E: Sink>(
+fn carry_out_json<R: Threads + Wait + Clock + Sync, F: Files, O: Sink, E: Sink>(
     rt: &R,
     alloc: Global,
     files: &mut F,
@@ -93,7 +94,7 @@ fn carry_out_json<R: Threads + Wait + Sync, F: Files, O: Sink, E: Sink>(
 /// As `run` of `td_cli`, but with the report as JSON: files, messages, help and the status are the
 /// same. The report goes out after the files were written. Where a file goes to standard output,
 /// that is all that goes there.
-pub fn run_json<R: Threads + Wait + Sync, S: AsStr, F: Files, O: Sink, E: Sink>(
+pub fn run_json<R: Threads + Wait + Clock + Sync, S: AsStr, F: Files, O: Sink, E: Sink>(
     rt: &R,
     alloc: Global,
     words: &[S],

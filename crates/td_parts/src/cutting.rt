@@ -17,6 +17,7 @@ use crate::queue::Queue;
 use std::alloc::{AllocError, Global};
 use td_domain::{Cube, Trit};
 use td_search::{Lead, Least, Own, Problem, Rule, Strategy, Task};
+use td_stop::Stop;
 
 /// The zero side and the one side of a cube at a free position. The error is out of memory.
 fn sides(alloc: Global, cube: &Cube, position: usize) -> Result<(Cube, Cube), AllocError>
@@ -227,6 +228,7 @@ fn cut_by(alloc: Global, problem: &Problem<'_>, parts: usize) -> Result<Vec<Cube
     ensures few { IfOk result (λ cubes. length cubes.items ≤ max 1 parts) }
     ensures enough { IfOk result (λ cubes. length cubes.items < parts → All (IsWhole problem.now.strategy (setting problem.now.circuit.now)) cubes.items) }
 {
+    let stop = &Stop::never();
     match problem.strategy {
         Strategy::Least => {
             let rule = Least { prober: &Own };
@@ -234,6 +236,7 @@ fn cut_by(alloc: Global, problem: &Problem<'_>, parts: usize) -> Result<Vec<Cube
                 alloc,
                 problem,
                 rule: &rule,
+                stop,
             };
             cut_pins(&task, parts)
         }
@@ -242,6 +245,7 @@ fn cut_by(alloc: Global, problem: &Problem<'_>, parts: usize) -> Result<Vec<Cube
                 alloc,
                 problem,
                 rule: &Lead,
+                stop,
             };
             cut_pins(&task, parts)
         }

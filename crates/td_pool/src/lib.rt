@@ -13,6 +13,7 @@ mod history;
 mod kept;
 pub mod laws;
 mod leaf;
+mod limits;
 mod milestones;
 mod pool;
 mod shared;
@@ -22,8 +23,10 @@ mod subject;
 mod watch;
 mod working;
 
+pub use borrowed::{Borrowed, take_back};
 pub use deck::Deck;
 pub use effort::Effort;
 pub use hints::Hints;
+pub use limits::Limits;
 pub use pool::{search, worst, worst_by};
 pub use watch::{Progress, Unwatched, Watch};

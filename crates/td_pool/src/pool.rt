@@ -1,9 +1,9 @@
 //! The search by several workers.
 
-ghost use Rattle.std.specs.Prelude.{◌≡◌, ◌+◌, ◌<◌, ◌≤◌, max, [], length, map, vec_capacity, IfOk, IfErr, IfSome};
+ghost use Rattle.std.specs.Prelude.{◌≡◌, ◌+◌, ◌<◌, ◌≤◌, false, max, [], length, map, vec_capacity, IfOk, IfErr, IfSome};
 ghost use Rattle.std.specs.List.{AllByRecursion};
 ghost use Rattle.td_domain.specs.Admits.{HasAdmitted};
-ghost use Rattle.td_search.specs.Answers.{IsAnswer, IsSearchFault};
+ghost use Rattle.td_search.specs.Answers.{IsAnswer, IsSearchFault, TimeNeedsStop};
 ghost use Rattle.td_search.specs.Best.{IsBest};
 ghost use Rattle.td_search.specs.CutShort.{greatest_of};
 ghost use Rattle.td_search.specs.Findings.{IsTrueEvidence};
@@ -20,6 +20,7 @@ use crate::effort::Effort;
 use crate::found::{Crew, Found, Report, Start};
 use crate::hints::Hints;
 use crate::kept::Kept;
+use crate::limits::Limits;
 use crate::shared::Shared;
 use crate::starting::{first_best, shared_of, starting_of};
 use crate::state::State;
@@ -39,6 +40,7 @@ use td_search::{
     Answer, Best, Evidence, Lead, Least, Own, Prober, Problem, Root, Rule, SearchFault, SharedWork,
     Strategy, Task, alone_by, finish, root_of,
 };
+use td_stop::Stop;
 
 /// What a worker promises: all that it hands back is true of the admitted pairs of the circuit.
 #[derive(Drop)]
@@ -81,6 +83,7 @@ pub fn worst<P: Prober + Sync, R: Threads + Wait + Sync>(
     ensures answer { IfOk result (IsAnswer (problem circuit.now admit.now) budget) }
     // The certificate of an exact answer has a text within the limit.
     ensures text { IfOk result (CanBeWritten (problem circuit.now admit.now)) }
+    ensures time { IfOk result (TimeNeedsStop false) }
     ensures fault { IfErr result (IsSearchFault (problem circuit.now admit.now)) }
 {
     let decks = Deck::deal(alloc, workers as usize)?;
@@ -111,6 +114,7 @@ pub fn worst_by<P: Prober + Sync, D: Hints + Drop + Send, R: Threads + Wait + Sy
     requires decks { length decks.items ≡ workers }
     ensures answer { IfOk result (IsAnswer (problem circuit.now admit.now) budget) }
     ensures text { IfOk result (CanBeWritten (problem circuit.now admit.now)) }
+    ensures time { IfOk result (TimeNeedsStop false) }
     ensures fault { IfErr result (IsSearchFault (problem circuit.now admit.now)) }
 {
     let problem = Problem {
@@ -118,9 +122,12 @@ pub fn worst_by<P: Prober + Sync, D: Hints + Drop + Send, R: Threads + Wait + Sy
         admit,
         strategy: Strategy::Least,
     };
-    let effort = Effort { workers, budget };
+    let limits = Limits {
+        effort: Effort { workers, budget },
+        stop: &Stop::never(),
+    };
     let mut nobody = Unwatched;
-    search_by(rt, alloc, &problem, prober, decks, effort, &mut nobody)
+    search_by(rt, alloc, &problem, prober, decks, limits, &mut nobody)
 }
 
 /// Searches for the worst delay that is asked for. This thread is one of the workers. It reports
@@ -129,7 +136,8 @@ pub fn worst_by<P: Prober + Sync, D: Hints + Drop + Send, R: Threads + Wait + Sy
 /// report may come after the milestone, with the nodes that are handled by then. Where several
 /// milestones were passed meanwhile, it reports only the last. With one worker that nobody watches
 /// the answer is that of `alone_by`, which asks no prober. A thread that can't be started only
-/// lowers the number of workers.
+/// lowers the number of workers. Once the stop is set, no worker begins a further node, and the
+/// answer says what is known by then.
 ///
 /// # Errors
 ///
@@ -139,21 +147,24 @@ pub fn search<P: Prober + Sync, W: Watch, R: Threads + Wait + Sync>(
     alloc: Global,
     problem: &Problem<'_>,
     prober: &P,
-    effort: Effort,
+    limits: Limits<'_>,
     watch: &mut W,
 ) -> Result<Answer, SearchFault>
-    ensures answer { IfOk result (IsAnswer (problem_of problem.now) effort.budget) }
+    ensures answer { IfOk result (IsAnswer (problem_of problem.now) limits.effort.budget) }
     // The certificate of an exact answer has a text within the limit.
     ensures text { IfOk result (CanBeWritten (problem_of problem.now)) }
+    // Time is a cause only where the stop can be set.
+    ensures time { IfOk result (TimeNeedsStop limits.stop.now.can_be_set) }
     ensures fault { IfErr result (IsSearchFault (problem_of problem.now)) }
     // All progress that the watch got is true of what is asked.
     ensures reported { W.reported (problem_of problem.now) watch.old watch.new }
 {
+    let Limits { effort, stop } = limits;
     if effort.workers == 1 && !watch.is_looking() {
-        return alone_by(alloc, problem, effort.budget);
+        return alone_by(alloc, problem, effort.budget, stop);
     }
     let decks = Deck::deal(alloc, effort.workers as usize)?;
-    search_by(rt, alloc, problem, prober, decks, effort, watch)
+    search_by(rt, alloc, problem, prober, decks, limits, watch)
 }
 
 // As `search`, where the workers tell each other by these, one for each worker, which leaves may be
@@ -164,19 +175,21 @@ fn search_by<P: Prober + Sync, D: Hints + Drop + Send, W: Watch, R: Threads + Wa
     problem: &Problem<'_>,
     prober: &P,
     decks: Vec<D>,
-    effort: Effort,
+    limits: Limits<'_>,
     watch: &mut W,
 ) -> Result<Answer, SearchFault>
-    ensures answer { IfOk result (IsAnswer (problem_of problem.now) effort.budget) }
+    ensures answer { IfOk result (IsAnswer (problem_of problem.now) limits.effort.budget) }
     ensures text { IfOk result (CanBeWritten (problem_of problem.now)) }
+    ensures time { IfOk result (TimeNeedsStop limits.stop.now.can_be_set) }
     ensures fault { IfErr result (IsSearchFault (problem_of problem.now)) }
     ensures reported { W.reported (problem_of problem.now) watch.old watch.new }
 {
     if !problem.admit.any(problem.admit.pins()) {
         return Err(SearchFault::NoPair);
     }
-    let work = shared_work(rt, alloc, problem, prober, decks, effort, watch)?;
-    Ok(finish(alloc, problem, work, effort.budget))
+    let work = shared_work(rt, alloc, problem, prober, decks, limits, watch)?;
+    let Limits { effort, stop } = limits;
+    Ok(finish(alloc, problem, work, effort.budget, stop))
 }
 
 // What the workers find by the rule of the strategy. The error is out of memory before they begin.
@@ -186,13 +199,14 @@ fn shared_work<P: Prober + Sync, D: Hints + Drop + Send, W: Watch, R: Threads + 
     problem: &Problem<'_>,
     prober: &P,
     decks: Vec<D>,
-    effort: Effort,
+    limits: Limits<'_>,
     watch: &mut W,
 ) -> Result<SharedWork, AllocError>
     requires any { HasAdmitted problem.now.admit.now problem.now.admit.now.pins }
     ensures work { IfOk result (IsShared (problem_of problem.now)) }
     ensures reported { W.reported (problem_of problem.now) watch.old watch.new }
 {
+    let Limits { effort, stop } = limits;
     match problem.strategy {
         Strategy::Least => {
             let rule = Least { prober };
@@ -200,6 +214,7 @@ fn shared_work<P: Prober + Sync, D: Hints + Drop + Send, W: Watch, R: Threads + 
                 alloc,
                 problem,
                 rule: &rule,
+                stop,
             };
             search_with(rt, &task, decks, effort, watch)
         }
@@ -208,6 +223,7 @@ fn shared_work<P: Prober + Sync, D: Hints + Drop + Send, W: Watch, R: Threads + 
                 alloc,
                 problem,
                 rule: &Lead,
+                stop,
             };
             search_with(rt, &task, decks, effort, watch)
         }

@@ -32,8 +32,8 @@ pub struct Worker<'a, D, L: Ledger> {
     pub share: Share<L>,
 }
 
-// Splits and closes below a leaf, depth first, zero side first, until nothing is left there, the
-// allowance is used up, or memory runs out: then it answers false.
+// Splits and closes below a leaf, depth first, zero side first, until nothing is left there or the
+// allowance is used up. Answers false where memory runs out before, or the stop is set.
 fn work_below<R: Rule>(
     task: &Task<'_, R>,
     scratch: &mut R::Scratch,
@@ -49,6 +49,9 @@ fn work_below<R: Rule>(
     ensures below { IsBelow (problem_of task.now.problem.now) lease.now below.new }
 {
     for _ in 0..lease.allowance {
+        if task.stop.is_set() {
+            return false;
+        }
         let Some(cube) = below.next(task.problem, lease) else {
             return true;
         };
@@ -72,7 +75,7 @@ fn tell<D: Hints>(deck: &mut D, opened: &[u32]) {
 
 // Handles a leaf, and as much below it as its lease allows, and tells the book under one hold of
 // the lock, then the worker's deck. What was found becomes evidence. No lock is held meanwhile.
-// Answers whether the worker may go on: not at out of memory.
+// Answers whether the worker may go on: not at out of memory, and not once the stop is set.
 fn handle<L: Subject, Q: Rule, D: Hints, R: Wait>(
     rt: &R,
     task: &Task<'_, Q>,
@@ -154,8 +157,9 @@ fn tell_progress<L: Subject, W: Watch, R: Wait>(
     watch.passed(problem, progress);
 }
 
-/// Handles leaves until the book gives none or memory runs out, and tells a watch of each milestone
-/// that the search has passed when the worker has handled a leaf. All that it hands back is true.
+/// Handles leaves until the book gives none, memory runs out, or the stop is set, and tells a watch
+/// of each milestone that the search has passed when the worker has handled a leaf. All that it
+/// hands back is true.
 pub fn work<L: Subject, Q: Rule, D: Hints + Drop, W: Watch, R: Wait>(
     rt: &R,
     task: &Task<'_, Q>,
@@ -237,7 +241,7 @@ fn work_on<L: Subject, Q: Rule, D: Hints, W: Watch, R: Wait>(
     tell_progress(rt, task.problem, shared, &mut milestone, watch);
 }
 
-// Handles leaves until the book gives none or memory runs out.
+// Handles leaves until the book gives none, memory runs out, or the stop is set.
 fn handle_all<L: Subject, Q: Rule, D: Hints, W: Watch, R: Wait>(
     rt: &R,
     task: &Task<'_, Q>,

@@ -12,8 +12,9 @@ use td_circuit::{Circuit, build};
 use td_domain::Admit;
 use td_gates::Delay;
 use td_netlist::read;
-use td_pool::{Effort, Hints, Unwatched, search, worst, worst_by};
+use td_pool::{Effort, Hints, Limits, Unwatched, search, worst, worst_by};
 use td_search::{Answer, Own, Prober, Problem, SearchFault, Strategy, alone};
+use td_stop::Stop;
 
 /// A pulse that is lost.
 pub const LOST: &str =
@@ -156,8 +157,11 @@ pub fn found_with<R: Threads + Wait + Sync + Abort>(
         admit: &asked.admit,
         strategy: Strategy::Least,
     };
-    let effort = Effort { workers, budget };
-    as_reported(&search(rt, alloc, &problem, &Own, effort, &mut Unwatched))
+    let limits = Limits {
+        effort: Effort { workers, budget },
+        stop: &Stop::never(),
+    };
+    as_reported(&search(rt, alloc, &problem, &Own, limits, &mut Unwatched))
 }
 
 /// What a search of all pairs by a worker for each of these decks comes to.

@@ -11,3 +11,5 @@ mod prober;
 mod refusals;
 #[cfg(test)]
 mod searches;
+#[cfg(test)]
+mod stops;

@@ -23,10 +23,10 @@ pub struct Limits {
     pub tries: u32,
 }
 
-impl Search {
+impl Search<'_> {
     /// Asks whether a net can change to a level at the moment of a variable. Where the clauses that
     /// were named allow it, but the run of the pair doesn't do so, those are named that forbid it,
-    /// and it is asked again.
+    /// and it is asked again. It stays open where the stop is set.
     pub fn ask(
         &mut self,
         asked: &Asked<'_>,
@@ -37,13 +37,14 @@ impl Search {
     ) -> Result<Found, AllocError> {
         for _ in 0..limits.tries {
             let left = limits.end.saturating_sub(self.conflicts());
-            if left == 0 {
+            if left == 0 || self.is_stopped() {
                 return Ok(Found::Open);
             }
             let conflicts = limits.each.min(left);
+            let stop = self.effort.stop;
             match self
                 .formula
-                .ask(asked.circuit(), net, number, level, conflicts)?
+                .ask(asked.circuit(), net, number, level, conflicts, stop)?
             {
                 Reply::Open => return Ok(Found::Open),
                 Reply::Refuted(lemma) => {

@@ -6,7 +6,7 @@ use crate::search::Search;
 use std::alloc::AllocError;
 use td_formula::{WireVariable, read, write_at};
 
-impl Search {
+impl Search<'_> {
     /// Goes from two variables along wrong ones to those from which they follow, and names the
     /// clauses of the wrong ones that have none. Answers whether there are some.
     pub fn blame(

@@ -9,7 +9,7 @@ use td_circuit::Circuit;
 // How often a question at an output is asked again at most.
 const TRIES: u32 = 10_000;
 
-impl Search {
+impl Search<'_> {
     /// Asks at the outputs until no one can change later than in the best run, for at most
     /// `conflicts` conflicts. Answers whether it came to that.
     pub fn ask_outputs(&mut self, asked: &Asked<'_>, conflicts: u64) -> Result<bool, AllocError> {

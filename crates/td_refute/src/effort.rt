@@ -1,9 +1,11 @@
 //! How much a search does.
 
+use td_stop::Stop;
+
 /// How much a search does, in conflicts that its solver meets, so that it finds the same on each
-/// machine.
-#[derive(Clone, Copy, Debug, PartialEq, Eq, Drop)]
-pub struct Effort {
+/// machine, unless its stop ends it.
+#[derive(Clone, Copy, Drop)]
+pub struct Effort<'a> {
     /// Conflicts of all questions.
     pub all: u64,
     /// Conflicts of the first questions at the outputs.
@@ -18,11 +20,15 @@ pub struct Effort {
     pub sweeps: u32,
     /// How many bytes the lines of the steps may have.
     pub bytes: u64,
+    /// Once it is set, the search ends.
+    pub stop: &'a Stop,
 }
 
-impl Effort {
-    /// The effort that is made where no other is asked for.
-    pub fn new() -> Effort {
+impl<'a> Effort<'a> {
+    /// The effort that is made where no other is asked for, until a stop is set.
+    pub fn until(stop: &'a Stop) -> Effort<'a>
+        ensures { result.stop.now ≡ stop.now }
+    {
         Effort {
             all: 400_000,
             first: 5_000,
@@ -31,6 +37,7 @@ impl Effort {
             growth: 10,
             sweeps: 2,
             bytes: 268_000_000,
+            stop,
         }
     }
 }

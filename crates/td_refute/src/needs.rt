@@ -74,7 +74,7 @@ fn no_uses(alloc: Global, rounds: &[Round]) -> Result<Vec<Vec<Uses>>, AllocError
 /// What it rests on that no output can change above a bound.
 pub fn needs_of(
     alloc: Global,
-    search: &Search,
+    search: &Search<'_>,
     circuit: &Circuit,
     bound: u64,
 ) -> Result<Needs, AllocError> {
@@ -98,7 +98,7 @@ pub fn needs_of(
 // A round of a search, over which one goes back.
 #[derive(Drop)]
 struct Past<'a> {
-    search: &'a Search,
+    search: &'a Search<'a>,
     circuit: &'a Circuit,
     round: &'a Round,
     number: usize,
@@ -166,7 +166,7 @@ impl Needs {
     }
 
     // Goes back over all rounds, from what is wanted in the end.
-    fn go_back(&mut self, search: &Search, circuit: &Circuit) {
+    fn go_back(&mut self, search: &Search<'_>, circuit: &Circuit) {
         let mut acts = search.log.events.len();
         for number in (0..search.log.rounds.len()).rev() {
             if let Some(round) = search.log.rounds.get(number) {

@@ -21,6 +21,9 @@ use td_formula::read;
 use td_lead::Timed;
 use td_refutation::Step;
 
+/// The greatest size of a search of which a bound is still shown once its stop is set.
+const MOST_AFTER_STOP: usize = 1_000_000;
+
 /// A bound of the delays of the admitted pairs, and the steps that show it.
 #[derive(Drop)]
 pub struct Refuted {
@@ -32,7 +35,8 @@ pub struct Refuted {
 
 /// Searches for late pairs and for a refutation of later ones, from a pair that is known with its
 /// delay on, which a later one replaces. Answers the least bound that was shown; none where the
-/// circuit is too large for steps. The error is out of memory.
+/// circuit is too large for steps, or where the stop was set and it would take long to show one. The
+/// error is out of memory.
 ///
 /// Where the bound is the best pair's delay, that is the worst delay.
 pub fn refute(
@@ -41,7 +45,7 @@ pub fn refute(
     circuit: &Circuit,
     admit: &Admit,
     best: &mut Timed,
-    effort: Effort,
+    effort: Effort<'_>,
 ) -> Result<Option<Refuted>, AllocError>
     requires scratch { IsFor circuit.now scratch.old }
     requires held { length admit.now.held ≡ length circuit.now.netlist.inputs }
@@ -63,37 +67,55 @@ pub fn refute(
         conflicts,
     } = findings;
     keep_found(alloc, scratch, &asked, found, best)?;
-    show(alloc, circuit, admit, best, steps, conflicts)
+    match steps {
+        Some(steps) => show(alloc, circuit, admit, best, steps, conflicts),
+        None => Ok(None),
+    }
 }
 
-// What a search found: the bits of a pair that it takes to be later, and steps.
+// What a search found: the bits of a pair that it takes to be later, and steps, unless they would
+// take too long.
 #[derive(Drop)]
 struct Findings {
     found: Option<Vec<Bit>>,
-    steps: Vec<Step>,
+    steps: Option<Vec<Step>>,
     conflicts: u64,
 }
 
 // Searches, from the delay of the pair that is known. Nothing is said of what it finds; none where
-// the circuit is too large for steps. The error is out of memory.
+// the circuit is too large for steps, or the stop was set at the start. The error is out of memory.
 fn run_search(
     alloc: Global,
     asked: &Asked<'_>,
     low: u64,
-    effort: Effort,
+    effort: Effort<'_>,
 ) -> Result<Option<Findings>, AllocError> {
     let Some(mut search) = Search::new(alloc, asked, low, effort)? else {
         return Ok(None);
     };
     search.go(asked)?;
     search.renew()?;
-    let trimmed = shortest(alloc, &search, asked.circuit())?;
+    let steps = steps_in_time(alloc, &search, asked.circuit())?;
     let conflicts = search.conflicts();
     Ok(Some(Findings {
         found: search.found,
-        steps: trimmed.steps,
+        steps,
         conflicts,
     }))
+}
+
+// The steps of the least bound whose lines aren't too long; none where the stop was set and they
+// would take long.
+fn steps_in_time(
+    alloc: Global,
+    search: &Search<'_>,
+    circuit: &Circuit,
+) -> Result<Option<Vec<Step>>, AllocError> {
+    if search.is_stopped() && search.size() > MOST_AFTER_STOP {
+        return Ok(None);
+    }
+    let trimmed = shortest(alloc, search, circuit)?;
+    Ok(Some(trimmed.steps))
 }
 
 // Measures the pair that a search found, if it found one, and keeps it where it is later. The error
@@ -173,7 +195,7 @@ fn show(
 // The moments above a bound at which outputs could change first, in order, each once.
 fn moments_above(
     alloc: Global,
-    search: &Search,
+    search: &Search<'_>,
     circuit: &Circuit,
     bound: u64,
 ) -> Result<Vec<u64>, AllocError> {
@@ -193,7 +215,7 @@ fn moments_above(
 }
 
 // The steps of the least bound whose lines aren't too long.
-fn shortest(alloc: Global, search: &Search, circuit: &Circuit) -> Result<Trimmed, AllocError> {
+fn shortest(alloc: Global, search: &Search<'_>, circuit: &Circuit) -> Result<Trimmed, AllocError> {
     let high = search.high(circuit).max(search.low);
     let whole = steps_for(alloc, search, circuit, high)?;
     if whole.bytes <= search.effort.bytes {

@@ -12,9 +12,9 @@ use td_solver::ClauseNumber;
 
 /// A search under way.
 #[derive(Drop)]
-pub struct Search {
+pub struct Search<'a> {
     pub alloc: Global,
-    pub effort: Effort,
+    pub effort: Effort<'a>,
     pub formula: Formula,
     pub log: Log,
     /// By net the latest moment of a change in a run that was seen.
@@ -33,16 +33,17 @@ const RUNS: usize = 2_000_000;
 
 const MOST_PAIRS: usize = 4_000;
 
-impl Search {
-    /// A search that has asked nothing yet; none where the sets have too many variables. The error
-    /// is out of memory.
+impl<'a> Search<'a> {
+    /// A search that has asked nothing yet; none where the sets have too many variables, or the
+    /// stop was set. The error is out of memory.
     pub fn new(
         alloc: Global,
         asked: &Asked<'_>,
         low: u64,
-        effort: Effort,
-    ) -> Result<Option<Search>, AllocError> {
-        let Some(formula) = Formula::new(alloc, asked.circuit(), asked.admit())? else {
+        effort: Effort<'a>,
+    ) -> Result<Option<Search<'a>>, AllocError> {
+        let first = Formula::new(alloc, asked.circuit(), asked.admit(), effort.stop)?;
+        let Some(formula) = first else {
             return Ok(None);
         };
         let nets = asked.circuit().net_count();
@@ -136,11 +137,28 @@ impl Search {
         Ok(run)
     }
 
+    /// Whether the search is to end at once.
+    pub fn is_stopped(&self) -> bool {
+        self.effort.stop.is_set()
+    }
+
+    /// How many variables and clauses it takes to show what was found.
+    pub fn size(&self) -> usize {
+        let mut size = self.formula.sets().variables();
+        for round in &self.log.rounds {
+            size = size.saturating_add(round.derivation.len());
+        }
+        size
+    }
+
     /// Looks at the runs of pairs that are drawn.
     pub fn look_around(&mut self, asked: &Asked<'_>) -> Result<(), AllocError> {
         let gates = asked.circuit().gates().len().max(1);
         let mut draws = Draws { state: 99 };
         for pair in 0..(RUNS / gates).min(MOST_PAIRS) {
+            if self.is_stopped() {
+                return Ok(());
+            }
             let mut bits = Vec::new(self.alloc);
             for _ in 0..asked.circuit().input_count() {
                 let first = draws.below(2) == 1;
@@ -156,9 +174,12 @@ impl Search {
         Ok(())
     }
 
-    /// Forgets what was asked and found of the sets, but no run.
+    /// Forgets what was asked and found of the sets, but no run. Answers false where the stop was
+    /// set, and then nothing is forgotten.
     pub fn forget(&mut self, asked: &Asked<'_>) -> Result<bool, AllocError> {
-        let Some(formula) = Formula::new(self.alloc, asked.circuit(), asked.admit())? else {
+        let stop = self.effort.stop;
+        let again = Formula::new(self.alloc, asked.circuit(), asked.admit(), stop)?;
+        let Some(formula) = again else {
             return Ok(false);
         };
         self.spent = self.conflicts();
@@ -176,7 +197,8 @@ impl Search {
         Ok(())
     }
 
-    /// Searches until the best is shown to be the worst delay, or the effort is used up.
+    /// Searches until the best is shown to be the worst delay, the effort is used up, or the stop
+    /// is set.
     pub fn go(&mut self, asked: &Asked<'_>) -> Result<(), AllocError> {
         if self.is_done(asked.circuit()) || self.ask_outputs(asked, self.effort.first)? {
             return Ok(());
@@ -194,7 +216,7 @@ impl Search {
             if self.is_done(asked.circuit()) || self.ask_outputs(asked, self.effort.middle)? {
                 return Ok(());
             }
-            if open == 0 {
+            if open == 0 || self.is_stopped() {
                 return Ok(());
             }
             conflicts = conflicts.saturating_mul(self.effort.growth);

@@ -37,11 +37,11 @@ fn ways_of(alloc: Global, circuit: &Circuit) -> Result<Vec<u64>, AllocError> {
     Ok(ways)
 }
 
-impl Search {
+impl Search<'_> {
     /// Asks at the nets of all gates in order. At each net it asks from the latest moment down,
     /// while that is later than in any run that was seen and can lead to an output later than the
     /// best. A try may meet at most `conflicts` conflicts. Answers how many nets were left with an
-    /// open question.
+    /// open question. It ends at the net where the stop is set.
     pub fn sweep(&mut self, asked: &Asked<'_>, conflicts: u64) -> Result<u64, AllocError> {
         let ways = ways_of(self.alloc, asked.circuit())?;
         let limits = Limits {
@@ -52,6 +52,9 @@ impl Search {
         let mut open = 0u64;
         let first_output = asked.circuit().first_gate() as usize;
         for net in first_output..asked.circuit().net_count() {
+            if self.is_stopped() {
+                return Ok(open);
+            }
             let number = small(net);
             self.take_again(asked, number)?;
             let way = read(&ways, net, 0);

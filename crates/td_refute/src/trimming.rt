@@ -28,7 +28,7 @@ pub struct Trimmed {
 // A round of a search, and what a bound rests on.
 #[derive(Drop)]
 struct Source<'a> {
-    search: &'a Search,
+    search: &'a Search<'a>,
     needs: &'a Needs,
     round: &'a Round,
     number: usize,
@@ -37,7 +37,7 @@ struct Source<'a> {
 /// The steps that show that no output can change above a bound.
 pub fn steps_for(
     alloc: Global,
-    search: &Search,
+    search: &Search<'_>,
     circuit: &Circuit,
     bound: u64,
 ) -> Result<Trimmed, AllocError> {

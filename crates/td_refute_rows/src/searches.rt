@@ -16,6 +16,7 @@ use td_lead::Timed;
 use td_netlist::read;
 use td_refute::{Effort, refute};
 use td_search::representative;
+use td_stop::Stop;
 
 /// A pulse of one step that the second gate swallows.
 const PULSE: &str =
@@ -58,7 +59,7 @@ fn found_from(
     admit: &Admit,
     scratch: &mut Scratch,
     start: Timed,
-    effort: Effort,
+    effort: Effort<'_>,
 ) -> Result<Option<Found>, AllocError>
     requires scratch { IsFor circuit.now scratch.old }
     requires held { length admit.now.held ≡ length circuit.now.netlist.inputs }
@@ -77,7 +78,11 @@ fn found_from(
 }
 
 /// What a search finds among all pairs of a circuit.
-fn found_in(alloc: Global, circuit: &Circuit, effort: Effort) -> Result<Option<Found>, AllocError> {
+fn found_in(
+    alloc: Global,
+    circuit: &Circuit,
+    effort: Effort<'_>,
+) -> Result<Option<Found>, AllocError> {
     let _few = circuit.gates();
     let admit = Admit::all(alloc, circuit.input_count())?;
     let pins = admit.pins();
@@ -109,7 +114,7 @@ fn timed(
 }
 
 /// What a search finds among all pairs of the circuit of a text.
-fn found_in_text(alloc: Global, text: &str, effort: Effort) -> Option<Found> {
+fn found_in_text(alloc: Global, text: &str, effort: Effort<'_>) -> Option<Found> {
     let circuit = circuit_of(alloc, text)?;
     match found_in(alloc, &circuit, effort) {
         Ok(found) => found,
@@ -118,15 +123,15 @@ fn found_in_text(alloc: Global, text: &str, effort: Effort) -> Option<Found> {
 }
 
 /// The effort that a search makes without questions.
-fn no_effort() -> Effort {
-    let mut effort = Effort::new();
+fn no_effort(stop: &Stop) -> Effort<'_> {
+    let mut effort = Effort::until(stop);
     effort.all = 0;
     effort
 }
 
 #[test]
 fn a_pulse_that_is_swallowed(rt: HostRuntime) -> Result<(), Fail> {
-    let found = found_in_text(rt.alloc(), PULSE, Effort::new()).ok_or("found")?;
+    let found = found_in_text(rt.alloc(), PULSE, Effort::until(&Stop::never())).ok_or("found")?;
     assert_eq!(rt; (found.low, found.high), (0, 0));
     assert!(rt; found.steps > 0);
     Ok(())
@@ -134,7 +139,7 @@ fn a_pulse_that_is_swallowed(rt: HostRuntime) -> Result<(), Fail> {
 
 #[test]
 fn a_way_that_is_false(rt: HostRuntime) -> Result<(), Fail> {
-    let found = found_in_text(rt.alloc(), FALSE_WAY, Effort::new()).ok_or("found")?;
+    let found = found_in_text(rt.alloc(), FALSE_WAY, Effort::until(&Stop::never())).ok_or("found")?;
     assert_eq!(rt; (found.low, found.high), (9, 9));
     assert!(rt; found.steps > 0);
     Ok(())
@@ -142,22 +147,31 @@ fn a_way_that_is_false(rt: HostRuntime) -> Result<(), Fail> {
 
 #[test]
 fn a_wide_gate(rt: HostRuntime) -> Result<(), Fail> {
-    let found = found_in_text(rt.alloc(), WIDE, Effort::new()).ok_or("found")?;
+    let found = found_in_text(rt.alloc(), WIDE, Effort::until(&Stop::never())).ok_or("found")?;
     assert_eq!(rt; found.low, found.high);
     Ok(())
 }
 
 #[test]
 fn without_conflicts_the_bound_is_that_of_the_first_sets(rt: HostRuntime) -> Result<(), Fail> {
-    let found = found_in_text(rt.alloc(), FALSE_WAY, no_effort()).ok_or("found")?;
+    let found = found_in_text(rt.alloc(), FALSE_WAY, no_effort(&Stop::never())).ok_or("found")?;
     assert_eq!(rt; (found.high, found.steps, found.conflicts), (14, 0, 0));
     Ok(())
 }
 
 #[test]
 fn an_answer_is_the_same_again(rt: HostRuntime) -> Result<(), Fail> {
-    let first = found_in_text(rt.alloc(), FALSE_WAY, Effort::new()).ok_or("found")?;
-    let again = found_in_text(rt.alloc(), FALSE_WAY, Effort::new()).ok_or("found")?;
+    let first = found_in_text(rt.alloc(), FALSE_WAY, Effort::until(&Stop::never())).ok_or("found")?;
+    let again = found_in_text(rt.alloc(), FALSE_WAY, Effort::until(&Stop::never())).ok_or("found")?;
     assert_eq!(rt; first, again);
+    Ok(())
+}
+
+#[test]
+fn a_stop_that_is_set_ends_it_at_once(rt: HostRuntime) -> Result<(), Fail> {
+    let stop = Stop::new();
+    stop.set();
+    let found = found_in_text(rt.alloc(), FALSE_WAY, Effort::until(&stop));
+    assert_eq!(rt; found, None);
     Ok(())
 }

@@ -38,6 +38,7 @@ streams out err = record { out = out; err = err }
 abbrev pub status_of : Refusal → Status
 status_of refusal.OutOfMemory = Device
 status_of (refusal.Unreadable name) = Device
+status_of refusal.NoTimer = Device
 status_of (refusal.BadVector word) = BadCommand
 status_of refusal.NoOutput = BadCommand
 status_of (refusal.OneFile out file) = BadCommand

@@ -12,7 +12,7 @@ use Rattle.td_certificate.specs.Kinds.{kind_number, kind_name}
 use Rattle.td_report.specs.declared.vector.VectorWord.{VectorWord}
 use Rattle.td_report.specs.declared.vector.VectorWord.TheVariants as vector
 use Rattle.td_report.specs.declared.refusal.Refusal.{Refusal}
-use Rattle.td_report.specs.declared.refusal.Refusal.TheVariants.{OutOfMemory, Unreadable, Netlist, Loop, Certificate, BadVector, NoOutput, NoPair, OneFile, BadPart, Unaccepted, OtherCircuit, NotJoined, TooLong}
+use Rattle.td_report.specs.declared.refusal.Refusal.TheVariants.{OutOfMemory, Unreadable, Netlist, Loop, Certificate, BadVector, NoOutput, NoPair, NoTimer, OneFile, BadPart, Unaccepted, OtherCircuit, NotJoined, TooLong}
 use Rattle.td_checker.specs.declared.verdict.Verdict.{Verdict}
 use Rattle.td_report.specs.CheckReports.{refusing_text}
 use Rattle.td_report.specs.JoinTexts.{unjoined_text}
@@ -89,6 +89,7 @@ reason_text (Certificate fault) = certificate_text fault
 reason_text (BadVector word) = bad_vector_text word
 reason_text NoOutput = codes "tdelay: no output of this name"
 reason_text NoPair = codes "tdelay: no admitted pair"
+reason_text NoTimer = codes "tdelay: no timer"
 reason_text (OneFile out file) = one_file_text out.now file.now
 reason_text (BadPart name fault) = bad_part_text name.now fault
 reason_text (Unaccepted name verdict) = unaccepted_text name.now verdict

@@ -35,6 +35,8 @@ pub enum Refusal<'a> {
     NoOutput,
     /// No pair of vectors is admitted.
     NoPair,
+    /// There is no thread for a timer, or no clock that it can read.
+    NoTimer,
     /// The first file, which was to be written, is the second one, which would be lost.
     OneFile(&'a str, &'a str),
     /// The text of this file, of a part, was refused.
@@ -101,6 +103,7 @@ impl<'a> Refusal<'a> {
             Refusal::BadVector(_) => Status::BadCommand,
             Refusal::NoOutput => Status::BadCommand,
             Refusal::NoPair => Status::Refused,
+            Refusal::NoTimer => Status::Device,
             Refusal::OneFile(..) => Status::BadCommand,
             Refusal::BadPart(..) => Status::Refused,
             Refusal::Unaccepted(..) => Status::Rejected,
@@ -131,6 +134,7 @@ impl<'a> Refusal<'a> {
             Refusal::BadVector(word) => tell_bad_vector(text, *word),
             Refusal::NoOutput => text.push(b"tdelay: no output of this name"),
             Refusal::NoPair => text.push(b"tdelay: no admitted pair"),
+            Refusal::NoTimer => text.push(b"tdelay: no timer"),
             Refusal::OneFile(out, file) => tell_one_file(text, out, file),
             Refusal::BadPart(name, fault) => tell_bad_part(text, name, *fault),
             Refusal::Unaccepted(name, verdict) => tell_unaccepted(text, name, *verdict),

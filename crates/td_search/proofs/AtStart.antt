@@ -31,7 +31,7 @@ module _ (strategy : Strategy) (circuit : Numbered) (numbering : IsNumbering cir
       (λ other late is_in is. above_bound strategy circuit numbering fit admit.pins root other late bound is_in is.1) small modest start
 
   pub nothing_between : (held : length admit.held ≡ length circuit.netlist.inputs) (pins : length admit.pins ≡ 2 * length admit.held)
-      → (low high : ℕ) (shown : Pair) (why : Cause) → low ≡ time → shown ≡ pair → high ≡ max root low → (why ≡ cause.Budget → 0 ≡ budget) → (why ≡ cause.Memory → 0 ≢ budget)
+      → (low high : ℕ) (shown : Pair) (why : Cause) → low ≡ time → shown ≡ pair → high ≡ max root low → (why ≡ cause.Budget → 0 ≡ budget) → (why ≢ cause.Budget → 0 ≢ budget)
       → IsBetween asked budget low high shown 0 why
   nothing_between held pins low high shown why low_is shown_is is used unused =
       subst (λ (n : ℕ). IsBetween asked budget n high shown 0 why) (sym low_is)

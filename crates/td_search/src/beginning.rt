@@ -23,6 +23,7 @@ pub fn root_of<R: Rule>(task: &Task<'_, R>, scratch: &mut R::Scratch) -> Result<
         alloc,
         problem,
         rule,
+        ..
     } = task;
     let pins = problem.admit.pins();
     let first = rule.measure(*alloc, problem, scratch, pins)?;
@@ -30,8 +31,8 @@ pub fn root_of<R: Rule>(task: &Task<'_, R>, scratch: &mut R::Scratch) -> Result<
     Ok(Root { first, bound })
 }
 
-/// What a worker of this number does before its first node: it climbs, if the strategy says so, and
-/// offers the pair to which that led. The error is out of memory.
+/// What a worker of this number does before its first node: it climbs, if the strategy says so,
+/// until the stop is set, and offers the pair to which that led. The error is out of memory.
 pub fn climb<R: Rule, K: Keeper>(
     task: &Task<'_, R>,
     scratch: &mut R::Scratch,
@@ -48,9 +49,10 @@ pub fn climb<R: Rule, K: Keeper>(
         alloc,
         problem,
         rule,
+        stop,
     } = task;
     let best = keeper.best(problem);
-    match rule.climb(*alloc, problem, scratch, worker, best)? {
+    match rule.climb(*alloc, problem, scratch, worker, best, stop)? {
         Some(timed) => keeper.offer_pair(problem, &timed),
         None => {}
     }

@@ -18,7 +18,7 @@ use td_book::{Claim, Lease};
 use td_domain::Cube;
 
 impl Search {
-    /// Handles nodes until none is left, the budget is used up, or memory runs out.
+    /// Handles nodes until none is left, the budget is used up, memory runs out, or the stop is set.
     pub fn run<R: Rule>(&mut self, task: &Task<'_, R>, scratch: &mut R::Scratch, budget: u64)
         requires search { IsUnderWay (problem_of task.now.problem.now) budget self.old }
         requires scratch { R.is_for scratch.old task.now.problem.now.circuit.now }
@@ -26,6 +26,9 @@ impl Search {
         ensures kept { self.old.best.time ≤ self.new.best.time }
     {
         for _ in 0..budget {
+            if task.stop.is_set() {
+                break;
+            }
             let Ok(true) = self.handle_next(task, scratch) else {
                 break;
             };
@@ -73,8 +76,9 @@ impl Search {
         worked
     }
 
-    // Splits and closes below a leaf, depth first, zero side first, until nothing is left there or
-    // the allowance is used up. The book learns nothing of it. The error is out of memory.
+    // Splits and closes below a leaf, depth first, zero side first, until nothing is left there,
+    // the allowance is used up, or the stop is set. The book learns nothing of it. The error is out
+    // of memory.
     fn work_below<R: Rule>(
         &mut self,
         task: &Task<'_, R>,
@@ -92,6 +96,9 @@ impl Search {
         ensures below { IsBelow (problem_of task.now.problem.now) lease.now below.new }
     {
         for _ in 0..lease.allowance {
+            if task.stop.is_set() {
+                break;
+            }
             let Some(cube) = below.next(task.problem, lease) else {
                 break;
             };

@@ -68,6 +68,7 @@ fn find_measured<R: Rule, K: Keeper>(
         alloc,
         problem,
         rule,
+        ..
     } = task;
     // For the prover: gates are in order and pins have two positions for each input.
     let _numbering = problem.circuit.gates();
@@ -103,6 +104,7 @@ fn find_bounded<R: Rule, K: Keeper>(
         alloc,
         problem,
         rule,
+        ..
     } = task;
     // For the prover: gates are in order and pins have two positions for each input.
     let _numbering = problem.circuit.gates();

@@ -3,7 +3,7 @@
 
 ghost use Rattle.std.specs.Prelude.{◌≡◌, ◌≤◌, ◌<◌, ◌^◌};
 ghost use Rattle.std.specs.List.{All};
-ghost use Rattle.td_search.specs.Answers.{IsAnswer, low_of};
+ghost use Rattle.td_search.specs.Answers.{IsAnswer, TimeNeedsStop, low_of};
 ghost use Rattle.td_search.specs.Best.{IsKept};
 ghost use Rattle.td_search.specs.Findings.{IsTrueEvidence};
 ghost use Rattle.td_search.specs.Problems.{problem_of, has_bound};
@@ -25,6 +25,7 @@ use crate::strategy::Strategy;
 use crate::task::Task;
 use std::alloc::{AllocError, Global};
 use td_book::{Node, Partial, State};
+use td_stop::Stop;
 
 /// What a shared search hands over once its workers have ended: its tree, what they found, the
 /// strongest domain's bound of the pins, and the best pair of all workers.
@@ -38,9 +39,15 @@ pub struct SharedWork {
 
 /// What a shared search found that has ended: its tree is done again as far as the evidence, the
 /// bound of the pins and the best pair show it, and the nodes that are left open are handled in one
-/// thread, as `alone_by` handles them, until the budget is handled. Nothing of the tree is trusted.
-/// The budget is at most 10,000,000.
-pub fn finish(alloc: Global, problem: &Problem<'_>, work: SharedWork, budget: u64) -> Answer
+/// thread, as `alone_by` handles them, until the budget is handled, or the stop is set. Nothing of
+/// the tree is trusted. The budget is at most 10,000,000.
+pub fn finish(
+    alloc: Global,
+    problem: &Problem<'_>,
+    work: SharedWork,
+    budget: u64,
+    stop: &Stop,
+) -> Answer
     requires modest { budget ≤ 10000000 }
     requires work { IsShared (problem_of problem.now) work }
     ensures answer { IsAnswer (problem_of problem.now) budget result }
@@ -48,6 +55,8 @@ pub fn finish(alloc: Global, problem: &Problem<'_>, work: SharedWork, budget: u6
     ensures kept { work.best.time ≤ low_of result }
     // The certificate of an exact answer has a text within the limit.
     ensures text { CanBeWritten (problem_of problem.now) result }
+    // Time is a cause only where the stop can be set.
+    ensures time { TimeNeedsStop stop.now.can_be_set result }
 {
     match problem.strategy {
         Strategy::Least => {
@@ -56,6 +65,7 @@ pub fn finish(alloc: Global, problem: &Problem<'_>, work: SharedWork, budget: u6
                 alloc,
                 problem,
                 rule: &rule,
+                stop,
             };
             finish_by(&task, work, budget)
         }
@@ -64,6 +74,7 @@ pub fn finish(alloc: Global, problem: &Problem<'_>, work: SharedWork, budget: u6
                 alloc,
                 problem,
                 rule: &Lead,
+                stop,
             };
             finish_by(&task, work, budget)
         }
@@ -77,6 +88,7 @@ fn finish_by<R: Rule>(task: &Task<'_, R>, work: SharedWork, budget: u64) -> Answ
     ensures answer { IsAnswer (problem_of task.now.problem.now) budget result }
     ensures kept { work.best.time ≤ low_of result }
     ensures text { CanBeWritten (problem_of task.now.problem.now) result }
+    ensures time { TimeNeedsStop task.now.stop.now.can_be_set result }
 {
     let SharedWork {
         partial,
@@ -85,10 +97,10 @@ fn finish_by<R: Rule>(task: &Task<'_, R>, work: SharedWork, budget: u64) -> Answ
         best,
     } = work;
     let Ok(mut scratch) = task.rule.scratch(task.alloc, task.problem) else {
-        return nothing_handled(task.problem, best, root, budget);
+        return nothing_handled(task.problem, best, root, budget, task.stop);
     };
     let Ok(setup) = Setup::new(task.alloc, task.problem, budget) else {
-        return nothing_handled(task.problem, best, root, budget);
+        return nothing_handled(task.problem, best, root, budget, task.stop);
     };
     let mut search = setup.begin(task.problem, best, root, budget);
     let _replayed = replay_tree(task, &mut search, &mut scratch, partial, evidence, budget);
@@ -96,7 +108,7 @@ fn finish_by<R: Rule>(task: &Task<'_, R>, work: SharedWork, budget: u64) -> Answ
 }
 
 // What is known of a search that handled nothing.
-fn nothing_handled(problem: &Problem<'_>, best: Best, root: u64, budget: u64) -> Answer
+fn nothing_handled(problem: &Problem<'_>, best: Best, root: u64, budget: u64, stop: &Stop) -> Answer
     requires modest { budget ≤ 10000000 }
     requires root { has_bound (problem_of problem.now) problem.now.admit.now.pins root }
     requires small { root < 10 ^ 15 }
@@ -104,6 +116,7 @@ fn nothing_handled(problem: &Problem<'_>, best: Best, root: u64, budget: u64) ->
     ensures answer { IsAnswer (problem_of problem.now) budget result }
     ensures low { low_of result ≡ best.time }
     ensures text { CanBeWritten (problem_of problem.now) result }
+    ensures time { TimeNeedsStop stop.now.can_be_set result }
 {
     // For the prover: gates are in order, inputs have moments, pins have two positions each.
     let _numbering = problem.circuit.gates();
@@ -115,7 +128,7 @@ fn nothing_handled(problem: &Problem<'_>, best: Best, root: u64, budget: u64) ->
         high: root.max(low),
         pair: best.into_pair(),
         nodes: 0,
-        cause: cause_of(0, budget),
+        cause: cause_of(0, budget, stop),
     }
 }
 

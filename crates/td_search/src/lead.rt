@@ -14,6 +14,7 @@ use std::alloc::{AllocError, Global};
 use td_climb::{Climb, tries_for};
 use td_domain::{Cube, Pair};
 use td_lead::Timed;
+use td_stop::Stop;
 
 /// The first worker climbs by lanes before its first node. Each cube is bounded by edges and
 /// possible levels, points are measured, and a cube is split where the most nets on the way to its
@@ -24,20 +25,21 @@ pub struct Lead;
 /// The seed of a climb.
 const SEED: u64 = 1;
 
-// The admitted pair to which a climb leads from another one. Out of memory, a climb ends where it
-// stands.
+// The admitted pair to which a climb leads from another one. Out of memory, and once the stop is
+// set, a climb ends where it stands.
 fn climbed(
     alloc: Global,
     problem: &Problem<'_>,
     start: Pair,
     enough: u64,
+    stop: &Stop,
 ) -> Result<Pair, AllocError>
     requires { IsAdmitted problem.now.admit.now start }
     ensures { IfOk result (IsAdmitted problem.now.admit.now) }
 {
     let Problem { circuit, admit, .. } = problem;
     let mut climb = Climb::new(alloc, circuit, admit, start, SEED)?;
-    let _useful = climb.go_on(circuit, admit, tries_for(circuit), enough);
+    let _useful = climb.go_on(circuit, admit, tries_for(circuit), enough, stop);
     Ok(climb.into_pair())
 }
 
@@ -68,6 +70,7 @@ impl Rule for Lead {
         scratch: &mut Scratch,
         worker: u32,
         best: &Best,
+        stop: &Stop,
     ) -> Result<Option<Timed>, AllocError> {
         if worker > 0 {
             return Ok(None);
@@ -78,7 +81,7 @@ impl Rule for Lead {
             return Ok(None);
         }
         let start = best.timed(alloc)?.pair;
-        let pair = climbed(alloc, problem, start, enough)?;
+        let pair = climbed(alloc, problem, start, enough, stop)?;
         let timed = timed(&mut scratch.events, problem, pair)?;
         Ok(Some(timed))
     }

@@ -13,6 +13,7 @@ use std::alloc::{AllocError, Global};
 use std::mem;
 use td_domain::{Cube, Pair};
 use td_lead::Timed;
+use td_stop::Stop;
 
 /// What a worker uses again: the prober's scratch, and room for the pair that it measures.
 #[derive(Drop)]
@@ -59,6 +60,7 @@ impl<'a, P: Prober> Rule for Least<'a, P> {
         _bench: &mut Bench<P::Scratch>,
         _worker: u32,
         _best: &Best,
+        _stop: &Stop,
     ) -> Result<Option<Timed>, AllocError> {
         Ok(None)
     }

@@ -92,7 +92,7 @@ struct Again {
 impl Search {
     /// Splits and closes again the nodes of a tree, in its order, where there is evidence of them
     /// for this search. A split without is done again where its cube is found anew to have a bound
-    /// above the best. Other nodes stay open, and what is below them is passed. The error is out of
+    /// above the best, unless the stop is set. Other nodes stay open, and what is below them is passed. The error is out of
     /// memory, and then the nodes that are left stay open.
     pub fn replay<R: Rule>(
         &mut self,
@@ -346,8 +346,8 @@ impl Search {
         }
     }
 
-    // The strongest domain's bound of a cube, where the cube is found to be split. The error is out
-    // of memory.
+    // The strongest domain's bound of a cube, where the cube is found to be split; none where the
+    // stop is set. The error is out of memory.
     fn bound_above<R: Rule>(
         &mut self,
         task: &Task<'_, R>,
@@ -365,6 +365,9 @@ impl Search {
         ensures small { IfOk result (λ answer. IfSome answer (λ bound. bound < 10 ^ 15)) }
         ensures wide { IfOk result (λ answer. IfSome answer (λ bound. MustSplit (problem_of task.now.problem.now) self.new.best.time cube.now)) }
     {
+        if task.stop.is_set() {
+            return Ok(None);
+        }
         match self.find(task, scratch, cube)? {
             Finding::Split(_, bound, _) => Ok(Some(bound)),
             Finding::Closed(_, _) => Ok(None),

@@ -16,6 +16,7 @@ use crate::step::Step;
 use std::alloc::{AllocError, Global};
 use td_domain::Cube;
 use td_lead::Timed;
+use td_stop::Stop;
 
 /// One strategy, for any number of workers at a time: how a worker begins, and what it does with a
 /// node of the tree. What it answers is true of the problem. Where memory runs out, the error is
@@ -38,8 +39,8 @@ pub trait Rule {
     fn scratch(&self, alloc: Global, problem: &Problem<'_>) -> Result<Self::Scratch, AllocError>
         ensures { IfOk result (λ scratch. is_for scratch problem.now.circuit.now) };
 
-    /// The pair to which a worker of this number climbs from the best one, before its first node,
-    /// if the strategy climbs.
+    /// The pair to which a worker of this number climbs from the best one, before its first node and
+    /// until the stop is set, if the strategy climbs.
     fn climb(
         &self,
         alloc: Global,
@@ -47,6 +48,7 @@ pub trait Rule {
         scratch: &mut Self::Scratch,
         worker: u32,
         best: &Best,
+        stop: &Stop,
     ) -> Result<Option<Timed>, AllocError>
         requires scratch { is_for scratch.old problem.now.circuit.now }
         requires best { has_delay (problem_of problem.now) best.now.pair best.now.time }

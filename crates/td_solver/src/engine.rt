@@ -16,6 +16,7 @@ use crate::step::ClauseNumber;
 use crate::trail::Value;
 use std::alloc::{AllocError, Global};
 use td_propagation::Literal;
+use td_stop::Stop;
 
 /// What the search holds beside the derivation, from which it takes the clauses.
 #[derive(Drop)]
@@ -74,20 +75,21 @@ impl Engine {
     }
 
     /// Whether all clauses of the derivation and the assumptions can be true: searches until as
-    /// many conflicts were met as the budget says. Where they can't, the last clause of the
-    /// derivation is the lemma that says so. `before` is how many conflicts earlier questions met.
-    /// The error is out of memory, or that there are too many clauses.
+    /// many conflicts were met as the budget says, or the stop is set. Where they can't, the last
+    /// clause of the derivation is the lemma that says so. `before` is how many conflicts earlier
+    /// questions met. The error is out of memory, or that there are too many clauses.
     pub fn ask(
         &mut self,
         derivation: &mut Derivation,
         assumptions: &[Literal],
         before: u64,
         budget: u64,
+        stop: &Stop,
     ) -> Result<Answer, AllocError>
         ensures extends { Extends derivation.old derivation.new }
         ensures refuted { IfOk result (λ answer. answer.outcome ≡ Outcome.Refuted → EndsWithLemma (lines_of derivation.new)) }
         ensures budget { IfOk result (λ answer. answer.met ≤ budget) }
-        ensures open { IfOk result (λ answer. answer.outcome ≡ Outcome.Open → answer.met ≡ budget) }
+        ensures open { IfOk result (λ answer. answer.outcome ≡ Outcome.Open → stop.now.can_be_set ≡ false → answer.met ≡ budget) }
     {
         self.prepare(derivation.variables(), assumptions.len())?;
         if !self.take_in_all(derivation)? {
@@ -97,7 +99,7 @@ impl Engine {
             });
         }
         self.pace.begin();
-        self.search(derivation, assumptions, before, budget)
+        self.search(derivation, assumptions, before, budget, stop)
     }
 
     /// The value of a variable, after a question that was satisfied.
@@ -322,13 +324,20 @@ impl Engine {
         assumptions: &[Literal],
         before: u64,
         budget: u64,
+        stop: &Stop,
     ) -> Result<Answer, AllocError>
         ensures extends { Extends derivation.old derivation.new }
         ensures refuted { IfOk result (λ answer. answer.outcome ≡ Outcome.Refuted → EndsWithLemma (lines_of derivation.new)) }
         ensures budget { IfOk result (λ answer. answer.met ≤ budget) }
-        ensures open { IfOk result (λ answer. answer.outcome ≡ Outcome.Open → answer.met ≡ budget) }
+        ensures open { IfOk result (λ answer. answer.outcome ≡ Outcome.Open → stop.now.can_be_set ≡ false → answer.met ≡ budget) }
     {
         for met in 0..budget {
+            if stop.is_set() {
+                return Ok(Answer {
+                    outcome: Outcome::Open,
+                    met,
+                });
+            }
             let conflicts = before.saturating_add(met);
             match self.stretch(assumptions, conflicts)? {
                 Stretch::Conflict(conflict) => {

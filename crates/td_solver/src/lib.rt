@@ -1,6 +1,6 @@
 //! A conflict-driven clause-learning solver. Each clause that it learns comes with hints: the
 //! numbers of clauses by which unit propagation shows it. All its numbers are whole, and it reads
-//! no clock, so an answer is the same on each machine.
+//! no clock, so an answer is the same on each machine, unless a stop ends the question.
 #![tactic(auto)]
 
 mod activity;

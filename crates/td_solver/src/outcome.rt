@@ -1,7 +1,7 @@
 //! How a question ends.
 
 /// How a question ends: with a model, with a lemma that says that there is none, or open, since its
-/// budget of conflicts is used up.
+/// budget of conflicts is used up or its stop was set.
 #[derive(Clone, Copy, Debug, PartialEq, Eq, Drop)]
 pub enum Outcome {
     Satisfied,

@@ -8,6 +8,7 @@ use crate::outcome::Outcome;
 use crate::step::ClauseNumber;
 use std::alloc::{AllocError, Global};
 use td_propagation::Literal;
+use td_stop::Stop;
 
 /// Clauses over variables, to which more may be added between questions. A question asks whether
 /// all clauses and some assumptions can be true. What is learned for one serves later ones.
@@ -37,7 +38,7 @@ fn values_of(alloc: Global, engine: &Engine, variables: u32) -> Result<Vec<bool>
 }
 
 impl Solver {
-    ghost use Rattle.std.specs.Prelude.{◌<◌, ◌≤◌, ◌+◌, ◌-◌, ◌∷◌, ◌++◌, [], max, slice_get, OnOk, OnErr, Some};
+    ghost use Rattle.std.specs.Prelude.{◌<◌, ◌≤◌, ◌+◌, ◌-◌, ◌∷◌, ◌++◌, [], false, max, slice_get, OnOk, OnErr, Some};
     ghost use Rattle.td_solver.specs.Lines.{given, count_for, Continues, EndsWithLemma};
     ghost use Rattle.td_solver.specs.Solvers.{clauses_of, variable_count, conflicts_of, model_of, refutation_of};
 
@@ -102,23 +103,28 @@ impl Solver {
     }
 
     /// Asks whether all clauses and the assumptions can be true, until as many conflicts were met
-    /// as `conflicts` says. Variables that the assumptions need are added.
+    /// as `conflicts` says, or the stop is set. Variables that the assumptions need are added.
     ///
     /// `Satisfied`: `value` says the values of a model. `Refuted`: `refutation` is the number of a
     /// lemma each of whose literals is the negation of an assumption; where two assumptions are
     /// each other's negation, it may be these two, without hints. `Open`: as many conflicts were
-    /// met. In each case more clauses may have been learned.
+    /// met, or the stop was set. In each case more clauses may have been learned.
     ///
     /// The error is out of memory, or that there are too many clauses or variables. Then each later
     /// question ends so too.
-    pub fn solve(&mut self, assumptions: &[Literal], conflicts: u64) -> Result<Outcome, AllocError>
+    pub fn solve(
+        &mut self,
+        assumptions: &[Literal],
+        conflicts: u64,
+        stop: &Stop,
+    ) -> Result<Outcome, AllocError>
         ensures clauses { Continues (clauses_of self.old) (clauses_of self.new) }
         ensures variables { OnOk result (variable_count self.new ≡ max (variable_count self.old) (count_for assumptions.now)) }
         ensures no_fewer { variable_count self.old ≤ variable_count self.new }
         ensures model { IfOk result (λ outcome. outcome ≡ Outcome.Satisfied → length (model_of self.new) ≡ variable_count self.new) }
         ensures lemma { IfOk result (λ outcome. outcome ≡ Outcome.Refuted → EndsWithLemma (clauses_of self.new)) }
         ensures refutation { IfOk result (λ outcome. outcome ≡ Outcome.Refuted → refutation_of self.new ≡ Some (length (clauses_of self.new) - 1)) }
-        ensures open { IfOk result (λ outcome. outcome ≡ Outcome.Open → conflicts_of self.new ≡ conflicts_of self.old + conflicts) }
+        ensures open { IfOk result (λ outcome. outcome ≡ Outcome.Open → stop.now.can_be_set ≡ false → conflicts_of self.new ≡ conflicts_of self.old + conflicts) }
         ensures met { conflicts_of self.old ≤ conflicts_of self.new }
         ensures no_more { conflicts_of self.new ≤ conflicts_of self.old + conflicts }
     {
@@ -126,27 +132,36 @@ impl Solver {
             return Err(AllocError);
         }
         self.is_broken = true;
-        let outcome = self.answer(assumptions, conflicts)?;
+        let outcome = self.answer(assumptions, conflicts, stop)?;
         self.is_broken = false;
         Ok(outcome)
     }
 
     // Asks the engine, and keeps what it answers.
-    fn answer(&mut self, assumptions: &[Literal], budget: u64) -> Result<Outcome, AllocError>
+    fn answer(
+        &mut self,
+        assumptions: &[Literal],
+        budget: u64,
+        stop: &Stop,
+    ) -> Result<Outcome, AllocError>
         ensures clauses { Continues (clauses_of self.old) (clauses_of self.new) }
         ensures variables { OnOk result (variable_count self.new ≡ max (variable_count self.old) (count_for assumptions.now)) }
         ensures no_fewer { variable_count self.old ≤ variable_count self.new }
         ensures model { IfOk result (λ outcome. outcome ≡ Outcome.Satisfied → length (model_of self.new) ≡ variable_count self.new) }
         ensures lemma { IfOk result (λ outcome. outcome ≡ Outcome.Refuted → EndsWithLemma (clauses_of self.new)) }
         ensures refutation { IfOk result (λ outcome. outcome ≡ Outcome.Refuted → refutation_of self.new ≡ Some (length (clauses_of self.new) - 1)) }
-        ensures open { IfOk result (λ outcome. outcome ≡ Outcome.Open → conflicts_of self.new ≡ conflicts_of self.old + budget) }
+        ensures open { IfOk result (λ outcome. outcome ≡ Outcome.Open → stop.now.can_be_set ≡ false → conflicts_of self.new ≡ conflicts_of self.old + budget) }
         ensures met { conflicts_of self.old ≤ conflicts_of self.new }
         ensures no_more { conflicts_of self.new ≤ conflicts_of self.old + budget }
     {
         self.derivation.make_variables(assumptions)?;
-        let answer = self
-            .engine
-            .ask(&mut self.derivation, assumptions, self.conflicts, budget)?;
+        let answer = self.engine.ask(
+            &mut self.derivation,
+            assumptions,
+            self.conflicts,
+            budget,
+            stop,
+        )?;
         let Some(conflicts) = self.conflicts.checked_add(answer.met) else {
             return Err(AllocError);
         };

@@ -7,6 +7,7 @@ use crate::{Derivation, Outcome, Solver, Step};
 use std::alloc::{AllocError, Global};
 use std::test::Fail;
 use td_propagation::{Clauses, Literal, Outcome as Shown};
+use td_stop::Stop;
 
 /// A source of numbers that look random.
 #[derive(Drop)]
@@ -178,7 +179,7 @@ fn ask(
     assumptions: &[Literal],
     tally: &mut Tally,
 ) -> Result<(), AllocError> {
-    let outcome = solver.solve(assumptions, 100000)?;
+    let outcome = solver.solve(assumptions, 100000, &Stop::never())?;
     let is_possible = has_model(clauses, assumptions, solver.variables());
     match outcome {
         Outcome::Satisfied => {
@@ -315,7 +316,7 @@ fn pigeons_in(alloc: Global, count: u32, holes: u32) -> Result<(Outcome, u64, Ta
     let mut solver = Solver::new(alloc);
     let mut tally = Tally::none();
     pigeons(alloc, &mut solver, count, holes)?;
-    let outcome = solver.solve(&[], 100000)?;
+    let outcome = solver.solve(&[], 100000, &Stop::never())?;
     count_lemmas(alloc, solver.derivation(), &mut tally)?;
     Ok((outcome, solver.conflicts(), tally))
 }
@@ -348,7 +349,7 @@ fn hard(
         solver.add(&clause)?;
         clauses.push(clause)?;
     }
-    let outcome = solver.solve(&[], 200000)?;
+    let outcome = solver.solve(&[], 200000, &Stop::never())?;
     count_lemmas(alloc, solver.derivation(), &mut tally)?;
     Ok((outcome, satisfies(&solver, &clauses), tally))
 }
@@ -392,9 +393,9 @@ fn small(alloc: Global) -> Result<(u32, Option<bool>, Option<bool>, Option<u32>)
     solver.grow_to(3)?;
     solver.add(&[literal(first, true), literal(second, true)])?;
     solver.add(&[literal(first, false)])?;
-    solver.solve(&[], 10)?;
+    solver.solve(&[], 10, &Stop::never())?;
     let values = (solver.value(first), solver.value(second));
-    solver.solve(&[literal(second, false)], 10)?;
+    solver.solve(&[literal(second, false)], 10, &Stop::never())?;
     Ok((solver.variables(), values.0, values.1, solver.refutation()))
 }
 
@@ -403,12 +404,12 @@ fn small(alloc: Global) -> Result<(u32, Option<bool>, Option<bool>, Option<u32>)
 fn odd(alloc: Global) -> Result<(Outcome, Outcome, usize, Outcome, Outcome), AllocError> {
     let mut solver = Solver::new(alloc);
     solver.grow_to(2)?;
-    let open = solver.solve(&[], 0)?;
-    let contrary = solver.solve(&[literal(1, true), literal(1, false)], 10)?;
+    let open = solver.solve(&[], 0, &Stop::never())?;
+    let contrary = solver.solve(&[literal(1, true), literal(1, false)], 10, &Stop::never())?;
     let len = solver.derivation().len();
     solver.add(&[])?;
-    let refuted = solver.solve(&[], 10)?;
-    let again = solver.solve(&[], 10)?;
+    let refuted = solver.solve(&[], 10, &Stop::never())?;
+    let again = solver.solve(&[], 10, &Stop::never())?;
     Ok((open, contrary, len, refuted, again))
 }
 
@@ -418,5 +419,24 @@ fn small_questions(rt: HostRuntime) -> Result<(), Fail> {
     let (open, contrary, len, refuted, again) = odd(rt.alloc())?;
     assert_eq!(rt; (open, contrary, len), (Outcome::Open, Outcome::Refuted, 1));
     assert_eq!(rt; (refuted, again), (Outcome::Refuted, Outcome::Refuted));
+    Ok(())
+}
+
+// How a question ends whose stop is set, how many conflicts it met, and how the same question ends
+// afterwards.
+fn stopped(alloc: Global) -> Result<(Outcome, u64, Outcome), AllocError> {
+    let mut solver = Solver::new(alloc);
+    pigeons(alloc, &mut solver, 4, 3)?;
+    let stop = Stop::new();
+    stop.set();
+    let open = solver.solve(&[], 1000, &stop)?;
+    let met = solver.conflicts();
+    let refuted = solver.solve(&[], 1000, &Stop::new())?;
+    Ok((open, met, refuted))
+}
+
+#[test]
+fn stop_ends_a_question(rt: HostRuntime) -> Result<(), Fail> {
+    assert_eq!(rt; stopped(rt.alloc())?, (Outcome::Open, 0, Outcome::Refuted));
     Ok(())
 }

@@ -1,3 +1,4 @@
 pub mod Methods
 pub mod Leaves
 pub mod OpenAnswer
+pub mod Faults

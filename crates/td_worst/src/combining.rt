@@ -1,9 +1,9 @@
 //! What two searches of one question know together.
 
-ghost use Rattle.std.specs.Prelude.{◌≡◌, ◌⊎◌, ◌+◌, ◌≤◌, ℕ};
+ghost use Rattle.std.specs.Prelude.{◌≡◌, ◌⊎◌, ◌+◌, ◌≤◌, ℕ, Bool};
 ghost use Rattle.td_search.specs.Problems.{Problem as Asked};
 ghost use Rattle.td_search.specs.Written.{CanBeWritten};
-ghost use Rattle.td_search.specs.Answers.{low_of};
+ghost use Rattle.td_search.specs.Answers.{TimeNeedsStop, low_of};
 ghost use Rattle.td_worst.specs.Methods.{high_of, IsNarrower, IsSoundAnswer};
 ghost use Rattle.td_worst.specs.OpenAnswer.{IsOpenAnswer};
 
@@ -18,6 +18,7 @@ pub fn combined(first: Answer, second: Answer) -> Answer
         → CanBeWritten asked second → IsSoundAnswer asked (budget + more) result × CanBeWritten asked result }
     ensures narrower { (asked : Asked) (budget more : ℕ) → IsSoundAnswer asked budget first → IsSoundAnswer asked more second
         → IsNarrower first result × IsNarrower second result }
+    ensures time { (can_be_set : Bool) → TimeNeedsStop can_be_set first → TimeNeedsStop can_be_set second → TimeNeedsStop can_be_set result }
 {
     match first {
         Answer::Exact { time, pair, tree } => Answer::Exact { time, pair, tree },
@@ -40,6 +41,7 @@ fn with_second(first: OpenAnswer, second: Answer) -> Answer
         → IsSoundAnswer asked (budget + more) result × CanBeWritten asked result }
     ensures narrower { (asked : Asked) (budget more : ℕ) → IsOpenAnswer asked budget first → IsSoundAnswer asked more second
         → (first.best.time ≤ low_of result) × (high_of result ≤ first.high) × IsNarrower second result }
+    ensures time { (can_be_set : Bool) → TimeNeedsStop can_be_set second → TimeNeedsStop can_be_set result }
 {
     match second {
         Answer::Exact { time, pair, tree } => Answer::Exact { time, pair, tree },

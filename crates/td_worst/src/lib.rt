@@ -2,10 +2,14 @@
 #![tactic(auto)]
 
 mod combining;
+mod fault;
 mod leaf;
 mod method;
 mod refuting;
 mod searching;
+mod timing;
 
+pub use fault::WorstFault;
 pub use method::Method;
-pub use searching::worst;
+pub use searching::worst_until;
+pub use timing::{TimedEffort, worst};

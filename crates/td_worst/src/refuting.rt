@@ -1,11 +1,12 @@
 //! What a refutation makes of an answer.
 
-ghost use Rattle.std.specs.Prelude.{◌≡◌, ◌<◌, ◌≤◌, ◌^◌, ℕ, IfOk, IfSome};
+ghost use Rattle.std.specs.Prelude.{◌≡◌, true, ◌<◌, ◌≤◌, ◌^◌, ℕ, IfOk, IfSome};
 ghost use Rattle.td_circuit.specs.Numbering.{setting};
 ghost use Rattle.td_lead.specs.Timed.{IsTimed};
 ghost use Rattle.td_refute.specs.Answers.{IsShown};
 ghost use Rattle.td_search.specs.declared.answers.Answer.TheVariants.{Between};
-ghost use Rattle.td_search.specs.Answers.{low_of};
+ghost use Rattle.td_search.specs.declared.answers.Cause.TheVariants as cause;
+ghost use Rattle.td_search.specs.Answers.{TimeNeedsStop, low_of};
 ghost use Rattle.td_search.specs.Problems.{Problem as Asked, problem_of};
 ghost use Rattle.td_search.specs.Written.{CanBeWritten};
 ghost use Rattle.td_worst.specs.Leaves.{IsSpellable};
@@ -18,6 +19,18 @@ use td_event_sim::Scratch;
 use td_lead::Timed;
 use td_refute::{Effort, Refuted, refute};
 use td_search::{Answer, Cause, Problem};
+use td_stop::Stop;
+
+// Why a refutation ends that shows no more: the time where the stop is set, else the budget.
+fn ending(stop: &Stop) -> Cause
+    ensures { result ≡ cause.Time → stop.now.can_be_set ≡ true }
+{
+    if stop.is_set() {
+        Cause::Time
+    } else {
+        Cause::Budget
+    }
+}
 
 /// What is known where no answer is exact: the best pair, a bound of all delays in steps, and how
 /// many nodes trees had.
@@ -45,19 +58,20 @@ impl OpenAnswer {
     }
 
     // The answer where steps show a bound.
-    fn refuted(self, alloc: Global, refuted: &Refuted) -> Answer
+    fn refuted(self, alloc: Global, refuted: &Refuted, stop: &Stop) -> Answer
         requires small { self.best.time < 10 ^ 15 }
         ensures answer { (asked : Asked) (budget : ℕ) → 0 < budget → IsSpellable asked → IsOpenAnswer asked budget self
             → IsShown asked.setting asked.admit refuted.now → IsSoundAnswer asked budget result × CanBeWritten asked result }
         ensures low { low_of result ≡ self.best.time }
         ensures high { self.best.time ≤ self.high → high_of result ≤ self.high }
+        ensures time { TimeNeedsStop stop.now.can_be_set result }
     {
         let OpenAnswer { best, high, nodes } = self;
         let Timed { pair, time } = best;
         if refuted.bound > time {
             let best = Timed { pair, time };
             let high = high.min(refuted.bound);
-            return OpenAnswer { best, high, nodes }.between(Cause::Budget);
+            return OpenAnswer { best, high, nodes }.between(ending(stop));
         }
         let cause = match tree_of_leaf(alloc, refuted) {
             Ok(Some(tree)) => return Answer::Exact { time, pair, tree },
@@ -75,14 +89,22 @@ impl OpenAnswer {
 }
 
 /// What a refutation makes of an answer. An exact answer stays as it is. The solver meets at most
-/// as many conflicts as the budget says. Where memory runs out, what was known stands.
-pub fn refuted_further(alloc: Global, problem: &Problem<'_>, known: Answer, budget: u64) -> Answer
+/// as many conflicts as the budget says, and the search ends once the stop is set. Where memory runs
+/// out, what was known stands.
+pub fn refuted_further(
+    alloc: Global,
+    problem: &Problem<'_>,
+    known: Answer,
+    budget: u64,
+    stop: &Stop,
+) -> Answer
     requires some { 0 < budget }
     requires known { IsSoundAnswer (problem_of problem.now) budget known }
     requires text { CanBeWritten (problem_of problem.now) known }
     ensures answer { IsSoundAnswer (problem_of problem.now) budget result }
     ensures text { CanBeWritten (problem_of problem.now) result }
     ensures narrower { IsNarrower known result }
+    ensures time { TimeNeedsStop stop.now.can_be_set result }
 {
     match known {
         Answer::Exact { time, pair, tree } => Answer::Exact { time, pair, tree },
@@ -94,7 +116,13 @@ pub fn refuted_further(alloc: Global, problem: &Problem<'_>, known: Answer, budg
             ..
         } => {
             let best = Timed { pair, time: low };
-            refute_open_answer(alloc, problem, OpenAnswer { best, high, nodes }, budget)
+            refute_open_answer(
+                alloc,
+                problem,
+                OpenAnswer { best, high, nodes },
+                budget,
+                stop,
+            )
         }
     }
 }
@@ -105,6 +133,7 @@ fn refute_open_answer(
     problem: &Problem<'_>,
     known: OpenAnswer,
     budget: u64,
+    stop: &Stop,
 ) -> Answer
     requires some { 0 < budget }
     requires known { IsOpenAnswer (problem_of problem.now) budget known }
@@ -112,15 +141,16 @@ fn refute_open_answer(
     ensures text { CanBeWritten (problem_of problem.now) result }
     ensures low { known.best.time ≤ low_of result }
     ensures high { high_of result ≤ known.high }
+    ensures time { TimeNeedsStop stop.now.can_be_set result }
 {
     // For the prover: the circuit's and the pins' sizes.
     let _gates = problem.circuit.gates();
     let _moments = problem.circuit.moments();
     let _pins = problem.admit.pins();
     let mut known = known;
-    match search(alloc, problem, &mut known.best, budget) {
-        Ok(Some(refuted)) => known.refuted(alloc, &refuted),
-        Ok(None) => known.between(Cause::Budget),
+    match search(alloc, problem, &mut known.best, budget, stop) {
+        Ok(Some(refuted)) => known.refuted(alloc, &refuted, stop),
+        Ok(None) => known.between(ending(stop)),
         Err(_) => known.between(Cause::Memory),
     }
 }
@@ -131,6 +161,7 @@ fn search(
     problem: &Problem<'_>,
     best: &mut Timed,
     budget: u64,
+    stop: &Stop,
 ) -> Result<Option<Refuted>, AllocError>
     requires best { IsTimed (setting problem.now.circuit.now) problem.now.admit.now best.old }
     ensures best { IsTimed (setting problem.now.circuit.now) problem.now.admit.now best.new }
@@ -138,7 +169,7 @@ fn search(
     ensures shown { IfOk result (λ found. IfSome found (IsShown (setting problem.now.circuit.now) problem.now.admit.now)) }
 {
     let mut scratch = Scratch::new(alloc, problem.circuit)?;
-    let mut effort = Effort::new();
+    let mut effort = Effort::until(stop);
     effort.all = budget;
     refute(
         alloc,

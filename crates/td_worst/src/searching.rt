@@ -1,7 +1,7 @@
 //! The search for the worst delay, by any means.
 
 ghost use Rattle.std.specs.Prelude.{◌≡◌, ◌≤◌, ◌+◌, ℕ, length, IfOk, IfErr};
-ghost use Rattle.td_search.specs.Answers.{IsSearchFault};
+ghost use Rattle.td_search.specs.Answers.{IsSearchFault, TimeNeedsStop};
 ghost use Rattle.td_search.specs.Problems.{problem_by};
 ghost use Rattle.td_search.specs.declared.strategy.Strategy.TheVariants as strategy;
 ghost use Rattle.td_search.specs.Written.{CanBeWritten};
@@ -15,7 +15,7 @@ use std::sync::Wait;
 use std::thread::Threads;
 use td_circuit::Circuit;
 use td_domain::Admit;
-use td_pool::{Effort, Watch, search};
+use td_pool::{Effort, Limits, Watch, search};
 use td_search::{Answer, Cause, Own, Problem, SearchFault, Strategy};
 
 /// How many nodes of a tree as `Least` has it `Auto` handles at most.
@@ -26,25 +26,28 @@ const SECOND_NODES: u64 = 50_000;
 
 /// Searches for the worst delay of the admitted pairs of a circuit, by a method. The pairs are of
 /// the circuit's inputs. Trees have at most as many nodes as the budget of the effort says, and a
-/// solver meets at most that many conflicts. The watch gets the progress of a tree.
+/// solver meets at most that many conflicts. Once the stop is set, the search ends, and the answer
+/// says what is known by then. The watch gets the progress of a tree.
 ///
 /// # Errors
 ///
 /// `NoPair` where no pair is admitted. `OutOfMemory` where memory ran out before a first pair was
 /// measured and the pins were bounded, or for what workers share.
-pub fn worst<W: Watch, R: Threads + Wait + Sync>(
+pub fn worst_until<W: Watch, R: Threads + Wait + Sync>(
     rt: &R,
     alloc: Global,
     circuit: &Circuit,
     admit: &Admit,
     method: Method,
-    effort: Effort,
+    limits: Limits<'_>,
     watch: &mut W,
 ) -> Result<Answer, SearchFault>
     requires held { length admit.now.held ≡ length circuit.now.netlist.inputs }
-    ensures answer { IfOk result (IsAnswerBy method (problem_by (tree_of method) circuit.now admit.now) effort.budget) }
+    ensures answer { IfOk result (IsAnswerBy method (problem_by (tree_of method) circuit.now admit.now) limits.effort.budget) }
     // The certificate of an exact answer has a text within the limit.
     ensures text { IfOk result (CanBeWritten (problem_by (tree_of method) circuit.now admit.now)) }
+    // Time is a cause only where the stop can be set.
+    ensures time { IfOk result (TimeNeedsStop limits.stop.now.can_be_set) }
     ensures fault { IfErr result (IsSearchFault (problem_by (tree_of method) circuit.now admit.now)) }
     // All progress that the watch got is true of what is asked.
     ensures reported { W.reported (problem_by (tree_of method) circuit.now admit.now) watch.old watch.new }
@@ -56,10 +59,10 @@ pub fn worst<W: Watch, R: Threads + Wait + Sync>(
                 admit,
                 strategy: method.strategy(),
             };
-            search(rt, alloc, &problem, &Own, effort, watch)
+            search(rt, alloc, &problem, &Own, limits, watch)
         }
-        Method::Refute => by_refutation(rt, alloc, circuit, admit, effort, watch),
-        Method::Auto => by_all(rt, alloc, circuit, admit, effort, watch),
+        Method::Refute => by_refutation(rt, alloc, circuit, admit, limits, watch),
+        Method::Auto => by_all(rt, alloc, circuit, admit, limits, watch),
     }
 }
 
@@ -69,12 +72,13 @@ fn by_refutation<W: Watch, R: Threads + Wait + Sync>(
     alloc: Global,
     circuit: &Circuit,
     admit: &Admit,
-    effort: Effort,
+    limits: Limits<'_>,
     watch: &mut W,
 ) -> Result<Answer, SearchFault>
     requires held { length admit.now.held ≡ length circuit.now.netlist.inputs }
-    ensures answer { IfOk result (IsSoundAnswer (problem_by strategy.Lead circuit.now admit.now) effort.budget) }
+    ensures answer { IfOk result (IsSoundAnswer (problem_by strategy.Lead circuit.now admit.now) limits.effort.budget) }
     ensures text { IfOk result (CanBeWritten (problem_by strategy.Lead circuit.now admit.now)) }
+    ensures time { IfOk result (TimeNeedsStop limits.stop.now.can_be_set) }
     ensures fault { IfErr result (IsSearchFault (problem_by strategy.Lead circuit.now admit.now)) }
     ensures reported { W.reported (problem_by strategy.Lead circuit.now admit.now) watch.old watch.new }
 {
@@ -83,15 +87,13 @@ fn by_refutation<W: Watch, R: Threads + Wait + Sync>(
         admit,
         strategy: Strategy::Lead,
     };
-    let first = Effort {
-        workers: effort.workers,
-        budget: effort.budget.min(1),
-    };
+    let Limits { effort, stop } = limits;
+    let first = with_nodes(limits, effort.budget.min(1));
     let known = search(rt, alloc, &problem, &Own, first, watch)?;
     if effort.budget == 0 {
         return Ok(known);
     }
-    Ok(refuted_further(alloc, &problem, known, effort.budget))
+    Ok(refuted_further(alloc, &problem, known, effort.budget, stop))
 }
 
 // Searches a tree by `Least`, then one by `Lead`, and then for a refutation, until one of them
@@ -101,12 +103,13 @@ fn by_all<W: Watch, R: Threads + Wait + Sync>(
     alloc: Global,
     circuit: &Circuit,
     admit: &Admit,
-    effort: Effort,
+    limits: Limits<'_>,
     watch: &mut W,
 ) -> Result<Answer, SearchFault>
     requires held { length admit.now.held ≡ length circuit.now.netlist.inputs }
-    ensures answer { IfOk result (IsSoundAnswer (problem_by strategy.Least circuit.now admit.now) effort.budget) }
+    ensures answer { IfOk result (IsSoundAnswer (problem_by strategy.Least circuit.now admit.now) limits.effort.budget) }
     ensures text { IfOk result (CanBeWritten (problem_by strategy.Least circuit.now admit.now)) }
+    ensures time { IfOk result (TimeNeedsStop limits.stop.now.can_be_set) }
     ensures fault { IfErr result (IsSearchFault (problem_by strategy.Least circuit.now admit.now)) }
     ensures reported { W.reported (problem_by strategy.Least circuit.now admit.now) watch.old watch.new }
 {
@@ -115,20 +118,30 @@ fn by_all<W: Watch, R: Threads + Wait + Sync>(
         admit,
         strategy: Strategy::Least,
     };
-    let first = Effort {
-        workers: effort.workers,
-        budget: effort.budget.min(FIRST_NODES),
-    };
+    let Limits { effort, stop } = limits;
+    let first = with_nodes(limits, effort.budget.min(FIRST_NODES));
     let known = search(rt, alloc, &problem, &Own, first, watch)?;
     if effort.budget <= FIRST_NODES || !is_open(&known) {
         return Ok(known);
     }
-    let second = Effort {
-        workers: effort.workers,
-        budget: second_nodes(circuit, admit, effort.budget - FIRST_NODES),
-    };
+    let rest = second_nodes(circuit, admit, effort.budget - FIRST_NODES);
+    let second = with_nodes(limits, rest);
     let known = led_further(rt, alloc, circuit, admit, known, second, watch);
-    Ok(refuted_further(alloc, &problem, known, effort.budget))
+    Ok(refuted_further(alloc, &problem, known, effort.budget, stop))
+}
+
+// The same limits with fewer nodes.
+fn with_nodes(limits: Limits<'_>, budget: u64) -> Limits<'_>
+    requires { budget ≤ limits.effort.budget }
+    ensures budget { result.effort.budget ≡ budget }
+    ensures stop { result.stop.now ≡ limits.stop.now }
+{
+    let Limits { effort, stop } = limits;
+    let effort = Effort {
+        workers: effort.workers,
+        budget,
+    };
+    Limits { effort, stop }
 }
 
 // How many of the remaining nodes the second tree handles: all of them where flips are limited,
@@ -158,14 +171,15 @@ fn led_further<W: Watch, R: Threads + Wait + Sync>(
     circuit: &Circuit,
     admit: &Admit,
     known: Answer,
-    effort: Effort,
+    limits: Limits<'_>,
     watch: &mut W,
 ) -> Answer
     requires held { length admit.now.held ≡ length circuit.now.netlist.inputs }
     ensures answer { (budget : ℕ) → IsSoundAnswer (problem_by strategy.Least circuit.now admit.now) budget known
         → CanBeWritten (problem_by strategy.Least circuit.now admit.now) known
-        → IsSoundAnswer (problem_by strategy.Least circuit.now admit.now) (budget + effort.budget) result
+        → IsSoundAnswer (problem_by strategy.Least circuit.now admit.now) (budget + limits.effort.budget) result
         × CanBeWritten (problem_by strategy.Least circuit.now admit.now) result }
+    ensures time { TimeNeedsStop limits.stop.now.can_be_set known → TimeNeedsStop limits.stop.now.can_be_set result }
     ensures reported { W.reported (problem_by strategy.Least circuit.now admit.now) watch.old watch.new }
 {
     let problem = Problem {
@@ -173,7 +187,7 @@ fn led_further<W: Watch, R: Threads + Wait + Sync>(
         admit,
         strategy: Strategy::Lead,
     };
-    match search(rt, alloc, &problem, &Own, effort, watch) {
+    match search(rt, alloc, &problem, &Own, limits, watch) {
         Ok(found) => combined(known, found),
         Err(_) => known,
     }

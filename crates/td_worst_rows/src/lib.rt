@@ -3,3 +3,5 @@
 
 #[cfg(test)]
 mod methods;
+#[cfg(test)]
+mod seconds;

@@ -7,21 +7,22 @@ use std::process::Abort;
 use std::sync::Wait;
 use std::test::*;
 use std::thread::Threads;
+use std::time::Clock;
 use td_certificate::Tree;
 use td_circuit::{Circuit, build};
 use td_domain::Admit;
 use td_gates::Delay;
 use td_netlist::read;
 use td_pool::{Effort, Unwatched};
-use td_search::{Answer, Cause, SearchFault};
-use td_worst::{Method, worst};
+use td_search::{Answer, Cause};
+use td_worst::{Method, TimedEffort, WorstFault, worst};
 
 /// A pulse of one step that the second gate swallows. Edges bound it by 3.
 const PULSE: &str =
     "module m(a, y); input a; output y; not #1 n(b, a); and #2 g(y, a, b); endmodule";
 
 /// A way that no pair can go along: its last gate is open only while its first one is closed.
-const FALSE_WAY: &str = "module m(a, b, s, y); input a, b, s; output y; not #1 n(t, s);
+pub const FALSE_WAY: &str = "module m(a, b, s, y); input a, b, s; output y; not #1 n(t, s);
 and #5 g0(c, a, s); or #1 g1(d, c, b); and #7 g2(e, d, t); or #1 g3(y, e, s); endmodule";
 
 /// A signal that meets itself again.
@@ -52,7 +53,7 @@ fn all_of(rt: &impl Abort, alloc: Global, circuit: &Circuit) -> Result<Admit, Al
 }
 
 /// What a method answers of all pairs of a netlist.
-fn answered<R: Threads + Wait + Sync + Abort>(
+fn answered<R: Threads + Wait + Clock + Sync + Abort>(
     rt: &R,
     alloc: Global,
     netlist: &str,
@@ -60,10 +61,27 @@ fn answered<R: Threads + Wait + Sync + Abort>(
     budget: u64,
 ) -> Result<Answer, Fail> {
     assert!(rt; budget <= 10_000_000);
+    let effort = TimedEffort {
+        effort: Effort { workers: 1, budget },
+        seconds: None,
+    };
+    match answer_of(rt, alloc, netlist, method, effort)? {
+        Ok(answer) => Ok(answer),
+        Err(_) => Err(Fail::from("no answer")),
+    }
+}
+
+/// What a method answers of all pairs of a netlist with this effort, or why it has no answer.
+pub fn answer_of<R: Threads + Wait + Clock + Sync + Abort>(
+    rt: &R,
+    alloc: Global,
+    netlist: &str,
+    method: Method,
+    effort: TimedEffort,
+) -> Result<Result<Answer, WorstFault>, Fail> {
     let circuit = circuit_of(alloc, netlist)?;
     let admit = all_of(rt, alloc, &circuit)?;
-    let effort = Effort { workers: 1, budget };
-    let answer: Result<Answer, SearchFault> = worst(
+    Ok(worst(
         rt,
         alloc,
         &circuit,
@@ -71,11 +89,7 @@ fn answered<R: Threads + Wait + Sync + Abort>(
         method,
         effort,
         &mut Unwatched,
-    );
-    match answer {
-        Ok(answer) => Ok(answer),
-        Err(_) => Err(Fail::from("no answer")),
-    }
+    ))
 }
 
 /// The time of an exact answer, how many nodes its tree has, and whether one of them is refuted.

@@ -1,0 +1,10 @@
+//! When a search is to end: once somebody has set its stop, as a timer does after some seconds.
+#![tactic(auto)]
+
+mod stop;
+#[cfg(test)]
+mod tests;
+mod timer;
+
+pub use stop::Stop;
+pub use timer::Timer;

@@ -1,0 +1,140 @@
+//! The search for the worst delay within a time.
+
+ghost use Rattle.std.specs.Prelude.{◌≡◌, true, length, is_some, IfOk, IfErr};
+ghost use Rattle.td_search.specs.Answers.{TimeNeedsStop};
+ghost use Rattle.td_search.specs.Problems.{problem_by};
+ghost use Rattle.td_search.specs.Written.{CanBeWritten};
+ghost use Rattle.td_worst.specs.Methods.{tree_of, IsAnswerBy};
+ghost use Rattle.td_worst.specs.Faults.{IsWorstFault};
+
+use crate::fault::WorstFault;
+use crate::method::Method;
+use crate::searching::worst_until;
+use std::alloc::Global;
+use std::sync::Wait;
+use std::thread;
+use std::thread::Threads;
+use std::time::Clock;
+use td_circuit::Circuit;
+use td_domain::Admit;
+use td_pool::{Borrowed, Effort, Limits, Watch, take_back};
+use td_search::Answer;
+use td_stop::{Stop, Timer};
+
+/// How much a search may do, and where that is limited, for how many seconds of a clock.
+#[derive(Clone, Copy, Debug, Drop)]
+pub struct TimedEffort {
+    pub effort: Effort,
+    pub seconds: Option<u32>,
+}
+
+// The limits of a search, and a timer that sets their stop after some seconds.
+#[derive(Clone, Copy, Drop)]
+struct Timed<'a> {
+    limits: Limits<'a>,
+    timer: &'a Timer,
+    seconds: u32,
+}
+
+/// Searches as `worst_until` does. Where seconds are given, a timer sets the stop once they have
+/// passed by the clock. Nothing is promised of how soon the search then ends.
+///
+/// # Errors
+///
+/// As `worst_until`, and `NoTimer` where seconds are given, and no thread can be started for the
+/// timer, or no clock be read.
+pub fn worst<W: Watch, R: Threads + Wait + Clock + Sync>(
+    rt: &R,
+    alloc: Global,
+    circuit: &Circuit,
+    admit: &Admit,
+    method: Method,
+    effort: TimedEffort,
+    watch: &mut W,
+) -> Result<Answer, WorstFault>
+    requires held { length admit.now.held ≡ length circuit.now.netlist.inputs }
+    ensures answer { IfOk result (IsAnswerBy method (problem_by (tree_of method) circuit.now admit.now) effort.effort.budget) }
+    // The certificate of an exact answer has a text within the limit.
+    ensures text { IfOk result (CanBeWritten (problem_by (tree_of method) circuit.now admit.now)) }
+    // Time is a cause only where seconds are given.
+    ensures time { IfOk result (TimeNeedsStop (is_some effort.seconds)) }
+    ensures fault { IfErr result (IsWorstFault (is_some effort.seconds) (problem_by (tree_of method) circuit.now admit.now)) }
+    // All progress that the watch got is true of what is asked.
+    ensures reported { W.reported (problem_by (tree_of method) circuit.now admit.now) watch.old watch.new }
+{
+    let TimedEffort { effort, seconds } = effort;
+    let Some(seconds) = seconds else {
+        let stop = Stop::never();
+        let limits = Limits {
+            effort,
+            stop: &stop,
+        };
+        let found = worst_until(rt, alloc, circuit, admit, method, limits, watch)?;
+        return Ok(found);
+    };
+    if !Timer::can_run(rt) {
+        return Err(WorstFault::NoTimer);
+    }
+    let stop = Stop::new();
+    let timer = Timer::new();
+    let timed = Timed {
+        limits: Limits {
+            effort,
+            stop: &stop,
+        },
+        timer: &timer,
+        seconds,
+    };
+    let borrowed = Borrowed { watch };
+    let (found, borrowed) = worst_within(rt, alloc, circuit, admit, method, timed, borrowed);
+    let Borrowed { watch } = borrowed;
+    take_back(watch);
+    found
+}
+
+// As `worst`, beside a thread that runs the timer. The watch comes back.
+fn worst_within<W: Watch, R: Threads + Wait + Clock + Sync>(
+    rt: &R,
+    alloc: Global,
+    circuit: &Circuit,
+    admit: &Admit,
+    method: Method,
+    timed: Timed<'_>,
+    watch: W,
+) -> (Result<Answer, WorstFault>, W)
+    requires held { length admit.now.held ≡ length circuit.now.netlist.inputs }
+    ensures answer { IfOk result.0 (IsAnswerBy method (problem_by (tree_of method) circuit.now admit.now) timed.limits.effort.budget) }
+    ensures text { IfOk result.0 (CanBeWritten (problem_by (tree_of method) circuit.now admit.now)) }
+    ensures fault { IfErr result.0 (IsWorstFault true (problem_by (tree_of method) circuit.now admit.now)) }
+    ensures reported { W.reported (problem_by (tree_of method) circuit.now admit.now) watch result.1 }
+{
+    let Timed {
+        limits,
+        timer,
+        seconds,
+    } = timed;
+    let stop = limits.stop;
+    thread::scope(
+        thread::scope_env(),
+        rt,
+        |scope| -> (Result<Answer, WorstFault>, W)
+            requires held { length admit.now.held ≡ length circuit.now.netlist.inputs }
+            ensures answer { IfOk result.0 (IsAnswerBy method (problem_by (tree_of method) circuit.entry.now admit.entry.now) limits.effort.budget) }
+            ensures text { IfOk result.0 (CanBeWritten (problem_by (tree_of method) circuit.entry.now admit.entry.now)) }
+            ensures fault { IfErr result.0 (IsWorstFault true (problem_by (tree_of method) circuit.entry.now admit.entry.now)) }
+            ensures reported { W.reported (problem_by (tree_of method) circuit.entry.now admit.entry.now) watch result.1 }
+        {
+            let mut watch = watch;
+            let Ok(running) = scope.spawn(move || timer.run(rt, seconds, stop)) else {
+                return (Err(WorstFault::NoTimer), watch);
+            };
+            let found = worst_until(rt, alloc, circuit, admit, method, limits, &mut watch);
+            timer.end(rt);
+            running.join(rt);
+            match found {
+                Ok(answer) => (Ok(answer), watch),
+                Err(reason) => (Err(WorstFault::Search(reason)), watch),
+            }
+        },
+    )
+}
