@@ -29,7 +29,8 @@ use Rattle.td_report.specs.declared.vector.VectorWord.TheVariants.{At}
 use Rattle.td_report.specs.Vectors.{words_of, VectorWords, IsFirstBad, AreMomentsOf, GivesMoments}
 use Rattle.td_cli.specs.Admitting.{most_flips, WordsAdmit, pair_words}
 use Rattle.td_cli.specs.WorstReports.{strategy_of, IsAsked, certificate_in, pair_in}
-use Rattle.td_cli.specs.Outcomes.{question_words, HasNoAnswer, unanswered}
+use Rattle.td_cli.specs.Outcomes.{question_words, HasNoAnswer, HasNoSearch, unanswered}
+use Rattle.td_command.specs.declared.command.WorstRequest.{WorstRequest}
 use Rattle.td_report.specs.Outcomes.{IsCircuitOf, HasBadWord}
 use Rattle.td_report.proofs.Refusing.{bad_word}
 use Rattle.td_report.proofs.Vectors.{given-length}
@@ -79,11 +80,18 @@ module _ (text : List ℕ) (reading : Reading) (words : QuestionWords) where
   asked_flips asked is = omega (arith, asked_held asked is, is.admits.flips, within_inputs (length asked.setting.netlist.inputs) words.flips)
 
   -- a search of what is asked has no answer
-  pub no_answer : (asked : Problem) (fault : WorstFault) → IsAsked text reading words asked → IsWorstFault false asked fault
-      → HasNoAnswer text reading words (unanswered fault)
-  no_answer asked (worst.Search search.OutOfMemory) is fits = tt
-  no_answer asked (worst.Search search.NoPair) is none = (asked, is, λ pair admitted. none (pair, admitted, admitted.pinned))
-  no_answer asked worst.NoTimer is timed = absurd (let isnt : false ≡ true = timed in cc)
+  no_answer : (asked : Problem) (fault : SearchFault) → IsAsked text reading words asked → IsSearchFault asked fault
+      → HasNoAnswer text reading words (unanswered (worst.Search fault))
+  no_answer asked search.OutOfMemory is fits = tt
+  no_answer asked search.NoPair is none = (asked, is, λ pair admitted. none (pair, admitted, admitted.pinned))
+
+-- a search of a request has no answer
+pub no_search : (text : List ℕ) (request : WorstRequest) (is_timed : Bool) (asked : Problem) (fault : WorstFault) → is_timed ≡ is_some request.seconds
+    → IsAsked text request.reading request.question asked → IsWorstFault is_timed asked fault → HasNoSearch text request (unanswered fault)
+no_search text request is_timed asked (worst.Search search.OutOfMemory) timed is fits = tt
+no_search text request is_timed asked (worst.Search search.NoPair) timed is fits =
+    no_answer text request.reading request.question asked search.NoPair is fits
+no_search text request is_timed asked worst.NoTimer timed is fits = sym timed ∙ fits
 
 -- the certificate of an answer has a text
 pub certificate_spelled : (asked : Problem) (found : Answer) → CanBeWritten asked found → IfSome (certificate_in asked found) HasSpelling

@@ -1,8 +1,9 @@
 -- When a search is refused, and why.
-use Rattle.std.specs.Prelude.{ℕ, List, [], ◌∷◌, ◌++◌}
+use Rattle.std.specs.Prelude.{◌≡◌, ℕ, List, [], ◌∷◌, ◌++◌, true, is_some}
 use Rattle.td_reading.specs.declared.reading.Reading.{Reading}
 use Rattle.td_report.specs.declared.vector.VectorWord.TheVariants as vector
 use Rattle.td_command.specs.declared.command.QuestionWords.{QuestionWords}
+use Rattle.td_command.specs.declared.command.WorstRequest.{WorstRequest}
 use Rattle.td_report.specs.declared.refusal.Refusal.{Refusal}
 use Rattle.td_report.specs.declared.refusal.Refusal.TheVariants as refusal
 use Rattle.td_domain.specs.Pairs.{Pair}
@@ -34,3 +35,9 @@ unanswered fault.NoTimer = refusal.NoTimer
 abbrev pub HasNoAnswer : List ℕ → Reading → QuestionWords → Refusal → Type 0
 HasNoAnswer text reading words refusal.NoPair = AdmitsNone text reading words
 HasNoAnswer text reading words other = IsRefusedFor text reading (question_words words) other
+
+-- why the search of a request has no answer: there is no timer only where it is asked to end after
+-- some seconds
+abbrev pub HasNoSearch : List ℕ → WorstRequest → Refusal → Type 0
+HasNoSearch text request refusal.NoTimer = is_some request.seconds ≡ true
+HasNoSearch text request other = HasNoAnswer text request.reading request.question other

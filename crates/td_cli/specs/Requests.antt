@@ -30,7 +30,7 @@ use Rattle.td_report.specs.InfoReports.{IsInfoReport}
 use Rattle.td_cli.specs.PartReports.{IsPartsReport}
 use Rattle.td_cli.specs.JoinReports.{IsJoinReport, HasNoJoin}
 use Rattle.td_report.specs.Refusals.{refusal_text}
-use Rattle.td_cli.specs.Outcomes.{HasNoAnswer}
+use Rattle.td_cli.specs.Outcomes.{HasNoAnswer, HasNoSearch}
 use Rattle.td_report.specs.Outcomes.{HasNoCircuit, HasNoReport, HasNoPath, HasNoBounds, HasNoVerdict}
 use Rattle.td_files.specs.Files.{FileStep, FileText}
 use Rattle.td_files.specs.Disks.{Disk}
@@ -139,7 +139,7 @@ AsksSearch words = (asked : Request) × Asks words asked × (is_search asked ≡
 -- how a search of a text ends: lines of progress come first, where they are asked for
 abbrev pub SearchRuns : WorstRequest → List ℕ → (List ℕ → Type 0) → List FileStep → Status → Streams → Streams → Type 0
 SearchRuns asked text =
-    EndsBehind (TellsSearch asked.progress text asked.reading asked.question) (IsWorstProduct text asked) (HasNoAnswer text asked.reading asked.question)
+    EndsBehind (TellsSearch asked.progress text asked.reading asked.question) (IsWorstProduct text asked) (HasNoSearch text asked)
 
 -- How the command that is asked for ends, once it is known that no file of it is written over
 -- another. A search that can't read its netlist tells that and nothing before it.

@@ -1,5 +1,5 @@
 -- What `worst` prints.
-use Rattle.std.specs.Prelude.{◌≡◌, ℕ, List, ◌++◌, codes, decimal, length, Bool, Option, Some, None}
+use Rattle.std.specs.Prelude.{◌≡◌, ℕ, List, ◌++◌, codes, decimal, length, Bool, Option, Some, None, is_some}
 use Rattle.td_reading.specs.declared.reading.Reading.{Reading}
 use Rattle.td_nets.specs.Netlist.{Netlist}
 use Rattle.td_domain.specs.Pairs.{Pair}
@@ -10,7 +10,7 @@ use Rattle.td_search.specs.declared.answers.Cause.TheVariants as cause
 use Rattle.td_search.specs.declared.answers.Answer.{Answer}
 use Rattle.td_search.specs.declared.answers.Answer.TheVariants as answer
 use Rattle.td_search.specs.Problems.{Problem}
-use Rattle.td_search.specs.Answers.{certificate_of}
+use Rattle.td_search.specs.Answers.{certificate_of, TimeNeedsStop}
 use Rattle.td_command.specs.declared.command.StrategyWord.{StrategyWord}
 use Rattle.td_command.specs.declared.command.StrategyWord.TheVariants as word
 use Rattle.td_command.specs.declared.command.WorstRequest.{WorstRequest}
@@ -95,6 +95,8 @@ pub record IsWorstReport (text : List ℕ) (request : WorstRequest) (report : Li
   pub is_asked : IsAsked text request.reading request.question asked
   pub found : Answer
   pub is_answer : IsAnswerBy (strategy_of request.question.strategy) asked request.budget found
+  -- time ends a search only where it is asked to end after some seconds
+  pub timed : TimeNeedsStop (is_some request.seconds) found
   pub chain : List ℕ
   pub tells : TellsPair (beside_of request) asked.setting (pair_in found) chain
   pub is : report ≡ worst_text asked.setting.netlist found ++ chain

@@ -4,7 +4,7 @@ ghost use Rattle.std.specs.Prelude.{◌≡◌, ◌<◌, ◌≤◌, ◌++◌, tru
 ghost use Rattle.td_certificate.specs.Spelling.{HasSpelling};
 ghost use Rattle.td_report.specs.Dumps.{dump_files, HasRun};
 ghost use Rattle.td_cli.specs.WorstReports.{IsWorstReport};
-ghost use Rattle.td_cli.specs.Outcomes.{HasNoAnswer};
+ghost use Rattle.td_cli.specs.Outcomes.{HasNoSearch};
 ghost use Rattle.td_cli.specs.Progress.{progress_line, TellsSearch};
 
 use crate::answer::Found;
@@ -92,7 +92,7 @@ fn watched<'a, 'v, R: Threads + Wait + Clock + Sync, E: Sink>(
     requires some { 0 < request.now.workers }
     requires few { request.now.workers ≤ 64 }
     ensures report { IfOk result (λ found. IsWorstReport text.now request.now found.report found.certificate (dump_files found.dump)) }
-    ensures refusal { IfErr result (HasNoAnswer text.now request.now.reading request.now.question) }
+    ensures refusal { IfErr result (HasNoSearch text.now request.now) }
     ensures spelled { IfOk result (λ found. IfSome found.certificate HasSpelling) }
     ensures has { IfOk result (λ found. IfSome found.dump HasRun) }
     ensures reported { TellsSearch true text.now request.now.reading request.now.question (E.output err.old) (E.output err.new) }
@@ -116,7 +116,7 @@ pub fn searched<'a, 'v, R: Threads + Wait + Clock + Sync, E: Sink>(
     requires some { 0 < request.now.workers }
     requires few { request.now.workers ≤ 64 }
     ensures report { IfOk result (λ found. IsWorstReport text.now request.now found.report found.certificate (dump_files found.dump)) }
-    ensures refusal { IfErr result (HasNoAnswer text.now request.now.reading request.now.question) }
+    ensures refusal { IfErr result (HasNoSearch text.now request.now) }
     ensures spelled { IfOk result (λ found. IfSome found.certificate HasSpelling) }
     ensures has { IfOk result (λ found. IfSome found.dump HasRun) }
     ensures reported { TellsSearch request.now.progress text.now request.now.reading request.now.question (E.output err.old) (E.output err.new) }

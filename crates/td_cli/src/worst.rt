@@ -1,12 +1,12 @@
 //! The command `worst`: the search for the worst delay.
 
-ghost use Rattle.std.specs.Prelude.{◌≡◌, ◌<◌, ◌≤◌, ◌⊎◌, IfOk, IfErr, IfSome};
+ghost use Rattle.std.specs.Prelude.{◌≡◌, ◌<◌, ◌≤◌, ◌⊎◌, is_some, IfOk, IfErr, IfSome};
 ghost use Rattle.td_certificate.specs.Spelling.{HasSpelling};
 ghost use Rattle.td_files.specs.Files.{Takes};
 ghost use Rattle.td_search.specs.Problems.{Problem as Given};
 ghost use Rattle.td_report.specs.Dumps.{dump_files, HasRun};
 ghost use Rattle.td_report.specs.Ends.{EndsBehind, streams};
-ghost use Rattle.td_cli.specs.Outcomes.{HasNoAnswer};
+ghost use Rattle.td_cli.specs.Outcomes.{HasNoSearch};
 ghost use Rattle.td_cli.specs.Progress.{TellsSearch};
 ghost use Rattle.td_cli.specs.Requests.{search_ending, IsWorstProduct, RequestRuns};
 ghost use Rattle.td_cli.specs.WorstReports.{IsAsked, IsWorstReport};
@@ -69,7 +69,7 @@ pub fn run_on<R: Threads + Wait + Clock + Sync, F: Files, O: Sink, E: Sink>(
     requires few { request.now.workers ≤ 64 }
     ensures { Takes (F.did files.old files.new) (λ steps.
         EndsBehind (TellsSearch request.now.progress text.now request.now.reading request.now.question) (IsWorstProduct text.now request.now)
-        (HasNoAnswer text.now request.now.reading request.now.question) (F.disk files.old).breaks steps result
+        (HasNoSearch text.now request.now) (F.disk files.old).breaks steps result
         (streams (O.output out.old) (E.output err.old)) (streams (O.output out.new) (E.output err.new))) }
 {
     match searched(rt, alloc, text, request, err) {
@@ -98,6 +98,16 @@ fn ending(certificate: &Option<Certificate>) -> Status
     }
 }
 
+/// The seconds after which a search ends, if it is to end so.
+fn seconds_of(given: Option<u64>) -> Option<u32>
+    ensures { is_some result ≡ is_some given }
+{
+    match given {
+        Some(seconds) => Some(u32::try_from(seconds).unwrap_or(u32::MAX)),
+        None => None,
+    }
+}
+
 /// The report of the search for the worst delay of what the words ask, and what goes to files.
 /// There are 1 to 64 workers, and they handle at most 10,000,000 nodes. Where the changes that lead
 /// to the last change of the given pair's run are asked for, they stand after the report's other
@@ -115,7 +125,7 @@ pub fn worst<'a, 'v, W: Watch, R: Threads + Wait + Clock + Sync>(
     // The report and the certificate are those of an answer of the search, and the waves those of
     // its pair's run.
     ensures report { IfOk result (λ found. IsWorstReport text.now request.now found.report found.certificate (dump_files found.dump)) }
-    ensures refusal { IfErr result (HasNoAnswer text.now request.now.reading request.now.question) }
+    ensures refusal { IfErr result (HasNoSearch text.now request.now) }
     // A certificate has a text.
     ensures spelled { IfOk result (λ found. IfSome found.certificate HasSpelling) }
     ensures has { IfOk result (λ found. IfSome found.dump HasRun) }
@@ -130,7 +140,7 @@ pub fn worst<'a, 'v, W: Watch, R: Threads + Wait + Clock + Sync>(
             workers: request.workers,
             budget: u64::from(request.budget),
         },
-        seconds: None,
+        seconds: seconds_of(request.seconds),
     };
     let searched = td_worst::worst(
         rt,

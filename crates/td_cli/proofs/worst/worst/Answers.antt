@@ -2,7 +2,7 @@ use Rattle.std.proofs.Common.{inr}
 use Rattle.td_worst.specs.Methods.{tree_of}
 use Rattle.td_search.specs.Problems.{problem_by}
 use Rattle.td_cli.specs.WorstReports.{strategy_of}
-use Rattle.td_cli.proofs.Questions.{asked_held, asked_flips, no_answer, certificate_spelled, pair_fits}
+use Rattle.td_cli.proofs.Questions.{asked_held, asked_flips, no_search, certificate_spelled, pair_fits}
 use Rattle.td_cli.proofs.worst.worst.Goals as goal
 
 pub worst-searched-requires-clause-held : goal.worst-searched-requires-clause-held
@@ -10,7 +10,7 @@ worst-searched-requires-clause-held g c κs within = asked_held c.args.text.now 
 
 pub returns-in-Err-clause-refusal : goal.returns-in-Err-clause-refusal
 returns-in-Err-clause-refusal g c =
-    rw c.unanswered.ensures (no_answer c.args.text.now c.args.request.now.reading c.args.request.now.question _ c.in-Err.fault c.in_ok-asked.ensures.asked c.in-Err.ensures.fault)
+    rw c.unanswered.ensures (no_search c.args.text.now c.args.request.now _ _ c.in-Err.fault c.seconds_of.ensures c.in_ok-asked.ensures.asked c.in-Err.ensures.fault)
 
 pub found_of-requires-clause-flips : goal.found_of-requires-clause-flips
 found_of-requires-clause-flips g c = asked_flips c.args.text.now c.args.request.now.reading c.args.request.now.question _ c.in_ok-asked.ensures.asked
