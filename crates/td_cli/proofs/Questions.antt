@@ -1,7 +1,7 @@
 -- What the words of a search ask of a text.
 use Rattle.std.proofs.Common.{◌≡◌, ◌∙◌, ℕ, suc, ◌≤◌, Bool, List, [], ◌∷◌, ◌++◌, length, arith, refl, sym, ap, subst, inl, inr}
 use Rattle.std.proofs.lemmas.List.{length-map}
-use Rattle.std.specs.Prelude.{Option, None, Some, IfSome}
+use Rattle.std.specs.Prelude.{Option, None, Some, IfSome, is_some}
 use Rattle.td_reading.specs.declared.reading.Reading.{Reading}
 use Rattle.td_gates.specs.declared.primitives.Level.{Level}
 use Rattle.td_gates.specs.Table.{level_from}
@@ -16,7 +16,9 @@ use Rattle.td_search.specs.declared.answers.Answer.{Answer}
 use Rattle.td_search.specs.declared.answers.Answer.TheVariants as answer
 use Rattle.td_worst.specs.declared.fault.WorstFault.{WorstFault}
 use Rattle.td_worst.specs.declared.fault.WorstFault.TheVariants as worst
+use Rattle.td_search.specs.declared.answers.SearchFault.{SearchFault}
 use Rattle.td_search.specs.declared.answers.SearchFault.TheVariants as search
+use Rattle.td_search.specs.Answers.{IsSearchFault}
 use Rattle.td_worst.specs.declared.method.Method.{Method}
 use Rattle.td_worst.specs.Methods.{tree_of, IsSoundAnswer, IsAnswerBy}
 use Rattle.td_worst.proofs.Outcomes.{outcome_by}
@@ -61,7 +63,7 @@ pub is_asked : (text : List ℕ) (reading : Reading) (words : QuestionWords) (ci
     → AreMomentsOf count (words_of words.at) moments → timed ≡ with_moments circuit moments → IsAsked text reading words (problem_by (tree_of (strategy_of words.strategy)) timed admit)
 is_asked text reading words circuit timed count admit moments is counts admits are timed_is =
     subst (λ timed. IsAsked text reading words (problem_by (tree_of (strategy_of words.strategy)) timed admit)) (sym timed_is) (record {
-      is_setting = record { means = is.means; acyclic = is.acyclic; moments = subst (λ count. AreMomentsOf count (words_of words.at) moments) counts are };
+      is_setting = record { circuit = is; moments = subst (λ count. AreMomentsOf count (words_of words.at) moments) counts are };
       admits = subst (λ count. WordsAdmit count words admit) counts admits;
       strategy = refl;
     })
