@@ -30,7 +30,7 @@ from second_refutation import BadStep, Refutation
 
 CASES = 300
 USES = "td_gates td_nets td_netlist td_circuit td_domain td_event_sim td_lead td_climb"
-USES += " td_refutation td_refute"
+USES += " td_refutation td_refute td_stop"
 # The program's default delays.
 DEFAULTS = opinion.Delays(1, 1)
 # Efforts, as the program reads them: conflicts of all, of the first questions, of those after a

@@ -1,5 +1,7 @@
 //! How much a search does.
 
+ghost use Rattle.std.specs.Prelude.{◌≡◌};
+
 use td_stop::Stop;
 
 /// How much a search does, in conflicts that its solver meets, so that it finds the same on each

@@ -22,7 +22,7 @@ use td_lead::Timed;
 use td_refutation::Step;
 
 /// The greatest size of a search of which a bound is still shown once its stop is set.
-const MOST_AFTER_STOP: usize = 1_000_000;
+const MOST_AFTER_STOP: usize = 4_000_000;
 
 /// A bound of the delays of the admitted pairs, and the steps that show it.
 #[derive(Drop)]

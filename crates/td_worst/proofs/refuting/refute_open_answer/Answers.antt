@@ -1,4 +1,4 @@
-use Rattle.td_search.specs.declared.answers.Cause.TheVariants.{Budget, Memory}
+use Rattle.td_search.specs.declared.answers.Cause.TheVariants.{Memory}
 use Rattle.td_search.specs.Problems.{problem_of}
 use Rattle.td_worst.proofs.Standings.{reported_between, with_best, best_small}
 use Rattle.td_worst.proofs.refuting.refute_open_answer.Goals as goal
@@ -33,7 +33,7 @@ returns-in-Ok-Some-clause-text c =
 
 pub returns-in-Ok-None-clause-answer : goal.returns-in-Ok-None-clause-answer
 returns-in-Ok-None-clause-answer c =
-    rw c.between.ensures (reported_between (problem_of c.args.problem.now) c.args.budget _ Budget
+    rw c.between.ensures (reported_between (problem_of c.args.problem.now) c.args.budget _ c.ending.result
     (with_best (problem_of c.args.problem.now) c.args.budget c.args.known _ c.requires.known c.search.ensures.best)).0
 
 pub returns-in-Err-clause-answer : goal.returns-in-Err-clause-answer

@@ -7,7 +7,7 @@ use Rattle.td_worst.proofs.searching.by_all.Goals as goal
 pub refuted_further-requires-clause-known : goal.refuted_further-requires-clause-known
 refuted_further-requires-clause-known g c =
     let asked = problem_by Least c.args.circuit.now c.args.admit.now in
-    more_budget asked _ c.args.effort.budget c.led_further-known.result (omega (arith, c.min.ensures, c.second_nodes.ensures, c.if-effort-le-FIRST_NODES.false))
+    more_budget asked _ c.args.limits.effort.budget c.led_further-known.result (omega (arith, c.min.ensures, c.with_nodes-first.ensures.budget, c.second_nodes-rest.ensures, c.with_nodes-second.ensures.budget, c.if-effort-le-FIRST_NODES.false))
     (c.led_further-known.ensures.answer _ (outcome_of asked _ c.in_ok-known.known c.in_ok-known.ensures.answer) c.in_ok-known.ensures.text).0
 
 pub refuted_further-requires-clause-text : goal.refuted_further-requires-clause-text

@@ -6,8 +6,8 @@ use Rattle.td_worst.proofs.searching.led_further.Goals as goal
 pub returns-in-Ok-clause-answer : goal.returns-in-Ok-clause-answer
 returns-in-Ok-clause-answer g c = λ budget is written.
     let asked = problem_by Lead c.args.circuit.now c.args.admit.now in
-    c.combined.ensures.answer (problem_by Least c.args.circuit.now c.args.admit.now) budget c.args.effort.budget is written
-    (outcome_alike asked Least c.args.effort.budget c.in-Ok.found (outcome_of asked c.args.effort.budget c.in-Ok.found c.in-Ok.ensures.answer))
+    c.combined.ensures.answer (problem_by Least c.args.circuit.now c.args.admit.now) budget c.args.limits.effort.budget is written
+    (outcome_alike asked Least c.args.limits.effort.budget c.in-Ok.found (outcome_of asked c.args.limits.effort.budget c.in-Ok.found c.in-Ok.ensures.answer))
     (written_alike asked Least c.in-Ok.found c.in-Ok.ensures.text)
 
 pub returns-in-Ok-clause-reported : goal.returns-in-Ok-clause-reported

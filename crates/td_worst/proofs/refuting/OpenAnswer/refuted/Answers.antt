@@ -1,13 +1,12 @@
 use Rattle.std.proofs.Common.{arith, refl}
 use Rattle.td_domain.proofs.Changing.{vectors_in}
-use Rattle.td_search.specs.declared.answers.Cause.TheVariants.{Budget}
 use Rattle.td_worst.proofs.Leaves.{exact_reported}
 use Rattle.td_worst.proofs.Standings.{reported_between, lowered, shown_above}
 use Rattle.td_worst.proofs.refuting.OpenAnswer.refuted.Goals as goal
 
 pub returns-then-refuted-time-clause-answer : goal.returns-then-refuted-time-clause-answer
 returns-then-refuted-time-clause-answer c = λ asked budget some sizes is shown.
-    rw (c.between.ensures, c.min-high.ensures) (reported_between asked budget _ Budget (lowered asked budget c.args.refuted.now.bound c.args.self is shown.bound))
+    rw (c.between.ensures, c.min-high.ensures) (reported_between asked budget _ c.ending.result (lowered asked budget c.args.refuted.now.bound c.args.self is shown.bound))
 
 pub returns-then-refuted-time-clause-low : goal.returns-then-refuted-time-clause-low
 returns-then-refuted-time-clause-low c = rw c.between.ensures refl
