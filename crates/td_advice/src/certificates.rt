@@ -34,7 +34,7 @@ impl<'a> Judging<'a> {
         if let Status::Device = self.ended {
             return not_written(text);
         }
-        match check(self.alloc, self.netlist.bytes, self.reading, bytes) {
+        match check(self.alloc, self.netlist.bytes, &self.reading, bytes) {
             Ok(checked) => match checked.verdict {
                 Verdict::Accepted => Ok(()),
                 verdict => not_accepted(text, name, verdict),
@@ -66,7 +66,7 @@ impl<'a> Joining<'a> {
             Err(fault) => return Err(Refusal::BadPart(name, fault)),
         };
         if self.is_checked {
-            match check(self.alloc, self.netlist.bytes, self.reading, bytes) {
+            match check(self.alloc, self.netlist.bytes, &self.reading, bytes) {
                 Ok(checked) => match checked.verdict {
                     Verdict::Accepted => {}
                     verdict => return Err(Refusal::Unaccepted(name, verdict)),

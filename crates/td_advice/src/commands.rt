@@ -168,9 +168,9 @@ fn about_netlist<F: Files, R: Reasons>(
         file,
         bytes: bytes.as_slice(),
     };
-    let circuit = match circuit(alloc, netlist.bytes, reading) {
+    let circuit = match circuit(alloc, netlist.bytes, &reading) {
         Ok(circuit) => circuit,
-        Err(Refusal::NoOutput) => return about_output(alloc, text, &netlist, reading),
+        Err(Refusal::NoOutput) => return about_output(alloc, text, &netlist, &reading),
         Err(refusal) => return explain(text, &netlist, &refusal),
     };
     if bad_words(alloc, text, request, &circuit)? {
@@ -207,9 +207,9 @@ fn about_output(
     alloc: Global,
     text: &mut Text,
     netlist: &NetlistText<'_>,
-    reading: Reading<'_>,
+    reading: &Reading<'_>,
 ) -> Result<(), AllocError> {
-    match circuit(alloc, netlist.bytes, Reading::whole(reading.default)) {
+    match circuit(alloc, netlist.bytes, &Reading::whole(reading.default)) {
         Ok(circuit) => no_output(text, &circuit, reading.output.unwrap_or("")),
         Err(refusal) => explain(text, netlist, &refusal),
     }

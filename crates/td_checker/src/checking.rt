@@ -187,13 +187,13 @@ fn spelled_by<'a>(alloc: Global, text: &[u8]) -> Result<Certificate, CheckFault<
 fn verdict_of_texts<'a>(
     alloc: Global,
     netlist: &'a [u8],
-    reading: Reading<'_>,
+    reading: &Reading<'_>,
     certificate: &[u8],
 ) -> Result<Checked, CheckFault<'a>>
-    ensures reported { IfOk result (λ checked. HaveVerdict netlist.now reading.entry certificate.now checked.verdict) }
+    ensures reported { IfOk result (λ checked. HaveVerdict netlist.now reading.now certificate.now checked.verdict) }
     ensures spelled { IfOk result (λ checked. Spells checked.certificate certificate.now) }
-    ensures fault { IfErr result (λ fault. IsCheckFault netlist.now reading.entry certificate.now fault) }
-    ensures worst { IfOk result (λ checked. checked.verdict ≡ Verdict.Accepted → TellsWorst netlist.now reading.entry certificate.now) }
+    ensures fault { IfErr result (λ fault. IsCheckFault netlist.now reading.now certificate.now fault) }
+    ensures worst { IfOk result (λ checked. checked.verdict ≡ Verdict.Accepted → TellsWorst netlist.now reading.now certificate.now) }
 {
     let circuit = circuit_of(alloc, netlist, reading)?;
     let spelled = spelled_by(alloc, certificate)?;
@@ -214,20 +214,20 @@ fn verdict_of_texts<'a>(
 pub fn check<'a>(
     alloc: Global,
     netlist: &'a [u8],
-    reading: Reading<'_>,
+    reading: &Reading<'_>,
     certificate: &[u8],
 ) -> Result<Checked, CheckFault<'a>>
     // The verdict is the one on the two texts. The certificate is the one that the second text
     // spells. A fault is one of theirs.
-    ensures reported { IfOk result (λ checked. HaveVerdict netlist.now reading.entry certificate.now checked.verdict) }
+    ensures reported { IfOk result (λ checked. HaveVerdict netlist.now reading.now certificate.now checked.verdict) }
     ensures spelled { IfOk result (λ checked. Spells checked.certificate certificate.now) }
-    ensures fault { IfErr result (λ fault. IsCheckFault netlist.now reading.entry certificate.now fault) }
+    ensures fault { IfErr result (λ fault. IsCheckFault netlist.now reading.now certificate.now fault) }
 
     // Unless memory runs out, texts that have a verdict get it, where no leaf is refuted by steps.
-    ensures only { (verdict : Reported) → IsUnrefuted certificate.now → HaveVerdict netlist.now reading.entry certificate.now verdict → IsReportedAs verdict result }
+    ensures only { (verdict : Reported) → IsUnrefuted certificate.now → HaveVerdict netlist.now reading.now certificate.now verdict → IsReportedAs verdict result }
 
     // An accepted time is the worst delay of the admitted pairs.
-    ensures worst { IfOk result (λ checked. checked.verdict ≡ Verdict.Accepted → TellsWorst netlist.now reading.entry certificate.now) }
+    ensures worst { IfOk result (λ checked. checked.verdict ≡ Verdict.Accepted → TellsWorst netlist.now reading.now certificate.now) }
 {
     verdict_of_texts(alloc, netlist, reading, certificate)
 }

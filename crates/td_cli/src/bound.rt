@@ -49,7 +49,7 @@ pub fn run_on<O: Sink, E: Sink>(
     let bounded = bounds(
         alloc,
         text,
-        request.reading,
+        &request.reading,
         request.first,
         request.second,
         request.at,

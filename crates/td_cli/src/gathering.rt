@@ -57,13 +57,13 @@ fn unjudged<'a>(name: &'a str, fault: CheckFault<'a>) -> Refusal<'a>
 fn accepted_part<'a>(
     alloc: Global,
     text: &'a [u8],
-    reading: Reading<'_>,
+    reading: &Reading<'_>,
     name: &'a str,
     bytes: &[u8],
 ) -> Result<Certificate, Refusal<'a>>
     ensures spelled { IfOk result (λ part. Spells part bytes.now) }
-    ensures accepted { IfOk result (λ part. HaveVerdict text.now reading.entry bytes.now Reported.Accepted) }
-    ensures refusal { IfErr result (λ reason. (netlist : Netlist) → TellsNoPart text.now reading.entry netlist true name.now bytes.now reason) }
+    ensures accepted { IfOk result (λ part. HaveVerdict text.now reading.now bytes.now Reported.Accepted) }
+    ensures refusal { IfErr result (λ reason. (netlist : Netlist) → TellsNoPart text.now reading.now netlist true name.now bytes.now reason) }
 {
     let checked = match check(alloc, text, reading, bytes) {
         Ok(checked) => checked,
@@ -79,14 +79,14 @@ fn accepted_part<'a>(
 fn judged_part<'a>(
     alloc: Global,
     text: &'a [u8],
-    reading: Reading<'_>,
+    reading: &Reading<'_>,
     is_checked: bool,
     name: &'a str,
     bytes: &[u8],
 ) -> Result<Certificate, Refusal<'a>>
     ensures spelled { IfOk result (λ part. Spells part bytes.now) }
-    ensures accepted { IfOk result (λ part. is_checked ≡ true → HaveVerdict text.now reading.entry bytes.now Reported.Accepted) }
-    ensures refusal { IfErr result (λ reason. (netlist : Netlist) → TellsNoPart text.now reading.entry netlist is_checked name.now bytes.now reason) }
+    ensures accepted { IfOk result (λ part. is_checked ≡ true → HaveVerdict text.now reading.now bytes.now Reported.Accepted) }
+    ensures refusal { IfErr result (λ reason. (netlist : Netlist) → TellsNoPart text.now reading.now netlist is_checked name.now bytes.now reason) }
 {
     if is_checked {
         accepted_part(alloc, text, reading, name, bytes)
@@ -99,14 +99,14 @@ fn judged_part<'a>(
 fn part<'a>(
     alloc: Global,
     text: &'a [u8],
-    reading: Reading<'_>,
+    reading: &Reading<'_>,
     circuit: &Circuit,
     is_checked: bool,
     name: &'a str,
     bytes: &[u8],
 ) -> Result<Certificate, Refusal<'a>>
-    ensures part { IfOk result (TellsPart text.now reading.entry circuit.now.netlist is_checked bytes.now) }
-    ensures refusal { IfErr result (TellsNoPart text.now reading.entry circuit.now.netlist is_checked name.now bytes.now) }
+    ensures part { IfOk result (TellsPart text.now reading.now circuit.now.netlist is_checked bytes.now) }
+    ensures refusal { IfErr result (TellsNoPart text.now reading.now circuit.now.netlist is_checked name.now bytes.now) }
 {
     let part = judged_part(alloc, text, reading, is_checked, name, bytes)?;
     if is_of_size(circuit, &part) {
@@ -121,14 +121,14 @@ fn part_in<'a, F: Files>(
     alloc: Global,
     files: &mut F,
     text: &'a [u8],
-    reading: Reading<'_>,
+    reading: &Reading<'_>,
     circuit: &Circuit,
     is_checked: bool,
     name: &'a str,
 ) -> Result<Certificate, Refusal<'a>>
-    ensures part { IfOk result (GivesPart (F.disk files.old) text.now reading.entry circuit.now.netlist is_checked name.now) }
+    ensures part { IfOk result (GivesPart (F.disk files.old) text.now reading.now circuit.now.netlist is_checked name.now) }
     ensures refusal { IfErr result (λ reason. reason ≢ Reason.OutOfMemory
-        → HoldsOnFile (F.disk files.old) name.now (TellsNoPart text.now reading.entry circuit.now.netlist is_checked name.now) reason) }
+        → HoldsOnFile (F.disk files.old) name.now (TellsNoPart text.now reading.now circuit.now.netlist is_checked name.now) reason) }
     ensures stays { files.new ≡ files.old }
 {
     match files.read(alloc, name) {
@@ -144,15 +144,15 @@ pub fn parts_in<'a, F: Files>(
     alloc: Global,
     files: &mut F,
     text: &'a [u8],
-    reading: Reading<'_>,
+    reading: &Reading<'_>,
     circuit: &Circuit,
     is_checked: bool,
     names: &[&'a str],
 ) -> Result<Vec<Certificate>, Refusal<'a>>
-    ensures parts { IfOk result (λ parts. AreParts (F.disk files.old) text.now reading.entry circuit.now.netlist is_checked
+    ensures parts { IfOk result (λ parts. AreParts (F.disk files.old) text.now reading.now circuit.now.netlist is_checked
         (map (λ name. name.now) names.now) parts.items) }
     ensures refusal { IfErr result (λ reason. reason ≢ Reason.OutOfMemory
-        → HasNoPart (F.disk files.old) text.now reading.entry circuit.now.netlist is_checked
+        → HasNoPart (F.disk files.old) text.now reading.now circuit.now.netlist is_checked
         (map (λ name. name.now) names.now) reason) }
     ensures stays { files.new ≡ files.old }
 {

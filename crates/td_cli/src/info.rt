@@ -28,7 +28,7 @@ pub fn run<F: Files, O: Sink, E: Sink>(
         (streams (O.output out.old) (E.output err.old)) (streams (O.output out.new) (E.output err.new))) }
 {
     match files.read(alloc, request.file) {
-        Ok(text) => run_on(alloc, &text, request.reading, out, err),
+        Ok(text) => run_on(alloc, &text, &request.reading, out, err),
         Err(fault) => tell_unread(alloc, err, request.file, fault),
     }
 }
@@ -38,11 +38,11 @@ pub fn run<F: Files, O: Sink, E: Sink>(
 pub fn run_on<O: Sink, E: Sink>(
     alloc: Global,
     text: &[u8],
-    reading: Reading<'_>,
+    reading: &Reading<'_>,
     out: &mut O,
     err: &mut E,
 ) -> Status
-    ensures { Ends (IsInfoProduct text.now reading.entry) (HasNoCircuit text.now reading.entry) (λ _. ⊥) [] result
+    ensures { Ends (IsInfoProduct text.now reading.now) (HasNoCircuit text.now reading.now) (λ _. ⊥) [] result
         (streams (O.output out.old) (E.output err.old)) (streams (O.output out.new) (E.output err.new)) }
 {
     match info(alloc, text, reading) {

@@ -143,7 +143,7 @@ pub fn join_files<'a, F: Files>(
     ensures spelled { IfOk result (λ joined. HasSpelling joined.whole) }
     ensures stays { files.new ≡ files.old }
 {
-    let circuit = circuit(alloc, text, request.reading)?;
+    let circuit = circuit(alloc, text, &request.reading)?;
     let inputs = circuit.input_count();
     let pins = match pins_given(alloc, request.first, request.second, inputs)? {
         Ok(pins) => pins,
@@ -154,7 +154,7 @@ pub fn join_files<'a, F: Files>(
         alloc,
         files,
         text,
-        request.reading,
+        &request.reading,
         &circuit,
         request.check,
         names,

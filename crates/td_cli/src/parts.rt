@@ -37,24 +37,24 @@ pub fn parts<'a>(
     ensures report { IfOk result (IsPartsReport text.now request.now) }
     ensures refusal { IfErr result (HasNoAnswer text.now request.now.reading request.now.question) }
 {
-    let asked = question_of(alloc, text, request.reading, request.question)?;
+    let asked = question_of(alloc, text, &request.reading, request.question)?;
     let problem = Problem {
         circuit: &asked.circuit,
         admit: &asked.admit,
         strategy: strategy_of(request.question.strategy).strategy(),
     };
     let cubes = cut(alloc, &problem, request.parts as usize)?;
-    some_lines(alloc, &cubes, request.reading, request.question)
+    some_lines(alloc, &cubes, &request.reading, request.question)
 }
 
 /// A line for each part, of which there has to be one.
 fn some_lines<'a>(
     alloc: Global,
     cubes: &[Cube],
-    reading: Reading<'_>,
+    reading: &Reading<'_>,
     words: QuestionWords<'_>,
 ) -> Result<Text, Refusal<'a>>
-    ensures lines { IfOk result (λ text. (0 < length cubes.now) × (text ≡ flat_map (part_line reading.entry words.entry) cubes.now)) }
+    ensures lines { IfOk result (λ text. (0 < length cubes.now) × (text ≡ flat_map (part_line reading.now words.entry) cubes.now)) }
     ensures none { IfErr result (λ reason. (reason ≡ Reason.OutOfMemory) ⊎ ((reason ≡ Reason.NoPair) × (length cubes.now ≡ 0))) }
 {
     if cubes.is_empty() {
@@ -68,10 +68,10 @@ fn some_lines<'a>(
 fn lines(
     alloc: Global,
     cubes: &[Cube],
-    reading: Reading<'_>,
+    reading: &Reading<'_>,
     words: QuestionWords<'_>,
 ) -> Result<Text, AllocError>
-    ensures { IfOk result (λ text. text ≡ flat_map (part_line reading.entry words.entry) cubes.now) }
+    ensures { IfOk result (λ text. text ≡ flat_map (part_line reading.now words.entry) cubes.now) }
 {
     let mut text = Text::new(alloc);
     for cube in cubes {
@@ -84,10 +84,10 @@ fn lines(
 fn push_part(
     text: &mut Text,
     cube: &Cube,
-    reading: Reading<'_>,
+    reading: &Reading<'_>,
     words: QuestionWords<'_>,
 ) -> Result<(), AllocError>
-    ensures { OnOk result (text.new ≡ text.old ++ part_line reading.entry words.entry cube.now) }
+    ensures { OnOk result (text.new ≡ text.old ++ part_line reading.now words.entry cube.now) }
 {
     push_options(text, cube, words)?;
     push_default(text, b" --default-rise ", reading.default.rise)?;

@@ -49,7 +49,7 @@ pub fn run_on<O: Sink, E: Sink>(
     let explained = path(
         alloc,
         text,
-        request.reading,
+        &request.reading,
         request.from,
         request.to,
         request.at,

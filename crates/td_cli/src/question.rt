@@ -44,11 +44,11 @@ pub struct Asked {
 pub fn question_of<'a>(
     alloc: Global,
     text: &'a [u8],
-    reading: Reading<'_>,
+    reading: &Reading<'_>,
     words: QuestionWords<'_>,
 ) -> Result<Asked, Refusal<'a>>
-    ensures asked { IfOk result (λ asked. IsAsked text.now reading.entry words.entry (problem_by (tree_of (strategy_of words.entry.strategy)) asked.circuit asked.admit)) }
-    ensures refusal { IfErr result (IsRefusedFor text.now reading.entry (question_words words.entry)) }
+    ensures asked { IfOk result (λ asked. IsAsked text.now reading.now words.entry (problem_by (tree_of (strategy_of words.entry.strategy)) asked.circuit asked.admit)) }
+    ensures refusal { IfErr result (IsRefusedFor text.now reading.now (question_words words.entry)) }
 {
     let mut circuit = circuit(alloc, text, reading)?;
     let admit = match admit_in(alloc, &mut circuit, words)? {

@@ -50,7 +50,7 @@ pub fn run_on<F: Files, O: Sink, E: Sink>(
     let simulated = sim(
         alloc,
         text,
-        request.reading,
+        &request.reading,
         request.from,
         request.to,
         request.at,

@@ -133,7 +133,7 @@ pub fn worst<'a, 'v, W: Watch, R: Threads + Wait + Clock + Sync>(
     ensures reported { (watch.new ≡ watch.old)
         ⊎ ((asked : Given) × IsAsked text.now request.now.reading request.now.question asked × W.reported asked watch.old watch.new) }
 {
-    let asked = question_of(alloc, text, request.reading, request.question)?;
+    let asked = question_of(alloc, text, &request.reading, request.question)?;
     let method = strategy_of(request.question.strategy);
     let effort = TimedEffort {
         effort: Effort {

@@ -31,7 +31,7 @@ use td_ternary::Possible;
 pub fn bounds<'a>(
     alloc: Global,
     text: &'a [u8],
-    reading: Reading<'_>,
+    reading: &Reading<'_>,
     first: Option<&str>,
     second: Option<&str>,
     at: Option<&str>,
@@ -39,9 +39,9 @@ pub fn bounds<'a>(
 ) -> Result<Text, Refusal<'a>>
     // The report is that of the cube's bounds in the netlist that is read of the text.
     ensures report { IfOk result (λ report.
-        IsBoundReport text.now reading.entry (words_of first.entry) (words_of second.entry) (words_of at.entry) edges report) }
+        IsBoundReport text.now reading.now (words_of first.entry) (words_of second.entry) (words_of at.entry) edges report) }
     ensures refusal { IfErr result (λ refusal.
-        HasNoBounds text.now reading.entry (words_of first.entry) (words_of second.entry) (words_of at.entry) refusal) }
+        HasNoBounds text.now reading.now (words_of first.entry) (words_of second.entry) (words_of at.entry) refusal) }
 {
     let mut circuit = circuit(alloc, text, reading)?;
     let reported = bounds_in(alloc, &mut circuit, first, second, at, edges)?;

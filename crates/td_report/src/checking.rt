@@ -26,14 +26,14 @@ pub struct Checked {
 pub fn verdict_on<'a>(
     alloc: Global,
     text: &'a [u8],
-    reading: Reading<'_>,
+    reading: &Reading<'_>,
     certificate: &[u8],
 ) -> Result<Checked, Refusal<'a>>
     // The report tells the verdict on the two texts.
     ensures report { IfOk result (λ checked.
-        IsCheckReport text.now reading.entry certificate.now checked.ending checked.report) }
+        IsCheckReport text.now reading.now certificate.now checked.ending checked.report) }
     ensures refusal { IfErr result (λ refusal.
-        HasNoVerdict text.now reading.entry certificate.now refusal) }
+        HasNoVerdict text.now reading.now certificate.now refusal) }
 {
     let found = match check(alloc, text, reading, certificate) {
         Ok(found) => found,

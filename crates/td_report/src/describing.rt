@@ -19,9 +19,9 @@ use td_reading::Reading;
 /// The report that tells what is in a netlist: the module's name, the unit of a step, how many
 /// inputs, outputs and gates there are and how many gates the default delay serves, the depth, the
 /// least and the greatest delay, and the inputs and the outputs in order.
-pub fn info<'a>(alloc: Global, text: &'a [u8], reading: Reading<'_>) -> Result<Text, Refusal<'a>>
-    ensures report { IfOk result (IsInfoReport text.now reading.entry) }
-    ensures refusal { IfErr result (HasNoCircuit text.now reading.entry) }
+pub fn info<'a>(alloc: Global, text: &'a [u8], reading: &Reading<'_>) -> Result<Text, Refusal<'a>>
+    ensures report { IfOk result (IsInfoReport text.now reading.now) }
+    ensures refusal { IfErr result (HasNoCircuit text.now reading.now) }
 {
     let circuit = circuit(alloc, text, reading)?;
     let report = report_of(alloc, &circuit)?;

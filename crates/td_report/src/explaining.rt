@@ -31,14 +31,14 @@ use td_run::Run;
 pub fn path<'a>(
     alloc: Global,
     text: &'a [u8],
-    reading: Reading<'_>,
+    reading: &Reading<'_>,
     from: &str,
     to: &str,
     at: Option<&str>,
     output: Option<&str>,
 ) -> Result<Text, Refusal<'a>>
-    ensures report { IfOk result (IsPathReport text.now reading.entry from.now to.now (words_of at.entry) (words_of output.entry)) }
-    ensures refusal { IfErr result (HasNoPath text.now reading.entry from.now to.now (words_of at.entry) (words_of output.entry)) }
+    ensures report { IfOk result (IsPathReport text.now reading.now from.now to.now (words_of at.entry) (words_of output.entry)) }
+    ensures refusal { IfErr result (HasNoPath text.now reading.now from.now to.now (words_of at.entry) (words_of output.entry)) }
 {
     let simulation = simulated_run(alloc, text, reading, from, to, at)?;
     let reported = path_in(alloc, &simulation.circuit, &simulation.run, output)?;

@@ -50,7 +50,7 @@ pub struct Simulated<'v> {
 pub fn sim<'a, 'v>(
     alloc: Global,
     text: &'a [u8],
-    reading: Reading<'_>,
+    reading: &Reading<'_>,
     from: &str,
     to: &str,
     at: Option<&str>,
@@ -59,10 +59,10 @@ pub fn sim<'a, 'v>(
     // The report is that of the run of the netlist that is read of the text, with the moments of
     // the option.
     ensures report { IfOk result (λ simulated.
-        IsSimReport text.now reading.entry from.now to.now (words_of at.entry) (words_of shown.entry.vcd) shown.entry.outputs
+        IsSimReport text.now reading.now from.now to.now (words_of at.entry) (words_of shown.entry.vcd) shown.entry.outputs
             simulated.report (dump_files simulated.dump)) }
     ensures refusal { IfErr result (λ refusal.
-        HasNoReport text.now reading.entry from.now to.now (words_of at.entry) refusal) }
+        HasNoReport text.now reading.now from.now to.now (words_of at.entry) refusal) }
     ensures has { IfOk result (λ simulated. IfSome simulated.dump HasRun) }
 {
     let simulation = simulated_run(alloc, text, reading, from, to, at)?;
@@ -89,16 +89,16 @@ pub struct Simulation {
 pub fn simulated_run<'a>(
     alloc: Global,
     text: &'a [u8],
-    reading: Reading<'_>,
+    reading: &Reading<'_>,
     from: &str,
     to: &str,
     at: Option<&str>,
 ) -> Result<Simulation, Refusal<'a>>
     ensures is { IfOk result (λ simulation.
-        IsSimulation text.now reading.entry from.now to.now (words_of at.entry) simulation.circuit simulation.run) }
+        IsSimulation text.now reading.now from.now to.now (words_of at.entry) simulation.circuit simulation.run) }
     ensures has { IfOk result (λ simulation. IsRunFor simulation.circuit simulation.run) }
     ensures refusal { IfErr result (λ refusal.
-        HasNoReport text.now reading.entry from.now to.now (words_of at.entry) refusal) }
+        HasNoReport text.now reading.now from.now to.now (words_of at.entry) refusal) }
 {
     let mut circuit = circuit(alloc, text, reading)?;
     let run = match run_in(alloc, &mut circuit, from, to, at)? {
@@ -142,10 +142,10 @@ fn run_in(
 pub fn circuit<'a>(
     alloc: Global,
     text: &'a [u8],
-    reading: Reading<'_>,
+    reading: &Reading<'_>,
 ) -> Result<Circuit, Refusal<'a>>
-    ensures circuit { IfOk result (λ circuit. IsCircuitOf text.now reading.entry circuit) }
-    ensures refusal { IfErr result (λ refusal. HasNoCircuit text.now reading.entry refusal) }
+    ensures circuit { IfOk result (λ circuit. IsCircuitOf text.now reading.now circuit) }
+    ensures refusal { IfErr result (λ refusal. HasNoCircuit text.now reading.now refusal) }
 {
     let circuit = circuit_of(alloc, text, reading)?;
     Ok(circuit)

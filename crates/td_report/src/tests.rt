@@ -5,7 +5,7 @@ use crate::checking::verdict_on;
 use crate::describing::info;
 use crate::explaining::path;
 use crate::refusal::Refusal;
-use crate::simulate::sim;
+use crate::simulate::{Shown, sim};
 use crate::text::Text;
 use std::alloc::Global;
 use std::test::*;
@@ -44,7 +44,7 @@ fn is_missed<'a>(report: Result<Text, Refusal<'a>>) -> bool {
 }
 
 fn bounds_for<'a>(alloc: Global, output: Option<&'a str>) -> Result<Text, Refusal<'static>> {
-    bounds(alloc, NETLIST, asking(output), None, None, None, false)
+    bounds(alloc, NETLIST, &asking(output), None, None, None, false)
 }
 
 #[test]
@@ -74,7 +74,19 @@ fn bounds_of_an_output(rt: HostRuntime) -> Result<(), Fail> {
 
 /// The report on a run.
 fn run_for<'a>(alloc: Global, output: Option<&'a str>) -> Result<Text, Refusal<'static>> {
-    let simulated = sim(alloc, NETLIST, asking(output), "00", "11", None, None)?;
+    let shown = Shown {
+        outputs: true,
+        vcd: None,
+    };
+    let simulated = sim(
+        alloc,
+        NETLIST,
+        &asking(output),
+        "00",
+        "11",
+        None,
+        shown,
+    )?;
     Ok(simulated.report)
 }
 
@@ -84,7 +96,7 @@ fn path_for<'a>(
     asked: Option<&'a str>,
     output: Option<&str>,
 ) -> Result<Text, Refusal<'static>> {
-    path(alloc, NETLIST, asking(asked), "00", "11", None, output)
+    path(alloc, NETLIST, &asking(asked), "00", "11", None, output)
 }
 
 #[test]
@@ -106,13 +118,13 @@ fn runs_of_an_output(rt: HostRuntime) -> Result<(), Fail> {
     assert!(rt; is_missed(path_for(alloc, Some("x"), None)));
     assert!(rt; is_missed(path_for(alloc, Some("y"), Some("z"))));
     assert!(rt; path_for(alloc, Some("y"), Some("y")).is_ok());
-    assert!(rt; is_missed(info(alloc, NETLIST, asking(Some("x")))));
+    assert!(rt; is_missed(info(alloc, NETLIST, &asking(Some("x")))));
     Ok(())
 }
 
 /// The report of the verdict on the certificate, where this output is asked about.
 fn verdict_for<'a>(alloc: Global, output: Option<&'a str>) -> Result<Text, Refusal<'static>> {
-    let checked = verdict_on(alloc, NETLIST, asking(output), CERTIFICATE)?;
+    let checked = verdict_on(alloc, NETLIST, &asking(output), CERTIFICATE)?;
     Ok(checked.report)
 }
 

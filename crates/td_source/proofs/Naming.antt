@@ -1,5 +1,5 @@
 -- The first output of a name, and the one netlist that is read of a text.
-use Rattle.std.proofs.Common.{◌≡◌, ◌≢◌, ◌<◌, ◌≤◌, ◌+◌, ◌∙◌, ℕ, List, length, map, sym, ap, subst, refl, arith, inl, inr, slice_get, Option, Some, None, Bool, true, false, true≢false}
+use Rattle.std.proofs.Common.{◌≡◌, ◌≢◌, ◌<◌, ◌≤◌, ◌+◌, ◌∙◌, ℕ, List, [], ◌∷◌, length, map, sym, ap, subst, refl, arith, inl, inr, slice_get, Option, Some, None, Bool, true, false, true≢false}
 use Rattle.std.specs.List.{Contains}
 use Rattle.std.specs.Str.{bytes_eq}
 use Rattle.std.proofs.lemmas.Bool.{cases_eq, cases_lt}
@@ -8,10 +8,18 @@ use Rattle.td_gates.proofs.Places.{some-same, slice_get-some, Contains-slice_get
 use Rattle.td_nets.specs.Netlist.{Name, Netlist}
 use Rattle.td_nets.specs.Printed.{printed}
 use Rattle.td_nets.specs.Alone.{IsAlone}
+use Rattle.td_netlist.specs.declared.fault.Fault.{Fault}
+use Rattle.td_netlist.specs.declared.fault.FaultKind.TheVariants as kind
+use Rattle.td_netlist.specs.NameFaults.{IsFaultIn}
 use Rattle.td_netlist.specs.Means.{Means}
 use Rattle.td_netlist.proofs.Readings.{one_netlist}
 use Rattle.td_reading.specs.declared.reading.Reading.{Reading}
 use Rattle.td_reading.specs.Outputs.{output_asked}
+use Rattle.td_source.specs.declared.fault.SourceFault.{SourceFault}
+use Rattle.td_circuit.specs.declared.building.BuildFault.{BuildFault}
+use Rattle.td_circuit.specs.declared.building.BuildFault.TheVariants as build
+use Rattle.td_circuit.specs.Built.{FitsBuildFault}
+use Rattle.td_source.specs.Faults.{IsOfFault, IsOfLoop, IsSourceFault}
 use Rattle.td_source.specs.Reads.{NoneBefore, IsFirstNamed, HasNoneNamed, IsAskedAbout, Reads, ReadsOne}
 
 -- one more output that isn't printed so
@@ -53,3 +61,22 @@ pub reads_one : ReadsOne
 reads_one text reading one other p q =
     let same : p.whole ≡ q.whole = one_netlist text reading.default p.whole q.whole p.means q.means in
     one_asked q.whole (output_asked reading) one other (subst (λ (whole : Netlist). IsAskedAbout whole (output_asked reading) one) same p.asked) q.asked
+
+-- what a fault of the reader is to whoever asked for a circuit
+pub refused_fits : (text : List ℕ) (reading : Reading) (reported : Fault) (refused : SourceFault) → IsOfFault reported refused
+    → ((netlist : Netlist) → Means text reading.default netlist → reported.kind ≡ kind.OutOfMemory)
+    → IsFaultIn text reported.kind reported.line → IsSourceFault text reading refused
+refused_fits text reading reported refused is only has =
+    let P : SourceFault → Type 0 = λ r. IsSourceFault text reading r in
+    elim is [
+      | inl memory ↦ subst P (sym memory) tt
+      | inr other ↦ subst P (sym other.1) (record { reported = other.0; means_none = λ netlist means. other.0 (only netlist means); has = has })
+    ]
+
+-- what a loop is to whoever asked for a circuit
+pub looped_fits : (text : List ℕ) (reading : Reading) (netlist : Netlist) → Reads text reading netlist → (built : BuildFault) (refused : SourceFault)
+    → IsOfLoop built refused → FitsBuildFault netlist built → IsSourceFault text reading refused
+looped_fits text reading netlist reads build.OutOfMemory refused is fits =
+    let P : SourceFault → Type 0 = λ r. IsSourceFault text reading r in subst P (sym is) tt
+looped_fits text reading netlist reads (build.Loop name) refused is fits =
+    let P : SourceFault → Type 0 = λ r. IsSourceFault text reading r in subst P (sym is) (netlist, reads, fits)

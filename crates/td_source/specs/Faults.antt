@@ -6,6 +6,8 @@ use Rattle.td_netlist.specs.declared.fault.Fault.{Fault}
 use Rattle.td_netlist.specs.declared.fault.FaultKind.TheVariants as kind
 use Rattle.td_netlist.specs.NameFaults.{IsFaultIn}
 use Rattle.td_netlist.specs.Means.{Means}
+use Rattle.td_circuit.specs.declared.building.BuildFault.{BuildFault}
+use Rattle.td_circuit.specs.declared.building.BuildFault.TheVariants as build
 use Rattle.td_circuit.specs.Loops.{LiesOnLoop}
 use Rattle.td_reading.specs.declared.reading.Reading.{Reading}
 use Rattle.td_reading.specs.Outputs.{output_asked}
@@ -14,10 +16,10 @@ use Rattle.td_source.specs.declared.fault.SourceFault.TheVariants as fault
 use Rattle.td_source.specs.Reads.{HasNoneNamed, Reads}
 
 -- the text means no netlist, and has the fault
-pub record IsNetlistFault (text : List ℕ) (reading : Reading) (reported : Fault) : Type 0 where
-  pub reported : reported.kind ≢ kind.OutOfMemory
+pub record IsNetlistFault (text : List ℕ) (reading : Reading) (found : Fault) : Type 0 where
+  pub reported : found.kind ≢ kind.OutOfMemory
   pub means_none : (netlist : Netlist) → ¬ Means text reading.default netlist
-  pub has : IsFaultIn text reported.kind reported.line
+  pub has : IsFaultIn text found.kind found.line
 
 -- the text means a netlist, no output of which has the name that is asked about
 pub record NamesNone (text : List ℕ) (reading : Reading) : Type 0 where
@@ -37,3 +39,8 @@ IsSourceFault text reading (fault.Loop name) = (netlist : Netlist) × Reads text
 -- the fault is that of the reader, or says that memory ran out
 abbrev pub IsOfFault : Fault → SourceFault → Type 0
 IsOfFault reported found = (found ≡ fault.OutOfMemory) ⊎ ((reported.kind ≢ kind.OutOfMemory) × (found ≡ fault.Netlist reported))
+
+-- the fault is that of a circuit, or says that memory ran out
+abbrev pub IsOfLoop : BuildFault → SourceFault → Type 0
+IsOfLoop build.OutOfMemory found = found ≡ fault.OutOfMemory
+IsOfLoop (build.Loop name) found = found ≡ fault.Loop name

@@ -3,7 +3,7 @@
 ghost use Rattle.std.specs.Prelude.{◌≡◌, IfOk, IfErr};
 ghost use Rattle.td_nets.specs.WellFormed.{IsWellFormed};
 ghost use Rattle.td_source.specs.Reads.{Reads, HasCircuit};
-ghost use Rattle.td_source.specs.Faults.{IsOfFault, IsSourceFault};
+ghost use Rattle.td_source.specs.Faults.{IsOfFault, IsOfLoop, IsSourceFault};
 
 use crate::fault::SourceFault;
 use crate::outputs::place_of_output;
@@ -23,17 +23,16 @@ use td_reading::Reading;
 pub fn circuit_of<'a>(
     alloc: Global,
     text: &'a [u8],
-    reading: Reading<'_>,
+    reading: &Reading<'_>,
 ) -> Result<Circuit, SourceFault<'a>>
-    ensures circuit { IfOk result (λ circuit. HasCircuit text.now reading.entry circuit.netlist) }
+    ensures circuit { IfOk result (λ circuit. HasCircuit text.now reading.now circuit.netlist) }
     ensures formed { IfOk result (λ circuit. IsWellFormed circuit.netlist) }
-    ensures fault { IfErr result (IsSourceFault text.now reading.entry) }
+    ensures fault { IfErr result (IsSourceFault text.now reading.now) }
 {
     let netlist = netlist_of(alloc, text, reading)?;
     match build(alloc, netlist) {
         Ok(circuit) => Ok(circuit),
-        Err((_netlist, BuildFault::OutOfMemory)) => Err(SourceFault::OutOfMemory),
-        Err((_netlist, BuildFault::Loop(name))) => Err(SourceFault::Loop(name)),
+        Err((_netlist, fault)) => Err(looped(fault)),
     }
 }
 
@@ -41,11 +40,11 @@ pub fn circuit_of<'a>(
 fn netlist_of<'a>(
     alloc: Global,
     text: &'a [u8],
-    reading: Reading<'_>,
+    reading: &Reading<'_>,
 ) -> Result<Netlist, SourceFault<'a>>
-    ensures read { IfOk result (Reads text.now reading.entry) }
+    ensures read { IfOk result (Reads text.now reading.now) }
     ensures formed { IfOk result (λ netlist. IsWellFormed netlist) }
-    ensures fault { IfErr result (IsSourceFault text.now reading.entry) }
+    ensures fault { IfErr result (IsSourceFault text.now reading.now) }
 {
     let mut netlist = match read(alloc, text, reading.default) {
         Ok(netlist) => netlist,
@@ -60,6 +59,16 @@ fn netlist_of<'a>(
     // For the prover: this call says that the netlist is well-formed.
     let _gates = netlist.gates();
     Ok(netlist)
+}
+
+// What a loop is to whoever asked for a circuit.
+fn looped<'a>(fault: BuildFault) -> SourceFault<'a>
+    ensures { IsOfLoop fault result }
+{
+    match fault {
+        BuildFault::OutOfMemory => SourceFault::OutOfMemory,
+        BuildFault::Loop(name) => SourceFault::Loop(name),
+    }
 }
 
 // What a fault of the reader is to whoever asked for a circuit.

@@ -7,10 +7,10 @@ use Rattle.td_cli.proofs.info.run_on.Goals as goal
 
 pub returns-in-Ok : goal.returns-in-Ok
 returns-in-Ok g c =
-    said (IsInfoProduct c.args.text.now c.args.reading) (HasNoCircuit c.args.text.now c.args.reading) _ c.in-Ok.report Done _ _ _
+    said (IsInfoProduct c.args.text.now c.args.reading.now) (HasNoCircuit c.args.text.now c.args.reading.now) _ c.in-Ok.report Done _ _ _
     (record { is = c.in-Ok.ensures.report; no_file = refl; ends = refl })
     _ c.bytes.ensures c.say.ensures
 
 pub returns-in-Err : goal.returns-in-Err
 returns-in-Err g c =
-    refused (IsInfoProduct c.args.text.now c.args.reading) (HasNoCircuit c.args.text.now c.args.reading) _ c.in-Err.refusal _ _ _ _ (λ _. c.in-Err.ensures.refusal) c.tell_refusal.ensures
+    refused (IsInfoProduct c.args.text.now c.args.reading.now) (HasNoCircuit c.args.text.now c.args.reading.now) _ c.in-Err.refusal _ _ _ _ (λ _. c.in-Err.ensures.refusal) c.tell_refusal.ensures

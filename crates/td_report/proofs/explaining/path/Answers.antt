@@ -23,17 +23,17 @@ none_named_so text reading from to at circuit run is (Some word) none = inr (no_
 pub returns-in-Some-clause-report : goal.returns-in-Some-clause-report
 returns-in-Some-clause-report c =
     let reported = rw c.in-Some.is at c.in_ok-reported.ensures.reported in
-    path_report c.args.text.now c.args.reading c.args.from.now c.args.to.now (words_of c.args.at) c.in_ok-simulation.simulation.circuit
+    path_report c.args.text.now c.args.reading.now c.args.from.now c.args.to.now (words_of c.args.at) c.in_ok-simulation.simulation.circuit
     c.in_ok-simulation.simulation.run c.in_ok-simulation.ensures.is (words_of c.args.output) reported.0 (unit_lines c.in_ok-simulation.simulation.circuit.netlist)
     c.in-Some.report reported.2 refl reported.1
 
 pub returns-in_err-simulation-clause-refusal : goal.returns-in_err-simulation-clause-refusal
 returns-in_err-simulation-clause-refusal c =
     let reported = err_from_is_err_and c.from_residual.result c.from_residual.ensures.1 in
-    rw (reported.1, reported.2) (path_refused c.args.text.now c.args.reading c.args.from.now c.args.to.now (words_of c.args.at) (words_of c.args.output)
+    rw (reported.1, reported.2) (path_refused c.args.text.now c.args.reading.now c.args.from.now c.args.to.now (words_of c.args.at) (words_of c.args.output)
     c.in_err-simulation.field-0.0 c.in_err-simulation.ensures.refusal)
 
 pub returns-clause-refusal : goal.returns-clause-refusal
 returns-clause-refusal c =
-    none_named_so c.args.text.now c.args.reading c.args.from.now c.args.to.now (words_of c.args.at) c.in_ok-simulation.simulation.circuit
+    none_named_so c.args.text.now c.args.reading.now c.args.from.now c.args.to.now (words_of c.args.at) c.in_ok-simulation.simulation.circuit
     c.in_ok-simulation.simulation.run c.in_ok-simulation.ensures.is (words_of c.args.output) (rw c.in-None.is at c.in_ok-reported.ensures.none)
