@@ -55,7 +55,10 @@ pub(crate) fn memory(text: &mut Text) -> Result<(), AllocError> {
 /// Appends what to do where a search can't be timed.
 fn no_timer(text: &mut Text) -> Result<(), AllocError> {
     text.push(b"the system gives no thread for a timer, or no clock")?;
-    help(text, b"fewer --workers, or no --seconds: --budget limits a search too")
+    help(
+        text,
+        b"fewer --workers, or no --seconds: --budget limits a search too",
+    )
 }
 
 /// Appends what is wrong with the netlist's text, with the line.

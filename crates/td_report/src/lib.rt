@@ -15,8 +15,6 @@ pub mod refusal;
 pub mod report;
 pub mod simulate;
 pub mod status;
-#[cfg(test)]
-mod tests;
 pub mod text;
 pub mod timing;
 pub mod vector;

@@ -60,7 +60,7 @@ pub fn sim<'a, 'v>(
     // the option.
     ensures report { IfOk result (λ simulated.
         IsSimReport text.now reading.now from.now to.now (words_of at.entry) (words_of shown.entry.vcd) shown.entry.outputs
-            simulated.report (dump_files simulated.dump)) }
+        simulated.report (dump_files simulated.dump)) }
     ensures refusal { IfErr result (λ refusal.
         HasNoReport text.now reading.now from.now to.now (words_of at.entry) refusal) }
     ensures has { IfOk result (λ simulated. IfSome simulated.dump HasRun) }

@@ -1,10 +1,9 @@
 ghost use Rattle.std.specs.Prelude.{◌≡◌};
 
 use crate::{Stop, Timer};
-use std::io;
 use std::test::Fail;
-use std::thread;
 use std::time::{Clock, Duration};
+use std::{io, thread};
 
 #[test]
 fn set_where_it_can_be(rt: HostRuntime) -> Result<(), Fail> {
@@ -30,11 +29,7 @@ fn timer_sets_a_stop(rt: HostRuntime) -> Result<(), Fail> {
 fn timer_that_was_ended_sets_none(rt: HostRuntime) -> Result<(), Fail> {
     let stop = Stop::new();
     let timer = Timer::new();
-    thread::join(
-        &rt,
-        || timer.run(&rt, 1_000_000, &stop),
-        || timer.end(&rt),
-    );
+    thread::join(&rt, || timer.run(&rt, 1_000_000, &stop), || timer.end(&rt));
     assert!(rt; !stop.is_set());
     Ok(())
 }

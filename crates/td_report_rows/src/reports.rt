@@ -1,16 +1,16 @@
 //! Reports on one output alone.
 
-use crate::bounding::bounds;
-use crate::checking::verdict_on;
-use crate::describing::info;
-use crate::explaining::path;
-use crate::refusal::Refusal;
-use crate::simulate::{Shown, sim};
-use crate::text::Text;
 use std::alloc::Global;
 use std::test::*;
 use td_gates::Delay;
 use td_reading::Reading;
+use td_report::bounding::bounds;
+use td_report::checking::verdict_on;
+use td_report::describing::info;
+use td_report::explaining::path;
+use td_report::refusal::Refusal;
+use td_report::simulate::{Shown, sim};
+use td_report::text::Text;
 
 /// A gate of two steps before the one output, and one of five before the other.
 const NETLIST: &[u8] =
@@ -78,15 +78,7 @@ fn run_for<'a>(alloc: Global, output: Option<&'a str>) -> Result<Text, Refusal<'
         outputs: true,
         vcd: None,
     };
-    let simulated = sim(
-        alloc,
-        NETLIST,
-        &asking(output),
-        "00",
-        "11",
-        None,
-        shown,
-    )?;
+    let simulated = sim(alloc, NETLIST, &asking(output), "00", "11", None, shown)?;
     Ok(simulated.report)
 }
 
@@ -105,13 +97,13 @@ fn runs_of_an_output(rt: HostRuntime) -> Result<(), Fail> {
     assert!(rt;
         is(
             run_for(alloc, None),
-            b"unit 1 ns\ndefaulted 0\nlast y 2\nlast z 5\ntime 5\n"
+            b"unit 1 ns\ndefaulted 0\nlast y 2\nlast z 5\ntime 5\noutput z\n"
         )
     );
     assert!(rt;
         is(
             run_for(alloc, Some("y")),
-            b"unit 1 ns\ndefaulted 0\nlast y 2\ntime 2\n"
+            b"unit 1 ns\ndefaulted 0\nlast y 2\ntime 2\noutput y\n"
         )
     );
     assert!(rt; is_missed(run_for(alloc, Some("x"))));
