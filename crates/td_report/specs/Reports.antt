@@ -52,8 +52,8 @@ sim_text netlist waves =
     ++ output_lines netlist waves
     ++ time_line (latest_change (map (λ name. waves (Named name)) netlist.outputs))
 
-abbrev pub named_line : Name → List ℕ
-named_line name = codes "output " ++ printed name ++ newline
+abbrev pub latest_line : Name → List ℕ
+latest_line name = codes "output " ++ printed name ++ newline
 
 -- where it is asked for, the line names the output that changes last, the first of several; there
 -- is none where no output changes
@@ -61,7 +61,7 @@ abbrev pub TellsLast : Bool → Netlist → (Net → Wave) → List ℕ → Type
 TellsLast false netlist waves lines = lines ≡ []
 TellsLast true netlist waves lines =
     (((output : Name) → Contains netlist.outputs output → (waves (Named output)).changes ≡ []) × (lines ≡ []))
-    ⊎ ((output : Name) × IsLatest netlist waves output × (lines ≡ named_line output))
+    ⊎ ((output : Name) × IsLatest netlist waves output × (lines ≡ latest_line output))
 
 -- The netlist that is read of the text has no loop, and the option gives a moment for each of its
 -- inputs, all of them 0 where it is left out.

@@ -8,6 +8,7 @@ ghost use Rattle.td_report.specs.Chains.{AddsRun, AddsLast, AddsWay};
 use crate::beside::Beside;
 use crate::dumping::run_of;
 use crate::explaining::latest;
+use crate::report;
 use crate::text::Text;
 use std::alloc::{AllocError, Global};
 use td_circuit::Circuit;
@@ -51,12 +52,10 @@ pub fn push_last(
     if !outputs {
         return Ok(());
     }
-    let Some(net) = latest_output(circuit, run) else {
-        return Ok(());
-    };
-    text.push(b"output ")?;
-    text.name(circuit.name(net as usize))?;
-    text.push(b"\n")
+    match latest_output(circuit, run) {
+        Some(net) => report::latest(text, circuit.name(net as usize)),
+        None => Ok(()),
+    }
 }
 
 /// Appends why the output that changes last in a run does so when it does, where it is asked for.

@@ -2,7 +2,7 @@
 
 ghost use Rattle.std.specs.Prelude.{◌≡◌, ◌++◌, OnOk};
 ghost use Rattle.td_nets.specs.Views.{name_of};
-ghost use Rattle.td_report.specs.Reports.{unit_line, defaulted_line, unit_lines, moment_text, last_line, time_line};
+ghost use Rattle.td_report.specs.Reports.{unit_line, defaulted_line, unit_lines, moment_text, last_line, latest_line, time_line};
 ghost use Rattle.td_report.specs.BoundReports.{bound_text, bound_line};
 
 use crate::text::Text;
@@ -50,6 +50,13 @@ pub fn last(text: &mut Text, name: &Name, last: Option<u64>) -> Result<(), Alloc
     text.name_between(b"last ", name, b" ")?;
     moment(text, last)?;
     text.push(b"\n")
+}
+
+/// The line that tells which output changes last.
+pub fn latest(text: &mut Text, name: &Name) -> Result<(), AllocError>
+    ensures { OnOk result (text.new ≡ text.old ++ latest_line (name_of name.now)) }
+{
+    text.name_between(b"output ", name, b"\n")
 }
 
 /// The line that tells the latest change of any output.
