@@ -1,9 +1,6 @@
 -- The first output of a name, and the one netlist that is read of a text.
-use Rattle.std.proofs.Common.{◌≡◌, ◌≢◌, ◌<◌, ◌≤◌, ◌+◌, ◌∙◌, ℕ, List, [], ◌∷◌, length, map, sym, ap, subst, refl, arith, inl, inr, slice_get, Option, Some, None, Bool, true, false, true≢false}
-use Rattle.std.specs.List.{Contains}
-use Rattle.std.specs.Str.{bytes_eq}
+use Rattle.std.proofs.Common.{◌≡◌, ◌≢◌, ◌≤◌, ◌+◌, ◌∙◌, ℕ, List, [], ◌∷◌, length, sym, ap, subst, arith, inl, inr, slice_get, Option, Some, None}
 use Rattle.std.proofs.lemmas.Bool.{cases_eq, cases_lt}
-use Rattle.std.proofs.lemmas.Slice.Eq.{bytes_eq-Decides}
 use Rattle.td_gates.proofs.Places.{some-same, slice_get-some, Contains-slice_get}
 use Rattle.td_nets.specs.Netlist.{Name, Netlist}
 use Rattle.td_nets.specs.Printed.{printed}

@@ -1,5 +1,5 @@
 -- Why a text gives no circuit.
-use Rattle.std.specs.Prelude.{◌≡◌, ◌≢◌, ◌⊎◌, ℕ, List, Option, Some, None}
+use Rattle.std.specs.Prelude.{◌≡◌, ◌≢◌, ◌⊎◌, ℕ, List, Some}
 use Rattle.td_nets.specs.Netlist.{Netlist}
 use Rattle.td_nets.specs.Views.{name_of}
 use Rattle.td_netlist.specs.declared.fault.Fault.{Fault}
