@@ -66,6 +66,8 @@ def value_in(key, text):
         return number_in(text)
     if key in NUMBERS:
         return None if text == "none" else [number_in(word) for word in fields]
+    if key == "output" and not text[:1].isdigit():
+        return text  # a name alone: the output that changes last
     if key in ROWS:
         return [
             number_in(word) if place in ROWS[key] else word for place, word in enumerate(fields)
