@@ -478,12 +478,12 @@ Each verdict but for `Accepted`.
   $ bash hint.sh inverter.v 'tdelay-cert 1/circuit 1 1/time 2/from 0/to 1/b a 3/'
   refused 2 PairTime
   c: the delay of its pair isn't its time
-    help: check it with the netlist and the default delays of its search; else search again
+    help: check it with the netlist, the default delays and the --output of its search; else search again
   [4]
   $ bash hint.sh inverter.v 'tdelay-cert 1/circuit 1 1/time 3/from 0/to 1/b a 2/'
   refused 3 LeafBound line 6
   c:6: a leaf's number is less than the bound of its cube, or isn't the delay of its pair
-    help: check it with the netlist and the default delays of its search; else search again
+    help: check it with the netlist, the default delays and the --output of its search; else search again
   [4]
   $ bash hint.sh inverter.v 'tdelay-cert 1/circuit 1 1/time 3/from 0/to 1/b a 4/'
   refused 4 LeafAboveTime line 6
@@ -524,22 +524,22 @@ Each reason for the verdict `BadStep` but for a moment above 10^18, which no tex
   $ bash hint.sh early.v 'tdelay-cert 5/circuit 1 2/first ./second ./hold ./flips 1/at 0/time 4/from 1/to 0/r/h 1 5 0/q 5/'
   refused 10 BadStep line 12
   c:12: a step with too few numbers, or too many
-    help: check it with the netlist and the default delays that it was made for; else make it again
+    help: check it with the netlist, the default delays and the --output that it was made for; else make it again
   [4]
   $ bash hint.sh early.v 'tdelay-cert 5/circuit 1 2/first ./second ./hold ./flips 1/at 0/time 4/from 1/to 0/r/h 2 5 0 4/q 5/'
   refused 10 BadStep line 12
   c:12: a step names a gate that doesn't exist
-    help: check it with the netlist and the default delays that it was made for; else make it again
+    help: check it with the netlist, the default delays and the --output that it was made for; else make it again
   [4]
   $ bash hint.sh early.v 'tdelay-cert 5/circuit 1 2/first ./second ./hold ./flips 1/at 0/time 4/from 1/to 0/r/o 5 0 0 1/q 5/'
   refused 10 BadStep line 12
   c:12: a step names a net that doesn't exist
-    help: check it with the netlist and the default delays that it was made for; else make it again
+    help: check it with the netlist, the default delays and the --output that it was made for; else make it again
   [4]
   $ bash hint.sh early.v 'tdelay-cert 5/circuit 1 2/first ./second ./hold ./flips 1/at 0/time 4/from 1/to 0/r/h 1 5 2 4/q 5/'
   refused 10 BadStep line 12
   c:12: a step with a level above 1, or a trit above 2
-    help: check it with the netlist and the default delays that it was made for; else make it again
+    help: check it with the netlist, the default delays and the --output that it was made for; else make it again
   [4]
   $ bash hint.sh early.v 'tdelay-cert 5/circuit 1 2/first ./second ./hold ./flips 1/at 0/time 4/from 1/to 0/r/h 1 1000000000000000000 0 4/q 5/'
   refused 4 LeafAboveTime line 13
@@ -549,32 +549,32 @@ Each reason for the verdict `BadStep` but for a moment above 10^18, which no tex
   $ bash hint.sh early.v 'tdelay-cert 5/circuit 1 2/first ./second ./hold ./flips 1/at 0/time 4/from 1/to 0/r/t 1 1 1 2/q 5/'
   refused 10 BadStep line 12
   c:12: a step whose name stands for no clause
-    help: check it with the netlist and the default delays that it was made for; else make it again
+    help: check it with the netlist, the default delays and the --output that it was made for; else make it again
   [4]
   $ bash hint.sh early.v 'tdelay-cert 5/circuit 1 2/first ./second ./hold ./flips 1/at 0/time 4/from 1/to 0/r/l 1 9 9 1/q 5/'
   refused 10 BadStep line 12
   c:12: a step names a literal of a variable that doesn't exist
-    help: check it with the netlist and the default delays that it was made for; else make it again
+    help: check it with the netlist, the default delays and the --output that it was made for; else make it again
   [4]
   $ bash hint.sh early.v 'tdelay-cert 5/circuit 1 2/first ./second ./hold ./flips 1/at 0/time 4/from 1/to 0/r/h 1 5 0 4/l 1 9 1 2/q 5/'
   refused 10 BadStep line 13
   c:13: a step names a clause that doesn't exist
-    help: check it with the netlist and the default delays that it was made for; else make it again
+    help: check it with the netlist, the default delays and the --output that it was made for; else make it again
   [4]
   $ bash hint.sh early.v 'tdelay-cert 5/circuit 1 2/first ./second ./hold ./flips 1/at 0/time 4/from 1/to 0/r/h 1 5 0 4/l 1 9 1 1/q 5/'
   refused 10 BadStep line 13
   c:13: a step in which the clause of a hint has several literals left
-    help: check it with the netlist and the default delays that it was made for; else make it again
+    help: check it with the netlist, the default delays and the --output that it was made for; else make it again
   [4]
   $ bash hint.sh early.v 'tdelay-cert 5/circuit 1 2/first ./second ./hold ./flips 1/at 0/time 4/from 1/to 0/r/l 0/q 5/'
   refused 10 BadStep line 12
   c:12: a step whose hints end without a clause that is false
-    help: check it with the netlist and the default delays that it was made for; else make it again
+    help: check it with the netlist, the default delays and the --output that it was made for; else make it again
   [4]
   $ bash hint.sh early.v 'tdelay-cert 5/circuit 1 2/first ./second ./hold ./flips 1/at 0/time 4/from 1/to 0/r/c 4 3 0 1/q 5/'
   refused 10 BadStep line 12
   c:12: a step that cuts off a change which isn't possible any more
-    help: check it with the netlist and the default delays that it was made for; else make it again
+    help: check it with the netlist, the default delays and the --output that it was made for; else make it again
   [4]
 
 Each reason why certificates aren't joined.
@@ -651,7 +651,7 @@ Each reason why certificates aren't joined.
   $ tdelay join and.v low high --check --hints
   tdelay: low: refused 2 PairTime
   low: the delay of its pair isn't its time
-    help: check it with the netlist and the default delays of its search; else search again
+    help: check it with the netlist, the default delays and the --output of its search; else search again
   [4]
 
 A run that is done has no hint, and a bad option has the text of the command line's reader.

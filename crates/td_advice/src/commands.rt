@@ -434,6 +434,9 @@ fn search_cut_short(text: &mut Text, request: &WorstRequest<'_>) -> Result<(), A
     if request.budget < MOST_NODES {
         help(text, b"a greater --budget, at most 10000000")?;
     }
+    if request.seconds.is_some() {
+        help(text, b"more --seconds, or none")?;
+    }
     if request.workers == 1 {
         help(text, b"--workers N, as many as the machine has processors")?;
     }

@@ -56,10 +56,10 @@ pub fn advice(verdict: Verdict) -> &'static [u8]
     match verdict {
         Verdict::Accepted => b"there is nothing to do",
         Verdict::PairTime => {
-            b"check it with the netlist and the default delays of its search; else search again"
+            b"check it with the netlist, the default delays and the --output of its search; else search again"
         }
         Verdict::LeafBound(_) => {
-            b"check it with the netlist and the default delays of its search; else search again"
+            b"check it with the netlist, the default delays and the --output of its search; else search again"
         }
         Verdict::LeafAboveTime(_) => b"the certificate is wrong: search again",
         Verdict::BadPosition(_) => b"the certificate is wrong: search again",
@@ -70,7 +70,7 @@ pub fn advice(verdict: Verdict) -> &'static [u8]
         Verdict::PairNotAdmitted => b"the certificate is wrong: search again",
         Verdict::LeafNotEmpty(_) => b"the certificate is wrong: search again",
         Verdict::BadStep(_, _) => {
-            b"check it with the netlist and the default delays that it was made for; else make it again"
+            b"check it with the netlist, the default delays and the --output that it was made for; else make it again"
         }
     }
 }
