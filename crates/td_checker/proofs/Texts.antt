@@ -15,7 +15,7 @@ use Rattle.td_netlist.proofs.Readings.{one_netlist}
 use Rattle.td_circuit.specs.Loops.{LiesOnLoop}
 use Rattle.td_source.specs.declared.fault.SourceFault.{SourceFault}
 use Rattle.td_source.specs.declared.fault.SourceFault.TheVariants as source
-use Rattle.td_source.specs.Reads.{IsAskedAbout, Reads, HasCircuit}
+use Rattle.td_source.specs.Reads.{IsAskedAbout, ReadsNetlist, HasCircuit}
 use Rattle.td_source.specs.Faults.{NamesNone, IsSourceFault}
 use Rattle.td_source.proofs.Naming.{reads_one}
 use Rattle.td_circuit.specs.Settings.{AreMoments}
@@ -111,7 +111,7 @@ source_fault netlist_text reading text source.NoOutput is = is
 source_fault netlist_text reading text (source.Loop name) is = is
 
 -- where a netlist is read of the text, an output has the name that is asked about
-reads_named : (text : List ℕ) (reading : Reading) (netlist : Netlist) → Reads text reading netlist → ¬ NamesNone text reading
+reads_named : (text : List ℕ) (reading : Reading) (netlist : Netlist) → ReadsNetlist text reading netlist → ¬ NamesNone text reading
 reads_named text reading netlist reads none =
     let same : reads.whole ≡ none.whole = one_netlist text reading.default reads.whole none.whole reads.means none.means in
     let whole : IsAskedAbout none.whole (output_asked reading) netlist = subst (λ (w : Netlist). IsAskedAbout w (output_asked reading) netlist) same reads.asked in

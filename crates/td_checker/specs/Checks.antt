@@ -6,7 +6,7 @@ use Rattle.td_nets.specs.Views.{name_of}
 use Rattle.td_circuit.specs.Loops.{LiesOnLoop}
 use Rattle.td_source.specs.declared.fault.SourceFault.{SourceFault}
 use Rattle.td_source.specs.declared.fault.SourceFault.TheVariants as source
-use Rattle.td_source.specs.Reads.{Reads, HasCircuit}
+use Rattle.td_source.specs.Reads.{ReadsNetlist, HasCircuit}
 use Rattle.td_source.specs.Faults.{IsNetlistFault, NamesNone}
 use Rattle.td_domain.specs.Worst.{IsWorst}
 use Rattle.td_certificate.specs.declared.certificate.Certificate.{Certificate}
@@ -39,7 +39,7 @@ IsCheckFault netlist_text reading text fault.OutOfMemory = Unit {0}
 IsCheckFault netlist_text reading text (fault.Netlist reported) = IsNetlistFault netlist_text reading reported
 IsCheckFault netlist_text reading text fault.NoOutput = NamesNone netlist_text reading
 IsCheckFault netlist_text reading text (fault.Loop name) =
-    (netlist : Netlist) × Reads netlist_text reading netlist × LiesOnLoop netlist (name_of name)
+    (netlist : Netlist) × ReadsNetlist netlist_text reading netlist × LiesOnLoop netlist (name_of name)
 IsCheckFault netlist_text reading text (fault.Certificate reported) =
     (netlist : Netlist) × HasCircuit netlist_text reading netlist
     × (reported.kind ≢ certificate_kind.OutOfMemory) × IsFault reported.kind reported.line text
@@ -69,7 +69,7 @@ TextsHaveOneVerdict = (netlist_text : List ℕ) (reading : Reading) (text : List
 -- of the netlist's text, over the pairs that the certificate admits and with its moments of the
 -- inputs.
 abbrev pub TellsWorst : List ℕ → Reading → List ℕ → Type 0
-TellsWorst netlist_text reading text = (netlist : Netlist) (certificate : Certificate) → Reads netlist_text reading netlist
+TellsWorst netlist_text reading text = (netlist : Netlist) (certificate : Certificate) → ReadsNetlist netlist_text reading netlist
     → Spells certificate text → IsWorst (setting_of netlist certificate) certificate.question.admit certificate.time
 
 -- what a fault says of the certificate's text alone

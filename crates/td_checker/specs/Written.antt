@@ -2,7 +2,7 @@
 use Rattle.std.specs.Prelude.{◌≡◌, ℕ, ◌≤◌, false, List, length}
 use Rattle.td_reading.specs.declared.reading.Reading.{Reading}
 use Rattle.td_nets.specs.Netlist.{Netlist}
-use Rattle.td_source.specs.Reads.{Reads}
+use Rattle.td_source.specs.Reads.{ReadsNetlist}
 use Rattle.td_circuit.specs.Settings.{AreMoments}
 use Rattle.td_run.specs.Laws.{IsAcyclic}
 use Rattle.td_certificate.specs.Questions.{inputs_of}
@@ -25,6 +25,6 @@ pub record IsAcceptedAsWritten (netlist_text : List ℕ) (reading : Reading) (c 
 -- input, no more flips than inputs, and a tree of at most 10,000,000 lines of which none is a
 -- step's, as an exact answer of a search gives it, is accepted as it is written.
 abbrev pub AcceptedIsWritten : Type 0
-AcceptedIsWritten = (netlist_text : List ℕ) (reading : Reading) (netlist : Netlist) (c : Certificate) → Reads netlist_text reading netlist
+AcceptedIsWritten = (netlist_text : List ℕ) (reading : Reading) (netlist : Netlist) (c : Certificate) → ReadsNetlist netlist_text reading netlist
     → IsAcyclic netlist → AreMoments netlist c.question.moments → c.question.admit.flips ≤ inputs_of c.question → Accepts netlist c
     → length c.tree ≤ 10000000 → has_refuted c.tree ≡ false → IsAcceptedAsWritten netlist_text reading c

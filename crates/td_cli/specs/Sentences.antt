@@ -5,7 +5,7 @@ use Rattle.td_circuit.specs.Settings.{Setting}
 use Rattle.td_domain.specs.Admits.{Admitted}
 use Rattle.td_domain.specs.Worst.{IsWorst}
 use Rattle.td_nets.specs.Netlist.{Netlist}
-use Rattle.td_source.specs.Reads.{Reads as ReadsNetlist}
+use Rattle.td_source.specs.Reads.{ReadsNetlist}
 use Rattle.td_certificate.specs.declared.certificate.Certificate.{Certificate}
 use Rattle.td_certificate.specs.Accepts.{setting_of}
 use Rattle.td_certificate.specs.Spelling.{Spells}

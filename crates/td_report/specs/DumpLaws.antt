@@ -5,7 +5,7 @@ use Rattle.td_reading.specs.declared.reading.Reading.{Reading}
 use Rattle.td_gates.specs.Wave.{Wave, IsWave}
 use Rattle.td_nets.specs.Netlist.{Netlist}
 use Rattle.td_nets.specs.WellFormed.{driven}
-use Rattle.td_source.specs.Reads.{Reads}
+use Rattle.td_source.specs.Reads.{ReadsNetlist}
 use Rattle.td_circuit.specs.Settings.{Setting}
 use Rattle.td_domain.specs.Pairs.{Pair}
 use Rattle.td_vcd.specs.Text.{dump, variable_waves}
@@ -17,12 +17,12 @@ use Rattle.td_report.specs.Reports.{IsSimReport}
 
 -- no name of the netlist that is read of a text has a newline
 abbrev pub NamesOfTexts : Type 0
-NamesOfTexts = (text : List ℕ) (reading : Reading) (netlist : Netlist) → Reads text reading netlist → HasNamesOnOneLine netlist
+NamesOfTexts = (text : List ℕ) (reading : Reading) (netlist : Netlist) → ReadsNetlist text reading netlist → HasNamesOnOneLine netlist
 
 -- read back, a dump of a wave for each driven net of the netlist that is read of a text says exactly
 -- these waves
 abbrev pub DumpsOfTextsSay : Type 0
-DumpsOfTextsSay = (text : List ℕ) (reading : Reading) (netlist : Netlist) (waves : List Wave) → Reads text reading netlist
+DumpsOfTextsSay = (text : List ℕ) (reading : Reading) (netlist : Netlist) (waves : List Wave) → ReadsNetlist text reading netlist
     → AllByRecursion IsWave waves → length waves ≡ length (driven netlist) → SaysWaves (dump netlist waves) waves
 
 -- there is one file, it has this name, and its text says exactly these waves
@@ -39,5 +39,5 @@ FilesOfSimSay = (text : List ℕ) (reading : Reading) (from to : List ℕ) (at :
 -- a text
 abbrev pub FilesOfPairsSay : Type 0
 FilesOfPairsSay = (text : List ℕ) (reading : Reading) (setting : Setting) (pair : Pair) (name : List ℕ) (files : List FileText)
-    → Reads text reading setting.netlist → (dumped : IsDumpOf setting pair (Some name) files)
+    → ReadsNetlist text reading setting.netlist → (dumped : IsDumpOf setting pair (Some name) files)
     → IsFileOf name (variable_waves setting.netlist dumped.0) files

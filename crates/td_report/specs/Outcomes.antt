@@ -7,7 +7,7 @@ use Rattle.td_circuit.specs.Loops.{LiesOnLoop}
 use Rattle.td_circuit.specs.Numbering.{Numbered}
 use Rattle.td_source.specs.declared.fault.SourceFault.{SourceFault}
 use Rattle.td_source.specs.declared.fault.SourceFault.TheVariants as source
-use Rattle.td_source.specs.Reads.{Reads, HasCircuit}
+use Rattle.td_source.specs.Reads.{ReadsNetlist, HasCircuit}
 use Rattle.td_source.specs.Faults.{IsNetlistFault, NamesNone}
 use Rattle.td_report.specs.declared.vector.VectorWord.{VectorWord}
 use Rattle.td_report.specs.declared.vector.VectorWord.TheVariants as vector
@@ -35,7 +35,7 @@ abbrev pub IsRefusedFor : List ℕ → Reading → VectorWords → Refusal → T
 IsRefusedFor text reading words refusal.OutOfMemory = Unit {0}
 IsRefusedFor text reading words (refusal.Netlist fault) = IsNetlistFault text reading fault
 IsRefusedFor text reading words refusal.NoOutput = NamesNone text reading
-IsRefusedFor text reading words (refusal.Loop name) = (netlist : Netlist) × Reads text reading netlist × LiesOnLoop netlist (name_of name)
+IsRefusedFor text reading words (refusal.Loop name) = (netlist : Netlist) × ReadsNetlist text reading netlist × LiesOnLoop netlist (name_of name)
 IsRefusedFor text reading words (refusal.BadVector word) = HasBadWord text reading words word
 IsRefusedFor text reading words other = ⊥
 

@@ -17,7 +17,7 @@ use Rattle.td_circuit.specs.declared.building.BuildFault.{BuildFault}
 use Rattle.td_circuit.specs.declared.building.BuildFault.TheVariants as build
 use Rattle.td_circuit.specs.Built.{FitsBuildFault}
 use Rattle.td_source.specs.Faults.{IsOfFault, IsOfLoop, IsSourceFault}
-use Rattle.td_source.specs.Reads.{NoneBefore, IsFirstNamed, HasNoneNamed, IsAskedAbout, Reads, ReadsOne}
+use Rattle.td_source.specs.Reads.{NoneBefore, IsFirstNamed, HasNoneNamed, IsAskedAbout, ReadsNetlist, ReadsOne}
 
 -- one more output that isn't printed so
 pub none_next : (netlist : Netlist) (word : List ℕ) (count : ℕ) (name : Name) → slice_get netlist.outputs count ≡ Some name
@@ -71,7 +71,7 @@ refused_fits text reading reported refused is only has =
     ]
 
 -- what a loop is to whoever asked for a circuit
-pub looped_fits : (text : List ℕ) (reading : Reading) (netlist : Netlist) → Reads text reading netlist → (built : BuildFault) (refused : SourceFault)
+pub looped_fits : (text : List ℕ) (reading : Reading) (netlist : Netlist) → ReadsNetlist text reading netlist → (built : BuildFault) (refused : SourceFault)
     → IsOfLoop built refused → FitsBuildFault netlist built → IsSourceFault text reading refused
 looped_fits text reading netlist reads build.OutOfMemory refused is fits =
     let P : SourceFault → Type 0 = λ r. IsSourceFault text reading r in subst P (sym is) tt
