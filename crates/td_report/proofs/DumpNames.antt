@@ -42,7 +42,7 @@ are_waves [] waves are = tt
 are_waves (name ∷ names) waves are = (are (Named name), are_waves names waves are)
 
 pub sim_says : DumpsOfTextsSay → FilesOfSimSay
-sim_says say text reading from to at name report files reported = (
+sim_says say text reading from to at name outputs report files reported = (
   dump reported.setting.netlist (variable_waves reported.setting.netlist reported.waves),
   reported.dumped,
   say text reading reported.setting.netlist (variable_waves reported.setting.netlist reported.waves) reported.is_setting.circuit.reads

@@ -6,7 +6,7 @@ use Rattle.td_source.specs.declared.fault.SourceFault.TheVariants as source
 use Rattle.td_source.specs.Faults.{IsSourceFault}
 use Rattle.td_circuit.specs.Numbering.{Numbered}
 use Rattle.td_report.specs.declared.refusal.Refusal.{Refusal}
-use Rattle.td_report.specs.declared.refusal.Refusal.TheVariants.{OutOfMemory, Unreadable, Netlist, Loop, Certificate, BadVector, NoOutput, NoPair, OneFile, BadPart, Unaccepted, OtherCircuit, NotJoined, TooLong}
+use Rattle.td_report.specs.declared.refusal.Refusal.TheVariants.{OutOfMemory, Unreadable, Netlist, Loop, Certificate, BadVector, NoOutput, NoPair, NoTimer, OneFile, BadPart, Unaccepted, OtherCircuit, NotJoined, TooLong}
 use Rattle.td_report.specs.declared.vector.VectorWord.{VectorWord}
 use Rattle.td_report.specs.Vectors.{VectorWords, IsFirstBad}
 use Rattle.td_report.specs.Outcomes.{IsCircuitOf, HasBadWord, HasNoCircuit, HasNoReport, HasNoPath, refusal_by}
@@ -31,6 +31,7 @@ path_refused text reading from to at (Some word) (Certificate fault) is = is
 path_refused text reading from to at (Some word) (BadVector bad) is = is
 path_refused text reading from to at (Some word) NoOutput is = inl is
 path_refused text reading from to at (Some word) NoPair is = is
+path_refused text reading from to at (Some word) NoTimer is = is
 path_refused text reading from to at (Some word) (OneFile out file) is = is
 path_refused text reading from to at (Some word) (BadPart name fault) is = is
 path_refused text reading from to at (Some word) (Unaccepted name verdict) is = is

@@ -1,6 +1,6 @@
 //! What a report says of the run of a pair, after its other lines.
 
-ghost use Rattle.std.specs.Prelude.{◌≡◌, length, IfOk, OnOk};
+ghost use Rattle.std.specs.Prelude.{◌≡◌, length, true, IfOk, OnOk};
 ghost use Rattle.td_circuit.specs.Numbering.{setting};
 ghost use Rattle.td_path.specs.Chains.{IsRunFor};
 ghost use Rattle.td_report.specs.Chains.{AddsRun, AddsLast, AddsWay};
@@ -49,9 +49,18 @@ pub fn push_last(
     requires run { IsRunFor circuit.now run.now }
     ensures { OnOk result (AddsLast outputs circuit.now run.now text.old text.new) }
 {
-    if !outputs {
-        return Ok(());
+    if outputs {
+        push_latest(text, circuit, run)
+    } else {
+        Ok(())
     }
+}
+
+/// Appends which output changes last in a run.
+fn push_latest(text: &mut Text, circuit: &Circuit, run: &Run) -> Result<(), AllocError>
+    requires run { IsRunFor circuit.now run.now }
+    ensures { OnOk result (AddsLast true circuit.now run.now text.old text.new) }
+{
     match latest_output(circuit, run) {
         Some(net) => report::latest(text, circuit.name(net as usize)),
         None => Ok(()),

@@ -1,9 +1,8 @@
-use Rattle.std.proofs.Common.{sym}
 use Rattle.std.proofs.lemmas.Result.{on_ok_weaker}
 use Rattle.td_nets.specs.Views.{name_of}
 use Rattle.td_report.proofs.Paths.{named_number}
 use Rattle.td_report.proofs.Latest.{none_named, latest_named}
-use Rattle.td_report.proofs.chaining.push_last.Goals as goal
+use Rattle.td_report.proofs.chaining.push_latest.Goals as goal
 
 pub name-requires-clause-constant : goal.name-requires-clause-constant
 name-requires-clause-constant c =
