@@ -97,8 +97,8 @@ pub fn needs_of(
 
 // A round of a search, over which one goes back.
 #[derive(Drop)]
-struct Past<'a> {
-    search: &'a Search<'a>,
+struct Past<'a, 's> {
+    search: &'a Search<'s>,
     circuit: &'a Circuit,
     round: &'a Round,
     number: usize,
@@ -182,7 +182,7 @@ impl Needs {
     }
 
     // Goes back over a round. Answers how many acts were done before it.
-    fn go_back_over(&mut self, past: &Past<'_>, acts: usize) -> usize {
+    fn go_back_over(&mut self, past: &Past<'_, '_>, acts: usize) -> usize {
         let mut acts = acts;
         let mut named = past.round.named.len();
         for clauses in (0..past.round.derivation.len().saturating_add(1)).rev() {
@@ -196,7 +196,7 @@ impl Needs {
 
     // Finds what the acts rest on that were done where the solver of a round had `clauses` clauses.
     // Answers how many acts were done before.
-    fn undo_acts(&mut self, past: &Past<'_>, clauses: usize, acts: usize) -> usize {
+    fn undo_acts(&mut self, past: &Past<'_, '_>, clauses: usize, acts: usize) -> usize {
         for place in (0..acts).rev() {
             match past.search.log.events.get(place) {
                 Some(event) => {
@@ -211,7 +211,7 @@ impl Needs {
         0
     }
 
-    fn undo(&mut self, past: &Past<'_>, act: &Act, place: usize) {
+    fn undo(&mut self, past: &Past<'_, '_>, act: &Act, place: usize) {
         match act {
             Act::Cut {
                 variable,
@@ -225,7 +225,7 @@ impl Needs {
     // A cut rests on its lemma, and on the moments before it that were gone.
     fn undo_cut(
         &mut self,
-        past: &Past<'_>,
+        past: &Past<'_, '_>,
         variable: WireVariable,
         level: bool,
         lemma: ClauseNumber,
@@ -246,7 +246,7 @@ impl Needs {
     }
 
     // What went as a gate's sets were taken again rests on what would have caused it.
-    fn undo_again(&mut self, past: &Past<'_>, net: u32, removed: &[Removed], place: usize) {
+    fn undo_again(&mut self, past: &Past<'_, '_>, net: u32, removed: &[Removed], place: usize) {
         let sets = past.search.formula.sets();
         let Some(gate) = gate_of(past.circuit, net) else {
             return;
@@ -301,7 +301,7 @@ impl Needs {
     // Finds what a clause of a round rests on, if it is used. `named` of the round's named clauses
     // are before the next one, and `acts` acts were done before. Answers how many named ones are
     // before this one.
-    fn explain(&mut self, past: &Past<'_>, clause: usize, named: usize, acts: usize) -> usize {
+    fn explain(&mut self, past: &Past<'_, '_>, clause: usize, named: usize, acts: usize) -> usize {
         let is_used = self.is_used(past.number, clause);
         if let Some(before) = named.checked_sub(1) {
             if let Some(it) = past.round.named.get(before) {
@@ -321,7 +321,7 @@ impl Needs {
     }
 
     // A lemma rests on its hints.
-    fn explain_lemma(&mut self, past: &Past<'_>, clause: usize) {
+    fn explain_lemma(&mut self, past: &Past<'_, '_>, clause: usize) {
         if let Some(lemma) = past.round.derivation.step(small(clause)) {
             for hint in &lemma.hints {
                 self.use_clause(past.number, *hint, 2);

@@ -27,8 +27,8 @@ pub struct Trimmed {
 
 // A round of a search, and what a bound rests on.
 #[derive(Drop)]
-struct Source<'a> {
-    search: &'a Search<'a>,
+struct Source<'a, 's> {
+    search: &'a Search<'s>,
     needs: &'a Needs,
     round: &'a Round,
     number: usize,
@@ -64,7 +64,7 @@ pub fn steps_for(
 }
 
 // How often a clause of a round is used.
-fn uses_of(source: &Source<'_>, clause: usize) -> u32 {
+fn uses_of(source: &Source<'_, '_>, clause: usize) -> u32 {
     match source.needs.uses.get(source.number) {
         Some(uses) => read(uses, clause, 0),
         None => 0,
@@ -72,7 +72,7 @@ fn uses_of(source: &Source<'_>, clause: usize) -> u32 {
 }
 
 // Whether a clause of a round is learned.
-fn is_learned(source: &Source<'_>, clause: usize) -> bool {
+fn is_learned(source: &Source<'_, '_>, clause: usize) -> bool {
     match source.round.derivation.step(small(clause)) {
         Some(step) => !step.is_given,
         None => false,
@@ -80,7 +80,7 @@ fn is_learned(source: &Source<'_>, clause: usize) -> bool {
 }
 
 // Whether a clause is a lemma that one cut alone uses, which then has its hints.
-fn is_inside_cut(source: &Source<'_>, clause: usize) -> bool {
+fn is_inside_cut(source: &Source<'_, '_>, clause: usize) -> bool {
     uses_of(source, clause) == 1 && is_learned(source, clause)
 }
 
@@ -93,7 +93,7 @@ impl Trimmed {
     }
 
     // Adds what is needed of a round.
-    fn add_round(&mut self, source: &Source<'_>) -> Result<(), AllocError> {
+    fn add_round(&mut self, source: &Source<'_, '_>) -> Result<(), AllocError> {
         let count = source.round.derivation.len();
         self.before = vec![in self.alloc; 0u64; count]?;
         self.named = 0;
@@ -105,7 +105,7 @@ impl Trimmed {
     }
 
     // Adds the acts that were done where the solver of a round had `clauses` clauses.
-    fn add_acts(&mut self, source: &Source<'_>, clauses: usize) -> Result<(), AllocError> {
+    fn add_acts(&mut self, source: &Source<'_, '_>, clauses: usize) -> Result<(), AllocError> {
         let first = self.acts;
         for place in first..source.search.log.events.len() {
             let Some(event) = source.search.log.events.get(place) else {
@@ -122,7 +122,7 @@ impl Trimmed {
         Ok(())
     }
 
-    fn add_act(&mut self, source: &Source<'_>, act: &Act) -> Result<(), AllocError> {
+    fn add_act(&mut self, source: &Source<'_, '_>, act: &Act) -> Result<(), AllocError> {
         match act {
             Act::Cut {
                 variable,
@@ -139,7 +139,7 @@ impl Trimmed {
 
     fn add_cut(
         &mut self,
-        source: &Source<'_>,
+        source: &Source<'_, '_>,
         variable: WireVariable,
         level: bool,
         lemma: ClauseNumber,
@@ -164,7 +164,7 @@ impl Trimmed {
 
     fn push_hints(
         &self,
-        source: &Source<'_>,
+        source: &Source<'_, '_>,
         lemma: usize,
         numbers: &mut Vec<u64>,
     ) -> Result<(), AllocError> {
@@ -179,7 +179,7 @@ impl Trimmed {
     }
 
     // Adds a clause of a round, if it is needed.
-    fn add_clause(&mut self, source: &Source<'_>, clause: usize) -> Result<(), AllocError> {
+    fn add_clause(&mut self, source: &Source<'_, '_>, clause: usize) -> Result<(), AllocError> {
         let is_needed = uses_of(source, clause) > 0 && !is_inside_cut(source, clause);
         if let Some(named) = source.round.named.get(self.named) {
             if named.number as usize == clause {
@@ -197,7 +197,7 @@ impl Trimmed {
         Ok(())
     }
 
-    fn add_lemma(&mut self, source: &Source<'_>, clause: usize) -> Result<(), AllocError> {
+    fn add_lemma(&mut self, source: &Source<'_, '_>, clause: usize) -> Result<(), AllocError> {
         let Some(step) = source.round.derivation.step(small(clause)) else {
             return Ok(());
         };
