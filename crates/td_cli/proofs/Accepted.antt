@@ -56,13 +56,13 @@ module _ (disk : Disk) (words : List Text) where
         text = text;
         read = held;
         netlist = it.has.netlist;
-        means = it.has.circuit.means;
+        reads = it.has.circuit.reads;
         spelled = spelled;
         spelled_read = spelled_held;
         certificate = certificate;
         spells = it.spells;
         is_time = sym found.1;
-        worst = rw found.1 (it.worst found.0 it.has.netlist certificate it.has.circuit.means it.spells);
+        worst = rw found.1 (it.worst found.0 it.has.netlist certificate it.has.circuit.reads it.spells);
       }
 
   silent : (report : List ℕ) → report ≡ [] → IsTrueCheck disk words report

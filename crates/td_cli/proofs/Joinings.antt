@@ -107,7 +107,7 @@ pub to_join : (disk : Disk) (text : List ℕ) (asked : JoinRequest) (circuit : N
     → ArePinned count (words_of asked.first) (words_of asked.second) given
     → IsToJoin disk text asked circuit.netlist parts (whole_pins given parts)
 to_join disk text asked circuit count parts given is counts are pinned = record {
-  circuit = record { means = is.means; acyclic = is.acyclic };
+  circuit = is;
   are_parts = are;
   given = given;
   pinned = subst (λ (inputs : ℕ). ArePinned inputs (words_of asked.first) (words_of asked.second) given) counts pinned;

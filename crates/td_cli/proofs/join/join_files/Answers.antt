@@ -16,7 +16,7 @@ returns-in_err-parts-clause-refusal g c =
     let reported = err_from_is_err_and c.from_residual-in_err-parts.result c.from_residual-in_err-parts.ensures.1 in
     rw (reported.1, reported.2) (λ other. inr (inl (
       c.in_ok-circuit.circuit.netlist,
-      record { means = c.in_ok-circuit.ensures.circuit.means; acyclic = c.in_ok-circuit.ensures.circuit.acyclic },
+      c.in_ok-circuit.ensures.circuit,
       (rw c.as_slice-names.ensures at c.in_err-parts.ensures.refusal) other,
     )))
 
