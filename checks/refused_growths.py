@@ -27,6 +27,8 @@ from lib import check, netlists, places, reports, running
 CASES = 8000
 # The most growths that a report takes.
 OF_REPORT = 16
+# What is reported where no thread can be had for a timer.
+NO_TIMER = ["tdelay: no timer\n"]
 # After the last growth.
 NEVER = 10**9
 NETLISTS = {
@@ -42,6 +44,7 @@ CERTIFICATES = {
     "few.cert": ["met.v", "--flips", "1", "--at", "0,2"],
     "zero.cert": ["met.v", "--first", "0."],
     "one.cert": ["met.v", "--first", "1."],
+    "n22.cert": ["c17.v", "--output", "N22"],
 }
 ROOTED = [
     ["worst", netlist, "--workers", workers, "--budget", "10000"]
@@ -72,6 +75,12 @@ OTHERS = [
     ["worst", "met.v", "--strategy", "refute", "--cert", "out.cert"],
     ["worst", "lost.v", "--strategy", "refute", "--cert", "out.cert"],
     ["worst", "lost.v", "--strategy", "refute", "--budget", "1"],
+    ["worst", "c17.v", "--output", "N22", "--outputs", "--cert", "out.cert"],
+    ["worst", "met.v", "--seconds", "600", "--cert", "out.cert"],
+    ["sim", "c17.v", "01010", "01110", "--outputs"],
+    ["bound", "c17.v", "--output", "N23"],
+    ["parts", "c17.v", "--parts", "3", "--output", "N22"],
+    ["check", "c17.v", "n22.cert", "--output", "N22"],
     ["check", "lost.v", "lost.cert"],
     ["check", "met.v", "met.cert"],
     ["check", "slow.v", "slow.cert"],
@@ -167,9 +176,17 @@ def is_accepted(tested, command, got):
         return got.written[0] is None
     return (
         got.written[0] is not None
-        and reports.accepted_time(tested.run("check", command.words[1], "out.cert").out)
+        and reports.accepted_time(
+            tested.run("check", command.words[1], "out.cert", *output_of(command.words)).out
+        )
         == command.worst
     )
+
+
+def output_of(words):
+    """The option of the output that a command asks about, if it asks about one."""
+    at = words.index("--output") if "--output" in words else len(words)
+    return words[at : at + 2]
 
 
 def how_it_ended(tested, command, got):
@@ -179,7 +196,7 @@ def how_it_ended(tested, command, got):
         return "the same"
     if (
         got.status == 5
-        and got.err in ("tdelay: out of memory\n", "")
+        and got.err in ["tdelay: out of memory\n", ""] + NO_TIMER * ("--seconds" in command.words)
         and ample.out.startswith(got.out)
     ):
         whole = all(text in (None, wanted) for text, wanted in zip(got.written, ample.written))
