@@ -150,11 +150,11 @@ pub fn search<P: Prober + Sync, W: Watch, R: Threads + Wait + Sync>(
     limits: Limits<'_>,
     watch: &mut W,
 ) -> Result<Answer, SearchFault>
-    ensures answer { IfOk result (IsAnswer (problem_of problem.now) limits.effort.budget) }
+    ensures answer { IfOk result (IsAnswer (problem_of problem.now) limits.entry.effort.budget) }
     // The certificate of an exact answer has a text within the limit.
     ensures text { IfOk result (CanBeWritten (problem_of problem.now)) }
     // Time is a cause only where the stop can be set.
-    ensures time { IfOk result (TimeNeedsStop limits.stop.now.can_be_set) }
+    ensures time { IfOk result (TimeNeedsStop limits.entry.stop.now.can_be_set) }
     ensures fault { IfErr result (IsSearchFault (problem_of problem.now)) }
     // All progress that the watch got is true of what is asked.
     ensures reported { W.reported (problem_of problem.now) watch.old watch.new }
@@ -178,9 +178,9 @@ fn search_by<P: Prober + Sync, D: Hints + Drop + Send, W: Watch, R: Threads + Wa
     limits: Limits<'_>,
     watch: &mut W,
 ) -> Result<Answer, SearchFault>
-    ensures answer { IfOk result (IsAnswer (problem_of problem.now) limits.effort.budget) }
+    ensures answer { IfOk result (IsAnswer (problem_of problem.now) limits.entry.effort.budget) }
     ensures text { IfOk result (CanBeWritten (problem_of problem.now)) }
-    ensures time { IfOk result (TimeNeedsStop limits.stop.now.can_be_set) }
+    ensures time { IfOk result (TimeNeedsStop limits.entry.stop.now.can_be_set) }
     ensures fault { IfErr result (IsSearchFault (problem_of problem.now)) }
     ensures reported { W.reported (problem_of problem.now) watch.old watch.new }
 {

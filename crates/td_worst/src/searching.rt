@@ -43,11 +43,11 @@ pub fn worst_until<W: Watch, R: Threads + Wait + Sync>(
     watch: &mut W,
 ) -> Result<Answer, SearchFault>
     requires held { length admit.now.held ≡ length circuit.now.netlist.inputs }
-    ensures answer { IfOk result (IsAnswerBy method (problem_by (tree_of method) circuit.now admit.now) limits.effort.budget) }
+    ensures answer { IfOk result (IsAnswerBy method (problem_by (tree_of method) circuit.now admit.now) limits.entry.effort.budget) }
     // The certificate of an exact answer has a text within the limit.
     ensures text { IfOk result (CanBeWritten (problem_by (tree_of method) circuit.now admit.now)) }
     // Time is a cause only where the stop can be set.
-    ensures time { IfOk result (TimeNeedsStop limits.stop.now.can_be_set) }
+    ensures time { IfOk result (TimeNeedsStop limits.entry.stop.now.can_be_set) }
     ensures fault { IfErr result (IsSearchFault (problem_by (tree_of method) circuit.now admit.now)) }
     // All progress that the watch got is true of what is asked.
     ensures reported { W.reported (problem_by (tree_of method) circuit.now admit.now) watch.old watch.new }
@@ -76,9 +76,9 @@ fn by_refutation<W: Watch, R: Threads + Wait + Sync>(
     watch: &mut W,
 ) -> Result<Answer, SearchFault>
     requires held { length admit.now.held ≡ length circuit.now.netlist.inputs }
-    ensures answer { IfOk result (IsSoundAnswer (problem_by strategy.Lead circuit.now admit.now) limits.effort.budget) }
+    ensures answer { IfOk result (IsSoundAnswer (problem_by strategy.Lead circuit.now admit.now) limits.entry.effort.budget) }
     ensures text { IfOk result (CanBeWritten (problem_by strategy.Lead circuit.now admit.now)) }
-    ensures time { IfOk result (TimeNeedsStop limits.stop.now.can_be_set) }
+    ensures time { IfOk result (TimeNeedsStop limits.entry.stop.now.can_be_set) }
     ensures fault { IfErr result (IsSearchFault (problem_by strategy.Lead circuit.now admit.now)) }
     ensures reported { W.reported (problem_by strategy.Lead circuit.now admit.now) watch.old watch.new }
 {
@@ -107,9 +107,9 @@ fn by_all<W: Watch, R: Threads + Wait + Sync>(
     watch: &mut W,
 ) -> Result<Answer, SearchFault>
     requires held { length admit.now.held ≡ length circuit.now.netlist.inputs }
-    ensures answer { IfOk result (IsSoundAnswer (problem_by strategy.Least circuit.now admit.now) limits.effort.budget) }
+    ensures answer { IfOk result (IsSoundAnswer (problem_by strategy.Least circuit.now admit.now) limits.entry.effort.budget) }
     ensures text { IfOk result (CanBeWritten (problem_by strategy.Least circuit.now admit.now)) }
-    ensures time { IfOk result (TimeNeedsStop limits.stop.now.can_be_set) }
+    ensures time { IfOk result (TimeNeedsStop limits.entry.stop.now.can_be_set) }
     ensures fault { IfErr result (IsSearchFault (problem_by strategy.Least circuit.now admit.now)) }
     ensures reported { W.reported (problem_by strategy.Least circuit.now admit.now) watch.old watch.new }
 {
@@ -132,9 +132,9 @@ fn by_all<W: Watch, R: Threads + Wait + Sync>(
 
 // The same limits with fewer nodes.
 fn with_nodes(limits: Limits<'_>, budget: u64) -> Limits<'_>
-    requires { budget ≤ limits.effort.budget }
+    requires { budget ≤ limits.entry.effort.budget }
     ensures budget { result.effort.budget ≡ budget }
-    ensures stop { result.stop.now ≡ limits.stop.now }
+    ensures stop { result.stop.now ≡ limits.entry.stop.now }
 {
     let Limits { effort, stop } = limits;
     let effort = Effort {
@@ -179,7 +179,7 @@ fn led_further<W: Watch, R: Threads + Wait + Sync>(
         → CanBeWritten (problem_by strategy.Least circuit.now admit.now) known
         → IsSoundAnswer (problem_by strategy.Least circuit.now admit.now) (budget + limits.effort.budget) result
         × CanBeWritten (problem_by strategy.Least circuit.now admit.now) result }
-    ensures time { TimeNeedsStop limits.stop.now.can_be_set known → TimeNeedsStop limits.stop.now.can_be_set result }
+    ensures time { TimeNeedsStop limits.entry.stop.now.can_be_set known → TimeNeedsStop limits.entry.stop.now.can_be_set result }
     ensures reported { W.reported (problem_by strategy.Least circuit.now admit.now) watch.old watch.new }
 {
     let problem = Problem {

@@ -103,7 +103,7 @@ fn worst_within<W: Watch, R: Threads + Wait + Clock + Sync>(
     watch: W,
 ) -> (Result<Answer, WorstFault>, W)
     requires held { length admit.now.held ≡ length circuit.now.netlist.inputs }
-    ensures answer { IfOk result.0 (IsAnswerBy method (problem_by (tree_of method) circuit.now admit.now) timed.limits.effort.budget) }
+    ensures answer { IfOk result.0 (IsAnswerBy method (problem_by (tree_of method) circuit.now admit.now) timed.entry.limits.effort.budget) }
     ensures text { IfOk result.0 (CanBeWritten (problem_by (tree_of method) circuit.now admit.now)) }
     ensures fault { IfErr result.0 (IsWorstFault true (problem_by (tree_of method) circuit.now admit.now)) }
     ensures reported { W.reported (problem_by (tree_of method) circuit.now admit.now) watch result.1 }
