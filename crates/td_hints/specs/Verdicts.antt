@@ -33,12 +33,12 @@ sentence (verdict.BadStep line reason) = flaw_sentence reason
 
 abbrev pub advice : Verdict → List ℕ
 advice verdict.Accepted = codes "there is nothing to do"
-advice verdict.PairTime = codes "check it with the netlist and the default delays of its search; else search again"
-advice (verdict.LeafBound one) = codes "check it with the netlist and the default delays of its search; else search again"
+advice verdict.PairTime = codes "check it with the netlist, the default delays and the --output of its search; else search again"
+advice (verdict.LeafBound one) = codes "check it with the netlist, the default delays and the --output of its search; else search again"
 advice (verdict.LeafAboveTime one) = codes "the certificate is wrong: search again"
 advice (verdict.BadPosition one) = codes "the certificate is wrong: search again"
 advice (verdict.NotAPoint one) = codes "the certificate is wrong: search again"
 advice verdict.OtherCircuit = codes "give the netlist that it was made for; `info` counts inputs and gates"
 advice verdict.PairNotAdmitted = codes "the certificate is wrong: search again"
 advice (verdict.LeafNotEmpty one) = codes "the certificate is wrong: search again"
-advice (verdict.BadStep one other) = codes "check it with the netlist and the default delays that it was made for; else make it again"
+advice (verdict.BadStep one other) = codes "check it with the netlist, the default delays and the --output that it was made for; else make it again"

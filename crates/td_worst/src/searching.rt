@@ -132,7 +132,7 @@ fn by_all<W: Watch, R: Threads + Wait + Sync>(
 
 // The same limits with fewer nodes.
 fn with_nodes(limits: Limits<'_>, budget: u64) -> Limits<'_>
-    requires { budget ≤ limits.entry.effort.budget }
+    requires { budget ≤ limits.effort.budget }
     ensures budget { result.effort.budget ≡ budget }
     ensures stop { result.stop.now ≡ limits.entry.stop.now }
 {
@@ -177,7 +177,7 @@ fn led_further<W: Watch, R: Threads + Wait + Sync>(
     requires held { length admit.now.held ≡ length circuit.now.netlist.inputs }
     ensures answer { (budget : ℕ) → IsSoundAnswer (problem_by strategy.Least circuit.now admit.now) budget known
         → CanBeWritten (problem_by strategy.Least circuit.now admit.now) known
-        → IsSoundAnswer (problem_by strategy.Least circuit.now admit.now) (budget + limits.effort.budget) result
+        → IsSoundAnswer (problem_by strategy.Least circuit.now admit.now) (budget + limits.entry.effort.budget) result
         × CanBeWritten (problem_by strategy.Least circuit.now admit.now) result }
     ensures time { TimeNeedsStop limits.entry.stop.now.can_be_set known → TimeNeedsStop limits.entry.stop.now.can_be_set result }
     ensures reported { W.reported (problem_by strategy.Least circuit.now admit.now) watch.old watch.new }

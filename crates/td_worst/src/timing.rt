@@ -119,7 +119,7 @@ fn worst_within<W: Watch, R: Threads + Wait + Clock + Sync>(
         rt,
         |scope| -> (Result<Answer, WorstFault>, W)
             requires held { length admit.now.held ≡ length circuit.now.netlist.inputs }
-            ensures answer { IfOk result.0 (IsAnswerBy method (problem_by (tree_of method) circuit.entry.now admit.entry.now) limits.effort.budget) }
+            ensures answer { IfOk result.0 (IsAnswerBy method (problem_by (tree_of method) circuit.entry.now admit.entry.now) limits.entry.effort.budget) }
             ensures text { IfOk result.0 (CanBeWritten (problem_by (tree_of method) circuit.entry.now admit.entry.now)) }
             ensures fault { IfErr result.0 (IsWorstFault true (problem_by (tree_of method) circuit.entry.now admit.entry.now)) }
             ensures reported { W.reported (problem_by (tree_of method) circuit.entry.now admit.entry.now) watch result.1 }

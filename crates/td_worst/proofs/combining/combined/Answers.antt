@@ -20,3 +20,6 @@ returns-in-Between-clause-narrower c = λ asked budget more is also.
     let reported = c.with_second.ensures.narrower asked budget more
     (open_answer asked budget c.in-Between.low c.in-Between.high c.in-Between.pair c.in-Between.nodes (rw c.in-Between.is at is)) also in
     (rw c.in-Between.is (record { low = reported.0; high = reported.1 }), reported.2)
+
+pub returns-in-Between-clause-time : goal.returns-in-Between-clause-time
+returns-in-Between-clause-time c = λ can_be_set first second. c.with_second.ensures.time can_be_set second

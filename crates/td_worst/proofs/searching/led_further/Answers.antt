@@ -15,3 +15,6 @@ returns-in-Ok-clause-reported g c = g.met.W.Watch.reported_alike (problem_by Lea
 
 pub returns-in-Err-clause-reported : goal.returns-in-Err-clause-reported
 returns-in-Err-clause-reported g c = g.met.W.Watch.reported_alike (problem_by Lead c.args.circuit.now c.args.admit.now) Least _ _ c.search.ensures.reported
+
+pub returns-in-Ok-clause-time : goal.returns-in-Ok-clause-time
+returns-in-Ok-clause-time g c = λ known. c.combined.ensures.time c.args.limits.stop.now.can_be_set known c.in-Ok.ensures.time
