@@ -18,7 +18,7 @@ What `--hints` says behind the line of a refusal, on standard error. Without it 
   [1]
   $ tdelay sim two.v 0 1 --hints
   tdelay: netlist fault 11 TwoDrivers at line 5
-  two.v:5: a second gate drives a net that has a driver
+  two.v:5: a second gate output drives net y; the first is at line 4
       buf #1 h(y,a);
     help: give the two outputs two names: there are no wired nets
   [1]
@@ -27,6 +27,41 @@ It is an option of each command, and stands behind its name.
 
   $ tdelay --hints sim two.v 0 1 2> said; head -1 said
   error: unexpected argument '--hints' found
+
+Which net has two drivers, and where the first one is; `buf` and `not` have several outputs.
+
+  $ printf 'module t(input a, b, output [3:0] y);\nbuf (y[0],\n y[03], a);\nand (y[1], a, b), (\n y[3], y[1], b);\nendmodule\n' > bits.v
+  $ tdelay info bits.v --hints
+  tdelay: netlist fault 11 TwoDrivers at line 5
+  bits.v:5: a second gate output drives net y[3]; the first is at line 3
+       y[3], y[1], b);
+    help: give the two outputs two names: there are no wired nets
+  [1]
+  $ bash body.sh $'not (\\n+1 , a);\nbuf (y, \\n+1 , a);'
+  tdelay: netlist fault 11 TwoDrivers at line 5
+  t.v:5: a second gate output drives net \n+1; the first is at line 4
+      buf (y, \n+1 , a);
+    help: give the two outputs two names: there are no wired nets
+  [1]
+
+A vector of one bit that is named in two ways isn't looked for.
+
+  $ bash body.sh $'wire [3:3] w;\nnot (w, a);\nbuf (y, w[3], a);'
+  tdelay: netlist fault 11 TwoDrivers at line 6
+  t.v:6: a second gate drives a net that has a driver
+      buf (y, w[3], a);
+    help: give the two outputs two names: there are no wired nets
+  [1]
+
+Which input is driven, and where it is declared.
+
+  $ printf 'module t(output y, input\n [1:0] a,\n b);\nnot (y, a[0]);\nbuf (b[0], y);\nendmodule\n' > in.v
+  $ tdelay info in.v --hints
+  tdelay: netlist fault 12 DrivenInput at line 5
+  in.v:5: a gate output drives the input b[0]; it is declared at line 3
+      buf (b[0], y);
+    help: rename the net, or make it no input
+  [1]
 
 Each fault of a netlist's text.
 
@@ -85,13 +120,13 @@ Each fault of a netlist's text.
   [1]
   $ bash body.sh $'not (y, a); buf (y, a);'
   tdelay: netlist fault 11 TwoDrivers at line 4
-  t.v:4: a second gate drives a net that has a driver
+  t.v:4: a second gate output drives net y; the first is at line 4
       not (y, a); buf (y, a);
     help: give the two outputs two names: there are no wired nets
   [1]
   $ bash body.sh $'not (a, y);'
   tdelay: netlist fault 12 DrivenInput at line 4
-  t.v:4: a gate drives an input of the module
+  t.v:4: a gate output drives the input a; it is declared at line 2
       not (a, y);
     help: rename the net, or make it no input
   [1]
@@ -428,7 +463,7 @@ What came from standard input can't be read again.
     help: save it in a file, and give the file's name
   $ tdelay check two.v - --hints < two.v
   tdelay: netlist fault 11 TwoDrivers at line 5
-  two.v:5: a second gate drives a net that has a driver
+  two.v:5: a second gate output drives net y; the first is at line 4
       buf #1 h(y,a);
     help: give the two outputs two names: there are no wired nets
   [1]

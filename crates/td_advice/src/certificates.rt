@@ -120,13 +120,18 @@ impl<'a> Joining<'a> {
         names: &[&str],
     ) -> Result<(), AllocError> {
         let fault = match self.whole(parts) {
-            Ok(_whole) => return explain(text, &self.netlist, &Refusal::TooLong),
+            Ok(_whole) => return explain(self.alloc, text, &self.netlist, &Refusal::TooLong),
             Err(JoinFault::OutOfMemory) => return memory(text),
             Err(fault) => fault,
         };
         let one = name_at(names, first_place(&fault));
         let other = name_at(names, second_place(&fault));
-        explain(text, &self.netlist, &Refusal::NotJoined(fault, one, other))
+        explain(
+            self.alloc,
+            text,
+            &self.netlist,
+            &Refusal::NotJoined(fault, one, other),
+        )
     }
 
     /// Appends why the certificates in the files of these names, with these bytes, aren't joined.
@@ -140,7 +145,7 @@ impl<'a> Joining<'a> {
         for (place, bytes) in texts.iter().enumerate() {
             match self.part(name_at(names, place), bytes) {
                 Ok(part) => parts.push(part)?,
-                Err(refusal) => return explain(text, &self.netlist, &refusal),
+                Err(refusal) => return explain(self.alloc, text, &self.netlist, &refusal),
             }
         }
         self.unjoined(text, parts, names)

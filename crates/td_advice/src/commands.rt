@@ -138,6 +138,7 @@ fn about_files<F: Files, R: Reasons>(
 {
     match overwriting(files, request) {
         Some(refusal) => explain(
+            alloc,
             text,
             &NetlistText {
                 file: "",
@@ -171,7 +172,7 @@ fn about_netlist<F: Files, R: Reasons>(
     let circuit = match circuit(alloc, netlist.bytes, &reading) {
         Ok(circuit) => circuit,
         Err(Refusal::NoOutput) => return about_output(alloc, text, &netlist, &reading),
-        Err(refusal) => return explain(text, &netlist, &refusal),
+        Err(refusal) => return explain(alloc, text, &netlist, &refusal),
     };
     if bad_words(alloc, text, request, &circuit)? {
         return Ok(());
@@ -211,7 +212,7 @@ fn about_output(
 ) -> Result<(), AllocError> {
     match circuit(alloc, netlist.bytes, &Reading::whole(reading.default)) {
         Ok(circuit) => no_output(text, &circuit, reading.output.unwrap_or("")),
-        Err(refusal) => explain(text, netlist, &refusal),
+        Err(refusal) => explain(alloc, text, netlist, &refusal),
     }
 }
 

@@ -1,9 +1,10 @@
 //! What each refusal means, and what to do.
 
 use crate::lines::{at_line, help, of_file, of_two, quote};
-use std::alloc::AllocError;
+use std::alloc::{AllocError, Global};
 use td_certificate::CertFault;
 use td_checker::Verdict;
+use td_hints::drivers::{Taken, taken_net};
 use td_hints::{certificates, joins, netlists, verdicts};
 use td_join::JoinFault;
 use td_netlist::{Fault, FaultKind};
@@ -20,13 +21,14 @@ pub(crate) struct NetlistText<'a> {
 
 /// Appends what a refusal means that needs nothing but the netlist's text.
 pub(crate) fn explain(
+    alloc: Global,
     text: &mut Text,
     netlist: &NetlistText<'_>,
     refusal: &Refusal<'_>,
 ) -> Result<(), AllocError> {
     match refusal {
         Refusal::OutOfMemory => memory(text),
-        Refusal::Netlist(fault) => netlist_fault(text, netlist, *fault),
+        Refusal::Netlist(fault) => netlist_fault(alloc, text, netlist, *fault),
         Refusal::Loop(name) => on_loop(text, netlist.file, name),
         Refusal::NoPair => no_pair(text),
         Refusal::NoTimer => no_timer(text),
@@ -63,20 +65,45 @@ fn no_timer(text: &mut Text) -> Result<(), AllocError> {
 
 /// Appends what is wrong with the netlist's text, with the line.
 fn netlist_fault(
+    alloc: Global,
     text: &mut Text,
     netlist: &NetlistText<'_>,
     fault: Fault<'_>,
 ) -> Result<(), AllocError> {
-    match fault.kind {
-        FaultKind::OutOfSubset(token) => {
-            at_line(text, netlist.file, fault.line, token)?;
-            text.push(b": ")?;
-            text.push(netlists::sentence(fault.kind))?;
-        }
-        kind => at_line(text, netlist.file, fault.line, netlists::sentence(kind))?,
+    match taken_net(alloc, netlist.bytes, fault)? {
+        Some(taken) => net_taken(text, netlist.file, fault, &taken)?,
+        None => wrong_text(text, netlist.file, fault)?,
     }
     quote(text, netlist.bytes, fault.line)?;
     help(text, netlists::advice(fault.kind))
+}
+
+/// Appends what is wrong with a text, with the line, where no net is named.
+fn wrong_text(text: &mut Text, file: &str, fault: Fault<'_>) -> Result<(), AllocError> {
+    match fault.kind {
+        FaultKind::OutOfSubset(token) => {
+            at_line(text, file, fault.line, token)?;
+            text.push(b": ")?;
+            text.push(netlists::sentence(fault.kind))
+        }
+        kind => at_line(text, file, fault.line, netlists::sentence(kind)),
+    }
+}
+
+/// Appends which net a gate output drives, at the line of this fault, and what it was before.
+fn net_taken(
+    text: &mut Text,
+    file: &str,
+    fault: Fault<'_>,
+    taken: &Taken,
+) -> Result<(), AllocError> {
+    let (front, back) = match fault.kind {
+        FaultKind::DrivenInput => (netlists::INPUT_FRONT, netlists::INPUT_BACK),
+        _ => (netlists::SECOND_FRONT, netlists::SECOND_BACK),
+    };
+    at_line(text, file, fault.line, front)?;
+    text.name_between(b" ", &taken.net, back)?;
+    text.number(u64::from(taken.line))
 }
 
 /// Appends which net lies on a loop.

@@ -1,4 +1,5 @@
 pub mod Certificates
+pub mod Drivers
 pub mod Joins
 pub mod Netlists
 pub mod Verdicts

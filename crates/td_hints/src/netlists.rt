@@ -211,6 +211,18 @@ pub fn advice(kind: FaultKind<'_>) -> &'static [u8]
     }
 }
 
+/// What is wrong where a net has two drivers, before its name.
+pub const SECOND_FRONT: &[u8] = b"a second gate output drives net";
+
+/// It follows the name of the net, before the line of its first driver.
+pub const SECOND_BACK: &[u8] = b"; the first is at line ";
+
+/// What is wrong where a gate drives an input, before the input's name.
+pub const INPUT_FRONT: &[u8] = b"a gate output drives the input";
+
+/// It follows the name of the input, before the line of its declaration.
+pub const INPUT_BACK: &[u8] = b"; it is declared at line ";
+
 /// What is wrong with a circuit that has a loop, before the name of a net on it.
 pub const LOOP_FRONT: &[u8] = b"net";
 

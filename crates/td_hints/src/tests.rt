@@ -1,13 +1,15 @@
 //! Each way to leave the subset by its tokens, and each fault with a line of its own.
 
+use crate::drivers::{Taken, taken_net};
 use crate::netlists::{Leaving, way_of};
 use crate::{certificates, joins, netlists, verdicts};
+use std::alloc::{AllocError, Global};
 use std::test::*;
 use td_certificate::CertFaultKind;
 use td_checker::Verdict;
 use td_domain::Cube;
 use td_join::JoinFault;
-use td_netlist::FaultKind;
+use td_netlist::{Fault, FaultKind};
 use td_refutation::Flaw;
 
 /// Tokens at which texts leave the subset, and how.
@@ -161,5 +163,37 @@ fn faults_of_joins_have_lines(rt: HostRuntime) -> Result<(), Fail> {
         assert!(rt; is_line(joins::sentence(fault)));
         assert!(rt; is_line(joins::advice(fault)));
     }
+    Ok(())
+}
+
+/// A text in which line 3 drives nets of line 2, and an input of line 1.
+const TAKING: &[u8] = b"module t(output [1:0] y, input a);
+buf (y[0], y[1], z, a);
+not (y[01], a), (z, a), (a, z);
+endmodule
+";
+
+/// What is found for a fault of this kind at line 3.
+fn taken_by(alloc: Global, kind: FaultKind<'_>) -> Result<Option<Taken>, AllocError> {
+    taken_net(alloc, TAKING, Fault { kind, line: 3 })
+}
+
+/// Whether it is the net of this name and bit, and this line.
+fn is_taken(found: Option<Taken>, name: &[u8], bit: Option<u32>, line: u32) -> bool {
+    match found {
+        Some(found) => {
+            found.net.text.as_slice() == name && found.net.bit == bit && found.line == line
+        }
+        None => false,
+    }
+}
+
+#[test]
+fn nets_that_are_taken_are_found(rt: HostRuntime) -> Result<(), Fail> {
+    let twice = taken_by(rt.alloc(), FaultKind::TwoDrivers)?;
+    assert!(rt; is_taken(twice, b"y", Some(1), 2));
+    let input = taken_by(rt.alloc(), FaultKind::DrivenInput)?;
+    assert!(rt; is_taken(input, b"a", None, 1));
+    assert!(rt; taken_by(rt.alloc(), FaultKind::Undriven)?.is_none());
     Ok(())
 }
