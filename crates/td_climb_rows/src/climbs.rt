@@ -11,6 +11,7 @@ use td_climb::{Climb, tries_for};
 use td_domain::{Admit, Cube, Pair, Trit};
 use td_event_sim::{Scratch, delay_of};
 use td_search::representative;
+use td_stop::Stop;
 
 /// `count` trits that follow from a number, two of three of them free.
 fn random_trits(alloc: Global, count: usize, seed: u64) -> Result<Vec<Trit>, AllocError>
