@@ -60,7 +60,10 @@ fn over_files<R: Threads + Wait + Clock + Sync>(
 
 /// The status of a search that writes a certificate and waves, whether it reports, and whether it
 /// put them there in this order.
-fn writing_both<R: Threads + Wait + Clock + Sync>(rt: &R, alloc: Global) -> Result<(u8, bool, bool), Fail> {
+fn writing_both<R: Threads + Wait + Clock + Sync>(
+    rt: &R,
+    alloc: Global,
+) -> Result<(u8, bool, bool), Fail> {
     let words = ["tdelay", "worst", "inverter.v", "--cert", "c", "--vcd", "o"];
     let ended = over_files(rt, alloc, &words, ROOM)?;
     let is_reported = ended.out.bytes() == REPORT && ended.err.bytes().is_empty();

@@ -81,15 +81,7 @@ pub fn answer_of<R: Threads + Wait + Clock + Sync + Abort>(
 ) -> Result<Result<Answer, WorstFault>, Fail> {
     let circuit = circuit_of(alloc, netlist)?;
     let admit = all_of(rt, alloc, &circuit)?;
-    Ok(worst(
-        rt,
-        alloc,
-        &circuit,
-        &admit,
-        method,
-        effort,
-        &mut Unwatched,
-    ))
+    Ok(worst(rt, alloc, &circuit, &admit, method, effort, &mut Unwatched))
 }
 
 /// The time of an exact answer, how many nodes its tree has, and whether one of them is refuted.
