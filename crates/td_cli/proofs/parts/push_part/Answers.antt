@@ -1,6 +1,7 @@
-use Rattle.std.proofs.Common.{◌≡◌, ◌∙◌, ◌++◌, ℕ, List, append_assoc, ap}
+use Rattle.std.proofs.Common.{◌≡◌, ◌∙◌, ◌++◌, ℕ, List, append_assoc, ap, subst}
 use Rattle.std.specs.Prelude.{Result, Ok, Err}
 use Rattle.std.specs.Result.{OnOk}
+use Rattle.td_cli.specs.PartReports.{part_line}
 use Rattle.td_cli.proofs.parts.push_part.Goals as goal
 
 on_ok : {A E : Type 0} {P Q : Type 0} (r : Result A E) → OnOk r P → (P → Q) → OnOk r Q
@@ -19,6 +20,8 @@ five start one two three four new options rise fall output end first second thir
 
 pub returns : goal.returns
 returns c =
-    on_ok c.push.result c.push.ensures.appended
+    subst (λ reading. OnOk c.push.result (c.push.new.self ≡ c.args.text.now ++ part_line reading c.args.words c.args.cube.now))
+    c.reading.view_is
+    (on_ok c.push.result c.push.ensures.appended
     (five c.args.text.now _ _ _ _ c.push.new.self _ _ _ _ _ c.in_ok-push_options.ensures c.in_ok-push_default.ensures c.in_ok-push_default-2.ensures
-    c.in_ok-push_option.ensures)
+    c.in_ok-push_option.ensures))
