@@ -1,8 +1,7 @@
 -- What the program prints of an accepted certificate is true.
-use Rattle.std.proofs.Common.{◌≡◌, ◌∙◌, ◌<◌, ◌≤◌, ◌^◌, ℕ, List, [], ◌++◌, codes, Some, sym, ap, subst, refl, arith, inl, inr, append_assoc}
+use Rattle.std.proofs.Common.{◌≡◌, ◌∙◌, ◌<◌, ◌^◌, ℕ, List, [], ◌++◌, codes, Some, sym, ap, refl, arith, inl, inr, append_assoc}
 use Rattle.clap.specs.Words.{Row, Text}
 use Rattle.td_gates.proofs.Places.{some-same}
-use Rattle.td_reading.specs.declared.reading.Reading.{Reading}
 use Rattle.td_certificate.specs.declared.certificate.Certificate.{Certificate}
 use Rattle.td_certificate.specs.Spelling.{version_in, question_text}
 use Rattle.td_checker.specs.declared.verdict.Verdict.{Verdict}
@@ -12,13 +11,13 @@ use Rattle.td_files.specs.Files.{FileStep}
 use Rattle.td_files.specs.Disks.{Disk}
 use Rattle.td_report.specs.declared.status.Status.{Status}
 use Rattle.td_report.specs.CheckReports.{verdict_text, IsCheckReport}
-use Rattle.td_report.specs.Ends.{Product, Streams}
+use Rattle.td_report.specs.Ends.{Streams}
 use Rattle.td_command.specs.declared.command.CheckRequest.{CheckRequest}
 use Rattle.td_command.specs.declared.command.Request.{Request}
 use Rattle.td_command.specs.declared.command.Request.TheVariants as request
 use Rattle.td_command.specs.CommandLine.{kinds_of, Asks}
 use Rattle.td_cli.specs.Requests.{RequestEnds, ProgramEnds}
-use Rattle.td_cli.specs.Sentences.{accepted_line, AskCheck, IsCheckedWorst, IsTrueCheck, AskForCheck}
+use Rattle.td_cli.specs.Sentences.{accepted_line, AskCheck, IsTrueCheck, AskForCheck}
 use Rattle.td_cli.proofs.Lines.{head_of, one_accepted}
 use Rattle.td_cli.proofs.Searches.{command_name, named}
 use Rattle.td_cli.proofs.Sentences.{came_out, nothing_more, none_among}
