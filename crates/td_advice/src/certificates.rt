@@ -19,7 +19,7 @@ use td_report::vector::given;
 pub(crate) struct Judging<'a> {
     pub(crate) alloc: Global,
     pub(crate) netlist: NetlistText<'a>,
-    pub(crate) reading: Reading<'a>,
+    pub(crate) reading: &'a Reading<'a>,
     pub(crate) ended: Status,
 }
 
@@ -34,7 +34,7 @@ impl<'a> Judging<'a> {
         if let Status::Device = self.ended {
             return not_written(text);
         }
-        match check(self.alloc, self.netlist.bytes, &self.reading, bytes) {
+        match check(self.alloc, self.netlist.bytes, self.reading, bytes) {
             Ok(checked) => match checked.verdict {
                 Verdict::Accepted => Ok(()),
                 verdict => not_accepted(text, name, verdict),
@@ -51,7 +51,7 @@ impl<'a> Judging<'a> {
 pub(crate) struct Joining<'a> {
     pub(crate) alloc: Global,
     pub(crate) netlist: NetlistText<'a>,
-    pub(crate) reading: Reading<'a>,
+    pub(crate) reading: &'a Reading<'a>,
     pub(crate) circuit: &'a Circuit,
     pub(crate) is_checked: bool,
     pub(crate) first: Option<&'a str>,
@@ -66,7 +66,7 @@ impl<'a> Joining<'a> {
             Err(fault) => return Err(Refusal::BadPart(name, fault)),
         };
         if self.is_checked {
-            match check(self.alloc, self.netlist.bytes, &self.reading, bytes) {
+            match check(self.alloc, self.netlist.bytes, self.reading, bytes) {
                 Ok(checked) => match checked.verdict {
                     Verdict::Accepted => {}
                     verdict => return Err(Refusal::Unaccepted(name, verdict)),

@@ -21,16 +21,16 @@ use td_report::status::Status;
 use td_report::text::Text;
 
 /// The file of a request, and how its text is read.
-fn netlist_of<'a>(request: &Request<'a>) -> (&'a str, Reading<'a>) {
+fn netlist_of<'r, 'a>(request: &'r Request<'a>) -> (&'a str, &'r Reading<'a>) {
     match request {
-        Request::Sim(request) => (request.file, request.reading),
-        Request::Path(request) => (request.file, request.reading),
-        Request::Bound(request) => (request.file, request.reading),
-        Request::Worst(request) => (request.file, request.reading),
-        Request::Parts(request) => (request.file, request.reading),
-        Request::Join(request) => (request.file, request.reading),
-        Request::Check(request) => (request.file, request.reading),
-        Request::Info(request) => (request.file, request.reading),
+        Request::Sim(request) => (request.file, &request.reading),
+        Request::Path(request) => (request.file, &request.reading),
+        Request::Bound(request) => (request.file, &request.reading),
+        Request::Worst(request) => (request.file, &request.reading),
+        Request::Parts(request) => (request.file, &request.reading),
+        Request::Join(request) => (request.file, &request.reading),
+        Request::Check(request) => (request.file, &request.reading),
+        Request::Info(request) => (request.file, &request.reading),
     }
 }
 
@@ -169,9 +169,9 @@ fn about_netlist<F: Files, R: Reasons>(
         file,
         bytes: bytes.as_slice(),
     };
-    let circuit = match circuit(alloc, netlist.bytes, &reading) {
+    let circuit = match circuit(alloc, netlist.bytes, reading) {
         Ok(circuit) => circuit,
-        Err(Refusal::NoOutput) => return about_output(alloc, text, &netlist, &reading),
+        Err(Refusal::NoOutput) => return about_output(alloc, text, &netlist, reading),
         Err(refusal) => return explain(alloc, text, &netlist, &refusal),
     };
     if bad_words(alloc, text, request, &circuit)? {
