@@ -58,6 +58,7 @@ Help and the version go to standard output. A line with a dot alone stands for a
   Options:
         --at <MOMENTS>      When each input takes its second level: a number of steps for each in order, separated by commas; all 0 where left out. Or NAME=M, the moment of the input of this name, any number of times
         --vcd <OUT>         Writes the waves of the pair to this file, as a value change dump
+        --outputs           After the other lines, which output changes last, the first of several: `output NAME`
         --default-rise <N>  Rise delay in steps of gates without a delay [default: 1]
         --default-fall <N>  Fall delay in steps of gates without a delay [default: 1]
         --hints             After the line of a refusal, says on standard error what it means and what to do
