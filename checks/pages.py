@@ -259,7 +259,7 @@ def all_are_read(tested):
 
 def helped(tested, *words_before):
     """The commands and the long options that help lists."""
-    text = tested.run(*words_before, "--help").out
+    text = tested.run(*words_before, "--help", seconds=15).out
     names = re.findall(r"^ {2,6}(?:-\w, )?(--[a-z][a-z-]*)", text, flags=re.M)
     return re.findall(r"^ {2}([a-z]+)(?: {2}|$)", text, flags=re.M), names
 
