@@ -3,8 +3,8 @@
 
 It runs the gate, `rt ci`, over a copy of the crates that the program stands on, without their
 must-fail edits: crates that don't need each other are proved side by side, as many as there are
-processors and memory for. What is proved the toolchain keeps on this machine, by checksums of all
-that it read, so that an interrupted build goes on after the crates that were proved, and `rt ci`
+processors and memory for. Some kits keep on this machine what they proved, by checksums of all
+that was read: there an interrupted build goes on after the crates that were proved, and `rt ci`
 doesn't prove these again. `--record` writes how long each crate took into times.json, from which
 the time that is left follows: give it on a machine where nothing is kept or else at work.
 Exit status 0 where the program is built, else 5, with what the toolchain said.
@@ -23,7 +23,7 @@ import threading
 import time
 
 import sources
-from kit import fail, find_kit, need_disk
+from kit import fail, find_kit, keeps_proofs, need_disk
 from times import read_times, write_times
 from watch import Watch
 
@@ -151,6 +151,13 @@ def interrupt(*_):
     raise KeyboardInterrupt
 
 
+def after_interrupt():
+    """What a later build has to do."""
+    if keeps_proofs():
+        return "what is proved is kept, and ./prove goes on after it"
+    return "./prove begins anew, since this toolchain keeps no proofs"
+
+
 def main(words):
     is_recorded = words[:1] == ["--record"]
     if len(words) != 1 + is_recorded:
@@ -164,7 +171,7 @@ def main(words):
             sys.stderr.write("\n".join(build.said) + "\n")
             fail(5, "the build failed")
     except KeyboardInterrupt:
-        fail(5, "interrupted; what is proved is kept, and ./prove goes on after it")
+        fail(5, f"interrupted; {after_interrupt()}")
     except OSError as why:
         full = why.errno in (errno.ENOSPC, errno.EDQUOT)
         fail(5, f"no room on disk: {why}" if full else f"the program can't be built: {why}")
