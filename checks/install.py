@@ -30,6 +30,7 @@ FILES = {
     "share/fish/vendor_completions.d/tdelay.fish",
     "share/man/man1/tdelay.1",
     "share/tdelay/installed",
+    "share/tdelay/version",
     "share/zsh/site-functions/_tdelay",
 }
 # Tools that look for faults in roff: they print nothing where there is none.
@@ -82,13 +83,25 @@ def options_of(text):
     return sorted(name for names in found for name in names if name)
 
 
+def commit():
+    """The line of the commit of the checkout, by git itself; none where this is no checkout."""
+    if not os.path.exists(os.path.join(places.TOP, ".git")):
+        return []
+    git = ["git", "-C", places.TOP]
+    name = running.run([*git, "log", "-1", "--format=%H"]).out.strip()[:12]
+    changed = running.run([*git, "status", "-s", "--", "crates", "crates.txt", "HANDLES"]).out
+    return [f"commit {name}" + ", changed" * bool(changed)]
+
+
 def installed(tested, place):
     """Cases: what is installed, and that it answers."""
     done = place.install()
     tested.expect(f"an install: {done.out}{done.err}", 0, done.status)
     tested.expect("the installed files", FILES, place.files())
-    said = running.run([tested.program, "--version"]).out.strip()
-    tested.expect("what an install says", True, f"installed {said} in" in done.out)
+    said = [running.run([tested.program, "--version"]).out.strip(), *commit()]
+    version = places.text_of(place.inside("share/tdelay/version")).splitlines()
+    tested.expect("the version and the commit", said, version)
+    tested.expect("what an install says", True, f"installed {', '.join(said)} in" in done.out)
     mode = stat.S_IMODE(os.stat(place.inside("bin/tdelay")).st_mode)
     tested.expect("the permissions of the program", 0o755, mode)
     answer = running.run([place.inside("bin/tdelay"), "worst", places.example("c17.v")])

@@ -6,14 +6,16 @@
 # The program is the one that `rt ci` or ./prove has proved of the present sources, or FILE, which
 # has to be that as well: build/sources.py knows by the stamp beside it. With `--unproved` a program
 # that isn't known to be proved is installed too: FILE, or what the first `./tdelay` has compiled.
-# What is installed stands in PREFIX/share/tdelay/installed, a name a line, folders with a slash. An
-# install takes the place of an earlier one, and one that fails leaves nothing.
+# What is installed stands in PREFIX/share/tdelay/installed, a name a line, folders with a slash, and
+# of which version and commit it is in PREFIX/share/tdelay/version. An install takes the place of an
+# earlier one, and one that fails leaves nothing.
 # Exit status 0 where it is done, 1 where something can't be written or there is nothing to remove,
 # 2 where the words are bad, 5 where there is no program that may be installed.
 set -eu
 here="$(cd "$(dirname "${BASH_SOURCE[0]}")/.." && pwd)"
 . "$here/build/place.sh"
 . "$here/build/programs.sh"
+. "$here/build/commit.sh"
 
 usage() {
     sed -n '2,/^set -eu/{/^# \?/s///p}' "$here/tools/install.sh"
@@ -59,6 +61,7 @@ make_files() {
         mkdir -p "$room/$(dirname "$name")"
     done
     cp "$program" "$room/bin/tdelay"
+    { "$program" --version && print_commit; } > "$room/share/tdelay/version"
     python3 "$here/tools/manual.py" "$program" > "$room/share/man/man1/tdelay.1"
     completions bash > "$room/share/bash-completion/completions/tdelay"
     completions zsh > "$room/share/zsh/site-functions/_tdelay"
@@ -114,7 +117,7 @@ remove_files() {
 }
 
 list=share/tdelay/installed
-names=(bin/tdelay share/man/man1/tdelay.1 share/bash-completion/completions/tdelay
+names=(bin/tdelay share/tdelay/version share/man/man1/tdelay.1 share/bash-completion/completions/tdelay
     share/zsh/site-functions/_tdelay share/fish/vendor_completions.d/tdelay.fish)
 given= take_unproved= remove= prefix=
 while [ $# -gt 0 ]; do
@@ -146,5 +149,5 @@ trap 'rm -rf "$room"' EXIT
 make_files
 [ ! -f "$prefix/$list" ] || remove_files
 install_files
-echo "installed $("$prefix/bin/tdelay" --version) in $prefix"
+echo "installed $(paste -sd, "$prefix/share/tdelay/version" | sed 's/,/, /') in $prefix"
 case ":$PATH:" in *":$prefix/bin:"*) ;; *) echo "$prefix/bin isn't on PATH" ;; esac
