@@ -3,7 +3,7 @@
 ghost use Rattle.std.specs.Prelude.{◌≡◌, [], codes, false, IfOk, OnOk};
 ghost use Rattle.clap.specs.Words.{app_of, new_app, rule_of, with_rule};
 ghost use Rattle.td_command.specs.CommandLine.{needed, needed_words, needed_number, option, named_option, number_option, count_option, name_option, flag};
-ghost use Rattle.td_command.specs.CommandLine.{with_pair, out_letter, with_common, with_default, with_letter, workers_letter, with_moments, with_vcd, with_output, with_outputs, with_cube, with_edges, with_reported, with_admitted, with_parts, with_strategy, with_search, with_joined};
+ghost use Rattle.td_command.specs.CommandLine.{with_pair, out_letter, quiet_letter, with_common, with_default, with_letter, workers_letter, with_moments, with_vcd, with_output, with_outputs, with_cube, with_edges, with_reported, with_admitted, with_parts, with_strategy, with_search, with_joined};
 ghost use Rattle.td_command.specs.Telling.{reported, TellsMore, TellsRule};
 
 use crate::help::{FREE_HELP, WHOLE_HELP};
@@ -47,6 +47,17 @@ fn option<'a>(alloc: Global, id: &'a str, value: &'a str, help: &'a str) -> Arg<
     ensures local { result.global ≡ false }
 {
     Arg::new(alloc, id).long(id).value_name(value).help(help)
+}
+
+/// A flag, of the name by which it is asked for.
+fn flag<'a>(alloc: Global, id: &'a str, help: &'a str) -> Arg<'a>
+    ensures rule { rule_of result ≡ flag id.entry.now }
+    ensures local { result.global ≡ false }
+{
+    Arg::new(alloc, id)
+        .long(id)
+        .action(ArgAction::SetTrue)
+        .help(help)
 }
 
 /// An option with a number in a range, and the number where it is left out.
@@ -175,11 +186,7 @@ impl<'a> Arguments<'a> {
     fn flag(&mut self, id: &'a str, help: &'a str) -> Result<(), AllocError>
         ensures { OnOk result (TellsRule (flag id.entry.now) self.old self.new) }
     {
-        let flag = Arg::new(self.alloc, id)
-            .long(id)
-            .action(ArgAction::SetTrue)
-            .help(help);
-        self.add(flag)
+        self.add(flag(self.alloc, id, help))
     }
 
     /// The command of this name that has these arguments.
@@ -229,8 +236,17 @@ impl<'a> Arguments<'a> {
         )
     }
 
+    /// Whether there is no report, as a flag.
+    fn quiet(&mut self) -> Result<(), AllocError>
+        ensures { OnOk result (TellsRule (with_letter quiet_letter (flag (codes "quiet"))) self.old self.new) }
+    {
+        let help = "Prints no report: the exit status says how the command ended";
+        let quiet = flag(self.alloc, "quiet", help);
+        self.add(quiet.short('q'))
+    }
+
     /// What all commands take: the delay of gates that state none, whether hints stand after a
-    /// refusal, and whether the report is JSON.
+    /// refusal, whether the report is JSON, and whether there is none.
     pub(crate) fn common(&mut self) -> Result<(), AllocError>
         ensures { OnOk result (TellsMore with_common self.old self.new) }
     {
@@ -242,7 +258,8 @@ impl<'a> Arguments<'a> {
         self.flag(
             "json",
             "Prints the report as one JSON object, which has the keys of the report's lines",
-        )
+        )?;
+        self.quiet()
     }
 
     /// When each input takes its second level, as an option.

@@ -1,10 +1,7 @@
-use Rattle.std.proofs.Common.{rules, ◌≡◌, OnOk, subst}
-use Rattle.clap.specs.Words.{Rule, rule_of}
-use Rattle.td_command.specs.CommandLine.{flag}
+use Rattle.std.proofs.Common.{OnOk, subst}
+use Rattle.clap.specs.Words.{Rule}
 use Rattle.td_command.specs.Telling.{TellsRule}
 use Rattle.td_command.proofs.arguments.Arguments.flag.Goals as goal
 
 pub returns : goal.returns
-returns c =
-    let is : rule_of c.help-flag.result ≡ flag c.args.id.now = search rules in
-    subst (λ (rule : Rule). OnOk c.add.result (TellsRule rule c.args.self.now c.add.new.self)) is c.add.ensures
+returns c = subst (λ (rule : Rule). OnOk c.add.result (TellsRule rule c.args.self.now c.add.new.self)) c.flag.ensures.rule c.add.ensures
