@@ -15,7 +15,7 @@ use std::thread::Threads;
 use std::time::{Clock, Instant};
 use td_command::WorstRequest;
 use td_delivery::telling::tell;
-use td_pool::{Progress, Unwatched, Watch};
+use td_pool::{Progress, Unwatched, Watch, take_back};
 use td_report::refusal::Refusal;
 use td_report::status::Status;
 use td_report::text::Text;
@@ -124,11 +124,6 @@ impl<'r, 'e, R: Clock, E: Sink> Watch for ProgressLines<'r, 'e, R, E> {
 
     ghost reported_alike = { λ asked strategy first last one. (reported_alike asked strategy (E.output first.err.now) (E.output last.err.now) one.0, one.1) };
 }
-
-/// Does nothing, but this use of a reference that came back ties it to the one that was lent.
-fn take_back<E>(err: &mut E)
-    ensures { err.new ≡ err.old }
-{}
 
 /// As `worst`, with a line on standard error each time that the nodes handled have passed 1, 2 or
 /// 5 thousand, ten thousand and so on, and after ten seconds without one.
