@@ -371,11 +371,15 @@ def fault_of_check(texts, done):
     return None
 
 
+# A line of progress.
+PROGRESS = rb"nodes \d+ low \d+ high \d+ open \d+(?: seconds \d+ rate \d+)?\n"
+
+
 def fault_of_error(words, done):
     """What is wrong with standard error, None where nothing is."""
     error = done.err
     if "--progress" in words:
-        error = re.sub(rb"nodes \d+ low \d+ high \d+ open \d+\n", b"", error)
+        error = re.sub(PROGRESS, b"", error)
     one_line = re.fullmatch(rb"tdelay: [^\n]*\n", error)
     if done.status in (1, 5) or done.status == 4 and words[0] == "join":
         return None if one_line else "standard error"

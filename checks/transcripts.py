@@ -11,7 +11,8 @@ case, and there are 400 at least, half of which print something.
 
 A command that is one call of `tdelay`, and prints a report, is called once more with `--json`: it
 prints one JSON object then, and what Python reads is what the lines say (lib/reports.py), by the
-table of docs/MANUAL.md. Each of these is a case too, and there are 90 at least.
+table of docs/MANUAL.md. Each of these is a case too, and there are 90 at least. And it is called
+with `--quiet`, prints nothing on standard output then, and ends as without it: another case.
 """
 
 import glob
@@ -26,7 +27,7 @@ from lib import check, places, reports, running
 LONGEST = 40
 # A call of `tdelay` alone, and one of those that print no report or not the same one each time.
 ALONE = re.compile(r"tdelay (sim|path|bound|worst|parts|join|check|info) [^|;&<>`()\n]*")
-OTHER = re.compile(r" -- | --json| --help| -h|(--cert|--vcd|-o)[ =]?-( |$)|(--workers|-j)")
+OTHER = re.compile(r" -- | --json| --help| -h| -q|(--cert|--vcd|-o)[ =]?-( |$)|(--workers|-j)")
 
 
 def cases(text):
@@ -66,6 +67,13 @@ def try_json(tested, command, ran, folder, environment):
     tested.expect(f"{command} --json", wanted, got, "as JSON")
 
 
+def try_quiet(tested, command, ran, folder, environment):
+    """A case: a command that ran, without its report."""
+    again, _ = printed(f"{command} --quiet", folder, environment)
+    wanted = (ran.status, ran.err, b"")
+    tested.expect(f"{command} --quiet", wanted, (again.status, again.err, again.out), "quiet")
+
+
 def try_transcript(tested, path):
     """The cases of one transcript."""
     with open(path, encoding="utf-8") as file:
@@ -92,6 +100,7 @@ def try_transcript(tested, path):
             tested.case(*["with an output"] * bool(lines))
             if ran.out and ALONE.fullmatch(command) and not OTHER.search(command):
                 try_json(tested, command, ran, folder, environment)
+                try_quiet(tested, command, ran, folder, environment)
 
 
 def work(tested):
@@ -102,7 +111,7 @@ def work(tested):
 
 
 def shares(tested, cut):
-    commands = tested.cases - tested.kinds["as JSON"]
+    commands = tested.cases - tested.kinds["as JSON"] - tested.kinds["quiet"]
     tested.require("with an output", 0.4)
     if not cut and not tested.asked.file and (commands < 400 or tested.kinds["as JSON"] < 90):
         tested.fault(f"{commands} commands, where there have to be 400, and 90 as JSON")

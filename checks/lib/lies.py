@@ -83,6 +83,7 @@ LIES = {
     "transcripts": {
         "a change at another moment": where("path", edited("s/change 0/change 1/")),
         "a number that is a text": where("--json", edited(r's/"time":\([0-9]*\)/"time":"\1"/')),
+        "a report that wasn't asked for": where("--quiet", 'echo time 0; $R "$@"'),
     },
     "vcd": {"a change at another moment": '$R "$@"; s=$?; sed -i "s/^#5$/#6/" our.vcd; exit $s'},
     "workers": {

@@ -63,6 +63,7 @@ Help and the version go to standard output. A line with a dot alone stands for a
         --default-fall <N>  Fall delay in steps of gates without a delay [default: 1]
         --hints             After the line of a refusal, says on standard error what it means and what to do
         --json              Prints the report as one JSON object, which has the keys of the report's lines
+    -q, --quiet             Prints no report: the exit status says how the command ended
     -h, --help              Print help
   .
   Example:

@@ -1,5 +1,5 @@
 -- What a program writes of a search while it goes on.
-use Rattle.std.specs.Prelude.{◌≡◌, ℕ, Bool, true, false, List, [], ◌∷◌, ◌++◌, ◌⊎◌, codes, decimal}
+use Rattle.std.specs.Prelude.{◌≡◌, ℕ, Bool, true, false, List, [], ◌∷◌, ◌++◌, ◌⊎◌, ◌/◌, max, Option, Some, None, codes, decimal}
 use Rattle.td_text.specs.Output.{Output}
 use Rattle.td_reading.specs.declared.reading.Reading.{Reading}
 use Rattle.td_search.specs.Problems.{Problem}
@@ -12,16 +12,27 @@ use Rattle.td_report.specs.Ends.{Tells}
 
 -- how many nodes are handled, a delay of an admitted pair, a figure above which none is, and how
 -- many leaves are left
-abbrev pub progress_line : Progress → List ℕ
-progress_line progress =
+abbrev pub progress_figures : Progress → List ℕ
+progress_figures progress =
     codes "nodes " ++ decimal progress.nodes ++ codes " low " ++ decimal progress.low ++ codes " high " ++ decimal progress.high
-    ++ codes " open " ++ decimal progress.open ++ newline
+    ++ codes " open " ++ decimal progress.open
 
--- a line was written for each of these, which are true of what is asked, and nothing else
+-- how many seconds have passed by the clock, if it can be read, and how many nodes were handled in
+-- each
+abbrev pub pace : ℕ → Option ℕ → List ℕ
+pace nodes None = []
+pace nodes (Some seconds) = codes " seconds " ++ decimal seconds ++ codes " rate " ++ decimal (nodes / max seconds 1)
+
+abbrev pub progress_line : Progress → Option ℕ → List ℕ
+progress_line progress seconds = progress_figures progress ++ pace progress.nodes seconds ++ newline
+
+-- a line was written for each of these, which are true of what is asked, and nothing else; nothing
+-- is said of the seconds
 abbrev pub TellsLines : Problem → List Progress → Output → Output → Type 0
 TellsLines asked [] old new = new ≡ old
 TellsLines asked (progress ∷ more) old new =
-    (mid : Output) × IsTrueProgress asked progress × Tells old mid (progress_line progress) × TellsLines asked more mid new
+    (mid : Output) × (seconds : Option ℕ) × IsTrueProgress asked progress × Tells old mid (progress_line progress seconds)
+    × TellsLines asked more mid new
 
 -- lines were written of some progress
 abbrev pub TellsProgress : Problem → Output → Output → Type 0

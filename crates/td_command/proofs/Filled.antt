@@ -104,28 +104,28 @@ is_flag : {shape : Shape} {id : Text} (rule : Rule) → arg_by_id shape.rules id
 is_flag rule named parser left_out = record { rule = rule; named = named; parser = parser; left_out = left_out }
 
 pub sim_is_plain : IsPlainLeaf sim
-sim_is_plain = record { known = (known_one refl refl refl refl (omega arith), (known_one refl refl refl refl (omega arith), (known_one refl refl refl refl (omega arith), (known_one refl refl refl refl (omega arith), (known_one refl refl refl refl (omega arith), (known_flag refl refl refl refl refl (omega arith), (known_one refl refl refl refl (omega arith), (known_one refl refl refl refl (omega arith), (known_flag refl refl refl refl refl (omega arith), (known_flag refl refl refl refl refl (omega arith), (known_help refl refl (omega arith), tt))))))))))); once = refl }
+sim_is_plain = record { known = (known_one refl refl refl refl (omega arith), (known_one refl refl refl refl (omega arith), (known_one refl refl refl refl (omega arith), (known_one refl refl refl refl (omega arith), (known_one refl refl refl refl (omega arith), (known_flag refl refl refl refl refl (omega arith), (known_one refl refl refl refl (omega arith), (known_one refl refl refl refl (omega arith), (known_flag refl refl refl refl refl (omega arith), (known_flag refl refl refl refl refl (omega arith), (known_flag refl refl refl refl refl (omega arith), (known_help refl refl (omega arith), tt)))))))))))); once = refl }
 
 pub path_is_plain : IsPlainLeaf path
-path_is_plain = record { known = (known_one refl refl refl refl (omega arith), (known_one refl refl refl refl (omega arith), (known_one refl refl refl refl (omega arith), (known_one refl refl refl refl (omega arith), (known_one refl refl refl refl (omega arith), (known_one refl refl refl refl (omega arith), (known_one refl refl refl refl (omega arith), (known_flag refl refl refl refl refl (omega arith), (known_flag refl refl refl refl refl (omega arith), (known_help refl refl (omega arith), tt)))))))))); once = refl }
+path_is_plain = record { known = (known_one refl refl refl refl (omega arith), (known_one refl refl refl refl (omega arith), (known_one refl refl refl refl (omega arith), (known_one refl refl refl refl (omega arith), (known_one refl refl refl refl (omega arith), (known_one refl refl refl refl (omega arith), (known_one refl refl refl refl (omega arith), (known_flag refl refl refl refl refl (omega arith), (known_flag refl refl refl refl refl (omega arith), (known_flag refl refl refl refl refl (omega arith), (known_help refl refl (omega arith), tt))))))))))); once = refl }
 
 pub bound_is_plain : IsPlainLeaf bound
-bound_is_plain = record { known = (known_one refl refl refl refl (omega arith), (known_one refl refl refl refl (omega arith), (known_one refl refl refl refl (omega arith), (known_one refl refl refl refl (omega arith), (known_one refl refl refl refl (omega arith), (known_flag refl refl refl refl refl (omega arith), (known_one refl refl refl refl (omega arith), (known_one refl refl refl refl (omega arith), (known_one refl refl refl refl (omega arith), (known_flag refl refl refl refl refl (omega arith), (known_flag refl refl refl refl refl (omega arith), (known_help refl refl (omega arith), tt)))))))))))); once = refl }
+bound_is_plain = record { known = (known_one refl refl refl refl (omega arith), (known_one refl refl refl refl (omega arith), (known_one refl refl refl refl (omega arith), (known_one refl refl refl refl (omega arith), (known_one refl refl refl refl (omega arith), (known_flag refl refl refl refl refl (omega arith), (known_one refl refl refl refl (omega arith), (known_one refl refl refl refl (omega arith), (known_one refl refl refl refl (omega arith), (known_flag refl refl refl refl refl (omega arith), (known_flag refl refl refl refl refl (omega arith), (known_flag refl refl refl refl refl (omega arith), (known_help refl refl (omega arith), tt))))))))))))); once = refl }
 
 pub worst_is_plain : IsPlainLeaf worst
-worst_is_plain = record { known = (known_one refl refl refl refl (omega arith), (known_one refl refl refl refl (omega arith), (known_one refl refl refl refl (omega arith), (known_one refl refl refl refl (omega arith), (known_one refl refl refl refl (omega arith), (known_one refl refl refl refl (omega arith), (known_one refl refl refl refl (omega arith), (known_one refl refl refl refl (omega arith), (known_one refl refl refl refl (omega arith), (known_one refl refl refl refl (omega arith), (known_one refl refl refl refl (omega arith), (known_one refl refl refl refl (omega arith), (known_one refl refl refl refl (omega arith), (known_one refl refl refl refl (omega arith), (known_flag refl refl refl refl refl (omega arith), (known_flag refl refl refl refl refl (omega arith), (known_flag refl refl refl refl refl (omega arith), (known_one refl refl refl refl (omega arith), (known_one refl refl refl refl (omega arith), (known_one refl refl refl refl (omega arith), (known_flag refl refl refl refl refl (omega arith), (known_flag refl refl refl refl refl (omega arith), (known_help refl refl (omega arith), tt))))))))))))))))))))))); once = refl }
+worst_is_plain = record { known = (known_one refl refl refl refl (omega arith), (known_one refl refl refl refl (omega arith), (known_one refl refl refl refl (omega arith), (known_one refl refl refl refl (omega arith), (known_one refl refl refl refl (omega arith), (known_one refl refl refl refl (omega arith), (known_one refl refl refl refl (omega arith), (known_one refl refl refl refl (omega arith), (known_one refl refl refl refl (omega arith), (known_one refl refl refl refl (omega arith), (known_one refl refl refl refl (omega arith), (known_one refl refl refl refl (omega arith), (known_one refl refl refl refl (omega arith), (known_one refl refl refl refl (omega arith), (known_flag refl refl refl refl refl (omega arith), (known_flag refl refl refl refl refl (omega arith), (known_flag refl refl refl refl refl (omega arith), (known_one refl refl refl refl (omega arith), (known_one refl refl refl refl (omega arith), (known_one refl refl refl refl (omega arith), (known_flag refl refl refl refl refl (omega arith), (known_flag refl refl refl refl refl (omega arith), (known_flag refl refl refl refl refl (omega arith), (known_help refl refl (omega arith), tt)))))))))))))))))))))))); once = refl }
 
 pub parts_is_plain : IsPlainLeaf parts
-parts_is_plain = record { known = (known_one refl refl refl refl (omega arith), (known_one refl refl refl refl (omega arith), (known_one refl refl refl refl (omega arith), (known_one refl refl refl refl (omega arith), (known_one refl refl refl refl (omega arith), (known_one refl refl refl refl (omega arith), (known_one refl refl refl refl (omega arith), (known_one refl refl refl refl (omega arith), (known_one refl refl refl refl (omega arith), (known_one refl refl refl refl (omega arith), (known_one refl refl refl refl (omega arith), (known_one refl refl refl refl (omega arith), (known_one refl refl refl refl (omega arith), (known_flag refl refl refl refl refl (omega arith), (known_flag refl refl refl refl refl (omega arith), (known_help refl refl (omega arith), tt)))))))))))))))); once = refl }
+parts_is_plain = record { known = (known_one refl refl refl refl (omega arith), (known_one refl refl refl refl (omega arith), (known_one refl refl refl refl (omega arith), (known_one refl refl refl refl (omega arith), (known_one refl refl refl refl (omega arith), (known_one refl refl refl refl (omega arith), (known_one refl refl refl refl (omega arith), (known_one refl refl refl refl (omega arith), (known_one refl refl refl refl (omega arith), (known_one refl refl refl refl (omega arith), (known_one refl refl refl refl (omega arith), (known_one refl refl refl refl (omega arith), (known_one refl refl refl refl (omega arith), (known_flag refl refl refl refl refl (omega arith), (known_flag refl refl refl refl refl (omega arith), (known_flag refl refl refl refl refl (omega arith), (known_help refl refl (omega arith), tt))))))))))))))))); once = refl }
 
 pub join_is_plain : IsPlainLeaf join
-join_is_plain = record { known = (known_one refl refl refl refl (omega arith), (known_more refl refl refl refl (omega arith), (known_one refl refl refl refl (omega arith), (known_flag refl refl refl refl refl (omega arith), (known_one refl refl refl refl (omega arith), (known_one refl refl refl refl (omega arith), (known_one refl refl refl refl (omega arith), (known_one refl refl refl refl (omega arith), (known_one refl refl refl refl (omega arith), (known_one refl refl refl refl (omega arith), (known_flag refl refl refl refl refl (omega arith), (known_flag refl refl refl refl refl (omega arith), (known_help refl refl (omega arith), tt))))))))))))); once = refl }
+join_is_plain = record { known = (known_one refl refl refl refl (omega arith), (known_more refl refl refl refl (omega arith), (known_one refl refl refl refl (omega arith), (known_flag refl refl refl refl refl (omega arith), (known_one refl refl refl refl (omega arith), (known_one refl refl refl refl (omega arith), (known_one refl refl refl refl (omega arith), (known_one refl refl refl refl (omega arith), (known_one refl refl refl refl (omega arith), (known_one refl refl refl refl (omega arith), (known_flag refl refl refl refl refl (omega arith), (known_flag refl refl refl refl refl (omega arith), (known_flag refl refl refl refl refl (omega arith), (known_help refl refl (omega arith), tt)))))))))))))); once = refl }
 
 pub check_is_plain : IsPlainLeaf check
-check_is_plain = record { known = (known_one refl refl refl refl (omega arith), (known_one refl refl refl refl (omega arith), (known_one refl refl refl refl (omega arith), (known_one refl refl refl refl (omega arith), (known_one refl refl refl refl (omega arith), (known_flag refl refl refl refl refl (omega arith), (known_flag refl refl refl refl refl (omega arith), (known_help refl refl (omega arith), tt)))))))); once = refl }
+check_is_plain = record { known = (known_one refl refl refl refl (omega arith), (known_one refl refl refl refl (omega arith), (known_one refl refl refl refl (omega arith), (known_one refl refl refl refl (omega arith), (known_one refl refl refl refl (omega arith), (known_flag refl refl refl refl refl (omega arith), (known_flag refl refl refl refl refl (omega arith), (known_flag refl refl refl refl refl (omega arith), (known_help refl refl (omega arith), tt))))))))); once = refl }
 
 pub info_is_plain : IsPlainLeaf info
-info_is_plain = record { known = (known_one refl refl refl refl (omega arith), (known_one refl refl refl refl (omega arith), (known_one refl refl refl refl (omega arith), (known_flag refl refl refl refl refl (omega arith), (known_flag refl refl refl refl refl (omega arith), (known_help refl refl (omega arith), tt)))))); once = refl }
+info_is_plain = record { known = (known_one refl refl refl refl (omega arith), (known_one refl refl refl refl (omega arith), (known_one refl refl refl refl (omega arith), (known_flag refl refl refl refl refl (omega arith), (known_flag refl refl refl refl refl (omega arith), (known_flag refl refl refl refl refl (omega arith), (known_help refl refl (omega arith), tt))))))); once = refl }
 
 -- ---- what the words ask for
 

@@ -66,12 +66,15 @@ named_option id = record (option id) { parser = Some (Unsigned 1 0) }
 abbrev pub with_letter : ℕ → Rule → Rule
 with_letter letter rule = record rule { short = Some letter }
 
--- the letters of two options: j, and o
+-- the letters of three options: j, o and q
 abbrev pub workers_letter : ℕ
 workers_letter = 106
 
 abbrev pub out_letter : ℕ
 out_letter = 111
+
+abbrev pub quiet_letter : ℕ
+quiet_letter = 113
 
 -- an option with one of a few names, and its value where it is left out
 abbrev pub name_option : Text → Listed → Text → Rule
@@ -90,7 +93,8 @@ with_default app =
 -- what all commands take: the delays of gates that state none, whether hints follow a refusal, and
 -- whether the report is JSON
 abbrev pub with_common : App → App
-with_common app = with_rule (with_rule (with_default app) (flag (codes "hints"))) (flag (codes "json"))
+with_common app =
+    with_rule (with_rule (with_rule (with_default app) (flag (codes "hints"))) (flag (codes "json"))) (with_letter quiet_letter (flag (codes "quiet")))
 
 -- when each input takes its second level
 abbrev pub with_moments : App → App

@@ -3,7 +3,7 @@
 ghost use Rattle.std.specs.Prelude.{◌≡◌, [], codes, false, IfOk, OnOk};
 ghost use Rattle.clap.specs.Words.{app_of, new_app, rule_of, with_rule};
 ghost use Rattle.td_command.specs.CommandLine.{needed, needed_words, needed_number, option, named_option, number_option, count_option, name_option, flag};
-ghost use Rattle.td_command.specs.CommandLine.{with_pair, out_letter, with_common, with_default, with_letter, workers_letter, with_moments, with_vcd, with_output, with_outputs, with_cube, with_edges, with_reported, with_admitted, with_parts, with_strategy, with_search, with_joined};
+ghost use Rattle.td_command.specs.CommandLine.{with_pair, out_letter, quiet_letter, with_common, with_default, with_letter, workers_letter, with_moments, with_vcd, with_output, with_outputs, with_cube, with_edges, with_reported, with_admitted, with_parts, with_strategy, with_search, with_joined};
 ghost use Rattle.td_command.specs.Telling.{reported, TellsMore, TellsRule};
 
 use crate::help::{FREE_HELP, WHOLE_HELP};
@@ -47,6 +47,17 @@ fn option<'a>(alloc: Global, id: &'a str, value: &'a str, help: &'a str) -> Arg<
     ensures local { result.global ≡ false }
 {
     Arg::new(alloc, id).long(id).value_name(value).help(help)
+}
+
+/// A flag, of the name by which it is asked for.
+fn flag<'a>(alloc: Global, id: &'a str, help: &'a str) -> Arg<'a>
+    ensures rule { rule_of result ≡ flag id.entry.now }
+    ensures local { result.global ≡ false }
+{
+    Arg::new(alloc, id)
+        .long(id)
+        .action(ArgAction::SetTrue)
+        .help(help)
 }
 
 /// An option with a number in a range, and the number where it is left out.
@@ -175,11 +186,7 @@ impl<'a> Arguments<'a> {
     fn flag(&mut self, id: &'a str, help: &'a str) -> Result<(), AllocError>
         ensures { OnOk result (TellsRule (flag id.entry.now) self.old self.new) }
     {
-        let flag = Arg::new(self.alloc, id)
-            .long(id)
-            .action(ArgAction::SetTrue)
-            .help(help);
-        self.add(flag)
+        self.add(flag(self.alloc, id, help))
     }
 
     /// The command of this name that has these arguments.
@@ -229,20 +236,32 @@ impl<'a> Arguments<'a> {
         )
     }
 
+    /// Whether there is no report, as a flag.
+    fn quiet(&mut self) -> Result<(), AllocError>
+        ensures { OnOk result (TellsRule (with_letter quiet_letter (flag (codes "quiet"))) self.old self.new) }
+    {
+        let help = "Prints no report: the exit status says how the command ended";
+        let quiet = flag(self.alloc, "quiet", help);
+        self.add(quiet.short('q'))
+    }
+
     /// What all commands take: the delay of gates that state none, whether hints stand after a
-    /// refusal, and whether the report is JSON.
+    /// refusal, whether the report is JSON, and whether there is none.
     pub(crate) fn common(&mut self) -> Result<(), AllocError>
         ensures { OnOk result (TellsMore with_common self.old self.new) }
     {
         self.default_delay()?;
         self.flag(
             "hints",
-            "After the line of a refusal, says on standard error what it means and what to do",
+            "After the line of a refusal, says on standard error what it means and\n\
+what to do",
         )?;
         self.flag(
             "json",
-            "Prints the report as one JSON object, which has the keys of the report's lines",
-        )
+            "Prints the report as one JSON object, which has the keys of the\n\
+report's lines",
+        )?;
+        self.quiet()
     }
 
     /// When each input takes its second level, as an option.
@@ -252,8 +271,9 @@ impl<'a> Arguments<'a> {
         self.option(
             "at",
             "MOMENTS",
-            "When each input takes its second level: a number of steps for each in order, separated by commas; all 0 where left out. \
-Or NAME=M, the moment of the input of this name, any number of times",
+            "When each input takes its second level: a number of steps for each in\n\
+order, separated by commas; all 0 where left out. Or NAME=M, the\n\
+moment of the input of this name, any number of times",
         )
     }
 
@@ -281,7 +301,8 @@ Or NAME=M, the moment of the input of this name, any number of times",
     {
         self.flag(
             "outputs",
-            "After the other lines, which output changes last, the first of several: `output NAME`",
+            "After the other lines, which output changes last, the first of\n\
+several: `output NAME`",
         )
     }
 
@@ -292,11 +313,13 @@ Or NAME=M, the moment of the input of this name, any number of times",
         self.file()?;
         self.needed(
             "FROM",
-            "The first vector: 0, 1 or x for each input in the order that `info` shows, or `none` where there are no inputs",
+            "The first vector: 0, 1 or x for each input in the order that `info`\n\
+shows, or `none` where there are no inputs",
         )?;
         self.needed(
             "TO",
-            "The second vector, which the inputs take from moment 0 or those of --at on",
+            "The second vector, which the inputs take from moment 0 or those of\n\
+--at on",
         )
     }
 
@@ -308,13 +331,15 @@ Or NAME=M, the moment of the input of this name, any number of times",
         self.option(
             "second",
             "TRITS",
-            "The second vector, which the inputs take from moment 0 or those of --at on",
+            "The second vector, which the inputs take from moment 0 or those of\n\
+--at on",
         )?;
         self.named(
             "pin",
             "NAME=VALUE",
-            "Both vectors have this level, 0 or 1, at the input of this name; `.` leaves it free. \
-Of a vector the value is a number, as 8'hff. Any number of times",
+            "Both vectors have this level, 0 or 1, at the input of this name; `.`\n\
+leaves it free. Of a vector the value is a number, as 8'hff. Any\n\
+number of times",
         )
     }
 
@@ -324,7 +349,8 @@ Of a vector the value is a number, as 8'hff. Any number of times",
     {
         self.flag(
             "edges",
-            "Bounds by edges too, each net's rise and fall apart (e), and by edges and possible levels at once (n)",
+            "Bounds by edges too, each net's rise and fall apart (e), and by edges\n\
+and possible levels at once (n)",
         )
     }
 
@@ -335,11 +361,13 @@ Of a vector the value is a number, as 8'hff. Any number of times",
     {
         self.flag(
             "path",
-            "After the other lines, the changes that lead to the last change of the given pair, as `path` prints them",
+            "After the other lines, the changes that lead to the last change of the\n\
+given pair, as `path` prints them",
         )?;
         self.flag(
             "progress",
-            "Writes to standard error how far the search is, each time that the nodes handled pass 1, 2, 5, 10, 20, .. thousand",
+            "Writes to standard error how far the search is, each time that the\n\
+nodes handled pass 1, 2, 5, 10, 20, .. thousand, and every ten seconds",
         )?;
         self.outputs()
     }
@@ -352,16 +380,19 @@ Of a vector the value is a number, as 8'hff. Any number of times",
         self.option(
             "hold",
             "MASK",
-            "The inputs whose two levels are the same: = (held) or . for each in order; none held where left out",
+            "The inputs whose two levels are the same: = (held) or . for each in\n\
+order; none held where left out",
         )?;
         self.named(
             "hold-input",
             "NAME",
-            "The two levels of the input of this name are the same. Any number of times",
+            "The two levels of the input of this name are the same. Any number of\n\
+times",
         )?;
         self.count(
             "flips",
-            "The most inputs whose two levels differ; any number of them where left out",
+            "The most inputs whose two levels differ; any number of them where left\n\
+out",
         )
     }
 
@@ -374,9 +405,12 @@ Of a vector the value is a number, as 8'hff. Any number of times",
             "NAME",
             names,
             "auto",
-            "How the search goes. `least` and `lead` split cubes of pairs; `lead` climbs to a first pair and bounds by edges, and its \
-certificates are of version 4. `refute` asks a solver which changes of nets are impossible, and its certificates are of version 5. \
-`auto` is `least` for 10,000 nodes, then `lead` for 50,000, then `refute`, until one of them ends",
+            "How the search goes. `least` and `lead` split cubes of pairs; `lead`\n\
+climbs to a first pair and bounds by edges, and its certificates are\n\
+of version 4. `refute` asks a solver which changes of nets are\n\
+impossible, and its certificates are of version 5. `auto` is `least`\n\
+for 10,000 nodes, then `lead` for 50,000, then `refute`, until one of\n\
+them ends",
         )
     }
 
@@ -413,11 +447,13 @@ certificates are of version 4. `refute` asks a solver which changes of nets are 
             0,
             MOST_NODES,
             "1000000",
-            "The most nodes of trees of cubes that are handled, and the most conflicts that a solver meets",
+            "The most nodes of trees of cubes that are handled, and the most\n\
+conflicts that a solver meets",
         )?;
         self.count(
             "seconds",
-            "Ends the search after this many seconds of the clock; the answer then lies between two figures",
+            "Ends the search after this many seconds of the clock; the answer then\n\
+lies between two figures",
         )?;
         self.certificate_out("Writes the certificate of an exact answer to this file")
     }
@@ -450,12 +486,14 @@ certificates are of version 4. `refute` asks a solver which changes of nets are 
     {
         self.needed_words(
             "CERT",
-            "The certificates of the parts, each a path, or `-` or `stdin` for standard input",
+            "The certificates of the parts, each a path, or `-` or `stdin` for\n\
+standard input",
         )?;
         self.certificate_out("Writes the certificate of the whole question to this file")?;
         self.flag(
             "check",
-            "Checks the certificate of each part before it is joined, as `check` does",
+            "Checks the certificate of each part before it is joined, as `check`\n\
+does",
         )
     }
 

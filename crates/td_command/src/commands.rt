@@ -140,7 +140,8 @@ impl<'a> Commands<'a> {
         arguments.common()?;
         self.add(
             "parts",
-            "Cuts the question of `worst` into parts, and prints the options with which `worst` answers each",
+            "Cuts the question of `worst` into parts, and prints the options with which `worst`\n\
+answers each",
             PARTS_HELP,
             arguments,
         )
@@ -187,7 +188,8 @@ impl<'a> Commands<'a> {
         arguments.common()?;
         self.add(
             "info",
-            "Tells what is in a netlist: its size, its depth, its delays, and its inputs in the order of a vector's characters",
+            "Tells what is in a netlist: its size, its depth, its delays, and its inputs in the order\n\
+of a vector's characters",
             INFO_HELP,
             arguments,
         )

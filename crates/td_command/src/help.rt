@@ -79,18 +79,20 @@ outputs in order. The number of an input is the place of its character in a vect
 from 0 on.";
 
 /// What help says of the first pattern of a cube.
-pub const FREE_HELP: &str =
-    "The first vector: 0, 1 or . (free) for each input in the order that `info` shows; all free where left out";
+pub const FREE_HELP: &str = "The first vector: 0, 1 or . (free) for each input in the order that\n\
+`info` shows; all free where left out";
 
 /// What help says of the output whose chain of changes is asked for.
 pub const CHAIN_HELP: &str =
-    "The output, as the report of `sim` names it; the one that changes last where left out";
+    "The output, as the report of `sim` names it; the one that changes last\n\
+where left out";
 
 /// What help says of the output that is asked about.
 pub const OUTPUT_HELP: &str =
-    "Asks about this output alone, as the report of `sim` names it; about all outputs where left out";
+    "Asks about this output alone, as the report of `sim` names it; about\n\
+all outputs where left out";
 
 /// What help says of the first pattern of the cube that the parts make up.
-pub const WHOLE_HELP: &str =
-    "The first vector of the whole question: 0, 1 or . (free) for each input in the order that `info` shows; \
-all free where only --second is given, and without both as the parts together have it";
+pub const WHOLE_HELP: &str = "The first vector of the whole question: 0, 1 or . (free) for each\n\
+input in the order that `info` shows; all free where only --second is\n\
+given, and without both as the parts together have it";

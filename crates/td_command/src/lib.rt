@@ -15,4 +15,4 @@ pub use command::{
     BoundRequest, CheckRequest, InfoRequest, JoinRequest, PartsRequest, PathRequest, QuestionWords,
     Request, SimRequest, StrategyWord, WorstRequest, parse,
 };
-pub use flags::is_asked;
+pub use flags::{asks_quiet, is_asked};

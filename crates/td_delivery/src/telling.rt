@@ -87,8 +87,8 @@ pub fn hand_over<F: Files, O: Sink, E: Sink>(
     ending
 }
 
-/// Writes a certificate to a new file, if there is one and a name is given for it. SaysReport so where
-/// that fails.
+/// Writes a certificate to a new file, if there is one and a name is given for it. Says so where that
+/// fails.
 fn keep_certificate<F: Files, E: Sink>(
     alloc: Global,
     files: &mut F,
@@ -139,7 +139,7 @@ fn write_certificate<F: Files>(
     }
 }
 
-/// Writes the waves of a run to a new file, if there are any to write. SaysReport so where that fails.
+/// Writes the waves of a run to a new file, if there are any to write. Says so where that fails.
 fn keep_dump<F: Files, E: Sink>(
     alloc: Global,
     files: &mut F,
@@ -189,7 +189,7 @@ pub fn say<O: Sink, E: Sink>(report: &[u8], ending: Status, out: &mut O, err: &m
     }
 }
 
-/// SaysReport that a file can't be read, or that memory ran out.
+/// Says that a file can't be read, or that memory ran out.
 pub fn tell_unread<E: Sink>(alloc: Global, err: &mut E, file: &str, fault: ReadFault) -> Status
     ensures { TellsUnread file.entry fault result (E.output err.old) (E.output err.new) }
 {
@@ -199,7 +199,7 @@ pub fn tell_unread<E: Sink>(alloc: Global, err: &mut E, file: &str, fault: ReadF
     }
 }
 
-/// SaysReport that a file can't be written, or that memory ran out.
+/// Says that a file can't be written, or that memory ran out.
 fn tell_unwritten<E: Sink>(alloc: Global, err: &mut E, file: &str, fault: WriteFault) -> Status
     ensures ends { result ≡ Ended.Device }
     ensures reported { TellsUnwritten file.now fault (E.output err.old) (E.output err.new) }
@@ -210,7 +210,7 @@ fn tell_unwritten<E: Sink>(alloc: Global, err: &mut E, file: &str, fault: WriteF
     }
 }
 
-/// SaysReport that a file, given by this name, can't be written, or that memory ran out.
+/// Says that a file, given by this name, can't be written, or that memory ran out.
 fn tell_unwritten_as<E: Sink>(alloc: Global, err: &mut E, name: &str) -> Status
     ensures ends { result ≡ Ended.Device }
     ensures reported { Tells (E.output err.old) (E.output err.new) (unwritten_text name.now)
@@ -248,7 +248,7 @@ pub fn tell<E: Sink>(err: &mut E, line: &[u8], status: Status) -> Status
     }
 }
 
-/// SaysReport why a command was not carried out. In place of any reason it may say that memory ran out.
+/// Says why a command was not carried out. In place of any reason it may say that memory ran out.
 pub fn tell_refusal<E: Sink>(alloc: Global, err: &mut E, refusal: &Refusal<'_>) -> Status
     ensures { TellsReason refusal.now result (E.output err.old) (E.output err.new) }
 {

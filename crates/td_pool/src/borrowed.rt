@@ -21,6 +21,10 @@ impl<'w, W: Watch> Watch for Borrowed<'w, W> {
         self.watch.is_looking()
     }
 
+    fn is_due(&self) -> bool {
+        self.watch.is_due()
+    }
+
     fn passed(&mut self, problem: &Problem<'_>, progress: Progress) {
         self.watch.passed(problem, progress);
     }

@@ -135,8 +135,8 @@ fn begin(
     Ok((Below::new(alloc, problem, lease)?, lease.cube.copy(alloc)?))
 }
 
-// Reports the progress of the search to a watch, where it has passed a milestone. The next
-// milestone is after the nodes that it reports.
+// Reports the progress of the search to a watch, where it has passed a milestone or the watch is
+// due. The next milestone is after the nodes that it reports.
 fn tell_progress<L: Subject, W: Watch, R: Wait>(
     rt: &R,
     problem: &Problem<'_>,
@@ -150,7 +150,8 @@ fn tell_progress<L: Subject, W: Watch, R: Wait>(
     if !watch.is_looking() {
         return;
     }
-    let Some(progress) = shared.progress(rt, *milestone) else {
+    let nodes = if watch.is_due() { 0 } else { *milestone };
+    let Some(progress) = shared.progress(rt, nodes) else {
         return;
     };
     *milestone = milestone_above(progress.nodes);

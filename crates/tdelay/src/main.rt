@@ -6,8 +6,10 @@ use std::{env, io};
 use td_advice::advising::{advise, advise_names, asks_hints};
 use td_advice::system::System;
 use td_cli::{ReadFault, RealFiles, WriterSink, refuse_words, run};
+use td_command::asks_quiet;
 use td_json::{asks_json, run_json};
 use td_naming::{positional, refuse};
+use td_quiet::run_quiet;
 
 fn main(rt: HostRuntime) -> ExitCode {
     let alloc = rt.alloc();
@@ -24,7 +26,9 @@ fn main(rt: HostRuntime) -> ExitCode {
             match positional(alloc, words.as_slice(), &mut files, &system) {
                 Ok(words) => {
                     let words = words.as_slice();
-                    let status = if asks_json(words) {
+                    let status = if asks_quiet(words) {
+                        run_quiet(&rt, alloc, words, &mut files, &mut out, &mut err)
+                    } else if asks_json(words) {
                         run_json(&rt, alloc, words, &mut files, &mut out, &mut err)
                     } else {
                         run(&rt, alloc, words, &mut files, &mut out, &mut err)
