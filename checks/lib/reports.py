@@ -51,7 +51,10 @@ def accepted_time(report):
 NUMBER = "time a t m e n exact nodes accepted flips inputs outputs gates defaulted depth".split()
 NUMBERS = "between delay at".split()
 ROWS = {"last": {1}, "change": {0, 5}, "input": {0}, "output": {0}, "refused": {0, 3}}
-LISTED = "last change input output".split()
+LISTED = "last change input output each".split()
+# The fields of a line `each` that say what the next ones are; all but these and the name are
+# numbers.
+FIGURES = "exact between edges".split()
 
 
 def number_in(word):
@@ -68,6 +71,9 @@ def value_in(key, text):
         return None if text == "none" else [number_in(word) for word in fields]
     if key == "output" and not text[:1].isdigit():
         return text  # a name alone: the output that changes last
+    if key == "each":
+        name, *rest = fields
+        return [name, *(word if word in FIGURES else number_in(word) for word in rest)]
     if key in ROWS:
         return [
             number_in(word) if place in ROWS[key] else word for place, word in enumerate(fields)

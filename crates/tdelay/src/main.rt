@@ -6,6 +6,7 @@ use std::{env, io};
 use td_advice::advising::{advise, advise_names, asks_hints};
 use td_advice::system::System;
 use td_cli::{ReadFault, RealFiles, WriterSink, refuse_words, run};
+use td_each::{asks_each, run_each};
 use td_json::{asks_json, run_json};
 use td_naming::{positional, refuse};
 
@@ -24,7 +25,9 @@ fn main(rt: HostRuntime) -> ExitCode {
             match positional(alloc, words.as_slice(), &mut files, &system) {
                 Ok(words) => {
                     let words = words.as_slice();
-                    let status = if asks_json(words) {
+                    let status = if asks_each(words) {
+                        run_each(&rt, alloc, words, &mut files, &mut out, &mut err)
+                    } else if asks_json(words) {
                         run_json(&rt, alloc, words, &mut files, &mut out, &mut err)
                     } else {
                         run(&rt, alloc, words, &mut files, &mut out, &mut err)
