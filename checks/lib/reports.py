@@ -21,6 +21,15 @@ def figures_of(report):
     return Figures(*map(int, words))
 
 
+def rows_of(report):
+    """The rows of a table of outputs: the name, its figures, and the bound by edges as a text."""
+    form = r"(?m)^each (.*) (?:exact (\d+)|between (\d+) (\d+)) edges (\d+|none)$"
+    return [
+        (name, Figures(int(time or low), int(time or high)), edges)
+        for name, time, low, high, edges in re.findall(form, report)
+    ]
+
+
 def is_exact(report):
     """Whether a search answered exactly."""
     return "exact" in values_of(report)

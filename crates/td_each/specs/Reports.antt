@@ -30,9 +30,9 @@ abbrev pub table_text : Netlist → List Row → List ℕ
 table_text netlist rows = unit_lines netlist ++ flat_map row_line rows
 
 -- some search was cut short, or all are exact
-abbrev pub ending_of : List Row → Status
-ending_of [] = status.Done
-ending_of (row ∷ rows) = cond (is_exact row) (ending_of rows) status.Between
+abbrev pub table_ending : List Row → Status
+table_ending [] = status.Done
+table_ending (row ∷ rows) = cond (is_exact row) (table_ending rows) status.Between
 
 -- The text means a netlist without a loop, and the report has a row for each of its outputs, in
 -- order.
@@ -42,7 +42,7 @@ pub record IsEachReport (text : List ℕ) (request : WorstRequest) (report : Lis
   pub rows : List Row
   pub are_rows : AreRows text request (map label netlist.outputs) rows
   pub is : report ≡ table_text netlist rows
-  pub ends : ending ≡ ending_of rows
+  pub ends : ending ≡ table_ending rows
 
 -- what is known before the first search: the head of the report, and the names of the outputs
 pub record IsOutline (text : List ℕ) (request : WorstRequest) (head : List ℕ) (names : List (List ℕ)) : Type 0 where

@@ -2,7 +2,7 @@
 
 ghost use Rattle.std.specs.Prelude.{◌≡◌, ◌++◌, codes, decimal, OnOk};
 ghost use Rattle.std.specs.List.{flat_map};
-ghost use Rattle.td_each.specs.Reports.{ending_of, figures_text, row_line};
+ghost use Rattle.td_each.specs.Reports.{table_ending, figures_text, row_line};
 
 use crate::rows::{Figures, Row};
 use std::alloc::AllocError;
@@ -48,8 +48,8 @@ pub(crate) fn push_rows(text: &mut Text, rows: &[Row]) -> Result<(), AllocError>
 }
 
 /// How a table ends: some search was cut short, or all are exact.
-pub(crate) fn ending_of(rows: &[Row]) -> Status
-    ensures { result ≡ ending_of rows.now }
+pub(crate) fn table_ending(rows: &[Row]) -> Status
+    ensures { result ≡ table_ending rows.now }
 {
     for row in rows {
         if !row.is_exact() {

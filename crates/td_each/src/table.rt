@@ -8,7 +8,7 @@ ghost use Rattle.td_cli.specs.Outcomes.{HasNoAnswer};
 ghost use Rattle.td_each.specs.Rows.{label, texts_of};
 ghost use Rattle.td_each.specs.Reports.{IsEachReport, IsOutline, HasNoTable};
 
-use crate::reporting::{ending_of, push_rows};
+use crate::reporting::{table_ending, push_rows};
 use crate::rows::rows;
 use std::alloc::{AllocError, Global};
 use std::sync::Wait;
@@ -101,6 +101,6 @@ pub(crate) fn table<'a, R: Threads + Wait + Clock + Sync>(
     let rows = rows(rt, alloc, text, request, &outline.names)?;
     let mut report = outline.head;
     push_rows(&mut report, &rows)?;
-    let ending = ending_of(&rows);
+    let ending = table_ending(&rows);
     Ok(Table { report, ending })
 }
