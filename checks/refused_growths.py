@@ -2,15 +2,15 @@
 """Runs each command with a growth of memory refused, alone or with all that come after it, and
 compares each run with one that has memory enough.
 
-A run may answer the same; or end with status 5, `tdelay: out of memory` and nothing but a
-beginning of its output; or, a search, answer `between` with `cause memory` (`cause budget`, too,
-where it does with memory enough) and two figures around the right one, or `exact` with the right
-time and a certificate that `check` accepts. Where the root of a search is measured and bounded,
-and its report isn't begun, a growth refused alone may not end it as out of memory: it has to
-answer. That is so after as many growths as the same search takes with a budget of 0, and until
-the last ones, which are the report's. Searches are those of a lost pulse, of two ways that meet,
-and of a slow arm, by 1, 2 and 4 workers. `check` gives its verdict or is out of memory, and never
-another verdict.
+A run may answer the same; or end with status 5, `tdelay: out of memory` and nothing but a beginning
+of its output; or, a search, answer `between` with `cause memory` (`cause budget`, too, where it
+does with memory enough) and two figures around the right one, or `exact` with the right time and a
+certificate that `check` accepts. A table of outputs has some such rows then. Where the root of a
+search is measured and bounded, and its report isn't begun, a growth refused alone may not end it as
+out of memory: it has to answer. That is so after as many growths as the same search takes with a
+budget of 0, and until the last ones, which are the report's. Searches are those of a lost pulse, of
+two ways that meet, and of a slow arm, by 1, 2 and 4 workers. `check` gives its verdict or is out of
+memory, and never another verdict.
 
 Each case is a refused growth, or all from one on. All of them are some 32,000, of which those after
 roots are tried, and a random choice of the others. Of 100 cases 5 at least are searches of which
@@ -77,6 +77,8 @@ OTHERS = [
     ["worst", "lost.v", "--strategy", "refute", "--budget", "1"],
     ["worst", "c17.v", "--output", "N22", "--outputs", "--cert", "out.cert"],
     ["worst", "met.v", "--seconds", "600", "--cert", "out.cert"],
+    ["worst", "c17.v", "--each"],
+    ["worst", "lost.v", "--each", "--strategy", "least"],
     ["sim", "c17.v", "01010", "01110", "--outputs"],
     ["bound", "c17.v", "--output", "N23"],
     ["parts", "c17.v", "--parts", "3", "--output", "N22"],
@@ -162,7 +164,7 @@ def command_of(refuser, words, is_rooted):
     if ample.status not in (0, 3) or not ample.out or growths == 0:
         raise RuntimeError(f"{' '.join(words)}: {ample}, {growths} growths")
     worst = None
-    if words[0] == "worst":
+    if words[0] == "worst" and "--each" not in words:
         worst = reports.figures_of(refuser.run(with_budget(words, None))[0].out).low
     rooted = rooted_of(refuser, words) if is_rooted else range(0)
     return Command(words, ample, worst, growths, rooted)
@@ -189,6 +191,20 @@ def output_of(words):
     return words[at : at + 2]
 
 
+def how_table_ended(ample, got):
+    """By what a table of outputs ended that isn't the same as with memory enough, None where it
+    reported anything wrong: some of its searches were cut short.
+    """
+    wanted, found = reports.rows_of(ample.out), reports.rows_of(got.out)
+    if got.err or got.status != 3 or len(found) != len(wanted):
+        return None
+    fits = all(
+        (name, edges) == (one, bound) and figures.low <= worst.low <= figures.high
+        for (name, figures, edges), (one, worst, bound) in zip(found, wanted)
+    )
+    return "between" if fits else None
+
+
 def how_it_ended(tested, command, got):
     """By what a run with refused growths ended, None where it reported anything wrong."""
     ample = command.ample
@@ -201,6 +217,8 @@ def how_it_ended(tested, command, got):
     ):
         whole = all(text in (None, wanted) for text, wanted in zip(got.written, ample.written))
         return "out of memory" if whole else None
+    if "--each" in command.words:
+        return how_table_ended(ample, got)
     figures = reports.figures_of(got.out)
     if got.err or figures is None or command.worst is None:
         return None

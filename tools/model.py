@@ -63,7 +63,9 @@ class Definition:
 
     def text(self):
         """The definition without comments and without field names after a point."""
-        return "\n".join(re.sub(r"--.*", "", line) for line in self.lines + list(self.header))
+        lines = self.lines + list(self.header)
+        # A text in quotes may have two dashes that begin no comment.
+        return "\n".join(re.sub(r'("[^"]*")|--.*', r"\1", line) for line in lines)
 
 
 def imports_of(lines, mark="use "):

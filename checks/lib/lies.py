@@ -43,6 +43,16 @@ LIES = {
     "collisions": {"colliding names take long": SLOW},
     "devices": {"a device that fails is a bad text": FIVE + " 1; exit $status"},
     "doubling": {"the time is one more": MORE.format(key="time", by=1)},
+    "each": {
+        "a bound by edges that is one more": where(
+            "--each", """$R "$@" | awk '$1 == "each" { $NF += 1 } 1'; exit ${PIPESTATUS[0]}"""
+        ),
+        "the last output is left out": where("--each", edited("$d")),
+        "a search that was cut short is exact": where(
+            "--each", edited(r"s/ between \([0-9]*\) [0-9]*/ exact \1/")
+        ),
+        "a search that was cut short ends well": where("--each", '$R "$@"; exit 0'),
+    },
     "failing_files": {"a file is left where one fails": 2},
     "install": {
         "a time that is one more": where("worst", MORE.format(key="exact", by=1)),

@@ -21,6 +21,15 @@ def figures_of(report):
     return Figures(*map(int, words))
 
 
+def rows_of(report):
+    """The rows of a table of outputs: the name, its figures, and the bound by edges as a text."""
+    form = r"(?m)^each (.*) (?:exact (\d+)|between (\d+) (\d+)) edges (\d+|none)$"
+    return [
+        (name, Figures(int(time or low), int(time or high)), edges)
+        for name, time, low, high, edges in re.findall(form, report)
+    ]
+
+
 def is_exact(report):
     """Whether a search answered exactly."""
     return "exact" in values_of(report)
@@ -51,7 +60,10 @@ def accepted_time(report):
 NUMBER = "time a t m e n exact nodes accepted flips inputs outputs gates defaulted depth".split()
 NUMBERS = "between delay at".split()
 ROWS = {"last": {1}, "change": {0, 5}, "input": {0}, "output": {0}, "refused": {0, 3}}
-LISTED = "last change input output".split()
+LISTED = "last change input output each".split()
+# The fields of a line `each` that say what the next ones are; all but these and the name are
+# numbers.
+FIGURES = "exact between edges".split()
 
 
 def number_in(word):
@@ -68,6 +80,9 @@ def value_in(key, text):
         return None if text == "none" else [number_in(word) for word in fields]
     if key == "output" and not text[:1].isdigit():
         return text  # a name alone: the output that changes last
+    if key == "each":
+        name, *rest = fields
+        return [name, *(word if word in FIGURES else number_in(word) for word in rest)]
     if key in ROWS:
         return [
             number_in(word) if place in ROWS[key] else word for place, word in enumerate(fields)

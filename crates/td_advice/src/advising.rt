@@ -4,12 +4,12 @@ ghost use Rattle.std.specs.Prelude.{◌≡◌, map, codes, IfSome};
 ghost use Rattle.td_command.specs.Flags.{is_asked};
 ghost use Rattle.td_advice.specs.Hinted.{AreLines, Hinted};
 
-use crate::commands::about;
+use crate::commands::{about, about_each};
 use crate::naming::about_names;
 use crate::system::Reasons;
 use std::alloc::{AllocError, Global};
 use std::convert::AsStr;
-use td_command::{is_asked, parse};
+use td_command::{Request, is_asked, parse};
 use td_delivery::telling::tell;
 use td_files::Files;
 use td_naming::Refusal;
@@ -107,7 +107,28 @@ fn reason<S: AsStr, F: Files, R: Reasons>(
     ensures stays { files.new ≡ files.old }
 {
     match parse(alloc, words) {
-        Ok(request) => about(alloc, text, &request, ended, files, reasons),
+        Ok(request) => {
+            let is_each = is_asked(words, "--each");
+            reason_of(alloc, text, &request, is_each, ended, files, reasons)
+        }
         Err(_) => Ok(()),
     }
+}
+
+/// Appends why what was asked ended so, of all outputs or of each by itself.
+fn reason_of<F: Files, R: Reasons>(
+    alloc: Global,
+    text: &mut Text,
+    request: &Request<'_>,
+    is_each: bool,
+    ended: Status,
+    files: &mut F,
+    reasons: &R,
+) -> Result<(), AllocError>
+    ensures stays { files.new ≡ files.old }
+{
+    if is_each {
+        return about_each(alloc, text, request, ended, files, reasons);
+    }
+    about(alloc, text, request, ended, files, reasons)
 }

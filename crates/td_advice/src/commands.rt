@@ -11,6 +11,7 @@ use std::alloc::{AllocError, Global};
 use td_circuit::Circuit;
 use td_command::{
     CheckRequest, JoinRequest, MOST_NODES, QuestionWords, Request, StrategyWord, WorstRequest,
+    conflict_of,
 };
 use td_delivery::overwriting::overwriting;
 use td_files::{Files, ReadFault};
@@ -122,6 +123,30 @@ pub(crate) fn about<F: Files, R: Reasons>(
         Status::Done => Ok(()),
         Status::Between => cut_short(text, request),
         _ => about_files(alloc, text, request, ended, files, reasons),
+    }
+}
+
+/// Appends why a run about each output ended as it did, where it was refused or cut short. A line
+/// that names an option which doesn't go together with `--each` says what to do by itself.
+pub(crate) fn about_each<F: Files, R: Reasons>(
+    alloc: Global,
+    text: &mut Text,
+    request: &Request<'_>,
+    ended: Status,
+    files: &mut F,
+    reasons: &R,
+) -> Result<(), AllocError>
+    ensures { files.new ≡ files.old }
+{
+    let Request::Worst(search) = request else {
+        return Ok(());
+    };
+    if conflict_of(search).is_some() {
+        return Ok(());
+    }
+    match ended {
+        Status::Between => some_cut_short(text, search),
+        _ => about(alloc, text, request, ended, files, reasons),
     }
 }
 
@@ -422,13 +447,28 @@ fn cut_short(text: &mut Text, request: &Request<'_>) -> Result<(), AllocError> {
     }
 }
 
-/// Appends which options let a search go on.
+/// Appends that a search was cut short, and how it goes on.
 fn search_cut_short(text: &mut Text, request: &WorstRequest<'_>) -> Result<(), AllocError> {
     text.number_between(
         b"the search ended before it was done: ",
         u64::from(request.budget),
         b" nodes are its budget, unless `cause` is memory or time; both figures are true",
     )?;
+    ways_on(text, request)
+}
+
+/// Appends that the search for some output was cut short, and how it goes on.
+fn some_cut_short(text: &mut Text, request: &WorstRequest<'_>) -> Result<(), AllocError> {
+    text.number_between(
+        b"the search for some output ended before it was done: ",
+        u64::from(request.budget),
+        b" nodes are the budget of each, unless memory or time ended it; all figures are true",
+    )?;
+    ways_on(text, request)
+}
+
+/// Appends which options let a search go on.
+fn ways_on(text: &mut Text, request: &WorstRequest<'_>) -> Result<(), AllocError> {
     if let StrategyWord::Least = request.question.strategy {
         help(text, b"--strategy auto, which goes on by other ways")?;
     }

@@ -50,7 +50,7 @@ module _ {A B : Type 0} (R : A → B → Type 0) where
   pub zip_all : (xs : List A) (ys : List B) (i : ℕ) → length xs ≤ i → AllZip R (take i xs) ys → AllZip R xs ys
   zip_all xs ys i past all = subst (λ (front : List A). AllZip R front ys) (take_all i xs past) all
 
-zip_mapped : {A B C : Type 0} (f : A → C) (R : C → B → Type 0) (xs : List A) (ys : List B) → AllZip (λ x y. R (f x) y) xs ys → AllZip R (map f xs) ys
+pub zip_mapped : {A B C : Type 0} (f : A → C) (R : C → B → Type 0) (xs : List A) (ys : List B) → AllZip (λ x y. R (f x) y) xs ys → AllZip R (map f xs) ys
 zip_mapped f R [] [] all = tt
 zip_mapped f R [] (b ∷ ys) all = absurd all
 zip_mapped f R (a ∷ xs) [] all = absurd all

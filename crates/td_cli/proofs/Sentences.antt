@@ -186,12 +186,12 @@ module _ (disk : Disk) (words : List Text) where
       ]
 
   -- where words that ask for a worst delay ask for this too, it is that
-  same_command : (search : WorstRequest) → AskWorst words search → (asked : Request) → Asks words asked → command_name asked ≡ codes "worst"
+  pub same_command : (search : WorstRequest) → AskWorst words search → (asked : Request) → Asks words asked → command_name asked ≡ codes "worst"
   same_command search it asked asks =
       let same = some-same (codes "worst", it.rows) (asks.asks.0, asks.asks.1) (sym it.entered ∙ asks.asks.2) in
       sym (named asks.asks.0 asks.asks.1 asked asks.asks.3) ∙ sym (ap (λ (entered : Text × List Row). entered.0) same)
 
-  asks_it : (search : WorstRequest) → Asks words (request.Worst search) → AskWorst words search
+  pub asks_it : (search : WorstRequest) → Asks words (request.Worst search) → AskWorst words search
   asks_it search asks = record {
     taken = asks.taken;
     rows = asks.asks.1;

@@ -15,8 +15,9 @@ mod question;
 pub mod sim;
 pub mod worst;
 
-pub use answer::Found;
+pub use answer::{Found, unanswered};
 pub use program::{carry_out, refuse_words, run, run_plain};
+pub use question::{Asked, question_of, strategy_of};
 pub use td_command::{
     BoundRequest, Certificates, CheckRequest, InfoRequest, JoinRequest, PartsRequest, PathRequest,
     QuestionWords, Request, SimRequest, StrategyWord, WorstRequest, laws, parse,

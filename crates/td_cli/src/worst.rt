@@ -99,7 +99,7 @@ fn ending(certificate: &Option<Certificate>) -> Status
 }
 
 /// The seconds after which a search ends, if it is to end so.
-fn seconds_of(given: Option<u64>) -> Option<u32>
+pub fn seconds_of(given: Option<u64>) -> Option<u32>
     ensures { is_some result ≡ is_some given }
 {
     match given {

@@ -113,7 +113,7 @@ pub bound_is_plain : IsPlainLeaf bound
 bound_is_plain = record { known = (known_one refl refl refl refl (omega arith), (known_one refl refl refl refl (omega arith), (known_one refl refl refl refl (omega arith), (known_one refl refl refl refl (omega arith), (known_one refl refl refl refl (omega arith), (known_flag refl refl refl refl refl (omega arith), (known_one refl refl refl refl (omega arith), (known_one refl refl refl refl (omega arith), (known_one refl refl refl refl (omega arith), (known_flag refl refl refl refl refl (omega arith), (known_flag refl refl refl refl refl (omega arith), (known_flag refl refl refl refl refl (omega arith), (known_help refl refl (omega arith), tt))))))))))))); once = refl }
 
 pub worst_is_plain : IsPlainLeaf worst
-worst_is_plain = record { known = (known_one refl refl refl refl (omega arith), (known_one refl refl refl refl (omega arith), (known_one refl refl refl refl (omega arith), (known_one refl refl refl refl (omega arith), (known_one refl refl refl refl (omega arith), (known_one refl refl refl refl (omega arith), (known_one refl refl refl refl (omega arith), (known_one refl refl refl refl (omega arith), (known_one refl refl refl refl (omega arith), (known_one refl refl refl refl (omega arith), (known_one refl refl refl refl (omega arith), (known_one refl refl refl refl (omega arith), (known_one refl refl refl refl (omega arith), (known_one refl refl refl refl (omega arith), (known_flag refl refl refl refl refl (omega arith), (known_flag refl refl refl refl refl (omega arith), (known_flag refl refl refl refl refl (omega arith), (known_one refl refl refl refl (omega arith), (known_one refl refl refl refl (omega arith), (known_one refl refl refl refl (omega arith), (known_flag refl refl refl refl refl (omega arith), (known_flag refl refl refl refl refl (omega arith), (known_flag refl refl refl refl refl (omega arith), (known_help refl refl (omega arith), tt)))))))))))))))))))))))); once = refl }
+worst_is_plain = record { known = (known_one refl refl refl refl (omega arith), (known_one refl refl refl refl (omega arith), (known_one refl refl refl refl (omega arith), (known_one refl refl refl refl (omega arith), (known_one refl refl refl refl (omega arith), (known_one refl refl refl refl (omega arith), (known_one refl refl refl refl (omega arith), (known_one refl refl refl refl (omega arith), (known_one refl refl refl refl (omega arith), (known_one refl refl refl refl (omega arith), (known_one refl refl refl refl (omega arith), (known_one refl refl refl refl (omega arith), (known_one refl refl refl refl (omega arith), (known_one refl refl refl refl (omega arith), (known_flag refl refl refl refl refl (omega arith), (known_flag refl refl refl refl refl (omega arith), (known_flag refl refl refl refl refl (omega arith), (known_one refl refl refl refl (omega arith), (known_flag refl refl refl refl refl (omega arith), (known_one refl refl refl refl (omega arith), (known_one refl refl refl refl (omega arith), (known_flag refl refl refl refl refl (omega arith), (known_flag refl refl refl refl refl (omega arith), (known_flag refl refl refl refl refl (omega arith), (known_help refl refl (omega arith), tt))))))))))))))))))))))))); once = refl }
 
 pub parts_is_plain : IsPlainLeaf parts
 parts_is_plain = record { known = (known_one refl refl refl refl (omega arith), (known_one refl refl refl refl (omega arith), (known_one refl refl refl refl (omega arith), (known_one refl refl refl refl (omega arith), (known_one refl refl refl refl (omega arith), (known_one refl refl refl refl (omega arith), (known_one refl refl refl refl (omega arith), (known_one refl refl refl refl (omega arith), (known_one refl refl refl refl (omega arith), (known_one refl refl refl refl (omega arith), (known_one refl refl refl refl (omega arith), (known_one refl refl refl refl (omega arith), (known_one refl refl refl refl (omega arith), (known_flag refl refl refl refl refl (omega arith), (known_flag refl refl refl refl refl (omega arith), (known_flag refl refl refl refl refl (omega arith), (known_help refl refl (omega arith), tt))))))))))))))))); once = refl }

@@ -129,6 +129,10 @@ with_edges app = with_rule app (flag (codes "edges"))
 abbrev pub with_reported : App → App
 with_reported app = with_outputs (with_rule (with_rule app (flag (codes "path"))) (flag (codes "progress")))
 
+-- whether each output is asked about in turn
+abbrev pub with_each : App → App
+with_each app = with_rule app (flag (codes "each"))
+
 -- the pairs that a search admits: those of a cube, where some inputs are held and the number of
 -- flips has a limit
 abbrev pub with_admitted : App → App
@@ -165,7 +169,7 @@ bound_command = with_common (with_output (with_edges (with_moments (with_cube (w
 
 abbrev pub worst_command : Listed → App
 worst_command strategies =
-    with_common (with_output (with_reported (with_vcd (with_search strategies (with_moments (with_admitted (with_rule (new_app (codes "worst")) (needed (codes "FILE")))))))))
+    with_common (with_each (with_output (with_reported (with_vcd (with_search strategies (with_moments (with_admitted (with_rule (new_app (codes "worst")) (needed (codes "FILE"))))))))))
 
 abbrev pub parts_command : Listed → App
 parts_command strategies =

@@ -1,3 +1,4 @@
 pub mod CommandLine
+pub mod Conflicts
 pub mod Flags
 pub mod Telling

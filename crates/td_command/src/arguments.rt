@@ -3,7 +3,7 @@
 ghost use Rattle.std.specs.Prelude.{◌≡◌, [], codes, false, IfOk, OnOk};
 ghost use Rattle.clap.specs.Words.{app_of, new_app, rule_of, with_rule};
 ghost use Rattle.td_command.specs.CommandLine.{needed, needed_words, needed_number, option, named_option, number_option, count_option, name_option, flag};
-ghost use Rattle.td_command.specs.CommandLine.{with_pair, out_letter, quiet_letter, with_common, with_default, with_letter, workers_letter, with_moments, with_vcd, with_output, with_outputs, with_cube, with_edges, with_reported, with_admitted, with_parts, with_strategy, with_search, with_joined};
+ghost use Rattle.td_command.specs.CommandLine.{with_pair, out_letter, quiet_letter, with_common, with_default, with_letter, workers_letter, with_moments, with_vcd, with_output, with_outputs, with_each, with_cube, with_edges, with_reported, with_admitted, with_parts, with_strategy, with_search, with_joined};
 ghost use Rattle.td_command.specs.Telling.{reported, TellsMore, TellsRule};
 
 use crate::help::{FREE_HELP, WHOLE_HELP};
@@ -303,6 +303,17 @@ moment of the input of this name, any number of times",
             "outputs",
             "After the other lines, which output changes last, the first of\n\
 several: `output NAME`",
+        )
+    }
+
+    /// Whether each output is asked about in turn, as a flag.
+    pub(crate) fn each(&mut self) -> Result<(), AllocError>
+        ensures { OnOk result (TellsMore with_each self.old self.new) }
+    {
+        self.flag(
+            "each",
+            "Asks about every output by itself, one after another, and prints a\n\
+line for each: its worst delay, and its bound by edges",
         )
     }
 

@@ -118,6 +118,7 @@ impl<'a> Commands<'a> {
         arguments.vcd()?;
         arguments.reported()?;
         arguments.output(OUTPUT_HELP)?;
+        arguments.each()?;
         arguments.common()?;
         self.add(
             "worst",

@@ -49,6 +49,7 @@ Examples:
   tdelay worst adder_8.v --cert adder_8.cert
   tdelay worst c17.v --path
   tdelay worst c17.v --progress
+  tdelay worst c17.v --each
 It ends with status 3 where the budget or memory cuts the search short.";
 
 pub const PARTS_HELP: &str = "\

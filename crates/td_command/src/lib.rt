@@ -5,6 +5,7 @@ mod arguments;
 mod certificates;
 mod command;
 mod commands;
+mod conflicts;
 mod flags;
 mod help;
 pub mod laws;
@@ -15,4 +16,5 @@ pub use command::{
     BoundRequest, CheckRequest, InfoRequest, JoinRequest, PartsRequest, PathRequest, QuestionWords,
     Request, SimRequest, StrategyWord, WorstRequest, parse,
 };
+pub use conflicts::{Conflict, conflict_of};
 pub use flags::{asks_quiet, is_asked};

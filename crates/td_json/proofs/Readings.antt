@@ -8,7 +8,7 @@ use Rattle.json.specs.Word.{after_number}
 use Rattle.json.proofs.Printed.Trees.{document-print}
 use Rattle.td_json.specs.declared.pieces.End.TheVariants.{Line, Field}
 use Rattle.td_json.specs.declared.forms.Form.{Form}
-use Rattle.td_json.specs.declared.forms.Form.TheVariants.{Words, Number, Numbers, Last, Change, Place, Verdict, Part}
+use Rattle.td_json.specs.declared.forms.Form.TheVariants.{Words, Number, Numbers, Last, Change, Place, Verdict, Part, Each}
 use Rattle.td_json.specs.Pieces.{pieces}
 use Rattle.td_json.specs.Forms.{form_of, is_list, is_number_at}
 use Rattle.td_json.specs.Reports.{is_whole, json_number, field_of, items_of, row, has_place, value_of, key_of, rest_of, joined, added, members_of, report_json}
@@ -42,9 +42,9 @@ string_fits : (field : List ℕ) → Fits (json.string field) 0
 string_fits field = record { numbers = tt; flat = omega arith }
 
 field_fits : (form : Form) (place : ℕ) (field : List ℕ) → Fits (field_of form place field) 0
-field_fits form place field = go (is_number_at form place) refl
+field_fits form place field = go (is_number_at form place field) refl
   where
-    go : (test : Bool) → is_number_at form place ≡ test → Fits (field_of form place field) 0
+    go : (test : Bool) → is_number_at form place field ≡ test → Fits (field_of form place field) 0
     go true is = subst (λ test. Fits (cond test (json_number field) (json.string field)) 0) (sym is) (number_fits field)
     go false is = subst (λ test. Fits (cond test (json_number field) (json.string field)) 0) (sym is) (string_fits field)
 
@@ -80,6 +80,7 @@ value_fits Place rest = go (has_place rest) refl
     go false is = subst (λ test. Fits (cond test (row Place rest) (json.string rest)) 1) (sym is) (above (string_fits rest))
 value_fits Verdict rest = row_fits Verdict rest
 value_fits Part rest = row_fits Part rest
+value_fits Each rest = row_fits Each rest
 
 -- an array of one value before members
 begun_fits : (key : List ℕ) (value : Json) (below : Members) → Fits value 1 → MembersFit below 2

@@ -1,8 +1,8 @@
 -- Which form the values of a line have, by its key.
-use Rattle.std.specs.Prelude.{ℕ, Bool, true, false, cond, ◌||◌, ◌==◌, List, codes}
+use Rattle.std.specs.Prelude.{ℕ, Bool, true, false, cond, not, ◌||◌, ◌==◌, List, codes}
 use Rattle.std.specs.Str.{bytes_eq}
 use Rattle.td_json.specs.declared.forms.Form.{Form}
-use Rattle.td_json.specs.declared.forms.Form.TheVariants.{Words, Number, Numbers, Last, Change, Place, Verdict, Part}
+use Rattle.td_json.specs.declared.forms.Form.TheVariants.{Words, Number, Numbers, Last, Change, Place, Verdict, Part, Each}
 
 -- the line has one moment
 abbrev pub is_moment : List ℕ → Bool
@@ -31,11 +31,15 @@ is_range key = bytes_eq key (codes "between") || (bytes_eq key (codes "delay") |
 abbrev pub is_place : List ℕ → Bool
 is_place key = bytes_eq key (codes "input") || bytes_eq key (codes "output")
 
+-- the field of an output's line says what the next ones are
+abbrev pub is_each_word : List ℕ → Bool
+is_each_word field = bytes_eq field (codes "exact") || (bytes_eq field (codes "between") || bytes_eq field (codes "edges"))
+
 -- the form of a line that isn't of numbers alone; all others are words
 abbrev pub row_of : List ℕ → Form
 row_of key =
     cond (bytes_eq key (codes "last")) Last (cond (bytes_eq key (codes "change")) Change (cond (is_place key) Place
-    (cond (bytes_eq key (codes "refused")) Verdict (cond (bytes_eq key (codes "parts")) Part Words))))
+    (cond (bytes_eq key (codes "refused")) Verdict (cond (bytes_eq key (codes "parts")) Part (cond (bytes_eq key (codes "each")) Each Words)))))
 
 -- the form of a line
 abbrev pub form_of : List ℕ → Form
@@ -53,18 +57,20 @@ is_listed Change = true
 is_listed Place = true
 is_listed Verdict = false
 is_listed Part = true
+is_listed Each = true
 
 -- lines of this key come several times, one after another
 unfoldable pub is_list : List ℕ → Bool
 is_list key = is_listed (form_of key)
 
--- the field at this place, from 0 on, is a number
-abbrev pub is_number_at : Form → ℕ → Bool
-is_number_at Words place = false
-is_number_at Number place = true
-is_number_at Numbers place = true
-is_number_at Last place = place == 1
-is_number_at Change place = (place == 0) || (place == 5)
-is_number_at Place place = place == 0
-is_number_at Verdict place = (place == 0) || (place == 3)
-is_number_at Part place = false
+-- this field, at this place from 0 on, is a number
+abbrev pub is_number_at : Form → ℕ → List ℕ → Bool
+is_number_at Words place field = false
+is_number_at Number place field = true
+is_number_at Numbers place field = true
+is_number_at Last place field = place == 1
+is_number_at Change place field = (place == 0) || (place == 5)
+is_number_at Place place field = place == 0
+is_number_at Verdict place field = (place == 0) || (place == 3)
+is_number_at Part place field = false
+is_number_at Each place field = not ((place == 0) || is_each_word field)

@@ -7,7 +7,7 @@ use Rattle.json.specs.Tree.{json_tokens}
 use Rattle.json.specs.Word.{after_number}
 use Rattle.td_json.specs.declared.pieces.End.TheVariants.{Line, Field}
 use Rattle.td_json.specs.declared.forms.Form.{Form}
-use Rattle.td_json.specs.declared.forms.Form.TheVariants.{Words, Number, Numbers, Last, Change, Place, Verdict, Part}
+use Rattle.td_json.specs.declared.forms.Form.TheVariants.{Words, Number, Numbers, Last, Change, Place, Verdict, Part, Each}
 use Rattle.td_json.specs.Pieces.{front, after, pieces}
 use Rattle.td_json.specs.Forms.{form_of, is_list, is_number_at}
 
@@ -24,7 +24,7 @@ abbrev pub json_number : List ℕ → Json
 json_number field = cond (is_whole (after_number field)) (number field) null
 
 abbrev pub field_of : Form → ℕ → List ℕ → Json
-field_of form place field = cond (is_number_at form place) (json_number field) (string field)
+field_of form place field = cond (is_number_at form place field) (json_number field) (string field)
 
 -- the fields from this place on
 abbrev pub items_of : Form → ℕ → List (List ℕ) → Items
@@ -52,6 +52,7 @@ value_of Change rest = row Change rest
 value_of Place rest = cond (has_place rest) (row Place rest) (string rest)
 value_of Verdict rest = row Verdict rest
 value_of Part rest = row Part rest
+value_of Each rest = row Each rest
 
 -- the line has a part's options, and no key
 abbrev pub is_part : List ℕ → Bool

@@ -27,7 +27,7 @@ fn number(writer: &mut Writer, field: &str) -> Result<(), AllocError>
 fn field(writer: &mut Writer, form: Form, place: usize, field: &str) -> Result<(), AllocError>
     ensures { OnOk result (Adds writer.old writer.new (json_tokens (field_of form place field.now))) }
 {
-    if form.is_number_at(place) {
+    if form.is_number_at(place, field) {
         return number(writer, field);
     }
     writer.string(field)

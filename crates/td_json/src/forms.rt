@@ -1,7 +1,7 @@
 //! Which form the values of a line have, by its key.
 
 ghost use Rattle.std.specs.Prelude.{◌≡◌};
-ghost use Rattle.td_json.specs.Forms.{is_moment, is_bound, is_count, is_figure, is_range, is_place, row_of, form_of, is_listed, is_list, is_number_at};
+ghost use Rattle.td_json.specs.Forms.{is_moment, is_bound, is_count, is_figure, is_range, is_place, is_each_word, row_of, form_of, is_listed, is_list, is_number_at};
 
 /// The form of a line's values.
 #[derive(Clone, Copy)]
@@ -22,6 +22,8 @@ pub enum Form {
     Verdict,
     /// The options of a part, one after another.
     Part,
+    /// The name of an output, and its figures after words that say what they are, for each output.
+    Each,
 }
 
 /// Whether a line has one moment.
@@ -67,6 +69,13 @@ fn is_place(key: &str) -> bool
     key == "input" || key == "output"
 }
 
+/// Whether a field of an output's line says what the next ones are.
+fn is_each_word(field: &str) -> bool
+    ensures { result ≡ is_each_word field.now }
+{
+    field == "exact" || (field == "between" || field == "edges")
+}
+
 /// The form of a line that isn't of numbers alone.
 fn row_of(key: &str) -> Form
     ensures { result ≡ row_of key.now }
@@ -85,6 +94,9 @@ fn row_of(key: &str) -> Form
     }
     if key == "parts" {
         return Form::Part;
+    }
+    if key == "each" {
+        return Form::Each;
     }
     Form::Words
 }
@@ -124,14 +136,14 @@ impl Form {
         ensures { result ≡ is_listed self }
     {
         match self {
-            Form::Last | Form::Change | Form::Place | Form::Part => true,
+            Form::Last | Form::Change | Form::Place | Form::Part | Form::Each => true,
             Form::Words | Form::Number | Form::Numbers | Form::Verdict => false,
         }
     }
 
-    /// Whether the field at a place is a number.
-    pub fn is_number_at(self, place: usize) -> bool
-        ensures { result ≡ is_number_at self place }
+    /// Whether this field, which stands at a place, is a number.
+    pub fn is_number_at(self, place: usize, field: &str) -> bool
+        ensures { result ≡ is_number_at self place field.now }
     {
         match self {
             Form::Number | Form::Numbers => true,
@@ -139,6 +151,7 @@ impl Form {
             Form::Change => place == 0 || place == 5,
             Form::Place => place == 0,
             Form::Verdict => place == 0 || place == 3,
+            Form::Each => !(place == 0 || is_each_word(field)),
             Form::Words | Form::Part => false,
         }
     }

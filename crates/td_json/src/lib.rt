@@ -13,4 +13,4 @@ mod running;
 mod tests;
 
 pub use reporting::json;
-pub use running::{asks_json, run_json};
+pub use running::{asks_json, run_json, show};

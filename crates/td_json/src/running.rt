@@ -42,7 +42,7 @@ fn text_of(alloc: Global, report: &[u8]) -> Result<Vec<u8>, AllocError>
 }
 
 /// Shows a report as JSON, and nothing for an empty one.
-fn show<O: Sink, E: Sink>(
+pub fn show<O: Sink, E: Sink>(
     alloc: Global,
     report: &[u8],
     ending: Status,

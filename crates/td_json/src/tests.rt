@@ -26,6 +26,18 @@ fn writes_each_form(rt: HostRuntime) -> Result<(), Fail> {
     Ok(())
 }
 
+/// Lines of outputs in turn: exact, cut short, without a bound, and of outputs whose names are words
+/// of such a line.
+#[test]
+fn writes_each_output(rt: HostRuntime) -> Result<(), Fail> {
+    let report = "unit 1 ns\neach y exact 3 edges 4\neach \\a+ [1] between 2 5 edges 7\neach edges exact 0 edges none\n";
+    let wanted =
+        "{\"unit\":\"1 ns\",\"each\":[[\"y\",\"exact\",3,\"edges\",4],[\"\\\\a+ [1]\",\"between\",2,5,\"edges\",7],[\"edges\",\"exact\",0,\"edges\",null]]}\n";
+    let text = json(rt.alloc(), report)?;
+    assert_eq!(rt; text.as_slice(), wanted.as_bytes());
+    Ok(())
+}
+
 /// Lines of options have a key that isn't there.
 #[test]
 fn writes_parts(rt: HostRuntime) -> Result<(), Fail> {

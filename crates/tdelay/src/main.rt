@@ -1,15 +1,39 @@
 //! `tdelay`: worst transition delay of a netlist of Verilog gate primitives.
 #![tactic(auto)]
 
+use std::alloc::Global;
 use std::process::ExitCode;
+use std::sync::Wait;
+use std::thread::Threads;
+use std::time::Clock;
 use std::{env, io};
 use td_advice::advising::{advise, advise_names, asks_hints};
 use td_advice::system::System;
-use td_cli::{ReadFault, RealFiles, WriterSink, refuse_words, run};
+use td_cli::{Files, ReadFault, RealFiles, Status, WriterSink, refuse_words, run};
 use td_command::asks_quiet;
+use td_each::{asks_each, run_each};
 use td_json::{asks_json, run_json};
 use td_naming::{positional, refuse};
-use td_quiet::run_quiet;
+use td_quiet::{Discard, run_quiet};
+use td_text::Sink;
+
+/// Carries out what the words ask for, in the form in which they ask for the report.
+fn answer<R: Threads + Wait + Clock + Sync, F: Files, O: Sink, E: Sink>(
+    rt: &R,
+    alloc: Global,
+    words: &[String],
+    files: &mut F,
+    out: &mut O,
+    err: &mut E,
+) -> Status {
+    match (asks_each(words), asks_quiet(words)) {
+        (true, true) => run_each(rt, alloc, words, files, &mut Discard, err),
+        (true, false) => run_each(rt, alloc, words, files, out, err),
+        (false, true) => run_quiet(rt, alloc, words, files, out, err),
+        (false, false) if asks_json(words) => run_json(rt, alloc, words, files, out, err),
+        (false, false) => run(rt, alloc, words, files, out, err),
+    }
+}
 
 fn main(rt: HostRuntime) -> ExitCode {
     let alloc = rt.alloc();
@@ -26,13 +50,7 @@ fn main(rt: HostRuntime) -> ExitCode {
             match positional(alloc, words.as_slice(), &mut files, &system) {
                 Ok(words) => {
                     let words = words.as_slice();
-                    let status = if asks_quiet(words) {
-                        run_quiet(&rt, alloc, words, &mut files, &mut out, &mut err)
-                    } else if asks_json(words) {
-                        run_json(&rt, alloc, words, &mut files, &mut out, &mut err)
-                    } else {
-                        run(&rt, alloc, words, &mut files, &mut out, &mut err)
-                    };
+                    let status = answer(&rt, alloc, words, &mut files, &mut out, &mut err);
                     // Hints stand after all that the run wrote.
                     if asks_hints(words) {
                         advise(alloc, words, status, &mut files, &system, &mut err);

@@ -1,0 +1,196 @@
+Each output by itself: `worst --each`.
+
+  $ cat > two.v <<'END'
+  > module two(a, b, y, \z+ );
+  > input a, b;
+  > output y;
+  > output [1:0] \z+ ;
+  > and #2 (y, a, b);
+  > not #(5,4) (\z+ [1], a);
+  > xor (\z+ [0], a, b);
+  > endmodule
+  > END
+  $ tdelay worst two.v --each
+  unit 1 ns
+  defaulted 1
+  each y exact 2 edges 2
+  each \z+ [1] exact 5 edges 5
+  each \z+ [0] exact 1 edges 1
+  $ tdelay worst $NETLISTS/c17.v --each
+  unit 1 ns
+  defaulted 6
+  each N22 exact 3 edges 3
+  each N23 exact 3 edges 3
+  $ tdelay worst $NETLISTS/adder_8.v --each
+  unit 1 ns
+  defaulted 0
+  each s0 exact 9 edges 9
+  each s1 exact 14 edges 14
+  each s2 exact 19 edges 19
+  each s3 exact 24 edges 24
+  each s4 exact 29 edges 29
+  each s5 exact 34 edges 34
+  each s6 exact 39 edges 39
+  each s7 exact 44 edges 44
+  each cout exact 45 edges 45
+
+Each line is what a search of this output alone says, and the bound by edges of this output alone.
+
+  $ tdelay worst two.v --output '\z+ [1]' | grep exact
+  exact 5
+  $ tdelay bound two.v --edges --output '\z+ [1]' | grep '^e '
+  e 5
+
+Options that say what is asked go along. The whole budget is each output's. Where one is cut short, the status is 3.
+
+  $ tdelay worst two.v --each --pin a=1 --at b=3
+  unit 1 ns
+  defaulted 1
+  each y exact 5 edges 5
+  each \z+ [1] exact 0 edges 0
+  each \z+ [0] exact 4 edges 4
+  $ tdelay worst two.v --each --first 0. --hold-input b
+  unit 1 ns
+  defaulted 1
+  each y exact 2 edges 2
+  each \z+ [1] exact 4 edges 4
+  each \z+ [0] exact 1 edges 1
+  $ tdelay worst two.v --each --budget 0
+  unit 1 ns
+  defaulted 1
+  each y between 2 2 edges 2
+  each \z+ [1] between 4 5 edges 5
+  each \z+ [0] between 0 1 edges 1
+  [3]
+  $ tdelay worst $NETLISTS/lost_pulse.v --each --strategy least --budget 3
+  unit 1 ns
+  defaulted 0
+  each y between 0 3 edges 3
+  [3]
+  $ tdelay worst $NETLISTS/lost_pulse.v --each --strategy least --budget 7
+  unit 1 ns
+  defaulted 0
+  each y exact 0 edges 3
+  $ tdelay worst two.v --each --default-rise 4 --workers 2 --strategy lead --seconds 600
+  unit 1 ns
+  defaulted 1
+  each y exact 2 edges 2
+  each \z+ [1] exact 5 edges 5
+  each \z+ [0] exact 4 edges 4
+  $ tdelay worst --each -- two.v
+  unit 1 ns
+  defaulted 1
+  each y exact 2 edges 2
+  each \z+ [1] exact 5 edges 5
+  each \z+ [0] exact 1 edges 1
+
+As JSON, and from standard input.
+
+  $ tdelay worst two.v --each --json
+  {"unit":"1 ns","defaulted":1,"each":[["y","exact",2,"edges",2],["\\z+ [1]","exact",5,"edges",5],["\\z+ [0]","exact",1,"edges",1]]}
+  $ tdelay worst two.v --json --each --budget 0
+  {"unit":"1 ns","defaulted":1,"each":[["y","between",2,2,"edges",2],["\\z+ [1]","between",4,5,"edges",5],["\\z+ [0]","between",0,1,"edges",1]]}
+  [3]
+  $ tdelay worst - --each < two.v
+  unit 1 ns
+  defaulted 1
+  each y exact 2 edges 2
+  each \z+ [1] exact 5 edges 5
+  each \z+ [0] exact 1 edges 1
+
+Without outputs there is no line.
+
+  $ printf "module wire_only(a); input a; endmodule" > bare.v
+  $ tdelay worst bare.v --each
+  unit 1 ns
+  defaulted 0
+  $ tdelay worst bare.v --each --json
+  {"unit":"1 ns","defaulted":0}
+
+Options that belong to one answer: the first of them is named, and no file is read or written.
+
+  $ tdelay worst nowhere.v --each --output y
+  tdelay: --each doesn't go together with --output: leave one of them out
+  [2]
+  $ tdelay worst nowhere.v --each --outputs
+  tdelay: --each doesn't go together with --outputs: leave one of them out
+  [2]
+  $ tdelay worst nowhere.v --each --cert c
+  tdelay: --each doesn't go together with --cert: write --output NAME in place of --each
+  [2]
+  $ tdelay worst nowhere.v --each -o c
+  tdelay: --each doesn't go together with --cert: write --output NAME in place of --each
+  [2]
+  $ tdelay worst nowhere.v --each --vcd v
+  tdelay: --each doesn't go together with --vcd: write --output NAME in place of --each
+  [2]
+  $ tdelay worst nowhere.v --each --path
+  tdelay: --each doesn't go together with --path: write --output NAME in place of --each
+  [2]
+  $ tdelay worst nowhere.v --each --progress
+  tdelay: --each doesn't go together with --progress: write --output NAME in place of --each
+  [2]
+  $ tdelay worst two.v --progress --path --each --vcd two.v --cert c --hints
+  tdelay: --each doesn't go together with --cert: write --output NAME in place of --each
+  [2]
+  $ tdelay worst two.v --each --outputs --json
+  tdelay: --each doesn't go together with --outputs: leave one of them out
+  [2]
+  $ ls
+  bare.v
+  two.v
+
+Other refusals are as without it.
+
+  $ tdelay worst nowhere.v --each
+  tdelay: cannot read nowhere.v
+  [5]
+  $ echo 'module t(a); input a; output y; endmodule' > bad.v; tdelay worst bad.v --each
+  tdelay: netlist fault 15 PortUndeclared at line 1
+  [1]
+  $ tdelay worst two.v --each --first 0
+  tdelay: bad vector first
+  [2]
+  $ tdelay worst two.v --each --first 0. --second 1. --hold =.
+  tdelay: no admitted pair
+  [1]
+  $ tdelay worst two.v --each --pin c=1
+  tdelay: no input c
+  [2]
+  $ tdelay worst two.v --each > /dev/full
+  tdelay: cannot write stdout
+  [5]
+  $ tdelay worst two.v --each --json > /dev/full
+  tdelay: cannot write stdout
+  [5]
+
+Hints are as without it, but of the search for some output.
+
+  $ tdelay worst two.v --each --first 0 --hints
+  tdelay: bad vector first
+  --first: 2 characters, one for each of a b; got 1
+    help: write 0, 1 or . (free) for each, the first character for the first input
+  [2]
+  $ tdelay worst two.v --each --budget 0 --hints > said
+  the search for some output ended before it was done: 0 nodes are the budget of each, unless memory or time ended it; all figures are true
+    help: a greater --budget, at most 10000000
+    help: --workers N, as many as the machine has processors
+    help: or fewer pairs: --first, --second, --hold, --flips; or `tdelay parts`
+  [3]
+
+It is an option of `worst` alone, once, without a value. After `--` it is none.
+
+  $ tdelay bound two.v --each 2>&1 | head -1
+  error: unexpected argument '--each' found
+  $ tdelay check two.v c --each 2>&1 | head -1
+  error: unexpected argument '--each' found
+  $ tdelay worst two.v --each --each 2>&1 | head -1
+  error: the argument '--each' cannot be used multiple times
+  $ tdelay worst two.v --each=y 2>&1 | head -1
+  error: unexpected value 'y' for '--each' found; no more were expected
+  $ tdelay worst two.v -- --each 2>&1 | head -1
+  error: unexpected argument '--each' found
+  $ tdelay worst --each 2>&1 | head -2
+  error: the following required arguments were not provided:
+    <FILE>
+  $ tdelay worst --each --help | cmp - <(tdelay worst --help)

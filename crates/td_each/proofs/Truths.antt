@@ -1,0 +1,115 @@
+-- What the table says is true.
+use Rattle.std.proofs.Common.{◌≡◌, ◌⊎◌, ◌∙◌, ◌≤◌, ◌++◌, ℕ, Bool, List, [], ◌∷◌, Some, refl, sym, ap, subst, inl, inr, map}
+use Rattle.std.specs.List.{AllZip}
+use Rattle.clap.specs.Words.{Text}
+use Rattle.td_text.specs.Output.{Output}
+use Rattle.td_domain.specs.Worst.{IsWorst}
+use Rattle.td_files.specs.Files.{FileStep}
+use Rattle.td_files.specs.Disks.{Disk}
+use Rattle.td_report.specs.declared.status.Status.{Status}
+use Rattle.td_report.specs.Ends.{Product, Streams}
+use Rattle.td_command.specs.declared.command.WorstRequest.{WorstRequest}
+use Rattle.td_command.specs.declared.command.Request.{Request}
+use Rattle.td_command.specs.declared.command.Request.TheVariants as request
+use Rattle.td_command.specs.CommandLine.{Asks, kinds_of}
+use Rattle.td_command.specs.Flags.{is_asked}
+use Rattle.td_search.specs.declared.answers.Answer.{Answer}
+use Rattle.td_search.specs.declared.answers.Answer.TheVariants as answer
+use Rattle.td_search.specs.Problems.{Problem}
+use Rattle.td_worst.specs.Methods.{IsSoundAnswer}
+use Rattle.td_worst.proofs.Outcomes.{outcome_by}
+use Rattle.td_cli.specs.WorstReports.{strategy_of}
+use Rattle.td_cli.specs.Sentences.{AskWorst, AskForWorst}
+use Rattle.td_cli.proofs.Searches.{other_name}
+use Rattle.td_cli.proofs.Sentences.{came_out, nothing_more, none_among, same_command, asks_it}
+use Rattle.td_each.specs.declared.rows.Row.{Row}
+use Rattle.td_each.specs.Rows.{label, figures_of, AreRows, IsRow}
+use Rattle.td_each.specs.Reports.{table_text}
+use Rattle.td_each.specs.Ends.{in_form, IsEachProduct, EachRuns, EndsByConflict, EachRequestEnds, EachEnds}
+use Rattle.td_each.specs.Truths.{AreTrueFigures, IsTrueRow, RowsAreTrue, TellsTable, IsTrueTable}
+
+-- ---- rows
+
+-- what an answer says is true
+figures_true : (asked : Problem) (budget : ℕ) (found : Answer) → IsSoundAnswer asked budget found
+    → AreTrueFigures asked.setting asked.admit (figures_of found)
+figures_true asked budget (answer.Exact time pair tree) is =
+    record { pair = pair; admitted = is.reached.0; reached = is.reached.1; greatest = is.greatest }
+figures_true asked budget (answer.Between low high pair nodes why) is = is.worst
+
+pub row_is_true : RowsAreTrue
+row_is_true text request name row is =
+    let timing = is.timing in
+    let outcome = outcome_by (strategy_of request.question.strategy) timing.asked request.budget timing.found timing.is_answer in
+    record {
+      named = is.named;
+      word = is.word;
+      word_is = is.word_is;
+      setting = timing.asked.setting;
+      is_setting = timing.is_asked.is_setting;
+      admit = timing.asked.admit;
+      admits = timing.is_asked.admits;
+      figures = subst (λ figures. AreTrueFigures timing.asked.setting timing.asked.admit figures) (sym timing.figures)
+          (figures_true timing.asked request.budget timing.found outcome);
+      edges = timing.edges.sound;
+    }
+
+pub rows_true : (text : List ℕ) (request : WorstRequest) (names : List (List ℕ)) (rows : List Row) → AreRows text request names rows
+    → AllZip (IsTrueRow text request) names rows
+rows_true text request [] [] all = tt
+rows_true text request [] (row ∷ rows) all = absurd all
+rows_true text request (name ∷ names) [] all = absurd all
+rows_true text request (name ∷ names) (row ∷ rows) all = (row_is_true text request name row all.0, rows_true text request names rows all.1)
+
+-- ---- what went out
+
+module _ (disk : Disk) (words : List Text) where
+  -- a beginning of a product of what the words ask
+  tells : (asked : WorstRequest) → AskWorst words asked → (is_json : Bool) (text : List ℕ) → disk.holds asked.file.now text → (product : Product)
+      → IsEachProduct is_json asked text product → (out rest : List ℕ) → out ++ rest ≡ product.report → TellsTable disk words out
+  tells asked asks is_json text held product it out rest same = record {
+    request = asked;
+    asked = asks;
+    text = text;
+    read = held;
+    netlist = it.is.netlist;
+    circuit = it.is.circuit;
+    rows = it.is.rows;
+    are_true = rows_true text asked (map label it.is.netlist.outputs) it.is.rows it.is.are_rows;
+    is_json = is_json;
+    rest = rest;
+    is = same ∙ it.form ∙ ap (in_form is_json) it.is.is;
+  }
+
+  true_of_search : (asked : WorstRequest) → AskWorst words asked → (is_json : Bool) (steps : List FileStep) (status : Status) (old new : Streams)
+      → EachRuns disk is_json asked steps status old new → (before out : List ℕ)
+      → old.out.sent ≡ Some before → new.out.sent ≡ Some (before ++ out) → IsTrueTable disk words out
+  true_of_search asked asks is_json steps status old new (inl (reported, is, ends)) before out old_is new_is =
+      inl (nothing_more old.out.sent new.out.sent before out (ap (λ (it : Output). it.sent) ends.nothing) old_is new_is)
+  true_of_search asked asks is_json steps status old new (inr (none, ends)) before out old_is new_is =
+      elim (came_out _ _ _ steps status old new ends before out old_is new_is) [
+        | inl none ↦ inl none
+        | inr (product, (text, held, is), (rest, same)) ↦ inr (tells asked asks is_json text held product is out rest same)
+      ]
+
+  true_of_request : (search : WorstRequest) → AskWorst words search → (asked : Request) → Asks words asked → (is_json : Bool)
+      → (steps : List FileStep) (status : Status) (old new : Streams) → EachRequestEnds disk is_json asked steps status old new → (before out : List ℕ)
+      → old.out.sent ≡ Some before → new.out.sent ≡ Some (before ++ out) → IsTrueTable disk words out
+  true_of_request search it (request.Sim asked) asks is_json steps status old new ends = absurd (other_name (request.Sim asked) refl (same_command disk words search it (request.Sim asked) asks))
+  true_of_request search it (request.Path asked) asks is_json steps status old new ends = absurd (other_name (request.Path asked) refl (same_command disk words search it (request.Path asked) asks))
+  true_of_request search it (request.Bound asked) asks is_json steps status old new ends = absurd (other_name (request.Bound asked) refl (same_command disk words search it (request.Bound asked) asks))
+  true_of_request search it (request.Worst asked) asks is_json steps status old new ends = true_of_search asked (asks_it disk words asked asks) is_json steps status old new ends
+  true_of_request search it (request.Parts asked) asks is_json steps status old new ends = absurd (other_name (request.Parts asked) refl (same_command disk words search it (request.Parts asked) asks))
+  true_of_request search it (request.Join asked) asks is_json steps status old new ends = absurd (other_name (request.Join asked) refl (same_command disk words search it (request.Join asked) asks))
+  true_of_request search it (request.Check asked) asks is_json steps status old new ends = absurd (other_name (request.Check asked) refl (same_command disk words search it (request.Check asked) asks))
+  true_of_request search it (request.Info asked) asks is_json steps status old new ends = absurd (other_name (request.Info asked) refl (same_command disk words search it (request.Info asked) asks))
+
+  -- what went out is true
+  pub is_true : (steps : List FileStep) (status : Status) (old new : Streams) → EachEnds disk words steps status old new → AskForWorst words
+      → (before out : List ℕ) → old.out.sent ≡ Some before → new.out.sent ≡ Some (before ++ out) → IsTrueTable disk words out
+  is_true steps status old new (inl (asked, asks, ends)) wanted before out old_is new_is =
+      true_of_request wanted.0 wanted.1 asked asks _ steps status old new ends before out old_is new_is
+  is_true steps status old new (inr (none, inl (kind, among, text))) wanted before out old_is new_is =
+      absurd (none_among kind (kinds_of words) wanted.1.taken among)
+  is_true steps status old new (inr (none, inr memory)) wanted before out old_is new_is =
+      inl (nothing_more old.out.sent new.out.sent before out (ap (λ (it : Output). it.sent) memory.nothing) old_is new_is)

@@ -1,0 +1,28 @@
+use Rattle.std.proofs.Common.{map, refl}
+use Rattle.td_delivery.proofs.Endings.{nothing_done}
+use Rattle.td_each.proofs.Endings.{asked_for, refused_words}
+use Rattle.td_each.proofs.Truths.{is_true}
+use Rattle.td_each.proofs.running.run_each.Goals as goal
+
+pub returns-in-Ok-clause-ends : goal.returns-in-Ok-clause-ends
+returns-in-Ok-clause-ends g c =
+    asked_for (g.F.Files.did c.args.files.now c.carry_out_each.new.files) (g.F.Files.disk c.args.files.now) (map g.S.AsStr.text c.args.words.now)
+    c.in-Ok.request c.asks_json-is_json.result _ _ _ c.in-Ok.ensures.asked c.asks_json-is_json.ensures c.carry_out_each.ensures
+
+pub returns-in-Ok-clause-says_true : goal.returns-in-Ok-clause-says_true
+returns-in-Ok-clause-says_true g c wanted before text old_is new_is =
+    let ended = returns-in-Ok-clause-ends g c in
+    is_true (g.F.Files.disk c.args.files.now) (map g.S.AsStr.text c.args.words.now) ended.0 _ _ _ ended.2 wanted before text old_is new_is
+
+pub returns-in-Err-clause-ends : goal.returns-in-Err-clause-ends
+returns-in-Err-clause-ends g c = (
+  _,
+  nothing_done g.F.Files.did g.met.F.Files.did_nothing _ _ refl,
+  refused_words (g.F.Files.disk c.args.files.now) (map g.S.AsStr.text c.args.words.now) c.in-Err.error c.tell_error.result _ _
+      c.in-Err.ensures.fault c.tell_error.ensures.memory c.tell_error.ensures.reported,
+)
+
+pub returns-in-Err-clause-says_true : goal.returns-in-Err-clause-says_true
+returns-in-Err-clause-says_true g c wanted before text old_is new_is =
+    let ended = returns-in-Err-clause-ends g c in
+    is_true (g.F.Files.disk c.args.files.now) (map g.S.AsStr.text c.args.words.now) ended.0 _ _ _ ended.2 wanted before text old_is new_is

@@ -1,0 +1,4 @@
+pub mod Rows
+pub mod Reports
+pub mod Ends
+pub mod Truths
