@@ -36,7 +36,7 @@ Help and the version go to standard output. A line with a dot alone stands for a
   FILE may be `-` for standard input.
   Standard output has one figure a line, a key and its value: docs/MANUAL.md.
   With `--json` it has one JSON object with these keys.
-  With `--hints` a command that is refused says on standard error what to do, too.
+  With `--hints`, or at a terminal, a command that is refused says on standard error what to do, too.
   .
   Exit status:
     0  done

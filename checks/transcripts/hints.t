@@ -716,6 +716,17 @@ A word behind `--` is no option.
   tdelay: cannot read --hints
   [5]
 
+A standard error that is a terminal has hints without the option, after all else. `script` makes such a terminal.
+
+  $ at_terminal() { script -qec "$1" /dev/null < /dev/null | tr -d '\r'; }
+  $ at_terminal "tdelay info two.v" > seen; tdelay info two.v --hints 2>&1 | diff - seen && wc -l < seen
+  4
+  $ at_terminal "tdelay sim inverter.v 0 01 > /dev/null" > seen; tdelay sim inverter.v 0 01 --hints 2>&1 | diff - seen && grep -c . seen
+  3
+  $ at_terminal "tdelay info two.v 2> told"; cat told
+  tdelay: circuit
+  $ at_terminal "tdelay worst inverter.v"
+
 Options with letters.
 
   $ tdelay worst inverter.v -j 2 -o c | tail -1; tdelay check inverter.v c; tdelay worst inverter.v -j2 -oc | tail -1

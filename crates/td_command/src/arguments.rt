@@ -254,7 +254,7 @@ impl<'a> Arguments<'a> {
         self.flag(
             "hints",
             "After the line of a refusal, says on standard error what it means and\n\
-what to do",
+what to do, as it does at a terminal",
         )?;
         self.flag(
             "json",

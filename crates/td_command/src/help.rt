@@ -20,7 +20,7 @@ that order, a line for each input: `input 0 N1` is that of a vector's first char
 FILE may be `-` for standard input.
 Standard output has one figure a line, a key and its value: docs/MANUAL.md.
 With `--json` it has one JSON object with these keys.
-With `--hints` a command that is refused says on standard error what to do, too.
+With `--hints`, or at a terminal, a command that is refused says on standard error what to do, too.
 
 Exit status:
   0  done

@@ -2,6 +2,7 @@
 #![tactic(auto)]
 
 use std::alloc::Global;
+use std::io::IsTerminal;
 use std::process::ExitCode;
 use std::sync::Wait;
 use std::thread::Threads;
@@ -37,6 +38,7 @@ fn answer<R: Threads + Wait + Clock + Sync, F: Files, O: Sink, E: Sink>(
 
 fn main(rt: HostRuntime) -> ExitCode {
     let alloc = rt.alloc();
+    let is_terminal = rt.stderr().is_terminal();
     let mut err = WriterSink::new(rt.stderr());
     let words: io::Result<Vec<String>> = match env::args(&rt) {
         Ok(words) => words.collect(alloc).map_err(io::Error::from),
@@ -52,14 +54,14 @@ fn main(rt: HostRuntime) -> ExitCode {
                     let words = words.as_slice();
                     let status = answer(&rt, alloc, words, &mut files, &mut out, &mut err);
                     // Hints stand after all that the run wrote.
-                    if asks_hints(words) {
+                    if is_terminal || asks_hints(words) {
                         advise(alloc, words, status, &mut files, &system, &mut err);
                     }
                     status
                 }
                 Err(refusal) => {
                     let status = refuse(alloc, &refusal, &mut err);
-                    if asks_hints(words.as_slice()) {
+                    if is_terminal || asks_hints(words.as_slice()) {
                         advise_names(alloc, &refusal, &mut err);
                     }
                     status
