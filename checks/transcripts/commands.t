@@ -10,10 +10,12 @@ Help and the version go to standard output. A line with a dot alone stands for a
     path   Tells why an output changes last when it does: the changes that lead there from an input
     bound  Bounds the delay of all pairs of vectors that two patterns allow
     worst  Searches for the worst delay of the admitted pairs of vectors, and a pair that has it
-    parts  Cuts the question of `worst` into parts, and prints the options with which `worst` answers each
+    parts  Cuts the question of `worst` into parts, and prints the options with which `worst`
+           answers each
     join   Joins the certificates of a question's parts into one of the whole question
     check  Checks the certificate of a worst delay by the netlist alone, whoever wrote it
-    info   Tells what is in a netlist: its size, its depth, its delays, and its inputs in the order of a vector's characters
+    info   Tells what is in a netlist: its size, its depth, its delays, and its inputs in the order
+           of a vector's characters
     help   Print this message or the help of the given subcommand(s)
   .
   Options:
@@ -52,17 +54,24 @@ Help and the version go to standard output. A line with a dot alone stands for a
   .
   Arguments:
     <FILE>  The netlist, a path, or `-` or `stdin` for standard input
-    <FROM>  The first vector: 0, 1 or x for each input in the order that `info` shows, or `none` where there are no inputs
-    <TO>    The second vector, which the inputs take from moment 0 or those of --at on
+    <FROM>  The first vector: 0, 1 or x for each input in the order that `info`
+            shows, or `none` where there are no inputs
+    <TO>    The second vector, which the inputs take from moment 0 or those of
+            --at on
   .
   Options:
-        --at <MOMENTS>      When each input takes its second level: a number of steps for each in order, separated by commas; all 0 where left out. Or NAME=M, the moment of the input of this name, any number of times
+        --at <MOMENTS>      When each input takes its second level: a number of steps for each in
+                            order, separated by commas; all 0 where left out. Or NAME=M, the
+                            moment of the input of this name, any number of times
         --vcd <OUT>         Writes the waves of the pair to this file, as a value change dump
-        --outputs           After the other lines, which output changes last, the first of several: `output NAME`
+        --outputs           After the other lines, which output changes last, the first of
+                            several: `output NAME`
         --default-rise <N>  Rise delay in steps of gates without a delay [default: 1]
         --default-fall <N>  Fall delay in steps of gates without a delay [default: 1]
-        --hints             After the line of a refusal, says on standard error what it means and what to do
-        --json              Prints the report as one JSON object, which has the keys of the report's lines
+        --hints             After the line of a refusal, says on standard error what it means and
+                            what to do, as it does at a terminal
+        --json              Prints the report as one JSON object, which has the keys of the
+                            report's lines
     -q, --quiet             Prints no report: the exit status says how the command ended
     -h, --help              Print help
   .
@@ -140,5 +149,12 @@ Numbers outside their ranges, another name of a strategy, a value behind a flag,
 
 What `join` says of the first pattern isn't what the other commands say of theirs.
 
-  $ tdelay join --help | grep -e '--first'
-        --first <TRITS>     The first vector of the whole question: 0, 1 or . (free) for each input in the order that `info` shows; all free where only --second is given, and without both as the parts together have it
+  $ tdelay join --help | grep -A2 -e '--first'
+        --first <TRITS>     The first vector of the whole question: 0, 1 or . (free) for each
+                            input in the order that `info` shows; all free where only --second is
+                            given, and without both as the parts together have it
+
+No line of help is wider than 100 columns.
+
+  $ (tdelay --help; for command in sim path bound worst parts join check info; do tdelay $command --help; done) | awk 'length > 100 { print } END { print (NR > 150) }'
+  1

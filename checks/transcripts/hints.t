@@ -718,14 +718,16 @@ A word behind `--` is no option.
 
 A standard error that is a terminal has hints without the option, after all else. `script` makes such a terminal.
 
-  $ at_terminal() { script -qec "$1" /dev/null < /dev/null | tr -d '\r'; }
-  $ at_terminal "tdelay info two.v" > seen; tdelay info two.v --hints 2>&1 | diff - seen && wc -l < seen
+  $ cat > at_terminal.sh <<'END'
+  > script -qec "$1" /dev/null < /dev/null | tr -d '\r'
+  > END
+  $ bash at_terminal.sh "tdelay info two.v" > seen; tdelay info two.v --hints 2>&1 | diff - seen && grep -c . seen
   4
-  $ at_terminal "tdelay sim inverter.v 0 01 > /dev/null" > seen; tdelay sim inverter.v 0 01 --hints 2>&1 | diff - seen && grep -c . seen
+  $ bash at_terminal.sh "tdelay sim inverter.v 0 01 > /dev/null" > seen; tdelay sim inverter.v 0 01 --hints 2>&1 | diff - seen && grep -c . seen
   3
-  $ at_terminal "tdelay info two.v 2> told"; cat told
-  tdelay: circuit
-  $ at_terminal "tdelay worst inverter.v"
+  $ bash at_terminal.sh "tdelay info two.v 2> told"; cat told
+  tdelay: netlist fault 11 TwoDrivers at line 5
+  $ bash at_terminal.sh "tdelay info two.v --pin z=1 2> /dev/null"
 
 Options with letters.
 
