@@ -2,6 +2,7 @@
 
 import os
 import shutil
+import subprocess
 import sys
 
 
@@ -26,6 +27,12 @@ def find_kit():
     if not command:
         fail(5, "no toolchain: `rt` isn't on PATH; install the Rattle kit, or add its bin to PATH")
     return os.path.dirname(os.path.dirname(os.path.realpath(command)))
+
+
+def keeps_proofs():
+    """Whether the toolchain's gate keeps what it proved: then it has a word to prove that anew."""
+    said = subprocess.run(["rt", "help"], capture_output=True, text=True, errors="replace")
+    return "--anew" in said.stdout + said.stderr
 
 
 def need_files(kit, names):
