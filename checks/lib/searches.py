@@ -3,10 +3,10 @@
 import os
 from concurrent.futures import ThreadPoolExecutor
 
-import help_text
-
 from . import running
 from .table import folded, number, ratio, seconds_of, words_of
+
+import help_text
 
 # Netlist, strategy, budget (None where it is left out).
 SPEED = [("adder_4", "least", None), ("mult_4", "least", None)]
