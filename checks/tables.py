@@ -253,9 +253,10 @@ def gate(tested, *words, seconds=0, help="", last="3 passed, 0 failed"):
 def gates(tested):
     """Cases: what a gate costs, and how it gets into a page; of two kits the words of `rt ci`."""
     page = tested.write("gate.md", GATES)
-    other = ["/kit/rattle", "-c", "import time; time.sleep(60)", "--crate-name", "td_other"]
+    busy = BUSY.format(seconds=100, last="")
+    other = ["/kit/rattle", "-c", busy, "--crate-name", "td_other"]
     with subprocess.Popen(other, executable=sys.executable) as process:
-        done = gate(tested, "--anew", "--write", "--page", page, seconds=1.6)
+        done = gate(tested, "--anew", "--write", "--page", page, seconds=1.3)
         tested.expect("the other prover is at work", None, process.poll())
         process.kill()
     text = (tested.read("gate.md") or b"").decode()
@@ -264,7 +265,7 @@ def gates(tested):
     tested.expect(f"{done}a gate", (0, True, True), (done.status, *said))
     crates = re.findall(r"(?m)^\| `(td_\w+)` \| (\d+) \| (\d+) \|", text)
     one = [(name, 1 <= int(clock) <= 59, int(used)) for name, clock, used in crates]
-    tested.expect(f"{text}provers of this gate alone", [("td_one", True, 2)], one)
+    tested.expect(f"{text}provers of this gate alone", [("td_one", True, 1)], one)
     around = GATES.splitlines()
     tested.expect("what stands around it", (around[:2], around[3:]),
                   (text.splitlines()[:2], text.splitlines()[-2:]))  # fmt: skip
