@@ -257,8 +257,9 @@ def gates(tested):
     other = ["/kit/rattle", "-c", busy, "--crate-name", "td_other"]
     with subprocess.Popen(other, executable=sys.executable) as process:
         done = gate(tested, "--anew", "--write", "--page", page, seconds=1.3)
-        tested.expect("the other prover is at work", None, process.poll())
+        status = process.poll()
         process.kill()
+    tested.expect("the other prover was at work", None, status)
     text = (tested.read("gate.md") or b"").decode()
     whole = r"(?m)^\| `kit-of-tests` \| \d+ \| \d minutes \| \d+ \| `3 passed, 0 failed` \|$"
     said = "words: ci\n" in done.out, bool(re.search(whole, text))
