@@ -4,8 +4,9 @@ what it cost.
 
 It prints the kit, the processors, the time, the processor seconds of all that ran and the gate's
 last line, and a table by crate: seconds by the clock of its proof, and processor seconds of its
-proof, of the same once more for its must-fail edits, of these, and of its tests. `--write` puts
-both into docs/FIGURES.md, between the comments that name them, where the gate passed. `--record`
+proof, of the same once more for its must-fail edits (where a kit does that before them), of these,
+and of its tests. `--write` puts both into docs/FIGURES.md, between the comments that name them,
+where the gate passed. `--record`
 writes the seconds by the clock into times.json, for `./prove`. With `--log FILE` no gate runs: the
 figures are those that an earlier run printed into FILE. Nothing else should be at work on the
 machine. The exit status is that of `rt ci`.

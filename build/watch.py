@@ -50,7 +50,8 @@ def work_of(words):
         return None
     if "rt-edits-" in kept:
         return crate, AGAIN if kept.endswith("/seed") else EDIT
-    if words[1] == "check" and not kept:
+    if words[1] == "check" and not kept and "-o" not in words:
+        # (What a program's own check came to is written, for two compilers.)
         return crate, EDIT
     return crate, TESTS if "--test" in words else PROOF
 

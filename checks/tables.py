@@ -14,6 +14,7 @@ import sys
 from lib import check, circuits, places, running
 
 import figures
+import watch
 
 FIGURES = os.path.join(places.CHECKS, "figures.py")
 GATE = os.path.join(places.TOP, "build", "gate.py")
@@ -44,6 +45,11 @@ esac"""
 BUSY = """import time
 while time.process_time() < {seconds}: pass
 print("{last}")"""
+# Words of provers, and what these are for.
+PROVERS = [("build src/lib.rt -o out", watch.PROOF), ("check -o checked", watch.PROOF)]
+PROVERS += [("check --incremental out/incremental", watch.PROOF), ("build --test", watch.TESTS)]
+PROVERS += [("check", watch.EDIT), ("check --incremental /tmp/rt-edits-1", watch.EDIT)]
+PROVERS += [("check --incremental /tmp/rt-edits-1/seed", watch.AGAIN)]
 # Words that are refused, before anything is measured.
 BAD = ["", "speeds P", "commands P P", "parts P P", "speed P P P", "speed --runs 0 P"]
 BAD += ["collection P", "workers --instructions P", "commands --seconds 0 P", "first --jobs 0 P"]
@@ -270,6 +276,9 @@ def gates(tested):
     around = GATES.splitlines()
     tested.expect("what stands around it", (around[:2], around[3:]),
                   (text.splitlines()[:2], text.splitlines()[-2:]))  # fmt: skip
+    for words, what in PROVERS:
+        found = watch.work_of(["/kit/rattle", *words.split(), "--crate-name", "td_one"])
+        tested.expect(f"what a prover is for: {words}", ("td_one", what), found)
     log, page = tested.write("log", done.out), tested.write("gate.md", GATES)
     done = gate(tested, "--log", log, "--write", "--page", page)
     tested.expect(f"{done}by a log", (0, text.encode()), (done.status, tested.read("gate.md")))
