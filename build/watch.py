@@ -18,14 +18,26 @@ def read_words(process):
         return []
 
 
-def read_seconds(process):
-    """The processor seconds of a process so far, none where it ended."""
+def read_fields(process):
+    """What the system says of a process after its name, from its state on; none where it ended."""
     try:
         with open(f"/proc/{process}/stat") as it:
-            fields = it.read().rpartition(")")[2].split()
-        return (int(fields[11]) + int(fields[12])) / TICKS
-    except (OSError, ValueError, IndexError):
-        return None
+            return it.read().rpartition(")")[2].split()
+    except OSError:
+        return []
+
+
+def read_seconds(process):
+    """The processor seconds of a process so far, none where it ended."""
+    fields = read_fields(process)
+    return (int(fields[11]) + int(fields[12])) / TICKS if len(fields) > 12 else None
+
+
+def is_started_here(process):
+    """Whether this process started another one, or one that did."""
+    while process not in ("0", str(os.getpid())):
+        process = (read_fields(process)[1:2] or ["0"])[0]
+    return process != "0"
 
 
 def work_of(words):
@@ -38,13 +50,16 @@ def work_of(words):
         return None
     if "rt-edits-" in kept:
         return crate, AGAIN if kept.endswith("/seed") else EDIT
-    if words[1] == "check" and not kept:
+    if words[1] == "check" and not kept and "-o" not in words:
+        # (What a program's own check came to is written, for two compilers.)
         return crate, EDIT
     return crate, TESTS if "--test" in words else PROOF
 
 
 class Watch:
-    """The seconds that each crate's proofs, edits and tests took, by looks at /proc."""
+    """The seconds that each crate's proofs, edits and tests took, by looks at /proc, of provers
+    that this process started, at however many removes.
+    """
 
     def __init__(self):
         self.clock = {}
@@ -56,7 +71,7 @@ class Watch:
         works = set()
         for process in filter(str.isdigit, os.listdir("/proc")):
             work = work_of(read_words(process))
-            seconds = read_seconds(process) if work else None
+            seconds = read_seconds(process) if work and is_started_here(process) else None
             if seconds is not None:
                 works.add(work)
                 self.processes[process, work] = seconds

@@ -85,9 +85,8 @@ ELSEWHERE = {
 # Numbers of README.md, each with the page or script that has it too.
 COSTS = "docs/FIGURES.md"
 NUMBERS = [
-    (r"\((\d+) seconds on\s+four\s+processors", COSTS, r"c17\.v`, the first \| (\d+) s \|"),
-    (r"(\d+) minutes on two processors", COSTS, r"`rt ci` on two processors[^|]*\| (\d+) minutes"),
-    (r"and (\d+)\s+on four\s+\(\[figures\]", COSTS, r"\| `rt ci` \| (\d+) minutes \|"),
+    (r"\((\d+) seconds on\s+four\s+processors", COSTS, r"c17\.v`, the first \| \S+ 3` \| (\d+) \|"),
+    (r"(\d+)\s+minutes\s+on\s+four\s+processors", COSTS, r"\| 4 \| (\d+) minutes \|"),
     (r"1 to (\d+) workers:", "docs/MANUAL.md", r"threads that search, 1 to (\d+)"),
 ]
 LONGEST_README = 150

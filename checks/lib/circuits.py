@@ -1,7 +1,11 @@
 """Circuits that are measured: those of examples/, some that are made here, and those of a folder.
 
-Made are `adder_N` and `mult_N`, built as examples/adder_8.v and mult_8.v are, `random_N` of N gates
-with 100 inputs, and `chain_N` of N buffers.
+Made are `adder_N` and `mult_N`, built as examples/adder_8.v and mult_8.v are, and `random_N` of N
+gates with 100 inputs. Texts that are long to read are `chain_N` of N buffers front to back,
+`back_N` of as many back to front, `noted_N` as `chain_N` with a comment of 250 bytes after each
+gate, `and8_N` and `and1024_N` of N `and` gates of 8 and of 1,024 terminals, all on the same inputs,
+`comment_N` of one buffer and one comment, N bytes in all, and `inverters_N` of N inputs with an
+inverter each.
 """
 
 import os
@@ -9,7 +13,7 @@ import random
 import re
 
 from . import places
-from .netlists import chain
+from .netlists import chain, module
 
 SEED = 7
 
@@ -96,11 +100,50 @@ def random_netlist(count, inputs, seed):
     )
 
 
+def back(count):
+    """A chain of buffers, the last one first."""
+    numbers = reversed(range(count))
+    gates = (f"buf #1 (w{number + 1},w{number})" for number in numbers)
+    return module("w0", f"w{count}", *gates)
+
+
+def noted(count):
+    """A chain of buffers with a comment of 250 bytes after each."""
+    comment = "// " + "note " * 49 + ".\n"
+    head, *gates = chain(count).split("buf ")
+    return head + "".join(f"buf {gate}{comment}" for gate in gates[:-1]) + f"buf {gates[-1]}"
+
+
+def ands(count, terminals):
+    """Gates of this many terminals, all on the same inputs."""
+    inputs = ",".join(f"a{number}" for number in range(terminals - 1))
+    nets = ["y", *(f"w{number}" for number in range(count - 1))]
+    return module(inputs, "y", *(f"and #1 ({net},{inputs})" for net in nets))
+
+
+def commented(size):
+    """One buffer and one comment, of this many bytes."""
+    head, tail = "/*", "*/\n" + module("a", "y", "buf #1 (y,a)")
+    return head + "x" * (size - len(head) - len(tail)) + tail
+
+
+def inverters(count):
+    """Inverters side by side, each with an input of its own."""
+    inputs, outputs = (",".join(f"{it}{place}" for place in range(count)) for it in "ay")
+    return module(inputs, outputs, *(f"not #1 g{it}(y{it},a{it})" for it in range(count)))
+
+
 MADE = {
     "adder": adder,
     "mult": multiplier,
     "random": lambda count: random_netlist(count, 100, SEED),
     "chain": chain,
+    "back": back,
+    "noted": noted,
+    "and8": lambda count: ands(count, 8),
+    "and1024": lambda count: ands(count, 1024),
+    "comment": commented,
+    "inverters": inverters,
 }
 
 
@@ -112,7 +155,7 @@ def path_of(name, folder, netlists):
         path = os.path.join(place or folder, f"{name}.v")
         if os.path.exists(path):
             return path
-    found = re.fullmatch(r"([a-z]+)_(\d+)", name)
+    found = re.fullmatch(r"([a-z]+\d*)_(\d+)", name)
     if not found or found[1] not in MADE:
         return None
     with open(path := os.path.join(folder, f"{name}.v"), "w", encoding="ascii") as file:

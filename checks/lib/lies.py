@@ -88,7 +88,11 @@ LIES = {
     },
     "refused_growths": {"a search after its root is out of memory": 1},
     "strategies": {"a time that is one less": where("lead", MORE.format(key="exact", by=-1))},
-    "tables": {"a time that is one more": where("worst", MORE.format(key="exact", by=1))},
+    "tables": {
+        "a time that is one more": where("worst", MORE.format(key="exact", by=1)),
+        "a joined time that is one more": where("join", MORE.format(key="exact", by=1)),
+        "a run that ends one later": where("sim", MORE.format(key="time", by=1)),
+    },
     "tools": {"the time is one more": MORE.format(key="time", by=1)},
     "transcripts": {
         "a change at another moment": where("path", edited("s/change 0/change 1/")),
