@@ -89,8 +89,11 @@ def figures(minutes, used, last, rows):
 
 def figures_of(log):
     """The figures that a run of this script printed last into a log."""
-    with open(log, encoding="utf-8", errors="replace") as file:
-        _, head, rest = file.read().rpartition(HEAD)
+    try:
+        with open(log, encoding="utf-8", errors="replace") as file:
+            _, head, rest = file.read().rpartition(HEAD)
+    except OSError as why:
+        sys.exit(f"{log} can't be read: {why.strerror}")
     found = re.match(r"\n(?:\|.*\n|\n)+Measured on .*\.\n", rest)
     if not head or not found:
         sys.exit(f"{log} has no figures of a gate that ended")

@@ -289,7 +289,8 @@ def gates(tested):
     page = tested.write("gate.md", GATES)
     done = gate(tested, "--write", "--page", page, last="3 passed, 10 failed")
     tested.expect(f"{done}a gate that fails", 1, done.status)
-    for words in (["--log", page], ["--log", log, "--anew"], ["--log", log, "--record"], ["speed"]):
+    bad = [["speed"], *(["--log", it] for it in (page, "absent"))]
+    for words in [*bad, ["--log", log, "--anew"], ["--log", log, "--record"]]:
         done = gate(tested, *words, "--write", "--page", page)
         tested.expect(f"{done}refused", False, done.status == 0)
     tested.expect("the page as it was", GATES.encode(), tested.read("gate.md"))
