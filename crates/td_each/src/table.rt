@@ -8,7 +8,7 @@ ghost use Rattle.td_cli.specs.Outcomes.{HasNoAnswer};
 ghost use Rattle.td_each.specs.Rows.{label, texts_of};
 ghost use Rattle.td_each.specs.Reports.{IsEachReport, IsOutline, HasNoTable};
 
-use crate::reporting::{table_ending, push_rows};
+use crate::reporting::{push_rows, table_ending};
 use crate::rows::rows;
 use std::alloc::{AllocError, Global};
 use std::sync::Wait;
