@@ -1,3 +1,3 @@
-pub mod Rows
+pub mod Listed
 pub mod Endings
 pub mod Truths

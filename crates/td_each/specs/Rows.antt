@@ -46,7 +46,7 @@ is_exact row = are_exact row.timing.figures
 
 -- the request, where the text is read so
 abbrev pub about : WorstRequest → Reading → WorstRequest
-about request reading = record request { reading = reading }
+about request how = record request { reading = how }
 
 -- the text is read as the request says, but of the output of this name alone
 abbrev pub reading_of : WorstRequest → Bor (List ℕ) → Reading

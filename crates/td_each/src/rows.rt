@@ -78,6 +78,9 @@ fn edges_of(alloc: Global, circuit: &Circuit, cube: &Cube) -> Result<Option<u64>
 
 /// How a search of a request goes.
 fn effort_of(request: &WorstRequest<'_>) -> TimedEffort
+    requires modest { request.now.budget ≤ 10000000 }
+    requires some { 0 < request.now.workers }
+    requires few { request.now.workers ≤ 64 }
     ensures workers { result.effort.workers ≡ request.now.workers }
     ensures budget { result.effort.budget ≡ request.now.budget }
     ensures timed { is_some result.seconds ≡ is_some request.now.seconds }
@@ -128,7 +131,7 @@ fn timing_of<'a, R: Threads + Wait + Clock + Sync>(
 }
 
 /// The row of the output of this name: the request is asked about this output alone.
-fn row<'a, R: Threads + Wait + Clock + Sync>(
+fn row_of<'a, R: Threads + Wait + Clock + Sync>(
     rt: &R,
     alloc: Global,
     text: &'a [u8],
@@ -166,7 +169,7 @@ pub(crate) fn rows<'a, R: Threads + Wait + Clock + Sync>(
 {
     let mut rows = Vec::new(alloc);
     for name in names {
-        let row = row(rt, alloc, text, request, name.as_str())?;
+        let row = row_of(rt, alloc, text, request, name.as_str())?;
         rows.push(row)?;
     }
     Ok(rows)

@@ -11,7 +11,7 @@ ghost use Rattle.td_each.specs.Reports.{HasNoTable};
 ghost use Rattle.td_each.specs.Ends.{IsEachProduct, SaysInForm, FileRuns, EachRuns, EachRequestEnds, EachEnds, RefusesConflict};
 ghost use Rattle.td_each.specs.Truths.{IsTrueTable};
 
-use crate::table::table;
+use crate::table::table_of;
 use std::alloc::Global;
 use std::convert::AsStr;
 use std::sync::Wait;
@@ -65,7 +65,7 @@ fn run_on<R: Threads + Wait + Clock + Sync, O: Sink, E: Sink>(
     ensures { Ends (IsEachProduct is_json request.now text.now) (HasNoTable request.now text.now) (λ _. ⊥) [] result
         (streams (O.output out.old) (E.output err.old)) (streams (O.output out.new) (E.output err.new)) }
 {
-    match table(rt, alloc, text, request) {
+    match table_of(rt, alloc, text, request) {
         Ok(table) => show_in_form(alloc, &table.report, is_json, table.ending, out, err),
         Err(refusal) => tell_refusal(alloc, err, &refusal),
     }

@@ -8,7 +8,7 @@ ghost use Rattle.td_cli.specs.Outcomes.{HasNoAnswer};
 ghost use Rattle.td_each.specs.Rows.{label, texts_of};
 ghost use Rattle.td_each.specs.Reports.{IsEachReport, IsOutline, HasNoTable};
 
-use crate::reporting::{table_ending, push_rows};
+use crate::reporting::{push_rows, table_ending};
 use crate::rows::rows;
 use std::alloc::{AllocError, Global};
 use std::sync::Wait;
@@ -69,7 +69,7 @@ fn head(alloc: Global, circuit: &Circuit) -> Result<Text, AllocError>
 }
 
 /// What is known of a text before the first search.
-fn outline<'a>(
+fn outline_of<'a>(
     alloc: Global,
     text: &'a [u8],
     request: &WorstRequest<'_>,
@@ -85,7 +85,7 @@ fn outline<'a>(
 
 /// The table of what a request asks of a text: a row for each output, which is asked about alone.
 /// The text is read once for the names of the outputs, and once more for each output.
-pub(crate) fn table<'a, R: Threads + Wait + Clock + Sync>(
+pub(crate) fn table_of<'a, R: Threads + Wait + Clock + Sync>(
     rt: &R,
     alloc: Global,
     text: &'a [u8],
@@ -97,9 +97,9 @@ pub(crate) fn table<'a, R: Threads + Wait + Clock + Sync>(
     ensures report { IfOk result (λ table. IsEachReport text.now request.now table.report table.ending) }
     ensures refusal { IfErr result (λ reason. reason ≢ Reason.OutOfMemory → HasNoTable request.now text.now reason) }
 {
-    let outline = outline(alloc, text, request)?;
-    let rows = rows(rt, alloc, text, request, &outline.names)?;
-    let mut report = outline.head;
+    let Outline { head, names } = outline_of(alloc, text, request)?;
+    let rows = rows(rt, alloc, text, request, &names)?;
+    let mut report = head;
     push_rows(&mut report, &rows)?;
     let ending = table_ending(&rows);
     Ok(Table { report, ending })

@@ -13,7 +13,8 @@ use td_text::MemorySink;
 const ROOM: usize = 1 << 16;
 
 /// A netlist with two outputs: the first one changes last at moment 3, the second one at moment 5.
-const TWO: &[u8] = b"module t(a, b, y, \\z+ );\ninput a, b;\noutput y;\noutput [1:1] \\z+ ;\nnot #(2,3) g(y,a);\nxor #(4,5) h(\\z+ [1],a,b);\nendmodule\n";
+const TWO: &[u8] =
+    b"module t(a, b, y, \\z+ );\ninput a, b;\noutput y;\noutput [1:1] \\z+ ;\nnot #(2,3) g(y,a);\nxor #(4,5) h(\\z+ [1],a,b);\nendmodule\n";
 
 /// Files that have it, and one that is no netlist.
 const FILES: [(&str, &[u8]); 2] = [("two.v", TWO), ("bad.v", b"module")];
@@ -40,8 +41,7 @@ fn ends<R: Threads + Wait + Clock + Sync>(
 #[test]
 fn prints_a_table(rt: HostRuntime) -> Result<(), Fail> {
     let words = ["tdelay", "worst", "two.v", "--each"];
-    let report =
-        b"unit 1 ns\ndefaulted 0\neach y exact 3 edges 3\neach \\z+ [1] exact 5 edges 5\n";
+    let report = b"unit 1 ns\ndefaulted 0\neach y exact 3 edges 3\neach \\z+ [1] exact 5 edges 5\n";
     assert!(rt; ends(&rt, rt.alloc(), &words, 0, report, b"")?);
     Ok(())
 }
@@ -86,13 +86,16 @@ fn refuses_as_one_search(rt: HostRuntime) -> Result<(), Fail> {
     let reason = b"tdelay: netlist fault 3 Syntax at line 1\n";
     assert!(rt; ends(&rt, rt.alloc(), &words, 1, b"", reason)?);
     let words = ["tdelay", "worst", "two.v", "--each", "--first", "0"];
-    assert!(rt; ends(&rt, rt.alloc(), &words, 2, b"", b"tdelay: bad vector first\n")?);
+    let reason = b"tdelay: bad vector first\n";
+    assert!(rt; ends(&rt, rt.alloc(), &words, 2, b"", reason)?);
     let words = [
         "tdelay", "worst", "two.v", "--each", "--first", "0.", "--second", "1.", "--flips", "0",
     ];
-    assert!(rt; ends(&rt, rt.alloc(), &words, 1, b"", b"tdelay: no admitted pair\n")?);
+    let reason = b"tdelay: no admitted pair\n";
+    assert!(rt; ends(&rt, rt.alloc(), &words, 1, b"", reason)?);
     let words = ["tdelay", "worst", "nowhere.v", "--each"];
-    assert!(rt; ends(&rt, rt.alloc(), &words, 5, b"", b"tdelay: cannot read nowhere.v\n")?);
+    let reason = b"tdelay: cannot read nowhere.v\n";
+    assert!(rt; ends(&rt, rt.alloc(), &words, 5, b"", reason)?);
     Ok(())
 }
 

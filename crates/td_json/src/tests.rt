@@ -30,7 +30,8 @@ fn writes_each_form(rt: HostRuntime) -> Result<(), Fail> {
 /// of such a line.
 #[test]
 fn writes_each_output(rt: HostRuntime) -> Result<(), Fail> {
-    let report = "unit 1 ns\neach y exact 3 edges 4\neach \\a+ [1] between 2 5 edges 7\neach edges exact 0 edges none\n";
+    let report =
+        "unit 1 ns\neach y exact 3 edges 4\neach \\a+ [1] between 2 5 edges 7\neach edges exact 0 edges none\n";
     let wanted =
         "{\"unit\":\"1 ns\",\"each\":[[\"y\",\"exact\",3,\"edges\",4],[\"\\\\a+ [1]\",\"between\",2,5,\"edges\",7],[\"edges\",\"exact\",0,\"edges\",null]]}\n";
     let text = json(rt.alloc(), report)?;

@@ -1,6 +1,6 @@
 use Rattle.std.proofs.Common.{take}
 use Rattle.std.specs.List.{AllZip}
-use Rattle.td_each.proofs.Rows.{IsRowOf}
+use Rattle.td_each.proofs.Listed.{IsRowOf}
 use Rattle.td_each.proofs.rows.rows.Given as goal
 
 -- a row for each name so far

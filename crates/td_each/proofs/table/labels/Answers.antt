@@ -2,7 +2,7 @@ use Rattle.td_nets.specs.Views.{name_of}
 use Rattle.td_gates.proofs.Places.{slice_get-some}
 use Rattle.td_report.proofs.Outputs.{output_at}
 use Rattle.td_report.proofs.Listing.{output_named}
-use Rattle.td_each.proofs.Rows.{label_more}
+use Rattle.td_each.proofs.Listed.{label_more}
 use Rattle.td_each.proofs.table.labels.Goals as goal
 
 pub name-requires-clause-constant : goal.name-requires-clause-constant

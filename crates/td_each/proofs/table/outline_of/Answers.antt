@@ -1,4 +1,4 @@
-use Rattle.td_each.proofs.table.outline.Goals as goal
+use Rattle.td_each.proofs.table.outline_of.Goals as goal
 
 pub returns-clause-outline : goal.returns-clause-outline
 returns-clause-outline c = record {

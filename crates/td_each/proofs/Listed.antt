@@ -61,7 +61,18 @@ module _ (text : List ℕ) (request : WorstRequest) where
       let here = Contains-get_or (texts_of names) i (string_bytes d) (subst (λ count. i < count) (sym (length-map names text_of)) less) in
       subst (λ (name : List ℕ). Contains (texts_of names) name) (get_or-map text_of names i d (string_bytes d) less) here
 
-  -- the row of one name fails
-  pub row_fails : (names : List (String Global)) (i : ℕ) (d : String Global) (reason : Refusal) → i < length names
-      → RowFails text request (string_bytes (get_or names i d)) reason → HasNoRow text request (texts_of names) reason
-  row_fails names i d reason less fails = (string_bytes (get_or names i d), contains_text names i d less, fails)
+  module _ (names : List (String Global)) (i : ℕ) (name : String Global) (word : List ℕ) (less : i < length names) (item : name ≡ get_or names i name)
+      (value : word ≡ string_bytes name) where
+    -- the row of one more name
+    pub row_more : (rows new : List Row) (row : Row) → AllZip IsRowOf (take i names) rows → IsRow text request word row → new ≡ rows ++ row ∷ []
+        → AllZip IsRowOf (take (i + 1) names) new
+    row_more rows new row so_far is added =
+        let named : IsRow text request (string_bytes name) row = subst (λ (w : List ℕ). IsRow text request w row) value is in
+        let here : IsRowOf (get_or names i name) row = subst (λ (n : String Global). IsRow text request (string_bytes n) row) item named in
+        subst (λ (rs : List Row). AllZip IsRowOf (take (i + 1) names) rs) (sym added) (zip_more IsRowOf names rows i name row less so_far here)
+
+    -- the row of this name fails
+    pub row_fails : (reason : Refusal) → RowFails text request word reason → HasNoRow text request (texts_of names) reason
+    row_fails reason fails =
+        let there = contains_text names i name less in
+        (word, subst (λ (w : List ℕ). Contains (texts_of names) w) (ap text_of (sym item) ∙ sym value) there, fails)
