@@ -24,11 +24,19 @@ impl Join {
 
     /// The levels of two nets joined, lane by lane.
     #[inline(always)]
-    fn levels(self, one: u64, other: u64) -> u64 {
+    pub fn levels(self, one: u64, other: u64) -> u64 {
         match self {
             Join::And => one & other,
             Join::Or => one | other,
             Join::Xor => one ^ other,
+        }
+    }
+
+    /// The levels that change no others when they are joined with them.
+    pub fn neutral(self) -> u64 {
+        match self {
+            Join::And => u64::MAX,
+            Join::Or | Join::Xor => 0,
         }
     }
 
