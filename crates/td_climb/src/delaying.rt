@@ -128,7 +128,10 @@ fn kept(events: &[Event], place: usize, change: Change, after: Due) -> Change {
 fn kept_on(events: &[Event], place: usize, change: Change, due: Due) -> Change {
     let end = due.last();
     let mut kept = change;
-    for later in events.iter().skip(place) {
+    let Some(rest) = events.get(place..) else {
+        return kept;
+    };
+    for later in rest {
         if kept.rises | kept.falls == 0 || end <= later.moment {
             break;
         }

@@ -32,14 +32,6 @@ impl Join {
         }
     }
 
-    /// The levels that change no others when they are joined with them.
-    pub fn neutral(self) -> u64 {
-        match self {
-            Join::And => u64::MAX,
-            Join::Or | Join::Xor => 0,
-        }
-    }
-
     /// Joins the waves of two nets. The error is out of memory.
     pub fn join(self, one: &Waves, other: &Waves, joined: &mut Waves) -> Result<(), AllocError> {
         match self {

@@ -78,10 +78,11 @@ impl Strip {
     /// where all of a run of targets are 1, and falls where none of one is. All are negated in
     /// these lanes: in all or in none.
     fn follow(&mut self, start: u64, ones: &[u64], any: &[u64], negated: u64) {
+        let words: &mut [u64] = &mut self.words;
         let mut level = start;
-        for ((slot, one), any) in self.words.iter_mut().zip(ones.iter()).zip(any.iter()) {
-            level = *one | (level & *any);
-            *slot = level ^ negated;
+        for place in 0..words.len().min(ones.len()).min(any.len()) {
+            level = ones[place] | (level & any[place]);
+            words[place] = level ^ negated;
         }
         self.start = start ^ negated;
     }
@@ -184,8 +185,7 @@ impl Strips {
         };
         let due = Due::of(gate);
         let start = self.make_target(gate, window.from, target_words(window, due))?;
-        self.ones
-            .make(Join::And, &self.target, due.rise as usize)?;
+        self.ones.make(Join::And, &self.target, due.rise as usize)?;
         self.any.make(Join::Or, &self.target, due.fall as usize)?;
         self.made.from = window.from;
         self.made.words.resize(window.count() as usize, 0)?;
@@ -204,15 +204,19 @@ impl Strips {
     /// it may look back. Answers its levels at the start. The error is out of memory.
     fn make_target(&mut self, gate: &Gate, from: u64, count: usize) -> Result<u64, AllocError> {
         let join = Join::of(gate.kind);
-        let mut start = join.neutral();
-        self.target.clear();
-        self.target.resize(count, start)?;
+        let mut start = 0;
+        self.target.resize(count, 0)?;
         let back = Due::of(gate).last();
-        for net in &gate.inputs {
+        for (number, net) in gate.inputs.iter().enumerate() {
             if let Some(strip) = self.rooms.of(*net) {
-                let place = strip.from.saturating_add(back).saturating_sub(from);
-                join_strip(join, &mut self.target, strip, place as usize);
-                start = join.levels(start, strip.start);
+                let place = strip.from.saturating_add(back).saturating_sub(from) as usize;
+                if number == 0 {
+                    put_strip(&mut self.target, strip, place);
+                    start = strip.start;
+                } else {
+                    join_strip(join, &mut self.target, strip, place);
+                    start = join.levels(start, strip.start);
+                }
             }
         }
         Ok(start)
@@ -227,6 +231,31 @@ fn target_words(window: Window, due: Due) -> usize {
     }
 }
 
+/// The words of a target before an input's window, which begins at a place of the target, those
+/// within it, and those after it.
+fn parts<'a>(
+    target: &'a mut [u64],
+    strip: &Strip,
+    place: usize,
+) -> (&'a mut [u64], &'a mut [u64], &'a mut [u64]) {
+    let start = place.min(target.len());
+    let (before, rest) = target.split_at_mut(start);
+    let count = strip.words.len().min(rest.len());
+    let (within, after) = rest.split_at_mut(count);
+    (before, within, after)
+}
+
+/// Makes a target that of an input alone, whose window begins at a place of the target.
+fn put_strip(target: &mut [u64], strip: &Strip, place: usize) {
+    let (before, within, after) = parts(target, strip, place);
+    let words: &[u64] = &strip.words;
+    before.fill(strip.start);
+    for place in 0..within.len().min(words.len()) {
+        within[place] = words[place];
+    }
+    after.fill(strip.end());
+}
+
 /// Joins a target with an input, whose window begins at a place of the target.
 fn join_strip(join: Join, target: &mut [u64], strip: &Strip, place: usize) {
     match join {
@@ -239,11 +268,11 @@ fn join_strip(join: Join, target: &mut [u64], strip: &Strip, place: usize) {
 /// As `join_strip`. Each way to join has a copy of its own, which the compiler makes vectors of.
 #[inline(always)]
 fn join_strip_by(join: Join, target: &mut [u64], strip: &Strip, place: usize) {
-    let (before, rest) = target.split_at_mut(place.min(target.len()));
-    let (within, after) = rest.split_at_mut(strip.words.len().min(rest.len()));
+    let (before, within, after) = parts(target, strip, place);
+    let words: &[u64] = &strip.words;
     join_levels(join, before, strip.start);
-    for (slot, levels) in within.iter_mut().zip(strip.words.iter()) {
-        *slot = join.levels(*slot, *levels);
+    for place in 0..within.len().min(words.len()) {
+        within[place] = join.levels(within[place], words[place]);
     }
     join_levels(join, after, strip.end());
 }
@@ -251,7 +280,7 @@ fn join_strip_by(join: Join, target: &mut [u64], strip: &Strip, place: usize) {
 /// Joins words with the same levels.
 #[inline(always)]
 fn join_levels(join: Join, words: &mut [u64], levels: u64) {
-    for slot in words.iter_mut() {
-        *slot = join.levels(*slot, levels);
+    for place in 0..words.len() {
+        words[place] = join.levels(words[place], levels);
     }
 }
