@@ -6,7 +6,7 @@ use crate::lanes::Latest;
 use crate::pairs::Pairs;
 use crate::places::Places;
 use crate::rooms::Rooms;
-use crate::runs::Runs;
+use crate::runs::{Run, Runs};
 use crate::windows::{Window, windows};
 use std::alloc::{AllocError, Global};
 use td_circuit::{Circuit, FIRST_INPUT, Gate};
@@ -77,11 +77,11 @@ impl Strip {
     /// Writes the levels of an output, which follow from those at which it was settled: it rises
     /// where all of a run of targets are 1, and falls where none of one is. All are negated in
     /// these lanes: in all or in none.
-    fn follow(&mut self, start: u64, ones: &[u64], any: &[u64], negated: u64) {
+    fn follow(&mut self, start: u64, all: &[u64], any: &[u64], negated: u64) {
         let words: &mut [u64] = &mut self.words;
         let mut level = start;
-        for place in 0..words.len().min(ones.len()).min(any.len()) {
-            level = ones[place] | (level & any[place]);
+        for place in 0..words.len().min(all.len()).min(any.len()) {
+            level = all[place] | (level & any[place]);
             words[place] = level ^ negated;
         }
         self.start = start ^ negated;
@@ -94,7 +94,7 @@ pub struct Strips {
     rooms: Rooms<Strip>,
     windows: Vec<Window>,
     target: Vec<u64>,
-    ones: Runs,
+    all: Runs,
     any: Runs,
     made: Strip,
 }
@@ -111,7 +111,7 @@ impl Strips {
             rooms: Rooms::new(strips, places.of_nets),
             windows: windows(alloc, circuit)?,
             target: Vec::new(alloc),
-            ones: Runs::new(alloc),
+            all: Runs::new(alloc),
             any: Runs::new(alloc),
             made: Strip::new(alloc),
         })
@@ -185,14 +185,14 @@ impl Strips {
         };
         let due = Due::of(gate);
         let start = self.make_target(gate, window.from, target_words(window, due))?;
-        self.ones.make(Join::And, &self.target, due.rise as usize)?;
-        self.any.make(Join::Or, &self.target, due.fall as usize)?;
+        self.all.make(Run::All, &self.target, due.rise as usize)?;
+        self.any.make(Run::Any, &self.target, due.fall as usize)?;
         self.made.from = window.from;
         self.made.words.resize(window.count() as usize, 0)?;
         let later = due.last();
         self.made.follow(
             start,
-            self.ones.from(later.saturating_sub(due.rise) as usize),
+            self.all.from(later.saturating_sub(due.rise) as usize),
             self.any.from(later.saturating_sub(due.fall) as usize),
             negated(gate.kind),
         );
