@@ -62,8 +62,8 @@ impl Delaying {
         }
     }
 
-    /// Makes the waves of an output from those of its target, after these delays. They are negated in
-    /// these lanes: in all or in none. The error is out of memory.
+    /// Makes the waves of an output from those of its target, after these delays. They are negated
+    /// in these lanes: in all or in none. The error is out of memory.
     pub fn delay(
         &mut self,
         target: &Waves,

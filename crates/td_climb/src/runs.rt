@@ -52,8 +52,8 @@ impl Runs {
         }
     }
 
-    /// Answers of runs of `length` words, from each word on after which there are as many. The error
-    /// is out of memory.
+    /// Answers of runs of `length` words, from each word on after which there are as many. The
+    /// error is out of memory.
     pub fn make(&mut self, run: Run, words: &[u64], length: usize) -> Result<(), AllocError> {
         self.words.resize(words.len(), 0)?;
         self.spare.resize(words.len(), 0)?;
