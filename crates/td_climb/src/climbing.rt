@@ -24,7 +24,7 @@ const PARTS: usize = 4;
 const MANY: usize = 64;
 
 /// After how many tries in a row without a better pair a climb ends.
-const IDLE: u32 = 30_000;
+const IDLE: u32 = 20_000;
 
 /// A climb under way, and the best pair that it met, which is admitted.
 #[derive(Drop)]

@@ -1,9 +1,10 @@
 //! What a gate's delays make of its target: a change that the target doesn't keep for its delay is
 //! lost.
 
+use crate::joining::negated;
 use crate::waves::{Event, NEVER, Waves, all_if, event_at, put};
 use std::alloc::{AllocError, Global};
-use td_gates::Delay;
+use td_circuit::Gate;
 
 /// How many events after a change are looked at without asking whether they come in time. Mostly no
 /// more do.
@@ -18,11 +19,33 @@ struct Change {
     falls: u64,
 }
 
-/// When an output follows a rise of its target, and when a fall.
+/// When an output follows a rise of its target, and when a fall. A gate that negates has a target
+/// that isn't negated yet.
 #[derive(Clone, Copy, Debug, Drop)]
-struct Due {
-    rise: u64,
-    fall: u64,
+pub struct Due {
+    pub rise: u64,
+    pub fall: u64,
+}
+
+impl Due {
+    /// How long after its target the output of a gate follows.
+    pub fn of(gate: &Gate) -> Due {
+        let rise = u64::from(gate.delay.rise);
+        let fall = u64::from(gate.delay.fall);
+        if negated(gate.kind) == 0 {
+            Due { rise, fall }
+        } else {
+            Due {
+                rise: fall,
+                fall: rise,
+            }
+        }
+    }
+
+    /// The later one.
+    pub fn last(self) -> u64 {
+        self.rise.max(self.fall)
+    }
 }
 
 /// Room for the changes of a target, used again for each gate.
@@ -39,25 +62,15 @@ impl Delaying {
         }
     }
 
-    /// Makes the waves of an output from those of its target, which are negated in these lanes: in
-    /// all or in none. The error is out of memory.
+    /// Makes the waves of an output from those of its target, after these delays. They are negated
+    /// in these lanes: in all or in none. The error is out of memory.
     pub fn delay(
         &mut self,
         target: &Waves,
         negated: u64,
-        delay: Delay,
+        after: Due,
         output: &mut Waves,
     ) -> Result<(), AllocError> {
-        let rise = u64::from(delay.rise);
-        let fall = u64::from(delay.fall);
-        let after = if negated == 0 {
-            Due { rise, fall }
-        } else {
-            Due {
-                rise: fall,
-                fall: rise,
-            }
-        };
         self.find_changes(target, after)?;
         output.make_space(target.events.len().saturating_mul(2))?;
         let count = shift(
@@ -104,7 +117,7 @@ fn kept(events: &[Event], place: usize, change: Change, after: Due) -> Change {
         next = next.wrapping_add(1);
         kept = narrowed(kept, event_at(events, next), due);
     }
-    let end = due.rise.max(due.fall);
+    let end = due.last();
     if kept.rises | kept.falls == 0 || end <= event_at(events, next).moment {
         return kept;
     }
@@ -113,9 +126,12 @@ fn kept(events: &[Event], place: usize, change: Change, after: Due) -> Change {
 
 /// As `kept`, by all events from a place on.
 fn kept_on(events: &[Event], place: usize, change: Change, due: Due) -> Change {
-    let end = due.rise.max(due.fall);
+    let end = due.last();
     let mut kept = change;
-    for later in events.iter().skip(place) {
+    let Some(rest) = events.get(place..) else {
+        return kept;
+    };
+    for later in rest {
         if kept.rises | kept.falls == 0 || end <= later.moment {
             break;
         }

@@ -24,7 +24,7 @@ impl Join {
 
     /// The levels of two nets joined, lane by lane.
     #[inline(always)]
-    fn levels(self, one: u64, other: u64) -> u64 {
+    pub fn levels(self, one: u64, other: u64) -> u64 {
         match self {
             Join::And => one & other,
             Join::Or => one | other,

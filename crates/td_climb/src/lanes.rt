@@ -1,27 +1,28 @@
 //! The simulation of 64 pairs at once.
 
-use crate::delaying::Delaying;
-use crate::joining::negated;
+use crate::lists::Lists;
 use crate::pairs::Pairs;
-use crate::rooms::Rooms;
-use crate::targets::Targets;
-use crate::waves::{Event, Waves};
+use crate::strips::Strips;
 use std::alloc::{AllocError, Global};
-use td_circuit::{Circuit, FIRST_INPUT, Gate};
+use td_circuit::Circuit;
 
-/// How many events the gates of a circuit may read in one simulation, since they may double from
-/// gate to gate. This number takes some 0.2 s. In a circuit of 200,000 gates, it is 40 events at
-/// each input of a gate with two.
-const EVENTS: usize = 1 << 24;
+/// How many words of strips take as long as one event that is read in lists.
+const WORDS: usize = 5;
 
-/// Room for the simulation of 64 pairs at once, used again for the next ones. What it says of a
-/// pair is meant to be what its run says, but nothing of that is proved.
+/// How many words of strips a circuit may have. They take some 15 ms.
+const MOST: usize = 1 << 22;
+
+/// Room for the simulation of 64 pairs at once, used again for the next ones. It goes by lists of
+/// events, and by strips of levels once lists have taken longer than strips would. What it says of
+/// a pair is meant to be what its run says, but nothing of that is proved.
 #[derive(Debug, Drop)]
 pub struct Lanes {
-    rooms: Rooms,
-    targets: Targets,
-    delaying: Delaying,
-    made: Waves,
+    lists: Lists,
+    strips: Strips,
+    /// How many words a simulation by strips takes.
+    words: usize,
+    /// Whether the last simulation went by strips.
+    in_strips: bool,
 }
 
 /// The latest moment at which an output changes in some lanes, and in which of them one changes
@@ -35,68 +36,41 @@ pub struct Latest {
 impl Lanes {
     /// Room for a circuit. The error is out of memory.
     pub fn new(alloc: Global, circuit: &Circuit) -> Result<Self, AllocError> {
+        let strips = Strips::new(alloc, circuit)?;
+        let words = strips.words(circuit);
         Ok(Lanes {
-            rooms: Rooms::new(alloc, circuit)?,
-            targets: Targets::new(alloc, circuit)?,
-            delaying: Delaying::new(alloc),
-            made: Waves::new(alloc),
+            lists: Lists::new(alloc, circuit)?,
+            strips,
+            words,
+            in_strips: false,
         })
     }
 
     /// Simulates pairs. Answers whether it came to the end: it is cut off where there are too many
     /// events. The error is out of memory.
     pub fn simulate(&mut self, circuit: &Circuit, pairs: &Pairs) -> Result<bool, AllocError> {
-        self.begin(circuit, pairs)?;
-        let first = circuit.first_gate() as usize;
-        let mut events = 0usize;
-        for (place, gate) in circuit.gates().iter().enumerate() {
-            events = events.saturating_add(self.rooms.events(&gate.inputs));
-            if events > EVENTS {
-                return Ok(false);
-            }
-            self.evaluate(gate, first.saturating_add(place))?;
+        if self.words <= self.lists.events.saturating_mul(WORDS).min(MOST) {
+            self.in_strips = true;
+            self.strips.simulate(circuit, pairs)?;
+            return Ok(true);
         }
-        Ok(true)
+        self.lists.simulate(circuit, pairs)
     }
 
     /// The latest moment at which an output changes in one of these lanes, by the pairs that were
     /// simulated last.
     pub fn latest(&self, circuit: &Circuit, lanes: u64) -> Latest {
-        let mut latest = Latest { moment: 0, lanes };
-        for net in circuit.outputs() {
-            if let Some(waves) = self.rooms.of(*net) {
-                latest = latest.or(last_change(waves, lanes));
-            }
+        if self.in_strips {
+            self.strips.latest(circuit, lanes)
+        } else {
+            self.lists.latest(circuit, lanes)
         }
-        latest
-    }
-
-    /// The waves of the constants and the inputs. The error is out of memory.
-    fn begin(&mut self, circuit: &Circuit, pairs: &Pairs) -> Result<(), AllocError> {
-        self.rooms.write(0, 0, 0, 0)?;
-        self.rooms.write(1, u64::MAX, 0, u64::MAX)?;
-        for (input, moment) in circuit.moments().iter().enumerate() {
-            let (first, second) = pairs.words(input);
-            let net = input.saturating_add(FIRST_INPUT as usize);
-            self.rooms.write(net, first, *moment, second)?;
-        }
-        Ok(())
-    }
-
-    /// The waves of a gate's output. The error is out of memory.
-    fn evaluate(&mut self, gate: &Gate, output: usize) -> Result<(), AllocError> {
-        self.targets.make(&self.rooms, gate)?;
-        let target = self.targets.target();
-        self.delaying
-            .delay(target, negated(gate.kind), gate.delay, &mut self.made)?;
-        self.rooms.exchange(output, &mut self.made);
-        Ok(())
     }
 }
 
 impl Latest {
     /// The later one of two, or the lanes of both where they are at one moment.
-    fn or(self, other: Latest) -> Latest {
+    pub(crate) fn or(self, other: Latest) -> Latest {
         if other.moment > self.moment {
             other
         } else if other.moment == self.moment {
@@ -107,29 +81,5 @@ impl Latest {
         } else {
             self
         }
-    }
-}
-
-/// The last change of a net in these lanes: in no lane, at 0, where there is none.
-fn last_change(waves: &Waves, lanes: u64) -> Latest {
-    let events: &[Event] = &waves.events;
-    for place in (0..events.len()).rev() {
-        let event = events[place];
-        let before = if place == 0 {
-            waves.start
-        } else {
-            events[place - 1].levels
-        };
-        let changed = (event.levels ^ before) & lanes;
-        if changed != 0 {
-            return Latest {
-                moment: event.moment,
-                lanes: changed,
-            };
-        }
-    }
-    Latest {
-        moment: 0,
-        lanes: 0,
     }
 }

@@ -10,13 +10,18 @@ mod delaying;
 mod draws;
 mod joining;
 mod lanes;
+mod lists;
 mod moves;
 mod pairs;
+mod places;
 mod rooms;
+mod runs;
+mod strips;
 mod taking;
 mod targets;
 mod walk;
 mod waves;
+mod windows;
 
 pub use climbing::{Climb, tries_for};
 pub use draws::Draws;

@@ -32,7 +32,7 @@ impl Targets {
     }
 
     /// Makes the target of a gate from the waves of its inputs. The error is out of memory.
-    pub fn make(&mut self, rooms: &Rooms, gate: &Gate) -> Result<(), AllocError> {
+    pub fn make(&mut self, rooms: &Rooms<Waves>, gate: &Gate) -> Result<(), AllocError> {
         let join = Join::of(gate.kind);
         let inputs: &[u32] = &gate.inputs;
         for (pair, part) in inputs.chunks(2).zip(self.parts.iter_mut()) {
@@ -58,7 +58,12 @@ impl Targets {
 }
 
 /// What one or two nets are joined to. The error is out of memory.
-fn join_nets(join: Join, rooms: &Rooms, nets: &[u32], part: &mut Waves) -> Result<(), AllocError> {
+fn join_nets(
+    join: Join,
+    rooms: &Rooms<Waves>,
+    nets: &[u32],
+    part: &mut Waves,
+) -> Result<(), AllocError> {
     match nets {
         [one, other] => {
             if let (Some(one), Some(other)) = (rooms.of(*one), rooms.of(*other)) {

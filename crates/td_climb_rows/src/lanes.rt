@@ -69,11 +69,18 @@ fn all_agreed(
     Ok(Some(late))
 }
 
-/// As `all_agreed`, of pairs that follow from a number.
-fn late_pairs(alloc: Global, circuit: &Circuit, seed: u64) -> Result<Option<u32>, AllocError> {
+/// As `all_agreed`, of pairs that follow from a number, which are simulated first.
+fn late_pairs(
+    alloc: Global,
+    scratch: &mut Scratch,
+    circuit: &Circuit,
+    lanes: &mut Lanes,
+    seed: u64,
+) -> Result<Option<u32>, AllocError>
+    requires { IsFor circuit.now scratch.old }
+    ensures { IsFor circuit.now scratch.new }
+{
     let inputs = circuit.input_count();
-    let mut scratch = Scratch::new(alloc, circuit)?;
-    let mut lanes = Lanes::new(alloc, circuit)?;
     let pairs = Pairs::new(
         words(alloc, inputs, seed)?,
         words(alloc, inputs, next(seed ^ 9))?,
@@ -81,13 +88,27 @@ fn late_pairs(alloc: Global, circuit: &Circuit, seed: u64) -> Result<Option<u32>
     if !lanes.simulate(circuit, &pairs)? {
         return Ok(None);
     }
-    all_agreed(alloc, &mut scratch, circuit, &lanes, &pairs)
+    all_agreed(alloc, scratch, circuit, lanes, &pairs)
+}
+
+/// As `late_pairs`, of 64 pairs and of 64 others after them. Which way the lanes go may follow from
+/// the simulation before.
+fn late_twice(
+    alloc: Global,
+    circuit: &Circuit,
+    seed: u64,
+) -> Result<(Option<u32>, Option<u32>), AllocError> {
+    let mut scratch = Scratch::new(alloc, circuit)?;
+    let mut lanes = Lanes::new(alloc, circuit)?;
+    let first = late_pairs(alloc, &mut scratch, circuit, &mut lanes, seed)?;
+    let second = late_pairs(alloc, &mut scratch, circuit, &mut lanes, next(seed ^ 12))?;
+    Ok((first, second))
 }
 
 #[test]
 fn lanes_say_what_the_queue_says(rt: HostRuntime) -> Result<(), Fail> {
     let alloc = rt.alloc();
-    let mut late = 0u32;
+    let mut late = (0u32, 0u32);
     for seed in 0..120 {
         let size = Size {
             inputs: 1 + seed % 11,
@@ -95,11 +116,14 @@ fn lanes_say_what_the_queue_says(rt: HostRuntime) -> Result<(), Fail> {
             scale: if seed % 4 == 3 { 100_000_000 } else { 1 },
         };
         let circuit = generated(alloc, size, seed).ok_or("a circuit")?;
-        let pairs = late_pairs(alloc, &circuit, seed)?;
-        assert!(rt; pairs.is_some(), "circuit {seed}");
-        late = late.saturating_add(pairs.unwrap_or(0));
+        let (first, second) = late_twice(alloc, &circuit, seed)?;
+        assert!(rt; first.is_some(), "circuit {seed}");
+        assert!(rt; second.is_some(), "circuit {seed}, other pairs");
+        late.0 = late.0.saturating_add(first.unwrap_or(0));
+        late.1 = late.1.saturating_add(second.unwrap_or(0));
     }
-    assert!(rt; late > 2000, "{late} of 7680");
+    assert!(rt; late.0 > 2000, "{} of 7680", late.0);
+    assert!(rt; late.1 > 2000, "{} of 7680", late.1);
     Ok(())
 }
 
