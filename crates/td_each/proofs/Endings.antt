@@ -1,5 +1,5 @@
 -- How the program ends with `--each`.
-use Rattle.std.proofs.Common.{◌≡◌, ◌≢◌, ◌⊎◌, ◌∙◌, ℕ, Bool, true, false, List, [], Some, None, refl, sym, subst, inl, inr, codes}
+use Rattle.std.proofs.Common.{◌≡◌, ◌⊎◌, ℕ, Bool, List, [], Some, None, refl, sym, subst, inl, inr, codes}
 use Rattle.clap.specs.Words.{kind_of, HasKind}
 use Rattle.clap.specs.declared.error.Error.{Error}
 use Rattle.clap.specs.declared.error.kind.ErrorKind.TheVariants as kind
@@ -8,7 +8,6 @@ use Rattle.td_command.specs.declared.command.WorstRequest.{WorstRequest}
 use Rattle.td_command.specs.declared.command.Request.{Request}
 use Rattle.td_command.specs.declared.command.Request.TheVariants as request
 use Rattle.td_command.specs.declared.conflicts.Conflict.{Conflict}
-use Rattle.td_command.specs.declared.conflicts.Conflict.TheVariants as conflict
 use Rattle.td_command.specs.Conflicts.{conflict_of}
 use Rattle.td_command.specs.CommandLine.{Asks, kinds_of}
 use Rattle.td_command.specs.Flags.{is_asked}
@@ -16,7 +15,7 @@ use Rattle.td_files.specs.Files.{FileStep, Takes}
 use Rattle.td_files.specs.Disks.{Disk}
 use Rattle.td_report.specs.declared.status.Status.{Status}
 use Rattle.td_report.specs.declared.refusal.Refusal.TheVariants as refusal
-use Rattle.td_report.specs.Ends.{Product, Streams, streams, Ends, SaysReport}
+use Rattle.td_report.specs.Ends.{Streams, streams, Ends}
 use Rattle.td_delivery.specs.Shown.{IsOutOfMemory, TellsText}
 use Rattle.td_delivery.proofs.Endings.{said}
 use Rattle.td_each.specs.Reports.{IsEachReport, HasNoTable}

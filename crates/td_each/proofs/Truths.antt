@@ -1,9 +1,8 @@
 -- What the table says is true.
-use Rattle.std.proofs.Common.{◌≡◌, ◌⊎◌, ◌∙◌, ◌≤◌, ◌++◌, ℕ, Bool, List, [], ◌∷◌, Some, refl, sym, ap, subst, inl, inr, map}
+use Rattle.std.proofs.Common.{◌≡◌, ◌∙◌, ◌++◌, ℕ, Bool, List, [], ◌∷◌, Some, refl, sym, ap, subst, inl, inr, map}
 use Rattle.std.specs.List.{AllZip}
 use Rattle.clap.specs.Words.{Text}
 use Rattle.td_text.specs.Output.{Output}
-use Rattle.td_domain.specs.Worst.{IsWorst}
 use Rattle.td_files.specs.Files.{FileStep}
 use Rattle.td_files.specs.Disks.{Disk}
 use Rattle.td_report.specs.declared.status.Status.{Status}
@@ -12,7 +11,6 @@ use Rattle.td_command.specs.declared.command.WorstRequest.{WorstRequest}
 use Rattle.td_command.specs.declared.command.Request.{Request}
 use Rattle.td_command.specs.declared.command.Request.TheVariants as request
 use Rattle.td_command.specs.CommandLine.{Asks, kinds_of}
-use Rattle.td_command.specs.Flags.{is_asked}
 use Rattle.td_search.specs.declared.answers.Answer.{Answer}
 use Rattle.td_search.specs.declared.answers.Answer.TheVariants as answer
 use Rattle.td_search.specs.Problems.{Problem}
@@ -23,9 +21,8 @@ use Rattle.td_cli.specs.Sentences.{AskWorst, AskForWorst}
 use Rattle.td_cli.proofs.Searches.{other_name}
 use Rattle.td_cli.proofs.Sentences.{came_out, nothing_more, none_among, same_command, asks_it}
 use Rattle.td_each.specs.declared.rows.Row.{Row}
-use Rattle.td_each.specs.Rows.{label, figures_of, AreRows, IsRow}
-use Rattle.td_each.specs.Reports.{table_text}
-use Rattle.td_each.specs.Ends.{in_form, IsEachProduct, EachRuns, EndsByConflict, EachRequestEnds, EachEnds}
+use Rattle.td_each.specs.Rows.{label, figures_of, AreRows}
+use Rattle.td_each.specs.Ends.{in_form, IsEachProduct, EachRuns, EachRequestEnds, EachEnds}
 use Rattle.td_each.specs.Truths.{AreTrueFigures, IsTrueRow, RowsAreTrue, TellsTable, IsTrueTable}
 
 -- ---- rows
