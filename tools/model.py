@@ -74,7 +74,7 @@ def imports_of(lines, mark="use "):
     """
     names, aliases = {}, {}
     for line in lines:
-        line = line.strip().removesuffix(";").removeprefix("ghost ")
+        line = line.strip().removesuffix(";").removeprefix("ghost ").removeprefix("pub ")
         if not line.startswith(mark):
             continue
         found = SPEC.match(line)

@@ -10,7 +10,7 @@ use std::time::Clock;
 use std::{env, io};
 use td_advice::advising::{advise, advise_names, asks_hints};
 use td_advice::system::System;
-use td_cli::{Files, ReadFault, RealFiles, Status, WriterSink, refuse_words, run};
+use td_cli::{Files, ReadFault, RealFiles, Status, WriterSink, parse, refuse_words, run};
 use td_command::asks_quiet;
 use td_each::{asks_each, run_each};
 use td_json::{asks_json, run_json};
@@ -27,13 +27,21 @@ fn answer<R: Threads + Wait + Clock + Sync, F: Files, O: Sink, E: Sink>(
     out: &mut O,
     err: &mut E,
 ) -> Status {
-    match (asks_each(words), asks_quiet(words)) {
-        (true, true) => run_each(rt, alloc, words, files, &mut Discard, err),
-        (true, false) => run_each(rt, alloc, words, files, out, err),
-        (false, true) => run_quiet(rt, alloc, words, files, out, err),
-        (false, false) if asks_json(words) => run_json(rt, alloc, words, files, out, err),
-        (false, false) => run(rt, alloc, words, files, out, err),
+    let is_quiet = asks_quiet(words);
+    if asks_each(words) {
+        // Help goes out all the same.
+        if is_quiet && parse(alloc, words).is_ok() {
+            return run_each(rt, alloc, words, files, &mut Discard, err);
+        }
+        return run_each(rt, alloc, words, files, out, err);
     }
+    if is_quiet {
+        return run_quiet(rt, alloc, words, files, out, err);
+    }
+    if asks_json(words) {
+        return run_json(rt, alloc, words, files, out, err);
+    }
+    run(rt, alloc, words, files, out, err)
 }
 
 fn main(rt: HostRuntime) -> ExitCode {
