@@ -51,7 +51,7 @@ fn prints_a_table(rt: HostRuntime) -> Result<(), Fail> {
 fn prints_bounds(rt: HostRuntime) -> Result<(), Fail> {
     let words = ["tdelay", "worst", "two.v", "--each", "--budget", "0"];
     let report =
-        b"unit 1 ns\ndefaulted 0\neach y between 0 3 edges 3\neach \\z+ [1] between 0 5 edges 5\n";
+        b"unit 1 ns\ndefaulted 0\neach y between 3 3 edges 3\neach \\z+ [1] between 0 5 edges 5\n";
     assert!(rt; ends(&rt, rt.alloc(), &words, 3, report, b"")?);
     Ok(())
 }
@@ -83,7 +83,7 @@ fn refuses_options(rt: HostRuntime) -> Result<(), Fail> {
 #[test]
 fn refuses_as_one_search(rt: HostRuntime) -> Result<(), Fail> {
     let words = ["tdelay", "worst", "bad.v", "--each"];
-    let reason = b"tdelay: netlist fault 3 Syntax at line 1\n";
+    let reason = b"tdelay: netlist fault 2 UnexpectedEnd at line 1\n";
     assert!(rt; ends(&rt, rt.alloc(), &words, 1, b"", reason)?);
     let words = ["tdelay", "worst", "two.v", "--each", "--first", "0"];
     let reason = b"tdelay: bad vector first\n";
