@@ -11,8 +11,9 @@ where it is named (LATER); `wrong_bodies.py` tries proofs, `clauses.py` and `ref
 of their own, `parameters.py` reads the crates' sources, and `figures.py` measures.
 
 `--self-test` runs every check on programs that can't be right: `/bin/true`, `/bin/false` and one
-that hangs. Each has to fail within a minute, and to say why. Then, where PROGRAM is there, each
-check runs on programs that lie in one thing alone (lib/lies.py), and has to fail these, too.
+that hangs. Each has to fail within three minutes, and to say why: a minute on a quiet machine.
+Then, where PROGRAM is there, each check runs on programs that lie in one thing alone (lib/lies.py),
+and has to fail these, too.
 
 A line says of each check whether it passes, how long it took, and its own last line; of one that
 fails what it printed stands before that. One that lacks a program beside `tdelay` is skipped, which
@@ -44,9 +45,9 @@ LATER = {"first_command": 20}
 LONGEST_FIRST = ["first_command", "memory_limits", "bridges", "limits", "opinions", "slurm"]
 LONGEST_FIRST += ["refused_growths", "parts", "mutations", "transcripts"]
 # The seconds within which a program that can't be right has to fail a check.
-MINUTE = 60
+SOON = 180
 # The seconds that a check may take to find a lie.
-LONG = 300
+LONG = 900
 # The lines that are shown of a check that fails.
 SHOWN = 60
 
@@ -154,7 +155,7 @@ def test_checks(asked, names, pool):
         hanging = running.write(folder, "hangs", "#!/bin/sh\nexec sleep 1000\n")
         os.chmod(hanging, 0o755)
         cases = [
-            (name, program, MINUTE, os.path.basename(program))
+            (name, program, SOON, os.path.basename(program))
             for program in (hanging, "/bin/true", "/bin/false")
             for name in names
         ]
