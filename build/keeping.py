@@ -124,18 +124,23 @@ class Store:
         os.rename(room, place)
 
 
-def remember_below(gate):
-    """Has each crate find those below it once. The kit's way there doubles from layer to layer,
-    which takes minutes for the highest crates.
+def remember(gate):
+    """Has each crate find those below it once, and make its stamp once: nothing is edited in the
+    copy. The kit's way to both doubles from layer to layer, which takes minutes for the highest.
     """
-    find, known = gate.Crate.below, {}
+    find, sign, known, signed = gate.Crate.below, gate.Crate.stamp, {}, {}
 
     def below(crate):
         if crate.folder not in known:
             known[crate.folder] = find(crate)
         return list(known[crate.folder])
 
-    gate.Crate.below = below
+    def stamp(crate):
+        if crate.folder not in signed:
+            signed[crate.folder] = sign(crate)
+        return signed[crate.folder]
+
+    gate.Crate.below, gate.Crate.stamp = below, stamp
 
 
 def keep_proofs(gate, store, sums):
@@ -193,7 +198,7 @@ def main():
     need_disk(asked.store, ROOM_MEGABYTES, "keeping proofs")
     with tempfile.TemporaryDirectory(prefix="tdelay-keeping-") as room:
         copy_checkout(lower_first(uses, asked.crates or list(uses)), room)
-        remember_below(gate)
+        remember(gate)
         keep_proofs(gate, Store(asked.store), Sums(kit))
         if asked.no_edits:
             gate.edits_of = lambda crate: ([], [])
