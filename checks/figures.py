@@ -13,12 +13,13 @@ The tables:
 - `strategies`: each netlist by each strategy that the program has.
 - `collection`: how many netlists of a folder are exact, by the strategy `auto` or `--strategies`.
 - `refutations`: certificates by `refute`: their bytes, and what `check` takes.
+- `hostile`: certificates that are as long, wide or wrong as a text allows, and what `check` takes.
 - `first`: the first command in a fresh clone of what is committed, which compiles, and later ones.
 
 The netlists are those of examples/, made by lib/circuits.py, or of the folder `--netlists`; those
 that are in neither are left out, and the table says so. Each run ends after `--seconds` at most,
 and the table says which was stopped; the first command has 20 minutes. Of `--runs` runs the least
-seconds stand in the table, but one run alone in `strategies` and `collection`. Seconds are user and
+seconds stand in the table, but one run alone in `strategies`, `collection` and `hostile`. Seconds are user and
 system seconds where nothing else is said, and memory is the greatest resident one of a process.
 Each certificate is checked by `check` of the same program. With `--write` the table goes into the
 page, between the comments that name it. Lists of names have commas.
@@ -35,7 +36,7 @@ import re
 import sys
 import time
 
-from lib import costs, places, running, searches
+from lib import costs, hostile, places, running, searches
 from lib.table import Table, folded
 
 sys.path.append(os.path.join(places.TOP, "build"))
@@ -49,10 +50,11 @@ TABLES = {
     "strategies": searches.strategies,
     "collection": searches.collection,
     "refutations": costs.refutations,
+    "hostile": hostile.hostile,
     "first": costs.first,
 }
 # Those of which each figure is of one run, and those that have instructions where they are asked.
-ONCE, COUNTED = {"strategies", "collection"}, {"commands", "speed"}
+ONCE, COUNTED = {"strategies", "collection", "hostile"}, {"commands", "speed"}
 
 
 def conditions(table):

@@ -9,8 +9,8 @@ certificate that `check` accepts. A table of outputs has some such rows then. Wh
 search is measured and bounded, and its report isn't begun, a growth refused alone may not end it as
 out of memory: it has to answer. That is so after as many growths as the same search takes with a
 budget of 0, and until the last ones, which are the report's. Searches are those of a lost pulse, of
-two ways that meet, and of a slow arm, by 1, 2 and 4 workers. `check` gives its verdict or is out of
-memory, and never another verdict.
+two ways that meet, and of a slow arm, by 1, 2 and 4 workers. `check` gives its verdict, of a
+certificate by refutation too, or is out of memory, and never another verdict.
 
 Each case is a refused growth, or all from one on. All of them are some 32,000, of which those after
 roots are tried, and a random choice of the others. Of 100 cases 5 at least are searches of which
@@ -45,6 +45,7 @@ CERTIFICATES = {
     "zero.cert": ["met.v", "--first", "0."],
     "one.cert": ["met.v", "--first", "1."],
     "n22.cert": ["c17.v", "--output", "N22"],
+    "refuted.cert": ["met.v", "--strategy", "refute"],
 }
 ROOTED = [
     ["worst", netlist, "--workers", workers, "--budget", "10000"]
@@ -87,6 +88,8 @@ OTHERS = [
     ["check", "met.v", "met.cert"],
     ["check", "slow.v", "slow.cert"],
     ["check", "met.v", "few.cert"],
+    ["check", "met.v", "refuted.cert"],
+    ["join", "met.v", "refuted.cert", "--cert", "out.cert"],
     ["parts", "met.v", "--parts", "5"],
     ["parts", "met.v", "--parts", "5", "--strategy", "lead"],
     ["join", "met.v", "zero.cert", "one.cert", "--cert", "out.cert"],

@@ -181,6 +181,19 @@ def by_refutations(tested):
     tested.expect("no netlist", (0, {}, True), (status, rows, "weren't there: mul8_r." in text))
 
 
+def by_hostile(tested):
+    """Cases: the table `hostile`, of three certificates, and with a program that refuses all."""
+    names = ["a lemma that shows itself", "a literal of no net", "a window as late as a number"]
+    words = ["hostile", "--only", ",".join(names)]
+    status, rows, text = lists(tested, *words, tested.program)
+    wanted = ["`refused 10 BadStep line 12`"] * 2 + ["`accepted 1`"]
+    found = [cells[0] for cells in rows], [cells[2] for cells in rows]
+    tested.expect(f"{text}what is answered", (0, (names, wanted)), (status, found))
+    status, _, text = lists(tested, *words, lie(tested, "refuses"))
+    said = f"wrong: {names[2]}: status 4: " in text
+    tested.expect(f"{text}none is accepted", (1, True), (status, said))
+
+
 def by_first(tested):
     """Cases: the table `first`, of a repository whose first command takes a second more."""
     clone = os.path.join(tested.folder, "repository")
@@ -297,8 +310,8 @@ def gates(tested):
 
 
 def work(tested):
-    parts = [speeds, by_commands, by_strategies, by_workers, by_parts, by_refutations, by_first]
-    for part in [*parts, collections, written, refusals, gates]:
+    parts = [speeds, by_commands, by_strategies, by_workers, by_parts, by_refutations, by_hostile]
+    for part in [*parts, by_first, collections, written, refusals, gates]:
         part(tested)
         if tested.wrong:
             # A program that can't answer one question takes long to fail the others.

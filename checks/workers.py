@@ -1,11 +1,12 @@
 #!/usr/bin/env python3
 """Compares searches by several workers with searches by one.
 
-Each case is a search of a random circuit, some with pins, held inputs, few flips, moments of inputs
-and a small budget, by 1, 4 or 64 workers. Where both answer exactly the times are equal; where one
-answers between two figures they hold the other's; and the certificate of each exact answer is
-accepted by `check`. An answer has to be there, or, from each number of workers, that there is no
-admitted pair. At least 60 of 100 searches are exact, and 2 of 100 are cut short.
+Each case is a search of a random circuit by each strategy in turn, some with pins, held inputs, few
+flips, moments of inputs, a small budget and few seconds, by 1, 4 or 64 workers. Where both answer
+exactly the times are equal; where one answers between two figures they hold the other's; and the
+certificate of each exact answer is accepted by `check`. An answer has to be there, or, from each
+number of workers, that there is no admitted pair. At least 60 of 100 searches are exact, and 2 of
+100 are cut short.
 """
 
 import sys
@@ -15,6 +16,7 @@ from lib.netlists import random_netlist
 from lib.questions import random_question
 
 CASES = 1500
+STRATEGIES = ["auto", "least", "lead", "refute"]
 
 
 def fault_of(tested, done, name):
@@ -50,15 +52,22 @@ def differs(one, other):
     return figures[0] != figures[1] if None in figures else not reports.agree(*figures)
 
 
+def random_effort(rng):
+    """Random words of `worst` that say how it searches, and when it ends."""
+    words = ["--strategy", rng.choice(STRATEGIES)]
+    if rng.random() < 0.3:
+        words += ["--budget", str(rng.choice([0, 1, 10, rng.randint(0, 200)]))]
+    if rng.random() < 0.2:
+        words += ["--seconds", str(rng.choice([1, 600]))]
+    return words
+
+
 def one_circuit(tested, counts):
     """A random question, searched by one worker and by the others."""
     rng = tested.random
     text, inputs, _ = random_netlist(rng)
     tested.write("t.v", text)
-    words = random_question(rng, inputs)
-    words += (
-        ["--budget", str(rng.choice([0, 1, 10, rng.randint(0, 200)]))] if rng.random() < 0.3 else []
-    )
+    words = [*random_question(rng, inputs), *random_effort(rng)]
     one = None
     for workers in [1, *counts]:
         done, fault = search(tested, words, workers)

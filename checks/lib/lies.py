@@ -93,6 +93,10 @@ LIES = {
         "a joined time that is one more": where("join", MORE.format(key="exact", by=1)),
         "a run that ends one later": where("sim", MORE.format(key="time", by=1)),
     },
+    "terminals": {
+        "all lines stay at a terminal": where("--progress", '$R "$@" 2>&1 >/dev/null | cat >&2'),
+        "no hints at a terminal": where("sim", '$R "$@" 2>&1 >/dev/null | cat >&2'),
+    },
     "tools": {"the time is one more": MORE.format(key="time", by=1)},
     "transcripts": {
         "a change at another moment": where("path", edited("s/change 0/change 1/")),

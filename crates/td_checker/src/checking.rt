@@ -182,6 +182,14 @@ fn spelled_by<'a>(alloc: Global, text: &[u8]) -> Result<Certificate, CheckFault<
     }
 }
 
+/// The certificate that a text spells, whose memory is given back once it is read.
+fn spelled_by_owned<'a>(alloc: Global, text: Vec<u8>) -> Result<Certificate, CheckFault<'a>>
+    ensures found { IfOk result (λ certificate. Spells certificate text.items × IsWithinLimit text.items) }
+    ensures fault { IfErr result (λ fault. IsCertificateFault text.items fault) }
+{
+    spelled_by(alloc, &text)
+}
+
 /// The verdict on the certificate that a text spells, for the netlist that is read of another.
 #[tactic(auto, using(crate::proofs::Texts::few_lines, crate::proofs::Texts::have_verdict))]
 fn verdict_of_texts<'a>(
@@ -230,4 +238,31 @@ pub fn check<'a>(
     ensures worst { IfOk result (λ checked. checked.verdict ≡ Verdict.Accepted → TellsWorst netlist.now reading.now certificate.now) }
 {
     verdict_of_texts(alloc, netlist, reading, certificate)
+}
+
+/// As `check`, of a certificate's text that is given away: its memory is free again before the
+/// certificate is judged.
+///
+/// # Errors
+///
+/// As `check`.
+#[tactic(auto, using(crate::proofs::Texts::few_lines, crate::proofs::Texts::have_verdict))]
+pub fn check_owned<'a>(
+    alloc: Global,
+    netlist: &'a [u8],
+    reading: &Reading<'_>,
+    certificate: Vec<u8>,
+) -> Result<Checked, CheckFault<'a>>
+    ensures reported { IfOk result (λ checked. HaveVerdict netlist.now reading.now certificate.items checked.verdict) }
+    ensures spelled { IfOk result (λ checked. Spells checked.certificate certificate.items) }
+    ensures fault { IfErr result (λ fault. IsCheckFault netlist.now reading.now certificate.items fault) }
+    ensures worst { IfOk result (λ checked. checked.verdict ≡ Verdict.Accepted → TellsWorst netlist.now reading.now certificate.items) }
+{
+    let asked = circuit_of(alloc, netlist, reading)?;
+    let spelled = spelled_by_owned(alloc, certificate)?;
+    let verdict = verdict_on(alloc, asked, &spelled)?;
+    Ok(Checked {
+        verdict,
+        certificate: spelled,
+    })
 }

@@ -10,5 +10,5 @@ mod refuting;
 mod verdict;
 mod walking;
 
-pub use checking::{check, is_of_size};
+pub use checking::{check, check_owned, is_of_size};
 pub use verdict::{CheckFault, Checked, Verdict};

@@ -105,8 +105,8 @@ pub struct Checked {
     pub certificate: Certificate,
 }
 
-/// Why two texts have no verdict: the first that is there of a fault of the netlist's text, an output
-/// that is not there, a loop and a fault of the certificate's text.
+/// Why two texts have no verdict: the first that is there of a fault of the netlist's text, an
+/// output that is not there, a loop and a fault of the certificate's text.
 #[derive(Debug, Drop, Error)]
 pub enum CheckFault<'a> {
     /// A growth was refused.

@@ -7,7 +7,7 @@ ghost use Rattle.td_clauses.specs.Nets.{net_at};
 use crate::nets::NetSets;
 use crate::wire::Wire;
 use std::alloc::AllocError;
-use td_moments::{Directions, Possible};
+use td_moments::{Changes, Directions};
 use td_propagation::Literal;
 
 /// Adds a literal of this level, where a change is possible still. The error is out of memory.
@@ -31,30 +31,35 @@ fn push_moment(
 /// Adds a literal of this level for each of the moments in a range at which a change is possible
 /// still. The error is out of memory.
 fn push_range(
-    list: &[Possible],
+    changes: &Changes,
     start: u32,
     level: bool,
     low: usize,
     high: usize,
     clause: &mut Vec<Literal>,
 ) -> Result<(), AllocError>
-    requires high { high ≤ length list.now }
-    requires fits { start + length list.now < 2 ^ 32 }
-    ensures { OnOk result (clause.new.items ≡ clause.old.items ++ between_from list.now start level low (high - low)) }
+    requires high { high ≤ length changes.now }
+    requires fits { start + length changes.now < 2 ^ 32 }
+    ensures { OnOk result (clause.new.items ≡ clause.old.items ++ between_from changes.now start level low (high - low)) }
 {
     for place in low..high {
-        push_moment(list[place].to, start + (place as u32 + 1), level, clause)?;
+        push_moment(
+            changes.at(place).to,
+            start + (place as u32 + 1),
+            level,
+            clause,
+        )?;
     }
     Ok(())
 }
 
 /// Whether a change to this level is possible at one of the moments in a range.
-fn any_range(list: &[Possible], level: bool, low: usize, high: usize) -> bool
-    requires { high ≤ length list.now }
-    ensures { result ≡ any_from list.now level low (high - low) }
+fn any_range(changes: &Changes, level: bool, low: usize, high: usize) -> bool
+    requires { high ≤ length changes.now }
+    ensures { result ≡ any_from changes.now level low (high - low) }
 {
     for place in low..high {
-        if list[place].to.may(level) {
+        if changes.at(place).to.may(level) {
             return true;
         }
     }
@@ -75,7 +80,7 @@ fn push_wire(
     let changes = wire.changes();
     let low = changes.count_before(first);
     let high = changes.count_before(last);
-    push_range(changes.list(), wire.start(), level, low, high, clause)
+    push_range(changes, wire.start(), level, low, high, clause)
 }
 
 /// Whether a change of a wire to this level is possible from one place on and below another.
@@ -85,7 +90,7 @@ fn any_wire(wire: &Wire, first: u64, last: u64, level: bool) -> bool
     let changes = wire.changes();
     let low = changes.count_before(first);
     let high = changes.count_before(last);
-    any_range(changes.list(), level, low, high)
+    any_range(changes, level, low, high)
 }
 
 /// Adds a literal of this level for each moment of a target from one place on and below another at

@@ -37,11 +37,12 @@ pub fn target_changes(
     ensures { IfOk result (λ target. target ≡ target_of kind (levels_at nets.now inputs.now)) }
 {
     let none = Changes::none(alloc);
-    let mut target = Changes::none(alloc);
+    let mut target = Vec::new(alloc);
     for input in inputs {
-        target = target.with_input(alloc, kind, level_of(nets, &none, *input as usize))?;
+        let level = level_of(nets, &none, *input as usize);
+        target = level.joined(alloc, kind, &target)?;
     }
-    Ok(target)
+    Changes::from_list(alloc, &target)
 }
 
 /// Adds the sets of a net with these possible changes of its level and its target, and answers how
@@ -55,8 +56,8 @@ pub fn add_net(
     requires { variables ≡ total nets.old.items }
     ensures more { IfOk result (λ more. MatchOption more (LIMIT < total (with_net nets.old.items level target)) (λ count. (nets.new.items ≡ with_net nets.old.items level target) × (count ≡ total (with_net nets.old.items level target)) × (count ≤ LIMIT))) }
 {
-    let levels = level.list().len();
-    let targets = target.list().len();
+    let levels = level.len();
+    let targets = target.len();
     if variables > LIMIT || levels > LIMIT || targets > LIMIT {
         return Ok(None);
     }

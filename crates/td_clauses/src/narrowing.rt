@@ -68,9 +68,9 @@ fn target_again(
 ) -> Result<Wire, AllocError>
     ensures { IfOk result (λ left. left ≡ record { start = target.now.start; list = kept (caused kind (levels_at nets.now inputs.now)) target.now.list }) }
 {
-    let changes = target.changes();
-    let left = target_left(alloc, nets, kind, inputs, changes.list())?;
-    Ok(Wire::new(target.start(), Changes::from_list(left)))
+    let list = target.changes().list(alloc)?;
+    let left = target_left(alloc, nets, kind, inputs, &list)?;
+    Ok(Wire::new(target.start(), Changes::from_list(alloc, &left)?))
 }
 
 /// What is left of an output by what its target may do. The error is out of memory.
@@ -136,11 +136,20 @@ pub fn again(
     Ok(())
 }
 
-/// Takes a change of a net to a level at a moment out of its set.
-pub fn cut(nets: &mut [NetSets], net: usize, moment: u64, level: bool)
-    ensures { nets.new ≡ cut nets.old net moment level }
+/// Takes a change of a net to a level at a moment out of its set. The error is out of memory, and
+/// then all is as before.
+pub fn cut(
+    alloc: Global,
+    nets: &mut [NetSets],
+    net: usize,
+    moment: u64,
+    level: bool,
+) -> Result<(), AllocError>
+    ensures ok { OnOk result (nets.new ≡ cut nets.old net moment level) }
+    ensures err { OnErr result (nets.new ≡ nets.old) }
 {
     if net < nets.len() {
-        nets[net].level.take(moment, level);
+        nets[net].level.take(alloc, moment, level)?;
     }
+    Ok(())
 }

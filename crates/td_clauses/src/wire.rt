@@ -1,9 +1,10 @@
 //! The current set of a wire, and its variables.
 
-ghost use Rattle.std.specs.Prelude.{◌≡◌, ◌+◌, ◌<◌, ◌^◌, length};
+ghost use Rattle.std.specs.Prelude.{◌≡◌, ◌+◌, ◌<◌, ◌^◌, length, OnOk, OnErr};
 ghost use Rattle.td_moments.specs.Moments.{taken};
 ghost use Rattle.td_clauses.specs.Wires.{literal_at};
 
+use std::alloc::{AllocError, Global};
 use std::marker::Model;
 use td_moments::Changes;
 use td_propagation::Literal;
@@ -53,11 +54,13 @@ impl Wire {
         &self.changes
     }
 
-    /// Takes out the change to a level at a moment.
-    pub fn take(&mut self, moment: u64, level: bool)
-        ensures { self.new ≡ record { start = self.old.start; list = taken self.old.list moment level } }
+    /// Takes out the change to a level at a moment. The error is out of memory, and then all is as
+    /// before.
+    pub fn take(&mut self, alloc: Global, moment: u64, level: bool) -> Result<(), AllocError>
+        ensures ok { OnOk result (self.new ≡ record { start = self.old.start; list = taken self.old.list moment level }) }
+        ensures err { OnErr result (self.new ≡ self.old) }
     {
-        self.changes.take(moment, level);
+        self.changes.take(alloc, moment, level)
     }
 
     /// The literal that says that the wire is at this level at a place.

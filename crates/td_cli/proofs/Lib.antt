@@ -1,6 +1,7 @@
 pub mod Programs
 pub mod Searches
 pub mod Lines
+pub mod Others
 pub mod Sentences
 pub mod Accepted
 pub mod HandingOver

@@ -12,16 +12,20 @@ abbrev pub most_flips : ℕ → Option ℕ → ℕ
 most_flips inputs None = inputs
 most_flips inputs (Some flips) = min flips inputs
 
--- for that many inputs, the words admit the pairs of the cube of the two patterns that keep the
+-- for that many inputs, the options admit the pairs of the cube of the two patterns that keep the
 -- held inputs and flip few enough
-pub record WordsAdmit (inputs : ℕ) (words : QuestionWords) (admit : Admitted) : Type 0 where
+pub record OptionsAdmit (inputs : ℕ) (first second hold : Option (List ℕ)) (most : Option ℕ) (admit : Admitted) : Type 0 where
   pub firsts : List Trit
   pub seconds : List Trit
-  pub first_is : AreTrits inputs (words_of words.first) firsts
-  pub second_is : AreTrits inputs (words_of words.second) seconds
+  pub first_is : AreTrits inputs first firsts
+  pub second_is : AreTrits inputs second seconds
   pub pins : admit.pins ≡ weave firsts seconds
-  pub held : IsMask inputs (words_of words.hold) admit.held
-  pub flips : admit.flips ≡ most_flips inputs words.flips
+  pub held : IsMask inputs hold admit.held
+  pub flips : admit.flips ≡ most_flips inputs most
+
+-- the words of a search admit these pairs
+abbrev pub WordsAdmit : ℕ → QuestionWords → Admitted → Type 0
+WordsAdmit inputs words = OptionsAdmit inputs (words_of words.first) (words_of words.second) (words_of words.hold) words.flips
 
 -- the words that say which pairs are admitted, for each input
 abbrev pub pair_words : QuestionWords → VectorWords

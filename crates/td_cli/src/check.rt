@@ -49,7 +49,7 @@ fn check_file<F: Files, O: Sink, E: Sink>(
     ensures stays { files.new ≡ files.old }
 {
     match files.read(alloc, request.certificate) {
-        Ok(certificate) => run_on(alloc, text, &request.reading, &certificate, out, err),
+        Ok(certificate) => run_on(alloc, text, &request.reading, certificate, out, err),
         Err(fault) => tell_unread(alloc, err, request.certificate, fault),
     }
 }
@@ -60,11 +60,11 @@ pub fn run_on<O: Sink, E: Sink>(
     alloc: Global,
     text: &[u8],
     reading: &Reading<'_>,
-    certificate: &[u8],
+    certificate: Vec<u8>,
     out: &mut O,
     err: &mut E,
 ) -> Status
-    ensures { Ends (IsCheckProduct text.now reading.now certificate.now) (HasNoVerdict text.now reading.now certificate.now) (λ _. ⊥) [] result
+    ensures { Ends (IsCheckProduct text.now reading.now certificate.items) (HasNoVerdict text.now reading.now certificate.items) (λ _. ⊥) [] result
         (streams (O.output out.old) (E.output err.old)) (streams (O.output out.new) (E.output err.new)) }
 {
     match verdict_on(alloc, text, reading, certificate) {

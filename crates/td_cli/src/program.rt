@@ -33,12 +33,13 @@ pub fn run<R: Threads + Wait + Clock + Sync, S: AsStr, F: Files, O: Sink, E: Sin
 ) -> Status
     ensures ends { Takes (F.did files.old files.new) (λ steps. ProgramEnds (F.disk files.old) (map S.text words.now) steps result
         (streams (O.output out.old) (E.output err.old)) (streams (O.output out.new) (E.output err.new))) }
-    // What a report says of a worst delay is true.
+    // Where the words ask for a worst delay, what comes out is nothing, or a beginning of a report
+    // that is true.
     ensures says_true { AskForWorst (map S.text words.now) → (before report : List ℕ) → (O.output out.old).sent ≡ Some before
-        → (O.output out.new).sent ≡ Some (before ++ report) → IsTrueReport (F.disk files.old) (map S.text words.now) report }
-    // So is what a report says of an accepted certificate.
+        → (O.output out.new).sent ≡ Some (before ++ report) → IsTrueReport (F.disk files.old).holds (map S.text words.now) report }
+    // So it is where they ask for a check.
     ensures says_accepted { AskForCheck (map S.text words.now) → (before report : List ℕ) → (O.output out.old).sent ≡ Some before
-        → (O.output out.new).sent ≡ Some (before ++ report) → IsTrueCheck (F.disk files.old) (map S.text words.now) report }
+        → (O.output out.new).sent ≡ Some (before ++ report) → IsTrueCheck (F.disk files.old).holds (map S.text words.now) report }
 {
     match parse(alloc, words) {
         Ok(request) => carry_out(rt, alloc, files, &request, out, err),

@@ -1,6 +1,7 @@
 -- The command line in the form that the parser of command lines takes, and what the words ask for.
-use Rattle.std.specs.Prelude.{⊤, ◌≡◌, ℕ, ◌≤◌, ◌<◌, ◌^◌, Bool, List, [], ◌∷◌, codes, length, map, pos, true, Option, Some, None, option_map}
+use Rattle.std.specs.Prelude.{⊤, ◌≡◌, ℕ, ◌≤◌, ◌<◌, ◌^◌, Bool, List, [], ◌∷◌, ◌++◌, codes, length, map, pos, true, Option, Some, None, option_map}
 use Rattle.std.specs.Borrow.{Bor}
+use Rattle.std.specs.List.{fold}
 use Rattle.std.specs.Str.Parse.{IsNumeral, digits_value, without_leading_plus}
 use Rattle.clap.specs.Words.{App, Kinds, Row, Rule, Text, all_of, fault_of, first_of, new_app, new_rule, one_of, subcommand_of, with_rule, with_subcommand}
 use Rattle.clap.specs.Values.{bool_text}
@@ -8,6 +9,7 @@ use Rattle.clap.specs.declared.builder.action.ArgAction.TheVariants.{Append, Set
 use Rattle.clap.specs.declared.builder.value_parser.ValueParser.TheVariants.{Names, Signed, Unsigned}
 use Rattle.td_gates.specs.Delays.{Delays, IsInRange}
 use Rattle.td_reading.specs.declared.reading.Reading.{Reading}
+use Rattle.td_reading.specs.Outputs.{output_asked}
 use Rattle.td_command.specs.declared.command.SimRequest.{SimRequest}
 use Rattle.td_command.specs.declared.command.PathRequest.{PathRequest}
 use Rattle.td_command.specs.declared.command.BoundRequest.{BoundRequest}
@@ -84,128 +86,88 @@ name_option id names left_out = record (option id) { parser = Some (Names names)
 abbrev pub flag : Text → Rule
 flag id = record (new_rule id) { long = Some id; action = Some SetTrue }
 
--- the delays of gates that state none
-abbrev pub with_default : App → App
-with_default app =
-    with_rule (with_rule app (number_option (codes "default-rise") 1 1000000000 (codes "1")))
-    (number_option (codes "default-fall") 1 1000000000 (codes "1"))
-
 -- what all commands take: the delays of gates that state none, whether hints follow a refusal, and
--- whether the report is JSON
-abbrev pub with_common : App → App
-with_common app =
-    with_rule (with_rule (with_rule (with_default app) (flag (codes "hints"))) (flag (codes "json"))) (with_letter quiet_letter (flag (codes "quiet")))
-
--- when each input takes its second level
-abbrev pub with_moments : App → App
-with_moments app = with_rule app (option (codes "at"))
-
--- where the waves of a pair's run go
-abbrev pub with_vcd : App → App
-with_vcd app = with_rule app (option (codes "vcd"))
-
--- the output that is asked about
-abbrev pub with_output : App → App
-with_output app = with_rule app (option (codes "output"))
-
--- whether it is asked which output changes last
-abbrev pub with_outputs : App → App
-with_outputs app = with_rule app (flag (codes "outputs"))
+-- whether the report is JSON, or is left out
+abbrev pub common_rules : List Rule
+common_rules =
+    number_option (codes "default-rise") 1 1000000000 (codes "1") ∷ number_option (codes "default-fall") 1 1000000000 (codes "1") ∷
+    flag (codes "hints") ∷ flag (codes "json") ∷ with_letter quiet_letter (flag (codes "quiet")) ∷ []
 
 -- a netlist and a pair of vectors
-abbrev pub with_pair : App → App
-with_pair app = with_rule (with_rule (with_rule app (needed (codes "FILE"))) (needed (codes "FROM"))) (needed (codes "TO"))
+abbrev pub pair_rules : List Rule
+pair_rules = needed (codes "FILE") ∷ needed (codes "FROM") ∷ needed (codes "TO") ∷ []
 
 -- the pairs of a cube, by the trits of their two vectors, or by names of inputs
-abbrev pub with_cube : App → App
-with_cube app = with_rule (with_rule (with_rule app (option (codes "first"))) (option (codes "second"))) (named_option (codes "pin"))
-
--- whether the bounds by edges are asked for too
-abbrev pub with_edges : App → App
-with_edges app = with_rule app (flag (codes "edges"))
-
--- whether the chain of the given pair is asked for too, how far the search is, and which output
--- changes last
-abbrev pub with_reported : App → App
-with_reported app = with_outputs (with_rule (with_rule app (flag (codes "path"))) (flag (codes "progress")))
-
--- whether each output is asked about in turn
-abbrev pub with_each : App → App
-with_each app = with_rule app (flag (codes "each"))
+abbrev pub cube_rules : List Rule
+cube_rules = option (codes "first") ∷ option (codes "second") ∷ named_option (codes "pin") ∷ []
 
 -- the pairs that a search admits: those of a cube, where some inputs are held and the number of
 -- flips has a limit
-abbrev pub with_admitted : App → App
-with_admitted app =
-    with_rule (with_rule (with_rule (with_cube app) (option (codes "hold"))) (named_option (codes "hold-input"))) (count_option (codes "flips"))
+abbrev pub admitted_rules : List Rule
+admitted_rules = cube_rules ++ option (codes "hold") ∷ named_option (codes "hold-input") ∷ count_option (codes "flips") ∷ []
 
 -- by which strategy a search goes
-abbrev pub with_strategy : Listed → App → App
-with_strategy strategies app = with_rule app (name_option (codes "strategy") strategies (codes "auto"))
+abbrev pub strategy_rule : Listed → Rule
+strategy_rule strategies = name_option (codes "strategy") strategies (codes "auto")
+
+-- where a certificate goes
+abbrev pub certificate_rule : Rule
+certificate_rule = with_letter out_letter (option (codes "cert"))
 
 -- how a search goes, and where its certificate goes
-abbrev pub with_search : Listed → App → App
-with_search strategies app =
-    with_rule (with_rule (with_rule (with_strategy strategies (with_rule app (with_letter workers_letter (number_option (codes "workers") 1 64 (codes "1")))))
-    (number_option (codes "budget") 0 10000000 (codes "1000000"))) (count_option (codes "seconds"))) (with_letter out_letter (option (codes "cert")))
+abbrev pub search_rules : Listed → List Rule
+search_rules strategies =
+    with_letter workers_letter (number_option (codes "workers") 1 64 (codes "1")) ∷ strategy_rule strategies ∷
+    number_option (codes "budget") 0 10000000 (codes "1000000") ∷ count_option (codes "seconds") ∷ certificate_rule ∷ []
 
--- how many parts a question has
-abbrev pub with_parts : App → App
-with_parts app = with_rule app (needed_number (codes "parts") 1 65536)
-
--- the certificates that are joined, where theirs goes, and whether each is checked
-abbrev pub with_joined : App → App
-with_joined app =
-    with_rule (with_rule (with_rule app (needed_words (codes "CERT"))) (with_letter out_letter (option (codes "cert")))) (flag (codes "check"))
+-- the command of this name, which takes these arguments, and those of all commands after them
+abbrev pub command_of : Text → List Rule → App
+command_of name rules = fold with_rule (new_app name) (rules ++ common_rules)
 
 abbrev pub sim_command : App
-sim_command = with_common (with_outputs (with_vcd (with_moments (with_pair (new_app (codes "sim"))))))
+sim_command = command_of (codes "sim") (pair_rules ++ option (codes "at") ∷ option (codes "vcd") ∷ flag (codes "outputs") ∷ [])
 
 abbrev pub path_command : App
-path_command = with_common (with_output (with_moments (with_pair (new_app (codes "path")))))
+path_command = command_of (codes "path") (pair_rules ++ option (codes "at") ∷ option (codes "output") ∷ [])
 
 abbrev pub bound_command : App
-bound_command = with_common (with_output (with_edges (with_moments (with_cube (with_rule (new_app (codes "bound")) (needed (codes "FILE")))))))
+bound_command =
+    command_of (codes "bound") (needed (codes "FILE") ∷ cube_rules ++ option (codes "at") ∷ flag (codes "edges") ∷ option (codes "output") ∷ [])
 
 abbrev pub worst_command : Listed → App
 worst_command strategies =
-    with_common (with_each (with_output (with_reported (with_vcd (with_search strategies (with_moments (with_admitted (with_rule (new_app (codes "worst")) (needed (codes "FILE"))))))))))
+    command_of (codes "worst") (needed (codes "FILE") ∷ admitted_rules ++ option (codes "at") ∷ search_rules strategies
+    ++ option (codes "vcd") ∷ flag (codes "path") ∷ flag (codes "progress") ∷ flag (codes "outputs") ∷ option (codes "output") ∷ flag (codes "each") ∷ [])
 
 abbrev pub parts_command : Listed → App
 parts_command strategies =
-    with_common (with_output (with_strategy strategies (with_moments (with_admitted (with_parts (with_rule (new_app (codes "parts")) (needed (codes "FILE"))))))))
+    command_of (codes "parts") (needed (codes "FILE") ∷ needed_number (codes "parts") 1 65536 ∷ admitted_rules
+    ++ option (codes "at") ∷ strategy_rule strategies ∷ option (codes "output") ∷ [])
 
 abbrev pub join_command : App
-join_command = with_common (with_output (with_cube (with_joined (with_rule (new_app (codes "join")) (needed (codes "FILE"))))))
+join_command =
+    command_of (codes "join") (needed (codes "FILE") ∷ needed_words (codes "CERT") ∷ certificate_rule ∷ flag (codes "check") ∷ cube_rules
+    ++ option (codes "output") ∷ [])
 
 abbrev pub check_command : App
-check_command = with_common (with_output (with_rule (with_rule (new_app (codes "check")) (needed (codes "FILE"))) (needed (codes "CERT"))))
+check_command = command_of (codes "check") (needed (codes "FILE") ∷ needed (codes "CERT") ∷ option (codes "output") ∷ [])
 
 abbrev pub info_command : App
-info_command = with_common (with_rule (new_app (codes "info")) (needed (codes "FILE")))
-
-abbrev pub with_runs : App → App
-with_runs app = with_subcommand (with_subcommand app sim_command.top) path_command.top
-
-abbrev pub with_bounds : Listed → App → App
-with_bounds strategies app = with_subcommand (with_subcommand app bound_command.top) (worst_command strategies).top
-
-abbrev pub with_questions : Listed → App → App
-with_questions strategies app = with_subcommand (with_subcommand app (parts_command strategies).top) join_command.top
-
-abbrev pub with_looks : App → App
-with_looks app = with_subcommand (with_subcommand app check_command.top) info_command.top
-
-abbrev pub named : App
-named = new_app (codes "tdelay")
+info_command = command_of (codes "info") (needed (codes "FILE") ∷ [])
 
 -- the program before it is given its commands: it has a version, and one of the commands has to be
 -- given
 abbrev pub bare : App
-bare = record named { top = record named.top { subcommand_required = true; has_version = true } }
+bare =
+    let named : App = new_app (codes "tdelay") in
+    record named { top = record named.top { subcommand_required = true; has_version = true } }
+
+abbrev pub commands : Listed → List App
+commands strategies =
+    sim_command ∷ path_command ∷ bound_command ∷ worst_command strategies ∷ parts_command strategies ∷ join_command ∷ check_command ∷ info_command ∷ []
 
 abbrev pub program_of : Listed → App
-program_of strategies = with_looks (with_questions strategies (with_bounds strategies (with_runs bare)))
+program_of strategies = fold with_subcommand bare (map (λ command. command.top) (commands strategies))
 
 -- the names of the strategies
 abbrev pub strategy_names : List Text
@@ -278,7 +240,7 @@ pub record HasDefault (rows : List Row) (default : Delays) : Type 0 where
 -- the netlist's text is read so, of the output that the option names, where it is given
 pub record HasReading (rows : List Row) (reading : Reading) : Type 0 where
   pub default : HasDefault rows reading.default
-  pub output : HasWord (codes "output") rows reading.output
+  pub output : first_of (codes "output") rows ≡ output_asked reading
 
 -- the netlist's text is read so, of all outputs
 pub record HasWholeReading (rows : List Row) (reading : Reading) : Type 0 where

@@ -1,10 +1,10 @@
 //! The arguments of the commands, in the form that the parser of command lines takes.
 
-ghost use Rattle.std.specs.Prelude.{◌≡◌, [], codes, false, IfOk, OnOk};
-ghost use Rattle.clap.specs.Words.{app_of, new_app, rule_of, with_rule};
+ghost use Rattle.std.specs.Prelude.{◌≡◌, ◌++◌, [], ◌∷◌, codes, false, IfOk, OnOk};
+ghost use Rattle.clap.specs.Words.{app_of, new_app, rule_of};
 ghost use Rattle.td_command.specs.CommandLine.{needed, needed_words, needed_number, option, named_option, number_option, count_option, name_option, flag};
-ghost use Rattle.td_command.specs.CommandLine.{with_pair, out_letter, quiet_letter, with_common, with_default, with_letter, workers_letter, with_moments, with_vcd, with_output, with_outputs, with_each, with_cube, with_edges, with_reported, with_admitted, with_parts, with_strategy, with_search, with_joined};
-ghost use Rattle.td_command.specs.Telling.{reported, TellsMore, TellsRule};
+ghost use Rattle.td_command.specs.CommandLine.{with_letter, workers_letter, quiet_letter, common_rules, pair_rules, cube_rules, admitted_rules, strategy_rule, certificate_rule, search_rules};
+ghost use Rattle.td_command.specs.Telling.{reported, TellsRule, TellsRules};
 
 use crate::help::{FREE_HELP, WHOLE_HELP};
 use clap::builder::ValueParser;
@@ -218,7 +218,7 @@ impl<'a> Arguments<'a> {
 
     /// The delay of gates that state none, as two options.
     fn default_delay(&mut self) -> Result<(), AllocError>
-        ensures { OnOk result (TellsMore with_default self.old self.new) }
+        ensures { OnOk result (TellsRules (number_option (codes "default-rise") 1 1000000000 (codes "1") ∷ number_option (codes "default-fall") 1 1000000000 (codes "1") ∷ []) self.old self.new) }
     {
         self.number(
             "default-rise",
@@ -248,7 +248,7 @@ impl<'a> Arguments<'a> {
     /// What all commands take: the delay of gates that state none, whether hints stand after a
     /// refusal, whether the report is JSON, and whether there is none.
     pub(crate) fn common(&mut self) -> Result<(), AllocError>
-        ensures { OnOk result (TellsMore with_common self.old self.new) }
+        ensures { OnOk result (TellsRules common_rules self.old self.new) }
     {
         self.default_delay()?;
         self.flag(
@@ -266,7 +266,7 @@ report's lines",
 
     /// When each input takes its second level, as an option.
     pub(crate) fn moments(&mut self) -> Result<(), AllocError>
-        ensures { OnOk result (TellsMore with_moments self.old self.new) }
+        ensures { OnOk result (TellsRule (option (codes "at")) self.old self.new) }
     {
         self.option(
             "at",
@@ -279,7 +279,7 @@ moment of the input of this name, any number of times",
 
     /// Where the waves of a pair's run go, as an option.
     pub(crate) fn vcd(&mut self) -> Result<(), AllocError>
-        ensures { OnOk result (TellsMore with_vcd self.old self.new) }
+        ensures { OnOk result (TellsRule (option (codes "vcd")) self.old self.new) }
     {
         self.option(
             "vcd",
@@ -290,14 +290,14 @@ moment of the input of this name, any number of times",
 
     /// Which output is asked about, as an option.
     pub(crate) fn output(&mut self, help: &'a str) -> Result<(), AllocError>
-        ensures { OnOk result (TellsMore with_output self.old self.new) }
+        ensures { OnOk result (TellsRule (option (codes "output")) self.old self.new) }
     {
         self.option("output", "NAME", help)
     }
 
     /// Whether it is asked which output changes last, as a flag.
     pub(crate) fn outputs(&mut self) -> Result<(), AllocError>
-        ensures { OnOk result (TellsMore with_outputs self.old self.new) }
+        ensures { OnOk result (TellsRule (flag (codes "outputs")) self.old self.new) }
     {
         self.flag(
             "outputs",
@@ -308,7 +308,7 @@ several: `output NAME`",
 
     /// Whether each output is asked about in turn, as a flag.
     pub(crate) fn each(&mut self) -> Result<(), AllocError>
-        ensures { OnOk result (TellsMore with_each self.old self.new) }
+        ensures { OnOk result (TellsRule (flag (codes "each")) self.old self.new) }
     {
         self.flag(
             "each",
@@ -319,7 +319,7 @@ line for each: its worst delay, and its bound by edges",
 
     /// The netlist and a pair of vectors, as three words.
     pub(crate) fn pair(&mut self) -> Result<(), AllocError>
-        ensures { OnOk result (TellsMore with_pair self.old self.new) }
+        ensures { OnOk result (TellsRules pair_rules self.old self.new) }
     {
         self.file()?;
         self.needed(
@@ -336,7 +336,7 @@ shows, or `none` where there are no inputs",
 
     /// The pairs of a cube, as two options, and an option that pins inputs by their names.
     pub(crate) fn cube(&mut self, first_help: &'a str) -> Result<(), AllocError>
-        ensures { OnOk result (TellsMore with_cube self.old self.new) }
+        ensures { OnOk result (TellsRules cube_rules self.old self.new) }
     {
         self.option("first", "TRITS", first_help)?;
         self.option(
@@ -356,7 +356,7 @@ number of times",
 
     /// Whether the bounds by edges are asked for, as a flag.
     pub(crate) fn edges(&mut self) -> Result<(), AllocError>
-        ensures { OnOk result (TellsMore with_edges self.old self.new) }
+        ensures { OnOk result (TellsRule (flag (codes "edges")) self.old self.new) }
     {
         self.flag(
             "edges",
@@ -368,7 +368,7 @@ and possible levels at once (n)",
     /// Whether the chain of the given pair is asked for, how far the search is, and which output
     /// changes last, as flags.
     pub(crate) fn reported(&mut self) -> Result<(), AllocError>
-        ensures { OnOk result (TellsMore with_reported self.old self.new) }
+        ensures { OnOk result (TellsRules (flag (codes "path") ∷ flag (codes "progress") ∷ flag (codes "outputs") ∷ []) self.old self.new) }
     {
         self.flag(
             "path",
@@ -385,7 +385,7 @@ nodes handled pass 1, 2, 5, 10, 20, .. thousand, and every ten seconds",
 
     /// The pairs that a search admits, as options.
     pub(crate) fn admitted(&mut self) -> Result<(), AllocError>
-        ensures { OnOk result (TellsMore with_admitted self.old self.new) }
+        ensures { OnOk result (TellsRules admitted_rules self.old self.new) }
     {
         self.cube(FREE_HELP)?;
         self.option(
@@ -409,7 +409,7 @@ out",
 
     /// By which strategy a search goes, as an option.
     pub(crate) fn strategy(&mut self, names: &'a [&'a str]) -> Result<(), AllocError>
-        ensures { OnOk result (TellsMore (with_strategy names.entry) self.old self.new) }
+        ensures { OnOk result (TellsRule (strategy_rule names.entry) self.old self.new) }
     {
         self.name(
             "strategy",
@@ -442,14 +442,14 @@ them ends",
 
     /// Where a certificate goes, as an option.
     fn certificate_out(&mut self, help: &'a str) -> Result<(), AllocError>
-        ensures { OnOk result (TellsRule (with_letter out_letter (option (codes "cert"))) self.old self.new) }
+        ensures { OnOk result (TellsRule certificate_rule self.old self.new) }
     {
         self.add(option(self.alloc, "cert", "OUT", help).short('o'))
     }
 
     /// How a search goes, and where its certificate goes, as options.
     fn search(&mut self, strategies: &'a [&'a str]) -> Result<(), AllocError>
-        ensures { OnOk result (TellsMore (with_search strategies.entry) self.old self.new) }
+        ensures { OnOk result (TellsRules (search_rules strategies.entry) self.old self.new) }
     {
         self.workers()?;
         self.strategy(strategies)?;
@@ -471,7 +471,7 @@ lies between two figures",
 
     /// The netlist, the pairs that a search of its worst delay admits, and how the search goes.
     pub(crate) fn searched(&mut self, strategies: &'a [&'a str]) -> Result<(), AllocError>
-        ensures { OnOk result (TellsMore (λ app. with_search strategies.entry (with_moments (with_admitted (with_rule app (needed (codes "FILE")))))) self.old self.new) }
+        ensures { OnOk result (TellsRules (needed (codes "FILE") ∷ admitted_rules ++ option (codes "at") ∷ search_rules strategies.entry) self.old self.new) }
     {
         self.file()?;
         self.admitted()?;
@@ -481,7 +481,7 @@ lies between two figures",
 
     /// How many parts a question has, as an option that has to be given.
     pub(crate) fn parts(&mut self) -> Result<(), AllocError>
-        ensures { OnOk result (TellsMore with_parts self.old self.new) }
+        ensures { OnOk result (TellsRule (needed_number (codes "parts") 1 65536) self.old self.new) }
     {
         self.needed_number(
             "parts",
@@ -493,7 +493,7 @@ lies between two figures",
 
     /// The certificates that are joined, where theirs goes, and whether each is checked.
     pub(crate) fn joined(&mut self) -> Result<(), AllocError>
-        ensures { OnOk result (TellsMore with_joined self.old self.new) }
+        ensures { OnOk result (TellsRules (needed_words (codes "CERT") ∷ certificate_rule ∷ flag (codes "check") ∷ []) self.old self.new) }
     {
         self.needed_words(
             "CERT",

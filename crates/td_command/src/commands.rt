@@ -1,9 +1,9 @@
 //! The commands, in the form that the parser of command lines takes.
 
-ghost use Rattle.std.specs.Prelude.{◌≡◌, [], codes, IfOk, OnOk};
+ghost use Rattle.std.specs.Prelude.{◌≡◌, [], ◌∷◌, IfOk, OnOk};
 ghost use Rattle.clap.specs.Words.{app_of, new_app};
-ghost use Rattle.td_command.specs.CommandLine.{sim_command, path_command, bound_command, worst_command, parts_command, join_command, check_command, info_command, bare, program_of, IsOfStrategies, with_runs, with_bounds, with_questions, with_looks};
-ghost use Rattle.td_command.specs.Telling.{reported, offering, OffersMore, OffersCommand};
+ghost use Rattle.td_command.specs.CommandLine.{sim_command, path_command, bound_command, worst_command, parts_command, join_command, check_command, info_command, bare, program_of, commands, IsOfStrategies};
+ghost use Rattle.td_command.specs.Telling.{reported, offering, OffersCommand, OffersCommands};
 
 use crate::arguments::Arguments;
 use crate::help::{
@@ -198,7 +198,7 @@ of a vector's characters",
 
     /// The commands that simulate.
     fn runs(&mut self) -> Result<(), AllocError>
-        ensures { OnOk result (OffersMore with_runs self.old self.new) }
+        ensures { OnOk result (OffersCommands (sim_command ∷ path_command ∷ []) self.old self.new) }
     {
         self.sim()?;
         self.path()
@@ -206,7 +206,7 @@ of a vector's characters",
 
     /// The commands that bound and search.
     fn bounds(&mut self, strategies: &'a [&'a str]) -> Result<(), AllocError>
-        ensures { OnOk result (OffersMore (with_bounds strategies.entry) self.old self.new) }
+        ensures { OnOk result (OffersCommands (bound_command ∷ worst_command strategies.entry ∷ []) self.old self.new) }
     {
         self.bound()?;
         self.worst(strategies)
@@ -214,7 +214,7 @@ of a vector's characters",
 
     /// The commands for the parts of a question.
     fn questions(&mut self, strategies: &'a [&'a str]) -> Result<(), AllocError>
-        ensures { OnOk result (OffersMore (with_questions strategies.entry) self.old self.new) }
+        ensures { OnOk result (OffersCommands (parts_command strategies.entry ∷ join_command ∷ []) self.old self.new) }
     {
         self.parts(strategies)?;
         self.join()
@@ -222,7 +222,7 @@ of a vector's characters",
 
     /// The commands that check a certificate and describe a netlist.
     fn looks(&mut self) -> Result<(), AllocError>
-        ensures { OnOk result (OffersMore with_looks self.old self.new) }
+        ensures { OnOk result (OffersCommands (check_command ∷ info_command ∷ []) self.old self.new) }
     {
         self.check()?;
         self.info()
@@ -230,7 +230,7 @@ of a vector's characters",
 
     /// All commands.
     fn all(&mut self, strategies: &'a [&'a str]) -> Result<(), AllocError>
-        ensures { OnOk result (OffersMore (λ program. with_looks (with_questions strategies.entry (with_bounds strategies.entry (with_runs program)))) self.old self.new) }
+        ensures { OnOk result (OffersCommands (commands strategies.entry) self.old self.new) }
     {
         self.runs()?;
         self.bounds(strategies)?;

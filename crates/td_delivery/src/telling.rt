@@ -87,8 +87,8 @@ pub fn hand_over<F: Files, O: Sink, E: Sink>(
     ending
 }
 
-/// Writes a certificate to a new file, if there is one and a name is given for it. Says so where that
-/// fails.
+/// Writes a certificate to a new file, if there is one and a name is given for it. Says so where
+/// that fails.
 fn keep_certificate<F: Files, E: Sink>(
     alloc: Global,
     files: &mut F,

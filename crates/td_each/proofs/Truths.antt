@@ -1,5 +1,5 @@
 -- What the table says is true.
-use Rattle.std.proofs.Common.{◌≡◌, ◌∙◌, ◌++◌, ℕ, Bool, List, [], ◌∷◌, Some, refl, sym, ap, subst, inl, inr, map}
+use Rattle.std.proofs.Common.{◌≡◌, ◌∙◌, ◌++◌, ℕ, Bool, List, [], ◌∷◌, Some, codes, sym, ap, subst, inl, inr, map}
 use Rattle.std.specs.List.{AllZip}
 use Rattle.clap.specs.Words.{Text}
 use Rattle.td_text.specs.Output.{Output}
@@ -11,19 +11,20 @@ use Rattle.td_command.specs.declared.command.WorstRequest.{WorstRequest}
 use Rattle.td_command.specs.declared.command.Request.{Request}
 use Rattle.td_command.specs.declared.command.Request.TheVariants as request
 use Rattle.td_command.specs.CommandLine.{Asks, kinds_of}
+use Rattle.td_command.specs.Flags.{is_asked}
 use Rattle.td_search.specs.declared.answers.Answer.{Answer}
 use Rattle.td_search.specs.declared.answers.Answer.TheVariants as answer
 use Rattle.td_search.specs.Problems.{Problem}
 use Rattle.td_worst.specs.Methods.{IsSoundAnswer}
 use Rattle.td_worst.proofs.Outcomes.{outcome_by}
 use Rattle.td_cli.specs.WorstReports.{strategy_of}
-use Rattle.td_cli.specs.Sentences.{AskWorst, AskForWorst}
-use Rattle.td_cli.proofs.Searches.{other_name}
-use Rattle.td_cli.proofs.Sentences.{came_out, nothing_more, none_among, same_command, asks_it}
+use Rattle.td_cli.specs.Sentences.{AskForWorst}
+use Rattle.td_cli.proofs.Searches.{entered_name, enters, is_worst}
+use Rattle.td_cli.proofs.Sentences.{came_out, nothing_more, none_among}
 use Rattle.td_each.specs.declared.rows.Row.{Row}
 use Rattle.td_each.specs.Rows.{label, figures_of, AreRows}
 use Rattle.td_each.specs.Ends.{in_form, IsEachProduct, EachRuns, EachRequestEnds, EachEnds}
-use Rattle.td_each.specs.Truths.{AreTrueFigures, IsTrueRow, RowsAreTrue, TellsTable, IsTrueTable}
+use Rattle.td_each.specs.Truths.{AskWorst, AreTrueFigures, IsTrueRow, RowsAreTrue, TellsTable, IsTrueTable}
 
 -- ---- rows
 
@@ -32,7 +33,8 @@ figures_true : (asked : Problem) (budget : ℕ) (found : Answer) → IsSoundAnsw
     → AreTrueFigures asked.setting asked.admit (figures_of found)
 figures_true asked budget (answer.Exact time pair tree) is =
     record { pair = pair; admitted = is.reached.0; reached = is.reached.1; greatest = is.greatest }
-figures_true asked budget (answer.Between low high pair nodes why) is = is.worst
+figures_true asked budget (answer.Between low high pair nodes why) is =
+    record { pair = pair; admitted = is.reached.0; reached = is.reached.1; greatest = is.greatest }
 
 pub row_is_true : RowsAreTrue
 row_is_true text request name row is =
@@ -86,26 +88,24 @@ module _ (disk : Disk) (words : List Text) where
   true_of_search asked asks is_json steps status old new (inr (none, ends)) before out old_is new_is =
       elim (came_out _ _ _ steps status old new ends before out old_is new_is) [
         | inl none ↦ inl none
-        | inr (product, (text, held, is), (rest, same)) ↦ inr (tells asked asks is_json text held product is out rest same)
+        | inr (product, (text, held, is), (rest, same, whole)) ↦ inr (tells asked asks is_json text held product is out rest same)
       ]
 
-  true_of_request : (search : WorstRequest) → AskWorst words search → (asked : Request) → Asks words asked → (is_json : Bool)
-      → (steps : List FileStep) (status : Status) (old new : Streams) → EachRequestEnds disk is_json asked steps status old new → (before out : List ℕ)
-      → old.out.sent ≡ Some before → new.out.sent ≡ Some (before ++ out) → IsTrueTable disk words out
-  true_of_request search it (request.Sim asked) asks is_json steps status old new ends = absurd (other_name (request.Sim asked) refl (same_command disk words search it (request.Sim asked) asks))
-  true_of_request search it (request.Path asked) asks is_json steps status old new ends = absurd (other_name (request.Path asked) refl (same_command disk words search it (request.Path asked) asks))
-  true_of_request search it (request.Bound asked) asks is_json steps status old new ends = absurd (other_name (request.Bound asked) refl (same_command disk words search it (request.Bound asked) asks))
-  true_of_request search it (request.Worst asked) asks is_json steps status old new ends = true_of_search asked (asks_it disk words asked asks) is_json steps status old new ends
-  true_of_request search it (request.Parts asked) asks is_json steps status old new ends = absurd (other_name (request.Parts asked) refl (same_command disk words search it (request.Parts asked) asks))
-  true_of_request search it (request.Join asked) asks is_json steps status old new ends = absurd (other_name (request.Join asked) refl (same_command disk words search it (request.Join asked) asks))
-  true_of_request search it (request.Check asked) asks is_json steps status old new ends = absurd (other_name (request.Check asked) refl (same_command disk words search it (request.Check asked) asks))
-  true_of_request search it (request.Info asked) asks is_json steps status old new ends = absurd (other_name (request.Info asked) refl (same_command disk words search it (request.Info asked) asks))
+  asks_it : (asked : WorstRequest) → Asks words (request.Worst asked) → AskWorst words asked
+  asks_it asked asks = record {
+    given = asks.asks.1;
+    enters = enters words (codes "worst") (request.Worst asked) asks asks.asks.3.0;
+    asks = asks.asks.3.1;
+  }
 
   -- what went out is true
   pub is_true : (steps : List FileStep) (status : Status) (old new : Streams) → EachEnds disk words steps status old new → AskForWorst words
       → (before out : List ℕ) → old.out.sent ≡ Some before → new.out.sent ≡ Some (before ++ out) → IsTrueTable disk words out
   is_true steps status old new (inl (asked, asks, ends)) wanted before out old_is new_is =
-      true_of_request wanted.0 wanted.1 asked asks _ steps status old new ends before out old_is new_is
+      let search = is_worst asked (entered_name (codes "worst") words wanted.0 wanted.1 asked asks) in
+      let is_json = is_asked (codes "--json") words in
+      true_of_search search.0 (asks_it search.0 (subst (λ (it : Request). Asks words it) search.1 asks)) is_json steps status old new
+      (subst (λ (it : Request). EachRequestEnds disk is_json it steps status old new) search.1 ends) before out old_is new_is
   is_true steps status old new (inr (none, inl (kind, among, text))) wanted before out old_is new_is =
       absurd (none_among kind (kinds_of words) wanted.1.taken among)
   is_true steps status old new (inr (none, inr memory)) wanted before out old_is new_is =

@@ -1,8 +1,8 @@
 -- What is true of what `worst --each` prints.
-use Rattle.std.specs.Prelude.{◌≡◌, ◌≤◌, ◌⊎◌, ℕ, Bool, List, [], ◌++◌, length, map, Some, string_bytes}
+use Rattle.std.specs.Prelude.{◌≡◌, ◌⊎◌, ℕ, Bool, List, [], ◌++◌, codes, length, map, Some, string_bytes}
 use Rattle.std.specs.Borrow.{Bor}
 use Rattle.std.specs.List.{AllZip}
-use Rattle.clap.specs.Words.{Text}
+use Rattle.clap.specs.Words.{Row as Given, Text}
 use Rattle.td_circuit.specs.Settings.{Setting}
 use Rattle.td_domain.specs.Admits.{Admitted}
 use Rattle.td_domain.specs.Bounds.{IsUpperBoundIn}
@@ -10,11 +10,12 @@ use Rattle.td_domain.specs.Worst.{IsWorst}
 use Rattle.td_nets.specs.Netlist.{Netlist}
 use Rattle.td_source.specs.Reads.{HasCircuit}
 use Rattle.td_command.specs.declared.command.WorstRequest.{WorstRequest}
+use Rattle.td_command.specs.CommandLine.{AsksWorst}
 use Rattle.td_files.specs.Disks.{Disk}
 use Rattle.td_report.specs.Reports.{IsSetting}
 use Rattle.td_report.specs.Vectors.{words_of}
 use Rattle.td_cli.specs.Admitting.{WordsAdmit}
-use Rattle.td_cli.specs.Sentences.{AskWorst}
+use Rattle.td_cli.specs.Sentences.{Enters, LiesBetween}
 use Rattle.td_each.specs.declared.rows.Figures.{Figures}
 use Rattle.td_each.specs.declared.rows.Figures.TheVariants.{Exact, Between}
 use Rattle.td_each.specs.declared.rows.Row.{Row}
@@ -22,11 +23,17 @@ use Rattle.td_each.specs.Rows.{label, reading_of, IsRow}
 use Rattle.td_each.specs.Reports.{table_text}
 use Rattle.td_each.specs.Ends.{in_form}
 
+-- the program takes the words, and they ask for this search
+pub record AskWorst (words : List Text) (request : WorstRequest) : Type 0 where
+  pub given : List Given
+  pub enters : Enters (codes "worst") words given
+  pub asks : AsksWorst given request
+
 -- An exact figure is the worst delay of the admitted pairs in this setting. Where there are two
--- figures, the worst delay is at least the lower one and at most the upper one.
+-- figures, some admitted pair has the lower one, and none has a greater one than the upper.
 abbrev pub AreTrueFigures : Setting → Admitted → Figures → Type 0
 AreTrueFigures setting admit (Exact time) = IsWorst setting admit time
-AreTrueFigures setting admit (Between low high) = (worst : ℕ) → IsWorst setting admit worst → (low ≤ worst) × (worst ≤ high)
+AreTrueFigures setting admit (Between low high) = LiesBetween setting admit low high
 
 -- The row is about the output of this name: the text means the netlist of this setting with that
 -- output alone, and the words of the request say its moments and which pairs are admitted. The

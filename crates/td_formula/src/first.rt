@@ -10,7 +10,7 @@ use std::alloc::{AllocError, Global};
 use td_circuit::{Circuit, Gate};
 use td_clauses::{NetSets, add_net, target_changes};
 use td_domain::{Admit, Trit};
-use td_moments::{Changes, Directions};
+use td_moments::{Changes, Directions, Possible};
 use td_stop::Stop;
 
 /// The sets of the first nets, and how many variables they have.
@@ -74,12 +74,10 @@ fn input_changes(
 }
 
 // Whether no moment is above 2^63.
-fn are_low(changes: &Changes) -> bool
-    ensures { result ≡ list_all is_low changes.now }
+fn are_low(list: &[Possible]) -> bool
+    ensures { result ≡ list_all is_low list.now }
 {
-    changes
-        .list()
-        .iter()
+    list.iter()
         .all(|possible| possible.moment <= 9_223_372_036_854_775_808)
 }
 
@@ -91,7 +89,8 @@ fn with_gate(
     gate: &Gate,
 ) -> Result<Option<Building>, AllocError> {
     let target = target_changes(alloc, &building.nets, gate.kind, &gate.inputs)?;
-    if !are_low(&target) {
+    let list = target.list(alloc)?;
+    if !are_low(&list) {
         return Ok(None);
     }
     let level = target.delayed(alloc, gate.delay)?;

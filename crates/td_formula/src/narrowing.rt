@@ -23,17 +23,19 @@ fn copied(
     is_target: bool,
 ) -> Result<Vec<Possible>, AllocError> {
     match formula.sets.wire(net, is_target) {
-        Some(wire) => Vec::from_slice(alloc, wire.changes().list()),
+        Some(wire) => wire.changes().list(alloc),
         None => Ok(Vec::new(alloc)),
     }
 }
 
 impl Formula {
-    /// Takes the change of a net to a level at the moment of a variable of it out of its set.
-    pub fn cut(&mut self, net: u32, number: u32, level: bool) {
+    /// Takes the change of a net to a level at the moment of a variable of it out of its set. The
+    /// error is out of memory.
+    pub fn cut(&mut self, net: u32, number: u32, level: bool) -> Result<(), AllocError> {
         let variable = WireVariable::of_level(net, number);
-        if let Some(moment) = self.sets.moment(variable) {
-            cut(&mut self.sets.nets, net as usize, moment, level);
+        match self.sets.moment(variable) {
+            Some(moment) => cut(self.alloc, &mut self.sets.nets, net as usize, moment, level),
+            None => Ok(()),
         }
     }
 

@@ -13,10 +13,13 @@ pub struct Sets {
 }
 
 // The possible changes at a moment of a wire with a number from 1 on, if there is such a moment.
-fn possible_at(wire: &Wire, number: u32) -> Option<&Possible> {
-    match number.checked_sub(1) {
-        Some(place) => wire.changes().list().get(place as usize),
-        None => None,
+fn possible_at(wire: &Wire, number: u32) -> Option<Possible> {
+    let changes = wire.changes();
+    let place = number.checked_sub(1)? as usize;
+    if place < changes.len() {
+        Some(changes.at(place))
+    } else {
+        None
     }
 }
 
@@ -48,7 +51,7 @@ impl Sets {
     /// How many moments a wire has, those that are gone among them.
     pub fn count(&self, net: u32, is_target: bool) -> u32 {
         match self.wire(net, is_target) {
-            Some(wire) => small(wire.changes().list().len()),
+            Some(wire) => small(wire.changes().len()),
             None => 0,
         }
     }

@@ -10,7 +10,7 @@ use Rattle.td_report.specs.Ends.{Streams, streams, SaysReport}
 use Rattle.td_files.specs.Disks.{Disk}
 use Rattle.td_delivery.specs.Shown.{IsOutOfMemory}
 use Rattle.td_cli.specs.Requests.{RequestEnds, TellsOf}
-use Rattle.td_cli.specs.Sentences.{IsTrueReport}
+use Rattle.td_cli.specs.Sentences.{SaysWorst, SaysVerdict}
 use Rattle.td_json.specs.Holding.{nothing_yet, IsAllWritten, IsTorn}
 use Rattle.td_json.specs.Reports.{json_text}
 
@@ -51,10 +51,14 @@ JsonEnds disk words steps status old new =
 
 -- ---- what is true of it
 
--- The text is a beginning of the JSON of a report that is true of what the words ask. It is the
--- whole, unless standard output failed or memory ran out.
-pub record IsTrueJson (disk : Disk) (words : List (List ℕ)) (text : List ℕ) : Type 0 where
-  pub report : List ℕ
-  pub is_true : IsTrueReport disk words report
-  pub rest : List ℕ
-  pub is : shown report ≡ text ++ rest
+-- nothing came out, or a beginning of the JSON of a whole report that is so
+abbrev pub CameOutAsJson : (List ℕ → Type 0) → List ℕ → Type 0
+CameOutAsJson IsReport text = (text ≡ []) ⊎ ((report : List ℕ) × IsReport report × ((rest : List ℕ) × (shown report ≡ text ++ rest)))
+
+-- it is the JSON of a report of `worst` that is true of what the words ask
+abbrev pub IsTrueJson : (List ℕ → List ℕ → Type 0) → List (List ℕ) → List ℕ → Type 0
+IsTrueJson holds words = CameOutAsJson (SaysWorst holds words)
+
+-- it is the JSON of a report of `check` that is true of what the words ask
+abbrev pub IsTrueJsonCheck : (List ℕ → List ℕ → Type 0) → List (List ℕ) → List ℕ → Type 0
+IsTrueJsonCheck holds words = CameOutAsJson (SaysVerdict holds words)

@@ -7,8 +7,8 @@ ghost use Rattle.td_command.specs.Flags.{is_asked};
 ghost use Rattle.td_command.specs.CommandLine.{IsCarriedOut};
 ghost use Rattle.td_cli.specs.Requests.{RequestEnds};
 ghost use Rattle.td_json.specs.Holding.{held_output};
-ghost use Rattle.td_json.specs.Ends.{shown, SaysJson, SaysHeld, EndsAsJson, JsonEnds, IsTrueJson};
-ghost use Rattle.td_cli.specs.Sentences.{AskForWorst};
+ghost use Rattle.td_json.specs.Ends.{shown, SaysJson, SaysHeld, EndsAsJson, JsonEnds, IsTrueJson, IsTrueJsonCheck};
+ghost use Rattle.td_cli.specs.Sentences.{AskForWorst, AskForCheck};
 
 use crate::held::Held;
 use crate::reporting::json;
@@ -104,9 +104,13 @@ pub fn run_json<R: Threads + Wait + Clock + Sync, S: AsStr, F: Files, O: Sink, E
 ) -> Status
     ensures ends { Takes (F.did files.old files.new) (λ steps. JsonEnds (F.disk files.old) (map S.text words.now) steps result
         (streams (O.output out.old) (E.output err.old)) (streams (O.output out.new) (E.output err.new))) }
-    // What the JSON says of a worst delay is true.
+    // Where the words ask for a worst delay, what comes out is nothing, or a beginning of the JSON
+    // of a report that is true.
     ensures says_true { AskForWorst (map S.text words.now) → (before text : List ℕ) → (O.output out.old).sent ≡ Some before
-        → (O.output out.new).sent ≡ Some (before ++ text) → IsTrueJson (F.disk files.old) (map S.text words.now) text }
+        → (O.output out.new).sent ≡ Some (before ++ text) → IsTrueJson (F.disk files.old).holds (map S.text words.now) text }
+    // So it is where they ask for a check.
+    ensures says_accepted { AskForCheck (map S.text words.now) → (before text : List ℕ) → (O.output out.old).sent ≡ Some before
+        → (O.output out.new).sent ≡ Some (before ++ text) → IsTrueJsonCheck (F.disk files.old).holds (map S.text words.now) text }
 {
     match parse(alloc, words) {
         Ok(request) => carry_out_json(rt, alloc, files, &request, out, err),

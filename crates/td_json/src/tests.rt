@@ -26,8 +26,8 @@ fn writes_each_form(rt: HostRuntime) -> Result<(), Fail> {
     Ok(())
 }
 
-/// Lines of outputs in turn: exact, cut short, without a bound, and of outputs whose names are words
-/// of such a line.
+/// Lines of outputs in turn: exact, cut short, without a bound, and of outputs whose names are
+/// words of such a line.
 #[test]
 fn writes_each_output(rt: HostRuntime) -> Result<(), Fail> {
     let report =

@@ -1,4 +1,5 @@
 pub mod Places
+pub mod Stretches
 pub mod Merges
 pub mod FindingLaws
 pub mod OrderLaws

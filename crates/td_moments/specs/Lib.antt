@@ -1,4 +1,5 @@
 pub mod Directions
 pub mod Moments
+pub mod Runs
 pub mod Merging
 pub mod Gates

@@ -1,41 +1,53 @@
 //! The possible changes of a wire.
 
-ghost use Rattle.std.specs.Prelude.{◌≡◌, ◌≤◌, ◌^◌, [], length, IfOk};
-ghost use Rattle.td_moments.specs.Moments.{IsInOrder, IsWithin, count_before, found, number_at, greatest, taken, once};
+ghost use Rattle.std.specs.Prelude.{◌≡◌, ◌≤◌, ◌<◌, ◌^◌, [], length, get_or, IfOk, OnOk, OnErr};
+ghost use Rattle.td_moments.specs.Moments.{IsInOrder, IsWithin, count_before, found, number_at, greatest, taken, once, nowhere};
 ghost use Rattle.td_moments.specs.Merging.{merge, turned_list, delayed_of, kept, delayed_found};
 
 use crate::directions::Directions;
 use crate::finding::Possible;
-use crate::{finding, merging};
+use crate::runs::Run;
+use crate::{finding, merging, runs};
 use std::alloc::{AllocError, Global};
 use std::marker::Model;
 use td_gates::{Delay, Kind};
 
-/// At which moments a wire may change, in order, each with the levels to which it may.
+/// At which moments a wire may change, in order, each with the levels to which it may. Most of them
+/// are consecutive, and to the same levels: they are kept as runs.
 #[derive(Drop)]
 pub struct Changes {
-    list: Vec<Possible>,
+    runs: Vec<Run>,
 }
 
 impl Model for Changes {
     ghost use Rattle.std.specs.Prelude.{List};
     ghost use Rattle.td_moments.specs.declared.finding.Possible.{Possible};
     ghost use Rattle.td_moments.specs.Moments.{IsInOrder};
+    ghost use Rattle.td_moments.specs.Runs.{expand, AreRuns};
 
     ghost Value = { List Possible };
 
-    ghost view = { λ changes. changes.list.items };
+    ghost view = { λ changes. expand changes.runs.items };
 
-    ghost invariant = { λ changes. IsInOrder changes.list.items };
+    ghost invariant = { λ changes. AreRuns changes.runs.items × IsInOrder (expand changes.runs.items) };
 }
 
 impl Changes {
-    /// The changes of this list, whose moments rise.
-    pub fn from_list(list: Vec<Possible>) -> Changes
-        requires { IsInOrder list.items }
-        ensures { result ≡ list.items }
+    /// The changes of this list, whose moments rise. The error is out of memory.
+    pub fn from_list(alloc: Global, list: &[Possible]) -> Result<Changes, AllocError>
+        requires { IsInOrder list.now }
+        ensures { IfOk result (λ changes. changes ≡ list.now) }
     {
-        Changes { list }
+        let runs = runs::compressed(alloc, list)?;
+        Ok(Changes { runs })
+    }
+
+    /// The changes, one by one. The error is out of memory.
+    pub fn list(&self, alloc: Global) -> Result<Vec<Possible>, AllocError>
+        ensures list { IfOk result (λ list. list.items ≡ self.now) }
+        ensures order { IsInOrder self.now }
+    {
+        runs::expanded(alloc, &self.runs)
     }
 
     /// No changes.
@@ -43,7 +55,7 @@ impl Changes {
         ensures { result ≡ [] }
     {
         Changes {
-            list: Vec::new(alloc),
+            runs: Vec::new(alloc),
         }
     }
 
@@ -51,25 +63,28 @@ impl Changes {
     pub fn once(alloc: Global, moment: u64, to: Directions) -> Result<Changes, AllocError>
         ensures { IfOk result (λ changes. changes ≡ once moment to) }
     {
-        let mut list = Vec::new(alloc);
-        if !to.is_none() {
-            list.push(Possible { moment, to })?;
+        if to.is_none() {
+            Ok(Changes::none(alloc))
+        } else {
+            Changes::from_list(alloc, &[Possible { moment, to }])
         }
-        Ok(Changes { list })
     }
 
-    /// How a gate's target may change with one input more. The error is out of memory.
-    pub fn with_input(
+    /// How a gate's target may change, one by one, where this is how one input more may. The error
+    /// is out of memory.
+    pub fn joined(
         &self,
         alloc: Global,
         kind: Kind,
-        input: &Changes,
-    ) -> Result<Changes, AllocError>
-        ensures { IfOk result (λ changes. changes ≡ merge self.now (turned_list kind input.now)) }
+        target: &[Possible],
+    ) -> Result<Vec<Possible>, AllocError>
+        requires { IsInOrder target.now }
+        ensures list { IfOk result (λ list. list.items ≡ merge target.now (turned_list kind self.now)) }
+        ensures order { IfOk result (λ list. IsInOrder list.items) }
     {
-        let turned = merging::turned(alloc, kind, &input.list)?;
-        let list = merging::merged(alloc, &self.list, &turned)?;
-        Ok(Changes { list })
+        let turned = runs::turned(alloc, kind, &self.runs)?;
+        let list = merging::merged(alloc, target, &turned)?;
+        Ok(list)
     }
 
     /// How a gate's output may change where this is how its target may. The error is out of memory.
@@ -77,8 +92,9 @@ impl Changes {
         requires { IsWithin (2 ^ 63) self.now }
         ensures { IfOk result (λ changes. changes ≡ delayed_of delay self.now) }
     {
-        let list = merging::delayed(alloc, delay, &self.list)?;
-        Ok(Changes { list })
+        let target = self.list(alloc)?;
+        let list = merging::delayed(alloc, delay, &target)?;
+        Changes::from_list(alloc, &list)
     }
 
     /// What is left of an output's changes where this is how its target may change. The error is
@@ -91,23 +107,38 @@ impl Changes {
     ) -> Result<Changes, AllocError>
         ensures { IfOk result (λ changes. changes ≡ kept (delayed_found delay target.now) self.now) }
     {
-        let list = merging::kept_behind(alloc, &self.list, delay, &target.list)?;
-        Ok(Changes { list })
+        let list = self.list(alloc)?;
+        let by = target.list(alloc)?;
+        let left = merging::kept_behind(alloc, &list, delay, &by)?;
+        Changes::from_list(alloc, &left)
     }
 
-    /// Takes out the change to a level at a moment.
-    pub fn take(&mut self, moment: u64, level: bool)
-        ensures { self.new ≡ taken self.old moment level }
+    /// Takes out the change to a level at a moment. The error is out of memory, and then all is as
+    /// before.
+    pub fn take(&mut self, alloc: Global, moment: u64, level: bool) -> Result<(), AllocError>
+        ensures ok { OnOk result (self.new ≡ taken self.old moment level) }
+        ensures err { OnErr result (self.new ≡ self.old) }
     {
-        finding::take(&mut self.list, moment, level);
+        let mut list = self.list(alloc)?;
+        finding::take(&mut list, moment, level);
+        let left = runs::compressed(alloc, &list)?;
+        self.runs = left;
+        Ok(())
     }
 
-    /// The changes, in order.
-    pub fn list(&self) -> &[Possible]
-        ensures list { result.now ≡ self.now }
-        ensures order { IsInOrder self.now }
+    /// How many moments there are.
+    pub fn len(&self) -> usize
+        ensures { result ≡ length self.now }
     {
-        &self.list
+        runs::count(&self.runs)
+    }
+
+    /// The possible change at the moment with this place.
+    pub fn at(&self, place: usize) -> Possible
+        requires { place < length self.now }
+        ensures { result ≡ get_or self.now place nowhere }
+    {
+        runs::at(&self.runs, place)
     }
 
     /// The number of the latest moment below a place at which a change is possible still, 0 where
@@ -116,7 +147,7 @@ impl Changes {
         ensures number { result ≡ number_at self.now place }
         ensures within { result ≤ length self.now }
     {
-        finding::number_at(&self.list, place)
+        runs::number_at(&self.runs, place)
     }
 
     /// How many of the moments are below a place.
@@ -124,20 +155,20 @@ impl Changes {
         ensures count { result ≡ count_before self.now place }
         ensures within { result ≤ length self.now }
     {
-        finding::count_before(&self.list, place)
+        runs::count_before(&self.runs, place)
     }
 
     /// To which levels the wire may change at a moment.
     pub fn found(&self, moment: u64) -> Directions
         ensures { result ≡ found self.now moment }
     {
-        finding::found(&self.list, moment)
+        runs::found(&self.runs, moment)
     }
 
     /// The greatest moment at which a change is possible still, 0 where there is none.
     pub fn greatest(&self) -> u64
         ensures { result ≡ greatest self.now }
     {
-        finding::greatest(&self.list)
+        runs::greatest(&self.runs)
     }
 }

@@ -1,7 +1,7 @@
 //! Finding a moment among those of a wire.
 
 ghost use Rattle.std.specs.Prelude.{◌≡◌, ◌≤◌, length};
-ghost use Rattle.td_moments.specs.Moments.{IsInOrder, count_before, found, latest, number_at, greatest, taken};
+ghost use Rattle.td_moments.specs.Moments.{IsInOrder, count_before, found, taken};
 
 use crate::directions::Directions;
 
@@ -47,46 +47,6 @@ pub fn found(list: &[Possible], moment: u64) -> Directions
         }
         None => Directions::none(),
     }
-}
-
-/// The number of the latest of the first moments at which a change is possible still, 0 where none
-/// is. The first moment has the number 1.
-fn latest(list: &[Possible], count: usize) -> usize
-    requires { count ≤ length list.now }
-    ensures number { result ≡ latest list.now count }
-    ensures within { result ≤ length list.now }
-{
-    let mut number = count;
-    while number > 0 {
-        if !list[number - 1].to.is_none() {
-            return number;
-        }
-        number -= 1;
-    }
-    0
-}
-
-/// The number of the latest moment below a place at which a change is possible still, 0 where there
-/// is none.
-pub fn number_at(list: &[Possible], place: u64) -> usize
-    requires { IsInOrder list.now }
-    ensures number { result ≡ number_at list.now place }
-    ensures within { result ≤ length list.now }
-{
-    latest(list, count_before(list, place))
-}
-
-/// The greatest moment at which a change is possible still, 0 where there is none.
-pub fn greatest(list: &[Possible]) -> u64
-    ensures { result ≡ greatest list.now }
-{
-    let mut most = 0;
-    for possible in list {
-        if !possible.to.is_none() {
-            most = most.max(possible.moment);
-        }
-    }
-    most
 }
 
 /// Takes out the change to a level at a moment.

@@ -5,6 +5,7 @@ mod changes;
 mod directions;
 mod finding;
 mod merging;
+mod runs;
 
 pub use changes::Changes;
 pub use directions::Directions;

@@ -4,12 +4,12 @@ ghost use Rattle.std.specs.Prelude.{◌≡◌, ◌+◌, ◌-◌, ◌<◌, ◌^�
 ghost use Rattle.std.specs.List.{All};
 ghost use Rattle.td_moments.specs.Directions.{may};
 ghost use Rattle.td_moments.specs.Moments.{IsInOrder, found};
-ghost use Rattle.td_moments.specs.Merging.{merge, turned_list, put_off, delayed_of, delayed_found, kept};
+ghost use Rattle.td_moments.specs.Merging.{merge, put_off, delayed_of, delayed_found, kept};
 
 use crate::directions::Directions;
 use crate::finding::{Possible, found};
 use std::alloc::{AllocError, Global};
-use td_gates::{Delay, Kind, Level};
+use td_gates::{Delay, Level};
 
 /// The possible changes of both. The error is out of memory.
 pub fn merged(
@@ -19,7 +19,7 @@ pub fn merged(
 ) -> Result<Vec<Possible>, AllocError>
     ensures { IfOk result (λ all. all.items ≡ merge these.now those.now) }
 {
-    let mut all = Vec::new(alloc);
+    let mut all = Vec::with_capacity(alloc, these.len().saturating_add(those.len()))?;
     let mut this = 0;
     let mut that = 0;
     while this < these.len() && that < those.len() {
@@ -45,20 +45,6 @@ pub fn merged(
     Ok(all)
 }
 
-/// How a gate's target may change with this input alone. The error is out of memory.
-pub fn turned(alloc: Global, kind: Kind, input: &[Possible]) -> Result<Vec<Possible>, AllocError>
-    ensures { IfOk result (λ list. list.items ≡ turned_list kind input.now) }
-{
-    let mut list = Vec::new(alloc);
-    for possible in input {
-        list.push(Possible {
-            moment: possible.moment,
-            to: possible.to.turned(kind),
-        })?;
-    }
-    Ok(list)
-}
-
 /// The changes to one level, each `steps` steps later. The error is out of memory.
 fn put_off(
     alloc: Global,
@@ -69,7 +55,7 @@ fn put_off(
     requires { All (λ possible. possible.moment + steps < 2 ^ 64) list.now }
     ensures { IfOk result (λ later. later.items ≡ put_off level steps list.now) }
 {
-    let mut later = Vec::new(alloc);
+    let mut later = Vec::with_capacity(alloc, list.len())?;
     for possible in list {
         if possible.to.may(level) {
             later.push(Possible {
@@ -125,7 +111,7 @@ pub fn kept_behind(
     requires { IsInOrder target.now }
     ensures { IfOk result (λ left. left.items ≡ kept (delayed_found delay target.now) list.now) }
 {
-    let mut left = Vec::new(alloc);
+    let mut left = Vec::with_capacity(alloc, list.len())?;
     for possible in list {
         let allowed = delayed_found(target, delay, possible.moment);
         left.push(Possible {

@@ -1,5 +1,5 @@
 -- Soundness: what hints show is true wherever their clauses are.
-use Rattle.std.proofs.Common.{◌≡◌, ℕ, zero, suc, Bool, true, false, List, [], ◌∷◌, ◌++◌, ◌≤◌, ◌⊎◌, arith, length, get_or, replicate, Option, Some, None, Vec, Global, refl, sym, ◌∙◌, ap, inl, inr, get_or-set_other, get_or-set_same}
+use Rattle.std.proofs.Common.{◌≡◌, ℕ, zero, suc, Bool, true, false, List, [], ◌∷◌, ◌++◌, ◌≤◌, ◌⊎◌, arith, length, get_or, replicate, Option, Some, None, refl, sym, ◌∙◌, ap, subst, inl, inr, get_or-set_other, get_or-set_same}
 use Rattle.std.specs.Prelude.{not, ◌||◌, ◌==◌, nat_lt, slice_get, if◌then◌else◌, ◌-◌}
 use Rattle.std.proofs.lemmas.Bool.{cases_eq, cases_lt, cases_Bool, and_parts, eqb-true}
 use Rattle.std.proofs.lemmas.List.{get_or_past}
@@ -10,11 +10,12 @@ use Rattle.td_propagation.specs.declared.literal.Literal.{Literal}
 use Rattle.td_propagation.specs.declared.left.Left.{Left}
 use Rattle.td_propagation.specs.declared.left.Left.TheVariants.{Nothing, One, Several}
 use Rattle.td_propagation.specs.declared.denied.Mark.{Mark}
+use Rattle.td_propagation.specs.declared.denied.Mark.TheVariants.{Neither, Negative, Positive, Both}
 use Rattle.td_propagation.specs.declared.clauses.Outcome.TheVariants.{Shown}
 use Rattle.td_propagation.specs.Literals.{negation, signed, is_same, literal_true, clause_true, IsTrueUnder}
 use Rattle.td_propagation.specs.Marks.{no_mark, with_mark, mark_of, is_denied, denied, all_denied}
 use Rattle.td_propagation.specs.Propagating.{left_with, left_from, left_of}
-use Rattle.td_propagation.specs.Following.{literals_of, hinted, hint_left, marks_after, follow_at, follow, shown_by, AreTrue}
+use Rattle.td_propagation.specs.Following.{hinted, hint_left, marks_after, follow_at, follow, shown_by, AreTrue}
 
 signed_same : (one other value : Bool) → signed one other ≡ true → signed one value ≡ signed other value
 signed_same true true value same = refl
@@ -52,10 +53,22 @@ agrees_nothing valuation n literal is = absurd (nothing n literal.variable liter
 
 -- a mark more
 marked : (mark : Mark) (one other : Bool) → mark_of (with_mark mark one) other ≡ true → (mark_of mark other ≡ true) ⊎ (other ≡ one)
-marked mark true true is = inr refl
-marked mark true false is = inl is
-marked mark false true is = inl is
-marked mark false false is = inr refl
+marked Neither true true is = inr refl
+marked Neither true false is = inl is
+marked Neither false true is = inl is
+marked Neither false false is = inr refl
+marked Negative true true is = inr refl
+marked Negative true false is = inl refl
+marked Negative false true is = inl is
+marked Negative false false is = inr refl
+marked Positive true true is = inr refl
+marked Positive true false is = inl is
+marked Positive false true is = inl refl
+marked Positive false false is = inr refl
+marked Both true true is = inr refl
+marked Both true false is = inl refl
+marked Both false true is = inl refl
+marked Both false false is = inr refl
 
 agrees_denied : (valuation : ℕ → Bool) (marks : List Mark) (literal : Literal) → Agrees valuation marks
     → literal_true valuation literal ≡ false → Agrees valuation (denied marks literal)
@@ -154,24 +167,20 @@ after_agrees valuation marks (Some (One literal)) agrees holds =
     agrees_denied valuation marks (negation literal) agrees (negation_false literal.positive (valuation literal.variable) holds)
 after_agrees valuation marks (Some Several) agrees holds = agrees
 
-literals_true : (valuation : ℕ → Bool) (clauses : List (Vec Literal Global)) (place : ℕ) (found : Option (Vec Literal Global)) (clause : List Literal)
-    → AreTrue valuation clauses → slice_get clauses place ≡ found → literals_of found ≡ Some clause → IsTrueUnder valuation clause
-literals_true valuation clauses place None clause holds there is = cc
-literals_true valuation clauses place (Some it) clause holds there is =
-    let same : it.items ≡ clause = cc in
-    let here = get_or_from_slice_get clauses place it it there in
-    let holding : IsTrueUnder valuation (get_or clauses place it).items = holds place it (slice_get_within clauses place it there) in
-    rw same at (rw here at holding)
-
-hinted_true : (valuation : ℕ → Bool) (clauses : List (Vec Literal Global)) (hint : ℕ) (clause : List Literal) → AreTrue valuation clauses
+hinted_true : (valuation : ℕ → Bool) (clauses : List (List Literal)) (hint : ℕ) (clause : List Literal) → AreTrue valuation clauses
     → hinted clauses hint ≡ Some clause → IsTrueUnder valuation clause
 hinted_true valuation clauses hint clause holds is = go (hint == 0 || nat_lt (length clauses) hint) is
   where
-    go : (out : Bool) → (if out then None else literals_of (slice_get clauses (length clauses - hint))) ≡ Some clause → IsTrueUnder valuation clause
-    go true is = cc
-    go false is = literals_true valuation clauses (length clauses - hint) (slice_get clauses (length clauses - hint)) clause holds refl is
+    there : (place : ℕ) → slice_get clauses place ≡ Some clause → IsTrueUnder valuation clause
+    there place is =
+        subst (λ (it : List Literal). IsTrueUnder valuation it) (get_or_from_slice_get clauses place clause clause is)
+        (holds place clause (slice_get_within clauses place clause is))
 
-module _ (valuation : ℕ → Bool) (clauses : List (Vec Literal Global)) (all : AreTrue valuation clauses) where
+    go : (out : Bool) → (if out then None else slice_get clauses (length clauses - hint)) ≡ Some clause → IsTrueUnder valuation clause
+    go true is = cc
+    go false is = there (length clauses - hint) is
+
+module _ (valuation : ℕ → Bool) (clauses : List (List Literal)) (all : AreTrue valuation clauses) where
   -- hints of true clauses never lead from literals that are false to a clause that is
   never_shown : (marks : List Mark) (hints : List ℕ) → Agrees valuation marks → follow clauses marks hints ≡ Shown → ⊥
   unfolding claims
@@ -191,7 +200,7 @@ module _ (valuation : ℕ → Bool) (clauses : List (Vec Literal Global)) (all :
       by_left (Some Several) says rest is = cc
 
 -- What hints show is true under each valuation under which their clauses are.
-pub shown_true : (valuation : ℕ → Bool) (clauses : List (Vec Literal Global)) (variables : ℕ) (literals : List Literal) (hints : List ℕ)
+pub shown_true : (valuation : ℕ → Bool) (clauses : List (List Literal)) (variables : ℕ) (literals : List Literal) (hints : List ℕ)
     → AreTrue valuation clauses → shown_by clauses variables literals hints ≡ Shown → IsTrueUnder valuation literals
 shown_true valuation clauses variables literals hints all shown = elim (cases_Bool (clause_true valuation literals)) [
   | inl holds ↦ holds
@@ -199,6 +208,6 @@ shown_true valuation clauses variables literals hints all shown = elim (cases_Bo
       (agrees_all_denied valuation (replicate variables no_mark) literals (agrees_nothing valuation variables) fails) shown)
 ]
 
-pub one_more_true : (valuation : ℕ → Bool) (clauses after : List (Vec Literal Global)) (clause : Vec Literal Global) → after ≡ clauses ++ clause ∷ []
-    → AreTrue valuation clauses → IsTrueUnder valuation clause.items → AreTrue valuation after
-one_more_true valuation clauses after clause is all holds = rw is (All-push (λ clause. IsTrueUnder valuation clause.items) clauses clause all holds)
+pub one_more_true : (valuation : ℕ → Bool) (clauses after : List (List Literal)) (clause : List Literal) → after ≡ clauses ++ clause ∷ []
+    → AreTrue valuation clauses → IsTrueUnder valuation clause → AreTrue valuation after
+one_more_true valuation clauses after clause is all holds = rw is (All-push (IsTrueUnder valuation) clauses clause all holds)

@@ -1,6 +1,5 @@
 -- Following: when hints show a clause.
-use Rattle.std.specs.Prelude.{ℕ, ◌-◌, ◌==◌, nat_lt, Bool, List, [], ◌∷◌, length, slice_get, replicate, Option, Some, None, Vec, if◌then◌else◌, ◌||◌}
-use Rattle.std.specs.Global.{Global}
+use Rattle.std.specs.Prelude.{ℕ, ◌-◌, ◌==◌, nat_lt, Bool, List, [], ◌∷◌, length, slice_get, replicate, Option, Some, None, if◌then◌else◌, ◌||◌}
 use Rattle.std.specs.List.{All}
 use Rattle.td_propagation.specs.declared.literal.Literal.{Literal}
 use Rattle.td_propagation.specs.declared.left.Left.{Left}
@@ -12,14 +11,10 @@ use Rattle.td_propagation.specs.Literals.{negation, IsTrueUnder}
 use Rattle.td_propagation.specs.Marks.{no_mark, denied, all_denied}
 use Rattle.td_propagation.specs.Propagating.{left_of}
 
-abbrev pub literals_of : Option (Vec Literal Global) → Option (List Literal)
-literals_of None = None
-literals_of (Some clause) = Some clause.items
-
 -- the clause that a hint names: 1 is the last one, 2 the one before
-abbrev pub hinted : List (Vec Literal Global) → ℕ → Option (List Literal)
+abbrev pub hinted : List (List Literal) → ℕ → Option (List Literal)
 hinted clauses hint =
-    if hint == 0 || nat_lt (length clauses) hint then None else literals_of (slice_get clauses (length clauses - hint))
+    if hint == 0 || nat_lt (length clauses) hint then None else slice_get clauses (length clauses - hint)
 
 -- what a hint leaves, if it is a clause's
 abbrev pub hint_left : List Mark → Option (List Literal) → Option Left
@@ -41,16 +36,16 @@ follow_at (Some Several) rest = HintOpen
 
 -- Where hints lead, with these literals taken to be false: the first that leaves nothing shows it,
 -- and each before leaves one.
-abbrev pub follow : List (Vec Literal Global) → List Mark → List ℕ → Outcome
+abbrev pub follow : List (List Literal) → List Mark → List ℕ → Outcome
 follow clauses marks [] = NotShown
 follow clauses marks (hint ∷ hints) =
     follow_at (hint_left marks (hinted clauses hint))
     (follow clauses (marks_after marks (hint_left marks (hinted clauses hint))) hints)
 
 -- where hints lead when the literals are taken to be false
-abbrev pub shown_by : List (Vec Literal Global) → ℕ → List Literal → List ℕ → Outcome
+abbrev pub shown_by : List (List Literal) → ℕ → List Literal → List ℕ → Outcome
 shown_by clauses variables literals hints = follow clauses (all_denied (replicate variables no_mark) literals) hints
 
 -- all clauses are true
-abbrev pub AreTrue : (ℕ → Bool) → List (Vec Literal Global) → Type 0
-AreTrue valuation clauses = All (λ clause. IsTrueUnder valuation clause.items) clauses
+abbrev pub AreTrue : (ℕ → Bool) → List (List Literal) → Type 0
+AreTrue valuation clauses = All (IsTrueUnder valuation) clauses

@@ -3,3 +3,4 @@ pub mod Marks
 pub mod Propagating
 pub mod Following
 pub mod Lists
+pub mod Arenas

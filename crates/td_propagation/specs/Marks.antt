@@ -1,19 +1,28 @@
 -- Marks: which literals are taken to be false.
-use Rattle.std.specs.Prelude.{Bool, true, false, List, [], ◌∷◌, get_or, set, if◌then◌else◌}
+use Rattle.std.specs.Prelude.{Bool, true, false, not, List, [], ◌∷◌, get_or, set}
 use Rattle.td_propagation.specs.declared.literal.Literal.{Literal}
 use Rattle.td_propagation.specs.declared.denied.Mark.{Mark}
+use Rattle.td_propagation.specs.declared.denied.Mark.TheVariants.{Neither, Negative, Positive, Both}
 
 abbrev pub no_mark : Mark
-no_mark = record { negative = false; positive = false }
+no_mark = Neither
 
 -- whether the literal with this sign is taken to be false
 abbrev pub mark_of : Mark → Bool → Bool
-mark_of mark positive = if positive then mark.positive else mark.negative
+mark_of Neither positive = false
+mark_of Negative positive = not positive
+mark_of Positive positive = positive
+mark_of Both positive = true
 
 -- with the literal of this sign too
 abbrev pub with_mark : Mark → Bool → Mark
-with_mark mark true = record { negative = mark.negative; positive = true }
-with_mark mark false = record { negative = true; positive = mark.positive }
+with_mark Neither true = Positive
+with_mark Neither false = Negative
+with_mark Negative true = Both
+with_mark Negative false = Negative
+with_mark Positive true = Positive
+with_mark Positive false = Both
+with_mark Both positive = Both
 
 -- whether the literal is taken to be false
 abbrev pub is_denied : List Mark → Literal → Bool

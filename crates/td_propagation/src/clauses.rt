@@ -3,6 +3,7 @@
 ghost use Rattle.std.specs.Prelude.{◌≡◌, length, IfOk, MatchOption, None, Some};
 ghost use Rattle.td_propagation.specs.Following.{hinted, follow};
 
+use crate::arena::Arena;
 use crate::denied::Denied;
 use crate::left::Left;
 use crate::literal::Literal;
@@ -21,30 +22,22 @@ pub enum Outcome {
 /// Clauses by number, from 0 on in the order in which they came, and room for showing others.
 #[derive(Drop)]
 pub struct Clauses {
-    clauses: Vec<Vec<Literal>>,
+    clauses: Arena,
     denied: Denied,
 }
 
 // The clause that a hint names: 1 is the last one, 2 the one before.
-fn hinted(clauses: &[Vec<Literal>], hint: u64) -> Option<&[Literal]>
+fn hinted(clauses: &Arena, hint: u64) -> Option<&[Literal]>
     ensures { MatchOption result (hinted clauses.now hint ≡ None) (λ clause. hinted clauses.now hint ≡ Some clause.now) }
 {
     if hint == 0 || hint > clauses.len() as u64 {
         return None;
     }
-    let place = clauses.len() - hint as usize;
-    match clauses.get(place) {
-        Some(clause) => Some(clause),
-        None => None,
-    }
+    clauses.get(clauses.len() - hint as usize)
 }
 
 // Follows the hints. The error is out of memory.
-fn follow(
-    clauses: &[Vec<Literal>],
-    denied: &mut Denied,
-    hints: &[u64],
-) -> Result<Outcome, AllocError>
+fn follow(clauses: &Arena, denied: &mut Denied, hints: &[u64]) -> Result<Outcome, AllocError>
     ensures outcome { IfOk result (λ outcome. outcome ≡ follow clauses.now denied.old.marks.items hints.now) }
     ensures len { length denied.new.marks.items ≡ length denied.old.marks.items }
 {
@@ -73,7 +66,7 @@ impl Clauses {
         ensures variables { IfOk result (λ clauses. variables_of clauses ≡ variables) }
     {
         Ok(Clauses {
-            clauses: Vec::new(alloc),
+            clauses: Arena::new(alloc),
             denied: Denied::new(alloc, variables)?,
         })
     }
@@ -90,12 +83,11 @@ impl Clauses {
     }
 
     /// Adds a clause. The error is out of memory, and then all is as before.
-    pub fn add(&mut self, clause: Vec<Literal>) -> Result<(), AllocError>
-        ensures ok { OnOk result (list_of self.new ≡ list_of self.old ++ clause ∷ []) }
+    pub fn add(&mut self, clause: &[Literal]) -> Result<(), AllocError>
+        ensures ok { OnOk result (list_of self.new ≡ list_of self.old ++ clause.now ∷ []) }
         ensures err { OnErr result (list_of self.new ≡ list_of self.old) }
         ensures variables { variables_of self.new ≡ variables_of self.old }
     {
-        self.clauses.push(clause)?;
-        Ok(())
+        self.clauses.push(clause)
     }
 }

@@ -11,9 +11,11 @@ use std::alloc::{AllocError, Global};
 
 /// Which literals of a variable are taken to be false.
 #[derive(Clone, Copy, Debug, PartialEq, Eq, Drop)]
-pub struct Mark {
-    pub negative: bool,
-    pub positive: bool,
+pub enum Mark {
+    Neither,
+    Negative,
+    Positive,
+    Both,
 }
 
 /// A set of literals that are taken to be false, and a trail of their variables.
@@ -30,20 +32,18 @@ impl Mark {
     fn none() -> Mark
         ensures { result ≡ no_mark }
     {
-        Mark {
-            negative: false,
-            positive: false,
-        }
+        Mark::Neither
     }
 
     /// Whether the literal with this sign is taken to be false.
     fn of(self, positive: bool) -> bool
         ensures { result ≡ mark_of self positive }
     {
-        if positive {
-            self.positive
-        } else {
-            self.negative
+        match self {
+            Mark::Neither => false,
+            Mark::Negative => !positive,
+            Mark::Positive => positive,
+            Mark::Both => true,
         }
     }
 
@@ -51,16 +51,17 @@ impl Mark {
     fn with(self, positive: bool) -> Mark
         ensures { result ≡ with_mark self positive }
     {
-        if positive {
-            Mark {
-                negative: self.negative,
-                positive: true,
+        match self {
+            Mark::Neither => {
+                if positive {
+                    Mark::Positive
+                } else {
+                    Mark::Negative
+                }
             }
-        } else {
-            Mark {
-                negative: true,
-                positive: self.positive,
-            }
+            Mark::Negative => { if positive { Mark::Both } else { Mark::Negative } }
+            Mark::Positive => { if positive { Mark::Positive } else { Mark::Both } }
+            Mark::Both => Mark::Both,
         }
     }
 }

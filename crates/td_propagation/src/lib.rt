@@ -1,6 +1,7 @@
 //! Clauses by number, and which others follow from them by unit propagation along hints.
 #![tactic(auto)]
 
+mod arena;
 mod clauses;
 mod denied;
 mod left;

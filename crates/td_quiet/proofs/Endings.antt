@@ -12,6 +12,7 @@ use Rattle.td_command.specs.declared.command.Request.{Request}
 use Rattle.td_command.specs.CommandLine.{Asks, kinds_of}
 use Rattle.td_delivery.specs.Shown.{IsOutOfMemory, TellsText}
 use Rattle.td_cli.specs.Requests.{RequestEnds}
+use Rattle.td_cli.proofs.Sentences.{none_among}
 use Rattle.td_quiet.specs.Ends.{lost, EndsQuietly, QuietEnds}
 
 -- what ran with a report that was lost
@@ -35,3 +36,10 @@ pub refused_words : (disk : Disk) (words : List (List ℕ)) (error : Error) (sta
 refused_words disk words error status old new (inl ran_out) memory reported = inr (refl, inr (memory ran_out))
 refused_words disk words error status old new (inr among) memory (inl ran_out) = inr (refl, inr ran_out)
 refused_words disk words error status old new (inr among) memory (inr text) = inr (refl, inl (kind_of error, among, text))
+
+-- where the program takes the words, nothing came out
+pub says_nothing : (disk : Disk) (words : List (List ℕ)) → kinds_of words ≡ [] → (steps : List FileStep) (status : Status) (old new : Streams)
+    → QuietEnds disk words steps status old new → new.out ≡ old.out
+says_nothing disk words taken steps status old new (inl (asked, asks, ends)) = ends.silent
+says_nothing disk words taken steps status old new (inr (none, inl (kind, among, told))) = absurd (none_among kind (kinds_of words) taken among)
+says_nothing disk words taken steps status old new (inr (none, inr memory)) = memory.nothing

@@ -1,9 +1,9 @@
 //! The program without its report.
 
-ghost use Rattle.std.specs.Prelude.{map};
+ghost use Rattle.std.specs.Prelude.{◌≡◌, [], map};
 ghost use Rattle.td_files.specs.Files.{Takes};
 ghost use Rattle.td_report.specs.Ends.{streams};
-ghost use Rattle.td_command.specs.CommandLine.{IsCarriedOut};
+ghost use Rattle.td_command.specs.CommandLine.{kinds_of, IsCarriedOut};
 ghost use Rattle.td_cli.specs.Requests.{RequestEnds};
 ghost use Rattle.td_quiet.specs.Ends.{EndsQuietly, QuietEnds};
 
@@ -43,8 +43,10 @@ pub fn run_quiet<R: Threads + Wait + Clock + Sync, S: AsStr, F: Files, O: Sink, 
     out: &mut O,
     err: &mut E,
 ) -> Status
-    ensures { Takes (F.did files.old files.new) (λ steps. QuietEnds (F.disk files.old) (map S.text words.now) steps result
+    ensures ends { Takes (F.did files.old files.new) (λ steps. QuietEnds (F.disk files.old) (map S.text words.now) steps result
         (streams (O.output out.old) (E.output err.old)) (streams (O.output out.new) (E.output err.new))) }
+    // Where the program takes the words, nothing comes out: no figure, and no verdict.
+    ensures says_nothing { kinds_of (map S.text words.now) ≡ [] → O.output out.new ≡ O.output out.old }
 {
     match parse(alloc, words) {
         Ok(request) => carry_out_quietly(rt, alloc, files, &request, out, err),

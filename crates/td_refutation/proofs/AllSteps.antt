@@ -1,5 +1,5 @@
 -- AllSteps: steps that are good, one after another, keep what is true of the runs.
-use Rattle.std.proofs.Common.{◌≡◌, ℕ, ◌*◌, List, [], ◌∷◌, ◌++◌, length, refl, ap, subst, arith, Vec, Global}
+use Rattle.std.proofs.Common.{◌≡◌, ℕ, ◌*◌, List, [], ◌∷◌, ◌++◌, length, refl, ap, subst, arith}
 use Rattle.td_circuit.specs.Settings.{Setting, AreMoments}
 use Rattle.td_circuit.specs.Numbering.{Numbered, setting, IsNumbering}
 use Rattle.td_domain.specs.declared.cubes.Trit.{Trit}
@@ -15,7 +15,7 @@ use Rattle.td_refutation.proofs.Latest.{latest_bounds}
 
 module _ (circuit : Numbered) (numbering : IsNumbering circuit) (fit : AreMoments circuit.netlist circuit.moments) (cube : List Trit)
     (count : length cube ≡ 2 * length circuit.netlist.inputs) (admit : Admitted) (helds : length admit.held ≡ length circuit.netlist.inputs) (variables : ℕ) where
-  all_refute : (steps : List Step) (sets : List NetSets) (clauses : List (Vec Literal Global)) (sets' : List NetSets) (clauses' : List (Vec Literal Global))
+  all_refute : (steps : List Step) (sets : List NetSets) (clauses : List (List Literal)) (sets' : List NetSets) (clauses' : List (List Literal))
       → AreDone circuit cube variables steps sets clauses sets' clauses' → Refutes circuit admit cube sets clauses → Refutes circuit admit cube sets' clauses'
   all_refute [] sets clauses sets' clauses' done old = rw (done.0, done.1) old
   all_refute (step ∷ steps) sets clauses sets' clauses' done old =
@@ -23,14 +23,14 @@ module _ (circuit : Numbered) (numbering : IsNumbering circuit) (fit : AreMoment
       (done_refutes circuit numbering fit cube count admit helds variables step.numbers sets done.0 clauses done.1 old step.kind done.2)
 
 -- one step more
-pub done_more : (circuit : Numbered) (cube : List Trit) (variables : ℕ) (steps : List Step) (step : Step) (sets : List NetSets) (clauses : List (Vec Literal Global))
-    (between : List NetSets) (clauses_between : List (Vec Literal Global)) (sets' : List NetSets) (clauses' : List (Vec Literal Global))
+pub done_more : (circuit : Numbered) (cube : List Trit) (variables : ℕ) (steps : List Step) (step : Step) (sets : List NetSets) (clauses : List (List Literal))
+    (between : List NetSets) (clauses_between : List (List Literal)) (sets' : List NetSets) (clauses' : List (List Literal))
     → AreDone circuit cube variables steps sets clauses between clauses_between → IsDone circuit cube variables step.kind step.numbers between sets' clauses_between clauses'
     → AreDone circuit cube variables (steps ++ step ∷ []) sets clauses sets' clauses'
 done_more circuit cube variables [] step sets clauses between clauses_between sets' clauses' done next =
     let first : IsDone circuit cube variables step.kind step.numbers sets sets' clauses clauses' =
     subst (λ (s : List NetSets). IsDone circuit cube variables step.kind step.numbers s sets' clauses clauses') done.0
-    (subst (λ (cs : List (Vec Literal Global)). IsDone circuit cube variables step.kind step.numbers between sets' cs clauses') done.1 next) in
+    (subst (λ (cs : List (List Literal)). IsDone circuit cube variables step.kind step.numbers between sets' cs clauses') done.1 next) in
     (sets', clauses', first, (refl, refl))
 done_more circuit cube variables (first ∷ steps) step sets clauses between clauses_between sets' clauses' done next =
     (done.0, done.1, done.2, done_more circuit cube variables steps step done.0 done.1 between clauses_between sets' clauses' done.3 next)

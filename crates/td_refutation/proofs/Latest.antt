@@ -1,5 +1,5 @@
 -- Latest: no output changes after the greatest moment that is left.
-use Rattle.std.proofs.Common.{◌≡◌, ℕ, zero, suc, ◌*◌, ◌<◌, ◌≤◌, max, List, [], ◌∷◌, length, map, refl, arith, Option, Some, None, ap, ◌∙◌, sym, inl, inr, Vec, Global}
+use Rattle.std.proofs.Common.{◌≡◌, ℕ, zero, suc, ◌*◌, ◌<◌, ◌≤◌, max, List, [], ◌∷◌, length, map, refl, arith, Option, Some, None, ap, ◌∙◌, sym, inl, inr}
 use Rattle.std.specs.Prelude.{slice_get, unwrap_or}
 use Rattle.std.specs.List.{AllByRecursion, Contains}
 use Rattle.std.proofs.lemmas.Option.{none-some}
@@ -74,7 +74,7 @@ latest-at sets (n ∷ outputs) zero net at = (let same : n ≡ net = cc in rw (�
 latest-at sets (n ∷ outputs) (suc i) net at = (let rest = latest-at sets outputs i net at in omega arith)
 
 module _ (circuit : Numbered) (numbering : IsNumbering circuit) (fit : AreMoments circuit.netlist circuit.moments) (cube : List Trit)
-    (count : length cube ≡ 2 * length circuit.netlist.inputs) (admit : Admitted) (sets : List NetSets) (clauses : List (Vec Literal Global))
+    (count : length cube ≡ 2 * length circuit.netlist.inputs) (admit : Admitted) (sets : List NetSets) (clauses : List (List Literal))
     (refutes : Refutes circuit admit cube sets clauses) where
   -- No admitted pair of the cube has a delay above the greatest moment that is left of an output.
   pub latest_bounds : IsUpperBoundOf (setting circuit) admit cube (latest_of sets circuit.outputs)

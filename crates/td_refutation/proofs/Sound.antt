@@ -1,5 +1,5 @@
 -- Sound: what is true of the runs of a cube stays true with each step.
-use Rattle.std.proofs.Common.{◌≡◌, ℕ, ◌*◌, ◌<◌, ◌≤◌, Bool, List, [], ◌∷◌, ◌++◌, length, map, refl, arith, sym, ◌∙◌, subst, Vec, Global}
+use Rattle.std.proofs.Common.{◌≡◌, ℕ, ◌*◌, ◌<◌, ◌≤◌, Bool, List, [], ◌∷◌, ◌++◌, length, map, refl, arith, sym, ◌∙◌, subst}
 use Rattle.std.specs.Prelude.{Result, Ok, Err, OnOk, OnErr}
 use Rattle.td_refutation.specs.declared.flaw.StepError as error
 use Rattle.std.specs.List.{AllByRecursion}
@@ -74,9 +74,9 @@ module _ (circuit : Numbered) (numbering : IsNumbering circuit) (fit : AreMoment
           true = λ k d low. absurd (omega arith);
         }
 
-    module _ (sets : List NetSets) (clauses : List (Vec Literal Global)) (old : IsTrueOf circuit waves sets clauses) where
+    module _ (sets : List NetSets) (clauses : List (List Literal)) (old : IsTrueOf circuit waves sets clauses) where
       -- one clause more
-      more : (clause : Vec Literal Global) (after : List (Vec Literal Global)) → after ≡ clauses ++ clause ∷ [] → IsTrueUnder old.valuation clause.items
+      more : (clause : List Literal) (after : List (List Literal)) → after ≡ clauses ++ clause ∷ [] → IsTrueUnder old.valuation clause
           → IsTrueOf circuit waves sets after
       more clause after is holds = record {
         whole = old.whole;
@@ -140,7 +140,7 @@ module _ (circuit : Numbered) (numbering : IsNumbering circuit) (fit : AreMoment
   pub first_refutes : Refutes circuit admit cube (first_sets circuit admit.held cube) []
   first_refutes pair waves admitted is_in runs = begins pair waves admitted is_in runs
 
-  module _ (variables : ℕ) (numbers : List ℕ) (sets sets' : List NetSets) (clauses clauses' : List (Vec Literal Global))
+  module _ (variables : ℕ) (numbers : List ℕ) (sets sets' : List NetSets) (clauses clauses' : List (List Literal))
       (old : Refutes circuit admit cube sets clauses) where
     by_added : (read : Result (List Literal) Flaw) → IsAdded read sets sets' clauses clauses'
         → ((pair : Pair) (waves : Net → Wave) (admitted : IsAdmitted admit pair) (is_in : IsIn pair cube)
@@ -149,7 +149,7 @@ module _ (circuit : Numbered) (numbering : IsNumbering circuit) (fit : AreMoment
     by_added read added holds pair waves admitted is_in runs =
         subst (λ (s : List NetSets). IsTrueOf circuit waves s clauses') (sym added.sets_are)
         (more pair waves admitted is_in runs sets clauses (old pair waves admitted is_in runs) added.clause clauses' added.clauses_are
-        (holds pair waves admitted is_in runs added.clause.items added.read_is))
+        (holds pair waves admitted is_in runs added.clause added.read_is))
 
     by_name : (kind : StepKind) → IsAdded (named_clause circuit sets cube kind numbers) sets sets' clauses clauses' → Refutes circuit admit cube sets' clauses'
     by_name kind added = by_added (named_clause circuit sets cube kind numbers) added (λ pair waves admitted is_in runs literals is.
@@ -167,11 +167,11 @@ module _ (circuit : Numbered) (numbering : IsNumbering circuit) (fit : AreMoment
         lemma_holds pair waves admitted is_in runs sets clauses (old pair waves admitted is_in runs) variables numbers literals is)
     done_refutes Cut done = λ pair waves admitted is_in runs.
         subst (λ (s : List NetSets). IsTrueOf circuit waves s clauses') (sym done.sets_are)
-        (subst (λ (cs : List (Vec Literal Global)). IsTrueOf circuit waves (cut sets done.it.0 done.it.1 done.it.2) cs) (sym done.clauses_are)
+        (subst (λ (cs : List (List Literal)). IsTrueOf circuit waves (cut sets done.it.0 done.it.1 done.it.2) cs) (sym done.clauses_are)
         (cut_is_true pair waves admitted is_in runs sets clauses (old pair waves admitted is_in runs) variables numbers done.it done.read_is))
     done_refutes Again done = λ pair waves admitted is_in runs.
         subst (λ (s : List NetSets). IsTrueOf circuit waves s clauses') (sym done.sets_are)
-        (subst (λ (cs : List (Vec Literal Global)). IsTrueOf circuit waves (again sets done.it.0 (the_gate circuit done.it.1).kind (the_gate circuit done.it.1).delay (the_gate circuit done.it.1).inputs) cs)
+        (subst (λ (cs : List (List Literal)). IsTrueOf circuit waves (again sets done.it.0 (the_gate circuit done.it.1).kind (the_gate circuit done.it.1).delay (the_gate circuit done.it.1).inputs) cs)
         (sym done.clauses_are)
         (again_is_true pair waves admitted is_in runs sets clauses (old pair waves admitted is_in runs) numbers done.it done.read_is))
 

@@ -1,6 +1,5 @@
 -- Done: what a step that is good does, and which steps are.
-use Rattle.std.specs.Prelude.{◌≡◌, ℕ, max, Bool, List, [], ◌∷◌, ◌++◌, Vec, Result, Ok, Err}
-use Rattle.std.specs.Global.{Global}
+use Rattle.std.specs.Prelude.{◌≡◌, ℕ, max, Bool, List, [], ◌∷◌, ◌++◌, Result, Ok, Err}
 use Rattle.td_circuit.specs.Numbering.{Numbered}
 use Rattle.td_domain.specs.declared.cubes.Trit.{Trit}
 use Rattle.td_moments.specs.Moments.{greatest}
@@ -16,28 +15,28 @@ use Rattle.td_refutation.specs.Naming.{named_clause}
 use Rattle.td_refutation.specs.Steps.{lemma_of, cut_of, again_of}
 
 -- the clause of the step was added
-pub record IsAdded (read : Result (List Literal) Flaw) (sets sets' : List NetSets) (clauses clauses' : List (Vec Literal Global)) : Type 0 where
-  pub clause : Vec Literal Global
-  pub read_is : read ≡ Ok clause.items
+pub record IsAdded (read : Result (List Literal) Flaw) (sets sets' : List NetSets) (clauses clauses' : List (List Literal)) : Type 0 where
+  pub clause : List Literal
+  pub read_is : read ≡ Ok clause
   pub sets_are : sets' ≡ sets
   pub clauses_are : clauses' ≡ clauses ++ clause ∷ []
 
 -- the change of the cut was taken out of its net's set
-pub record IsCut (read : Result (ℕ × ℕ × Bool) Flaw) (sets sets' : List NetSets) (clauses clauses' : List (Vec Literal Global)) : Type 0 where
+pub record IsCut (read : Result (ℕ × ℕ × Bool) Flaw) (sets sets' : List NetSets) (clauses clauses' : List (List Literal)) : Type 0 where
   pub it : ℕ × ℕ × Bool
   pub read_is : read ≡ Ok it
   pub sets_are : sets' ≡ cut sets it.0 it.1 it.2
   pub clauses_are : clauses' ≡ clauses
 
 -- the sets of the gate were taken again
-pub record IsAgain (circuit : Numbered) (read : Result (ℕ × ℕ) Flaw) (sets sets' : List NetSets) (clauses clauses' : List (Vec Literal Global)) : Type 0 where
+pub record IsAgain (circuit : Numbered) (read : Result (ℕ × ℕ) Flaw) (sets sets' : List NetSets) (clauses clauses' : List (List Literal)) : Type 0 where
   pub it : ℕ × ℕ
   pub read_is : read ≡ Ok it
   pub sets_are : sets' ≡ again sets it.0 (the_gate circuit it.1).kind (the_gate circuit it.1).delay (the_gate circuit it.1).inputs
   pub clauses_are : clauses' ≡ clauses
 
 -- what a step that is good does
-abbrev pub IsDone : Numbered → List Trit → ℕ → StepKind → List ℕ → List NetSets → List NetSets → List (Vec Literal Global) → List (Vec Literal Global) → Type 0
+abbrev pub IsDone : Numbered → List Trit → ℕ → StepKind → List ℕ → List NetSets → List NetSets → List (List Literal) → List (List Literal) → Type 0
 IsDone circuit cube variables Table numbers sets sets' clauses clauses' = IsAdded (named_clause circuit sets cube Table numbers) sets sets' clauses clauses'
 IsDone circuit cube variables Window numbers sets sets' clauses clauses' = IsAdded (named_clause circuit sets cube Window numbers) sets sets' clauses clauses'
 IsDone circuit cube variables Hold numbers sets sets' clauses clauses' = IsAdded (named_clause circuit sets cube Hold numbers) sets sets' clauses clauses'
@@ -54,7 +53,7 @@ judged (Ok x) = Ok tt
 judged (Err flaw) = Err flaw
 
 -- Whether a step is good, else why it isn't.
-abbrev pub verdict_of : Numbered → List Trit → List NetSets → List (Vec Literal Global) → ℕ → StepKind → List ℕ → Result (Unit {0}) Flaw
+abbrev pub verdict_of : Numbered → List Trit → List NetSets → List (List Literal) → ℕ → StepKind → List ℕ → Result (Unit {0}) Flaw
 verdict_of circuit cube sets clauses variables Table numbers = judged (named_clause circuit sets cube Table numbers)
 verdict_of circuit cube sets clauses variables Window numbers = judged (named_clause circuit sets cube Window numbers)
 verdict_of circuit cube sets clauses variables Hold numbers = judged (named_clause circuit sets cube Hold numbers)

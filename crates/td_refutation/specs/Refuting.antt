@@ -1,6 +1,5 @@
 -- Refuting: what the state of a refutation says of the admitted pairs of a cube.
-use Rattle.std.specs.Prelude.{◌≡◌, ℕ, ◌≤◌, Bool, List, length, map, Vec}
-use Rattle.std.specs.Global.{Global}
+use Rattle.std.specs.Prelude.{◌≡◌, ℕ, ◌≤◌, Bool, List, length, map}
 use Rattle.td_gates.specs.Table.{level_from}
 use Rattle.td_gates.specs.Wave.{Wave}
 use Rattle.td_nets.specs.Netlist.{Net}
@@ -18,14 +17,14 @@ use Rattle.td_clauses.specs.Holding.{NetsHold}
 use Rattle.td_refutation.specs.Timing.{level_bits, target_bits}
 
 -- the sets cover the run, and the clauses are true of it
-pub record IsTrueOf (circuit : Numbered) (waves : Net → Wave) (sets : List NetSets) (clauses : List (Vec Literal Global)) : Type 0 where
+pub record IsTrueOf (circuit : Numbered) (waves : Net → Wave) (sets : List NetSets) (clauses : List (List Literal)) : Type 0 where
   pub whole : length sets ≡ length (nets circuit)
   pub valuation : ℕ → Bool
   pub covers : NetsHold valuation (level_bits circuit waves) (target_bits circuit waves) sets
   pub true : AreTrue valuation clauses
 
 -- The sets cover each run of each admitted pair of the cube, and the clauses are true of it.
-abbrev pub Refutes : Numbered → Admitted → List Trit → List NetSets → List (Vec Literal Global) → Type 0
+abbrev pub Refutes : Numbered → Admitted → List Trit → List NetSets → List (List Literal) → Type 0
 Refutes circuit admit cube sets clauses = (pair : Pair) (waves : Net → Wave) → IsAdmitted admit pair → IsIn pair cube
     → Runs (setting circuit) (map level_from pair.first) (map level_from pair.second) waves → IsTrueOf circuit waves sets clauses
 

@@ -1,6 +1,5 @@
 -- States: what a refutation has.
-use Rattle.std.specs.Prelude.{ℕ, List, Vec}
-use Rattle.std.specs.Global.{Global}
+use Rattle.std.specs.Prelude.{ℕ, List}
 use Rattle.td_propagation.specs.declared.literal.Literal.{Literal}
 use Rattle.td_propagation.specs.Lists as lists
 use Rattle.td_clauses.specs.declared.nets.NetSets.{NetSets}
@@ -11,7 +10,7 @@ abbrev pub sets_of : Refutation → List NetSets
 sets_of refutation = refutation.sets.items
 
 -- the clauses, in order
-abbrev pub clauses_of : Refutation → List (Vec Literal Global)
+abbrev pub clauses_of : Refutation → List (List Literal)
 clauses_of refutation = lists.list_of refutation.clauses
 
 -- how many variables there are

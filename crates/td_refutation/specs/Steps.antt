@@ -1,6 +1,5 @@
 -- Steps: which steps are good, and what they do.
-use Rattle.std.specs.Prelude.{ℕ, ◌+◌, Bool, not, List, [], ◌∷◌, Vec, Result, Ok, Err, if◌then◌else◌}
-use Rattle.std.specs.Global.{Global}
+use Rattle.std.specs.Prelude.{ℕ, ◌+◌, Bool, not, List, [], ◌∷◌, Result, Ok, Err, if◌then◌else◌}
 use Rattle.td_circuit.specs.Numbering.{Numbered}
 use Rattle.td_moments.specs.Directions.{may}
 use Rattle.td_moments.specs.Moments.{found}
@@ -15,7 +14,7 @@ use Rattle.td_refutation.specs.Lookups.{gate_place, net_number}
 use Rattle.td_refutation.specs.Lemmas.{lemma_parts, literals_of, cut_parts, shown_of}
 
 -- the literals and the hints of a lemma, where these show them
-unfoldable pub lemma_of : Numbered → List NetSets → List (Vec Literal Global) → ℕ → List ℕ → Result (List Literal) Flaw
+unfoldable pub lemma_of : Numbered → List NetSets → List (List Literal) → ℕ → List ℕ → Result (List Literal) Flaw
 lemma_of circuit sets clauses variables numbers = do
   parts ← lemma_parts numbers
   literals ← literals_of circuit sets parts.0
@@ -31,7 +30,7 @@ abbrev pub cut_literals : List NetSets → ℕ → ℕ → Bool → List Literal
 cut_literals sets net moment level = level_literal sets net moment level ∷ level_literal sets net (moment + 1) (not level) ∷ []
 
 -- the net, the moment and the level of a cut, where hints show it
-unfoldable pub cut_of : Numbered → List NetSets → List (Vec Literal Global) → ℕ → List ℕ → Result (ℕ × ℕ × Bool) Flaw
+unfoldable pub cut_of : Numbered → List NetSets → List (List Literal) → ℕ → List ℕ → Result (ℕ × ℕ × Bool) Flaw
 cut_of circuit sets clauses variables numbers = do
   parts ← cut_parts numbers
   net ← net_number circuit parts.0

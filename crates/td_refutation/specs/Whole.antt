@@ -1,6 +1,5 @@
 -- Whole refutations: what steps come to, one after another.
-use Rattle.std.specs.Prelude.{◌≡◌, ℕ, ◌*◌, ◌<◌, ◌≤◌, List, [], ◌∷◌, length, take, slice_get, Some, Vec, Err}
-use Rattle.std.specs.Global.{Global}
+use Rattle.std.specs.Prelude.{◌≡◌, ℕ, ◌*◌, ◌<◌, ◌≤◌, List, [], ◌∷◌, length, take, slice_get, Some, Err}
 use Rattle.td_circuit.specs.Settings.{Setting, AreMoments}
 use Rattle.td_circuit.specs.Numbering.{Numbered, setting, IsNumbering}
 use Rattle.td_domain.specs.declared.cubes.Trit.{Trit}
@@ -27,10 +26,10 @@ step_of step = record { kind = step.kind; numbers = step.numbers.items }
 
 -- Each of these steps is good where those before it were done, and they lead from the first sets
 -- and clauses to the last ones.
-abbrev pub AreDone : Numbered → List Trit → ℕ → List Step → List NetSets → List (Vec Literal Global) → List NetSets → List (Vec Literal Global) → Type 0
+abbrev pub AreDone : Numbered → List Trit → ℕ → List Step → List NetSets → List (List Literal) → List NetSets → List (List Literal) → Type 0
 AreDone circuit cube variables [] sets clauses sets' clauses' = (sets' ≡ sets) × (clauses' ≡ clauses)
 AreDone circuit cube variables (step ∷ steps) sets clauses sets' clauses' =
-    (between : List NetSets) × (clauses_between : List (Vec Literal Global))
+    (between : List NetSets) × (clauses_between : List (List Literal))
     × IsDone circuit cube variables step.kind step.numbers sets between clauses clauses_between
     × AreDone circuit cube variables steps between clauses_between sets' clauses'
 
@@ -42,7 +41,7 @@ variables_in circuit admit cube = total (first_sets circuit admit.held cube)
 pub record Reaches (circuit : Numbered) (admit : Admitted) (cube : List Trit) (steps : List Step) : Type 0 where
   pub few : variables_in circuit admit cube ≤ LIMIT
   pub sets : List NetSets
-  pub clauses : List (Vec Literal Global)
+  pub clauses : List (List Literal)
   pub done : AreDone circuit cube (variables_in circuit admit cube) steps (first_sets circuit admit.held cube) [] sets clauses
 
 -- the circuit is that of the setting, its nets in some order

@@ -30,7 +30,7 @@ pub fn lemma_parts(numbers: &[u64]) -> Result<(&[u64], &[u64]), StepError>
 fn literal_number(wire: &Wire, number: u64, positive: bool) -> Result<Literal, StepError>
     ensures { Gives (λ literal. literal) result (literal_number wire.now number positive) }
 {
-    let length = wire.changes().list().len();
+    let length = wire.changes().len();
     if number > length as u64 {
         Err(StepError::Flaw(Flaw::NoSuchLiteral))
     } else {

@@ -71,7 +71,7 @@ impl Refutation {
         ensures variables { variables_of self.new ≡ variables_of self.old }
     {
         let clause = named_clause(alloc, circuit, &self.sets, cube, kind, numbers)?;
-        self.clauses.add(clause)?;
+        self.clauses.add(&clause)?;
         Ok(())
     }
 
@@ -84,12 +84,12 @@ impl Refutation {
         ensures variables { variables_of self.new ≡ variables_of self.old }
     {
         let clause = lemma_of(alloc, circuit, &self.sets, &mut self.clauses, numbers)?;
-        self.clauses.add(clause)?;
+        self.clauses.add(&clause)?;
         Ok(())
     }
 
     // Takes a change that hints show impossible out of a net's set.
-    fn cut(&mut self, circuit: &Circuit, numbers: &[u64]) -> Result<(), StepError>
+    fn cut(&mut self, alloc: Global, circuit: &Circuit, numbers: &[u64]) -> Result<(), StepError>
         ensures gives { Gives (λ unit. unit) result (judged (cut_of circuit.now (sets_of self.old) (clauses_of self.old) (variables_of self.old) numbers.now)) }
         ensures done { OnOk result (IsCut (cut_of circuit.now (sets_of self.old) (clauses_of self.old) (variables_of self.old) numbers.now) (sets_of self.old) (sets_of self.new) (clauses_of self.old) (clauses_of self.new)) }
         ensures sets { OnErr result (sets_of self.new ≡ sets_of self.old) }
@@ -97,7 +97,7 @@ impl Refutation {
         ensures variables { variables_of self.new ≡ variables_of self.old }
     {
         let (net, moment, level) = cut_of(circuit, &self.sets, &mut self.clauses, numbers)?;
-        cut_at(&mut self.sets, net, moment, level);
+        cut_at(alloc, &mut self.sets, net, moment, level)?;
         Ok(())
     }
 
@@ -137,7 +137,7 @@ impl Refutation {
             StepKind::Fixed => self.name(alloc, circuit, cube, StepKind::Fixed, numbers),
             StepKind::Constant => self.name(alloc, circuit, cube, StepKind::Constant, numbers),
             StepKind::Lemma => self.lemma(alloc, circuit, numbers),
-            StepKind::Cut => self.cut(circuit, numbers),
+            StepKind::Cut => self.cut(alloc, circuit, numbers),
             StepKind::Again => self.again(alloc, circuit, numbers),
         }
     }
@@ -206,11 +206,19 @@ impl Refutation {
     }
 }
 
-// Takes a change out of a net's set.
-fn cut_at(sets: &mut Vec<NetSets>, net: usize, moment: u64, level: bool)
-    ensures { sets.new.items ≡ cut sets.old.items net moment level }
+// Takes a change out of a net's set. The error is out of memory, and then all is as before.
+fn cut_at(
+    alloc: Global,
+    sets: &mut Vec<NetSets>,
+    net: usize,
+    moment: u64,
+    level: bool,
+) -> Result<(), AllocError>
+    ensures ok { OnOk result (sets.new.items ≡ cut sets.old.items net moment level) }
+    ensures err { OnErr result (sets.new.items ≡ sets.old.items) }
 {
-    cut(sets, net, moment, level);
+    cut(alloc, sets, net, moment, level)?;
+    Ok(())
 }
 
 // Takes the sets of the gate at a place again, which drives a net. The error is out of memory, and

@@ -1,5 +1,5 @@
 -- The steps of a refutation of the pins, one after another.
-use Rattle.std.proofs.Common.{◌≡◌, ℕ, ◌*◌, ◌≤◌, List, [], ◌∷◌, length, refl, ap, subst, ◌∙◌, Vec, Global, arith}
+use Rattle.std.proofs.Common.{◌≡◌, ℕ, ◌*◌, ◌≤◌, List, [], ◌∷◌, length, refl, ap, subst, ◌∙◌, arith}
 use Rattle.std.specs.Prelude.{Option, Some, MatchOption, ◌<◌}
 use Rattle.td_circuit.specs.Settings.{AreMoments}
 use Rattle.td_circuit.specs.Numbering.{Numbered, setting, IsNumbering}
@@ -21,7 +21,7 @@ use Rattle.td_refute.specs.Steps.{IsStepped, IsBegun, AreStepped}
 pub record AreUnderWay (circuit : Numbered) (admit : Admitted) (all left : List Step) (refutation : Refutation) : Type 0 where
   pub few : variables_in circuit admit admit.pins ≤ LIMIT
   pub variables : variables_of refutation ≡ variables_in circuit admit admit.pins
-  pub goes_on : (sets : List NetSets) (clauses : List (Vec Literal Global))
+  pub goes_on : (sets : List NetSets) (clauses : List (List Literal))
       → AreDone circuit admit.pins (variables_in circuit admit admit.pins) left (sets_of refutation) (clauses_of refutation) sets clauses
       → AreDone circuit admit.pins (variables_in circuit admit admit.pins) all (first_sets circuit admit.held admit.pins) [] sets clauses
 
@@ -31,7 +31,7 @@ under_way circuit admit all refutation begun = record {
   variables = begun.variables;
   goes_on = λ sets clauses done.
       subst (λ (s : List NetSets). AreDone circuit admit.pins (variables_in circuit admit admit.pins) all s [] sets clauses) begun.sets
-      (subst (λ (cs : List (Vec Literal Global)). AreDone circuit admit.pins (variables_in circuit admit admit.pins) all (sets_of refutation) cs sets clauses) begun.clauses done);
+      (subst (λ (cs : List (List Literal)). AreDone circuit admit.pins (variables_in circuit admit admit.pins) all (sets_of refutation) cs sets clauses) begun.clauses done);
 }
 
 pub one_more : (circuit : Numbered) (admit : Admitted) (all : List Step) (step : Step) (left : List Step) (old new : Refutation)

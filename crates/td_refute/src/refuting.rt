@@ -202,7 +202,7 @@ fn moments_above(
     let mut moments = Vec::new(alloc);
     for net in circuit.outputs() {
         if let Some(wire) = search.formula.sets().wire(*net, false) {
-            for possible in wire.changes().list() {
+            for possible in &wire.changes().list(alloc)? {
                 if possible.moment > bound {
                     moments.push(possible.moment)?;
                 }

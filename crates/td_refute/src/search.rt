@@ -114,7 +114,7 @@ impl<'a> Search<'a> {
                 lemma,
             },
         )?;
-        self.formula.cut(net, number, level);
+        self.formula.cut(net, number, level)?;
         write_at(&mut self.narrowed, net as usize, true);
         Ok(())
     }

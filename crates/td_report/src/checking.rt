@@ -11,7 +11,7 @@ use crate::status::Status;
 use crate::text::Text;
 use std::alloc::{AllocError, Global};
 use td_certificate::{Certificate, push_question};
-use td_checker::{CheckFault, Verdict, check};
+use td_checker::{CheckFault, Verdict, check_owned};
 use td_reading::Reading;
 
 /// The report of a verdict, and how the program ends with it.
@@ -22,20 +22,20 @@ pub struct Checked {
 }
 
 /// The report of the verdict on a certificate's text, for the netlist that is read of a netlist's
-/// text.
+/// text. The memory of the certificate's text is free again before the certificate is judged.
 pub fn verdict_on<'a>(
     alloc: Global,
     text: &'a [u8],
     reading: &Reading<'_>,
-    certificate: &[u8],
+    certificate: Vec<u8>,
 ) -> Result<Checked, Refusal<'a>>
     // The report tells the verdict on the two texts.
     ensures report { IfOk result (λ checked.
-        IsCheckReport text.now reading.now certificate.now checked.ending checked.report) }
+        IsCheckReport text.now reading.now certificate.items checked.ending checked.report) }
     ensures refusal { IfErr result (λ refusal.
-        HasNoVerdict text.now reading.now certificate.now refusal) }
+        HasNoVerdict text.now reading.now certificate.items refusal) }
 {
-    let found = match check(alloc, text, reading, certificate) {
+    let found = match check_owned(alloc, text, reading, certificate) {
         Ok(found) => found,
         Err(fault) => return Err(refused(fault)),
     };

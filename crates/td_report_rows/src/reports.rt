@@ -116,7 +116,10 @@ fn runs_of_an_output(rt: HostRuntime) -> Result<(), Fail> {
 
 /// The report of the verdict on the certificate, where this output is asked about.
 fn verdict_for<'a>(alloc: Global, output: Option<&'a str>) -> Result<Text, Refusal<'static>> {
-    let checked = verdict_on(alloc, NETLIST, &asking(output), CERTIFICATE)?;
+    let Ok(certificate) = Vec::from_slice(alloc, CERTIFICATE) else {
+        return Err(Refusal::OutOfMemory);
+    };
+    let checked = verdict_on(alloc, NETLIST, &asking(output), certificate)?;
     Ok(checked.report)
 }
 

@@ -92,8 +92,8 @@ struct Again {
 impl Search {
     /// Splits and closes again the nodes of a tree, in its order, where there is evidence of them
     /// for this search. A split without is done again where its cube is found anew to have a bound
-    /// above the best, unless the stop is set. Other nodes stay open, and what is below them is passed. The error is out of
-    /// memory, and then the nodes that are left stay open.
+    /// above the best, unless the stop is set. Other nodes stay open, and what is below them is
+    /// passed. The error is out of memory, and then the nodes that are left stay open.
     pub fn replay<R: Rule>(
         &mut self,
         task: &Task<'_, R>,

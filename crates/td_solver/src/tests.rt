@@ -246,7 +246,7 @@ fn count_lemmas(
             if !is_shown && !is_tautology(step) {
                 tally.unshown = tally.unshown.saturating_add(1);
             }
-            clauses.add(Vec::from_slice(alloc, &step.literals)?)?;
+            clauses.add(&step.literals)?;
         }
     }
     Ok(())

@@ -89,8 +89,8 @@ impl OpenAnswer {
 }
 
 /// What a refutation makes of an answer. An exact answer stays as it is. The solver meets at most
-/// as many conflicts as the budget says, and the search ends once the stop is set. Where memory runs
-/// out, what was known stands.
+/// as many conflicts as the budget says, and the search ends once the stop is set. Where memory
+/// runs out, what was known stands.
 pub fn refuted_further(
     alloc: Global,
     problem: &Problem<'_>,

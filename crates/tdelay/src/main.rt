@@ -2,6 +2,7 @@
 #![tactic(auto)]
 
 use std::alloc::Global;
+use std::env::Env;
 use std::io::IsTerminal;
 use std::process::ExitCode;
 use std::sync::Wait;
@@ -16,6 +17,7 @@ use td_each::{asks_each, run_each};
 use td_json::{asks_json, run_json};
 use td_naming::{positional, refuse};
 use td_quiet::{Discard, run_quiet};
+use td_terminal::InPlace;
 use td_text::Sink;
 
 /// Carries out what the words ask for, in the form in which they ask for the report.
@@ -44,10 +46,19 @@ fn answer<R: Threads + Wait + Clock + Sync, F: Files, O: Sink, E: Sink>(
     run(rt, alloc, words, files, out, err)
 }
 
+/// Whether the terminal knows codes that move its cursor.
+fn knows_codes<R: Env + Alloc>(rt: &R) -> bool {
+    match env::var(rt, "TERM") {
+        Ok(term) => term.as_str() != "dumb",
+        Err(_) => false,
+    }
+}
+
 fn main(rt: HostRuntime) -> ExitCode {
     let alloc = rt.alloc();
     let is_terminal = rt.stderr().is_terminal();
-    let mut err = WriterSink::new(rt.stderr());
+    let is_in_place = is_terminal && knows_codes(&rt);
+    let mut err = InPlace::new(WriterSink::new(rt.stderr()), is_in_place);
     let words: io::Result<Vec<String>> = match env::args(&rt) {
         Ok(words) => words.collect(alloc).map_err(io::Error::from),
         Err(error) => Err(error),

@@ -8,20 +8,20 @@ use Rattle.td_clauses.proofs.first.add_net.Goals.{then-variables-gt-LIMIT-via-th
 use Rattle.td_clauses.proofs.first.add_net.Goals as goal
 
 -- the variables with a net more
-counted : (nets : List NetSets) (level target levels targets : List Possible) (variables : ℕ) → variables ≡ total nets → levels ≡ level → targets ≡ target
-    → total (with_net nets level target) ≡ variables + (2 + (length levels + length targets))
+counted : (nets : List NetSets) (level target : List Possible) (levels targets variables : ℕ) → variables ≡ total nets → levels ≡ length level → targets ≡ length target
+    → total (with_net nets level target) ≡ variables + (2 + (levels + targets))
 counted nets level target levels targets variables is same same' =
     rw (same, same', is) (total-more nets (numbered (total nets) level target))
 
-made : (nets new : List NetSets) (level target levels : List Possible) (variables : ℕ) (one other : WireSet) → variables ≡ total nets → levels ≡ level
-    → one ≡ record { start = variables; list = level } → other ≡ record { start = variables + 1 + length levels; list = target }
+made : (nets new : List NetSets) (level target : List Possible) (levels variables : ℕ) (one other : WireSet) → variables ≡ total nets → levels ≡ length level
+    → one ≡ record { start = variables; list = level } → other ≡ record { start = variables + 1 + levels; list = target }
     → new ≡ nets ++ record { level = one; target = other } ∷ [] → new ≡ with_net nets level target
 made nets new level target levels variables one other is same first second pushed =
     pushed ∙ rw (first, second, same, is) refl
 
 pub returns-then-variables-gt-LIMIT : goal.returns-then-variables-gt-LIMIT
 returns-then-variables-gt-LIMIT c =
-    let count = counted c.args.nets.now.items c.args.level c.args.target _ _ c.args.variables c.requires c.list-levels.ensures.list c.list-targets.ensures.list in
+    let count = counted c.args.nets.now.items c.args.level c.args.target _ _ c.args.variables c.requires c.len-levels.ensures c.len-targets.ensures in
     record {
       more = elim c.then-variables-gt-LIMIT.branch [
         | then-variables-gt-LIMIT-via-then-variables-gt-LIMIT w ↦ omega (arith, count, w.if-variables-gt-LIMIT.true)
@@ -32,15 +32,15 @@ returns-then-variables-gt-LIMIT c =
 
 pub returns-then-count-gt-LIMIT : goal.returns-then-count-gt-LIMIT
 returns-then-count-gt-LIMIT c =
-    let count = counted c.args.nets.now.items c.args.level c.args.target _ _ c.args.variables c.requires c.list-levels.ensures.list c.list-targets.ensures.list in
+    let count = counted c.args.nets.now.items c.args.level c.args.target _ _ c.args.variables c.requires c.len-levels.ensures c.len-targets.ensures in
     record { more = omega (arith, count, c.if-count-gt-LIMIT.true) }
 
 pub returns : goal.returns
 returns c =
-    let count = counted c.args.nets.now.items c.args.level c.args.target _ _ c.args.variables c.requires c.list-levels.ensures.list c.list-targets.ensures.list in
+    let count = counted c.args.nets.now.items c.args.level c.args.target _ _ c.args.variables c.requires c.len-levels.ensures c.len-targets.ensures in
     record {
       more = (
-        made c.args.nets.now.items _ c.args.level c.args.target _ c.args.variables c.new.result c.new-2.result c.requires c.list-levels.ensures.list
+        made c.args.nets.now.items _ c.args.level c.args.target _ c.args.variables c.new.result c.new-2.result c.requires c.len-levels.ensures
             c.new.ensures c.new-2.ensures c.in_ok-push.ensures.items,
         sym count,
         omega (arith, c.if-count-gt-LIMIT.false),

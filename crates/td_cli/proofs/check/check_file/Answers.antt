@@ -1,4 +1,3 @@
-use Rattle.std.proofs.Common.{subst, sym}
 use Rattle.td_report.specs.Outcomes.{HasNoVerdict}
 use Rattle.td_cli.specs.Requests.{IsCheckProduct}
 use Rattle.td_cli.proofs.Programs.{on_file, not_read}
@@ -6,8 +5,7 @@ use Rattle.td_cli.proofs.check.check_file.Goals as goal
 
 pub returns-in-Ok-clause-ends : goal.returns-in-Ok-clause-ends
 returns-in-Ok-clause-ends g c =
-    on_file (g.F.Files.disk c.args.files.now) c.args.request.now.certificate.now c.deref.result.now
-    (subst (λ bytes. (g.F.Files.disk c.args.files.now).holds c.args.request.now.certificate.now bytes) (sym c.deref.ensures.value) c.in-Ok.ensures.bytes)
+    on_file (g.F.Files.disk c.args.files.now) c.args.request.now.certificate.now c.in-Ok.certificate.items c.in-Ok.ensures.bytes
     (IsCheckProduct c.args.text.now c.args.request.now.reading) (HasNoVerdict c.args.text.now c.args.request.now.reading) (λ _. ⊥) (λ _. ⊥) (λ name none. none) _ _ _ _
     c.run_on.ensures
 

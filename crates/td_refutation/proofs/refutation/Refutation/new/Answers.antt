@@ -1,4 +1,4 @@
-use Rattle.std.proofs.Common.{◌≡◌, List, [], Vec, Global, ap, ◌∙◌}
+use Rattle.std.proofs.Common.{◌≡◌, List, [], ap, ◌∙◌}
 use Rattle.td_circuit.specs.Numbering.{Numbered}
 use Rattle.td_domain.specs.declared.cubes.Trit.{Trit}
 use Rattle.td_domain.specs.Admits.{Admitted}
@@ -9,7 +9,7 @@ use Rattle.td_refutation.specs.Refuting.{Refutes}
 use Rattle.td_refutation.proofs.Sound.{first_refutes}
 use Rattle.td_refutation.proofs.refutation.Refutation.new.Goals as goal
 
-moved : (circuit : Numbered) (admit : Admitted) (cube : List Trit) (sets sets' : List NetSets) (clauses : List (Vec Literal Global)) → sets' ≡ sets → clauses ≡ []
+moved : (circuit : Numbered) (admit : Admitted) (cube : List Trit) (sets sets' : List NetSets) (clauses : List (List Literal)) → sets' ≡ sets → clauses ≡ []
     → Refutes circuit admit cube sets [] → Refutes circuit admit cube sets' clauses
 moved circuit admit cube sets sets' clauses is none holds = rw (is, none) holds
 
