@@ -81,6 +81,14 @@ impl<'a> Asked<'a> {
         }
     }
 
+    /// The pair that is known. The error is out of memory.
+    pub fn start(&self, alloc: Global) -> Result<Pair, AllocError>
+        ensures { IfOk result (IsAdmitted self.now.admit) }
+    {
+        let _few = self.circuit.gates();
+        self.start.copy(alloc)
+    }
+
     /// The admitted pair with these bits, if it is one, else with some of them. The error is out of
     /// memory.
     pub fn pair(&self, alloc: Global, bits: &[Bit]) -> Result<Pair, AllocError>

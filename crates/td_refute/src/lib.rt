@@ -6,6 +6,7 @@ mod asked;
 mod asking;
 mod blaming;
 mod checking;
+mod climbing;
 mod down;
 mod effort;
 mod log;

@@ -203,7 +203,8 @@ impl<'a> Search<'a> {
         if self.is_done(asked.circuit()) || self.ask_outputs(asked, self.effort.first)? {
             return Ok(());
         }
-        if self.effort.sweeps == 0 || !self.forget(asked)? {
+        self.climb(asked)?;
+        if self.is_done(asked.circuit()) || self.effort.sweeps == 0 || !self.forget(asked)? {
             return Ok(());
         }
         self.look_around(asked)?;

@@ -24,6 +24,10 @@ const FIRST_NODES: u64 = 10_000;
 /// How many nodes of a tree as `Lead` has it `Auto` handles at most.
 const SECOND_NODES: u64 = 50_000;
 
+/// How many gates, at most, `Auto` handles in all nodes of that tree together. A node takes the
+/// longer the more gates there are, and what such a tree doesn't end soon a refutation may.
+const SECOND_GATES: u64 = 60_000_000;
+
 /// Searches for the worst delay of the admitted pairs of a circuit, by a method. The pairs are of
 /// the circuit's inputs. Trees have at most as many nodes as the budget of the effort says, and a
 /// solver meets at most that many conflicts. Once the stop is set, the search ends, and the answer
@@ -145,14 +149,15 @@ fn with_nodes(limits: Limits<'_>, budget: u64) -> Limits<'_>
 }
 
 // How many of the remaining nodes the second tree handles: all of them where flips are limited,
-// since a refutation knows nothing of flips.
+// since a refutation knows nothing of flips, and fewer where there are many gates.
 fn second_nodes(circuit: &Circuit, admit: &Admit, rest: u64) -> u64
     ensures { result ≤ rest }
 {
     if (admit.flips() as usize) < circuit.input_count() {
         rest
     } else {
-        rest.min(SECOND_NODES)
+        let gates = circuit.gates().len().max(1) as u64;
+        rest.min(SECOND_NODES).min(SECOND_GATES / gates)
     }
 }
 
