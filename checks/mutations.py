@@ -207,7 +207,8 @@ def path_words(rng, inputs):
 
 
 def bound_words(rng, inputs):
-    return ["t.v", *pins(rng, inputs), *moments(rng, inputs), *flags(rng, ("--edges",))]
+    words = [*pins(rng, inputs), *moments(rng, inputs)]
+    return ["t.v", *words, *flags(rng, ("--edges",), ("--outputs",))]
 
 
 def worst_words(rng, inputs):

@@ -518,7 +518,8 @@ def compare_runs(setup):
 
 
 def compare_bounds(setup, question):
-    """Compares the bounds of the pins with those that `bound --edges` reports."""
+    """Compares the bounds of the pins, and which output has the bound `m`, with what
+    `bound --edges --outputs` reports."""
     circuit = setup.circuit
     if circuit.inputs == 0:
         return
@@ -531,8 +532,13 @@ def compare_bounds(setup, question):
         for letter in "atmen"
     ]
     lines = [f"{letter} {'none' if bound is None else bound}" for letter, bound in bounds]
+    of_outputs = zip(circuit.outputs, opinion.bounds("m", circuit, question.pins, question.moments))
+    lines += [
+        f"output {circuit.nets[net]}" for net, bound in of_outputs if bound == dict(bounds)["m"]
+    ][:1]
     ours = opinion.report([f"unit {circuit.unit}", f"defaulted {circuit.defaulted}", *lines]), "", 0
-    words = ["bound", "t.v", *pins, "--at=" + ",".join(map(str, question.moments)), "--edges"]
+    at = "--at=" + ",".join(map(str, question.moments))
+    words = ["bound", "t.v", *pins, at, "--edges", "--outputs"]
     setup.compare(
         words, ours, lambda out, _, __: ["bound: none" if "none" in out else "bound: all five"]
     )

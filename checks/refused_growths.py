@@ -82,6 +82,7 @@ OTHERS = [
     ["worst", "lost.v", "--each", "--strategy", "least"],
     ["sim", "c17.v", "01010", "01110", "--outputs"],
     ["bound", "c17.v", "--output", "N23"],
+    ["bound", "met.v", "--edges", "--outputs"],
     ["parts", "c17.v", "--parts", "3", "--output", "N22"],
     ["check", "c17.v", "n22.cert", "--output", "N22"],
     ["check", "lost.v", "lost.cert"],

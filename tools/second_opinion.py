@@ -233,13 +233,19 @@ DOMAINS = {
 }
 
 
-def bound(letter, circuit, cube, moments):
-    """The bound of the cube, None where there is none. A cube is a list of 0, 1 and X for free."""
+def bounds(letter, circuit, cube, moments):
+    """The bounds of the outputs in order, None where there is none. A cube is a list of 0, 1 and X
+    for free."""
     of_outputs = zip(*(lasts(domain, circuit, cube, moments) for domain in DOMAINS[letter]))
-    least = [
+    return [
         min((last for last in of_output if last is not None), default=None)
         for of_output in of_outputs
     ]
+
+
+def bound(letter, circuit, cube, moments):
+    """The bound of the cube, None where there is none."""
+    least = bounds(letter, circuit, cube, moments)
     return None if None in least else latest_of(least)
 
 

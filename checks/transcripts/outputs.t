@@ -36,7 +36,57 @@ Which output changes last: the line is there where it is asked for and an output
   change 5 z 1 0 not 5
   $ tdelay sim two.v 00 11 --outputs --json
   {"unit":"1 ns","defaulted":0,"last":[["y",2],["z",5]],"time":5,"output":["z"]}
-  $ tdelay bound two.v --outputs 2>&1 | head -1
+
+Which output has the bound m: the line comes after all others, and names the first of several. It isn't there without outputs.
+
+  $ tdelay bound two.v --outputs
+  unit 1 ns
+  defaulted 0
+  a 5
+  t none
+  m 5
+  output z
+  $ tdelay bound two.v --outputs --edges --first 1. --second 1.
+  unit 1 ns
+  defaulted 0
+  a 2
+  t none
+  m 2
+  e 2
+  n 2
+  output y
+  $ tdelay bound two.v --outputs --first 00 --second 00
+  unit 1 ns
+  defaulted 0
+  a 0
+  t 0
+  m 0
+  output y
+  $ tdelay bound two.v --outputs --output y
+  unit 1 ns
+  defaulted 0
+  a 2
+  t none
+  m 2
+  output y
+  $ tdelay bound two.v --outputs --json
+  {"unit":"1 ns","defaulted":0,"a":5,"t":null,"m":5,"output":["z"]}
+  $ cat > closed.v <<'END'
+  > module closed(a);
+  > input a;
+  > endmodule
+  > END
+  $ tdelay bound closed.v --outputs
+  unit 1 ns
+  defaulted 0
+  a 0
+  t 0
+  m 0
+  $ tdelay bound closed.v --outputs --json
+  {"unit":"1 ns","defaulted":0,"a":0,"t":0,"m":0}
+  $ tdelay bound two.v --outputs=z 2>&1 | head -1
+  error: unexpected value 'z' for '--outputs' found; no more were expected
+  $ tdelay path two.v 00 11 --outputs 2>&1 | head -1
   error: unexpected argument '--outputs' found
 
 The netlist with one output: bounds, a search, its certificate, and parts of it.

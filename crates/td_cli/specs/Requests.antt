@@ -59,7 +59,8 @@ IsPathProduct text asked =
 -- what `bound` says
 abbrev pub IsBoundProduct : List ℕ → BoundRequest → Product → Type 0
 IsBoundProduct text asked =
-    IsReportOnly (IsBoundReport text asked.reading (words_of asked.first) (words_of asked.second) (words_of asked.at) asked.edges) Done
+    IsReportOnly (IsBoundReport text asked.reading (words_of asked.first) (words_of asked.second) (words_of asked.at)
+    (record { edges = asked.edges; outputs = asked.outputs })) Done
 
 -- what `check` says
 abbrev pub IsCheckProduct : List ℕ → Reading → List ℕ → Product → Type 0

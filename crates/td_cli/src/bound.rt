@@ -12,7 +12,7 @@ use std::alloc::Global;
 use td_command::BoundRequest;
 use td_delivery::telling::{say, tell_refusal, tell_unread};
 use td_files::Files;
-use td_report::bounding::bounds;
+use td_report::bounding::{BoundsShown, bounds};
 use td_report::status::Status;
 use td_text::Sink;
 
@@ -46,6 +46,10 @@ pub fn run_on<O: Sink, E: Sink>(
         (HasNoBounds text.now request.now.reading (words_of request.now.first) (words_of request.now.second) (words_of request.now.at)) (λ _. ⊥) [] result
         (streams (O.output out.old) (E.output err.old)) (streams (O.output out.new) (E.output err.new)) }
 {
+    let shown = BoundsShown {
+        edges: request.edges,
+        outputs: request.outputs,
+    };
     let bounded = bounds(
         alloc,
         text,
@@ -53,7 +57,7 @@ pub fn run_on<O: Sink, E: Sink>(
         request.first,
         request.second,
         request.at,
-        request.edges,
+        shown,
     );
     match bounded {
         Ok(report) => say(report.bytes(), Status::Done, out, err),

@@ -132,7 +132,7 @@ path_command = command_of (codes "path") (pair_rules ++ option (codes "at") ∷ 
 
 abbrev pub bound_command : App
 bound_command =
-    command_of (codes "bound") (needed (codes "FILE") ∷ cube_rules ++ option (codes "at") ∷ flag (codes "edges") ∷ option (codes "output") ∷ [])
+    command_of (codes "bound") (needed (codes "FILE") ∷ cube_rules ++ option (codes "at") ∷ flag (codes "edges") ∷ flag (codes "outputs") ∷ option (codes "output") ∷ [])
 
 abbrev pub worst_command : Listed → App
 worst_command strategies =
@@ -294,6 +294,7 @@ pub record AsksBound (rows : List Row) (asked : BoundRequest) : Type 0 where
   pub second : HasWord (codes "second") rows asked.second
   pub at : HasWord (codes "at") rows asked.at
   pub edges : HasFlag (codes "edges") rows asked.edges
+  pub outputs : HasFlag (codes "outputs") rows asked.outputs
   pub reading : HasReading rows asked.reading
 
 -- the words say that a search is asked this

@@ -6,7 +6,7 @@ ghost use Rattle.td_command.specs.CommandLine.{needed, needed_words, needed_numb
 ghost use Rattle.td_command.specs.CommandLine.{with_letter, workers_letter, quiet_letter, common_rules, pair_rules, cube_rules, admitted_rules, strategy_rule, certificate_rule, search_rules};
 ghost use Rattle.td_command.specs.Telling.{reported, TellsRule, TellsRules};
 
-use crate::help::{FREE_HELP, WHOLE_HELP};
+use crate::help::{FREE_HELP, LATEST_HELP, WHOLE_HELP};
 use clap::builder::ValueParser;
 use clap::{Arg, ArgAction, Command};
 use std::alloc::{AllocError, Global};
@@ -295,15 +295,11 @@ moment of the input of this name, any number of times",
         self.option("output", "NAME", help)
     }
 
-    /// Whether it is asked which output changes last, as a flag.
-    pub(crate) fn outputs(&mut self) -> Result<(), AllocError>
+    /// Whether it is asked which output changes last, or has the bound, as a flag.
+    pub(crate) fn outputs(&mut self, help: &'a str) -> Result<(), AllocError>
         ensures { OnOk result (TellsRule (flag (codes "outputs")) self.old self.new) }
     {
-        self.flag(
-            "outputs",
-            "After the other lines, which output changes last, the first of\n\
-several: `output NAME`",
-        )
+        self.flag("outputs", help)
     }
 
     /// Whether each output is asked about in turn, as a flag.
@@ -380,7 +376,7 @@ given pair, as `path` prints them",
             "Writes to standard error how far the search is, each time that the\n\
 nodes handled pass 1, 2, 5, 10, 20, .. thousand, and every ten seconds",
         )?;
-        self.outputs()
+        self.outputs(LATEST_HELP)
     }
 
     /// The pairs that a search admits, as options.

@@ -53,6 +53,8 @@ pub struct BoundRequest<'a> {
     pub at: Option<&'a str>,
     /// Whether the bounds by edges are asked for too.
     pub edges: bool,
+    /// Whether it is asked which output has the bound.
+    pub outputs: bool,
     /// How the netlist's text is read.
     pub reading: Reading<'a>,
 }
@@ -275,6 +277,7 @@ fn bound_of<'a>(matches: &ArgMatches<'a>) -> Option<Request<'a>>
 {
     let file = matches.get_str("FILE")?;
     let edges = flag_given(matches, "edges")?;
+    let outputs = flag_given(matches, "outputs")?;
     let Some(reading) = reading(matches) else {
         return None;
     };
@@ -284,6 +287,7 @@ fn bound_of<'a>(matches: &ArgMatches<'a>) -> Option<Request<'a>>
         second: matches.get_str("second"),
         at: matches.get_str("at"),
         edges,
+        outputs,
         reading,
     }))
 }

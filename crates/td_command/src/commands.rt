@@ -7,8 +7,8 @@ ghost use Rattle.td_command.specs.Telling.{reported, offering, OffersCommand, Of
 
 use crate::arguments::Arguments;
 use crate::help::{
-    BOUND_HELP, CHAIN_HELP, CHECK_HELP, FREE_HELP, HELP, INFO_HELP, JOIN_HELP, OUTPUT_HELP,
-    PARTS_HELP, PATH_HELP, SIM_HELP, VERSION, WHOLE_HELP, WORST_HELP,
+    BOUND_HELP, BOUND_OUTPUT_HELP, CHAIN_HELP, CHECK_HELP, FREE_HELP, HELP, INFO_HELP, JOIN_HELP,
+    LATEST_HELP, OUTPUT_HELP, PARTS_HELP, PATH_HELP, SIM_HELP, VERSION, WHOLE_HELP, WORST_HELP,
 };
 use clap::Command;
 use std::alloc::{AllocError, Global};
@@ -66,7 +66,7 @@ impl<'a> Commands<'a> {
         arguments.pair()?;
         arguments.moments()?;
         arguments.vcd()?;
-        arguments.outputs()?;
+        arguments.outputs(LATEST_HELP)?;
         arguments.common()?;
         self.add(
             "sim",
@@ -100,6 +100,7 @@ impl<'a> Commands<'a> {
         arguments.cube(FREE_HELP)?;
         arguments.moments()?;
         arguments.edges()?;
+        arguments.outputs(BOUND_OUTPUT_HELP)?;
         arguments.output(OUTPUT_HELP)?;
         arguments.common()?;
         self.add(

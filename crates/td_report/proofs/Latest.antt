@@ -1,5 +1,5 @@
 -- Which output changes last, and what else stands after a report.
-use Rattle.std.proofs.Common.{◌≡◌, ◌++◌, ◌∙◌, ℕ, List, [], map, refl, sym, ap, inl, inr, append-nil, append_assoc, Bool, true, false, Some, None}
+use Rattle.std.proofs.Common.{◌≡◌, ◌++◌, ◌∙◌, ℕ, List, [], map, refl, sym, ap, inl, inr, append-nil, append_assoc, true, false, Some, None}
 use Rattle.td_gates.specs.Table.{level_from}
 use Rattle.td_nets.specs.Netlist.{Name, Named}
 use Rattle.td_circuit.specs.Numbering.{Numbered, setting, nets}
@@ -13,7 +13,6 @@ use Rattle.td_run.specs.Runs.{NetWaves}
 use Rattle.td_path.specs.Chains.{IsLatestNet}
 use Rattle.td_report.specs.declared.beside.Beside.{Beside}
 use Rattle.td_report.specs.Reports.{latest_line}
-use Rattle.td_report.specs.PairReports.{TellsPair}
 use Rattle.td_report.specs.Chains.{AddsRun, AddsLast, AddsWay}
 
 -- no output changes, so none is named

@@ -9,3 +9,4 @@ pub mod TreeNames
 pub mod NetNames
 pub mod DumpNames
 pub mod Latest
+pub mod LatestBound

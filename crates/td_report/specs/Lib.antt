@@ -7,6 +7,7 @@ pub mod Paths
 pub mod RunPaths
 pub mod BoundReports
 pub mod BoundTexts
+pub mod BoundOutputs
 pub mod CheckReports
 pub mod Pinning
 pub mod JoinTexts

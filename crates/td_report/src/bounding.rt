@@ -10,6 +10,7 @@ ghost use Rattle.td_report.specs.BoundTexts.{IsBoundTextOf};
 ghost use Rattle.td_report.specs.Outcomes.{IsCircuitOf, HasNoBounds};
 ghost use Rattle.td_report.specs.declared.refusal.Refusal.TheVariants as Reason;
 
+use crate::bound_output::with_output;
 use crate::refusal::Refusal;
 use crate::report;
 use crate::simulate::circuit;
@@ -24,10 +25,19 @@ use td_edges::Edges;
 use td_reading::Reading;
 use td_ternary::Possible;
 
+/// What is shown beside the bounds by arrival windows, by possible levels and by both: those by
+/// edges, and which output has the bound by both.
+#[derive(Clone, Copy, Debug)]
+pub struct BoundsShown {
+    pub edges: bool,
+    pub outputs: bool,
+}
+
 /// The report of the bounds of a cube, which is given by trits for the first vector and for the
 /// second, all free where left out, with the moments of an option: by arrival windows, by possible
 /// levels, and by both at once. Where they are asked for, by edges too, and by edges and possible
-/// levels at once.
+/// levels at once. After them, where it is asked for, the first output that has the bound by both
+/// at once.
 pub fn bounds<'a>(
     alloc: Global,
     text: &'a [u8],
@@ -35,16 +45,16 @@ pub fn bounds<'a>(
     first: Option<&str>,
     second: Option<&str>,
     at: Option<&str>,
-    edges: bool,
+    shown: BoundsShown,
 ) -> Result<Text, Refusal<'a>>
     // The report is that of the cube's bounds in the netlist that is read of the text.
     ensures report { IfOk result (λ report.
-        IsBoundReport text.now reading.now (words_of first.entry) (words_of second.entry) (words_of at.entry) edges report) }
+        IsBoundReport text.now reading.now (words_of first.entry) (words_of second.entry) (words_of at.entry) shown report) }
     ensures refusal { IfErr result (λ refusal.
         HasNoBounds text.now reading.now (words_of first.entry) (words_of second.entry) (words_of at.entry) refusal) }
 {
     let mut circuit = circuit(alloc, text, reading)?;
-    let reported = bounds_in(alloc, &mut circuit, first, second, at, edges)?;
+    let reported = bounds_in(alloc, &mut circuit, first, second, at, shown)?;
     match reported {
         Ok(report) => Ok(report),
         Err(word) => Err(Refusal::BadVector(word)),
@@ -59,10 +69,10 @@ fn bounds_in(
     first: Option<&str>,
     second: Option<&str>,
     at: Option<&str>,
-    edges: bool,
+    shown: BoundsShown,
 ) -> Result<Result<Text, VectorWord>, AllocError>
     ensures report { IfOk result (λ reported. IfOk reported (λ report. (text : List ℕ) (reading : Asked) → IsCircuitOf text reading circuit.old
-        → IsBoundReport text reading (words_of first.entry) (words_of second.entry) (words_of at.entry) edges report)) }
+        → IsBoundReport text reading (words_of first.entry) (words_of second.entry) (words_of at.entry) shown report)) }
     ensures bad { IfOk result (λ reported. IfErr reported (λ word. (text : List ℕ) (reading : Asked) → IsCircuitOf text reading circuit.old
         → HasNoBounds text reading (words_of first.entry) (words_of second.entry) (words_of at.entry) (Reason.BadVector word))) }
 {
@@ -78,18 +88,26 @@ fn bounds_in(
     };
     circuit.set_moments(moments);
     let cube = Cube::weave(alloc, &firsts, &seconds)?;
-    let report = report_on(alloc, circuit, &cube, edges)?;
+    let report = report_on(alloc, circuit, &cube, shown)?;
     Ok(Ok(report))
 }
 
 /// The report of the bounds of a cube.
-fn report_on(alloc: Global, circuit: &Circuit, cube: &Cube, edges: bool) -> Result<Text, AllocError>
+fn report_on(
+    alloc: Global,
+    circuit: &Circuit,
+    cube: &Cube,
+    shown: BoundsShown,
+) -> Result<Text, AllocError>
     requires { length cube.now ≡ 2 * length circuit.now.netlist.inputs }
-    ensures { IfOk result (IsBoundTextOf edges (setting circuit.now) cube.now) }
+    ensures { IfOk result (IsBoundTextOf shown (setting circuit.now) cube.now) }
 {
     let bounds = bounds_of(alloc, circuit, cube)?;
+    let together = bounds.together;
     let report = report_of(alloc, circuit, bounds)?;
-    with_edges(alloc, circuit, cube, edges, report)
+    let report = with_edges(alloc, circuit, cube, shown.edges, report)?;
+    let report = with_output(alloc, circuit, cube, together, shown.outputs, report)?;
+    Ok(report)
 }
 
 /// The bounds of a cube by each of the domains.

@@ -2,6 +2,7 @@
 #![tactic(auto)]
 
 pub mod beside;
+mod bound_output;
 pub mod bounding;
 pub mod chaining;
 pub mod checking;

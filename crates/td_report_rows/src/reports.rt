@@ -4,7 +4,7 @@ use std::alloc::Global;
 use std::test::*;
 use td_gates::Delay;
 use td_reading::Reading;
-use td_report::bounding::bounds;
+use td_report::bounding::{BoundsShown, bounds};
 use td_report::checking::verdict_on;
 use td_report::describing::info;
 use td_report::explaining::path;
@@ -44,7 +44,25 @@ fn is_missed<'a>(report: Result<Text, Refusal<'a>>) -> bool {
 }
 
 fn bounds_for<'a>(alloc: Global, output: Option<&'a str>) -> Result<Text, Refusal<'static>> {
-    bounds(alloc, NETLIST, &asking(output), None, None, None, false)
+    let shown = BoundsShown {
+        edges: false,
+        outputs: false,
+    };
+    bounds(alloc, NETLIST, &asking(output), None, None, None, shown)
+}
+
+/// The bounds of a netlist, and which output has the one of all, where this one is asked about.
+fn latest_for<'a>(
+    alloc: Global,
+    netlist: &'a [u8],
+    output: Option<&str>,
+    edges: bool,
+) -> Result<Text, Refusal<'a>> {
+    let shown = BoundsShown {
+        edges,
+        outputs: true,
+    };
+    bounds(alloc, netlist, &asking(output), None, None, None, shown)
 }
 
 #[test]
@@ -69,6 +87,43 @@ fn bounds_of_an_output(rt: HostRuntime) -> Result<(), Fail> {
         )
     );
     assert!(rt; is_missed(bounds_for(alloc, Some("a"))));
+    Ok(())
+}
+
+/// Two outputs with one bound, after one with a lesser bound.
+const TWINS: &[u8] =
+    b"module m(a, x, y, z); input a; output x, y, z; buf #1 (x, a); buf #2 (y, a); not #2 (z, a); endmodule\n";
+
+/// A netlist without outputs.
+const CLOSED: &[u8] = b"module m(a); input a; endmodule\n";
+
+#[test]
+fn output_of_a_bound(rt: HostRuntime) -> Result<(), Fail> {
+    let alloc = rt.alloc();
+    assert!(rt;
+        is(
+            latest_for(alloc, NETLIST, None, false),
+            b"unit 1 ns\ndefaulted 0\na 5\nt none\nm 5\noutput z\n"
+        )
+    );
+    assert!(rt;
+        is(
+            latest_for(alloc, NETLIST, Some("y"), true),
+            b"unit 1 ns\ndefaulted 0\na 2\nt none\nm 2\ne 2\nn 2\noutput y\n"
+        )
+    );
+    assert!(rt;
+        is(
+            latest_for(alloc, TWINS, None, false),
+            b"unit 1 ns\ndefaulted 0\na 2\nt none\nm 2\noutput y\n"
+        )
+    );
+    assert!(rt;
+        is(
+            latest_for(alloc, CLOSED, None, false),
+            b"unit 1 ns\ndefaulted 0\na 0\nt 0\nm 0\n"
+        )
+    );
     Ok(())
 }
 

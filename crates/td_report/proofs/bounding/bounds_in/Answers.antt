@@ -52,7 +52,7 @@ report_on-requires c =
 pub returns-clause-report : goal.returns-clause-report
 returns-clause-report c = λ text reading is.
     let cube = rw (c.deref.ensures.value, c.deref-2.ensures.value) at c.in_ok-cube.ensures in
-    let bounds = rw cube at c.in_ok-report.ensures in
+    let said = rw cube at c.in_ok-report.ensures in
     record {
       setting = setting c.set_moments.new.self;
       is_setting = rw c.set_moments.ensures (record {
@@ -63,11 +63,15 @@ returns-clause-report c = λ text reading is.
       seconds = c.in-Some-2.seconds.items;
       first_is = rw c.set_moments.ensures (rw (c.in-Some.is, c.input_count-inputs.ensures) at c.in_ok-firsts.ensures.some);
       second_is = rw c.set_moments.ensures (rw (c.in-Some-2.is, c.input_count-inputs.ensures) at c.in_ok-seconds.ensures.some);
-      arrivals = bounds.arrivals;
-      possibles = bounds.possibles;
-      together = bounds.together;
-      arrivals_is = bounds.arrivals_is;
-      possibles_is = bounds.possibles_is;
-      together_is = bounds.together_is;
-      is = bounds.is;
+      arrivals = said.arrivals;
+      possibles = said.possibles;
+      together = said.together;
+      arrivals_is = said.arrivals_is;
+      possibles_is = said.possibles_is;
+      together_is = said.together_is;
+      bounds = said.bounds;
+      has_edges = said.has_edges;
+      named = said.named;
+      tells = said.tells;
+      is = said.is;
     }

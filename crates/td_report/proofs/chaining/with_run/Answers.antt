@@ -1,4 +1,4 @@
-use Rattle.td_report.proofs.Latest.{nothing_added, run_added}
+use Rattle.td_report.proofs.Latest.{run_added}
 use Rattle.td_report.proofs.chaining.with_run.Goals as goal
 
 pub returns : goal.returns
