@@ -416,8 +416,8 @@ out",
 climbs to a first pair and bounds by edges, and its certificates are\n\
 of version 4. `refute` asks a solver which changes of nets are\n\
 impossible, and its certificates are of version 5. `auto` is `least`\n\
-for 10,000 nodes, then `lead` for 50,000, then `refute`, until one of\n\
-them ends",
+for 10,000 nodes, then `lead` for at most 50,000, then `refute`, until\n\
+one of them ends",
         )
     }
 
