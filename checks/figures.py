@@ -19,10 +19,10 @@ The tables:
 The netlists are those of examples/, made by lib/circuits.py, or of the folder `--netlists`; those
 that are in neither are left out, and the table says so. Each run ends after `--seconds` at most,
 and the table says which was stopped; the first command has 20 minutes. Of `--runs` runs the least
-seconds stand in the table, but one run alone in `strategies`, `collection` and `hostile`. Seconds are user and
-system seconds where nothing else is said, and memory is the greatest resident one of a process.
-Each certificate is checked by `check` of the same program. With `--write` the table goes into the
-page, between the comments that name it. Lists of names have commas.
+seconds stand in the table, but one run alone in `strategies`, `collection` and `hostile`. Seconds
+are user and system seconds where nothing else is said, and memory is the greatest resident one of a
+process. Each certificate is checked by `check` of the same program. With `--write` the table goes
+into the page, between the comments that name it. Lists of names have commas.
 
 Exit status 0 where all that ended agrees and each certificate is accepted, else 1: two exact
 answers to one question are the same, and lie within the figures of the others, and the answers on
