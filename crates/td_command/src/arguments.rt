@@ -415,9 +415,9 @@ out",
             "How the search goes. `least` and `lead` split cubes of pairs; `lead`\n\
 climbs to a first pair and bounds by edges, and its certificates are\n\
 of version 4. `refute` asks a solver which changes of nets are\n\
-impossible, and its certificates are of version 5. `auto` is `least`\n\
-for 10,000 nodes, then `lead` for at most 50,000, then `refute`, until\n\
-one of them ends",
+impossible, and its certificates are of version 5. `auto` is `least` for\n\
+10,000 nodes, then `lead` for up to 50,000, then `refute`, until one of\n\
+them ends",
         )
     }
 
