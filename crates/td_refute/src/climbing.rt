@@ -50,14 +50,15 @@ fn climbed(
 }
 
 impl Search<'_> {
-    /// Climbs from the best pair, where that is close to what is possible still, until an output
-    /// changes so late or there were enough climbs. Each has a seed of its own. A pair may be all
-    /// that is missing there, and climbs meet a rare one sooner than a solver does.
-    pub fn climb(&mut self, asked: &Asked<'_>) -> Result<(), AllocError> {
-        let enough = self.high(asked.circuit());
-        if enough.saturating_sub(self.low) > enough / PARTS {
+    /// Climbs from the best pair, where that is close to a bound of all pairs that needs no
+    /// question, until an output changes as late as is possible still, or there were enough climbs.
+    /// Each has a seed of its own. A pair may be all that is missing there, and climbs meet a rare
+    /// one sooner than a solver does.
+    pub fn climb(&mut self, asked: &Asked<'_>, bound: u64) -> Result<(), AllocError> {
+        if bound.saturating_sub(self.low) > bound / PARTS {
             return Ok(());
         }
+        let enough = self.high(asked.circuit());
         for climb in 0..CLIMBS {
             if self.low >= enough || self.is_stopped() {
                 return Ok(());

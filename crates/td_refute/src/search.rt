@@ -200,10 +200,11 @@ impl<'a> Search<'a> {
     /// Searches until the best is shown to be the worst delay, the effort is used up, or the stop
     /// is set.
     pub fn go(&mut self, asked: &Asked<'_>) -> Result<(), AllocError> {
+        let bound = self.high(asked.circuit());
         if self.is_done(asked.circuit()) || self.ask_outputs(asked, self.effort.first)? {
             return Ok(());
         }
-        self.climb(asked)?;
+        self.climb(asked, bound)?;
         if self.is_done(asked.circuit()) || self.effort.sweeps == 0 || !self.forget(asked)? {
             return Ok(());
         }
