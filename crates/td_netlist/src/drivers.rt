@@ -1,16 +1,16 @@
 //! Checks the terminals of a module's gates and the drivers of its nets.
 
 ghost use Rattle.std.specs.Prelude.{◌≡◌, map, Ok, IfOk};
-ghost use Rattle.td_syntax.specs.Views.{terminal_view};
+ghost use Rattle.td_syntax.specs.Views.{name_view, terminal_view};
 ghost use Rattle.td_netlist.specs.Faults.{Gives};
 ghost use Rattle.td_netlist.specs.PlacedNets.{different};
 ghost use Rattle.td_netlist.specs.Module.{whole_source, bit_source};
 ghost use Rattle.td_nets.specs.Netlist.{Named};
 ghost use Rattle.td_netlist.specs.Ranges.{bit_name, IsLimited};
-ghost use Rattle.td_syntax.specs.Grammar.{decimal_value};
+ghost use Rattle.td_syntax.specs.Grammar.{Whole, decimal_value};
 ghost use Rattle.td_nets.specs.Names.{is_in};
 ghost use Rattle.td_netlist.specs.PlacedNets.{line_of};
-ghost use Rattle.td_netlist.specs.Checks.{each, known, range_known, joined, resolve, meet, drive, drives, see, seen, read_from, drive_all, read_net, read_all, read_placed, driven_at, driven_from, second_driver};
+ghost use Rattle.td_netlist.specs.Checks.{each, known, range_known, joined, resolve, drive, drives, see, seen, read_from, drive_all, read_net, read_all, read_placed, driven_at, driven_from, second_driver};
 ghost use Rattle.td_netlist.specs.NameViews.{name_ref_of, net_ref_of, placed_ref_of};
 ghost use Rattle.td_netlist.specs.CheckViews.{primitive_of, sides_of, drivers_of};
 
@@ -148,25 +148,30 @@ pub fn resolve<'a>(names: &Known<'a>, terminal: Terminal<'a>) -> Result<NetRef<'
     }
 }
 
-/// A plain name without a declaration is a net.
-fn meet<'a>(names: &mut Known<'a>, terminal: Terminal<'a>) -> Result<(), Fault<'a>>
-    ensures { Gives (λ _. names.new) result (meet names.old (terminal_view terminal.entry)) }
-{
-    match terminal {
-        Terminal::Whole(name) => names.know(name, None),
-        Terminal::Select(_, _) | Terminal::Level(_) => Ok(()),
-    }
-}
-
 impl<'a> Drivers<'a> {
     /// The net of a terminal, whose name is known from now on.
     #[tactic(auto, unfolding(crate::specs::Checks::seen))]
     fn see(&mut self, terminal: Terminal<'a>) -> Result<NetRef<'a>, Fault<'a>>
         ensures { Gives (λ net. (net_ref_of net, drivers_of self.new)) result (seen (drivers_of self.old) (terminal_view terminal.entry)) }
     {
-        let net = resolve(&self.names, terminal)?;
-        meet(&mut self.names, terminal)?;
-        Ok(net)
+        match terminal {
+            Terminal::Whole(name) => self.see_whole(name),
+            Terminal::Select(_, _) | Terminal::Level(_) => resolve(&self.names, terminal),
+        }
+    }
+
+    /// The net of a plain name. Without a declaration it is a scalar net.
+    #[tactic(auto, unfolding(crate::specs::Checks::seen, crate::specs::Checks::resolve, crate::specs::Checks::know))]
+    fn see_whole(&mut self, name: Placed<'a>) -> Result<NetRef<'a>, Fault<'a>>
+        ensures { Gives (λ net. (net_ref_of net, drivers_of self.new)) result (seen (drivers_of self.old) (Whole (name_view name.entry))) }
+    {
+        match self.names.get(name) {
+            Some(range) => whole(name, range),
+            None => {
+                self.names.learn(name, None)?;
+                whole(name, None)
+            }
+        }
     }
 
     #[tactic(auto, unfolding(crate::specs::Checks::drive))]

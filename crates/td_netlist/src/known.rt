@@ -63,8 +63,19 @@ impl<'a> Known<'a> {
         ensures { Gives (λ _. self.new) result (know self.old (name_view name.entry) range) }
     {
         if self.get(name).is_some() {
-            return Ok(());
+            Ok(())
+        } else {
+            self.learn(name, range)
         }
+    }
+
+    /// Counts the nets of a name that isn't known.
+    #[tactic(auto, unfolding(crate::specs::Checks::know))]
+    pub fn learn(&mut self, name: Placed<'a>, range: Option<Range>) -> Result<(), Fault<'a>>
+        requires limited { IsLimited range }
+        requires unknown { known self.old name.name.now ≡ None }
+        ensures { Gives (λ _. self.new) result (know self.old (name_view name.entry) range) }
+    {
         let width = width_of(range);
         if MAX_NETS < self.nets + width {
             return Err(Fault {

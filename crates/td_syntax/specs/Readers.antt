@@ -1,15 +1,10 @@
 -- The readers that reading a module is made of: of one token, and of many of a kind.
 use Rattle.std.specs.Prelude.{ℕ, zero, suc, ◌+◌, List, [], ◌∷◌, drop, length, Option, None, Some, Bool, true, false, Result, Ok, Err, ◌==◌, if◌then◌else◌}
 use Rattle.td_nets.specs.declared.keyword.Keyword.{Keyword}
-use Rattle.td_nets.specs.declared.keyword.Keyword.TheVariants as keyword
 use Rattle.td_syntax.specs.declared.token.Symbol.{Symbol}
 use Rattle.td_syntax.specs.declared.token.Symbol.TheVariants as symbol
-use Rattle.td_syntax.specs.declared.token.Stop.TheVariants as stop
 use Rattle.td_syntax.specs.declared.token.Directive.{Directive}
 use Rattle.td_syntax.specs.declared.token.Unread.{Unread}
-use Rattle.td_syntax.specs.declared.token.Unread.TheVariants as unread
-use Rattle.td_syntax.specs.declared.syntax.Role.TheVariants as role
-use Rattle.td_syntax.specs.declared.syntax.Front.TheVariants as fronts
 use Rattle.td_syntax.specs.Token.{Numeral, Token, Name, Escaped, Reserved, Number, Constant, Mark, Attribute, Directs, Outside}
 use Rattle.td_syntax.specs.Token.{Placed}
 use Rattle.td_syntax.specs.Tokens.{Stream, Front, Next, Behind, front_of, rest_of}

@@ -58,3 +58,8 @@ front_of s = front_in s.tokens s.stop s.line
 
 unfoldable pub rest_of : Stream → Stream
 rest_of s = record { tokens = rest_in s.tokens; stop = s.stop; line = s.line }
+
+-- what is left, with this in front of it
+abbrev pub with_front : Front → Stream → Stream
+with_front (Next t) s = with_token t s
+with_front (Behind stop line) s = ends line stop

@@ -66,17 +66,6 @@ impl<'a> Lexer<'a> {
         let _rest = &self.rest;
     }
 
-    /// What stands in front, which stays.
-    pub fn front(&self) -> Front<'a>
-        ensures { front_view result ≡ front_of self.now }
-    {
-        let mut ahead = Lexer {
-            rest: self.rest,
-            line: self.line,
-        };
-        ahead.next()
-    }
-
     /// Takes the first token. What follows the last token stays.
     pub fn next(&mut self) -> Front<'a>
         ensures front { front_view result ≡ front_of self.old }

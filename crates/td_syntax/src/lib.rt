@@ -10,6 +10,7 @@ mod fault;
 mod gates;
 mod items;
 mod lexer;
+mod lookahead;
 mod parser;
 mod piece;
 mod read;

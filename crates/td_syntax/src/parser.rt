@@ -9,7 +9,7 @@ ghost use Rattle.td_syntax.specs.Readers.{behind_front, is_mark, as_name, as_num
 ghost use Rattle.td_syntax.specs.Parsing.{as_wire, as_module, as_direction, as_base, second_refusal, count_at, is_behind, end_at};
 
 use crate::fault::{Fault, FaultKind};
-use crate::lexer::Lexer;
+use crate::lookahead::Lookahead;
 use crate::step::Step;
 use crate::syntax::{Name, Role, Terminal};
 use crate::token::{Front, Number, Placed, Stop, Symbol, Token};
@@ -20,14 +20,14 @@ use td_nets::{Keyword, MAX_GATES};
 /// What is left of a text, and how many gates there are so far.
 #[derive(Drop)]
 pub struct Parser<'a> {
-    lexer: Lexer<'a>,
+    tokens: Lookahead<'a>,
     gates: u32,
 }
 
 impl<'a> Model for Parser<'a> {
     ghost Value = { readers.Remainder };
 
-    ghost view = { λ p. record { stream = p.lexer; gates = p.gates } };
+    ghost view = { λ p. record { stream = p.tokens; gates = p.gates } };
 }
 
 /// A fault of this kind on this line.
@@ -219,7 +219,7 @@ impl<'a> Parser<'a> {
         ensures { result ≡ readers.start (tokens_of 1 text.now) }
     {
         Parser {
-            lexer: Lexer::new(text),
+            tokens: Lookahead::new(text),
             gates: 0,
         }
     }
@@ -231,7 +231,7 @@ impl<'a> Parser<'a> {
     pub fn next(&mut self) -> Result<Placed<'a>, Fault<'a>>
         ensures { Gives (λ p. (placed_view p, self.new)) result (next_at self.old) }
     {
-        match self.lexer.next() {
+        match self.tokens.next() {
             Front::Next(placed) => Ok(placed),
             Front::Behind(stop, line) => Err(stopped(stop, line)),
         }
@@ -242,7 +242,7 @@ impl<'a> Parser<'a> {
     pub fn peek(&self) -> Result<Placed<'a>, Fault<'a>>
         ensures { Gives (λ p. (placed_view p, behind_front self.now)) result (next_at self.now) }
     {
-        match self.lexer.front() {
+        match self.tokens.front() {
             Front::Next(placed) => Ok(placed),
             Front::Behind(stop, line) => Err(stopped(stop, line)),
         }
@@ -389,7 +389,7 @@ impl<'a> Parser<'a> {
     pub fn is_within(&self)
         ensures { length self.now.stream.tokens ≤ 67108865 }
     {
-        self.lexer.is_within();
+        self.tokens.is_within();
     }
 
     /// One gate more, whose output stands on this line.
@@ -409,7 +409,7 @@ impl<'a> Parser<'a> {
     pub fn is_behind(&self) -> bool
         ensures { result ≡ is_behind (front_of self.now.stream) }
     {
-        matches!(self.lexer.front(), Front::Behind(_, _))
+        matches!(self.tokens.front(), Front::Behind(_, _))
     }
 
     /// Nothing follows the module.
@@ -417,7 +417,7 @@ impl<'a> Parser<'a> {
     pub fn end(&self) -> Result<(), Fault<'a>>
         ensures { Gives (λ _. self.now) result (end_at self.now) }
     {
-        match self.lexer.front() {
+        match self.tokens.front() {
             Front::Behind(Stop::End, _) => Ok(()),
             Front::Behind(stop, line) => Err(stopped(stop, line)),
             Front::Next(placed) => Err(second_refused(placed)),
