@@ -15,7 +15,6 @@ MOST = 7
 FUNCTION = re.compile(r"^(?P<indent> *)(?:pub(?:\([a-z]+\))? )?fn (?P<name>\w+)", re.M)
 EXCEPTIONS = {
     ("td_pool/src/pool.rt", "worst_by"): "the specification's signature",
-    ("td_delivery/src/telling.rt", "hand_over"): "what goes out, and to where",
 }
 
 

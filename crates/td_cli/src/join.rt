@@ -23,7 +23,7 @@ use std::alloc::{AllocError, Global};
 use td_certificate::Certificate;
 use td_circuit::Circuit;
 use td_command::{JoinRequest, MOST_NODES};
-use td_delivery::telling::{hand_over, tell_refusal, tell_unread};
+use td_delivery::telling::{Product, hand_over, tell_refusal, tell_unread};
 use td_domain::{Cube, Trit};
 use td_files::Files;
 use td_join::{JoinFault, join, join_in};
@@ -198,17 +198,14 @@ pub fn run_on<F: Files, O: Sink, E: Sink>(
     match join_files(alloc, files, text, request) {
         Ok(joined) => {
             let Joined { report, whole } = joined;
-            hand_over(
-                alloc,
-                files,
-                &report,
-                request.certificate,
-                &Some(whole),
-                &None,
-                Status::Done,
-                out,
-                err,
-            )
+            let product = Product {
+                report: &report,
+                name: request.certificate,
+                certificate: &Some(whole),
+                dump: &None,
+                ending: Status::Done,
+            };
+            hand_over(alloc, files, product, out, err)
         }
         Err(refusal) => tell_refusal(alloc, err, &refusal),
     }

@@ -9,7 +9,7 @@ ghost use Rattle.td_command.specs.declared.command.Request.TheVariants as Asked;
 
 use std::alloc::Global;
 use td_command::SimRequest;
-use td_delivery::telling::{hand_over, tell_refusal, tell_unread};
+use td_delivery::telling::{Product, hand_over, tell_refusal, tell_unread};
 use td_files::Files;
 use td_report::simulate::{Shown, sim};
 use td_report::status::Status;
@@ -60,17 +60,16 @@ pub fn run_on<F: Files, O: Sink, E: Sink>(
         },
     );
     match simulated {
-        Ok(simulated) => hand_over(
-            alloc,
-            files,
-            &simulated.report,
-            None,
-            &None,
-            &simulated.dump,
-            Status::Done,
-            out,
-            err,
-        ),
+        Ok(simulated) => {
+            let product = Product {
+                report: &simulated.report,
+                name: None,
+                certificate: &None,
+                dump: &simulated.dump,
+                ending: Status::Done,
+            };
+            hand_over(alloc, files, product, out, err)
+        }
         Err(refusal) => tell_refusal(alloc, err, &refusal),
     }
 }

@@ -21,7 +21,7 @@ use std::thread::Threads;
 use std::time::Clock;
 use td_certificate::Certificate;
 use td_command::WorstRequest;
-use td_delivery::telling::{hand_over, tell_refusal, tell_unread};
+use td_delivery::telling::{Product, hand_over, tell_refusal, tell_unread};
 use td_files::Files;
 use td_pool::{Effort, Watch};
 use td_report::beside::Beside;
@@ -73,17 +73,16 @@ pub fn run_on<R: Threads + Wait + Clock + Sync, F: Files, O: Sink, E: Sink>(
         (streams (O.output out.old) (E.output err.old)) (streams (O.output out.new) (E.output err.new))) }
 {
     match searched(rt, alloc, text, request, err) {
-        Ok(found) => hand_over(
-            alloc,
-            files,
-            &found.report,
-            request.certificate,
-            &found.certificate,
-            &found.dump,
-            ending(&found.certificate),
-            out,
-            err,
-        ),
+        Ok(found) => {
+            let product = Product {
+                report: &found.report,
+                name: request.certificate,
+                certificate: &found.certificate,
+                dump: &found.dump,
+                ending: ending(&found.certificate),
+            };
+            hand_over(alloc, files, product, out, err)
+        }
         Err(refusal) => tell_refusal(alloc, err, &refusal),
     }
 }

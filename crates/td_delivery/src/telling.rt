@@ -55,25 +55,41 @@ fn beside_files<'a>(
     beside_dump(report, dump)
 }
 
+/// What a command has to hand over: its report, a certificate and the waves of a run, where there
+/// are any.
+#[derive(Clone, Copy, Drop)]
+pub struct Product<'p, 'v> {
+    pub report: &'p Text,
+    /// The name of the certificate's file, where it goes to one.
+    pub name: Option<&'p str>,
+    pub certificate: &'p Option<Certificate>,
+    pub dump: &'p Option<Dump<'v>>,
+    /// How the program ends where all of this went out.
+    pub ending: Status,
+}
+
 /// Shows a report. Then writes a certificate and the waves of a run to files, where there are any
 /// to write. Where one of these fails, says so, and doesn't begin what comes after it.
 pub fn hand_over<F: Files, O: Sink, E: Sink>(
     alloc: Global,
     files: &mut F,
-    report: &Text,
-    name: Option<&str>,
-    certificate: &Option<Certificate>,
-    dump: &Option<Dump<'_>>,
-    ending: Status,
+    product: Product<'_, '_>,
     out: &mut O,
     err: &mut E,
 ) -> Status
-    requires spelled { IfSome certificate.now HasSpelling }
-    requires run { IfSome dump.now HasRun }
+    requires spelled { IfSome product.certificate.now HasSpelling }
+    requires run { IfSome product.dump.now HasRun }
     ensures { Takes (F.did files.old files.new) (λ steps.
-        Ends (IsHandedOver report.now (certificate_files (words_of name.entry) certificate.now ++ dump_files dump.now) ending) (λ _. ⊥) (F.disk files.old).breaks steps result
+        Ends (IsHandedOver product.entry.report.now (certificate_files (words_of product.entry.name) product.entry.certificate.now ++ dump_files product.entry.dump.now) product.entry.ending) (λ _. ⊥) (F.disk files.old).breaks steps result
         (streams (O.output out.old) (E.output err.old)) (streams (O.output out.new) (E.output err.new))) }
 {
+    let Product {
+        report,
+        name,
+        certificate,
+        dump,
+        ending,
+    } = product;
     let shown = beside_files(report, name, certificate, dump);
     let Ok(()) = out.write_all(shown) else {
         return tell(err, b"tdelay: cannot write stdout\n", Status::Device);

@@ -46,7 +46,8 @@ pub fn find<R: Rule, K: Keeper>(
 }
 
 // As `find`, of a cube in which an admitted pair lies: the pair that stands for it is measured
-// first.
+// before the cube is split, and before it is closed unless the rule bounds first. No pair in a cube
+// is later than its bound, so a cube that is closed so would be closed all the same.
 fn find_measured<R: Rule, K: Keeper>(
     task: &Task<'_, R>,
     scratch: &mut R::Scratch,
@@ -73,6 +74,13 @@ fn find_measured<R: Rule, K: Keeper>(
     // For the prover: gates are in order and pins have two positions for each input.
     let _numbering = problem.circuit.gates();
     let _pins = problem.admit.pins();
+    if rule.bounds_first() {
+        keeper.look(problem);
+        let step = rule.step(*alloc, problem, scratch, cube, keeper.cut())?;
+        if let Step::Close(by, bound) = step {
+            return Ok(Finding::Closed(Mark::Bound(by), bound));
+        }
+    }
     let time = rule.measure(*alloc, problem, scratch, cube)?;
     keeper.offer(problem, cube, time);
     match rule.step(*alloc, problem, scratch, cube, keeper.cut())? {

@@ -57,6 +57,10 @@ impl Rule for Lead {
         false
     }
 
+    fn bounds_first(&self) -> bool {
+        true
+    }
+
     fn scratch(&self, alloc: Global, problem: &Problem<'_>) -> Result<Scratch, AllocError> {
         // For the prover: pins have two positions for each input.
         let _pins = problem.admit.pins();

@@ -42,6 +42,10 @@ impl<'a, P: Prober> Rule for Least<'a, P> {
         true
     }
 
+    fn bounds_first(&self) -> bool {
+        self.prober.bounds_first()
+    }
+
     fn scratch(
         &self,
         alloc: Global,

@@ -26,6 +26,12 @@ pub trait Prober {
     fn scratch(&self, alloc: Global, circuit: &Circuit) -> Result<Self::Scratch, AllocError>
         ensures { IfOk result (λ scratch. is_for scratch circuit.now) };
 
+    /// Whether each cube is bounded before its pair is measured, which is left out where the bound
+    /// closes the cube. Else the pair of each cube is measured first.
+    fn bounds_first(&self) -> bool {
+        false
+    }
+
     /// A bound of a cube by some domain. Where it is above the cut, it is the strongest domain's.
     /// The error is out of memory, and the scratch may be used again.
     fn bound(
@@ -66,6 +72,10 @@ impl Prober for Own {
     type Scratch = Scratch;
 
     ghost is_for = { λ scratch circuit. IsScratch circuit scratch };
+
+    fn bounds_first(&self) -> bool {
+        true
+    }
 
     fn scratch(&self, alloc: Global, circuit: &Circuit) -> Result<Scratch, AllocError> {
         let cube = Cube::free(alloc, circuit.input_count())?;

@@ -31,9 +31,13 @@ pub trait Rule {
     /// The scratch was made for this circuit.
     ghost is_for: { Self.Scratch → Numbered → Type 0 };
 
-    /// Whether the pair that stands for a node is measured before its cube is bounded.
+    /// Whether the pair that stands for a node is measured before its cube is split.
     fn measures_first(&self) -> bool
         ensures { result ≡ measures_first by };
+
+    /// Whether a rule that measures first asks for a bound before that, so that a cube which that
+    /// closes isn't measured.
+    fn bounds_first(&self) -> bool;
 
     /// A scratch for the problem's circuit.
     fn scratch(&self, alloc: Global, problem: &Problem<'_>) -> Result<Self::Scratch, AllocError>
