@@ -8,7 +8,7 @@ use td_circuit::Circuit;
 use td_domain::{Cube, Trit};
 use td_join::{JoinFault, join, join_in};
 use td_reading::Reading;
-use td_report::hindrance::{first_place, name_at, second_place};
+use td_report::hindrance::{name_at, named};
 use td_report::refusal::Refusal;
 use td_report::status::Status;
 use td_report::text::Text;
@@ -105,7 +105,7 @@ impl<'a> Joining<'a> {
     }
 
     /// Parts joined, or why they aren't.
-    fn whole(&self, parts: Vec<Certificate>) -> Result<Certificate, JoinFault> {
+    fn whole(&self, parts: Vec<Certificate>) -> Result<Certificate, JoinFault<usize>> {
         match self.pins()? {
             None => join(self.alloc, parts),
             Some(pins) => join_in(self.alloc, parts, &pins),
@@ -124,13 +124,11 @@ impl<'a> Joining<'a> {
             Err(JoinFault::OutOfMemory) => return memory(text),
             Err(fault) => fault,
         };
-        let one = name_at(names, first_place(&fault));
-        let other = name_at(names, second_place(&fault));
         explain(
             self.alloc,
             text,
             &self.netlist,
-            &Refusal::NotJoined(fault, one, other),
+            &Refusal::NotJoined(named(fault, names)),
         )
     }
 

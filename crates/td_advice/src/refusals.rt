@@ -36,7 +36,7 @@ pub(crate) fn explain(
         Refusal::BadPart(name, fault) => certificate_fault(text, name, *fault),
         Refusal::Unaccepted(name, verdict) => not_accepted(text, name, *verdict),
         Refusal::OtherCircuit(name) => not_accepted(text, name, Verdict::OtherCircuit),
-        Refusal::NotJoined(fault, one, other) => not_joined(text, fault, one, other),
+        Refusal::NotJoined(fault) => not_joined(text, fault),
         Refusal::TooLong => too_long(text),
         Refusal::Unreadable(_)
         | Refusal::Certificate(_)
@@ -138,25 +138,20 @@ pub(crate) fn not_accepted(
 }
 
 /// Appends why certificates aren't joined.
-fn not_joined(
-    text: &mut Text,
-    fault: &JoinFault,
-    one: &str,
-    other: &str,
-) -> Result<(), AllocError> {
+fn not_joined(text: &mut Text, fault: &JoinFault<&str>) -> Result<(), AllocError> {
     match fault {
         JoinFault::OutOfMemory | JoinFault::NoCertificate | JoinFault::Gap(_) => {
             text.push(joins::sentence(fault))?
         }
-        JoinFault::Outside(_) | JoinFault::FalseNone(_) => {
+        JoinFault::Outside(one) | JoinFault::FalseNone(one) => {
             of_file(text, one, joins::sentence(fault))?
         }
-        JoinFault::OtherCircuit(..)
-        | JoinFault::OtherHold(..)
-        | JoinFault::OtherFlips(..)
-        | JoinFault::OtherMoments(..)
-        | JoinFault::Overlap(..)
-        | JoinFault::Crossed(..) => of_two(text, one, other, joins::sentence(fault))?,
+        JoinFault::OtherCircuit(one, other)
+        | JoinFault::OtherHold(one, other)
+        | JoinFault::OtherFlips(one, other)
+        | JoinFault::OtherMoments(one, other)
+        | JoinFault::Overlap(one, other)
+        | JoinFault::Crossed(one, other) => of_two(text, one, other, joins::sentence(fault))?,
     }
     help(text, joins::advice(fault))
 }

@@ -12,9 +12,10 @@ use Rattle.td_certificate.specs.Spelling.{Spells, HasSpelling}
 use Rattle.td_checker.specs.declared.verdict.Verdict.TheVariants.{Accepted}
 use Rattle.td_source.specs.Reads.{HasCircuit}
 use Rattle.td_checker.specs.Checks.{HaveVerdict}
+use Rattle.td_join.specs.declared.fault.JoinFault.{JoinFault}
 use Rattle.td_join.specs.declared.fault.JoinFault.TheVariants as fault
 use Rattle.td_join.specs.Joining.{IsJoined, hull}
-use Rattle.td_join.specs.Faults.{IsJoinFault}
+use Rattle.td_join.specs.Faults.{IsJoinFault, renamed}
 use Rattle.td_search.specs.declared.answers.Answer.TheVariants.{Exact}
 use Rattle.td_report.specs.declared.vector.VectorWord.TheVariants as vector
 use Rattle.td_report.specs.declared.refusal.Refusal.{Refusal}
@@ -26,7 +27,6 @@ use Rattle.td_cli.specs.WorstReports.{worst_text}
 use Rattle.td_report.specs.Outcomes.{HasNoCircuit, IsRefusedFor}
 use Rattle.td_files.specs.Disks.{Disk}
 use Rattle.td_delivery.specs.Disks.{Reads, HoldsOnFile}
-use Rattle.td_report.specs.JoinTexts.{first_place, second_place}
 
 -- ---- the pins of the whole
 
@@ -111,12 +111,12 @@ pub record IsJoinReport (disk : Disk) (text : List ℕ) (request : JoinRequest) 
 
 -- ---- why nothing is joined
 
--- why parts aren't joined into a certificate with these pins: the fault, with the names of its two
--- files; or what they are joined into has too many nodes
+-- why parts aren't joined into a certificate with these pins: the fault, with the names of the
+-- files at its places; or what they are joined into has too many nodes
 abbrev pub IsUnjoinedFor : List (List ℕ) → List Certificate → List Trit → Refusal → Type 0
-IsUnjoinedFor names parts pins (refusal.NotJoined reported one other) =
-    (reported ≢ fault.OutOfMemory) × IsJoinFault parts pins reported
-    × (one.now ≡ get_or names (first_place reported) []) × (other.now ≡ get_or names (second_place reported) [])
+IsUnjoinedFor names parts pins (refusal.NotJoined told) =
+    (reported : JoinFault ℕ) × (reported ≢ fault.OutOfMemory) × IsJoinFault parts pins reported
+    × (renamed (λ name. name.now) told ≡ renamed (λ place. get_or names place []) reported)
 IsUnjoinedFor names parts pins refusal.TooLong = (whole : Certificate) × IsJoined parts pins whole × (most_nodes < length whole.tree)
 IsUnjoinedFor names parts pins other = ⊥
 

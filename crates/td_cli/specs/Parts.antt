@@ -7,7 +7,7 @@ use Rattle.td_checker.specs.declared.verdict.CheckFault.{CheckFault}
 use Rattle.td_checker.specs.declared.verdict.CheckFault.TheVariants as check
 use Rattle.td_join.specs.declared.fault.JoinFault.{JoinFault}
 use Rattle.td_join.specs.declared.fault.JoinFault.TheVariants as join
-use Rattle.td_report.specs.JoinTexts.{first_place, second_place}
+use Rattle.td_join.specs.Faults.{renamed}
 use Rattle.td_report.specs.declared.refusal.Refusal.{Refusal}
 use Rattle.td_report.specs.declared.refusal.Refusal.TheVariants as refusal
 
@@ -25,14 +25,12 @@ unjudged name (check.Loop net) = refusal.Loop net
 unjudged name (check.Certificate fault) = refusal.BadPart name fault
 
 -- the reason gives the fault, with the names at its places
-pub record TellsUnjoined (names : List (List ℕ)) (fault : JoinFault) (reason : Refusal) : Type 0 where
-  pub one : Bor (List ℕ)
-  pub other : Bor (List ℕ)
+pub record TellsUnjoined (names : List (List ℕ)) (fault : JoinFault ℕ) (reason : Refusal) : Type 0 where
+  pub told : JoinFault (Bor (List ℕ))
   pub reported : fault ≢ join.OutOfMemory
-  pub one_is : one.now ≡ get_or names (first_place fault) []
-  pub other_is : other.now ≡ get_or names (second_place fault) []
-  pub is : reason ≡ refusal.NotJoined fault one other
+  pub named : renamed (λ name. name.now) told ≡ renamed (λ place. get_or names place []) fault
+  pub is : reason ≡ refusal.NotJoined told
 
 -- the reason gives this fault, or says that memory ran out
-abbrev pub IsOfUnjoined : List (List ℕ) → JoinFault → Refusal → Type 0
+abbrev pub IsOfUnjoined : List (List ℕ) → JoinFault ℕ → Refusal → Type 0
 IsOfUnjoined names fault reason = (reason ≡ refusal.OutOfMemory) ⊎ TellsUnjoined names fault reason

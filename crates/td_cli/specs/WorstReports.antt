@@ -1,5 +1,5 @@
 -- What `worst` prints.
-use Rattle.std.specs.Prelude.{◌≡◌, ℕ, List, ◌++◌, codes, decimal, length, Bool, Option, Some, None, is_some}
+use Rattle.std.specs.Prelude.{◌≡◌, ℕ, List, ◌++◌, codes, decimal, length, Bool, Option, Some, None, is_some, min}
 use Rattle.td_reading.specs.declared.reading.Reading.{Reading}
 use Rattle.td_nets.specs.Netlist.{Netlist}
 use Rattle.td_domain.specs.Pairs.{Pair}
@@ -71,6 +71,11 @@ strategy_of word.Least = method.Least
 strategy_of word.Lead = method.Lead
 strategy_of word.Refute = method.Refute
 strategy_of word.Auto = method.Auto
+
+-- the seconds after which a search ends, if it is to end so: 136 years where more are given
+abbrev pub seconds_of : Option ℕ → Option ℕ
+seconds_of None = None
+seconds_of (Some seconds) = Some (min seconds 4294967295)
 
 -- what the words of a search ask of a text: the setting, which pairs of its inputs are admitted,
 -- and the strategy of the first tree

@@ -27,7 +27,7 @@ use td_delivery::telling::{Product, hand_over, tell_refusal, tell_unread};
 use td_domain::{Cube, Trit};
 use td_files::Files;
 use td_join::{JoinFault, join, join_in};
-use td_report::hindrance::{first_place, name_at, second_place};
+use td_report::hindrance::named;
 use td_report::refusal::Refusal;
 use td_report::report;
 use td_report::simulate::circuit;
@@ -72,7 +72,7 @@ fn joined_with(
     alloc: Global,
     parts: Vec<Certificate>,
     pins: &Option<Cube>,
-) -> Result<Certificate, JoinFault>
+) -> Result<Certificate, JoinFault<usize>>
     ensures joined { IfOk result (IsJoined parts.items (whole_pins pins.now parts.items)) }
     ensures accepted { IfOk result (λ whole. (any : Netlist) → All (Accepts any) parts.items → Accepts any whole) }
     ensures spelled { IfOk result (λ whole. All HasSpelling parts.items → HasSpelling whole) }
@@ -85,15 +85,13 @@ fn joined_with(
 }
 
 /// The reason that tells why parts aren't joined, by the names of their files.
-fn unjoined<'a>(fault: JoinFault, names: &[&'a str]) -> Refusal<'a>
+fn unjoined<'a>(fault: JoinFault<usize>, names: &[&'a str]) -> Refusal<'a>
     ensures { IsOfUnjoined (map (λ name. name.now) names.now) fault result }
 {
     if let JoinFault::OutOfMemory = fault {
         return Refusal::OutOfMemory;
     }
-    let one = name_at(names, first_place(&fault));
-    let other = name_at(names, second_place(&fault));
-    Refusal::NotJoined(fault, one, other)
+    Refusal::NotJoined(named(fault, names))
 }
 
 /// What the parts in the files of these names are joined into.

@@ -9,7 +9,7 @@ ghost use Rattle.td_report.specs.Ends.{EndsBehind, streams};
 ghost use Rattle.td_cli.specs.Outcomes.{HasNoSearch};
 ghost use Rattle.td_cli.specs.Progress.{TellsSearch};
 ghost use Rattle.td_cli.specs.Requests.{search_ending, IsWorstProduct, RequestRuns};
-ghost use Rattle.td_cli.specs.WorstReports.{IsAsked, IsWorstReport};
+ghost use Rattle.td_cli.specs.WorstReports.{seconds_of, IsAsked, IsWorstReport};
 ghost use Rattle.td_command.specs.declared.command.Request.TheVariants as Asks;
 
 use crate::answer::{Found, found_of, unanswered};
@@ -97,13 +97,32 @@ fn ending(certificate: &Option<Certificate>) -> Status
     }
 }
 
-/// The seconds after which a search ends, if it is to end so.
-pub fn seconds_of(given: Option<u64>) -> Option<u32>
-    ensures { is_some result ≡ is_some given }
+/// The seconds after which a search ends, if it is to end so: 136 years where more are given.
+fn seconds_of(given: Option<u64>) -> Option<u32>
+    ensures { result ≡ seconds_of given }
 {
     match given {
         Some(seconds) => Some(u32::try_from(seconds).unwrap_or(u32::MAX)),
         None => None,
+    }
+}
+
+/// How the search of a request goes.
+pub fn effort_of(request: &WorstRequest<'_>) -> TimedEffort
+    requires modest { request.now.budget ≤ 10000000 }
+    requires some { 0 < request.now.workers }
+    requires few { request.now.workers ≤ 64 }
+    ensures workers { result.effort.workers ≡ request.now.workers }
+    ensures budget { result.effort.budget ≡ request.now.budget }
+    ensures seconds { result.seconds ≡ seconds_of request.now.seconds }
+    ensures timed { is_some result.seconds ≡ is_some request.now.seconds }
+{
+    TimedEffort {
+        effort: Effort {
+            workers: request.workers,
+            budget: u64::from(request.budget),
+        },
+        seconds: seconds_of(request.seconds),
     }
 }
 
@@ -134,13 +153,7 @@ pub fn worst<'a, 'v, W: Watch, R: Threads + Wait + Clock + Sync>(
 {
     let asked = question_of(alloc, text, &request.reading, request.question)?;
     let method = strategy_of(request.question.strategy);
-    let effort = TimedEffort {
-        effort: Effort {
-            workers: request.workers,
-            budget: u64::from(request.budget),
-        },
-        seconds: seconds_of(request.seconds),
-    };
+    let effort = effort_of(request);
     let searched = td_worst::worst(
         rt,
         alloc,

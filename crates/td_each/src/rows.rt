@@ -1,6 +1,6 @@
 //! The rows of the table: what is found of one output.
 
-ghost use Rattle.std.specs.Prelude.{◌≡◌, ◌≢◌, ◌<◌, ◌≤◌, ◌*◌, length, is_some, IfOk, IfErr};
+ghost use Rattle.std.specs.Prelude.{◌≡◌, ◌≢◌, ◌<◌, ◌≤◌, ◌*◌, length, IfOk, IfErr};
 ghost use Rattle.td_circuit.specs.Numbering.{setting};
 ghost use Rattle.td_certificate.specs.declared.tree.BoundedBy.TheVariants as by;
 ghost use Rattle.td_report.specs.BoundReports.{IsSoundBound};
@@ -13,15 +13,14 @@ use std::sync::Wait;
 use std::thread::Threads;
 use std::time::Clock;
 use td_circuit::Circuit;
-use td_cli::worst::seconds_of;
+use td_cli::worst::effort_of;
 use td_cli::{WorstRequest, question_of, strategy_of, unanswered};
 use td_domain::{Cube, bound};
 use td_edges::Edges;
-use td_pool::{Effort, Unwatched};
+use td_pool::Unwatched;
 use td_reading::Reading;
 use td_report::refusal::Refusal;
 use td_search::Answer;
-use td_worst::TimedEffort;
 
 /// What a search says of the worst delay.
 #[derive(Clone, Copy, Debug)]
@@ -74,24 +73,6 @@ fn edges_of(alloc: Global, circuit: &Circuit, cube: &Cube) -> Result<Option<u64>
 {
     let edges = bound::<Edges>(alloc, circuit, cube)?;
     Ok(edges)
-}
-
-/// How a search of a request goes.
-fn effort_of(request: &WorstRequest<'_>) -> TimedEffort
-    requires modest { request.now.budget ≤ 10000000 }
-    requires some { 0 < request.now.workers }
-    requires few { request.now.workers ≤ 64 }
-    ensures workers { result.effort.workers ≡ request.now.workers }
-    ensures budget { result.effort.budget ≡ request.now.budget }
-    ensures timed { is_some result.seconds ≡ is_some request.now.seconds }
-{
-    TimedEffort {
-        effort: Effort {
-            workers: request.workers,
-            budget: u64::from(request.budget),
-        },
-        seconds: seconds_of(request.seconds),
-    }
 }
 
 /// What is found of what a request asks of a text that is read so.

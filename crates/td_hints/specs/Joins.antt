@@ -3,7 +3,7 @@ use Rattle.std.specs.Prelude.{ℕ, List, codes}
 use Rattle.td_join.specs.declared.fault.JoinFault.{JoinFault}
 use Rattle.td_join.specs.declared.fault.JoinFault.TheVariants as fault
 
-abbrev pub sentence : JoinFault → List ℕ
+abbrev pub sentence : {P : Type 0} → JoinFault P → List ℕ
 sentence fault.OutOfMemory = codes "memory ran out"
 sentence fault.NoCertificate = codes "there is no certificate to join"
 sentence (fault.OtherCircuit one other) = codes "the two are of circuits with other numbers of inputs or gates"
@@ -16,7 +16,7 @@ sentence (fault.Crossed one other) = codes "both lie in a cube that no bit halve
 sentence (fault.Gap one) = codes "a part is missing: admitted pairs lie in no certificate"
 sentence (fault.FalseNone one) = codes "a leaf of it says that no pair lies in its cube, where all pairs are admitted"
 
-abbrev pub advice : JoinFault → List ℕ
+abbrev pub advice : {P : Type 0} → JoinFault P → List ℕ
 advice fault.OutOfMemory = codes "give it more memory"
 advice fault.NoCertificate = codes "name the certificates of all parts"
 advice (fault.OtherCircuit one other) = codes "one of them is of another netlist"

@@ -6,7 +6,7 @@ ghost use Rattle.td_hints.specs.Joins.{sentence, advice};
 use td_join::JoinFault;
 
 /// What is wrong.
-pub fn sentence(fault: &JoinFault) -> &'static [u8]
+pub fn sentence<P>(fault: &JoinFault<P>) -> &'static [u8]
     ensures { result.now ≡ sentence fault.now }
 {
     match fault {
@@ -33,7 +33,7 @@ pub fn sentence(fault: &JoinFault) -> &'static [u8]
 }
 
 /// What to do about it.
-pub fn advice(fault: &JoinFault) -> &'static [u8]
+pub fn advice<P>(fault: &JoinFault<P>) -> &'static [u8]
     ensures { result.now ≡ advice fault.now }
 {
     match fault {

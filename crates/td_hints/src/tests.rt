@@ -146,7 +146,7 @@ fn verdicts_have_lines(rt: HostRuntime) -> Result<(), Fail> {
 
 #[test]
 fn faults_of_joins_have_lines(rt: HostRuntime) -> Result<(), Fail> {
-    let faults: [JoinFault; 11] = [
+    let faults: [JoinFault<usize>; 11] = [
         JoinFault::OutOfMemory,
         JoinFault::NoCertificate,
         JoinFault::OtherCircuit(0, 1),

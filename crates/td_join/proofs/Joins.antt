@@ -47,7 +47,7 @@ own_tree admit cube parts own tree e =
     (subst (λ (ps : List Part). AreJoined admit cube (certificates_of ps) own.part.certificate.tree) (sym own.only)
     (subst (λ (q : List Trit). AreJoined admit q (own.part.certificate ∷ []) own.part.certificate.tree) own.pins (alone own.part.certificate)))
 
-pub is_stuck : (admit : Admitted) (cube : List Trit) (parts : List Part) (fault : JoinFault) → IsClash parts fault
+pub is_stuck : (admit : Admitted) (cube : List Trit) (parts : List Part) (fault : JoinFault ℕ) → IsClash parts fault
     → IsUncutIn cube parts → (¬ IsJoinable admit cube (certificates_of parts)) → IsStuck admit cube parts fault
 is_stuck admit cube parts (fault.Overlap this that) clash uncut not_joinable = (clash, uncut, not_joinable)
 is_stuck admit cube parts (fault.Crossed this that) clash uncut not_joinable = (clash, uncut, not_joinable)

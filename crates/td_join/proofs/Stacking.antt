@@ -241,7 +241,7 @@ module _ (certificates : List Certificate) (admit : Admitted) where
   in_no_part [] c e has = absurd (omega (arith, has.1))
   in_no_part (p ∷ parts) c e has = absurd cc
 
-  pub tree_fault : (group : Group) (reported : JoinFault) → IsGroup certificates admit group → IsStuck admit group.cube group.parts.items reported
+  pub tree_fault : (group : Group) (reported : JoinFault ℕ) → IsGroup certificates admit group → IsStuck admit group.cube group.parts.items reported
       → IsTreeFault admit certificates reported
   tree_fault group fault.OutOfMemory known stuck = tt
   tree_fault group (fault.Gap gap) known stuck =

@@ -59,7 +59,7 @@ module _ (certificates : List Certificate) (gates : ℕ) (question : Question) (
       ∙ ap (λ (x : List Trit). same_pairs c.question.admit x) joined.pins_are ∙ sym mine in
       none (whole.tree, subst (λ (a : Admitted). AreJoined a question.admit.pins certificates whole.tree) same joined.tree)
 
-  pub reported : (fault : JoinFault) → IsTreeFault question.admit certificates fault → IsJoinFault certificates question.admit.pins fault
+  pub reported : (fault : JoinFault ℕ) → IsTreeFault question.admit certificates fault → IsJoinFault certificates question.admit.pins fault
   reported fault.OutOfMemory h = tt
   reported (fault.Overlap this that) h = (h.0, unjoinable h.1)
   reported (fault.Crossed this that) h = (h.0, unjoinable h.1)
@@ -78,13 +78,13 @@ module _ (certificates : List Certificate) (gates : ℕ) (question : Question) (
       → this ≡ with_pins that this.admit.pins
   same_question this that admit moments = rw (admit, moments) refl
 
-  pub false_none : All HasFit certificates → (reported : JoinFault) → IsFalseNoneIn certificates question reported → IsJoinFault certificates question.admit.pins reported
+  pub false_none : All HasFit certificates → (reported : JoinFault ℕ) → IsFalseNoneIn certificates question reported → IsJoinFault certificates question.admit.pins reported
   false_none fit reported h =
       let c = h.certificate in
       let has = slice_get-Contains certificates h.place c h.at in
       let mine = All-contains (IsOfQuestion gates question) certificates c alike has in
       let first = All-contains (IsOfQuestion gates question) certificates first_of.0 alike (slice_get-Contains certificates 0 first_of.0 first_of.1) in
-      subst (λ (f : JoinFault). IsJoinFault certificates question.admit.pins f) (sym h.reported_is) (record {
+      subst (λ (f : JoinFault ℕ). IsJoinFault certificates question.admit.pins f) (sym h.reported_is) (record {
         first = first_of.0;
         certificate = c;
         first_at = first_of.1;

@@ -15,8 +15,22 @@ use Rattle.td_join.specs.declared.fault.JoinFault.{JoinFault}
 use Rattle.td_join.specs.declared.fault.JoinFault.TheVariants as fault
 use Rattle.td_join.specs.Joining.{pins_of, with_pins, has_none, zeros, ones, AreKnownAt, IsJoined}
 
+-- the fault with each certificate that it tells told by this in its place
+abbrev pub renamed : {A B : Type 0} → (A → B) → JoinFault A → JoinFault B
+renamed name fault.OutOfMemory = fault.OutOfMemory
+renamed name fault.NoCertificate = fault.NoCertificate
+renamed name (fault.OtherCircuit this that) = fault.OtherCircuit (name this) (name that)
+renamed name (fault.OtherHold this that) = fault.OtherHold (name this) (name that)
+renamed name (fault.OtherFlips this that) = fault.OtherFlips (name this) (name that)
+renamed name (fault.OtherMoments this that) = fault.OtherMoments (name this) (name that)
+renamed name (fault.Outside this) = fault.Outside (name this)
+renamed name (fault.Overlap this that) = fault.Overlap (name this) (name that)
+renamed name (fault.Crossed this that) = fault.Crossed (name this) (name that)
+renamed name (fault.Gap cube) = fault.Gap cube
+renamed name (fault.FalseNone this) = fault.FalseNone (name this)
+
 -- a certificate differs from the first one in what the fault says
-abbrev pub IsUnlike : Certificate → Certificate → ℕ → JoinFault → Type 0
+abbrev pub IsUnlike : Certificate → Certificate → ℕ → JoinFault ℕ → Type 0
 IsUnlike first other place (fault.OtherCircuit this that) =
     (this ≡ 0) × (that ≡ place) × ((first.gates ≢ other.gates) ⊎ (inputs_of first.question ≢ inputs_of other.question))
 IsUnlike first other place (fault.OtherHold this that) = (this ≡ 0) × (that ≡ place) × (first.question.admit.held ≢ other.question.admit.held)
@@ -25,7 +39,7 @@ IsUnlike first other place (fault.OtherMoments this that) = (this ≡ 0) × (tha
 IsUnlike first other place fault = ⊥
 
 -- the first certificate, and another one that differs from it as the fault says
-pub record IsUnlikeIn (certificates : List Certificate) (reported : JoinFault) : Type 0 where
+pub record IsUnlikeIn (certificates : List Certificate) (reported : JoinFault ℕ) : Type 0 where
   pub first : Certificate
   pub other : Certificate
   pub place : ℕ
@@ -44,12 +58,12 @@ pub data IsOutside (pins cube : List Trit) : Type 0 where
   bits : (position : ℕ) (t : Trit) → slice_get pins position ≡ Some t → t ≢ Free → slice_get cube position ≢ Some t → IsOutside pins cube
 
 -- the fault says that the certificate of this place is outside, and it is
-abbrev pub IsOutsideAt : Certificate → List Trit → ℕ → JoinFault → Type 0
+abbrev pub IsOutsideAt : Certificate → List Trit → ℕ → JoinFault ℕ → Type 0
 IsOutsideAt c pins place (fault.Outside this) = (this ≡ place) × IsOutside pins (pins_of c)
 IsOutsideAt c pins place fault = ⊥
 
 -- one of the certificates is outside, as the fault says
-pub record IsOutsideIn (certificates : List Certificate) (pins : List Trit) (reported : JoinFault) : Type 0 where
+pub record IsOutsideIn (certificates : List Certificate) (pins : List Trit) (reported : JoinFault ℕ) : Type 0 where
   pub certificate : Certificate
   pub place : ℕ
   pub at : slice_get certificates place ≡ Some certificate
@@ -118,7 +132,7 @@ IsUnjoinable certificates pins = (whole : Certificate) → ¬ IsJoined certifica
 
 -- What a fault says of certificates that aren't joined with these pins. That memory ran out says
 -- nothing of them.
-abbrev pub IsJoinFault : List Certificate → List Trit → JoinFault → Type 0
+abbrev pub IsJoinFault : List Certificate → List Trit → JoinFault ℕ → Type 0
 IsJoinFault certificates pins fault.OutOfMemory = Unit {0}
 IsJoinFault certificates pins fault.NoCertificate = certificates ≡ []
 IsJoinFault certificates pins (fault.Outside place) = IsOutsideIn certificates pins (fault.Outside place)

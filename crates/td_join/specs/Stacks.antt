@@ -57,7 +57,7 @@ weights (group ∷ groups) = most_nodes group.cube + weights groups
 -- What a fault says of certificates that aren't joined in these pins: they can't be. An admitted
 -- pair lies in two of them, or no position parts those of a cube; or an admitted pair lies in a
 -- cube of the pins and in no certificate's.
-abbrev pub IsTreeFault : Admitted → List Certificate → JoinFault → Type 0
+abbrev pub IsTreeFault : Admitted → List Certificate → JoinFault ℕ → Type 0
 IsTreeFault admit certificates fault.OutOfMemory = Unit {0}
 IsTreeFault admit certificates (fault.Overlap this that) = IsOverlap certificates this that × (¬ IsJoinable admit admit.pins certificates)
 IsTreeFault admit certificates (fault.Crossed this that) = IsCrossed certificates admit.pins this that × (¬ IsJoinable admit admit.pins certificates)

@@ -81,7 +81,7 @@ pub record ShareAt (parts : List Part) (this that : ℕ) : Type 0 where
   pub shares : HasAdmitted one.certificate.question.admit (pins_of other.certificate)
 
 -- two parts clash in the group
-abbrev pub IsClash : List Part → JoinFault → Type 0
+abbrev pub IsClash : List Part → JoinFault ℕ → Type 0
 IsClash parts (fault.Overlap this that) = ShareAt parts this that
 IsClash parts (fault.Crossed this that) = IsPartAt parts this × IsPartAt parts that × (this ≢ that)
 IsClash parts fault = ⊥
@@ -95,14 +95,14 @@ IsStep admit cube parts (step.Halves position low high) =
     × (high.cube ≡ one_side cube position) × (high.parts.items ≡ one_parts position parts) × (parts ≢ [])
 
 -- why a group is neither
-abbrev pub IsStuck : Admitted → List Trit → List Part → JoinFault → Type 0
+abbrev pub IsStuck : Admitted → List Trit → List Part → JoinFault ℕ → Type 0
 IsStuck admit cube parts fault.OutOfMemory = Unit {0}
 IsStuck admit cube parts (fault.Gap gap) = (gap ≡ cube) × (parts ≡ []) × HasAdmitted admit cube
 IsStuck admit cube parts fault = IsClash parts fault × IsUncutIn cube parts × (¬ IsJoinable admit cube (certificates_of parts))
 
 -- all pairs are admitted and all inputs change at moment 0, and a leaf of the certificate that the
 -- fault names says that no admitted pair lies in its cube
-pub record IsFalseNoneIn (certificates : List Certificate) (question : Question) (reported : JoinFault) : Type 0 where
+pub record IsFalseNoneIn (certificates : List Certificate) (question : Question) (reported : JoinFault ℕ) : Type 0 where
   pub certificate : Certificate
   pub place : ℕ
   pub at : slice_get certificates place ≡ Some certificate

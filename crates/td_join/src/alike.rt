@@ -17,7 +17,7 @@ fn hold_alike(this: &[bool], that: &[bool]) -> bool
 }
 
 /// Whether a certificate is as the first one. The error says what they differ in.
-fn alike(first: &Certificate, place: usize, other: &Certificate) -> Result<(), JoinFault>
+fn alike(first: &Certificate, place: usize, other: &Certificate) -> Result<(), JoinFault<usize>>
     ensures ok { OnOk result (IsAlike first.now other.now) }
     ensures tree { IsTree other.now.tree }
     ensures fit { HasFit other.now }
@@ -45,7 +45,7 @@ fn alike(first: &Certificate, place: usize, other: &Certificate) -> Result<(), J
 
 /// Whether all certificates are as the first one. The error says which isn't, and what it differs
 /// in.
-pub fn all_alike(first: &Certificate, certificates: &[Certificate]) -> Result<(), JoinFault>
+pub fn all_alike(first: &Certificate, certificates: &[Certificate]) -> Result<(), JoinFault<usize>>
     requires { slice_get certificates.now 0 ≡ Some first.now }
     ensures ok { OnOk result (All (IsAlike first.now) certificates.now) }
     ensures trees { OnOk result (All (λ c. IsTree c.tree) certificates.now) }

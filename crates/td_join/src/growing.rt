@@ -13,7 +13,11 @@ use td_certificate::Node;
 use td_domain::Admit;
 
 /// The nodes of the tree of some certificates, whose whole admits these pairs.
-pub fn joined_nodes(alloc: Global, admit: &Admit, parts: Vec<Part>) -> Result<Vec<Node>, JoinFault>
+pub fn joined_nodes(
+    alloc: Global,
+    admit: &Admit,
+    parts: Vec<Part>,
+) -> Result<Vec<Node>, JoinFault<usize>>
     requires placed { All (IsPlaced (certificates_of parts.items)) parts.items }
     requires order { AreInOrder parts.items }
     requires within { AreAllInside admit.now.pins parts.items }

@@ -80,7 +80,7 @@ fn is_outside(cube: &Cube, pins: &Cube) -> bool
 }
 
 /// Whether a certificate's pins are a part of these. The error says that they aren't.
-fn inside(certificate: &Certificate, place: usize, pins: &Cube) -> Result<(), JoinFault>
+fn inside(certificate: &Certificate, place: usize, pins: &Cube) -> Result<(), JoinFault<usize>>
     ensures ok { OnOk result (IsInside pins.now (pins_of certificate.now)) }
     ensures fault { IfErr result (IsOutsideAt certificate.now pins.now place) }
 {
@@ -91,7 +91,7 @@ fn inside(certificate: &Certificate, place: usize, pins: &Cube) -> Result<(), Jo
 }
 
 /// Whether the pins of all certificates are parts of these. The error says whose aren't.
-pub fn all_inside(certificates: &[Certificate], pins: &Cube) -> Result<(), JoinFault>
+pub fn all_inside(certificates: &[Certificate], pins: &Cube) -> Result<(), JoinFault<usize>>
     ensures ok { OnOk result (All (λ c. IsInside pins.now (pins_of c)) certificates.now) }
     ensures fault { IfErr result (IsOutsideIn certificates.now pins.now) }
 {

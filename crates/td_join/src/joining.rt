@@ -43,7 +43,7 @@ fn join_alike(
     certificates: Vec<Certificate>,
     gates: u32,
     question: Question,
-) -> Result<Certificate, JoinFault>
+) -> Result<Certificate, JoinFault<usize>>
     requires some { 0 < length certificates.items }
     requires alike { All (IsOfQuestion gates question) certificates.items }
     requires trees { All (λ c. IsTree c.tree) certificates.items }
@@ -73,7 +73,7 @@ fn join_alike(
 }
 
 /// The first certificate, as which all others are.
-fn alike_first(certificates: &[Certificate]) -> Result<&Certificate, JoinFault>
+fn alike_first(certificates: &[Certificate]) -> Result<&Certificate, JoinFault<usize>>
     ensures first { IfOk result (λ first. slice_get certificates.now 0 ≡ Some first.now) }
     ensures alike { IfOk result (λ first. All (IsAlike first.now) certificates.now) }
     ensures trees { IfOk result (λ first. All (λ c. IsTree c.tree) certificates.now) }
@@ -114,7 +114,7 @@ pub fn join_in(
     alloc: Global,
     certificates: Vec<Certificate>,
     pins: &Cube,
-) -> Result<Certificate, JoinFault>
+) -> Result<Certificate, JoinFault<usize>>
     // They are joined into one with these pins. Where a netlist accepts each of them, it accepts
     // the whole, and where each has a text, the whole has one.
     ensures joined { IfOk result (IsJoined certificates.items pins.now) }
@@ -130,7 +130,7 @@ pub fn join_in(
 }
 
 /// As `join_in`, with the least cube that has the pins of all certificates.
-pub fn join(alloc: Global, certificates: Vec<Certificate>) -> Result<Certificate, JoinFault>
+pub fn join(alloc: Global, certificates: Vec<Certificate>) -> Result<Certificate, JoinFault<usize>>
     ensures joined { IfOk result (IsJoined certificates.items (hull certificates.items)) }
     ensures accepted { IfOk result (λ whole. (netlist : Netlist) → All (Accepts netlist) certificates.items → Accepts netlist whole) }
     ensures spelled { IfOk result (λ whole. All HasSpelling certificates.items → HasSpelling whole) }

@@ -35,7 +35,7 @@ fn is_of_all(question: &Question) -> bool
 pub fn without_false_none(
     question: &Question,
     certificates: &[Certificate],
-) -> Result<(), JoinFault>
+) -> Result<(), JoinFault<usize>>
     ensures ok { OnOk result (version_of question.now ≡ First → All (λ c. has_none c.tree ≡ false) certificates.now) }
     ensures fault { IfErr result (IsFalseNoneIn certificates.now question.now) }
 {

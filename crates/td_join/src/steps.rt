@@ -23,7 +23,7 @@ pub enum Step {
 
 /// The tree of a cube without a part. The error is out of memory, or that an admitted pair lies
 /// there.
-fn empty_leaf(alloc: Global, admit: &Admit, cube: Cube) -> Result<Step, JoinFault>
+fn empty_leaf(alloc: Global, admit: &Admit, cube: Cube) -> Result<Step, JoinFault<usize>>
     requires { length cube ≡ length admit.now.pins }
     ensures step { IfOk result (IsStep admit.now cube []) }
     ensures fault { IfErr result (IsStuck admit.now cube []) }
@@ -46,7 +46,7 @@ fn share(one: &Part, other: &Part) -> bool
 }
 
 /// Two parts that clash, of two or more of which the first is this one.
-fn clash(first: &Part, parts: &[Part]) -> JoinFault
+fn clash(first: &Part, parts: &[Part]) -> JoinFault<usize>
     requires first { (rest : List Numbered) × (parts.now ≡ first.now ∷ rest) }
     requires two { 1 < length parts.now }
     requires order { AreInOrder parts.now }
@@ -88,7 +88,7 @@ fn only_tree(alloc: Global, group: Group) -> Step
 /// cube.
 ///
 /// The error is out of memory, or why the group can't be joined.
-pub fn step_of(alloc: Global, admit: &Admit, group: Group) -> Result<Step, JoinFault>
+pub fn step_of(alloc: Global, admit: &Admit, group: Group) -> Result<Step, JoinFault<usize>>
     requires fit { length group.cube ≡ length admit.now.pins }
     requires order { AreInOrder group.parts.items }
     requires within { AreAllInside group.cube group.parts.items }

@@ -36,7 +36,7 @@ path_refused text reading from to at (Some word) (OneFile out file) is = is
 path_refused text reading from to at (Some word) (BadPart name fault) is = is
 path_refused text reading from to at (Some word) (Unaccepted name verdict) is = is
 path_refused text reading from to at (Some word) (OtherCircuit name) is = is
-path_refused text reading from to at (Some word) (NotJoined fault one other) is = is
+path_refused text reading from to at (Some word) (NotJoined fault) is = is
 path_refused text reading from to at (Some word) TooLong is = is
 
 -- a word gives nothing for the inputs of a circuit

@@ -44,7 +44,7 @@ status_of refusal.NoOutput = BadCommand
 status_of (refusal.OneFile out file) = BadCommand
 status_of (refusal.Unaccepted name verdict) = Rejected
 status_of (refusal.OtherCircuit name) = Rejected
-status_of (refusal.NotJoined fault one other) = Rejected
+status_of (refusal.NotJoined fault) = Rejected
 status_of refusal.TooLong = Rejected
 status_of reason = Refused
 

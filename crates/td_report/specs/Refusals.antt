@@ -94,7 +94,7 @@ reason_text (OneFile out file) = one_file_text out.now file.now
 reason_text (BadPart name fault) = bad_part_text name.now fault
 reason_text (Unaccepted name verdict) = unaccepted_text name.now verdict
 reason_text (OtherCircuit name) = other_circuit_text name.now
-reason_text (NotJoined fault one other) = unjoined_text fault one.now other.now
+reason_text (NotJoined fault) = unjoined_text fault
 reason_text TooLong = too_long_text
 
 -- the line that tells why a command wasn't carried out

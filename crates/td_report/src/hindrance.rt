@@ -1,7 +1,8 @@
 //! The text that says why certificates aren't joined.
 
 ghost use Rattle.std.specs.Prelude.{◌≡◌, ◌++◌, [], OnOk, get_or, map};
-ghost use Rattle.td_report.specs.JoinTexts.{first_place, second_place, two_text, one_text, gap_text, unjoined_text};
+ghost use Rattle.td_join.specs.Faults.{renamed};
+ghost use Rattle.td_report.specs.JoinTexts.{two_text, one_text, gap_text, unjoined_text};
 ghost use Rattle.td_report.specs.Pinning.{pins_text};
 
 use crate::pinning::push_pins;
@@ -9,42 +10,6 @@ use crate::text::Text;
 use std::alloc::AllocError;
 use td_domain::Cube;
 use td_join::JoinFault;
-
-/// The place of the first certificate that a fault tells, 0 where it tells none.
-pub fn first_place(fault: &JoinFault) -> usize
-    ensures { result ≡ first_place fault.now }
-{
-    match fault {
-        JoinFault::OtherCircuit(this, _)
-        | JoinFault::OtherHold(this, _)
-        | JoinFault::OtherFlips(this, _)
-        | JoinFault::OtherMoments(this, _)
-        | JoinFault::Outside(this)
-        | JoinFault::Overlap(this, _)
-        | JoinFault::Crossed(this, _)
-        | JoinFault::FalseNone(this) => *this,
-        JoinFault::OutOfMemory | JoinFault::NoCertificate | JoinFault::Gap(_) => 0,
-    }
-}
-
-/// The place of the second certificate that a fault tells, 0 where it tells none.
-pub fn second_place(fault: &JoinFault) -> usize
-    ensures { result ≡ second_place fault.now }
-{
-    match fault {
-        JoinFault::OtherCircuit(_, that)
-        | JoinFault::OtherHold(_, that)
-        | JoinFault::OtherFlips(_, that)
-        | JoinFault::OtherMoments(_, that)
-        | JoinFault::Overlap(_, that)
-        | JoinFault::Crossed(_, that) => *that,
-        JoinFault::OutOfMemory
-        | JoinFault::NoCertificate
-        | JoinFault::Outside(_)
-        | JoinFault::Gap(_)
-        | JoinFault::FalseNone(_) => 0,
-    }
-}
 
 /// The name at a place, empty where there is none.
 pub fn name_at<'a>(names: &[&'a str], place: usize) -> &'a str
@@ -56,28 +21,53 @@ pub fn name_at<'a>(names: &[&'a str], place: usize) -> &'a str
     }
 }
 
-/// Appends the line, but for its end, that tells why certificates aren't joined: those of the two
-/// files, where it tells two.
-pub fn tell_unjoined(
-    text: &mut Text,
-    fault: &JoinFault,
-    one: &str,
-    other: &str,
-) -> Result<(), AllocError>
-    ensures { OnOk result (text.new ≡ text.old ++ unjoined_text fault.now one.now other.now) }
+/// The fault that tells certificates by the names of their files, which stand at their places.
+pub fn named<'a>(fault: JoinFault<usize>, names: &[&'a str]) -> JoinFault<&'a str>
+    ensures { renamed (λ name. name.now) result ≡ renamed (λ place. get_or (map (λ name. name.now) names.now) place []) fault }
+{
+    match fault {
+        JoinFault::OutOfMemory => JoinFault::OutOfMemory,
+        JoinFault::NoCertificate => JoinFault::NoCertificate,
+        JoinFault::OtherCircuit(this, that) => {
+            JoinFault::OtherCircuit(name_at(names, this), name_at(names, that))
+        }
+        JoinFault::OtherHold(this, that) => {
+            JoinFault::OtherHold(name_at(names, this), name_at(names, that))
+        }
+        JoinFault::OtherFlips(this, that) => {
+            JoinFault::OtherFlips(name_at(names, this), name_at(names, that))
+        }
+        JoinFault::OtherMoments(this, that) => {
+            JoinFault::OtherMoments(name_at(names, this), name_at(names, that))
+        }
+        JoinFault::Outside(this) => JoinFault::Outside(name_at(names, this)),
+        JoinFault::Overlap(this, that) => {
+            JoinFault::Overlap(name_at(names, this), name_at(names, that))
+        }
+        JoinFault::Crossed(this, that) => {
+            JoinFault::Crossed(name_at(names, this), name_at(names, that))
+        }
+        JoinFault::Gap(cube) => JoinFault::Gap(cube),
+        JoinFault::FalseNone(this) => JoinFault::FalseNone(name_at(names, this)),
+    }
+}
+
+/// Appends the line, but for its end, that tells why certificates aren't joined.
+pub fn tell_unjoined(text: &mut Text, fault: &JoinFault<&str>) -> Result<(), AllocError>
+    ensures { OnOk result (text.new ≡ text.old ++ unjoined_text fault.now) }
 {
     match fault {
         JoinFault::OutOfMemory => text.push(b"tdelay: out of memory"),
         JoinFault::NoCertificate => text.push(b"tdelay: no certificate"),
-        JoinFault::OtherCircuit(..) => tell_two(text, one, other, b"other circuits"),
-        JoinFault::OtherHold(..) => tell_two(text, one, other, b"other inputs held"),
-        JoinFault::OtherFlips(..) => tell_two(text, one, other, b"other flips"),
-        JoinFault::OtherMoments(..) => tell_two(text, one, other, b"other moments"),
-        JoinFault::Outside(_) => tell_one(text, one, b"other pins"),
-        JoinFault::Overlap(..) => tell_two(text, one, other, b"a pair in both"),
-        JoinFault::Crossed(..) => tell_two(text, one, other, b"no position parts them"),
+        JoinFault::OtherCircuit(one, other) => tell_two(text, one, other, b"other circuits"),
+        JoinFault::OtherHold(one, other) => tell_two(text, one, other, b"other inputs held"),
+        JoinFault::OtherFlips(one, other) => tell_two(text, one, other, b"other flips"),
+        JoinFault::OtherMoments(one, other) => tell_two(text, one, other, b"other moments"),
+        JoinFault::Outside(one) => tell_one(text, one, b"other pins"),
+        JoinFault::Overlap(one, other) => tell_two(text, one, other, b"a pair in both"),
+        JoinFault::Crossed(one, other) => tell_two(text, one, other, b"no position parts them"),
         JoinFault::Gap(cube) => tell_gap(text, cube),
-        JoinFault::FalseNone(_) => tell_one(text, one, b"a leaf without a pair"),
+        JoinFault::FalseNone(one) => tell_one(text, one, b"a leaf without a pair"),
     }
 }
 

@@ -45,8 +45,8 @@ pub enum Refusal<'a> {
     Unaccepted(&'a str, Verdict),
     /// The certificate in this file, of a part, is of another circuit.
     OtherCircuit(&'a str),
-    /// The parts aren't joined; the files of the two that the fault tells, where it tells two.
-    NotJoined(JoinFault, &'a str, &'a str),
+    /// The parts aren't joined. The fault tells the names of their files.
+    NotJoined(JoinFault<&'a str>),
     /// What the parts are joined into has more than 10,000,000 nodes.
     TooLong,
 }
@@ -139,7 +139,7 @@ impl<'a> Refusal<'a> {
             Refusal::BadPart(name, fault) => tell_bad_part(text, name, *fault),
             Refusal::Unaccepted(name, verdict) => tell_unaccepted(text, name, *verdict),
             Refusal::OtherCircuit(name) => tell_other_circuit(text, name),
-            Refusal::NotJoined(fault, one, other) => tell_unjoined(text, fault, one, other),
+            Refusal::NotJoined(fault) => tell_unjoined(text, fault),
             Refusal::TooLong => tell_too_long(text),
         }
     }

@@ -10,16 +10,16 @@ worst-searched-requires-clause-held g c κs within = asked_held c.args.text.now 
 
 pub returns-in-Err-clause-refusal : goal.returns-in-Err-clause-refusal
 returns-in-Err-clause-refusal g c =
-    rw c.unanswered.ensures (no_search c.args.text.now c.args.request.now _ _ c.in-Err.fault c.seconds_of.ensures c.in_ok-asked.ensures.asked c.in-Err.ensures.fault)
+    rw c.unanswered.ensures (no_search c.args.text.now c.args.request.now _ _ c.in-Err.fault c.effort_of-effort.ensures.timed c.in_ok-asked.ensures.asked c.in-Err.ensures.fault)
 
 pub found_of-requires-clause-flips : goal.found_of-requires-clause-flips
 found_of-requires-clause-flips g c = asked_flips c.args.text.now c.args.request.now.reading c.args.request.now.question _ c.in_ok-asked.ensures.asked
 
 pub found_of-requires-clause-first_fits : goal.found_of-requires-clause-first_fits
-found_of-requires-clause-first_fits g c = (pair_fits c.strategy_of-method.result _ c.from.result c.in-Ok.answer c.in-Ok.ensures.answer).0
+found_of-requires-clause-first_fits g c = (pair_fits c.strategy_of-method.result _ c.effort_of-effort.result.effort.budget c.in-Ok.answer c.in-Ok.ensures.answer).0
 
 pub found_of-requires-clause-second_fits : goal.found_of-requires-clause-second_fits
-found_of-requires-clause-second_fits g c = (pair_fits c.strategy_of-method.result _ c.from.result c.in-Ok.answer c.in-Ok.ensures.answer).1
+found_of-requires-clause-second_fits g c = (pair_fits c.strategy_of-method.result _ c.effort_of-effort.result.effort.budget c.in-Ok.answer c.in-Ok.ensures.answer).1
 
 pub returns-clause-spelled : goal.returns-clause-spelled
 returns-clause-spelled g c =
