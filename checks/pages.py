@@ -162,6 +162,16 @@ def counted(tested):
         tested.expect(f"the pages count {edits}", (True, {count}), (bool(found), set(found)))
 
 
+def applied(tested):
+    """Cases: each wrong body that is tried on demand can be put in, as the sources are."""
+    for path in sorted(glob.glob(os.path.join(places.TOP, "checks/wrong_bodies/*/*.edit"))):
+        crate, name = path.split(os.sep)[-2:]
+        first, *lines = places.text_of(path).splitlines()
+        code = places.text_of("crates", crate, first.removeprefix("file: "))
+        counts = [code.count(line[5:]) for line in lines if line.startswith("old: ")]
+        tested.expect(f"{crate}/{name}: each old text stands once", {1}, set(counts))
+
+
 def all_pages():
     """The names of all pages of the repository."""
     found = glob.glob(os.path.join(places.TOP, "**", "*.md"), recursive=True)
@@ -408,6 +418,7 @@ def work(tested):
     renewals(tested)
     tools(tested)
     counted(tested)
+    applied(tested)
     links(tested)
     widths(tested)
     words(tested)

@@ -4,8 +4,9 @@ checks/wrong_bodies/CRATE, each an edit as those in crates/CRATE/must-fail. With
 
 `rt ci` tries the edits in must-fail/ each time, and proves a crate once more for them. These here
 are tried on demand: in a copy of the repository, where `rt must-fail` begins with what `rt check`
-kept of the crate, so that it isn't proved again. Run `rt check` in the crate first; without it
-the first edit of a crate takes as long as its proof.
+kept of the crate, and with the libraries that stand built, so that they aren't proved again. Run
+`rt check` in the crate first; without it the first edit of a crate takes as long as its proof and
+those of all crates below it.
 
 A record has a line for each edit: the checksum of what was tried, crate/edit, and what it came to.
 An edit whose checksum stands in the record as refused isn't tried again. The checksum is of the
@@ -67,6 +68,29 @@ def read_record(path):
         return {}
 
 
+def link_file(one, other):
+    """A second name for a file that a check replaces and never writes into."""
+    try:
+        os.link(one, other)
+    except OSError:
+        shutil.copy2(one, other)
+
+
+def copy_library(one, other):
+    """Hands on what stands built of a library, if it does: the toolchain builds it anew where its
+    sources are others."""
+    built, to = os.path.join(one, "rlib"), os.path.join(other, "rlib")
+    if not os.path.isdir(built):
+        return
+    os.makedirs(to)
+    for name in os.listdir(built):
+        path = os.path.join(built, name)
+        if os.path.isdir(path):
+            shutil.copytree(path, os.path.join(to, name), copy_function=link_file)
+        else:
+            shutil.copy2(path, to)
+
+
 def copy_repository(room, crate, names):
     """Makes a copy of the repository in which the crate has these edits alone."""
     for name in ("HANDLES", "crates.txt"):
@@ -75,6 +99,8 @@ def copy_repository(room, crate, names):
         folder = os.path.join("crates", each)
         unread = shutil.ignore_patterns("out", "must-fail")
         shutil.copytree(os.path.join(TOP, folder), os.path.join(room, folder), ignore=unread)
+        if each != crate:
+            copy_library(os.path.join(TOP, folder, "out"), os.path.join(room, folder, "out"))
     to = os.path.join(room, "crates", crate, "must-fail")
     os.makedirs(to)
     for name in names:
@@ -84,14 +110,6 @@ def copy_repository(room, crate, names):
 def kept_work(crate):
     """What `rt check` kept of this crate in the checkout."""
     return os.path.join(TOP, "crates", crate, "out", "incremental")
-
-
-def link_file(one, other):
-    """A second name for a file that a check replaces and never writes into."""
-    try:
-        os.link(one, other)
-    except OSError:
-        shutil.copy2(one, other)
 
 
 def try_edits(crate, names):
