@@ -86,7 +86,7 @@ ELSEWHERE = {
 COSTS = "docs/FIGURES.md"
 NUMBERS = [
     (r"\((\d+) seconds on\s+four\s+processors", COSTS, r"c17\.v`, the first \| \S+ 3` \| (\d+) \|"),
-    (r"(\d+)\s+minutes\s+on\s+four\s+processors", COSTS, r"\| 4 \| (\d+) minutes \|"),
+    (r"(\d+)\s+minutes\s+on\s+two\s+processors", COSTS, r"\| 2 \| (\d+) minutes \|"),
     (r"1 to (\d+) workers:", "docs/MANUAL.md", r"threads that search, 1 to (\d+)"),
 ]
 LONGEST_README = 150
