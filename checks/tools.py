@@ -5,9 +5,9 @@ netlists, and tools/drawing.py.
 By its command line the second opinion has to print what the program prints, with its exit status:
 of the netlists in examples/ and random pairs `sim` and `path`, of certificates that `worst` writes,
 whole and changed, `check`, and of netlists and words that are refused the status and the kind. The
-pictures in examples/ are what drawing.py makes of the waves that the program writes for a command
-of the same section of examples/README.md. A picture is well-formed, as wide as is asked for and of
-the nets that are, and a text that is no dump is refused.
+pictures in examples/ and examples/from_rtl/ are what drawing.py makes of the waves that the program
+writes for a command of the same section of the README.md there. A picture is well-formed, as wide
+as is asked for and of the nets that are, and a text that is no dump is refused.
 """
 
 import os
@@ -73,23 +73,32 @@ def drawn_of(tested, command):
     return draw(tested, "out.vcd").out
 
 
-def pictures(tested):
-    """Cases: the pictures of examples/ are what is drawn of the waves of a command beside them."""
+def drawn_by_path(tested, command):
+    """The same of the nets on the path to its pair's last change, as run.sh there draws it."""
+    tested.remove("out.vcd")
+    dump = os.path.join(tested.folder, "out.vcd")
+    report = tested.run(*command.split(), "--path", "--vcd", dump, folder=places.TOP).out
+    running.write(tested.folder, "out.txt", report)
+    return draw(tested, "out.vcd", "--width", "900", "--path", "out.txt").out
+
+
+def pictures(tested, folder, drawn, least):
+    """Cases: the pictures of a folder are what is drawn of the waves of a command beside them."""
     count = 0
-    for section in re.split(r"(?m)^## ", places.text_of("examples", "README.md")):
+    for section in re.split(r"(?m)^## ", places.text_of(folder, "README.md")):
         commands = [
             re.sub("^path ", "sim ", it)
             for it in re.findall(r"(?m)^\./tdelay ((?:sim|path|worst) .*)$", section)
         ]
         for name in re.findall(r"!\[.*?\]\((\w+\.svg)\)", section):
             count += 1
-            wanted = places.text_of("examples", name)
-            found = [command for command in commands if drawn_of(tested, command) == wanted]
+            wanted = places.text_of(folder, name)
+            found = [command for command in commands if drawn(tested, command) == wanted]
             tested.expect(f"{name} is drawn of one of {commands}", True, bool(found), "picture")
             elements = [it.tag.rpartition("}")[2] for it in ElementTree.fromstring(wanted).iter()]
             tested.expect(f"lines of {name}", True, "polyline" in elements)
-    if count < 4:
-        tested.fault(f"examples/README.md shows {count} pictures, where there have to be 4")
+    if count < least:
+        tested.fault(f"{folder}/README.md shows {count} pictures, where there have to be {least}")
 
 
 def parts_of(picture):
@@ -195,7 +204,8 @@ def random_pairs(tested, count):
 
 
 def work(tested):
-    pictures(tested)
+    pictures(tested, "examples", drawn_of, 4)
+    pictures(tested, os.path.join("examples", "from_rtl"), drawn_by_path, 3)
     random_pairs(tested, max(10, tested.most - OF_LISTS))
     certificates(tested)
     choices(tested)
