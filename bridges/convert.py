@@ -1,11 +1,11 @@
 """From a flat module of cells to a netlist of gate primitives."""
 
 import re
-from collections import Counter
-from typing import Iterator, List, Optional
+from collections import Counter, defaultdict
+from typing import Dict, Iterator, List, NamedTuple, Optional, Set
 
 from constants import Constants
-from delays import DefaultDelays, Delay, Output
+from delays import DefaultDelays, Delay, Output, Pins
 from gates import GateWriter
 from library import STATE, Library
 from names import Names
@@ -18,6 +18,28 @@ from yosys_json import CONSTANTS, Bit, Cell, Design, Vector
 CONNECT = "connect it; `setundef -zero` of yosys makes undriven nets 0"
 
 
+class Asked(NamedTuple):
+    """How cells are read: each pin with its own delays, latches (open, cut, or `auto`: open where
+    their enable is an input), and the kinds of cells whose state the library has in a table.
+    """
+
+    each_pin: bool = True
+    latch: str = "auto"
+    states: Dict[str, str] = {}
+
+
+def loop_of(reads: Dict[Bit, Set[Bit]], looped: Set[Bit]) -> List[Bit]:
+    """The nets of one loop, of nets that each lead from one."""
+    net = min(looped, key=str)
+    seen: Dict[Bit, int] = {}
+    path: List[Bit] = []
+    while net not in seen:
+        seen[net] = len(path)
+        path.append(net)
+        net = min((it for it in reads[net] if it in looped), key=str)
+    return path[seen[net] :]
+
+
 class Conversion:
     """Writes one module.
 
@@ -25,32 +47,41 @@ class Conversion:
     has to know.
     """
 
-    def __init__(self, design: Design, top: str, delays: DefaultDelays, each_pin: bool):
+    def __init__(self, design: Design, top: str, delays: DefaultDelays, reading: Asked):
         if top not in design:
             raise Refusal(
                 "NoModule",
                 f"there is no module {top}",
                 "name one of the design, as its source has it",
             )
-        self.module, self.library, self.delays = design[top], Library(design), delays
+        self.module, self.delays, self.latch = design[top], delays, reading.latch
+        self.library = Library(design, reading.latch != "cut", reading.states)
         cells = sorted(self.module.cells, key=lambda cell: cell.name)
+        for cell in cells:
+            self.library.refuse_state(cell)
         self.combinational = [cell for cell in cells if not self.library.stores(cell.kind)]
         self.storing = [cell for cell in cells if self.library.stores(cell.kind)]
         self.constants = Constants(self.library, self.combinational)
         self.names = Names(
             self.module, {terminal for terminal in self.port_bits() if self.wire_to(terminal)}
         )
-        self.writer = GateWriter(self.names, each_pin)
+        self.writer = GateWriter(self.names, delays, reading.each_pin)
         self.netlist = Netlist(top)
         self.port_names = {port.name for port in self.module.inputs + self.module.outputs}
+        self.opened = [cell for cell in self.combinational if self.library.latches(cell.kind)]
+        self.open_names = {cell.name for cell in self.opened}
+        self.held: Dict[str, int] = {}
         self.input_bits = {bit for port in self.module.inputs for bit in port.bits}
         self.registers: List[Register] = []
+        self.clocks: List[str] = []
         self.notes: List[str] = []
 
     def run(self):
         """Writes the gates, the registers' ports, and the outputs."""
         self.refuse_like_instances()
         self.refuse_undriven()
+        self.open_latches()
+        self.refuse_loops()
         for cell in self.combinational:
             self.combinational_cell(cell)
         cuts = [(cell, self.register_name(cell)) for cell in self.storing if cell.outputs]
@@ -58,6 +89,8 @@ class Conversion:
             self.register(cell, name)
         self.ports()
         self.netlist.gates = self.writer.gates
+        self.notes += self.kinds_of_registers()
+        self.notes += self.delays.notes({cell.name: cell.kind for cell in self.module.cells})
 
     # What is refused.
 
@@ -96,6 +129,79 @@ class Conversion:
                     "gates drive a net each: leave tristate buses out",
                 )
 
+    def open_latches(self):
+        """Finds what holds the latches open: an input that nothing else reads, where it isn't said
+        that they are open.
+        """
+        closed = (cell for cell in self.module.cells if cell.name not in self.open_names)
+        others = {bit for cell in closed for bit in cell.inputs.values()}
+        others |= {bit for port in self.module.outputs for bit in port.bits}
+        for cell in self.opened:
+            when = self.library.when_pins(cell)
+            others |= {bit for pin, bit in cell.inputs.items() if pin not in when}
+        for cell in self.opened:
+            for pin, level in self.library.open_level(cell).items():
+                bit = cell.inputs.get(pin)
+                alone = bit in self.input_bits and bit not in others
+                if alone and self.held.setdefault(self.terminal(bit), level) == level:
+                    continue
+                if self.latch != "open":
+                    raise Refusal(
+                        "LatchEnable",
+                        f"the enable of the latch {cell.name} isn't an input that only holds "
+                        "latches open",
+                        "--latch open times it as if it were open, --latch cut makes ports of it",
+                    )
+        if self.opened:
+            held = ", ".join(f"{bare_terminal(net)}={level}" for net, level in self.held.items())
+            self.notes.append(
+                f"{len(self.opened)} latches are open, from D to Q ({held or 'as said'})"
+            )
+
+    def refuse_loops(self):
+        """Nets that form a loop, by leaving out all that don't lead to one."""
+        reads, readers = {}, defaultdict(set)
+        for cell in self.combinational:
+            for pin, bit in cell.outputs.items():
+                function = self.constants.function(cell, pin)
+                before = {cell.inputs[it] for it in function.pins if it in cell.inputs}
+                reads[bit] = before
+                for net in before:
+                    readers[net].add(bit)
+        count = {bit: sum(1 for net in before if net in reads) for bit, before in reads.items()}
+        left = [bit for bit, number in count.items() if not number]
+        while left:
+            for reader in readers[left.pop()]:
+                count[reader] -= 1
+                if not count[reader]:
+                    left.append(reader)
+        looped = {bit for bit, number in count.items() if number}
+        if looped:
+            nets = loop_of(reads, looped)
+            names = [bare_terminal(self.terminal(bit)) for bit in nets]
+            given = next(
+                (name for name in names if not re.fullmatch(r"_\w+_|t\d+_.*", name)), names[0]
+            )
+            raise Refusal(
+                "Loop",
+                f"the nets {', '.join(names[:8])} form a loop",
+                f"--cut-net {given} makes an input {given}.q and an output {given}.d of it",
+            )
+
+    def kinds_of_registers(self) -> Iterator[str]:
+        """One note for each kind of register, with its edge and its clocks."""
+        kinds = defaultdict(list)
+        for register in self.registers:
+            kinds[register.cell.kind].append(register)
+        for kind, found in sorted(kinds.items()):
+            clocks = sorted({bare_terminal(net) for it in found for net in it.clocks.values()})
+            of = f" of {', '.join(clocks[:3])}" if clocks else " of a clock that logic makes"
+            late = (
+                "D to Q isn't timed" if self.library.latches(kind) else "states change at moment 0"
+            )
+            edge = self.library.edge(found[0].cell)
+            yield f"{len(found)} {kind} are cut, {edge}{of}: {late}"
+
     def refuse_too_large(self):
         """More than tdelay reads."""
         if len(self.netlist.gates) > MOST_GATES:
@@ -126,7 +232,10 @@ class Conversion:
     def combinational_cell(self, cell: Cell):
         for pin, bit in cell.outputs.items():
             output = Output(cell.name, cell.kind, pin)
-            self.delays.refuse_strangers(output, self.library.function(cell, pin).pins)
+            pins = self.library.function(cell, pin).pins
+            if cell.name in self.open_names:
+                pins += tuple(self.library.when_pins(cell))
+            self.delays.refuse_strangers(output, pins)
             if bit in self.constants.levels:
                 continue
             function = self.constants.function(cell, pin)
@@ -163,7 +272,7 @@ class Conversion:
         for pin, bit in cell.outputs.items():
             output, function = Output(cell.name, cell.kind, pin), self.library.function(cell, pin)
             delay = self.delays.of_register(output, when)
-            delays = {state: delay} if delay else None
+            delays = Pins({state: delay}) if delay else None
             target = self.terminal(bit)
             self.writer.write(output, function, delays, {state: spelled(port)}, target)
         for pin, bit in cell.inputs.items():
@@ -195,7 +304,12 @@ class Conversion:
             for pin, bit in register.cell.inputs.items()
             if pin in register.clocks
         }
-        read = {bit for cell in self.combinational for bit in cell.inputs.values()}
+        read = {
+            bit
+            for cell in self.combinational
+            for pin, bit in cell.inputs.items()
+            if cell.name not in self.open_names or pin not in self.library.when_pins(cell)
+        }
         read |= {
             bit
             for register in self.registers
@@ -205,7 +319,11 @@ class Conversion:
         read |= {bit for port in self.module.outputs for bit in port.bits}
         inputs = []
         for port in self.module.inputs:
+            terminals_of = {self.terminal(bit) for bit in port.bits if bit in self.input_bits}
+            if terminals_of and terminals_of <= set(self.held):
+                continue
             if set(port.bits) <= clocks - read:
+                self.clocks.append(port.name)
                 self.notes.append(f"the input {port.name} is left out: a clock that no gate reads")
             else:
                 inputs.append(Port(port.name, port.bounds))

@@ -1,5 +1,5 @@
 #!/bin/sh
-# from_gates.sh DESIGN TOP OUT [--keep] [options of primitives.py]
+# from_gates.sh DESIGN TOP OUT [--keep] [--allow NAME].. [options of primitives.py]
 # Writes a design as gate primitives without a library: OUT.v, and OUT.shell.v, which has the
 # flip-flops around them. Each gate takes tdelay's default delay, or what --delays says of its kind.
 #
@@ -15,27 +15,38 @@ here=$(dirname "$0")
 usage 3 "$@"
 design=$1 top=$2 out=$3
 shift 3
-keep="" shell="--shell $out.shell.v" rest=$#
+keep="" allow="" shell="--shell $out.shell.v" rest=$#
 while [ "$rest" -gt 0 ]; do
     word=$1
     shift
     rest=$((rest - 1))
     case $word in
     --keep) keep=1 ;;
+    --allow)
+        value "$word" $((rest + 1))
+        allow="$allow --allow $1"
+        shift
+        rest=$((rest - 1))
+        ;;
     *)
         [ "$word" = --outputs ] && shell=""
         set -- "$@" "$word"
         ;;
     esac
 done
+python3 "$here/primitives.py" - "$top" --words-only "$@" || exit 2
+given $design
+fresh "$out.v $out.shell.v $out.json $out.yosys.log" $design
 need yosys yosys
-fresh "$out.v" $design
 map="dffunmap; abc -g AND,NAND,OR,NOR,XOR,XNOR; flatten; opt_clean -purge"
 case $design,$keep in
 *.blif,1) steps="read_blif $design; hierarchy -check -top $top; flatten; opt_clean" ;;
 *.blif,) steps="read_blif $design; hierarchy -check -top $top; flatten; techmap; opt; $map" ;;
-*,1) refuse BadWord "--keep is about BLIF" "leave it out" ;;
-*) steps="read_verilog -sv $design; synth -top $top; $map" ;;
+*,1) bad "--keep is about BLIF" ;;
+*)
+    steps="read_verilog -sv $design; synth -nofsm -top $top; $map"
+    checked "$out.rtl.log" "read_verilog -sv $design; hierarchy -check -top $top" $allow
+    ;;
 esac
 logged "$out.yosys.log" "mend the source" yosys -p "$steps; write_json $out.json"
 python3 "$here/primitives.py" "$out.json" "$top" $shell "$@" > "$out.part" || {

@@ -11,14 +11,16 @@ output. docs/FROM-RTL.md says what a cell becomes, and what that changes.
 """
 
 import argparse
+import json
 import os
 import sys
 from typing import List
 
-from convert import Conversion
-from delays import DefaultDelays, SdfDelays, TableDelays
+from convert import Asked, Conversion
+from delays import ROUNDINGS, DefaultDelays, Reading, SdfDelays, TableDelays
+from liberty import cells_of_files
 from netlist import MOST_GATES
-from refusal import Refusal, ending_by_name
+from refusal import Refusal, ending_by_name, refuse_same
 from sdf import CORNERS, read_sdf, span_of
 from yosys_json import Design
 
@@ -59,6 +61,33 @@ def words_of_the_line() -> argparse.Namespace:
         help="1, 10 or 100 of s ms us ns ps fs, to which delays are rounded (1ps)",
     )
     words.add_argument(
+        "--round",
+        choices=sorted(ROUNDINGS),
+        default="nearest",
+        help="to which whole step a delay is rounded (nearest)",
+    )
+    words.add_argument(
+        "--short",
+        choices=("raise", "refuse"),
+        default="raise",
+        help="a delay that is shorter than a cell's gates, or negative, is made as long (raise)",
+    )
+    words.add_argument(
+        "--latch",
+        choices=("auto", "open", "cut"),
+        default="auto",
+        help="time latches from D to Q, or cut them as flip-flops; auto: open where their enable "
+        "is an input that nothing else reads",
+    )
+    words.add_argument(
+        "--library", metavar="FILES", default="", help="the Liberty files, for cells with states"
+    )
+    words.add_argument(
+        "--map", metavar="FILE", help="write to this file which cell and pin each net is, in JSON"
+    )
+    words.add_argument("--cuts", metavar="WORDS", default="", help=argparse.SUPPRESS)
+    words.add_argument("--words-only", action="store_true", help=argparse.SUPPRESS)
+    words.add_argument(
         "--outputs", metavar="NAME,..", help="keep these outputs alone, a vector by its name"
     )
     words.add_argument(
@@ -77,7 +106,8 @@ def delays_of(asked: argparse.Namespace) -> DefaultDelays:
             "BadStep", f"{asked.step} is no step", "take 1, 10 or 100 of s ms us ns ps fs, as 100fs"
         )
     if asked.sdf:
-        return SdfDelays(read_sdf(text_of(asked.sdf), asked.corner, step))
+        reading = Reading(step, asked.round, asked.short == "raise")
+        return SdfDelays(read_sdf(text_of(asked.sdf), asked.corner, step), reading)
     return TableDelays(text_of(asked.delays)) if asked.delays else DefaultDelays()
 
 
@@ -108,6 +138,10 @@ def comments(conversion: Conversion, asked: argparse.Namespace) -> List[str]:
         lines.append("Flip-flops and latches are cut out: moment 0 is the clock's edge,")
         lines.append("NAME.q is a state, and NAME.d the next one.")
     lines += [f"Note: {note}." for note in conversion.notes]
+    lines += [f"Clock: {name}" for name in conversion.clocks]
+    lines += [f"Open: {net}={level}" for net, level in conversion.held.items()]
+    lines += ["Open: latches"] * bool(conversion.opened)
+    lines += [f"Cut: {asked.cuts}"] * bool(asked.cuts)
     share = 100 * gates / MOST_GATES
     return lines + [f"{gates:,} gates, {share:.1f} % of the {MOST_GATES:,} that tdelay reads."]
 
@@ -136,12 +170,26 @@ def write(path: str, lines):
     os.replace(part, path)
 
 
+def converted(asked: argparse.Namespace) -> Conversion:
+    """The module as gates."""
+    delays = delays_of(asked)
+    states = {cell.name: cell.state for cell in cells_of_files(asked.library.split()) if cell.state}
+    how = Asked(asked.pins == "each", asked.latch, states)
+    conversion = Conversion(Design(text_of(asked.netlist)), asked.top, delays, how)
+    conversion.run()
+    named = delays.annotation.design if asked.sdf else ""
+    if named and named != asked.top:
+        conversion.notes.append(f"the SDF file is of the design {named}, not {asked.top}")
+    return conversion
+
+
 def main():
     asked = words_of_the_line()
-    conversion = Conversion(
-        Design(text_of(asked.netlist)), asked.top, delays_of(asked), asked.pins == "each"
-    )
-    conversion.run()
+    if asked.words_only:
+        return
+    read = [asked.netlist, asked.sdf, asked.delays, *asked.library.split()]
+    refuse_same([asked.shell, asked.map], read)
+    conversion = converted(asked)
     if asked.outputs:
         keep_outputs(conversion, asked)
     conversion.refuse_too_large()
@@ -150,6 +198,8 @@ def main():
     sys.stdout.writelines(f"{line}\n" for line in conversion.netlist.lines(told, step))
     if asked.shell:
         write(asked.shell, conversion.shell())
+    if asked.map:
+        write(asked.map, [json.dumps(conversion.writer.places)])
     for line in [*(f"note: {note}" for note in conversion.notes), told[-1]]:
         print(f"primitives.py: {line}", file=sys.stderr)
 

@@ -2,8 +2,10 @@
 about it.
 """
 
+import os
 import sys
 from dataclasses import dataclass
+from typing import Iterable
 
 
 @dataclass
@@ -16,6 +18,16 @@ class Refusal(Exception):
 
     def __str__(self):
         return f"{self.name}: {self.wrong}\n  what to do: {self.remedy}"
+
+
+def refuse_same(outputs: Iterable[str], inputs: Iterable[str]):
+    """Refuses to write over an input, by whatever name or link."""
+    inputs = [path for path in inputs if path and os.path.exists(path)]
+    for output in outputs:
+        for path in inputs:
+            if output and os.path.exists(output) and os.path.samefile(output, path):
+                wrong = f"{output} would be written over the input {path}"
+                raise Refusal("SameFile", wrong, "take another OUT")
 
 
 def ending_by_name(script, main):

@@ -3,13 +3,15 @@ of wires.
 
 Read are IOPATH (also below COND and CONDELSE), INTERCONNECT and PORT of ABSOLUTE delays. Of the
 values of an entry the first two count, rise and fall; those to and from z have no meaning for
-gates. Timing checks are passed over, and anything else that would change a delay is refused.
+gates. A later CELL replaces what an earlier one says of the same arc; in one CELL the greatest of
+several counts. Timing checks are passed over, and anything else that would change a delay is
+refused.
 """
 
 import re
 from dataclasses import dataclass, field
 from decimal import Decimal
-from typing import Dict, List, NamedTuple, Optional, Tuple
+from typing import Dict, Iterator, List, NamedTuple, Optional, Tuple
 
 from refusal import Refusal
 
@@ -44,14 +46,40 @@ def place_of(name: str) -> str:
     return name.replace("/", ".")
 
 
-class Arc(NamedTuple):
-    """The delays from a pin to an output that rises, and to one that falls, in steps; None where
-    the file says none.
+class Place(NamedTuple):
+    """Where an arc is: from which pin, where that has one edge alone by `posedge` or `negedge`, to
+    which output, under which condition; `else` is that of a CONDELSE.
     """
 
     pin: str
+    edge: str
+    output: str
+    condition: str
+
+
+class Arc(NamedTuple):
+    """The delays of an arc until the output rises, and until it falls, in steps; None where the
+    file says none.
+    """
+
+    place: Place
     rise: Optional[Decimal]
     fall: Optional[Decimal]
+
+    @property
+    def pin(self) -> str:
+        return self.place.pin
+
+    @property
+    def plain(self) -> bool:
+        """Whether the arc is that of both edges, under any condition."""
+        return not self.place.edge and not self.place.condition
+
+    def slower(self, other: "Arc") -> "Arc":
+        """The greater delays of both."""
+        rises = [it for it in (self.rise, other.rise) if it is not None]
+        falls = [it for it in (self.fall, other.fall) if it is not None]
+        return Arc(self.place, max(rises, default=None), max(falls, default=None))
 
 
 class Wire(NamedTuple):
@@ -65,13 +93,46 @@ NO_WIRE = Wire(ZERO, ZERO)
 
 
 @dataclass
+class Entry:
+    """What one CELL of the file says of arcs, by their places, and how many came before it."""
+
+    number: int
+    kind: str
+    arcs: Dict[Place, Arc] = field(default_factory=dict)
+
+
+@dataclass
 class Annotation:
-    """What a file says: arcs by instance and output, and wires by the pin (`INSTANCE.PIN`) or the
-    port to which they lead.
+    """What a file says: the design that it is of, the entries of instances by their names and of
+    all instances of a kind by that, and wires by the pin (`INSTANCE.PIN`) or the port to which they
+    lead and by what drives them.
     """
 
-    arcs: Dict[Tuple[str, str], List[Arc]] = field(default_factory=dict)
-    wires: Dict[str, Wire] = field(default_factory=dict)
+    design: str = ""
+    entries: Dict[str, List[Entry]] = field(default_factory=dict)
+    of_kinds: Dict[str, List[Entry]] = field(default_factory=dict)
+    ends: Dict[str, Dict[str, Wire]] = field(default_factory=dict)
+
+    def arcs(self, instance: str, kind: str) -> Iterator[Arc]:
+        """The arcs of an instance, as the last entries that say them have them."""
+        entries = self.entries.get(instance, []) + self.of_kinds.get(kind, [])
+        found: Dict[Place, Arc] = {}
+        for entry in sorted(entries, key=lambda it: it.number):
+            for place, arc in entry.arcs.items():
+                if arc.plain:
+                    ways = [it for it in found if (it.pin, it.output) == (place.pin, place.output)]
+                    for other in ways:
+                        if other not in entry.arcs:
+                            del found[other]
+                found[place] = arc
+        yield from found.values()
+
+    def wire(self, end: str) -> "Wire":
+        """The slowest wire to an end."""
+        ways = self.ends.get(end)
+        if not ways:
+            return NO_WIRE
+        return Wire(max(it.rise for it in ways.values()), max(it.fall for it in ways.values()))
 
 
 class Tree(list):
@@ -96,7 +157,7 @@ class Reader:
     def __init__(self, text: str, corner: str, step: int):
         self.text, self.corner, self.step = text, CORNERS.index(corner), step
         self.unit = UNITS["ns"]
-        self.found = Annotation()
+        self.found, self.count = Annotation(), 0
         self.values = {}
 
     def tree(self) -> Tree:
@@ -125,6 +186,8 @@ class Reader:
         """What the file says."""
         whole = self.tree()
         for item in whole.trees:
+            if item.keyword == "DESIGN" and len(item) > 1:
+                self.found.design = str(item[1]).strip('"')
             if item.keyword == "TIMESCALE":
                 self.unit = span_of("".join(map(str, item[1:])))
                 if self.unit is None:
@@ -136,20 +199,30 @@ class Reader:
 
     def cell(self, item: Tree):
         """One CELL entry."""
-        instance = ""
+        instance, kind = "", ""
+        self.count += 1
         for part in item.trees:
-            if part.keyword == "INSTANCE" and len(part) > 1:
+            if part.keyword == "CELLTYPE" and len(part) > 1:
+                kind = str(part[1]).strip('"')
+            elif part.keyword == "INSTANCE" and len(part) > 1:
                 instance = self.name(part[1], part)
             elif part.keyword == "DELAY":
-                for kind in part.trees:
-                    if kind.keyword != "ABSOLUTE" or len(kind.trees) < len(kind) - 1:
-                        self.not_read(kind)
-                    for entry in kind.trees:
-                        self.entry(entry, instance)
+                into = Entry(self.count, kind)
+                known = self.found.of_kinds if instance == "*" else self.found.entries
+                known.setdefault(kind if instance == "*" else instance, []).append(into)
+                for block in part.trees:
+                    if block.keyword != "ABSOLUTE" or len(block.trees) < len(block) - 1:
+                        self.not_read(block)
+                    for entry in block.trees:
+                        self.entry(entry, instance, into)
 
-    def entry(self, item: Tree, instance: str):
+    def entry(self, item: Tree, instance: str, into: Entry):
         """One delay: of an arc, or of a wire."""
+        condition = ""
         while item.keyword in ("COND", "CONDELSE") and item.trees:
+            condition = "else"
+            if item.keyword == "COND":
+                condition = " ".join(words_of(item[1:-1]))
             item = item.trees[-1]
         count = NAMES.get(item.keyword, len(item))
         names, values = item[1 : count + 1], item[count + 1 :]
@@ -157,15 +230,18 @@ class Reader:
             self.not_read(item)
         rise = self.steps(values[0])
         fall = self.steps(values[1]) if len(values) > 1 else rise
+        edge = names[0][0] if isinstance(names[0], Tree) and len(names[0]) == 2 else ""
         names = [self.name(name, item) for name in names]
         if item.keyword == "IOPATH":
-            self.found.arcs.setdefault((instance, names[1]), []).append(Arc(names[0], rise, fall))
+            place = Place(names[0], edge.lower(), names[1], condition)
+            arc = Arc(place, rise, fall)
+            known = into.arcs.get(place)
+            into.arcs[place] = known.slower(arc) if known else arc
             return
-        end = names[-1]
-        if item.keyword == "PORT" and instance:
-            end = f"{instance}.{end}"
-        known = self.found.wires.get(end, NO_WIRE)
-        self.found.wires[end] = Wire(max(known.rise, rise or ZERO), max(known.fall, fall or ZERO))
+        end, source = names[-1], names[0]
+        if item.keyword == "PORT":
+            end, source = f"{instance}.{end}" if instance else end, ""
+        self.found.ends.setdefault(end, {})[source] = Wire(rise or ZERO, fall or ZERO)
 
     def name(self, given, item: Tree) -> str:
         """A name without what escapes it; of a pin with an edge, as (posedge CK), the pin's."""
@@ -209,6 +285,15 @@ class Reader:
         remedy = "write absolute delays of arcs and wires, without pulse limits and retain times"
         wrong = f"{item[0] if item else '()'} isn't read here"
         raise Refusal("SdfConstruct", f"{self.line(item.at)}: {wrong}", remedy)
+
+
+def words_of(items) -> Iterator[str]:
+    """The words of a condition, with its parentheses, without the name that may stand before it."""
+    for item in items:
+        if isinstance(item, Tree):
+            yield from ("(", *words_of(item), ")")
+        elif not item.startswith('"'):
+            yield item
 
 
 def read_sdf(text: str, corner: str, step: int) -> Annotation:

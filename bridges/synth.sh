@@ -1,9 +1,13 @@
 #!/bin/sh
-# synth.sh RTL.v TOP LIBERTY OUT
-# Synthesises RTL by yosys and ABC onto the cells of a Liberty library, as OUT.mapped.v.
+# synth.sh RTL.v TOP LIBERTY OUT [--allow NAME]..
+# Synthesises RTL by yosys and ABC onto the cells of a Liberty library, as OUT.mapped.v, with
+# buffers and sizes for its loads.
 #
-# RTL.v may be several files, as one word with spaces. Modules are mapped one by one and flattened
-# at the end, so that nothing is optimised across the border of a module.
+# RTL.v may be several files, as one word with spaces, and have -IFOLDER and -DNAME=VALUE before
+# them. It may instantiate cells of the library. Modules are mapped one by one and flattened at the
+# end, so that nothing is optimised across the border of a module. A net with two drivers, z, a net
+# without a driver and one that isn't declared are refused: TwoDrivers, HighZ, NoDriver,
+# ImplicitNet. --allow NAME goes on.
 # shellcheck disable=SC2086 # words that are several files
 set -eu
 script=synth.sh
@@ -12,16 +16,42 @@ here=$(dirname "$0")
 . "$here/common.sh"
 usage 4 "$@"
 rtl=$1 top=$2 liberty=$3 out=$4
+shift 4
+allow=""
+while [ $# -gt 0 ]; do
+    value "$1" $#
+    case $1,$2 in
+    --allow,TwoDrivers | --allow,HighZ | --allow,NoDriver | --allow,ImplicitNet)
+        allow="$allow --allow $2"
+        ;;
+    *) bad "$1 $2" ;;
+    esac
+    shift 2
+done
+given $rtl $liberty
+[ "$liberty" = "${liberty%% *}" ] || refuse OneLibrary "$liberty are several libraries" \
+    "map onto one of them, or by another tool"
+# The next command writes OUT.v.
+apart "$out.v $out.shell.v" $rtl $liberty
+fresh "$out.mapped.v $out.synth.log $out.rtl.log $out.constr $out.boxes.v" $rtl $liberty
 need yosys yosys
-fresh "$out.mapped.v" $rtl
+read="read_verilog -sv $rtl; write_verilog -blackboxes $out.boxes.v
+    $(libraries "read_liberty -lib" $liberty)
+    hierarchy -check -top $top"
+checked "$out.rtl.log" "$read" $allow
+python3 "$here/liberty.py" driver $liberty > "$out.constr"
+sizes=""
+[ ! -s "$out.constr" ] || sizes="-D 1000 -constr $out.constr"
 logged "$out.synth.log" "mend the source, or map it by another tool" yosys -p "
-    read_verilog -sv $rtl; synth -top $top; dfflibmap -liberty $liberty; abc -liberty $liberty
+    $read; synth -nofsm -top $top; dfflibmap -liberty $liberty; abc $sizes -liberty $liberty
     setundef -zero; opt_clean -purge
-    flatten; opt_clean; tee -o $out.unmapped select -list t:\$*
+    flatten; opt_clean -purge; tee -o $out.unmapped select -list t:\$*
     write_verilog -noattr $out.mapped.v"
+rm -f "$out.constr"
 if grep -q / "$out.unmapped"; then
     rm -f "$out.mapped.v"
     refuse UnmappedCells "the library has no cells for $(head -n 3 "$out.unmapped" | xargs)" \
         "instantiate a cell of the library there, as for latches, or take a library that has them"
 fi
-rm -f "$out.unmapped"
+! grep -q '^module' "$out.boxes.v" || cat "$out.boxes.v" >> "$out.mapped.v"
+rm -f "$out.unmapped" "$out.boxes.v"

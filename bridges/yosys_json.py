@@ -63,6 +63,7 @@ class Module:
     outputs: List[Vector]
     nets: List[Vector]
     cells: List[Cell]
+    black_box: bool = False
 
 
 def bare(name: str) -> str:
@@ -85,6 +86,9 @@ def cell_of(name: str, item: dict) -> Cell:
         if kind == "$lut" and pin == "A":
             inputs.update(enumerate(bits))
             continue
+        if len(bits) > 1 and not kind.startswith("$"):
+            remedy = f"--cut {bare(name)} makes ports of its pins"
+            raise Refusal("BlackBox", f"{bare(name)} is a {kind}, a black box", remedy)
         if len(bits) > 1:
             raise Refusal(
                 "WidePin",
@@ -105,6 +109,8 @@ def cell_of(name: str, item: dict) -> Cell:
 def module_of(name: str, item: dict) -> Module:
     directions = {"input": [], "output": []}
     for port, given in item["ports"].items():
+        if given["direction"] not in directions and "blackbox" in item.get("attributes", {}):
+            continue
         if given["direction"] not in directions:
             raise Refusal(
                 "Inout", f"{bare(port)} of {name} is an inout", "make an input or an output of it"
@@ -116,7 +122,8 @@ def module_of(name: str, item: dict) -> Module:
         for cell, given in item["cells"].items()
         if given["type"] != "$scopeinfo"
     ]
-    return Module(name, directions["input"], directions["output"], nets, cells)
+    black_box = not cells and "blackbox" in item.get("attributes", {})
+    return Module(name, directions["input"], directions["output"], nets, cells, black_box)
 
 
 class Design:

@@ -11,7 +11,10 @@ of 40 more what one gate for each output of a cell does. In trees of cells each 
 has to reach the outputs when the arcs of the SDF file add up to it.
 
 30 planted faults have to be caught: a gate exchanged, rise and fall swapped, an arc dropped. Each
-refusal has to come by its name. RTL with registers is synthesised and proved, .bench and BLIF are
+refusal has to come by its name, and its remedy has to work. Cases of a designer's own (RTL of which
+yosys drops something, constraints, latches and other state, cuts, SDF files, short delays, the one
+command) stand in bridging/cases.py, small designs on each library that is installed in
+bridging/blocks.v. RTL with registers is synthesised and proved, .bench and BLIF are
 read, a multiplier of 32 by 32 bits is written within 10 seconds of a processor, the commands of
 docs/FROM-RTL.md do what that page says, and examples/from_rtl/ comes out as it is kept. It needs
 `yosys`, `sta` (OpenSTA), `iverilog` and `vvp`.
@@ -22,13 +25,13 @@ import sys
 from collections import namedtuple
 from itertools import product
 
-from bridging import designs, icarus, ideal, refusals
+from bridging import blocks, cases, designs, icarus, ideal, refusals
 from bridging.cells import CELLS, STEPS, Sdf, unescaped, whole
 from bridging.made import paths, tree, web
 from bridging.tools import LIBRARY, read, script, write, yosys
 from lib import check, places
 
-CASES = 140
+CASES = 230
 # Random netlists that come before all else: whether they have registers.
 FIRST = (False, True)
 PAIRS = 40
@@ -367,6 +370,8 @@ def work(tested):
     for with_registers in FIRST:
         random_netlist(tested, with_registers)
     refusals.work(tested)
+    cases.work(tested)
+    blocks.work(tested)
     designs.work(tested)
     plants(tested)
     while tested.goes_on():
@@ -378,11 +383,13 @@ def shares(tested, cut):
     if tested.most is not None and tested.most < CASES:
         return
     tested.require("pair that changes an output", 0.5, of="pair")
-    tested.require("proved", 0.02)
+    tested.require("proved", 0.01)
     for kind in ("simulated", "one gate each", "some outputs", "tree"):
         tested.require(kind, 0.1, of="proved")
     for kind in (
         "refused",
+        "case",
+        "block",
         "by hand",
         "registers",
         "format",

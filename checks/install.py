@@ -24,14 +24,21 @@ INSTALL = os.path.join(places.TOOLS, "install.sh")
 SOURCES = os.path.join(places.TOP, "build", "sources.py")
 COMMANDS = ["sim", "path", "bound", "worst", "parts", "join", "check", "info"]
 WANTED = "unit 1 ns\ndefaulted 6\nexact 3\nfrom 00000\nto 11111\nnodes 1\n"
+BRIDGES = os.path.join(places.TOP, "bridges")
 FILES = {
     "bin/tdelay",
+    "bin/tdelay-figure",
     "share/bash-completion/completions/tdelay",
     "share/fish/vendor_completions.d/tdelay.fish",
     "share/man/man1/tdelay.1",
     "share/tdelay/installed",
     "share/tdelay/version",
     "share/zsh/site-functions/_tdelay",
+    *(
+        f"share/tdelay/bridges/{name}"
+        for name in os.listdir(BRIDGES)
+        if os.path.isfile(os.path.join(BRIDGES, name))
+    ),
 }
 # Tools that look for faults in roff: they print nothing where there is none.
 LINTS = {"mandoc": ["-Tlint"], "groff": ["-man", "-ww", "-z"]}
@@ -106,6 +113,11 @@ def installed(tested, place):
     tested.expect("the permissions of the program", 0o755, mode)
     answer = running.run([place.inside("bin/tdelay"), "worst", places.example("c17.v")])
     tested.expect("what the installed program answers", (0, WANTED, ""), tuple(answer))
+    figure = running.run([place.inside("bin/tdelay-figure"), "--help"])
+    tested.expect("tdelay-figure --help", (0, True), (figure.status, "TOP" in figure.out.upper()))
+    words = ["none.v", "t", "none.lib", "out", "--strategi", "x"]
+    figure = running.run([place.inside("bin/tdelay-figure"), *words])
+    tested.expect(f"tdelay-figure --strategi: {figure.err}", 2, figure.status)
 
 
 def man_page(tested, path):

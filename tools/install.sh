@@ -1,6 +1,7 @@
 #!/usr/bin/env bash
-# install.sh [--unproved] [--program FILE] [PREFIX]: installs `tdelay`, its man page, and its
-# completions for bash, zsh and fish below PREFIX, /usr/local where it is left out.
+# install.sh [--unproved] [--program FILE] [PREFIX]: installs `tdelay`, its man page, its completions
+# for bash, zsh and fish, and `tdelay-figure` with the bridges from RTL (share/tdelay/bridges) below
+# PREFIX, /usr/local where it is left out.
 # install.sh --remove [PREFIX]: removes what an install has put there, and the folders it made.
 #
 # The program is the one that `rt ci` or ./prove has proved of the present sources, or FILE, which
@@ -54,6 +55,11 @@ completions() {
     fi
 }
 
+# Prints the scripts of the bridges, as they stand in the checkout.
+bridges() {
+    (cd "$here" && find bridges -maxdepth 1 -type f | sort)
+}
+
 # Puts all files into the folder `room`, under their names below PREFIX.
 make_files() {
     local name
@@ -63,6 +69,12 @@ make_files() {
     cp "$program" "$room/bin/tdelay"
     { "$program" --version && print_commit; } > "$room/share/tdelay/version"
     python3 "$here/tools/manual.py" "$program" > "$room/share/man/man1/tdelay.1"
+    for name in $(bridges); do
+        cp "$here/$name" "$room/share/tdelay/$name"
+    done
+    # shellcheck disable=SC2016 # for the script that is written
+    printf '#!/bin/sh\nexec "%s/share/tdelay/bridges/figure.sh" "$@"\n' \
+        '$(dirname "$(readlink -f "$0")")/..' > "$room/bin/tdelay-figure"
     completions bash > "$room/share/bash-completion/completions/tdelay"
     completions zsh > "$room/share/zsh/site-functions/_tdelay"
     completions fish > "$room/share/fish/vendor_completions.d/tdelay.fish"
@@ -85,7 +97,8 @@ install_files() {
         printf '%s\n' "$name"
     done | awk '!seen[$0]++' > "$room/$list"
     chmod 644 "$room/$list" "${names[@]/#/$room/}"
-    chmod 755 "$room/bin/tdelay"
+    chmod 755 "$room/bin/tdelay" "$room/bin/tdelay-figure" "$room"/share/tdelay/bridges/*.sh \
+        "$room"/share/tdelay/bridges/*.py
     for name in "$list" "${names[@]}"; do
         # Beside its place first: a program that runs may keep its old file.
         mkdir -p "$prefix/$(dirname "$name")" && cp -p "$room/$name" "$prefix/$name.part" &&
@@ -117,8 +130,11 @@ remove_files() {
 }
 
 list=share/tdelay/installed
-names=(bin/tdelay share/tdelay/version share/man/man1/tdelay.1 share/bash-completion/completions/tdelay
+names=(bin/tdelay bin/tdelay-figure share/tdelay/version share/man/man1/tdelay.1 share/bash-completion/completions/tdelay
     share/zsh/site-functions/_tdelay share/fish/vendor_completions.d/tdelay.fish)
+for name in $(bridges); do
+    names+=("share/tdelay/$name")
+done
 given= take_unproved= remove= prefix=
 while [ $# -gt 0 ]; do
     case $1 in

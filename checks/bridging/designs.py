@@ -156,8 +156,9 @@ class Designs:
             if found != wanted:
                 self.tested.fault(f"{found} in place of {wanted}, of\n{self.read(f'{name}.v')}")
             self.tested.case("format")
-        self.script("equivalent.sh", "--cec", "kept.v", "c17", "-", "mapped")
-        self.script("equivalent.sh", "--cec", "bench.v", "c17", "-", "kept")
+        allow = ("--allow", "ImplicitNet")
+        self.script("equivalent.sh", "--cec", *allow, "kept.v", "c17", "-", "mapped")
+        self.script("equivalent.sh", *allow, "bench.v", "c17", "-", "kept")
         self.tested.case("format")
 
     def multiplier(self):
@@ -185,11 +186,13 @@ class Designs:
         os.symlink(self.tested.program, os.path.join(folder, "tdelay"))
         write(folder, "pipe.v", PIPELINE.replace("module t ", "module pipe "))
         shutil.copy(LIBRARY, os.path.join(folder, "lib.lib"))
-        tool(["bridges/synth.sh", "pipe.v", "pipe", "lib.lib", "pipe"], folder)
+        tool(["bridges/synth.sh", "pipe.v", "pipe", "lib.lib", "cells"], folder)
+        os.rename(os.path.join(folder, "cells.mapped.v"), os.path.join(folder, "pipe.mapped.v"))
         printed, commands = "", 0
         for block in re.findall(r"^```sh\n(.*?)^```", page, re.M | re.S):
             own = re.sub(r"^(?:gtkwave|apt-get) .*\n", "", block, flags=re.M)
-            ended = tool(["bash", "-e", "-o", "pipefail", "-c", own], folder)
+            environment = {**os.environ, "TDELAY": self.tested.program}
+            ended = tool(["bash", "-e", "-o", "pipefail", "-c", own], folder, env=environment)
             if ended.status:
                 said = f"{ended.status} {ended.out} {ended.err}"
                 self.tested.fault(f"docs/FROM-RTL.md: {own}: {said}")
@@ -200,6 +203,28 @@ class Designs:
         if commands < 10 or not unit or f"\n{unit[1]}\n" not in printed:
             self.tested.fault(f"docs/FROM-RTL.md: {commands} commands, which print {printed}")
         self.figure(page, read(folder, "out/alu_8.txt"))
+        self.several()
+
+    def several(self):
+        """Several blocks by make and by GNU parallel: their reports and their statuses."""
+        folder, kept = self.tested.folder, os.path.join(TOP, "examples", "from_rtl")
+        environment = {**os.environ, "TDELAY": self.tested.program}
+        by_make = ["make", "-s", "-f", os.path.join(kept, "Makefile"), "OUT=made"]
+        by_parallel = [os.path.join(kept, "blocks.sh"), "side_by_side"]
+        for program, words, status in (
+            ("make", by_make, 0),
+            ("make", [*by_make, "OUT=short", "BLOCKS=bcd_adder", "OPTIONS=--budget 1"], 0),
+            ("make", [*by_make, "OUT=wrong", "BLOCKS=bcd_adder", "OPTIONS=--budgt 1"], 2),
+            ("parallel", by_parallel, 0),
+            ("parallel", [*by_parallel, "--budget", "1"], 3),
+        ):
+            if not shutil.which(program):
+                print(f"skipped: blocks by {program}, which isn't here")
+                continue
+            ended = tool(words, folder, env=environment)
+            if ended.status != status:
+                self.tested.fault(f"{words}: status {ended.status}, not {status}: {ended.err}")
+            self.tested.case("command of the page")
 
     def figure(self, page, report):
         """The exact figure of the page's first design, where the tools are those of the page."""

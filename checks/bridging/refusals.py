@@ -93,13 +93,14 @@ class Refusals:
             if other == text:
                 self.tested.fault(f"{name}: the SDF file has nothing to change")
             self.write("other.sdf", other)
-            self.refused(name, "primitives.py", "base.json", "t", "--sdf", "other.sdf")
+            words = ("--sdf", "other.sdf", "--short", "refuse")
+            self.refused(name, "primitives.py", "base.json", "t", *words)
 
     def words(self):
         """Words of the command line."""
         base = ("primitives.py", "base.json", "t", "--sdf", "base.sdf")
         self.refused("NoCorner", *base, "--corner", "typ")
-        self.refused("DelayTooShort", *base, "--step", "1ns")
+        self.refused("DelayTooShort", *base, "--step", "1ns", "--short", "refuse")
         self.refused("BadStep", *base, "--step", "3ps")
         self.refused("NoOutput", *base, "--outputs", "n")
         self.refused("ShellOfAll", *base, "--outputs", "y", "--shell", "shell.v")
@@ -132,7 +133,7 @@ class Refusals:
         )
         self.netlist(
             "input a, c; output y; GATE g (.E(a), .CK(c), .GCK(y));",
-            "NoState",
+            "ClockGate",
             ports="a, c, y",
             library="strange.lib",
         )
@@ -189,17 +190,35 @@ class Refusals:
         )
         self.refused("WideCell", "primitives.py", "other.json", "t")
 
+    def bad_words(self):
+        """Words that no script knows: status 2, before any tool runs."""
+        four = ("none.v", "t", LIBRARY, "none")
+        for words in (
+            ("from_liberty.sh", *four, "--clock"),
+            ("from_liberty.sh", *four, "--clok", "c"),
+            ("from_liberty.sh", *four, "--latch", "shut"),
+            ("synth.sh", *four, "--allow", "All"),
+            ("equivalent.sh", "--sta", *four),
+            ("from_gates.sh", "none.v", "t", "none", "--kep"),
+            ("figure.sh", *four, "--strategi", "lead"),
+            ("testbench.py", "none.v"),
+        ):
+            ended = self.script(*words)
+            if ended.status != 2 or ended.out or "NoFile" in ended.err:
+                self.tested.fault(f"{' '.join(words)}: status 2 in place of {ended}"[:600])
+            self.tested.case("refused")
+
     def scripts(self):
         """What the other scripts refuse."""
         self.write("dark.v", "module t (input a, output y); DARK g (.A(a), .Y(y)); endmodule\n")
         self.refused("ToolFailed", "from_liberty.sh", "dark.v", "t", "strange.lib", "gates")
-        self.refused("NoWord", "from_liberty.sh", "base_cells.v", "t", LIBRARY, "dark", "--clock")
+        self.bad_words()
         self.write(
             "latch.v", "module t (input e, d, output reg q); always @* if (e) q = d; endmodule\n"
         )
         self.refused("SameFile", "from_liberty.sh", "dark.v", "t", LIBRARY, "dark")
-        self.refused("UnmappedCells", "synth.sh", "latch.v", "t", LIBRARY, "latch")
-        self.refused("ToolFailed", "synth.sh", "latch.v", "none", LIBRARY, "latch")
+        self.refused("UnmappedCells", "synth.sh", "latch.v", "t", LIBRARY, "cells")
+        self.refused("ToolFailed", "synth.sh", "latch.v", "none", LIBRARY, "cells")
         text = read(self.tested.folder, "base.v")
         self.write("wrong.v", re.sub(r"^nand ", "and ", text, flags=re.M))
         self.write("wrong.shell.v", read(self.tested.folder, "base.shell.v"))
