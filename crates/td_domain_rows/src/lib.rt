@@ -13,6 +13,8 @@ mod sheets;
 #[cfg(test)]
 mod sinks;
 #[cfg(test)]
+mod spans;
+#[cfg(test)]
 mod texts;
 #[cfg(test)]
 mod together;

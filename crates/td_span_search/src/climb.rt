@@ -1,0 +1,98 @@
+//! Simulations, and climbs from pair to pair.
+
+use crate::network::Net;
+use crate::pairs::{Move, PairBits};
+use crate::search::{Found, Search};
+use std::alloc::AllocError;
+use td_cdcl::small;
+
+// So many times as many moves as there are inputs without a better pair, and a climb goes elsewhere.
+const PATIENCE: u64 = 40;
+
+impl<'a> Search<'a> {
+    /// Simulates a pair up to a net, and notes the last changes. The error is out of memory.
+    pub(crate) fn simulate_up_to(&mut self, pair: &PairBits, last: Net) -> Result<(), AllocError> {
+        if self.waves.run(self.network, pair, last)? {
+            self.reach.note(&self.waves, last);
+        } else {
+            self.is_lost = true;
+        }
+        Ok(())
+    }
+
+    /// The delay of a pair; the best pair is kept. The error is out of memory.
+    pub(crate) fn simulate(&mut self, pair: &PairBits) -> Result<u64, AllocError> {
+        self.counts.simulations = self.counts.simulations.saturating_add(1);
+        let last = small(self.network.nets()).saturating_sub(1);
+        self.simulate_up_to(pair, last)?;
+        if self.is_lost {
+            return Ok(0);
+        }
+        let delay = self.waves.delay(self.network);
+        if delay > self.best.delay {
+            self.best = Found {
+                delay,
+                pair: pair.copy(self.alloc)?,
+            };
+        }
+        Ok(delay)
+    }
+
+    /// Tries pairs near one, with up to `bits` inputs moved; pairs that are as late are taken too.
+    /// The error is out of memory.
+    pub(crate) fn climb(&mut self, tries: u64, from: Found, bits: usize) -> Result<(), AllocError> {
+        let inputs = self.network.inputs();
+        let patience = PATIENCE.saturating_mul(inputs as u64);
+        let mut here = from;
+        let mut idle = 0u64;
+        for _ in 0..tries {
+            if inputs == 0 || self.best.delay >= self.top() || self.is_over() {
+                return Ok(());
+            }
+            let mut pair = here.pair.copy(self.alloc)?;
+            for _ in 0..self.draw(bits).saturating_add(1) {
+                let step = self.draw_move(inputs, 1);
+                self.admitted.step(&mut pair, step);
+            }
+            let delay = self.simulate(&pair)?;
+            idle = if delay > here.delay {
+                0
+            } else {
+                idle.saturating_add(1)
+            };
+            if delay >= here.delay {
+                here = Found { delay, pair };
+            }
+            if idle > patience {
+                idle = 0;
+                here = self.elsewhere(here.pair)?;
+            }
+        }
+        Ok(())
+    }
+
+    // A pair with moves at all inputs.
+    fn elsewhere(&mut self, pair: PairBits) -> Result<Found, AllocError> {
+        let inputs = self.network.inputs();
+        let mut pair = pair;
+        for input in 0..inputs {
+            let mut step = self.draw_move(inputs, 0);
+            step.input = input;
+            self.admitted.step(&mut pair, step);
+        }
+        let delay = self.simulate(&pair)?;
+        Ok(Found { delay, pair })
+    }
+
+    // A move at some input: with `least` 1 one bit flips at least.
+    fn draw_move(&mut self, inputs: usize, least: usize) -> Move {
+        let input = self.draw(inputs);
+        let flips = least.saturating_add(self.draw(4usize.saturating_sub(least)));
+        Move {
+            input,
+            first: flips % 2 == 1,
+            second: flips / 2 % 2 == 1,
+            other: self.draw(inputs),
+        }
+    }
+}

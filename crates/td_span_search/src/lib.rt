@@ -1,0 +1,50 @@
+//! The search by spans: it finds the latest change of a circuit's outputs over admitted pairs, and
+//! steps that show that none is later.
+//!
+//! ```text
+//! schedule ──question──▶ solver ──model──▶ pair ──▶ waves ──not later──▶ explanation ──clauses──▶ solver
+//!     ▲                     │ refuted                  │ later
+//!     └────── bounds ◀──────┴──────── best pair ◀──────┘
+//! ```
+//!
+//! A literal says that a net is at a level at all places of a span. A question asks whether an
+//! output changes after a moment. Each model of the solver is a pair, which is simulated: where it
+//! isn't late enough, the run is explained backwards, and each explanation is a clause over one
+//! gate. So a clause is made only where a run asked for it.
+//!
+//! Nothing here is trusted: what it finds is a pair, whose delay is measured, and steps, which are
+//! judged.
+#![tactic(auto)]
+
+mod asking;
+mod climb;
+mod counter;
+mod cubes;
+mod explanation;
+mod forgetting;
+mod levels;
+mod limits;
+mod network;
+mod pairs;
+mod reach;
+mod record;
+mod refinement;
+mod refutation;
+mod schedule;
+mod search;
+mod span;
+mod spans;
+mod spelling;
+mod sweep;
+mod trim;
+mod vocabulary;
+mod waves;
+
+pub use limits::Limits;
+pub use network::Network;
+pub use pairs::{Admitted, PairBits};
+pub use reach::Times;
+pub use record::{Axiom, Holds, Link, Note};
+pub use refutation::{Refutation, Step};
+pub use search::{Meaning, Search};
+pub use span::{FOREVER, Span};

@@ -1,0 +1,84 @@
+//! Why each clause that was given holds, and when the ends of nets were lowered.
+
+use crate::network::Net;
+use crate::span::Span;
+use std::alloc::{AllocError, Global};
+use td_cdcl::{ClauseNumber, Literal};
+
+/// What holds of a gate's input: a literal; or a span of a contracted net, by its place among the
+/// links.
+#[derive(Clone, Copy, Debug, PartialEq, Eq, Drop)]
+pub enum Holds {
+    Literal(Literal),
+    Link(u32),
+}
+
+/// A span of a contracted net, and what gives it.
+#[derive(Drop)]
+pub struct Link {
+    pub span: Span,
+    pub holds: Vec<Holds>,
+}
+
+/// Why a clause that was given is true of each run: by the scheduling rule of the gate that drives
+/// a net, with what holds of its inputs; by the table of a gate, of first or of last levels; since
+/// a net has one level at a place; by the pins, held inputs and flips.
+#[derive(Drop)]
+pub enum Axiom {
+    Gate(Net, Vec<Holds>),
+    Table(Net, bool),
+    Net,
+    Admitted,
+}
+
+/// What was noted, before the clause of the proof with a number: that this one is given by an
+/// axiom; that an end of a net is this place by a lemma; or by the ends of its gate's inputs.
+#[derive(Drop)]
+pub enum Note {
+    Given(ClauseNumber, Axiom),
+    Lowered {
+        before: ClauseNumber,
+        net: Net,
+        level: bool,
+        place: u64,
+        lemma: ClauseNumber,
+    },
+    Again {
+        before: ClauseNumber,
+        net: Net,
+        level: bool,
+        place: u64,
+    },
+}
+
+/// All that was noted, in its order.
+#[derive(Drop)]
+pub struct Record {
+    pub notes: Vec<Note>,
+    pub links: Vec<Link>,
+}
+
+impl Record {
+    /// Nothing yet.
+    pub fn new(alloc: Global) -> Record {
+        Record {
+            notes: Vec::new(alloc),
+            links: Vec::new(alloc),
+        }
+    }
+
+    /// Adds a note. The error is out of memory.
+    pub fn add(&mut self, note: Note) -> Result<(), AllocError> {
+        self.notes.push(note)?;
+        Ok(())
+    }
+
+    /// Adds a link. Answers its place. The error is out of memory, or that there are too many.
+    pub fn link(&mut self, link: Link) -> Result<Holds, AllocError> {
+        let Ok(place) = u32::try_from(self.links.len()) else {
+            return Err(AllocError);
+        };
+        self.links.push(link)?;
+        Ok(Holds::Link(place))
+    }
+}

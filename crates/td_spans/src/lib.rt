@@ -1,0 +1,33 @@
+//! Spans: steps that show that no pair of a cube that is asked about changes an output later than a
+//! moment, or that there is none, by clauses on spans of places at which nets keep a level.
+#![tactic(auto)]
+
+mod condition;
+mod fault;
+mod gate_clauses;
+pub mod laws;
+mod lemmas;
+mod named_clauses;
+mod names;
+mod net_clauses;
+mod pair_clauses;
+mod question;
+mod reason;
+mod rules;
+mod sayings;
+mod signals;
+mod spans;
+mod step;
+mod times;
+mod variable;
+mod walk;
+
+pub use condition::{Condition, Form};
+pub use fault::Fault;
+pub use names::{net_named, variable_named};
+pub use question::Question;
+pub use reason::Reason;
+pub use spans::Spans;
+pub use step::{Refusal, Shown, Step, refuted};
+pub use times::{Places, Times};
+pub use variable::{Saying, Variable};
