@@ -10,8 +10,9 @@ it writes, which is about the question that was asked. A part left out, one take
 another question and one with another time are refused, or reported by `check`. One more case is
 examples/many_machines.sh without GNU parallel, and one with it, where it is there: on
 examples/mult_8.v, and on examples/adder_8.v with a budget that cuts parts short, where the worst
-delay has to lie between the two figures that it gives. The commands of docs/MANY-MACHINES.md for
-one machine are run of examples/c17.v. At least 60 of 100 cases are cut into two parts or more.
+delay has to lie between the two figures that it gives; and on examples/c17.v with each option of
+`worst` that says what is asked. The commands of docs/MANY-MACHINES.md for one machine are run of
+examples/c17.v. At least 60 of 100 cases are cut into two parts or more.
 """
 
 import os
@@ -28,6 +29,10 @@ LEAD = ["--strategy", "lead"]
 # What cuts the parts of the adder short.
 SHORT = ["--strategy", "least", "--budget", "50"]
 SCRIPT = os.path.join(places.EXAMPLES, "many_machines.sh")
+# What may be asked of c17.v, each with its options.
+ASKED = ["--output N22", "--pin N1=1", "--hold-input N2", "--at N3=4", "--at 1,0,2,0,0", "--flips 1"]
+ASKED += ["--default-rise 2", "--default-fall 3", "--first 1....", "--second .0...", "--hold =...."]
+ASKED += ["--output N23 --pin N2=0 --default-rise 3 --strategy lead"]
 
 
 class Question:
@@ -197,6 +202,21 @@ def wrong_script(tested, path, name, words, status):
     return None
 
 
+def asked_scripts(tested):
+    """Cases: the example's script with each option that says what is asked."""
+    environment = {**os.environ, "TDELAY": tested.program, "JOBS": "2"}
+    for asked in ASKED:
+        out = os.path.join(tested.folder, "asked")
+        words = asked.split()
+        done = running.run(
+            [SCRIPT, "examples/c17.v", "4", out, *words], places.TOP, seconds=300, env=environment
+        )
+        whole = running.run([tested.program, "worst", "examples/c17.v", *words], places.TOP)
+        time = reports.values_of(whole.out).get("exact")
+        ends = done.status, f"accepted {time}" in done.out.splitlines()
+        tested.expect(f"the script with {asked}: {done.out}{done.err}", (0, True), ends, "asked")
+
+
 def link_all_but(folder, name):
     """Puts a link to each program on the path into a folder, but for one of this name."""
     for there in os.environ["PATH"].split(os.pathsep):
@@ -251,6 +271,7 @@ def work(tested):
         if not scripted:
             scripted = True
             page_commands(tested)
+            asked_scripts(tested)
             scripts(tested)
 
 

@@ -1,49 +1,57 @@
-#!/bin/sh
-# many_machines.sh FILE PARTS OUT [options of worst]: cuts the search of FILE into PARTS parts, searches them side by side, and joins their
-# certificates into OUT.
+#!/usr/bin/env bash
+# many_machines.sh FILE PARTS OUT [OPTION VALUE]..: cuts the search of FILE into PARTS parts,
+# searches them side by side, and joins their certificates into OUT. The options are those of
+# `worst` that have a value, but for --cert and --vcd.
 #
-# Uses GNU parallel where it is there, else xargs -P, with as many jobs as JOBS says, or as there are processors. TDELAY is the program
-# (./tdelay where left out). Prints what `join` prints, and what `check` says of it. Where a part was cut short it prints `between LOW HIGH`, the
-# greatest of the parts, and ends with status 3.
-set -eu
+# Uses GNU parallel where it is there, else xargs -P, with as many jobs as JOBS says, or as there
+# are processors. TDELAY is the program (./tdelay where left out). Prints what `join` prints, and
+# what `check` says of it, whose status is this script's. Where a part was cut short it prints
+# `between LOW HIGH`, the greatest of the parts, and ends with status 3.
+set -euo pipefail
 
-[ $# -ge 3 ] || { sed -n '2,3s/^# //p' "$0" >&2; exit 2; }
+[ $# -ge 3 ] || { sed -n '2,/^[^#]/s/^# \{0,1\}//p' "$0" >&2; exit 2; }
 FILE=$1 PARTS=$2 OUT=$3
 shift 3
-TDELAY=${TDELAY:-./tdelay}
+export TDELAY=${TDELAY:-./tdelay}
 JOBS=${JOBS:-$(getconf _NPROCESSORS_ONLN)}
 WORK=$(mktemp -d)
 trap 'rm -rf "$WORK"' EXIT
 
-# The options that say what is asked, and those that say how it is searched.
-ASKED="" HOW=""
+# What is asked, how it is searched, and what `join` and `check` need of both.
+ASKED=() HOW=() JOINED=() CHECKED=()
 while [ $# -gt 0 ]; do
+    [ $# -ge 2 ] || { echo "many_machines.sh: $1 has no value" >&2; exit 2; }
     case $1 in
-    --first | --second | --hold | --flips | --at | --default-rise | --default-fall) ASKED="$ASKED $1 $2" && shift 2 ;;
-    --strategy) ASKED="$ASKED $1 $2" HOW="$HOW $1 $2" && shift 2 ;;
-    *) HOW="$HOW $1 $2" && shift 2 ;;
+    --first | --second | --pin) ASKED+=("$1" "$2") JOINED+=("$1" "$2") ;;
+    --hold | --hold-input | --flips | --at) ASKED+=("$1" "$2") ;;
+    --output | --default-rise | --default-fall)
+        ASKED+=("$1" "$2") JOINED+=("$1" "$2") CHECKED+=("$1" "$2") ;;
+    --strategy) ASKED+=("$1" "$2") HOW+=("$1" "$2") ;;
+    *) HOW+=("$1" "$2") ;;
     esac
+    shift 2
 done
-DEFAULTS=$(echo "$ASKED" | grep -o -e '--default-[a-z]* [0-9]*' | tr '\n' ' ' || true)
-PINS=$(echo "$ASKED" | grep -o -e '--\(first\|second\) [01.]*' | tr '\n' ' ' || true)
 
-"$TDELAY" parts "$FILE" --parts "$PARTS" $ASKED > "$WORK/parts"
+"$TDELAY" parts "$FILE" --parts "$PARTS" "${ASKED[@]}" > "$WORK/parts"
 
-cat > "$WORK/part" <<PART
-#!/bin/sh
-# The part of a number: status 0 where it is searched, be it cut short.
-line=\$(sed -n "\${1}p" "$WORK/parts")
-"$TDELAY" worst "$FILE" \$line $HOW --cert "$WORK/\$1.cert" > "$WORK/\$1.out"
-status=\$?
-[ \$status -eq 0 ] || [ \$status -eq 3 ]
+cat > "$WORK/part" <<'PART'
+#!/usr/bin/env bash
+# part WORK FILE N [options]: the part of a number: status 0 where it is searched, be it cut short.
+work=$1 file=$2 part=$3
+shift 3
+# shellcheck disable=SC2046 # words of the command line
+"$TDELAY" worst "$file" $(sed -n "${part}p" "$work/parts") "$@" --cert "$work/$part.cert" \
+    > "$work/$part.out"
+status=$?
+[ $status -eq 0 ] || [ $status -eq 3 ]
 PART
 chmod +x "$WORK/part"
 
 COUNT=$(wc -l < "$WORK/parts")
 if command -v parallel > /dev/null 2>&1; then
-    seq "$COUNT" | parallel --will-cite -j "$JOBS" "$WORK/part"
+    seq "$COUNT" | parallel --will-cite -j "$JOBS" "$WORK/part" "$WORK" "$FILE" {} "${HOW[@]}"
 else
-    seq "$COUNT" | xargs -n 1 -P "$JOBS" "$WORK/part"
+    seq "$COUNT" | xargs -I{} -P "$JOBS" "$WORK/part" "$WORK" "$FILE" {} "${HOW[@]}"
 fi
 
 if grep -q '^between ' "$WORK"/*.out; then
@@ -52,5 +60,10 @@ if grep -q '^between ' "$WORK"/*.out; then
         END { print "between", most + 0, above + 0 }' "$WORK"/*.out
     exit 3
 fi
-"$TDELAY" join "$FILE" $(seq -f "$WORK/%.0f.cert" "$COUNT") --cert "$OUT" $PINS
-"$TDELAY" check "$FILE" "$OUT" $DEFAULTS | head -n 1
+CERTS=()
+for part in $(seq "$COUNT"); do CERTS+=("$WORK/$part.cert"); done
+"$TDELAY" join "$FILE" "${CERTS[@]}" --cert "$OUT" "${JOINED[@]}"
+status=0
+"$TDELAY" check "$FILE" "$OUT" "${CHECKED[@]}" > "$WORK/checked" || status=$?
+head -n 1 "$WORK/checked"
+exit $status

@@ -20,5 +20,9 @@ if [ -n "$lacking" ]; then
     exit 3
 fi
 # shellcheck disable=SC2046,SC2086 # words of the command line
-"$TDELAY" join "$NETLIST" $(seq -f 'part-%.0f.cert' "$total") $PINS --cert whole.cert &&
-    "$TDELAY" check "$NETLIST" whole.cert $DEFAULTS | head -n 1
+"$TDELAY" join "$NETLIST" $(seq -f 'part-%.0f.cert' "$total") $JOINED --cert whole.cert || exit
+# shellcheck disable=SC2086 # words of the command line
+checked=$("$TDELAY" check "$NETLIST" whole.cert $CHECKED)
+status=$?
+printf '%s\n' "$checked" | head -n 1
+exit $status

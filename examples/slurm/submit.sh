@@ -16,20 +16,21 @@ shift 2
 TDELAY=${TDELAY:-./tdelay} BUDGET=${BUDGET:-} most=${MOST:-64}
 
 # What is asked, how it is searched, and what `join` and `check` need of both.
-ASKED="" HOW="" PINS="" DEFAULTS=""
+ASKED="" HOW="" JOINED="" CHECKED=""
 while [ $# -gt 0 ]; do
     [ $# -ge 2 ] || { echo "submit.sh: $1 has no value" >&2; exit 2; }
     case $1 in
-    --first | --second) ASKED="$ASKED $1 $2" PINS="$PINS $1 $2" ;;
-    --hold | --flips | --at) ASKED="$ASKED $1 $2" ;;
-    --default-rise | --default-fall) ASKED="$ASKED $1 $2" DEFAULTS="$DEFAULTS $1 $2" ;;
+    --first | --second | --pin) ASKED="$ASKED $1 $2" JOINED="$JOINED $1 $2" ;;
+    --hold | --hold-input | --flips | --at) ASKED="$ASKED $1 $2" ;;
+    --output | --default-rise | --default-fall)
+        ASKED="$ASKED $1 $2" JOINED="$JOINED $1 $2" CHECKED="$CHECKED $1 $2" ;;
     --strategy) ASKED="$ASKED $1 $2" HOW="$HOW $1 $2" ;;
     --budget) BUDGET=$2 ;;
     *) HOW="$HOW $1 $2" ;;
     esac
     shift 2
 done
-export NETLIST TDELAY HOW PINS DEFAULTS BUDGET
+export NETLIST TDELAY HOW JOINED CHECKED BUDGET
 
 if [ ! -f parts.txt ]; then
     # shellcheck disable=SC2086 # words of the command line

@@ -2,3 +2,5 @@ pub mod CommandLine
 pub mod Conflicts
 pub mod Flags
 pub mod Telling
+pub mod Saying
+pub mod Parting

@@ -182,7 +182,7 @@ fn count_given(matches: &ArgMatches<'_>, id: &str) -> Option<u64>
 }
 
 /// The number of 64 bits of an option that may be left out.
-fn count(matches: &ArgMatches<'_>, id: &str) -> Option<Option<u64>>
+pub(crate) fn count(matches: &ArgMatches<'_>, id: &str) -> Option<Option<u64>>
     ensures { IsAnswered (HasCount id.now (rows_of (found_of matches.now))) result }
 {
     match matches.get_str(id) {
@@ -195,14 +195,14 @@ fn count(matches: &ArgMatches<'_>, id: &str) -> Option<Option<u64>>
 }
 
 /// Whether a flag is given.
-fn flag_given(matches: &ArgMatches<'_>, id: &str) -> Option<bool>
+pub(crate) fn flag_given(matches: &ArgMatches<'_>, id: &str) -> Option<bool>
     ensures { IsAnswered (HasFlag id.now (rows_of (found_of matches.now))) result }
 {
     matches.get_one::<bool>(id)
 }
 
 /// The delay of gates that state none.
-fn default(matches: &ArgMatches<'_>) -> Option<Delay>
+pub(crate) fn default(matches: &ArgMatches<'_>) -> Option<Delay>
     ensures { IsAnswered (HasDefault (rows_of (found_of matches.now))) result }
 {
     let rise = number(matches, "default-rise")?;
@@ -211,7 +211,7 @@ fn default(matches: &ArgMatches<'_>) -> Option<Delay>
 }
 
 /// How the netlist's text is read, of all outputs.
-fn whole_reading<'a>(matches: &ArgMatches<'a>) -> Option<Reading<'a>>
+pub(crate) fn whole_reading<'a>(matches: &ArgMatches<'a>) -> Option<Reading<'a>>
     ensures { IsAnswered (HasWholeReading (rows_of (found_of matches.now))) result }
 {
     let default = default(matches)?;
@@ -222,7 +222,7 @@ fn whole_reading<'a>(matches: &ArgMatches<'a>) -> Option<Reading<'a>>
 }
 
 /// How the netlist's text is read, of the output that is asked about.
-fn reading<'a>(matches: &ArgMatches<'a>) -> Option<Reading<'a>>
+pub(crate) fn reading<'a>(matches: &ArgMatches<'a>) -> Option<Reading<'a>>
     ensures { IsAnswered (HasReading (rows_of (found_of matches.now))) result }
 {
     let default = default(matches)?;
@@ -293,7 +293,7 @@ fn bound_of<'a>(matches: &ArgMatches<'a>) -> Option<Request<'a>>
 }
 
 /// How many threads search.
-fn workers(matches: &ArgMatches<'_>) -> Option<u32>
+pub(crate) fn workers(matches: &ArgMatches<'_>) -> Option<u32>
     ensures { IsAnswered (HasWorkers (rows_of (found_of matches.now))) result }
 {
     let workers = number(matches, "workers")?;
@@ -318,7 +318,7 @@ fn strategy(matches: &ArgMatches<'_>) -> Option<StrategyWord>
 }
 
 /// The most nodes that a search may handle.
-fn budget(matches: &ArgMatches<'_>) -> Option<u32>
+pub(crate) fn budget(matches: &ArgMatches<'_>) -> Option<u32>
     ensures { IsAnswered (HasBudget (rows_of (found_of matches.now))) result }
 {
     let budget = number(matches, "budget")?;
@@ -392,7 +392,7 @@ fn worst_of<'a>(matches: &ArgMatches<'a>) -> Option<Request<'a>>
 }
 
 /// How many parts a question has.
-fn parts(matches: &ArgMatches<'_>) -> Option<u32>
+pub(crate) fn parts(matches: &ArgMatches<'_>) -> Option<u32>
     ensures { IsAnswered (HasParts (rows_of (found_of matches.now))) result }
 {
     let parts = number(matches, "parts")?;

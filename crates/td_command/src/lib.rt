@@ -2,6 +2,7 @@
 #![tactic(auto)]
 
 mod arguments;
+mod asking;
 mod certificates;
 mod command;
 mod commands;
@@ -9,8 +10,10 @@ mod conflicts;
 mod flags;
 mod help;
 pub mod laws;
+mod words;
 
 pub use arguments::MOST_NODES;
+pub use asking::asked;
 pub use certificates::Certificates;
 pub use command::{
     BoundRequest, CheckRequest, InfoRequest, JoinRequest, PartsRequest, PathRequest, QuestionWords,
@@ -18,3 +21,4 @@ pub use command::{
 };
 pub use conflicts::{Conflict, conflict_of};
 pub use flags::{asks_quiet, is_asked};
+pub use words::Words;

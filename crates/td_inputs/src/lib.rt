@@ -15,7 +15,7 @@ mod value;
 mod words;
 mod writing;
 
-pub use labels::{Label, labels_of};
+pub use labels::{Label, label_for, labels_of};
 pub use placing::{Given, places};
 pub use sayings::{WordFault, has};
 pub use scanning::{Mode, Scan, Taken, parted};

@@ -1,0 +1,182 @@
+-- The JSON of a report: an object with a member for each line.
+use Rattle.std.specs.Prelude.{◌≡◌, ℕ, Bool, List, [], ◌∷◌, ◌++◌, codes, decimal, Option, Some, None}
+use Rattle.std.specs.List.{flat_map}
+use Rattle.json.specs.Json.{Json, null, number, string, array, object, Items, no_items, item, Members, no_members, member}
+use Rattle.json.specs.Token.{Token}
+use Rattle.json.specs.Print.{print}
+use Rattle.json.specs.Token as token
+use Rattle.json.specs.Tree.{json_tokens}
+use Rattle.json.specs.Written.{Written}
+use Rattle.td_nets.specs.declared.netlist.Unit.{Unit as Step}
+use Rattle.td_nets.specs.Scales.{scale_text}
+use Rattle.td_lines.specs.declared.line.Cause.{Cause}
+use Rattle.td_lines.specs.declared.line.Cause.TheVariants as cause
+use Rattle.td_lines.specs.declared.line.Span.{Span}
+use Rattle.td_lines.specs.declared.line.Place.{Place}
+use Rattle.td_lines.specs.declared.line.Last.{Last}
+use Rattle.td_lines.specs.declared.line.Driver.{Driver}
+use Rattle.td_lines.specs.declared.line.Change.{Change}
+use Rattle.td_lines.specs.declared.line.Part.{Part}
+use Rattle.td_lines.specs.declared.line.Found.{Found}
+use Rattle.td_lines.specs.declared.line.Found.TheVariants as found
+use Rattle.td_lines.specs.declared.line.Row.{Row}
+use Rattle.td_lines.specs.declared.line.Line.{Line}
+use Rattle.td_lines.specs.declared.line.Line.TheVariants as line
+use Rattle.td_lines.specs.Texts.{bits, figure_key, level_text, kind_text, newline}
+
+-- these tokens were added, and what stood before them stays
+pub record Adds (old new : Written) (tokens : List Token) : Type 0 where
+  pub added : new.tokens ≡ old.tokens ++ tokens
+  pub before : new.before ≡ old.before
+
+-- the tokens of values that follow one another
+abbrev pub rows_tokens : {A : Type 0} → (A → Json) → List A → List Token
+rows_tokens value rows = flat_map (λ row. json_tokens (value row)) rows
+
+-- the items of an array of values
+abbrev pub items_by : {A : Type 0} → (A → Json) → List A → Items
+items_by value [] = no_items
+items_by value (row ∷ rows) = item (value row) (items_by value rows)
+
+abbrev pub count_value : ℕ → Json
+count_value count = number (decimal count)
+
+abbrev pub unit_text : Step → List ℕ
+unit_text unit = decimal unit.magnitude ++ codes " " ++ scale_text unit.scale
+
+abbrev pub cause_text : Cause → List ℕ
+cause_text cause.Budget = codes "budget"
+cause_text cause.Memory = codes "memory"
+cause_text cause.Time = codes "time"
+
+abbrev pub moment_of : Option ℕ → Json
+moment_of None = null
+moment_of (Some moment) = number (decimal moment)
+
+abbrev pub numbers_of : ℕ → ℕ → Json
+numbers_of low high = array (item (number (decimal low)) (item (number (decimal high)) no_items))
+
+abbrev pub span_value : Option Span → Json
+span_value None = null
+span_value (Some span) = numbers_of span.least span.greatest
+
+abbrev pub place_value : Place → Json
+place_value row = array (item (number (decimal row.place)) (item (string row.net) no_items))
+
+abbrev pub last_value : Last → Json
+last_value row = array (item (string row.output) (item (moment_of row.moment) no_items))
+
+-- what makes a net change, and the gate's delay
+abbrev pub driven_value : Option Driver → Items
+driven_value None = item (string (codes "input")) no_items
+driven_value (Some driver) = item (string (kind_text driver.kind)) (item (number (decimal driver.delay)) no_items)
+
+abbrev pub change_value : Change → Json
+change_value row =
+    array (item (number (decimal row.moment)) (item (string row.net) (item (string (level_text row.from)) (item (string (level_text row.to)) (driven_value row.by)))))
+
+abbrev pub edges_value : Option ℕ → Items
+edges_value bound = item (string (codes "edges")) (item (moment_of bound) no_items)
+
+abbrev pub found_value : Found → Option ℕ → Items
+found_value (found.Exact time) bound = item (string (codes "exact")) (item (number (decimal time)) (edges_value bound))
+found_value (found.Between low high) bound =
+    item (string (codes "between")) (item (number (decimal low)) (item (number (decimal high)) (edges_value bound)))
+
+abbrev pub row_value : Row → Json
+row_value row = array (item (string row.output) (found_value row.found row.edges))
+
+abbrev pub part_value : Part → Json
+part_value part = array (items_by string part.words.items)
+
+-- a name alone in an array
+abbrev pub named : List ℕ → Json
+named name = array (item (string name) no_items)
+
+abbrev pub at_value : List ℕ → Json
+at_value [] = null
+at_value (moment ∷ moments) = array (items_by count_value (moment ∷ moments))
+
+abbrev pub refused_value : ℕ → List ℕ → Option ℕ → Json
+refused_value count name None = array (item (number (decimal count)) (item (string name) no_items))
+refused_value count name (Some line) =
+    array (item (number (decimal count)) (item (string name) (item (string (codes "line")) (item (number (decimal line)) no_items))))
+
+abbrev pub key_of : Line → List ℕ
+key_of (line.Module name) = codes "module"
+key_of (line.Unit unit) = codes "unit"
+key_of (line.Inputs count) = codes "inputs"
+key_of (line.Outputs count) = codes "outputs"
+key_of (line.Gates count) = codes "gates"
+key_of (line.Defaulted count) = codes "defaulted"
+key_of (line.Depth count) = codes "depth"
+key_of (line.Delay span) = codes "delay"
+key_of (line.InputPlaces rows) = codes "input"
+key_of (line.OutputPlaces rows) = codes "output"
+key_of (line.Lasts rows) = codes "last"
+key_of (line.Time time) = codes "time"
+key_of (line.Output name) = codes "output"
+key_of (line.Changes rows) = codes "change"
+key_of (line.Bound by moment) = figure_key by
+key_of (line.Exact time) = codes "exact"
+key_of (line.Between low high) = codes "between"
+key_of (line.Cause why) = codes "cause"
+key_of (line.From vector) = codes "from"
+key_of (line.To vector) = codes "to"
+key_of (line.Nodes count) = codes "nodes"
+key_of (line.Each rows) = codes "each"
+key_of (line.Parts parts) = codes "parts"
+key_of (line.Accepted time) = codes "accepted"
+key_of (line.First pins) = codes "first"
+key_of (line.Second pins) = codes "second"
+key_of (line.Hold mask) = codes "hold"
+key_of (line.Flips count) = codes "flips"
+key_of (line.At moments) = codes "at"
+key_of (line.Refused count name line) = codes "refused"
+
+abbrev pub value_of : Line → Json
+value_of (line.Module name) = string name
+value_of (line.Unit unit) = string (unit_text unit)
+value_of (line.Inputs count) = number (decimal count)
+value_of (line.Outputs count) = number (decimal count)
+value_of (line.Gates count) = number (decimal count)
+value_of (line.Defaulted count) = number (decimal count)
+value_of (line.Depth count) = number (decimal count)
+value_of (line.Delay span) = span_value span
+value_of (line.InputPlaces rows) = array (items_by place_value rows.items)
+value_of (line.OutputPlaces rows) = array (items_by place_value rows.items)
+value_of (line.Lasts rows) = array (items_by last_value rows.items)
+value_of (line.Time time) = number (decimal time)
+value_of (line.Output name) = named name
+value_of (line.Changes rows) = array (items_by change_value rows.items)
+value_of (line.Bound by moment) = moment_of moment
+value_of (line.Exact time) = number (decimal time)
+value_of (line.Between low high) = numbers_of low high
+value_of (line.Cause why) = string (cause_text why)
+value_of (line.From vector) = string (bits vector)
+value_of (line.To vector) = string (bits vector)
+value_of (line.Nodes count) = number (decimal count)
+value_of (line.Each rows) = array (items_by row_value rows.items)
+value_of (line.Parts parts) = array (items_by part_value parts.items)
+value_of (line.Accepted time) = number (decimal time)
+value_of (line.First pins) = string pins
+value_of (line.Second pins) = string pins
+value_of (line.Hold mask) = string mask
+value_of (line.Flips count) = number (decimal count)
+value_of (line.At moments) = at_value moments
+value_of (line.Refused count name line) = refused_value count name.now line
+
+-- a member of an object
+abbrev pub member_tokens : List ℕ → Json → List Token
+member_tokens key value = token.key key ∷ json_tokens value
+
+abbrev pub line_tokens : Line → List Token
+line_tokens printed = member_tokens (key_of printed) (value_of printed)
+
+abbrev pub members_of : List Line → Members
+members_of [] = no_members
+members_of (printed ∷ lines) = member (key_of printed) (value_of printed) (members_of lines)
+
+-- on one line
+abbrev pub report_json : List Line → List ℕ
+report_json report = print (json_tokens (object (members_of report))) ++ newline

@@ -1,0 +1,27 @@
+//! A report is a list of typed lines. Two printers:
+//!
+//!     Line ──text──▶ one or more lines that end in a newline
+//!     Line ──json──▶ one member of an object
+//!
+//! A new line is a variant of `Line`, an arm in `text`, an arm in `members`, and their helpers.
+#![tactic(auto)]
+
+mod label;
+mod line;
+mod members;
+mod moments;
+mod report;
+#[cfg(test)]
+mod tests;
+mod text;
+mod texts;
+mod vector;
+
+pub use label::Label;
+pub use line::{Cause, Change, Driver, Figure, Found, Last, Line, Part, Place, Row, Span};
+pub use members::print_json;
+pub use moments::Moments;
+pub use report::Report;
+pub use text::print_text;
+pub use texts::Text;
+pub use vector::Vector;

@@ -1,0 +1,156 @@
+//! The lines of reports.
+
+use crate::label::Label;
+use crate::moments::Moments;
+use crate::vector::Vector;
+use td_gates::{Kind, Level};
+use td_nets::Unit;
+
+/// Why a search ended without an exact answer.
+#[derive(Clone, Copy, Debug, PartialEq, Eq, Drop)]
+pub enum Cause {
+    Budget,
+    Memory,
+    Time,
+}
+
+/// Which bound: by arrival windows, possible levels, both; by edges, or edges and possible levels.
+#[derive(Clone, Copy, Debug, PartialEq, Eq, Drop)]
+pub enum Figure {
+    Arrivals,
+    Possibles,
+    Both,
+    Edges,
+    EdgesAndPossibles,
+}
+
+/// The least and the greatest of delays, in steps.
+#[derive(Clone, Copy, Debug, Drop)]
+pub struct Span {
+    pub least: u64,
+    pub greatest: u64,
+}
+
+/// A net, and its place among the inputs or outputs, from 0 on.
+#[derive(Debug, Drop)]
+pub struct Place {
+    pub place: u64,
+    pub net: Label,
+}
+
+/// When an output changes last, if it does.
+#[derive(Debug, Drop)]
+pub struct Last {
+    pub output: Label,
+    pub moment: Option<u64>,
+}
+
+/// The gate that makes a net change: its kind, and its delay to the new level, in steps.
+#[derive(Clone, Copy, Debug, Drop)]
+pub struct Driver {
+    pub kind: Kind,
+    pub delay: u64,
+}
+
+/// A change of a net, by a gate, or of an input, which changes by itself.
+#[derive(Debug, Drop)]
+pub struct Change {
+    pub moment: u64,
+    pub net: Label,
+    pub from: Level,
+    pub to: Level,
+    pub by: Option<Driver>,
+}
+
+/// The options by which `worst` searches a part of a question, as words of a command line.
+#[derive(Debug, Drop)]
+pub struct Part {
+    pub words: Vec<Label>,
+}
+
+/// What is found of a worst delay: the delay, or two moments between which it lies.
+#[derive(Clone, Copy, Debug, Drop)]
+pub enum Found {
+    Exact(u64),
+    Between { low: u64, high: u64 },
+}
+
+/// What is found of an output alone: its worst delay, and its bound by edges.
+#[derive(Debug, Drop)]
+pub struct Row {
+    pub output: Label,
+    pub found: Found,
+    pub edges: Option<u64>,
+}
+
+/// A line of a report, or several of one kind that follow one another.
+#[derive(Debug, Drop)]
+pub enum Line {
+    /// The module's name.
+    Module(Label),
+    /// How long a step takes.
+    Unit(Unit),
+    /// How many inputs there are.
+    Inputs(u64),
+    /// How many outputs.
+    Outputs(u64),
+    /// How many gates.
+    Gates(u64),
+    /// How many gates the default delay serves.
+    Defaulted(u64),
+    /// The most gates on a way through the netlist.
+    Depth(u64),
+    /// The delays of the gates, if there are gates.
+    Delay(Option<Span>),
+    /// The inputs, in order.
+    InputPlaces(Vec<Place>),
+    /// The outputs, in order.
+    OutputPlaces(Vec<Place>),
+    /// When outputs change last.
+    Lasts(Vec<Last>),
+    /// The latest change of any output.
+    Time(u64),
+    /// The output that is latest.
+    Output(Label),
+    /// Changes that lead to the last one.
+    Changes(Vec<Change>),
+    /// A bound over all pairs, if there is one.
+    Bound(Figure, Option<u64>),
+    /// The worst delay.
+    Exact(u64),
+    /// The worst delay lies between the two.
+    Between {
+        low: u64,
+        high: u64,
+    },
+    /// Why it isn't exact.
+    Cause(Cause),
+    /// The first vector of a pair.
+    From(Vector),
+    /// The second.
+    To(Vector),
+    /// How many nodes were handled.
+    Nodes(u64),
+    /// What is found of each output alone.
+    Each(Vec<Row>),
+    /// The parts of a question.
+    Parts(Vec<Part>),
+    /// The time of a certificate that is accepted.
+    Accepted(u64),
+    /// What is pinned in the first vector, of a certificate.
+    First(Label),
+    /// And in the second.
+    Second(Label),
+    /// Which inputs are held.
+    Hold(Label),
+    /// At how many inputs the vectors may differ.
+    Flips(u64),
+    /// When each input changes.
+    At(Moments),
+    /// The verdict that refuses a certificate, and the line of its text that it is about.
+    Refused {
+        number: u8,
+        name: &'static str,
+        line: Option<u32>,
+    },
+}

@@ -1,0 +1,483 @@
+//! Reports as JSON: an object with a member for each line.
+
+ghost use Rattle.std.specs.Prelude.{◌≡◌, ◌∷◌, [], map, codes, decimal, string_bytes, Some, None, IfOk, OnOk};
+ghost use Rattle.json.specs.Json.{number, string, array, Json};
+ghost use Rattle.json.specs.Tree.{json_tokens, items_tokens, members_tokens};
+ghost use Rattle.td_nets.specs.Scales.{scale_text};
+ghost use Rattle.td_lines.specs.declared.line.Found.TheVariants as FoundAs;
+ghost use Rattle.td_lines.specs.Texts.{bit, bits, level_text, kind_text};
+ghost use Rattle.td_lines.specs.Values.{Adds, items_by, rows_tokens, count_value, unit_text, cause_text, moment_of, numbers_of, span_value, place_value, last_value, driven_value, change_value, edges_value, found_value, row_value, part_value, member_tokens, line_tokens, members_of, report_json, named, at_value, refused_value};
+
+use crate::label::Label;
+use crate::line::{Cause, Change, Driver, Found, Last, Line, Part, Place, Row, Span};
+use crate::moments::Moments;
+use crate::vector::Vector;
+use json::Writer;
+use std::alloc::{AllocError, Global};
+use td_gates::{Kind, Level};
+use td_nets::{Scale, Unit};
+
+/// What has a value in JSON.
+trait Valued {
+    /// Its value.
+    ghost value: { Self → Json };
+
+    /// Writes it.
+    fn value(&self, writer: &mut Writer) -> Result<(), AllocError>
+        ensures { OnOk result (Adds writer.old writer.new (json_tokens (Self.value self.now))) };
+}
+
+/// The values of what follows one another.
+fn values<V: Valued>(writer: &mut Writer, items: &[V]) -> Result<(), AllocError>
+    ensures { OnOk result (Adds writer.old writer.new (rows_tokens V.value items.now)) }
+{
+    for item in items {
+        item.value(writer)?;
+    }
+    Ok(())
+}
+
+/// The values, and the end of their array.
+fn values_ended<V: Valued>(writer: &mut Writer, items: &[V]) -> Result<(), AllocError>
+    ensures { OnOk result (Adds writer.old writer.new (items_tokens (items_by V.value items.now))) }
+{
+    values(writer, items)?;
+    writer.end_array()
+}
+
+/// An array of the values.
+fn list<V: Valued>(writer: &mut Writer, items: &[V]) -> Result<(), AllocError>
+    ensures { OnOk result (Adds writer.old writer.new (json_tokens (array (items_by V.value items.now)))) }
+{
+    writer.begin_array()?;
+    values_ended(writer, items)
+}
+
+/// A member with an array of the values.
+fn lists<V: Valued>(writer: &mut Writer, key: &str, items: &[V]) -> Result<(), AllocError>
+    ensures { OnOk result (Adds writer.old writer.new (member_tokens key.now (array (items_by V.value items.now)))) }
+{
+    writer.key(key)?;
+    list(writer, items)
+}
+
+/// The JSON of a report, a text of one line.
+pub fn print_json(alloc: Global, report: &[Line]) -> Result<Vec<u8>, AllocError>
+    ensures { IfOk result (λ text. text.items ≡ report_json report.now) }
+{
+    let mut writer = Writer::new(Vec::new(alloc));
+    writer.begin_object()?;
+    object(alloc, &mut writer, report)?;
+    let mut text = writer.into_inner();
+    text.push(b'\n')?;
+    Ok(text)
+}
+
+/// The members, and the end of the object.
+#[tactic(auto, using(crate::proofs::Steps::lines_end))]
+fn object(alloc: Global, writer: &mut Writer, report: &[Line]) -> Result<(), AllocError>
+    ensures { OnOk result (Adds writer.old writer.new (members_tokens (members_of report.now))) }
+{
+    for line in report {
+        member(alloc, writer, line)?;
+    }
+    writer.end_object()
+}
+
+/// The member of a line.
+fn member(alloc: Global, writer: &mut Writer, line: &Line) -> Result<(), AllocError>
+    ensures { OnOk result (Adds writer.old writer.new (line_tokens line.now)) }
+{
+    match line {
+        Line::Module(name) => word(writer, "module", name.text()),
+        Line::Unit(step) => unit(alloc, writer, *step),
+        Line::Inputs(count) => count_of(writer, "inputs", *count),
+        Line::Outputs(count) => count_of(writer, "outputs", *count),
+        Line::Gates(count) => count_of(writer, "gates", *count),
+        Line::Defaulted(count) => count_of(writer, "defaulted", *count),
+        Line::Depth(count) => count_of(writer, "depth", *count),
+        Line::Delay(delays) => delay(writer, *delays),
+        Line::InputPlaces(rows) => lists(writer, "input", rows),
+        Line::OutputPlaces(rows) => lists(writer, "output", rows),
+        Line::Lasts(rows) => lists(writer, "last", rows),
+        Line::Time(time) => count_of(writer, "time", *time),
+        Line::Output(name) => output(writer, name.text()),
+        Line::Changes(rows) => lists(writer, "change", rows),
+        Line::Bound(figure, moment) => bound(writer, figure.key(), *moment),
+        Line::Exact(time) => count_of(writer, "exact", *time),
+        Line::Between { low, high } => between(writer, *low, *high),
+        Line::Cause(why) => cause(writer, *why),
+        Line::From(bits) => vector(alloc, writer, "from", bits),
+        Line::To(bits) => vector(alloc, writer, "to", bits),
+        Line::Nodes(count) => count_of(writer, "nodes", *count),
+        Line::Each(rows) => lists(writer, "each", rows),
+        Line::Parts(rows) => lists(writer, "parts", rows),
+        Line::Accepted(time) => count_of(writer, "accepted", *time),
+        Line::First(pins) => word(writer, "first", pins.text()),
+        Line::Second(pins) => word(writer, "second", pins.text()),
+        Line::Hold(mask) => word(writer, "hold", mask.text()),
+        Line::Flips(count) => count_of(writer, "flips", *count),
+        Line::At(moments) => at(writer, moments),
+        Line::Refused { number, name, line } => refused(writer, *number, name, *line),
+    }
+}
+
+fn count_of(writer: &mut Writer, key: &str, count: u64) -> Result<(), AllocError>
+    ensures { OnOk result (Adds writer.old writer.new (member_tokens key.now (number (decimal count)))) }
+{
+    writer.key(key)?;
+    writer.u64(count)
+}
+
+fn word(writer: &mut Writer, key: &str, text: &str) -> Result<(), AllocError>
+    ensures { OnOk result (Adds writer.old writer.new (member_tokens key.now (string text.now))) }
+{
+    writer.key(key)?;
+    writer.string(text)
+}
+
+fn moment(writer: &mut Writer, moment: Option<u64>) -> Result<(), AllocError>
+    ensures { OnOk result (Adds writer.old writer.new (json_tokens (moment_of moment))) }
+{
+    match moment {
+        Some(moment) => writer.u64(moment),
+        None => writer.null(),
+    }
+}
+
+fn bound(writer: &mut Writer, key: &str, bound: Option<u64>) -> Result<(), AllocError>
+    ensures { OnOk result (Adds writer.old writer.new (member_tokens key.now (moment_of bound))) }
+{
+    writer.key(key)?;
+    moment(writer, bound)
+}
+
+fn numbers(writer: &mut Writer, low: u64, high: u64) -> Result<(), AllocError>
+    ensures { OnOk result (Adds writer.old writer.new (json_tokens (numbers_of low high))) }
+{
+    writer.begin_array()?;
+    writer.u64(low)?;
+    writer.u64(high)?;
+    writer.end_array()
+}
+
+fn between(writer: &mut Writer, low: u64, high: u64) -> Result<(), AllocError>
+    ensures { OnOk result (Adds writer.old writer.new (member_tokens (codes "between") (numbers_of low high))) }
+{
+    writer.key("between")?;
+    numbers(writer, low, high)
+}
+
+/// The least and the greatest delay, or null.
+fn span(writer: &mut Writer, delays: Option<Span>) -> Result<(), AllocError>
+    ensures { OnOk result (Adds writer.old writer.new (json_tokens (span_value delays))) }
+{
+    match delays {
+        None => writer.null(),
+        Some(delays) => numbers(writer, delays.least, delays.greatest),
+    }
+}
+
+fn delay(writer: &mut Writer, delays: Option<Span>) -> Result<(), AllocError>
+    ensures { OnOk result (Adds writer.old writer.new (member_tokens (codes "delay") (span_value delays))) }
+{
+    writer.key("delay")?;
+    span(writer, delays)
+}
+
+fn scale_word(scale: Scale) -> &'static str
+    ensures { result.now ≡ scale_text scale }
+{
+    match scale {
+        Scale::Femtoseconds => "fs",
+        Scale::Picoseconds => "ps",
+        Scale::Nanoseconds => "ns",
+        Scale::Microseconds => "us",
+        Scale::Milliseconds => "ms",
+        Scale::Seconds => "s",
+    }
+}
+
+fn unit_words(alloc: Global, unit: Unit) -> Result<String, AllocError>
+    ensures { IfOk result (λ text. string_bytes text ≡ unit_text unit) }
+{
+    let magnitude = unit.magnitude;
+    let scale = scale_word(unit.scale);
+    let text = format!(in alloc; "{magnitude} {scale}")?;
+    Ok(text)
+}
+
+fn unit(alloc: Global, writer: &mut Writer, unit: Unit) -> Result<(), AllocError>
+    ensures { OnOk result (Adds writer.old writer.new (member_tokens (codes "unit") (string (unit_text unit)))) }
+{
+    let words = unit_words(alloc, unit)?;
+    word(writer, "unit", &words)
+}
+
+fn cause_word(why: Cause) -> &'static str
+    ensures { result.now ≡ cause_text why }
+{
+    match why {
+        Cause::Budget => "budget",
+        Cause::Memory => "memory",
+        Cause::Time => "time",
+    }
+}
+
+fn cause(writer: &mut Writer, why: Cause) -> Result<(), AllocError>
+    ensures { OnOk result (Adds writer.old writer.new (member_tokens (codes "cause") (string (cause_text why)))) }
+{
+    word(writer, "cause", cause_word(why))
+}
+
+/// A character for each bit, or `none`.
+fn characters(alloc: Global, vector: &[bool]) -> Result<String, AllocError>
+    ensures { IfOk result (λ text. string_bytes text ≡ bits vector.now) }
+{
+    if vector.is_empty() {
+        return String::from_str(alloc, "none");
+    }
+    digits(alloc, vector)
+}
+
+fn bit(one: bool) -> &'static str
+    ensures { result.now ≡ bit one ∷ [] }
+{
+    if one { "1" } else { "0" }
+}
+
+/// A character for each bit.
+fn digits(alloc: Global, vector: &[bool]) -> Result<String, AllocError>
+    ensures { IfOk result (λ text. string_bytes text ≡ map bit vector.now) }
+{
+    let mut text = String::new(alloc);
+    for one in vector {
+        text.push_str(bit(*one))?;
+    }
+    Ok(text)
+}
+
+fn vector(alloc: Global, writer: &mut Writer, key: &str, vector: &Vector) -> Result<(), AllocError>
+    ensures { OnOk result (Adds writer.old writer.new (member_tokens key.now (string (bits vector.now)))) }
+{
+    let text = characters(alloc, vector.bits())?;
+    word(writer, key, &text)
+}
+
+/// An output alone in an array.
+fn output(writer: &mut Writer, name: &str) -> Result<(), AllocError>
+    ensures { OnOk result (Adds writer.old writer.new (member_tokens (codes "output") (named name.now))) }
+{
+    writer.key("output")?;
+    writer.begin_array()?;
+    writer.string(name)?;
+    writer.end_array()
+}
+
+impl Valued for Place {
+    ghost value = { place_value };
+
+    fn value(&self, writer: &mut Writer) -> Result<(), AllocError> {
+        writer.begin_array()?;
+        writer.u64(self.place)?;
+        writer.string(self.net.text())?;
+        writer.end_array()
+    }
+}
+
+impl Valued for Last {
+    ghost value = { last_value };
+
+    fn value(&self, writer: &mut Writer) -> Result<(), AllocError> {
+        writer.begin_array()?;
+        writer.string(self.output.text())?;
+        moment(writer, self.moment)?;
+        writer.end_array()
+    }
+}
+
+impl Valued for u64 {
+    ghost value = { count_value };
+
+    fn value(&self, writer: &mut Writer) -> Result<(), AllocError> {
+        writer.u64(*self)
+    }
+}
+
+impl Valued for Label {
+    ghost value = { string };
+
+    fn value(&self, writer: &mut Writer) -> Result<(), AllocError> {
+        writer.string(self.text())
+    }
+}
+
+impl Valued for Part {
+    ghost value = { part_value };
+
+    fn value(&self, writer: &mut Writer) -> Result<(), AllocError> {
+        list(writer, &self.words)
+    }
+}
+
+fn level(level: Level) -> &'static str
+    ensures { result.now ≡ level_text level }
+{
+    match level {
+        Level::Zero => "0",
+        Level::One => "1",
+        Level::X => "x",
+    }
+}
+
+fn kind(kind: Kind) -> &'static str
+    ensures { result.now ≡ kind_text kind }
+{
+    match kind {
+        Kind::And => "and",
+        Kind::Nand => "nand",
+        Kind::Or => "or",
+        Kind::Nor => "nor",
+        Kind::Xor => "xor",
+        Kind::Xnor => "xnor",
+        Kind::Buf => "buf",
+        Kind::Not => "not",
+    }
+}
+
+/// What makes a net change, and the end of the array.
+fn driven(writer: &mut Writer, by: Option<Driver>) -> Result<(), AllocError>
+    ensures { OnOk result (Adds writer.old writer.new (items_tokens (driven_value by))) }
+{
+    match by {
+        None => by_itself(writer),
+        Some(by) => by_gate(writer, by),
+    }
+}
+
+fn by_itself(writer: &mut Writer) -> Result<(), AllocError>
+    ensures { OnOk result (Adds writer.old writer.new (items_tokens (driven_value None))) }
+{
+    writer.string("input")?;
+    writer.end_array()
+}
+
+fn by_gate(writer: &mut Writer, by: Driver) -> Result<(), AllocError>
+    ensures { OnOk result (Adds writer.old writer.new (items_tokens (driven_value (Some by)))) }
+{
+    writer.string(kind(by.kind))?;
+    writer.u64(by.delay)?;
+    writer.end_array()
+}
+
+impl Valued for Change {
+    ghost value = { change_value };
+
+    fn value(&self, writer: &mut Writer) -> Result<(), AllocError> {
+        writer.begin_array()?;
+        writer.u64(self.moment)?;
+        writer.string(self.net.text())?;
+        writer.string(level(self.from))?;
+        writer.string(level(self.to))?;
+        driven(writer, self.by)
+    }
+}
+
+/// The bound by edges, and the end of the array.
+fn edges(writer: &mut Writer, edges: Option<u64>) -> Result<(), AllocError>
+    ensures { OnOk result (Adds writer.old writer.new (items_tokens (edges_value edges))) }
+{
+    writer.string("edges")?;
+    moment(writer, edges)?;
+    writer.end_array()
+}
+
+fn exact(writer: &mut Writer, time: u64, bound: Option<u64>) -> Result<(), AllocError>
+    ensures { OnOk result (Adds writer.old writer.new (items_tokens (found_value (FoundAs.Exact time) bound))) }
+{
+    writer.string("exact")?;
+    writer.u64(time)?;
+    edges(writer, bound)
+}
+
+fn within(writer: &mut Writer, low: u64, high: u64, bound: Option<u64>) -> Result<(), AllocError>
+    ensures { OnOk result (Adds writer.old writer.new (items_tokens (found_value (FoundAs.Between low high) bound))) }
+{
+    writer.string("between")?;
+    writer.u64(low)?;
+    writer.u64(high)?;
+    edges(writer, bound)
+}
+
+/// What is found of an output, and the end of the array.
+fn found(writer: &mut Writer, found: Found, bound: Option<u64>) -> Result<(), AllocError>
+    ensures { OnOk result (Adds writer.old writer.new (items_tokens (found_value found bound))) }
+{
+    match found {
+        Found::Exact(time) => exact(writer, time, bound),
+        Found::Between { low, high } => within(writer, low, high, bound),
+    }
+}
+
+impl Valued for Row {
+    ghost value = { row_value };
+
+    fn value(&self, writer: &mut Writer) -> Result<(), AllocError> {
+        writer.begin_array()?;
+        writer.string(self.output.text())?;
+        found(writer, self.found, self.edges)
+    }
+}
+
+/// The moments, or null where there are no inputs.
+fn moments_value(writer: &mut Writer, moments: &[u64]) -> Result<(), AllocError>
+    ensures { OnOk result (Adds writer.old writer.new (json_tokens (at_value moments.now))) }
+{
+    if moments.is_empty() {
+        return writer.null();
+    }
+    list(writer, moments)
+}
+
+fn at(writer: &mut Writer, moments: &Moments) -> Result<(), AllocError>
+    ensures { OnOk result (Adds writer.old writer.new (member_tokens (codes "at") (at_value moments.now))) }
+{
+    writer.key("at")?;
+    moments_value(writer, moments.all())
+}
+
+fn numbered(writer: &mut Writer, number: u8, name: &str) -> Result<(), AllocError>
+    ensures { OnOk result (Adds writer.old writer.new (json_tokens (refused_value number name.now None))) }
+{
+    writer.begin_array()?;
+    writer.u64(u64::from(number))?;
+    writer.string(name)?;
+    writer.end_array()
+}
+
+fn placed(writer: &mut Writer, number: u8, name: &str, line: u32) -> Result<(), AllocError>
+    ensures { OnOk result (Adds writer.old writer.new (json_tokens (refused_value number name.now (Some line)))) }
+{
+    writer.begin_array()?;
+    writer.u64(u64::from(number))?;
+    writer.string(name)?;
+    writer.string("line")?;
+    writer.u64(u64::from(line))?;
+    writer.end_array()
+}
+
+fn verdict(writer: &mut Writer, number: u8, name: &str, line: Option<u32>) -> Result<(), AllocError>
+    ensures { OnOk result (Adds writer.old writer.new (json_tokens (refused_value number name.now line))) }
+{
+    match line {
+        None => numbered(writer, number, name),
+        Some(line) => placed(writer, number, name, line),
+    }
+}
+
+fn refused(writer: &mut Writer, number: u8, name: &str, line: Option<u32>) -> Result<(), AllocError>
+    ensures { OnOk result (Adds writer.old writer.new (member_tokens (codes "refused") (refused_value number name.now line))) }
+{
+    writer.key("refused")?;
+    verdict(writer, number, name, line)
+}

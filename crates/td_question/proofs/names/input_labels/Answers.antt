@@ -1,0 +1,15 @@
+use Rattle.std.proofs.Common.{◌≡◌, ◌<◌, length, subst, arith, Some}
+use Rattle.std.specs.Prelude.{slice_get}
+use Rattle.td_nets.specs.Netlist.{Named}
+use Rattle.td_nets.specs.Views.{name_of}
+use Rattle.td_circuit.specs.Numbering.{nets}
+use Rattle.td_question.proofs.Questions.{label_more}
+use Rattle.td_question.proofs.names.input_labels.Goals as goal
+
+pub loop-input-preserved : goal.loop-input-preserved
+loop-input-preserved c =
+    let less : c.loop-input.input < length c.args.circuit.now.netlist.inputs =
+    subst (λ count. c.loop-input.input < count) c.input_count-input-end.ensures c.loop-input-test.true in
+    label_more c.args.circuit.now c.loop-input.input (name_of c.name.result.now) c.loop-input.labels.items _ c.in_ok-label.label less
+    (subst (λ net. slice_get (nets c.args.circuit.now) net ≡ Some (Named (name_of c.name.result.now))) (omega (arith, c.net_of_input-net.ensures)) c.name.ensures)
+    c.in_ok-label.ensures c.in_ok-push.ensures.items c.loop-input.invariant

@@ -1,0 +1,21 @@
+//! What a request asks of a netlist's text.
+//!
+//!     text ──▶ netlist ──▶ circuit, with moments
+//!     words, by place and by name ──▶ admitted pairs of its inputs
+#![tactic(auto)]
+
+mod asking;
+mod cube;
+mod fault;
+mod names;
+mod pair;
+mod placed;
+#[cfg(test)]
+mod tests;
+pub mod timing;
+pub mod vector;
+
+pub use asking::{Asked, question_of};
+pub use cube::{CubeAsked, cube_of};
+pub use fault::QuestionFault;
+pub use pair::{PairAsked, pair_of};

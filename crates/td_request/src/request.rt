@@ -1,0 +1,138 @@
+//! A request: all that the words say.
+
+use crate::effort::{Count, Effort};
+use crate::files::Files;
+use crate::question::{Inputs, Question};
+use td_reading::Reading;
+
+/// In which form a report goes out.
+#[derive(Clone, Copy, Debug, PartialEq, Eq, Drop)]
+pub enum Form {
+    Text,
+    Json,
+    /// Not at all.
+    Quiet,
+}
+
+/// The run of a pair of vectors.
+#[derive(Clone, Copy)]
+pub struct Sim<'a> {
+    pub from: &'a str,
+    pub to: &'a str,
+    /// When inputs change.
+    pub inputs: Inputs<'a>,
+    /// Whether it is asked which output changes last.
+    pub outputs: bool,
+    /// Where the waves of the run go.
+    pub dump: Option<&'a str>,
+}
+
+/// Why an output changes last when it does, in the run of a pair of vectors.
+#[derive(Clone, Copy)]
+pub struct Path<'a> {
+    pub from: &'a str,
+    pub to: &'a str,
+    /// When inputs change.
+    pub inputs: Inputs<'a>,
+    /// The output, as reports print it; the one that changes last where there is none.
+    pub output: Option<&'a str>,
+}
+
+/// Bounds of the delays of a cube of pairs.
+#[derive(Clone, Copy)]
+pub struct Bound<'a> {
+    pub inputs: Inputs<'a>,
+    /// Whether the bounds by edges are asked for too.
+    pub edges: bool,
+    /// Whether it is asked which output has the bound.
+    pub outputs: bool,
+}
+
+/// By which means a search goes.
+#[derive(Clone, Copy, Debug, PartialEq, Eq, Drop)]
+pub enum Strategy {
+    Least,
+    Lead,
+    Refute,
+    Auto,
+}
+
+/// What is shown of a search beside its answer.
+#[derive(Clone, Copy, Debug, Drop)]
+pub struct Shown {
+    /// The changes that lead to the last one of the given pair.
+    pub path: bool,
+    /// Which output changes last.
+    pub outputs: bool,
+    /// How far the search has come.
+    pub progress: bool,
+}
+
+/// The search for the worst delay.
+#[derive(Clone, Copy)]
+pub struct Search<'a> {
+    pub question: Question<'a>,
+    pub strategy: Strategy,
+    pub effort: Effort,
+    /// Where the certificate of an exact answer goes.
+    pub certificate: Option<&'a str>,
+    /// Where the waves of the given pair's run go.
+    pub dump: Option<&'a str>,
+    pub shown: Shown,
+    /// Whether each output is asked about by itself.
+    pub each: bool,
+}
+
+/// The parts of a search's question.
+#[derive(Clone, Copy)]
+pub struct Parts<'a> {
+    pub question: Question<'a>,
+    pub strategy: Strategy,
+    pub count: Count,
+}
+
+/// One certificate of those of a question's parts.
+#[derive(Drop)]
+pub struct Join<'a> {
+    /// The files of the parts' certificates, in order.
+    pub parts: Files<'a>,
+    /// Where the certificate of the whole question goes.
+    pub certificate: Option<&'a str>,
+    /// Whether each part's certificate is checked too.
+    pub check: bool,
+    /// What is pinned in all pairs of the whole question.
+    pub inputs: Inputs<'a>,
+}
+
+/// The verdict on a certificate.
+#[derive(Clone, Copy, Debug)]
+pub struct Check<'a> {
+    /// The certificate's file.
+    pub certificate: &'a str,
+}
+
+/// What is to be done.
+#[derive(Drop)]
+pub enum Command<'a> {
+    Sim(Sim<'a>),
+    Path(Path<'a>),
+    Bound(Bound<'a>),
+    Worst(Search<'a>),
+    Parts(Parts<'a>),
+    Join(Join<'a>),
+    Check(Check<'a>),
+    Info,
+}
+
+/// All that the words of a command line say.
+#[derive(Drop)]
+pub struct Request<'a> {
+    /// The netlist's file.
+    pub file: &'a str,
+    /// How its text is read.
+    pub reading: Reading<'a>,
+    pub command: Command<'a>,
+    pub form: Form,
+    /// Whether a hint follows a refusal.
+    pub hints: bool,
+}
