@@ -78,10 +78,7 @@ CHANGED = {
     "other_bound.cert": ("inverter.cert", b"b a 3", b"b a 2"),
 }
 # Pages with commands that a check reads which has the tools for them.
-ELSEWHERE = {
-    "docs/FROM-RTL.md": "bridging/designs.py",
-    "docs/MANY-MACHINES.md": "other_solvers.py",
-}
+ELSEWHERE = {"docs/FROM-RTL.md": "bridging/designs.py", "docs/MANY-MACHINES.md": "other_solvers.py"}
 # Numbers of README.md, each with the page or script that has it too.
 COSTS = "docs/FIGURES.md"
 NUMBERS = [
@@ -140,8 +137,8 @@ def renewals(tested):
 
 
 def tools(tested):
-    """Cases: the contracts, the numbers of the model, and the picture of the crates."""
-    for tool in ("contracts.py", "model.py", "picture.py"):
+    """Cases: contracts, numbers of the model, the picture of the crates, refusals of the bridges."""
+    for tool in ("contracts.py", "model.py", "picture.py", "refusals.py"):
         done = running.run(
             [sys.executable, os.path.join(places.TOOLS, tool), "--check"], places.TOP
         )
@@ -217,7 +214,6 @@ def widths(tested):
         lines = prose_of(page).splitlines()
         wide = [line for line in lines if len(line) > 100 and not line.startswith("|")]
         tested.expect(f"{page}: the lines above 100 columns", [], wide)
-
 
     lines = places.text_of("README.md").splitlines()
     wide = [line for line in lines if len(line) > 100]

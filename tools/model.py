@@ -8,9 +8,8 @@ file, without imports. `--without Means` leaves a definition out, and what it al
 `--count` prints the number of lines alone: definitions and their comments, without blank lines and
 the names of files.
 
-`model.py --check` compares the numbers of docs/model/README.md, and the index docs/model/names.md,
-with the sources, and wants one crate for each name of the index (exit status 1 where one differs).
-`model.py --names` prints that index. Run it at the top of the repository.
+`model.py --check` compares the numbers of docs/model/README.md with the sources (exit status 1
+where one differs). Run it at the top of the repository.
 """
 
 import functools
@@ -23,16 +22,8 @@ TOP = os.path.dirname(os.path.dirname(os.path.abspath(__file__)))
 sys.path.append(os.path.join(TOP, "build"))
 from crates import lower_first, uses_of  # noqa: E402
 
-# The pages that read the definitions aloud, the first with figures, and the index of their names.
-FIGURES_IN, NAMES = "docs/model/README.md", "docs/model/names.md"
-READ_ALOUD = (
-    "netlists.md",
-    "domains.md",
-    "refutations.md",
-    "../CERTIFICATE.md",
-    "search.md",
-    "program.md",
-)
+# The page with figures.
+FIGURES_IN = "docs/model/README.md"
 # The figures that the first page gives: what it calls them, and what they are of.
 FIGURES = {
     "the sentence at the top": (["td_cli::Sentences::IsTrueReport"], []),
@@ -345,38 +336,6 @@ def printed(closure):
     return "\n".join(rows), count
 
 
-def sections(page):
-    """The sections of a page of the model: titles, links, and the names in backquotes."""
-    for section in open(os.path.join("docs/model", page)).read().split("\n## ")[1:]:
-        title, _, body = section.partition("\n")
-        anchor = re.sub(r"[^\w\- ]", "", title.lower()).replace(" ", "-")
-        yield title, f"{page}#{anchor}", set(re.findall(r"(?<!`)`([A-Za-z]\w+)`(?!`)", body))
-
-
-def names(model):
-    """The index of the definitions that the pages name, a capital or a `_` in each name."""
-    files = {}
-    for path, name in model.by_name:
-        files.setdefault(name, set()).add(path.removeprefix("crates/").removesuffix(".antt"))
-    read = {}
-    for page in READ_ALOUD:
-        for title, link, words in sections(page):
-            for word in words & set(files):
-                if "_" in word or word[0].isupper():
-                    read.setdefault(word, []).append(f"[{title}]({link})")
-    rows = [
-        "# Names of the model\n",
-        "Made by `tools/model.py --names`: each definition that the pages name, the files of",
-        "`crates/*/specs` that have it, and the sections that read it aloud.\n",
-        "| Name | Defined in | Read aloud in |",
-        "| --- | --- | --- |",
-    ]
-    for word in sorted(read, key=lambda word: (word.lower(), word)):
-        places = ", ".join(f"`{path.replace('/specs/', '/')}`" for path in sorted(files[word]))
-        rows.append(f"| `{word}` | {places} | {', '.join(read[word])} |")
-    return "\n".join(rows) + "\n"
-
-
 def check():
     model, wrong = Model(), 0
     text = open(FIGURES_IN).read()
@@ -389,15 +348,7 @@ def check():
             + ("" if right else f", {FIGURES_IN} says {stated[1] if stated else 'nothing'}")
         )
         wrong += not right
-    index = names(model)
-    right = open(NAMES).read() == index
-    print(f"{NAMES}: {'as the sources' if right else 'make it again by tools/model.py --names'}")
-    for row in index.splitlines():
-        crates = sorted(set(re.findall(r"`(td_\w+)/", row)))
-        if len(crates) > 1:
-            print(f"{NAMES}: {row.split('`')[1]} is defined in {' and '.join(crates)}")
-            wrong += 1
-    return wrong + (not right)
+    return wrong
 
 
 def main():
@@ -406,8 +357,6 @@ def main():
         sys.exit(__doc__)
     if words == ["--check"]:
         sys.exit(1 if check() else 0)
-    if words == ["--names"]:
-        return print(names(Model()), end="")
     only_count = "--count" in words
     words = [word for word in words if word != "--count"]
     while words:

@@ -93,7 +93,7 @@ def parts(table):
         return
     program, words = table.asked.programs[0], words_of("least", 10_000_000)
     certificate = os.path.join(table.folder, f"{CUT}.cert")
-    as_parts = ["env", f"TDELAY={program}", f"JOBS={AT_A_TIME}", "sh", SCRIPT, path]
+    as_parts = ["env", f"TDELAY={program}", f"JOBS={AT_A_TIME}", "bash", SCRIPT, path]
     one = [program, "worst", path, *words]
     asked = {"one `worst`": one, f"`--workers {AT_A_TIME}`": [*one, "--workers", str(AT_A_TIME)]}
     for count in PARTS:
