@@ -43,13 +43,12 @@ fn circuit_of(alloc: Global, text: &str) -> Option<Circuit> {
     }
 }
 
-/// What a search found: the best delay and the bound, and what it did.
+/// What a search found: the best delay, the bound, and how many lines show it.
 #[derive(Clone, Copy, Debug, PartialEq, Eq, Drop)]
 struct Found {
     low: u64,
     high: u64,
     steps: usize,
-    conflicts: u64,
 }
 
 /// What a search finds from an admitted pair on.
@@ -71,7 +70,6 @@ fn found_from(
             low: best.time,
             high: refuted.bound,
             steps: refuted.steps.len(),
-            conflicts: refuted.conflicts,
         })),
         None => Ok(None),
     }
@@ -125,7 +123,7 @@ fn found_in_text(alloc: Global, text: &str, effort: Effort<'_>) -> Option<Found>
 /// The effort that a search makes without questions.
 fn no_effort(stop: &Stop) -> Effort<'_> {
     let mut effort = Effort::until(stop);
-    effort.all = 0;
+    effort.work = 0;
     effort
 }
 
@@ -153,9 +151,9 @@ fn a_wide_gate(rt: HostRuntime) -> Result<(), Fail> {
 }
 
 #[test]
-fn without_conflicts_the_bound_is_that_of_the_first_sets(rt: HostRuntime) -> Result<(), Fail> {
+fn without_work_the_bound_is_that_of_the_first_times(rt: HostRuntime) -> Result<(), Fail> {
     let found = found_in_text(rt.alloc(), FALSE_WAY, no_effort(&Stop::never())).ok_or("found")?;
-    assert_eq!(rt; (found.high, found.steps, found.conflicts), (14, 0, 0));
+    assert_eq!(rt; (found.high, found.steps), (14, 0));
     Ok(())
 }
 

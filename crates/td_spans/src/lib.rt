@@ -27,6 +27,7 @@ pub use fault::Fault;
 pub use names::{net_named, variable_named};
 pub use question::Question;
 pub use reason::Reason;
+pub use signals::first_times;
 pub use spans::Spans;
 pub use step::{Refusal, Shown, Step, refuted};
 pub use times::{Places, Times};
